@@ -1,0 +1,5 @@
+pub mod Calendar
+pub mod Days
+pub mod Rows
+pub mod Splits
+pub mod Count
