@@ -4,3 +4,7 @@ pub mod SplitLemmas
 pub mod CutLemmas
 pub mod ApplyLemmas
 pub mod CountLemmas
+pub mod CoverLemmas
+pub mod CoverLaw
+pub mod PieceLaw
+pub mod Examples

@@ -3,3 +3,5 @@ pub mod Days
 pub mod Rows
 pub mod Splits
 pub mod Count
+pub mod Cover
+pub mod Pieces
