@@ -108,12 +108,8 @@ impl<V: Value> Periods<V> {
             &mask,
             change,
         );
-        if let Err(_) = self.cuts.reserve(2) {
-            return Err(Memory);
-        }
-        if let Err(_) = self.rows.reserve(2) {
-            return Err(Memory);
-        }
+        self.cuts.reserve(2)?;
+        self.rows.reserve(2)?;
         put_period(
             &mut self.cuts,
             &mut self.rows,

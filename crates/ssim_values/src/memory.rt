@@ -1,11 +1,30 @@
-use std::alloc::AllocError;
+ghost use Rattle.std.specs.Prelude.{◌≡◌};
 
-/// No memory was to be had: refusal number 90.
-#[derive(Clone, Copy, Debug, PartialEq, Eq)]
+use std::alloc::{AllocError, AllocFailed};
+use thiserror::Error;
+
+/// A growth was refused for want of memory: refusal 90 of every crate that allocates.
+#[derive(Clone, Copy, Debug, PartialEq, Eq, Error)]
+#[error("Memory")]
 pub struct Memory;
 
+impl Memory {
+    /// The number by which the refusal is known, 90.
+    pub fn number(self) -> u8
+        ensures { result ≡ 90 }
+    {
+        90
+    }
+}
+
 impl From<AllocError> for Memory {
-    fn from(_error: AllocError) -> Memory {
+    fn from(_refused: AllocError) -> Memory {
+        Memory
+    }
+}
+
+impl<T: Drop> From<AllocFailed<T>> for Memory {
+    fn from(_refused: AllocFailed<T>) -> Memory {
         Memory
     }
 }
