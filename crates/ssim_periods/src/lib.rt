@@ -24,7 +24,11 @@ mod count;
 mod cover;
 mod patches;
 mod periods;
+#[cfg(test)]
+mod plain_tests;
 mod rows;
+#[cfg(test)]
+mod tests;
 mod value;
 
 pub use periods::Periods;
