@@ -1,0 +1,7 @@
+-- Stations: three letters.
+use Rattle.std.specs.Prelude.{ℕ, Bool, ◌&&◌, ◌==◌, List, length, slice_index}
+use Rattle.ssim_values.specs.Characters.{is_letter}
+
+abbrev pub is_station : List ℕ → Bool
+is_station t =
+    (length t == 3) && (is_letter (slice_index t 0) && (is_letter (slice_index t 1) && is_letter (slice_index t 2)))

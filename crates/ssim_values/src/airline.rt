@@ -1,0 +1,60 @@
+ghost use Rattle.std.specs.Prelude.{◌≡◌, ◌↔◌, ◌||◌, List, ℕ, IsTrue, IsOk, IfOk, IfErr};
+ghost use Rattle.ssim_values.specs.Airline.{is_airline, is_pair};
+
+use crate::Fault;
+use std::marker::Model;
+
+/// An airline designator in the three columns of a record: two letters or digits, not both digits, and a blank, or
+/// three letters. A message leaves the blank out (`Designator`).
+#[derive(Clone, Copy, Debug, PartialEq, Eq, PartialOrd, Ord, Hash)]
+pub struct Airline {
+    columns: [u8; 3],
+}
+
+impl Model for Airline {
+    ghost use Rattle.std.specs.Prelude.{List, ℕ, IsTrue};
+    ghost use Rattle.ssim_values.specs.Airline.{is_airline};
+
+    ghost Value = { List ℕ };
+
+    ghost view = { λ a. a.columns };
+
+    ghost invariant = { λ a. IsTrue (is_airline a.columns) };
+
+    ghost inverse = { λ t. record { columns = t } };
+}
+
+impl Airline {
+    /// Reads the three columns, or refuses them as 6 `BadDesignator`.
+    pub fn parse(text: &[u8; 3]) -> Result<Airline, Fault>
+        ensures accepts { IsOk result ↔ IsTrue (is_airline text.now) }
+        ensures value { IfOk result (λ a. a ≡ text.now) }
+        ensures err { IfErr result (λ e. e ≡ Fault.BadDesignator) }
+    {
+        let accepted = match *text {
+            [a, b, b' '] => is_pair(a, b),
+            [a, b, c] => a.is_ascii_uppercase() && b.is_ascii_uppercase() && c.is_ascii_uppercase(),
+        };
+        if accepted {
+            Ok(Airline { columns: *text })
+        } else {
+            Err(Fault::BadDesignator)
+        }
+    }
+
+    /// Writes the three columns.
+    pub fn write(self) -> [u8; 3]
+        ensures value { result ≡ self }
+        ensures columns { IsTrue (is_airline result) }
+    {
+        self.columns
+    }
+}
+
+// Two letters or digits, not both digits.
+fn is_pair(a: u8, b: u8) -> bool
+    ensures { result ≡ is_pair a b }
+{
+    (a.is_ascii_uppercase() && (b.is_ascii_uppercase() || b.is_ascii_digit()))
+        || (a.is_ascii_digit() && b.is_ascii_uppercase())
+}

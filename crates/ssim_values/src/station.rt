@@ -1,0 +1,48 @@
+ghost use Rattle.std.specs.Prelude.{◌≡◌, ◌↔◌, List, ℕ, length, IsTrue, IsOk, IfOk, IfErr};
+ghost use Rattle.ssim_values.specs.Station.{is_station};
+
+use crate::Fault;
+use std::marker::Model;
+
+/// A station: the three letters of an airport or a city, as `ZRH`.
+#[derive(Clone, Copy, Debug, PartialEq, Eq, PartialOrd, Ord, Hash)]
+pub struct Station {
+    letters: [u8; 3],
+}
+
+impl Model for Station {
+    ghost use Rattle.std.specs.Prelude.{List, ℕ, IsTrue};
+    ghost use Rattle.ssim_values.specs.Station.{is_station};
+
+    ghost Value = { List ℕ };
+
+    ghost view = { λ s. s.letters };
+
+    ghost invariant = { λ s. IsTrue (is_station s.letters) };
+
+    ghost inverse = { λ t. record { letters = t } };
+}
+
+impl Station {
+    /// Reads three letters, or refuses them as 3 `BadStation`.
+    pub fn parse(text: &[u8; 3]) -> Result<Station, Fault>
+        ensures accepts { IsOk result ↔ IsTrue (is_station text.now) }
+        ensures value { IfOk result (λ s. s ≡ text.now) }
+        ensures err { IfErr result (λ e. e ≡ Fault.BadStation) }
+    {
+        let [a, b, c] = *text;
+        if a.is_ascii_uppercase() && b.is_ascii_uppercase() && c.is_ascii_uppercase() {
+            Ok(Station { letters: *text })
+        } else {
+            Err(Fault::BadStation)
+        }
+    }
+
+    /// Writes the three letters.
+    pub fn write(self) -> [u8; 3]
+        ensures value { result ≡ self }
+        ensures letters { IsTrue (is_station result) }
+    {
+        self.letters
+    }
+}
