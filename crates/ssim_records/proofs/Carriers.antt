@@ -1,17 +1,17 @@
 -- A carrier record: the bytes spell one carrier, and what is written spells it.
-use Rattle.std.proofs.Common.{◌≡◌, ℕ, ◌+◌, List, [], ◌∷◌, length, Option, Some, None, refl, sym, ap, ◌∙◌}
-use Rattle.std.specs.Prelude.{codes, is_some}
+use Rattle.std.proofs.Common.{◌≡◌, ℕ, List, [], ◌∷◌, length, Option, Some, refl, sym, ap, ◌∙◌}
+use Rattle.std.specs.Prelude.{codes}
 use Rattle.std.specs.List.{AllZip}
 use Rattle.ssim_values.specs.Airline.{is_airline}
 use Rattle.ssim_values.specs.Day.{day_of, day_text}
 use Rattle.ssim_values.proofs.DayLaws.{day_of-day_text}
-use Rattle.ssim_records.specs.declared.field.Kind.TheVariants.{Carried, AirlineCode, Mode}
+use Rattle.ssim_records.specs.declared.field.Kind.TheVariants.{Carried, AirlineCode}
 use Rattle.ssim_records.specs.declared.carrier.TimeMode.{TimeMode}
 use Rattle.ssim_records.specs.declared.carrier.TimeMode.TheVariants.{Utc, Local}
 use Rattle.ssim_records.specs.Numbers.{digits_of, digits}
-use Rattle.ssim_records.specs.Columns.{columns, fault_in, end_from, time_mode_of, EachStands}
+use Rattle.ssim_records.specs.Columns.{columns, fault_in, end_from, time_mode_of}
 use Rattle.ssim_records.specs.Leg.{end_text}
-use Rattle.ssim_records.specs.Carrier.{CarrierFields, IsCarrier, SpellsCarrier, carrier_table, carrier_texts, time_mode_text, written_carrier}
+use Rattle.ssim_records.specs.Carrier.{CarrierFields, IsCarrier, SpellsCarrier, carrier_texts, time_mode_text, written_carrier}
 use Rattle.ssim_records.proofs.Days.{length_day, length_end, end_from-end_text}
 use Rattle.ssim_records.proofs.Names.{length_airline}
 use Rattle.ssim_records.proofs.Numbers.{digits_of-digits}

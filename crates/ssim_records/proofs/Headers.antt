@@ -1,11 +1,11 @@
 -- A header record: the bytes spell one header, and what is written spells it.
-use Rattle.std.proofs.Common.{◌≡◌, ℕ, ◌+◌, List, [], ◌∷◌, length, Option, Some, None, refl, sym, ap, ◌∙◌}
-use Rattle.std.specs.Prelude.{codes, is_some}
+use Rattle.std.proofs.Common.{◌≡◌, ℕ, List, [], ◌∷◌, length, Some, None, refl, sym, ap, ◌∙◌}
+use Rattle.std.specs.Prelude.{codes}
 use Rattle.std.specs.List.{AllZip}
 use Rattle.ssim_records.specs.declared.field.Kind.TheVariants.{Carried, Title}
 use Rattle.ssim_records.specs.Numbers.{digits_of, digits}
-use Rattle.ssim_records.specs.Columns.{columns, fault_in, title, is_title, EachStands}
-use Rattle.ssim_records.specs.Header.{HeaderFields, IsHeader, SpellsHeader, header_table, header_texts, written_header}
+use Rattle.ssim_records.specs.Columns.{columns, fault_in, title, is_title}
+use Rattle.ssim_records.specs.Header.{HeaderFields, IsHeader, SpellsHeader, header_texts, written_header}
 use Rattle.ssim_records.proofs.Numbers.{digits_of-digits}
 use Rattle.ssim_records.proofs.Places.{all_placed, length_concat}
 use Rattle.ssim_records.proofs.Rows.{none_other, stands_as}

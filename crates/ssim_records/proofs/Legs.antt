@@ -1,6 +1,6 @@
 -- A flight leg record: the bytes spell one leg, and what is written spells it.
-use Rattle.std.proofs.Common.{◌≡◌, ℕ, ◌+◌, Bool, List, [], ◌∷◌, ◌++◌, length, take, drop, take_all, Option, Some, None, refl, sym, ap, ◌∙◌, arith, lit≤}
-use Rattle.std.specs.Prelude.{slice_range, codes, is_some}
+use Rattle.std.proofs.Common.{◌≡◌, ℕ, Bool, List, [], ◌∷◌, ◌++◌, length, take, drop, take_all, Option, Some, refl, sym, ap, ◌∙◌, arith, lit≤}
+use Rattle.std.specs.Prelude.{slice_range, codes}
 use Rattle.std.specs.List.{concat, AllZip}
 use Rattle.std.proofs.lemmas.List.{take-append-drop, drop-drop, append-nil, length-drop}
 use Rattle.ssim_values.specs.Day.{day_of, day_text}
@@ -11,7 +11,7 @@ use Rattle.ssim_records.specs.declared.field.Field.{Field}
 use Rattle.ssim_records.specs.declared.field.Kind.TheVariants.{Carried, Digits}
 use Rattle.ssim_records.specs.Numbers.{digits_of, digits}
 use Rattle.ssim_records.specs.Columns.{columns, field, fault_in, is_carried, end_from, EachStands}
-use Rattle.ssim_records.specs.Leg.{Name, LegFields, IsLeg, SpellsLeg, name_table, middle_table, leg_table, own_table, own_columns, spread, leg_texts, end_text, written_leg}
+use Rattle.ssim_records.specs.Leg.{Name, LegFields, IsLeg, SpellsLeg, middle_table, spread, leg_texts, end_text, written_leg}
 use Rattle.ssim_records.proofs.Days.{length_day, length_end, length_places, end_from-end_text}
 use Rattle.ssim_records.proofs.Names.{one_name, NameLies, spells_name, name_stands, length_airline}
 use Rattle.ssim_records.proofs.Numbers.{digits_of-digits}

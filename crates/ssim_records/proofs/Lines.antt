@@ -1,5 +1,5 @@
 -- Records and fill that are written with LF are framed as their blocks.
-use Rattle.std.proofs.Common.{◌≡◌, ℕ, ◌+◌, ◌<◌, ◌≤◌, ◌==◌, Bool, true, false, List, [], ◌∷◌, ◌++◌, length, Option, Some, None, refl, sym, ap, ◌∙◌, append_assoc, arith, lit<, inl, inr}
+use Rattle.std.proofs.Common.{◌≡◌, ℕ, ◌+◌, ◌≤◌, ◌==◌, true, false, List, [], ◌∷◌, ◌++◌, length, Option, Some, None, refl, sym, ap, ◌∙◌, append_assoc, arith, lit<, inl, inr}
 use Rattle.std.specs.Prelude.{map}
 use Rattle.std.specs.Str.{bytes_eq}
 use Rattle.std.proofs.lemmas.Bool.Decides.{nat_tests}
@@ -7,7 +7,7 @@ use Rattle.std.proofs.lemmas.Slice.Eq.{bytes_eq-Decides}
 use Rattle.ssim_records.specs.declared.record.Record.{Record}
 use Rattle.ssim_records.specs.declared.record.Record.TheVariants.{Header, Carrier, Leg, Segment, Trailer}
 use Rattle.ssim_records.specs.Columns.{columns}
-use Rattle.ssim_records.specs.Frames.{drop_line_ends, trim, Frames, fill, is_fill, others}
+use Rattle.ssim_records.specs.Frames.{drop_line_ends, Frames, fill, is_fill, others}
 use Rattle.ssim_records.specs.Record.{IsRecord, written, block_of, lines, numbered, IsItem, AreItems}
 use Rattle.ssim_records.proofs.LineEnds.{pick}
 use Rattle.ssim_records.proofs.Headers.{length_header}

@@ -1,13 +1,12 @@
 -- Which leg a record speaks of: columns 2 to 13 say one name, and what is written for it is read again.
-use Rattle.std.proofs.Common.{◌≡◌, ℕ, ◌+◌, ◌<◌, ◌≤◌, Bool, true, false, ◌&&◌, ◌||◌, List, [], ◌∷◌, length, Option, Some, None, refl, sym, ap, ◌∙◌, arith, inl, inr}
-use Rattle.std.specs.Prelude.{IsTrue, is_some, ◌==◌}
+use Rattle.std.proofs.Common.{◌≡◌, ℕ, List, [], ◌∷◌, length, refl, sym, ap, ◌∙◌, arith, inl, inr}
+use Rattle.std.specs.Prelude.{IsTrue, ◌==◌}
 use Rattle.std.proofs.lemmas.Bool.Decides.{nat_tests}
 use Rattle.ssim_values.specs.Airline.{is_airline}
-use Rattle.ssim_values.specs.Station.{is_station}
-use Rattle.ssim_values.specs.Flight.{FlightNumber, is_suffix}
+use Rattle.ssim_values.specs.Flight.{is_suffix}
 use Rattle.ssim_records.specs.declared.field.Kind.TheVariants.{Suffix, AirlineCode}
 use Rattle.ssim_records.specs.Numbers.{number_of, sequence_of, digits}
-use Rattle.ssim_records.specs.Columns.{columns, fault_in, unless, EachStands}
+use Rattle.ssim_records.specs.Columns.{columns, fault_in, EachStands}
 use Rattle.ssim_records.specs.Leg.{Name, SpellsName, IsName, name_table}
 use Rattle.ssim_records.proofs.LineEnds.{pick}
 use Rattle.ssim_records.proofs.Numbers.{number_of-digits, sequence_of-digits}

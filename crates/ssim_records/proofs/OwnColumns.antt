@@ -8,7 +8,7 @@ use Rattle.ssim_records.specs.Columns.{field, columns, EachStands}
 use Rattle.ssim_records.specs.Leg.{leg_table, middle_table, own_table, own_columns, spread, leg_columns, AreLegColumns}
 use Rattle.ssim_records.proofs.Slices.{length_slice, slice_in}
 use Rattle.ssim_records.proofs.Places.{all_placed}
-use Rattle.ssim_records.proofs.Rows.{front_stands, rest_stands, both_stand, rows_move, same_columns, LieIn}
+use Rattle.ssim_records.proofs.Rows.{front_stands, rest_stands, both_stand, rows_move, LieIn}
 
 middle_lies : LieIn 36 127 middle_table
 middle_lies = search rules

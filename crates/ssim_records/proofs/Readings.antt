@@ -1,5 +1,5 @@
 -- The answer of a reading, from the next block that is not fill.
-use Rattle.std.proofs.Common.{◌≡◌, ℕ, ◌+◌, ◌%◌, ◌^◌, ◌<◌, ◌≤◌, List, [], ◌∷◌, length, Option, Some, None, Ok, Err, refl, sym, ap, ◌∙◌, arith}
+use Rattle.std.proofs.Common.{◌≡◌, ℕ, List, Option, Some, None, Ok, Err, refl}
 use Rattle.std.specs.Prelude.{Result, slice_index}
 use Rattle.ssim_records.specs.declared.blocks.Stop.{Stop}
 use Rattle.ssim_records.specs.declared.blocks.Stop.TheVariants as stop
@@ -8,9 +8,9 @@ use Rattle.ssim_records.specs.declared.fault.RecordFault.TheVariants.{Short, Bad
 use Rattle.ssim_records.specs.declared.field.Field.{Field}
 use Rattle.ssim_records.specs.declared.record.Record.{Record}
 use Rattle.ssim_records.specs.Columns.{first_fault}
-use Rattle.ssim_records.specs.Blocks.{GivesOther, Ahead, beyond, NextOther}
+use Rattle.ssim_records.specs.Blocks.{GivesOther}
 use Rattle.ssim_records.specs.Record.{Spells, fault_of, fault_by, column_fault, table_of}
-use Rattle.ssim_records.specs.Reading.{Reading, IsAhead, Answer, Answers, GivesNext, IsRefused, IsNext, HasNumber, FailsAs, NeverEnds}
+use Rattle.ssim_records.specs.Reading.{Reading, IsAhead, Answers, GivesNext, IsRefused, HasNumber, FailsAs, NeverEnds}
 
 -- ---- the faults of a block
 

@@ -1,7 +1,7 @@
 -- A segment data record: the bytes spell one segment, and what is written spells it.
-use Rattle.std.proofs.Common.{◌≡◌, ℕ, ◌+◌, ◌-◌, ◌<◌, ◌≤◌, Bool, true, false, ◌&&◌, List, [], ◌∷◌, ◌++◌, length, take, drop, take_all, Option, Some, None, refl, sym, ap, subst, ◌∙◌, arith, lit≤}
-use Rattle.std.specs.Prelude.{slice_range, codes, is_some, IsTrue, replicate}
-use Rattle.std.specs.List.{concat, list_all, AllZip}
+use Rattle.std.proofs.Common.{◌≡◌, ℕ, ◌+◌, ◌-◌, ◌≤◌, List, [], ◌∷◌, ◌++◌, length, take, drop, take_all, Some, refl, sym, ap, subst, ◌∙◌, arith, lit≤}
+use Rattle.std.specs.Prelude.{slice_range, codes, IsTrue, replicate}
+use Rattle.std.specs.List.{list_all, AllZip}
 use Rattle.std.proofs.lemmas.List.{take-append-drop, append-nil, length-drop, length-append}
 use Rattle.ssim_records.specs.declared.field.Kind.TheVariants.{Carried}
 use Rattle.ssim_records.specs.Numbers.{digits_of, digits}

@@ -1,14 +1,14 @@
 -- A trailer record: the bytes spell one trailer, and what is written spells it.
-use Rattle.std.proofs.Common.{◌≡◌, ℕ, ◌+◌, List, [], ◌∷◌, length, Option, Some, None, refl, sym, ap, ◌∙◌}
-use Rattle.std.specs.Prelude.{codes, is_some}
+use Rattle.std.proofs.Common.{◌≡◌, ℕ, List, [], ◌∷◌, length, Some, refl, sym, ap, ◌∙◌}
+use Rattle.std.specs.Prelude.{codes}
 use Rattle.std.specs.List.{AllZip}
 use Rattle.ssim_values.specs.Airline.{is_airline}
-use Rattle.ssim_records.specs.declared.field.Kind.TheVariants.{Carried, AirlineCode, Code}
+use Rattle.ssim_records.specs.declared.field.Kind.TheVariants.{Carried, AirlineCode}
 use Rattle.ssim_records.specs.declared.trailer.EndCode.{EndCode}
 use Rattle.ssim_records.specs.declared.trailer.EndCode.TheVariants.{Continuation, End}
 use Rattle.ssim_records.specs.Numbers.{digits_of, digits}
-use Rattle.ssim_records.specs.Columns.{columns, fault_in, is_carried, end_code_of, EachStands}
-use Rattle.ssim_records.specs.Trailer.{TrailerFields, IsTrailer, SpellsTrailer, trailer_table, trailer_texts, end_code_text, written_trailer}
+use Rattle.ssim_records.specs.Columns.{columns, fault_in, is_carried, end_code_of}
+use Rattle.ssim_records.specs.Trailer.{TrailerFields, IsTrailer, SpellsTrailer, trailer_texts, end_code_text, written_trailer}
 use Rattle.ssim_records.proofs.Names.{length_airline}
 use Rattle.ssim_records.proofs.Numbers.{digits_of-digits}
 use Rattle.ssim_records.proofs.Places.{all_placed, length_concat}

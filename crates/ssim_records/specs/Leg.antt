@@ -1,5 +1,5 @@
 -- Flight leg records, type 3: their fields by columns, what they say, and how they are written.
-use Rattle.std.specs.Prelude.{ℕ, ◌≡◌, ◌≤◌, ◌<◌, ◌+◌, Bool, true, IsTrue, List, [], ◌∷◌, ◌++◌, length, slice_range, replicate, codes, Option, Some, None, IfSome}
+use Rattle.std.specs.Prelude.{ℕ, ◌≡◌, ◌≤◌, ◌<◌, Bool, IsTrue, List, [], ◌∷◌, ◌++◌, length, slice_range, replicate, codes, Option, Some, None, IfSome}
 use Rattle.std.specs.List.{concat}
 use Rattle.ssim_values.specs.Calendar.{day_limit}
 use Rattle.ssim_values.specs.Day.{day_of, day_text}

@@ -1,5 +1,5 @@
 -- Records of any type: what they say, how they are written, and why bytes are refused.
-use Rattle.std.specs.Prelude.{ℕ, false, ◌≡◌, ◌<◌, ◌==◌, ◌+◌, if◌then◌else◌, List, [], ◌∷◌, ◌++◌, Option, Some, None, slice_index, map}
+use Rattle.std.specs.Prelude.{ℕ, false, ◌≡◌, ◌==◌, ◌+◌, if◌then◌else◌, List, [], ◌∷◌, ◌++◌, Option, Some, None, slice_index, map}
 use Rattle.std.specs.List.{flat_map}
 use Rattle.ssim_records.specs.declared.field.Field.{Field}
 use Rattle.ssim_records.specs.declared.fault.RecordFault.{RecordFault}

@@ -1,7 +1,5 @@
 -- Column 1 says the type, so that no other record is spelt.
-use Rattle.std.proofs.Common.{◌≡◌, Ok, Err, sym, ap, ◌∙◌, rules}
-use Rattle.ssim_records.specs.Columns.{first_fault}
-use Rattle.ssim_records.specs.Header.{header_table}
+use Rattle.std.proofs.Common.{◌≡◌, Ok, Err}
 use Rattle.ssim_records.proofs.AnyRecord.{same_kind, as_header, header_fault}
 use Rattle.ssim_records.proofs.record.header_record.Goals as goal
 

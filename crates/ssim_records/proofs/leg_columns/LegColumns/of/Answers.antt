@@ -1,7 +1,7 @@
 -- The table has no fault exactly where each field stands.
 use Rattle.std.proofs.Common.{refl, sym, ◌∙◌}
 use Rattle.ssim_records.specs.Columns.{first_fault}
-use Rattle.ssim_records.specs.Leg.{AreLegColumns, own_table, spread}
+use Rattle.ssim_records.specs.Leg.{own_table, spread}
 use Rattle.ssim_records.proofs.Rows.{each_stands, none_fault, no_other}
 use Rattle.ssim_records.proofs.leg_columns.LegColumns.of.Goals as goal
 
