@@ -1,0 +1,5 @@
+pub mod Arms
+pub mod Runs
+pub mod Sound
+pub mod Complete
+pub mod Place
