@@ -3,3 +3,6 @@ pub mod Runs
 pub mod Sound
 pub mod Complete
 pub mod Place
+pub mod Writing
+pub mod LeftLemmas
+pub mod DecodeLemmas

@@ -102,7 +102,7 @@ after_on m own ps p a = record {
 after_same : (m : MessageValue) (own other ps : List Part) → own ≡ other → After m own ps → After m other ps
 after_same m own other ps e a = subst (λ (x : List Part). After m x ps) e a
 
-later-push : (subs : List Sub) (sub : Sub) → later_parts (subs ++ sub ∷ []) ≡ later_parts subs ++ (Divider ∷ sub_parts sub)
+pub later-push : (subs : List Sub) (sub : Sub) → later_parts (subs ++ sub ∷ []) ≡ later_parts subs ++ (Divider ∷ sub_parts sub)
 later-push [] sub = ap (λ (x : List Part). Divider ∷ x) (append_none (sub_parts sub))
 later-push (s ∷ subs) sub = ap (λ (x : List Part). Divider ∷ (sub_parts s ++ x)) (later-push subs sub) ∙ ap (λ (x : List Part). Divider ∷ x) (sym (append_assoc (sub_parts s) (later_parts subs) (Divider ∷ sub_parts sub)))
 

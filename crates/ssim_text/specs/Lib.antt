@@ -5,3 +5,6 @@ pub mod Message
 pub mod Grammar
 pub mod Fault
 pub mod Machine
+pub mod Left
+pub mod Canonical
+pub mod Decoding

@@ -1,6 +1,8 @@
 //! Why a text is refused.
 ghost use Rattle.std.specs.Prelude.{◌≡◌};
 
+use std::alloc::AllocError;
+
 /// Why a line, or the end of a text, may not stand where it is.
 #[derive(Clone, Copy, Debug, PartialEq, Eq)]
 pub enum Fault {
@@ -45,5 +47,48 @@ impl Fault {
             Fault::TooMany => 28,
             Fault::NotAscii => 29,
         }
+    }
+}
+
+/// Why a text is refused, and at which line.
+#[derive(Clone, Copy, Debug, PartialEq, Eq)]
+pub enum TextFault {
+    /// 90: a growth was refused for want of memory.
+    Memory,
+    /// A fault, and the number of its line, from 1.
+    Refused(Fault, usize),
+}
+
+impl TextFault {
+    ghost use Rattle.ssim_text.specs.Fault.{text_fault_number, text_fault_line};
+
+    /// The number of the refusal.
+    pub fn number(self) -> u8
+        ensures { result ≡ text_fault_number self }
+    {
+        match self {
+            TextFault::Memory => 90,
+            TextFault::Refused(fault, _) => fault.number(),
+        }
+    }
+
+    /// The number of the line, from 1; none for want of memory.
+    pub fn line(self) -> Option<usize>
+        ensures { result ≡ text_fault_line self }
+    {
+        match self {
+            TextFault::Memory => None,
+            TextFault::Refused(_, line) => Some(line),
+        }
+    }
+}
+
+impl From<AllocError> for TextFault {
+    ghost use Rattle.ssim_text.specs.declared.fault.TextFault.TheVariants.{Memory};
+
+    ghost from_gives = { λ _ e. e ≡ Memory };
+
+    fn from(_refused: AllocError) -> TextFault {
+        TextFault::Memory
     }
 }

@@ -24,6 +24,13 @@ impl Model for Originator {
 impl Originator {
     ghost use Rattle.ssim_text.specs.Values.{no_originator};
 
+    /// The seven letters or digits, or seven blanks.
+    pub fn bytes(self) -> [u8; 7]
+        ensures { result ≡ self }
+    {
+        self.bytes
+    }
+
     /// Seven blanks.
     pub fn none() -> Originator
         ensures { result ≡ no_originator }
