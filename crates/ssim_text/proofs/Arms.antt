@@ -1,7 +1,6 @@
 -- Each arm of the machine: which line leads where, and which line is refused.
-use Rattle.std.proofs.Common.{◌≡◌, ◌<◌, ◌≤◌, ℕ, ◌+◌, List, [], ◌∷◌, ◌++◌, length, refl, take, drop, Option, Some, None, codes, arith, IsTrue, true, false, sym, ap, ◌∙◌}
+use Rattle.std.proofs.Common.{◌≡◌, ◌<◌, ◌≤◌, ℕ, List, length, refl, take, drop, Option, Some, None, codes, arith, true, false, sym, ap, ◌∙◌}
 use Rattle.std.specs.Prelude.{nat_lt, Bool, ◌&&◌, ◌||◌, ◌==◌, if◌then◌else◌, is_some}
-use Rattle.std.specs.List.{list_any}
 use Rattle.std.specs.Str.{bytes_eq}
 use Rattle.std.proofs.lemmas.Grind.{common_steps}
 use Rattle.std.proofs.lemmas.Bool.{false_from_ne_true}
@@ -23,17 +22,16 @@ use Rattle.ssim_text.specs.declared.segment.SegmentLine.{SegmentLine}
 use Rattle.ssim_text.specs.declared.fault.Fault.TheVariants as fault
 use Rattle.ssim_text.specs.declared.state.Equipped.{Equipped}
 use Rattle.ssim_text.specs.declared.state.Body.{Body}
-use Rattle.ssim_text.specs.declared.state.State.{State}
 use Rattle.ssim_text.specs.declared.state.State.TheVariants.{AtStart, AtKind, AtMode, AtReference, AtAction, AtFlight, AtDatedFlight, AtPeriod, AtEquipment, AtLegs, AtEnd, AtNext, AtFree}
 use Rattle.ssim_values.specs.declared.designator.Designator.{Designator}
 use Rattle.ssim_values.specs.Designator.{SpellsDesignator}
 use Rattle.ssim_values.specs.Clock.{clock_of}
 use Rattle.ssim_values.specs.Station.{is_station}
 use Rattle.ssim_text.specs.Values.{EquipmentValue, no_originator}
-use Rattle.ssim_text.specs.Message.{MessageValue, begun, with_sub, with_free}
+use Rattle.ssim_text.specs.Message.{MessageValue, begun, with_free}
 use Rattle.ssim_text.specs.Lines.{originator_of, kind_text, mode_text, reference_of, identifier_text, SpellsDatedFlight, period_of, equipment_of, variations_of, end_of, points_of, station_in, clock_in, digits_in, segment_text_of, leg_of, segment_of, begins_free}
-use Rattle.ssim_text.specs.Grammar.{Part, OriginatorPart, KindPart, ModePart, ReferencePart, ActionPart, FlightPart, DatedFlightPart, PeriodPart, EquipmentPart, LegPart, SegmentPart, Divider, FreePart, Spells, flies}
-use Rattle.ssim_text.specs.Machine.{step, Takes, Refuses, fault_of, fits_if_segment, fits_segment, has_segments, is_action, sub_of, flight_wanted, body_wanted, after_equipment, takes_leg, takes_segment, is_none_yet, is_whole, with_leg, with_segment, with_body}
+use Rattle.ssim_text.specs.Grammar.{Part, OriginatorPart, KindPart, ModePart, ReferencePart, ActionPart, FlightPart, DatedFlightPart, PeriodPart, EquipmentPart, LegPart, SegmentPart, Divider, FreePart, Spells}
+use Rattle.ssim_text.specs.Machine.{step, Takes, Refuses, fault_of, fits_if_segment, fits_segment, is_action, flight_wanted, body_wanted, after_equipment, takes_leg, takes_segment, is_none_yet, is_whole, with_leg, with_segment, with_body}
 
 none_some : {A : Type 0} (a : A) → None ≡ Some a → ⊥
 none_some a h = cc

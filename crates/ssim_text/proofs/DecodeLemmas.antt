@@ -1,7 +1,6 @@
 -- From what was read of the lines to what decoding answers for the text.
-use Rattle.std.proofs.Common.{◌≡◌, ◌<◌, ◌≤◌, ℕ, List, [], ◌∷◌, length, refl, sym, ap, subst, inl, inr, ◌∙◌, Option, Some, None, arith, map, Ok, Err}
+use Rattle.std.proofs.Common.{◌≡◌, ◌≤◌, ℕ, List, [], ◌∷◌, length, refl, sym, ap, subst, inl, inr, ◌∙◌, None, arith, map, Ok, Err}
 use Rattle.std.specs.Prelude.{Result, IfOk, IfErr}
-use Rattle.ssim_text.specs.declared.fault.Fault.{Fault}
 use Rattle.ssim_text.specs.declared.fault.TextFault.{TextFault}
 use Rattle.ssim_text.specs.declared.fault.TextFault.TheVariants as answer
 use Rattle.ssim_text.specs.declared.lines.Line.{Line}
@@ -9,7 +8,7 @@ use Rattle.ssim_text.specs.Message.{MessageValue}
 use Rattle.ssim_text.specs.Grammar.{SpellsText, NamesPlace}
 use Rattle.ssim_text.specs.Left.{lines_left, texts, numbers, place_number, first_unprintable}
 use Rattle.ssim_text.specs.Canonical.{canonical}
-use Rattle.ssim_text.specs.Decoding.{SpellsMessage, IsTooLong, IsRefusal, IsTooManyAtOne, NoMessage}
+use Rattle.ssim_text.specs.Decoding.{SpellsMessage, IsRefusal, IsTooManyAtOne, NoMessage}
 
 pub ok_then : {T E : Type 0} (r : Result T E) (P Q : T → Type 0) → ((x : T) → P x → Q x) → IfOk r P → IfOk r Q
 ok_then (Ok x) P Q f h = f x h

@@ -1,8 +1,8 @@
 -- How a text is cut at LF, and a line at its end.
-use Rattle.std.proofs.Common.{◌≡◌, ◌<◌, ◌≤◌, ℕ, ◌+◌, List, [], ◌∷◌, ◌++◌, length, refl, sym, ap, ◌∙◌, append_assoc, Bool, true, false, cond, map, Option, Some, None, get_or, take, drop, arith, add-one, drop-cons}
+use Rattle.std.proofs.Common.{◌≡◌, ◌<◌, ◌≤◌, ℕ, ◌+◌, List, [], ◌∷◌, ◌++◌, length, refl, sym, ap, ◌∙◌, append_assoc, Bool, true, false, cond, map, Some, get_or, take, drop, arith, add-one, drop-cons}
 use Rattle.std.specs.Prelude.{◌==◌, if◌then◌else◌, ◌-◌, nat_lt}
 use Rattle.std.proofs.lemmas.List.{take_more, get_or-map}
-use Rattle.std.specs.List.{slice_split, onto_first, list_all}
+use Rattle.std.specs.List.{onto_first, list_all}
 use Rattle.std.proofs.lemmas.Grind.{common_steps}
 use Rattle.ssim_text.specs.Bytes.{before, from, is_printable}
 use Rattle.ssim_text.specs.Left.{is_dropped, onto, without_end, numbered, left_from, pieces, first_unprintable, numbers, place_number}

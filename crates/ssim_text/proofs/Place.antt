@@ -1,16 +1,14 @@
 -- From the lines that were read to the texts that they begin.
-use Rattle.std.proofs.Common.{◌≡◌, ◌<◌, ◌≤◌, ℕ, ◌+◌, List, [], ◌∷◌, ◌++◌, length, refl, sym, ap, subst, inl, inr, ◌⊎◌, ◌∙◌, Option, Some, None, codes, arith, true, false, append_assoc, map, IsTrue, drop, take}
-use Rattle.std.specs.Prelude.{option_and_then, Bool, ◌&&◌, if◌then◌else◌, nat_lt}
+use Rattle.std.proofs.Common.{◌≡◌, ◌<◌, ◌≤◌, ℕ, ◌+◌, List, [], ◌∷◌, ◌++◌, length, refl, sym, ap, subst, inl, inr, ◌∙◌, Option, Some, None, codes, arith, true, false, append_assoc, map, drop, take}
+use Rattle.std.specs.Prelude.{option_and_then, nat_lt}
 use Rattle.std.specs.List.{AllZip, AllByRecursion}
-use Rattle.std.specs.Str.{bytes_eq}
 use Rattle.std.proofs.lemmas.Grind.{common_steps}
 use Rattle.ssim_values.specs.declared.designator.Designator.{Designator}
 use Rattle.ssim_values.specs.Designator.{SpellsDesignator}
-use Rattle.ssim_values.proofs.DesignatorLemmas.{SpellsDesignator-unique}
 use Rattle.ssim_text.specs.declared.kind.Kind.{Kind}
 use Rattle.ssim_text.specs.declared.kind.Kind.TheVariants.{Ssm, Asm}
 use Rattle.ssim_text.specs.declared.kind.TimeMode.{TimeMode}
-use Rattle.ssim_text.specs.declared.kind.TimeMode.TheVariants.{Utc, Local}
+use Rattle.ssim_text.specs.declared.kind.TimeMode.TheVariants.{Utc}
 use Rattle.ssim_text.specs.declared.kind.ActionIdentifier.{ActionIdentifier}
 use Rattle.ssim_text.specs.declared.kind.ActionIdentifier.TheVariants as identifier
 use Rattle.ssim_text.specs.declared.reference.GivenReference.{GivenReference}
@@ -20,10 +18,7 @@ use Rattle.ssim_text.specs.declared.dates.Dates.{Dates}
 use Rattle.ssim_text.specs.declared.dates.Dates.TheVariants.{Period, Date}
 use Rattle.ssim_text.specs.declared.leg.LegLine.{LegLine}
 use Rattle.ssim_text.specs.declared.segment.SegmentLine.{SegmentLine}
-use Rattle.ssim_text.specs.declared.action.NewLegs.{NewLegs}
-use Rattle.ssim_text.specs.declared.action.Action.{Action}
 use Rattle.ssim_text.specs.declared.action.Action.TheVariants as action
-use Rattle.ssim_text.specs.declared.action.Sub.{Sub}
 use Rattle.ssim_text.specs.declared.state.Change.{Change}
 use Rattle.ssim_text.specs.declared.state.Change.TheVariants as change
 use Rattle.ssim_text.specs.declared.state.Equipped.{Equipped}
@@ -33,9 +28,9 @@ use Rattle.ssim_text.specs.declared.state.State.{State}
 use Rattle.ssim_text.specs.declared.state.State.TheVariants.{AtStart, AtKind, AtMode, AtReference, AtAction, AtFlight, AtDatedFlight, AtPeriod, AtEquipment, AtLegs, AtEnd, AtNext, AtFree}
 use Rattle.ssim_text.specs.Values.{EquipmentValue, no_originator}
 use Rattle.ssim_text.specs.Message.{MessageValue, begun, with_sub, with_free}
-use Rattle.ssim_text.specs.Lines.{originator_of, kind_text, mode_text, numbers_of, reference_of, identifier_text, SpellsDatedFlight, date_of, period_of, equipment_of, leg_of, segment_of, begins_free}
-use Rattle.ssim_text.specs.Grammar.{Part, OriginatorPart, KindPart, ModePart, ReferencePart, ActionPart, FlightPart, DatedFlightPart, PeriodPart, EquipmentPart, LegPart, SegmentPart, Divider, FreePart, Spells, flight_parts, new_parts, identifier_of, body_parts, sub_parts, later_parts, subs_parts, free_parts, IsOriginatorPart, IsModePart, flies, IsNewLegs, IsBody, AreDates, IsSub, BeginsFree, IsShape, IsFront, HasParts, SpellsText, needs, shortest, IsCompletion, Starts, NamesPlace, OneMessage}
-use Rattle.ssim_text.specs.Machine.{step, finish, Takes, Refuses, sub_of, flight_wanted, no_legs, body_wanted, after_equipment, is_none_yet, with_leg, with_segment, takes_leg, has_segments, fits_segment, takes_segment, is_whole, action_of, with_body}
+use Rattle.ssim_text.specs.Lines.{numbers_of, reference_of, SpellsDatedFlight, date_of, period_of, equipment_of, leg_of}
+use Rattle.ssim_text.specs.Grammar.{Part, KindPart, ModePart, ReferencePart, ActionPart, FlightPart, DatedFlightPart, PeriodPart, EquipmentPart, LegPart, FreePart, Spells, flies, SpellsText, needs, shortest, IsCompletion, Starts, NamesPlace, OneMessage}
+use Rattle.ssim_text.specs.Machine.{step, finish, Takes, Refuses, sub_of, flight_wanted, no_legs, body_wanted, with_leg, is_whole, with_body}
 use Rattle.std.proofs.Common.{get_or}
 use Rattle.std.proofs.lemmas.List.{take_more, get_or-map}
 use Rattle.ssim_values.specs.Calendar.{day_number, leap_years, months_length}
@@ -46,10 +41,9 @@ use Rattle.ssim_values.specs.Clock.{clock_of}
 use Rattle.ssim_text.specs.declared.reference.GroupCode.TheVariants.{End}
 use Rattle.ssim_text.specs.declared.dates.GivenDate.TheVariants.{Full}
 use Rattle.ssim_text.specs.declared.dates.GivenEnd.TheVariants.{Until}
-use Rattle.ssim_text.specs.declared.leg.LegEnd.{LegEnd}
 use Rattle.ssim_text.specs.Lines.{variations_of, end_of}
 use Rattle.ssim_text.proofs.Runs.{run, none_some, some_same, false_true, Reads, reads_on, GoesOn, follow, goes_nowhere, run_append}
-use Rattle.ssim_text.proofs.Complete.{Ends, complete}
+use Rattle.ssim_text.proofs.Complete.{complete}
 use Rattle.ssim_text.proofs.Sound.{sound, Holds, reached_holds}
 
 lines_none : (xs : List (List ℕ)) → xs ++ [] ≡ xs

@@ -1,27 +1,20 @@
 -- What a state says of the parts that led to it.
-use Rattle.std.proofs.Common.{◌≡◌, ◌<◌, ◌≤◌, ℕ, ◌+◌, List, [], ◌∷◌, ◌++◌, length, refl, sym, ap, subst, inl, inr, ◌⊎◌, ◌∙◌, Option, Some, None, codes, arith, true, false, append_assoc, map, IsTrue, drop, take}
-use Rattle.std.specs.Prelude.{option_and_then, Bool, ◌&&◌, if◌then◌else◌, nat_lt}
-use Rattle.std.specs.List.{AllZip, AllByRecursion}
-use Rattle.std.specs.Str.{bytes_eq}
+use Rattle.std.proofs.Common.{◌≡◌, ◌<◌, ◌≤◌, ℕ, ◌+◌, List, [], ◌∷◌, ◌++◌, length, refl, sym, ap, subst, inl, inr, ◌∙◌, Some, arith, true, false, append_assoc, map}
+use Rattle.std.specs.Prelude.{Bool, ◌&&◌, nat_lt}
+use Rattle.std.specs.List.{AllByRecursion}
 use Rattle.std.proofs.lemmas.Grind.{common_steps}
 use Rattle.ssim_values.specs.declared.designator.Designator.{Designator}
-use Rattle.ssim_values.specs.Designator.{SpellsDesignator}
-use Rattle.ssim_values.proofs.DesignatorLemmas.{SpellsDesignator-unique}
 use Rattle.ssim_text.specs.declared.kind.Kind.{Kind}
 use Rattle.ssim_text.specs.declared.kind.Kind.TheVariants.{Ssm, Asm}
 use Rattle.ssim_text.specs.declared.kind.TimeMode.{TimeMode}
-use Rattle.ssim_text.specs.declared.kind.TimeMode.TheVariants.{Utc, Local}
+use Rattle.ssim_text.specs.declared.kind.TimeMode.TheVariants.{Utc}
 use Rattle.ssim_text.specs.declared.kind.ActionIdentifier.{ActionIdentifier}
 use Rattle.ssim_text.specs.declared.kind.ActionIdentifier.TheVariants as identifier
 use Rattle.ssim_text.specs.declared.reference.GivenReference.{GivenReference}
-use Rattle.ssim_text.specs.declared.dates.GivenDate.{GivenDate}
-use Rattle.ssim_text.specs.declared.dates.GivenPeriod.{GivenPeriod}
 use Rattle.ssim_text.specs.declared.dates.Dates.{Dates}
 use Rattle.ssim_text.specs.declared.dates.Dates.TheVariants.{Period, Date}
 use Rattle.ssim_text.specs.declared.leg.LegLine.{LegLine}
 use Rattle.ssim_text.specs.declared.segment.SegmentLine.{SegmentLine}
-use Rattle.ssim_text.specs.declared.action.NewLegs.{NewLegs}
-use Rattle.ssim_text.specs.declared.action.Action.{Action}
 use Rattle.ssim_text.specs.declared.action.Action.TheVariants as action
 use Rattle.ssim_text.specs.declared.action.Sub.{Sub}
 use Rattle.ssim_text.specs.declared.state.Change.{Change}
@@ -33,9 +26,9 @@ use Rattle.ssim_text.specs.declared.state.State.{State}
 use Rattle.ssim_text.specs.declared.state.State.TheVariants.{AtStart, AtKind, AtMode, AtReference, AtAction, AtFlight, AtDatedFlight, AtPeriod, AtEquipment, AtLegs, AtEnd, AtNext, AtFree}
 use Rattle.ssim_text.specs.Values.{EquipmentValue, no_originator}
 use Rattle.ssim_text.specs.Message.{MessageValue, begun, with_sub, with_free}
-use Rattle.ssim_text.specs.Lines.{originator_of, kind_text, mode_text, numbers_of, reference_of, identifier_text, SpellsDatedFlight, date_of, period_of, equipment_of, leg_of, segment_of, begins_free}
-use Rattle.ssim_text.specs.Grammar.{Part, OriginatorPart, KindPart, ModePart, ReferencePart, ActionPart, FlightPart, DatedFlightPart, PeriodPart, EquipmentPart, LegPart, SegmentPart, Divider, FreePart, Spells, flight_parts, new_parts, identifier_of, body_parts, sub_parts, later_parts, subs_parts, free_parts, IsOriginatorPart, IsModePart, flies, IsNewLegs, IsBody, AreDates, IsSub, BeginsFree, IsShape, IsFront, HasParts, SpellsText, needs, shortest, IsCompletion, Starts, NamesPlace, OneMessage}
-use Rattle.ssim_text.specs.Machine.{step, finish, Takes, Refuses, sub_of, flight_wanted, no_legs, body_wanted, after_equipment, is_none_yet, with_leg, with_segment, takes_leg, has_segments, fits_segment, takes_segment, is_whole, action_of, with_body}
+use Rattle.ssim_text.specs.Lines.{begins_free}
+use Rattle.ssim_text.specs.Grammar.{Part, OriginatorPart, KindPart, ModePart, ReferencePart, ActionPart, FlightPart, DatedFlightPart, PeriodPart, EquipmentPart, LegPart, SegmentPart, Divider, FreePart, flight_parts, sub_parts, later_parts, subs_parts, free_parts, IsOriginatorPart, flies, IsBody, AreDates, IsSub, BeginsFree, IsShape, IsFront, HasParts}
+use Rattle.ssim_text.specs.Machine.{step, finish, sub_of, flight_wanted, body_wanted, after_equipment, is_none_yet, with_leg, with_segment, takes_leg, has_segments, fits_segment, takes_segment, is_whole, action_of, with_body}
 use Rattle.ssim_text.proofs.Runs.{run, bind_some, none_some, some_same, guarded, false_true}
 
 append_none : {A : Type 0} (xs : List A) → xs ++ [] ≡ xs

@@ -8,3 +8,4 @@ pub mod Machine
 pub mod Left
 pub mod Canonical
 pub mod Decoding
+pub mod Reference

@@ -11,6 +11,7 @@ use crate::kind::Kind;
 use crate::originator::Originator;
 use ssim_values::{Day, DayMonth};
 use std::alloc::{AllocError, Global};
+use std::cmp::Ordering;
 use std::marker::Model;
 
 /// The reference under which a message is held; references are compared field by field, from the first.
@@ -24,6 +25,20 @@ pub struct Reference {
     pub serial: u16,
     pub kind: Kind,
     pub originator: Originator,
+}
+
+impl Reference {
+    ghost use Rattle.std.specs.Ordering.{nat_cmp};
+    ghost use Rattle.std.specs.Cmp.Lexicographic.{slice_cmp};
+    ghost use Rattle.ssim_text.specs.Reference.{reference_numbers};
+
+    /// Which of two references comes first: by date, group serial, message serial, kind (SSM before ASM),
+    /// and the bytes of the originator.
+    pub fn order(&self, other: &Reference) -> Ordering
+        ensures { result ≡ slice_cmp nat_cmp (reference_numbers self.now) (reference_numbers other.now) }
+    {
+        self.cmp(other)
+    }
 }
 
 /// Whether another message of the group follows (`C`) or none (`E`).

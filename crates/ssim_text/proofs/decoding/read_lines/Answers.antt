@@ -1,5 +1,5 @@
 -- The lines that were read lead to the state: the place and the message follow from it.
-use Rattle.std.proofs.Common.{◌≡◌, ℕ, List, [], Bor}
+use Rattle.std.proofs.Common.{[]}
 use Rattle.ssim_text.specs.declared.lines.Line.{Line}
 use Rattle.ssim_text.proofs.Place.{read_line, refused_line, all_read, refused_after, spells, only_one}
 use Rattle.ssim_text.proofs.decoding.read_lines.Goals as goal

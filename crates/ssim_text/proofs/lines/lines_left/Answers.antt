@@ -1,5 +1,5 @@
 -- The line at hand is the first of the rest.
-use Rattle.std.proofs.Common.{◌≡◌, ◌++◌, ℕ, List, [], ◌∷◌, map, length, take, drop, get_or, sym, ap, ◌∙◌, arith}
+use Rattle.std.proofs.Common.{◌++◌, ℕ, List, [], map, get_or, sym, ap, ◌∙◌, arith}
 use Rattle.ssim_text.specs.declared.lines.Line.{Line}
 use Rattle.ssim_text.specs.Left.{without_end, numbered, lines_left}
 use Rattle.ssim_text.proofs.LeftLemmas.{line_on, last_line, from_shorter, tail_cons, tail_none}

@@ -1,5 +1,4 @@
 -- The number at the index, or one more than the last.
-use Rattle.std.proofs.Common.{ℕ, List, Bor, arith}
 use Rattle.ssim_text.specs.declared.lines.Line.{Line}
 use Rattle.ssim_text.proofs.LeftLemmas.{place_within, place_behind}
 use Rattle.ssim_text.proofs.lines.number_at.Goals as goal

@@ -1,6 +1,5 @@
 -- A byte that is dropped leaves the end, another moves it.
-use Rattle.std.proofs.Common.{◌≡◌, ◌+◌, take, get_or, sym, ap, ◌∙◌, arith, length, ◌<◌, refl}
-use Rattle.ssim_text.specs.Left.{without_end}
+use Rattle.std.proofs.Common.{get_or, sym, ◌∙◌, arith, refl}
 use Rattle.ssim_text.proofs.LeftLemmas.{trim_more, trim_keep}
 use Rattle.ssim_text.proofs.lines.without_end.Goals as goal
 use Rattle.ssim_text.proofs.lines.without_end.Goals.{then-not-is_dropped, else-not-is_dropped}

@@ -1,9 +1,5 @@
 -- Behind a divider stands an action, while there is room, or free text.
-use Rattle.std.proofs.Common.{arith, sym, ap, subst, ◌∙◌, ◌≡◌}
-use Rattle.ssim_text.specs.declared.state.State.{State}
-use Rattle.ssim_text.specs.declared.state.State.TheVariants.{AtNext, AtFree}
-use Rattle.ssim_text.specs.Message.{with_free}
-use Rattle.ssim_text.specs.Machine.{Takes}
+use Rattle.std.proofs.Common.{arith, sym, ◌∙◌}
 use Rattle.ssim_text.proofs.Arms.{take_next, take_first_free, no_next}
 use Rattle.ssim_text.proofs.state.State.after_divider.Goals as goal
 
