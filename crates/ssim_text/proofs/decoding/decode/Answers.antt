@@ -1,0 +1,59 @@
+-- What was read of the lines, said of the text.
+use Rattle.std.proofs.Common.{◌≡◌, ◌≤◌, ℕ, List, map, sym, ap, ◌∙◌, inr, length, arith, None}
+use Rattle.ssim_text.specs.declared.fault.TextFault.{TextFault}
+use Rattle.ssim_text.specs.declared.lines.Line.{Line}
+use Rattle.ssim_text.specs.Message.{MessageValue}
+use Rattle.ssim_text.specs.Left.{lines_left, numbers, place_number, first_unprintable}
+use Rattle.ssim_text.specs.Canonical.{canonical}
+use Rattle.ssim_text.specs.Decoding.{SpellsMessage, IsRefusal, IsTooManyAtOne, NoMessage}
+use Rattle.ssim_text.proofs.DecodeLemmas.{ok_then, err_then, lines_of_text, message_found, message_only, too_long_none, too_long_place, misplaced_none, misplaced_place}
+use Rattle.ssim_text.proofs.decoding.decode.Goals as goal
+
+seen : List Line → List (ℕ × List ℕ)
+seen lines = map (λ (l : Line). (l.number, l.bytes.now)) lines
+
+pub returns-in-Ok-clause-found : goal.returns-in-Ok-clause-found
+unfolding seen
+returns-in-Ok-clause-found c =
+    let d = c.in-Ok.draft in
+    let printable : first_unprintable (lines_left c.args.text.now) ≡ None =
+    ap first_unprintable (sym c.in_ok-lines.ensures ∙ ap seen (sym c.deref.ensures.value)) ∙ sym c.first_unprintable.ensures ∙ c.in_default.is in
+    let lines = lines_of_text c.args.text.now c.in_ok-lines.lines.items c.deref-2.result.now c.deref-2.ensures.value c.in_ok-lines.ensures in
+    ok_then c.finished.result (λ (m : MessageValue). (m ≡ d) × (length (canonical d) ≤ 65536)) (λ (m : MessageValue). SpellsMessage m c.args.text.now)
+    (λ m h. message_found c.args.text.now (map (λ (l : Line). l.bytes.now) c.deref-2.result.now) m d (omega (arith, c.if-text-gt65536.false)) printable lines c.in-Ok.ensures.found h.0 h.1)
+    c.finished.ensures.ok
+
+pub returns-in-Ok-clause-only : goal.returns-in-Ok-clause-only
+returns-in-Ok-clause-only c =
+    let d = c.in-Ok.draft in
+    let lines = lines_of_text c.args.text.now c.in_ok-lines.lines.items c.deref-2.result.now c.deref-2.ensures.value c.in_ok-lines.ensures in
+    ok_then c.finished.result (λ (m : MessageValue). (m ≡ d) × (length (canonical d) ≤ 65536)) (λ (m : MessageValue). (n : MessageValue) → SpellsMessage n c.args.text.now → n ≡ m)
+    (λ m h n s. message_only c.args.text.now (map (λ (l : Line). l.bytes.now) c.deref-2.result.now) m d n lines c.in-Ok.ensures.only h.0 s)
+    c.finished.ensures.ok
+
+pub returns-in-Ok-clause-none : goal.returns-in-Ok-clause-none
+returns-in-Ok-clause-none c =
+    let d = c.in-Ok.draft in
+    let lines = lines_of_text c.args.text.now c.in_ok-lines.lines.items c.deref-2.result.now c.deref-2.ensures.value c.in_ok-lines.ensures in
+    err_then c.finished.result (λ (f : TextFault). IsTooManyAtOne d f) (λ (f : TextFault). NoMessage c.args.text.now f)
+    (λ f h. too_long_none c.args.text.now (map (λ (l : Line). l.bytes.now) c.deref-2.result.now) d f lines c.in-Ok.ensures.only h)
+    c.finished.ensures.err
+
+pub returns-in-Ok-clause-place : goal.returns-in-Ok-clause-place
+returns-in-Ok-clause-place c =
+    let d = c.in-Ok.draft in
+    let lines = lines_of_text c.args.text.now c.in_ok-lines.lines.items c.deref-2.result.now c.deref-2.ensures.value c.in_ok-lines.ensures in
+    err_then c.finished.result (λ (f : TextFault). IsTooManyAtOne d f) (λ (f : TextFault). IsRefusal c.args.text.now f)
+    (λ f h. too_long_place c.args.text.now (map (λ (l : Line). l.bytes.now) c.deref-2.result.now) d f lines c.in-Ok.ensures.found h)
+    c.finished.ensures.err
+
+pub returns-clause-none : goal.returns-clause-none
+returns-clause-none c =
+    let lines = lines_of_text c.args.text.now c.in_ok-lines.lines.items c.deref-2.result.now c.deref-2.ensures.value c.in_ok-lines.ensures in
+    misplaced_none c.args.text.now (map (λ (l : Line). l.bytes.now) c.deref-2.result.now) c.in-Err-Misplaced.index lines (rw c.in-Err-Misplaced.field-0-is at c.in-Err-Misplaced.ensures.place)
+
+pub returns-clause-place : goal.returns-clause-place
+unfolding seen
+returns-clause-place c =
+    let lines = lines_of_text c.args.text.now c.in_ok-lines.lines.items c.deref-2.result.now c.deref-2.ensures.value c.in_ok-lines.ensures in
+    inr (inr (misplaced_place c.args.text.now (map (λ (l : Line). l.bytes.now) c.deref-2.result.now) (seen c.deref-in-Err-Misplaced.result.now) c.in-Err-Misplaced.index c.number_at.result lines (ap seen c.deref-in-Err-Misplaced.ensures.value ∙ c.in_ok-lines.ensures) (rw c.in-Err-Misplaced.field-0-is at c.in-Err-Misplaced.ensures.place) (c.number_at.ensures ∙ ap (λ (i : ℕ). place_number (numbers (seen c.deref-in-Err-Misplaced.result.now)) i) c.in-Err-Misplaced.index-is)))

@@ -1,0 +1,44 @@
+-- How a line is cut into its parts.
+use Rattle.std.specs.Prelude.{ℕ, Bool, ◌&&◌, ◌||◌, ◌==◌, nat_le, if◌then◌else◌, Option, Some, None, List, [], ◌∷◌, length}
+use Rattle.std.specs.List.{list_all}
+use Rattle.ssim_values.specs.Characters.{is_letter, is_digit}
+
+infixl 10 ◌>>=◌
+-- a part that says nothing leaves nothing said
+abbrev pub ◌>>=◌ : {A B : Type 0} → Option A → (A → Option B) → Option B
+(Some x) >>= f = f x
+None >>= f = None
+
+-- the bytes before the first b
+abbrev pub before : ℕ → List ℕ → List ℕ
+before b [] = []
+before b (x ∷ xs) = if x == b then [] else x ∷ before b xs
+
+-- the bytes from the first b on
+abbrev pub from : ℕ → List ℕ → List ℕ
+from b [] = []
+from b (x ∷ xs) = if x == b then x ∷ xs else from b xs
+
+-- the bytes behind the blanks at the front
+abbrev pub drop_blanks : List ℕ → List ℕ
+drop_blanks [] = []
+drop_blanks (x ∷ xs) = if x == 32 then drop_blanks xs else x ∷ xs
+
+-- the first word: a line's parts stand with one or more blanks between them
+abbrev pub word : List ℕ → List ℕ
+word = before 32
+
+-- what stands behind the first word and the blanks that follow it
+abbrev pub behind : List ℕ → List ℕ
+behind line = drop_blanks (from 32 line)
+
+abbrev pub is_alphanumeric : ℕ → Bool
+is_alphanumeric b = is_letter b || is_digit b
+
+-- the bytes that may stand in a line
+abbrev pub is_printable : ℕ → Bool
+is_printable b = nat_le 32 b && nat_le b 126
+
+-- a text of a length in bounds, each byte of which passes
+abbrev pub is_text_of : (ℕ → Bool) → ℕ → ℕ → List ℕ → Bool
+is_text_of test low high text = nat_le low (length text) && nat_le (length text) high && list_all test text

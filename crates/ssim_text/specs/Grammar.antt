@@ -1,0 +1,218 @@
+-- The grammar: a message has parts in an order, and each line of its text spells its part.
+use Rattle.std.specs.Prelude.{◌≡◌, ℕ, ◌≤◌, ◌<◌, ◌+◌, ◌⊎◌, Bool, true, false, Option, Some, None, is_some, List, [], ◌∷◌, ◌++◌, map, length, codes, drop, take, position}
+use Rattle.std.specs.List.{AllByRecursion, AllZip}
+use Rattle.std.specs.Str.{bytes_eq}
+use Rattle.ssim_text.specs.declared.kind.Kind.{Kind}
+use Rattle.ssim_text.specs.declared.kind.Kind.TheVariants.{Ssm, Asm}
+use Rattle.ssim_text.specs.declared.kind.TimeMode.{TimeMode}
+use Rattle.ssim_text.specs.declared.kind.TimeMode.TheVariants.{Utc}
+use Rattle.ssim_text.specs.declared.kind.ActionIdentifier.{ActionIdentifier}
+use Rattle.ssim_text.specs.declared.kind.ActionIdentifier.TheVariants as identifier
+use Rattle.ssim_text.specs.declared.reference.GivenReference.{GivenReference}
+use Rattle.ssim_text.specs.declared.dates.GivenDate.{GivenDate}
+use Rattle.ssim_text.specs.declared.dates.GivenPeriod.{GivenPeriod}
+use Rattle.ssim_text.specs.declared.dates.Dates.{Dates}
+use Rattle.ssim_text.specs.declared.dates.Dates.TheVariants.{Period, Date}
+use Rattle.ssim_text.specs.declared.leg.LegLine.{LegLine}
+use Rattle.ssim_text.specs.declared.segment.SegmentLine.{SegmentLine}
+use Rattle.ssim_text.specs.declared.action.NewLegs.{NewLegs}
+use Rattle.ssim_text.specs.declared.action.Action.{Action}
+use Rattle.ssim_text.specs.declared.action.Action.TheVariants as action
+use Rattle.ssim_text.specs.declared.action.Sub.{Sub}
+use Rattle.ssim_values.specs.declared.designator.Designator.{Designator}
+use Rattle.ssim_values.specs.Designator.{SpellsDesignator}
+use Rattle.ssim_text.specs.Values.{EquipmentValue, no_originator}
+use Rattle.ssim_text.specs.Lines.{originator_of, kind_text, mode_text, reference_of, identifier_text, SpellsDatedFlight, period_of, equipment_of, leg_of, segment_of, begins_free}
+use Rattle.ssim_text.specs.Message.{MessageValue}
+
+-- what one line says
+pub data Part : Type 0 where
+  OriginatorPart : List ℕ → Part
+  KindPart : Kind → Part
+  ModePart : TimeMode → Part
+  ReferencePart : GivenReference → Part
+  ActionPart : ActionIdentifier → Part
+  FlightPart : Designator → Part
+  DatedFlightPart : Designator → GivenDate → Part
+  PeriodPart : GivenPeriod → Part
+  EquipmentPart : EquipmentValue → Part
+  LegPart : LegLine → Part
+  SegmentPart : SegmentLine → Part
+  Divider : Part
+  FreePart : List ℕ → Part
+
+-- the line says it
+abbrev pub Spells : Part → List ℕ → Type 0
+Spells (OriginatorPart originator) line = originator_of line ≡ Some originator
+Spells (KindPart kind) line = line ≡ kind_text kind
+Spells (ModePart mode) line = line ≡ mode_text mode
+Spells (ReferencePart reference) line = reference_of line ≡ Some reference
+Spells (ActionPart identifier) line = line ≡ identifier_text identifier
+Spells (FlightPart designator) line = SpellsDesignator designator line
+Spells (DatedFlightPart designator date) line = SpellsDatedFlight designator date line
+Spells (PeriodPart period) line = period_of line ≡ Some period
+Spells (EquipmentPart equipment) line = equipment_of line ≡ Some equipment
+Spells (LegPart leg) line = leg_of line ≡ Some leg
+Spells (SegmentPart segment) line = segment_of line ≡ Some segment
+Spells Divider line = line ≡ codes "//"
+Spells (FreePart free) line = line ≡ free
+
+-- ---- the order of the parts
+
+-- an SSM names a flight and then a period, an ASM a flight with its date
+abbrev pub flight_parts : Designator → Dates → List Part
+flight_parts designator (Period period) = FlightPart designator ∷ PeriodPart period ∷ []
+flight_parts designator (Date date) = DatedFlightPart designator date ∷ []
+
+abbrev pub new_parts : NewLegs → List Part
+new_parts new = EquipmentPart new.equipment ∷ (map LegPart new.legs ++ map SegmentPart new.segments)
+
+abbrev pub identifier_of : Action → ActionIdentifier
+identifier_of (action.New new) = identifier.New
+identifier_of action.Cnl = identifier.Cnl
+identifier_of (action.Rpl new) = identifier.Rpl
+identifier_of (action.Eqt equipment) = identifier.Eqt
+identifier_of (action.Tim legs) = identifier.Tim
+
+-- what stands behind flight and period
+abbrev pub body_parts : Action → List Part
+body_parts (action.New new) = new_parts new
+body_parts action.Cnl = []
+body_parts (action.Rpl new) = new_parts new
+body_parts (action.Eqt equipment) = EquipmentPart equipment ∷ []
+body_parts (action.Tim legs) = map LegPart legs
+
+abbrev pub sub_parts : Sub → List Part
+sub_parts sub = ActionPart (identifier_of sub.action) ∷ (flight_parts sub.designator sub.dates ++ body_parts sub.action)
+
+-- the sub-messages after the first
+abbrev pub later_parts : List Sub → List Part
+later_parts [] = []
+later_parts (sub ∷ subs) = Divider ∷ (sub_parts sub ++ later_parts subs)
+
+abbrev pub subs_parts : List Sub → List Part
+subs_parts [] = []
+subs_parts (sub ∷ subs) = sub_parts sub ++ later_parts subs
+
+abbrev pub free_parts : List (List ℕ) → List Part
+free_parts [] = []
+free_parts (line ∷ lines) = Divider ∷ map FreePart (line ∷ lines)
+
+-- the line before all others, where there is an originator
+abbrev pub IsOriginatorPart : List ℕ → List Part → Type 0
+IsOriginatorPart originator parts = ((originator ≡ no_originator) × (parts ≡ [])) ⊎ (parts ≡ OriginatorPart originator ∷ [])
+
+-- the line of the time mode, which may be left out for UTC
+abbrev pub IsModePart : TimeMode → List Part → Type 0
+IsModePart mode parts = (parts ≡ ModePart mode ∷ []) ⊎ ((mode ≡ Utc) × (parts ≡ []))
+
+-- ---- what a message may be
+
+-- the n-th leg and the k-th from it on, if the n-th departs there and there is such a k; else a later pair
+abbrev pub pair_at : Bool → Option ℕ → ℕ → Option (ℕ × ℕ) → Option (ℕ × ℕ)
+pair_at true (Some k) n later = Some (n, n + k)
+pair_at true None n later = later
+pair_at false arrival n later = later
+
+-- the first leg line that departs the board point and from which on one arrives at the off point, and the first
+-- such; n is the number of the first leg of the list
+abbrev pub leg_pair : List ℕ → List ℕ → ℕ → List LegLine → Option (ℕ × ℕ)
+leg_pair board off n [] = None
+leg_pair board off n (leg ∷ legs) =
+    pair_at (bytes_eq leg.departure.station board) (position (λ l. bytes_eq l.arrival.station off) (leg ∷ legs)) n (leg_pair board off (n + 1) legs)
+
+-- the legs fly the segment's pair of points
+abbrev pub flies : List LegLine → SegmentLine → Bool
+flies legs segment = is_some (leg_pair segment.board segment.off 0 legs)
+
+pub record IsNewLegs (new : NewLegs) : Type 0 where
+  pub some : 1 ≤ length new.legs
+  pub legs : length new.legs ≤ 20
+  pub segments : length new.segments ≤ 99
+  pub flown : AllByRecursion (λ segment. flies new.legs segment ≡ true) new.segments
+
+abbrev pub IsBody : Action → Type 0
+IsBody (action.New new) = IsNewLegs new
+IsBody action.Cnl = Unit {0}
+IsBody (action.Rpl new) = IsNewLegs new
+IsBody (action.Eqt equipment) = Unit {0}
+IsBody (action.Tim legs) = (1 ≤ length legs) × (length legs ≤ 20)
+
+-- an SSM gives periods, an ASM single dates
+abbrev pub AreDates : Kind → Dates → Type 0
+AreDates Ssm (Period period) = Unit {0}
+AreDates Asm (Date date) = Unit {0}
+AreDates kind dates = ⊥
+
+pub record IsSub (kind : Kind) (sub : Sub) : Type 0 where
+  pub dates : AreDates kind sub.dates
+  pub body : IsBody sub.action
+
+-- free text begins with SI
+abbrev pub BeginsFree : List (List ℕ) → Type 0
+BeginsFree [] = Unit {0}
+BeginsFree (line ∷ lines) = begins_free line ≡ true
+
+pub record IsShape (m : MessageValue) : Type 0 where
+  pub some : 1 ≤ length m.subs
+  pub few : length m.subs ≤ 250
+  pub subs : AllByRecursion (IsSub m.kind) m.subs
+  pub free : BeginsFree m.free
+
+-- ---- texts
+
+-- the parts before the sub-messages
+pub record IsFront (originator : List ℕ) (kind : Kind) (mode : TimeMode) (reference : GivenReference) (front : List Part) : Type 0 where
+  pub originator_parts : List Part
+  pub is_originator : IsOriginatorPart originator originator_parts
+  pub mode_parts : List Part
+  pub is_mode : IsModePart mode mode_parts
+  pub whole : front ≡ originator_parts ++ (KindPart kind ∷ (mode_parts ++ ReferencePart reference ∷ []))
+
+-- the message's parts are these, in order
+pub record HasParts (m : MessageValue) (parts : List Part) : Type 0 where
+  pub front : List Part
+  pub is_front : IsFront m.originator m.kind m.mode m.reference front
+  pub whole : parts ≡ front ++ (subs_parts m.subs ++ free_parts m.free)
+
+-- the lines spell the message
+pub record SpellsText (m : MessageValue) (lines : List (List ℕ)) : Type 0 where
+  pub shape : IsShape m
+  pub parts : List Part
+  pub has_parts : HasParts m parts
+  pub spelled : AllZip Spells parts lines
+
+-- what an action needs
+abbrev pub needs : ActionIdentifier → List (List ℕ)
+needs identifier.New = codes "J 320" ∷ codes "ZRH0000 LHR0000" ∷ []
+needs identifier.Cnl = []
+needs identifier.Rpl = codes "J 320" ∷ codes "ZRH0000 LHR0000" ∷ []
+needs identifier.Eqt = codes "J 320" ∷ []
+needs identifier.Tim = codes "ZRH0000 LHR0000" ∷ []
+
+-- the shortest text of this kind with this action
+abbrev pub shortest : Kind → ActionIdentifier → List (List ℕ)
+shortest Ssm a = codes "SSM" ∷ codes "UTC" ∷ codes "01JAN00001E001" ∷ identifier_text a ∷ codes "LX1" ∷ codes "01JAN25 01JAN25 1" ∷ needs a
+shortest Asm a = codes "ASM" ∷ codes "UTC" ∷ codes "01JAN00001E001" ∷ identifier_text a ∷ codes "LX1/01JAN25" ∷ needs a
+
+-- what lines may be completed with: free text, or the end of a shortest text
+abbrev pub IsCompletion : List (List ℕ) → Type 0
+IsCompletion c = (c ≡ codes "SI" ∷ []) ⊎ ((n : ℕ) × (kind : Kind) × (a : ActionIdentifier) × (c ≡ drop n (shortest kind a)))
+
+-- a text begins so
+pub record Starts (lines : List (List ℕ)) : Type 0 where
+  pub completion : List (List ℕ)
+  pub is_completion : IsCompletion completion
+  pub message : MessageValue
+  pub spelled : SpellsText message (lines ++ completion)
+
+-- the line with this index is the first that cannot stand, or no line is left where one is wanted
+pub record NamesPlace (lines : List (List ℕ)) (index : ℕ) : Type 0 where
+  pub starts : Starts (take index lines)
+  pub within : index ≤ length lines
+  pub no_text : (m : MessageValue) → SpellsText m lines → ⊥
+  pub starts_no_more : index < length lines → Starts (take (index + 1) lines) → ⊥
+
+-- no text spells two messages
+abbrev pub OneMessage : Type 0
+OneMessage = (a b : MessageValue) (lines : List (List ℕ)) → SpellsText a lines → SpellsText b lines → a ≡ b

@@ -1,0 +1,11 @@
+pub mod Bytes
+pub mod Values
+pub mod Lines
+pub mod Message
+pub mod Grammar
+pub mod Fault
+pub mod Machine
+pub mod Left
+pub mod Canonical
+pub mod Decoding
+pub mod Reference

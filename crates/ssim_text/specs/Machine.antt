@@ -1,0 +1,177 @@
+-- How a message grows, part by part.
+use Rattle.std.specs.Prelude.{◌≡◌, ℕ, nat_lt, if◌then◌else◌, Bool, true, false, ◌&&◌, Option, Some, None, List, [], ◌∷◌, ◌++◌, length, ◌||◌, is_some}
+use Rattle.std.specs.List.{list_any}
+use Rattle.std.specs.Str.{bytes_eq}
+use Rattle.ssim_text.specs.declared.kind.Kind.{Kind}
+use Rattle.ssim_text.specs.declared.kind.Kind.TheVariants.{Ssm, Asm}
+use Rattle.ssim_text.specs.declared.kind.TimeMode.TheVariants.{Utc}
+use Rattle.ssim_text.specs.declared.kind.ActionIdentifier.{ActionIdentifier}
+use Rattle.ssim_text.specs.declared.kind.ActionIdentifier.TheVariants as identifier
+use Rattle.ssim_text.specs.declared.dates.Dates.{Dates}
+use Rattle.ssim_text.specs.declared.dates.Dates.TheVariants.{Period, Date}
+use Rattle.ssim_text.specs.declared.leg.LegLine.{LegLine}
+use Rattle.ssim_text.specs.declared.segment.SegmentLine.{SegmentLine}
+use Rattle.ssim_text.specs.declared.action.Action.{Action}
+use Rattle.ssim_text.specs.declared.action.Action.TheVariants as action
+use Rattle.ssim_text.specs.declared.action.Sub.{Sub}
+use Rattle.ssim_text.specs.declared.fault.Fault.{Fault}
+use Rattle.ssim_text.specs.declared.fault.Fault.TheVariants as fault
+use Rattle.ssim_text.specs.declared.state.Change.{Change}
+use Rattle.ssim_text.specs.declared.state.Change.TheVariants as change
+use Rattle.ssim_text.specs.declared.state.Equipped.{Equipped}
+use Rattle.ssim_text.specs.declared.state.Equipped.TheVariants as equipped
+use Rattle.ssim_text.specs.declared.state.Body.{Body}
+use Rattle.ssim_text.specs.declared.state.State.{State}
+use Rattle.ssim_text.specs.declared.state.State.TheVariants.{AtStart, AtKind, AtMode, AtReference, AtAction, AtFlight, AtDatedFlight, AtPeriod, AtEquipment, AtLegs, AtEnd, AtNext, AtFree}
+use Rattle.ssim_text.specs.declared.state.Stop.{Stop}
+use Rattle.ssim_text.specs.declared.state.Stop.TheVariants.{OutOfMemory, Refused}
+use Rattle.ssim_values.specs.declared.designator.Designator.{Designator}
+use Rattle.ssim_text.specs.Values.{EquipmentValue, no_originator}
+use Rattle.ssim_text.specs.Lines.{begins_free, identifier_text, leg_of, segment_of}
+use Rattle.ssim_text.specs.Message.{MessageValue, begun, with_sub, with_free}
+use Rattle.ssim_text.specs.Grammar.{Part, OriginatorPart, KindPart, ModePart, ReferencePart, ActionPart, FlightPart, DatedFlightPart, PeriodPart, EquipmentPart, LegPart, SegmentPart, Divider, FreePart, Spells, flies}
+
+abbrev pub sub_of : Designator → Dates → Action → Sub
+sub_of designator dates action = record { designator = designator; dates = dates; action = action }
+
+-- an SSM wants a flight, an ASM a flight with its date
+abbrev pub flight_wanted : Kind → MessageValue → ActionIdentifier → State
+flight_wanted Ssm m a = AtFlight m a
+flight_wanted Asm m a = AtDatedFlight m a
+
+abbrev pub no_legs : Designator → Dates → Change → Body
+no_legs designator dates change = record { designator = designator; dates = dates; change = change; legs = []; segments = [] }
+
+-- behind flight and period
+abbrev pub body_wanted : ActionIdentifier → MessageValue → Designator → Dates → State
+body_wanted identifier.New m designator dates = AtEquipment m equipped.New designator dates
+body_wanted identifier.Cnl m designator dates = AtEnd (with_sub m (sub_of designator dates action.Cnl))
+body_wanted identifier.Rpl m designator dates = AtEquipment m equipped.Rpl designator dates
+body_wanted identifier.Eqt m designator dates = AtEquipment m equipped.Eqt designator dates
+body_wanted identifier.Tim m designator dates = AtLegs m (no_legs designator dates change.Tim)
+
+-- behind the equipment line
+abbrev pub after_equipment : Equipped → MessageValue → Designator → Dates → EquipmentValue → State
+after_equipment equipped.New m designator dates equipment = AtLegs m (no_legs designator dates (change.New equipment))
+after_equipment equipped.Rpl m designator dates equipment = AtLegs m (no_legs designator dates (change.Rpl equipment))
+after_equipment equipped.Eqt m designator dates equipment = AtEnd (with_sub m (sub_of designator dates (action.Eqt equipment)))
+
+abbrev pub is_none_yet : {A : Type 0} → List A → Bool
+is_none_yet [] = true
+is_none_yet (x ∷ xs) = false
+
+abbrev pub with_leg : Body → LegLine → Body
+with_leg b leg = record b { legs = b.legs ++ leg ∷ [] }
+
+abbrev pub with_segment : Body → SegmentLine → Body
+with_segment b segment = record b { segments = b.segments ++ segment ∷ [] }
+
+-- a further leg line may stand
+abbrev pub takes_leg : Body → Bool
+takes_leg b = is_none_yet b.segments && nat_lt (length b.legs) 20
+
+abbrev pub has_segments : Change → Bool
+has_segments change.Tim = false
+has_segments (change.New equipment) = true
+has_segments (change.Rpl equipment) = true
+
+-- the segment line may stand, but for their number
+abbrev pub fits_segment : Body → SegmentLine → Bool
+fits_segment b segment = has_segments b.change && flies b.legs segment
+
+abbrev pub takes_segment : Body → SegmentLine → Bool
+takes_segment b segment = fits_segment b segment && nat_lt (length b.segments) 99
+
+abbrev pub is_whole : Body → Bool
+is_whole b = nat_lt 0 (length b.legs)
+
+abbrev pub action_of : Change → List LegLine → List SegmentLine → Action
+action_of change.Tim legs segments = action.Tim legs
+action_of (change.New equipment) legs segments = action.New (record { equipment = equipment; legs = legs; segments = segments })
+action_of (change.Rpl equipment) legs segments = action.Rpl (record { equipment = equipment; legs = legs; segments = segments })
+
+-- the message with the sub-message that has been read
+abbrev pub with_body : MessageValue → Body → MessageValue
+with_body m b = with_sub m (sub_of b.designator b.dates (action_of b.change b.legs b.segments))
+
+-- what is read after this part, where it may stand
+abbrev pub step : State → Part → Option State
+step AtStart (OriginatorPart originator) = Some (AtKind originator)
+step AtStart (KindPart kind) = Some (AtMode no_originator kind)
+step (AtKind originator) (KindPart kind) = Some (AtMode originator kind)
+step (AtMode originator kind) (ModePart mode) = Some (AtReference originator kind mode)
+step (AtMode originator kind) (ReferencePart reference) = Some (AtAction (begun originator kind Utc reference))
+step (AtReference originator kind mode) (ReferencePart reference) = Some (AtAction (begun originator kind mode reference))
+step (AtAction m) (ActionPart a) = Some (flight_wanted m.kind m a)
+step (AtFlight m a) (FlightPart designator) = Some (AtPeriod m a designator)
+step (AtDatedFlight m a) (DatedFlightPart designator date) = Some (body_wanted a m designator (Date date))
+step (AtPeriod m a designator) (PeriodPart period) = Some (body_wanted a m designator (Period period))
+step (AtEquipment m e designator dates) (EquipmentPart equipment) = Some (after_equipment e m designator dates equipment)
+step (AtLegs m b) (LegPart leg) = if takes_leg b then Some (AtLegs m (with_leg b leg)) else None
+step (AtLegs m b) (SegmentPart segment) = if takes_segment b segment then Some (AtLegs m (with_segment b segment)) else None
+step (AtLegs m b) Divider = if is_whole b then Some (AtNext (with_body m b)) else None
+step (AtEnd m) Divider = Some (AtNext m)
+step (AtNext m) (ActionPart a) = if nat_lt (length m.subs) 250 then Some (flight_wanted m.kind m a) else None
+step (AtNext m) (FreePart line) = if begins_free line then Some (AtFree (with_free m line)) else None
+step (AtFree m) (FreePart line) = Some (AtFree (with_free m line))
+step s p = None
+
+-- the message, where the text may end here
+abbrev pub finish : State → Option MessageValue
+finish (AtLegs m b) = if is_whole b then Some (with_body m b) else None
+finish (AtEnd m) = Some m
+finish (AtFree m) = Some m
+finish s = None
+
+-- the fault of a text that ends here
+abbrev pub fault_at : State → Fault
+fault_at AtStart = fault.BadKind
+fault_at (AtKind originator) = fault.BadKind
+fault_at (AtMode originator kind) = fault.BadReference
+fault_at (AtReference originator kind mode) = fault.BadReference
+fault_at (AtAction m) = fault.BadAction
+fault_at (AtFlight m a) = fault.BadFlight
+fault_at (AtDatedFlight m a) = fault.BadFlight
+fault_at (AtPeriod m a designator) = fault.BadPeriod
+fault_at (AtEquipment m e designator dates) = fault.BadEquipment
+fault_at (AtLegs m b) = fault.BadLeg
+fault_at (AtEnd m) = fault.Extra
+fault_at (AtNext m) = fault.BadAction
+fault_at (AtFree m) = fault.Extra
+
+-- one of the five actions
+abbrev pub is_action : List ℕ → Bool
+is_action line = list_any (λ a. bytes_eq line (identifier_text a)) (identifier.New ∷ identifier.Cnl ∷ identifier.Rpl ∷ identifier.Eqt ∷ identifier.Tim ∷ [])
+
+abbrev pub fits_if_segment : Body → Option SegmentLine → Bool
+fits_if_segment b None = false
+fits_if_segment b (Some segment) = fits_segment b segment
+
+-- the fault of a line that may not stand: one too many only where it would stand but for the number
+abbrev pub fault_of : State → List ℕ → Fault
+fault_of (AtLegs m b) line =
+    if (is_some (leg_of line) && is_none_yet b.segments) || fits_if_segment b (segment_of line) then fault.TooMany else fault.BadLeg
+fault_of (AtNext m) line = if is_action line then fault.TooMany else fault.BadAction
+fault_of s line = fault_at s
+
+-- a line leads from one state to the next
+pub record Takes (s : State) (line : List ℕ) (next : State) : Type 0 where
+  pub part : Part
+  pub spelled : Spells part line
+  pub step : step s part ≡ Some next
+
+-- no part that may stand here is spelled so
+abbrev pub Refuses : State → List ℕ → Type 0
+Refuses s line = (part : Part) → Spells part line → step s part ≡ None
+
+-- reading stops for memory, or since no part is spelled so
+abbrev pub StopsAt : State → List ℕ → Stop → Type 0
+StopsAt s line OutOfMemory = Unit {0}
+StopsAt s line (Refused f) = Refuses s line × (f ≡ fault_of s line)
+
+abbrev pub Finishes : State → MessageValue → Type 0
+Finishes s m = finish s ≡ Some m
+
+abbrev pub EndsShort : State → Stop → Type 0
+EndsShort s OutOfMemory = Unit {0}
+EndsShort s (Refused f) = (finish s ≡ None) × (f ≡ fault_at s)

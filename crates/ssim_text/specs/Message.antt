@@ -1,0 +1,24 @@
+-- What contracts see of a message.
+use Rattle.std.specs.Prelude.{ℕ, List, [], ◌∷◌, ◌++◌}
+use Rattle.ssim_text.specs.declared.kind.Kind.{Kind}
+use Rattle.ssim_text.specs.declared.kind.TimeMode.{TimeMode}
+use Rattle.ssim_text.specs.declared.reference.GivenReference.{GivenReference}
+use Rattle.ssim_text.specs.declared.action.Sub.{Sub}
+
+pub record MessageValue : Type 0 where
+  pub originator : List ℕ
+  pub kind : Kind
+  pub mode : TimeMode
+  pub reference : GivenReference
+  pub subs : List Sub
+  pub free : List (List ℕ)
+
+-- a message without sub-messages yet
+abbrev pub begun : List ℕ → Kind → TimeMode → GivenReference → MessageValue
+begun originator kind mode reference = record { originator = originator; kind = kind; mode = mode; reference = reference; subs = []; free = [] }
+
+abbrev pub with_sub : MessageValue → Sub → MessageValue
+with_sub m sub = record m { subs = m.subs ++ sub ∷ [] }
+
+abbrev pub with_free : MessageValue → List ℕ → MessageValue
+with_free m line = record m { free = m.free ++ line ∷ [] }

@@ -1,0 +1,13 @@
+-- What contracts see of the values that hold bytes of their own.
+use Rattle.std.specs.Prelude.{ℕ, List, codes}
+
+-- a service type, an aircraft type, and where they are given booking designators and a configuration
+pub record EquipmentValue : Type 0 where
+  pub service : ℕ
+  pub aircraft : List ℕ
+  pub designators : List ℕ
+  pub configuration : List ℕ
+
+-- seven blanks stand for no originator
+abbrev pub no_originator : List ℕ
+no_originator = codes "       "

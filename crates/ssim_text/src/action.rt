@@ -1,0 +1,63 @@
+//! Sub-messages and their actions.
+ghost use Rattle.std.specs.Prelude.{◌≡◌, IfSome, IfNone};
+ghost use Rattle.ssim_text.specs.Lines.{SpellsDatedFlight};
+ghost use Rattle.ssim_values.specs.Designator.{SpellsDesignator};
+
+use crate::bytes::{cut, front};
+use crate::dates::{Dates, GivenDate, date};
+use crate::equipment::Equipment;
+use crate::leg::Legs;
+use crate::segment::Segments;
+use ssim_values::Designator;
+
+/// What `NEW` and `RPL` put on a date.
+#[derive(Drop)]
+pub struct NewLegs {
+    pub equipment: Equipment,
+    pub legs: Legs,
+    pub segments: Segments,
+}
+
+/// What a sub-message does to each of its dates, by the action identifiers of SSIM.
+#[derive(Drop)]
+pub enum Action {
+    /// A new flight.
+    New(NewLegs),
+    /// The flight is cancelled.
+    Cnl,
+    /// The flight is replaced.
+    Rpl(NewLegs),
+    /// Other equipment.
+    Eqt(Equipment),
+    /// Other times for the legs between the named stations.
+    Tim(Legs),
+}
+
+/// One action on one flight over its dates.
+#[derive(Drop)]
+pub struct Sub {
+    pub designator: Designator,
+    pub dates: Dates,
+    pub action: Action,
+}
+
+pub(crate) fn flight(line: &[u8]) -> Option<Designator>
+    ensures some { IfSome result (λ d. SpellsDesignator d line.now) }
+    ensures none { IfNone result ((d : Designator) → ¬ (SpellsDesignator d line.now)) }
+{
+    match Designator::parse(line) {
+        Ok(designator) => Some(designator),
+        Err(_) => None,
+    }
+}
+
+pub(crate) fn dated_flight(line: &[u8]) -> Option<(Designator, GivenDate)>
+    ensures some { IfSome result (λ f. SpellsDatedFlight f.0 f.1 line.now) }
+    ensures none { IfNone result ((d : Designator) → (date : GivenDate) → ¬ (SpellsDatedFlight d date line.now)) }
+{
+    let (designator, rest) = cut(line, b'/');
+    let (_solidus, text) = front(rest, 1);
+    let designator = flight(designator)?;
+    let date = date(text)?;
+    Some((designator, date))
+}

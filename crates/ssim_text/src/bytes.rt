@@ -1,0 +1,68 @@
+//! How a line is cut into its parts.
+ghost use Rattle.std.specs.Prelude.{◌≡◌, ◌∷◌, take, drop};
+ghost use Rattle.std.specs.List.{list_all};
+ghost use Rattle.ssim_text.specs.Bytes.{before, from, drop_blanks, word, behind, is_alphanumeric};
+ghost use Rattle.ssim_values.specs.Characters.{is_digit, is_letter};
+
+/// The bytes before the first `mark`, and those from it on.
+pub(crate) fn cut(text: &[u8], mark: u8) -> (&[u8], &[u8])
+    ensures before { result.0.now ≡ before mark text.now }
+    ensures from { result.1.now ≡ from mark text.now }
+{
+    for (at, byte) in text.iter().enumerate() {
+        if *byte == mark {
+            return text.split_at(at);
+        }
+    }
+    text.split_at(text.len())
+}
+
+/// The bytes behind the blanks at the front.
+pub(crate) fn skip_blanks(text: &[u8]) -> &[u8]
+    ensures { result.now ≡ drop_blanks text.now }
+{
+    let mut text = text;
+    while let [b' ', rest @ ..] = text {
+        text = rest;
+    }
+    text
+}
+
+/// The first word, and what stands behind the blanks that follow it.
+pub(crate) fn first_word(line: &[u8]) -> (&[u8], &[u8])
+    ensures word { result.0.now ≡ word line.now }
+    ensures behind { result.1.now ≡ behind line.now }
+{
+    let (word, rest) = cut(line, b' ');
+    (word, skip_blanks(rest))
+}
+
+/// The first bytes, up to `count` of them, and the others.
+pub(crate) fn front(text: &[u8], count: usize) -> (&[u8], &[u8])
+    ensures front { result.0.now ≡ take count text.now }
+    ensures rest { result.1.now ≡ drop count text.now }
+{
+    if count <= text.len() {
+        text.split_at(count)
+    } else {
+        text.split_at(text.len())
+    }
+}
+
+pub(crate) fn all_digits(text: &[u8]) -> bool
+    ensures { result ≡ list_all is_digit text.now }
+{
+    text.iter().all(|byte| b'0' <= *byte && *byte <= b'9')
+}
+
+pub(crate) fn all_letters(text: &[u8]) -> bool
+    ensures { result ≡ list_all is_letter text.now }
+{
+    text.iter().all(|byte| b'A' <= *byte && *byte <= b'Z')
+}
+
+pub(crate) fn all_alphanumeric(text: &[u8]) -> bool
+    ensures { result ≡ list_all is_alphanumeric text.now }
+{
+    text.iter().all(|byte| (b'A' <= *byte && *byte <= b'Z') || (b'0' <= *byte && *byte <= b'9'))
+}

@@ -1,0 +1,80 @@
+//! From a text to its message.
+ghost use Rattle.std.specs.Prelude.{◌≡◌, ◌≤◌, ℕ, length, map, IfOk, IfErr};
+ghost use Rattle.ssim_text.specs.Message.{MessageValue};
+ghost use Rattle.ssim_text.specs.Grammar.{SpellsText};
+ghost use Rattle.ssim_text.specs.Decoding.{IsRefusal, IsPlace, IsTooManyAtOne, NoMessage, SpellsMessage};
+ghost use Rattle.ssim_text.specs.Canonical.{canonical};
+
+use crate::fault::{Fault, TextFault};
+use crate::lines::{Line, first_unprintable, lines_left, number_at};
+use crate::message::{Draft, Message};
+use crate::state::{State, Stop};
+use std::alloc::Global;
+
+/// Why lines are refused: for memory, or with a fault and the index of the line.
+#[derive(Drop)]
+pub(crate) enum Refusal {
+    NoMemory,
+    Misplaced(Fault, usize),
+}
+
+/// The message that the lines spell.
+fn read_lines(alloc: Global, lines: &[Line]) -> Result<Draft, Refusal>
+    ensures found { IfOk result (λ m. SpellsText m (map (λ l. l.bytes.now) lines.now)) }
+    ensures only { IfOk result (λ m. (n : MessageValue) → SpellsText n (map (λ l. l.bytes.now) lines.now) → n ≡ m) }
+    ensures place { IfErr result (λ refusal. IsPlace (map (λ l. l.bytes.now) lines.now) refusal) }
+{
+    let mut state = State::AtStart;
+    for (index, line) in lines.iter().enumerate() {
+        state = match state.after(alloc, line.bytes) {
+            Ok(next) => next,
+            Err(Stop::OutOfMemory) => return Err(Refusal::NoMemory),
+            Err(Stop::Refused(fault)) => return Err(Refusal::Misplaced(fault, index)),
+        };
+    }
+    match state.finish() {
+        Ok(draft) => Ok(draft),
+        Err(Stop::OutOfMemory) => Err(Refusal::NoMemory),
+        Err(Stop::Refused(fault)) => Err(Refusal::Misplaced(fault, lines.len())),
+    }
+}
+
+/// The message that the lines spell, if its canonical text is not too long.
+fn finished(alloc: Global, draft: Draft) -> Result<Message, TextFault>
+    ensures ok { IfOk result (λ m. (m ≡ draft) × (length (canonical draft) ≤ 65536)) }
+    ensures err { IfErr result (λ fault. IsTooManyAtOne draft fault) }
+{
+    let text = draft.encode(alloc)?;
+    if text.len() > 65_536 {
+        return Err(TextFault::Refused(Fault::TooMany, 1));
+    }
+    Ok(Message::of(draft))
+}
+
+/// The message that a text spells.
+///
+/// Refuses 28 at line 1 a text of more than 65,536 bytes; then 29 at the first line with a byte
+/// outside 32 to 126; then, by the code of what was wanted there, the first line that cannot stand
+/// where it is, or the line after the last where one is wanted; then 28 at line 1 a text whose
+/// canonical text alone is too long.
+pub fn decode(alloc: Global, text: &[u8]) -> Result<Message, TextFault>
+    ensures found { IfOk result (λ m. SpellsMessage m text.now) }
+    ensures only { IfOk result (λ m. (n : MessageValue) → SpellsMessage n text.now → n ≡ m) }
+    ensures none { IfErr result (λ fault. NoMessage text.now fault) }
+    ensures place { IfErr result (λ fault. IsRefusal text.now fault) }
+{
+    if text.len() > 65_536 {
+        return Err(TextFault::Refused(Fault::TooMany, 1));
+    }
+    let lines = lines_left(alloc, text)?;
+    if let Some(number) = first_unprintable(&lines) {
+        return Err(TextFault::Refused(Fault::NotAscii, number as usize));
+    }
+    match read_lines(alloc, &lines) {
+        Ok(draft) => finished(alloc, draft),
+        Err(Refusal::NoMemory) => Err(TextFault::Memory),
+        Err(Refusal::Misplaced(fault, index)) => {
+            Err(TextFault::Refused(fault, number_at(&lines, index)))
+        }
+    }
+}

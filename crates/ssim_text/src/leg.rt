@@ -1,0 +1,216 @@
+//! Leg lines.
+ghost use Rattle.std.specs.Prelude.{◌≡◌, ◌<◌, ◌≤◌, ◌++◌, ◌∷◌, [], length, position, IfSome, IfNone, IfOk};
+ghost use Rattle.std.specs.Str.{bytes_eq};
+ghost use Rattle.ssim_text.specs.Grammar.{leg_pair, flies};
+ghost use Rattle.ssim_text.specs.Lines.{station_in, clock_in, variation_of, passenger_of, variations_of, end_of, leg_of};
+
+use crate::bytes::{first_word, front};
+use crate::segment::SegmentLine;
+use ssim_values::{Clock, Station};
+use std::alloc::{AllocError, Global};
+use std::marker::Model;
+
+/// One end of a flight leg: where and when it departs or arrives.
+#[derive(Clone, Copy, Debug, PartialEq, Eq)]
+pub struct LegEnd {
+    pub station: Station,
+    /// The aircraft's time, in the message's time mode.
+    pub time: Clock,
+    /// Days after the flight's date of origin, 0 to 7.
+    pub variation: u8,
+    /// The passengers' time, that of the aircraft unless another was given.
+    pub passenger: Clock,
+}
+
+/// The departure and the arrival of a flight leg.
+#[derive(Clone, Copy, Debug, PartialEq, Eq)]
+pub struct LegLine {
+    pub departure: LegEnd,
+    pub arrival: LegEnd,
+}
+
+#[tactic(auto, unfolding(crate::specs::Lines::end_of))]
+impl LegEnd {
+    /// Reads a station, a time, and perhaps a date variation and a passenger time.
+    fn parse(text: &[u8]) -> Option<LegEnd>
+        ensures some { IfSome result (λ e. end_of text.now ≡ Some e) }
+        ensures none { IfNone result (end_of text.now ≡ None) }
+    {
+        let (station, rest) = front(text, 3);
+        let (time, rest) = front(rest, 4);
+        let station = read_station(station)?;
+        let time = read_clock(time)?;
+        let (variation, passenger) = variations(time, rest)?;
+        Some(LegEnd {
+            station,
+            time,
+            variation,
+            passenger,
+        })
+    }
+}
+
+#[tactic(auto, unfolding(crate::specs::Lines::leg_of))]
+impl LegLine {
+    /// Reads a departure and an arrival.
+    pub(crate) fn parse(line: &[u8]) -> Option<LegLine>
+        ensures some { IfSome result (λ leg. leg_of line.now ≡ Some leg) }
+        ensures none { IfNone result (leg_of line.now ≡ None) }
+    {
+        let (departure, arrival) = first_word(line);
+        Some(LegLine {
+            departure: LegEnd::parse(departure)?,
+            arrival: LegEnd::parse(arrival)?,
+        })
+    }
+}
+
+pub(crate) fn read_station(text: &[u8]) -> Option<Station>
+    ensures some { IfSome result (λ s. station_in text.now ≡ Some s) }
+    ensures none { IfNone result (station_in text.now ≡ None) }
+{
+    match text.as_array() {
+        Some(letters) => match Station::parse(letters) {
+            Ok(station) => Some(station),
+            Err(_) => None,
+        },
+        None => None,
+    }
+}
+
+fn read_clock(text: &[u8]) -> Option<Clock>
+    ensures some { IfSome result (λ t. clock_in text.now ≡ Some t) }
+    ensures none { IfNone result (clock_in text.now ≡ None) }
+{
+    match text.as_array() {
+        Some(digits) => match Clock::parse(digits) {
+            Ok(time) => Some(time),
+            Err(_) => None,
+        },
+        None => None,
+    }
+}
+
+fn variation(text: &[u8]) -> Option<u8>
+    ensures some { IfSome result (λ v. variation_of text.now ≡ Some v) }
+    ensures none { IfNone result (variation_of text.now ≡ None) }
+{
+    match text {
+        [b'/', digit @ b'0'..=b'7'] => Some(*digit - b'0'),
+        _ => None,
+    }
+}
+
+fn passenger(text: &[u8]) -> Option<Clock>
+    ensures some { IfSome result (λ t. passenger_of text.now ≡ Some t) }
+    ensures none { IfNone result (passenger_of text.now ≡ None) }
+{
+    match text {
+        [b'/', time @ ..] => read_clock(time),
+        _ => None,
+    }
+}
+
+#[tactic(auto, unfolding(crate::specs::Lines::variations_of))]
+fn variations(time: Clock, text: &[u8]) -> Option<(u8, Clock)>
+    ensures some { IfSome result (λ v. variations_of time text.now ≡ Some (v.0, v.1)) }
+    ensures none { IfNone result (variations_of time text.now ≡ None) }
+{
+    if text.len() == 0 {
+        return Some((0, time));
+    }
+    if text.len() == 2 {
+        return Some((variation(text)?, time));
+    }
+    if text.len() == 5 {
+        return Some((0, passenger(text)?));
+    }
+    let (first, second) = front(text, 2);
+    Some((variation(first)?, passenger(second)?))
+}
+
+/// One to twenty leg lines.
+#[derive(Debug, Drop)]
+pub struct Legs {
+    lines: Vec<LegLine>,
+}
+
+impl Model for Legs {
+    ghost use Rattle.std.specs.Prelude.{List, length, ◌≤◌};
+    ghost use Rattle.ssim_text.specs.declared.leg.LegLine.{LegLine};
+
+    ghost Value = { List LegLine };
+
+    ghost view = { λ l. l.lines.items };
+
+    ghost invariant = { λ l. length l.lines.items ≤ 20 };
+}
+
+impl Legs {
+    pub(crate) fn new(alloc: Global) -> Legs
+        ensures { result ≡ [] }
+    {
+        Legs {
+            lines: Vec::new(alloc),
+        }
+    }
+
+    /// The lines, in their order.
+    pub fn lines(&self) -> &[LegLine]
+        ensures value { result.now ≡ self.now }
+        ensures few { length self.now ≤ 20 }
+    {
+        &self.lines
+    }
+
+    /// These lines and a further one.
+    pub(crate) fn with(self, leg: LegLine) -> Result<Legs, AllocError>
+        requires { length self < 20 }
+        ensures { IfOk result (λ l. l ≡ self ++ leg ∷ []) }
+    {
+        let Legs { mut lines } = self;
+        lines.push(leg)?;
+        Ok(Legs { lines })
+    }
+}
+
+fn arrives_at(leg: &LegLine, station: Station) -> bool
+    ensures { result ≡ bytes_eq leg.now.arrival.station station }
+{
+    leg.arrival.station == station
+}
+
+fn departs_from(leg: &LegLine, station: Station) -> bool
+    ensures { result ≡ bytes_eq leg.now.departure.station station }
+{
+    leg.departure.station == station
+}
+
+/// The place of the first leg line that arrives at a station.
+fn arrival_in(legs: &[LegLine], station: Station) -> Option<usize>
+    ensures { result ≡ position (λ l. bytes_eq l.arrival.station station) legs.now }
+{
+    legs.iter().position(|leg| arrives_at(leg, station))
+}
+
+/// The first leg line that departs the board point and has one, itself or a later one, that arrives
+/// at the off point, and the first such; counted from 0.
+pub fn leg_pair(legs: &[LegLine], board: Station, off: Station) -> Option<(usize, usize)>
+    ensures { result ≡ leg_pair board off 0 legs.now }
+{
+    for (at, leg) in legs.iter().enumerate() {
+        if departs_from(leg, board) {
+            if let Some(count) = arrival_in(&legs[at..], off) {
+                return Some((at, at + count));
+            }
+        }
+    }
+    None
+}
+
+/// Whether leg lines fly the pair of points of a segment line.
+pub(crate) fn flies(legs: &[LegLine], segment: &SegmentLine) -> bool
+    ensures { result ≡ flies legs.now segment.now }
+{
+    leg_pair(legs, segment.board, segment.off).is_some()
+}

@@ -1,0 +1,103 @@
+//! The lines of a text that are left after the dropping.
+ghost use Rattle.std.specs.Prelude.{◌≡◌, ◌≤◌, ◌++◌, [], length, map, IfOk};
+ghost use Rattle.ssim_text.specs.Left.{is_dropped, without_end, numbered, lines_left, place_number, numbers, first_unprintable};
+ghost use Rattle.ssim_text.specs.Bytes.{is_printable};
+ghost use Rattle.std.specs.List.{list_all};
+
+use crate::bytes::cut;
+use std::alloc::{AllocError, Global};
+
+/// A line that is left after the dropping.
+#[derive(Clone, Copy)]
+pub(crate) struct Line<'a> {
+    /// Its number in the text, from 1.
+    pub number: u32,
+    pub bytes: &'a [u8],
+}
+
+fn is_dropped(byte: u8) -> bool
+    ensures { result ≡ is_dropped byte }
+{
+    byte == b'\r' || byte == b' '
+}
+
+/// A line without the CR bytes and blanks at its end.
+fn without_end(line: &[u8]) -> &[u8]
+    ensures { result.now ≡ without_end line.now }
+{
+    let mut end = 0;
+    for (at, byte) in line.iter().enumerate() {
+        if !is_dropped(*byte) {
+            end = at + 1;
+        }
+    }
+    line.split_at(end).0
+}
+
+/// These lines, and a further one if it is not empty.
+fn with_line<'a>(
+    lines: Vec<Line<'a>>,
+    number: u32,
+    bytes: &'a [u8],
+) -> Result<Vec<Line<'a>>, AllocError>
+    ensures { IfOk result (λ v. map (λ l. (l.number, l.bytes.now)) v.items ≡ map (λ l. (l.number, l.bytes.now)) lines.entry.items ++ numbered number bytes.now []) }
+{
+    let mut lines = lines;
+    if bytes.is_empty() {
+        return Ok(lines);
+    }
+    lines.push(Line { number, bytes })?;
+    Ok(lines)
+}
+
+/// The lines that are left of a text, with their numbers.
+pub(crate) fn lines_left<'a>(alloc: Global, text: &'a [u8]) -> Result<Vec<Line<'a>>, AllocError>
+    requires { length text.now ≤ 65536 }
+    ensures { IfOk result (λ v. map (λ l. (l.number, l.bytes.now)) v.items ≡ lines_left text.now) }
+{
+    let mut lines = Vec::new(alloc);
+    let mut rest = text;
+    let mut number: u32 = 1;
+    loop {
+        let (piece, tail) = cut(rest, b'\n');
+        lines = with_line(lines, number, without_end(piece))?;
+        match tail {
+            [_, next @ ..] => {
+                rest = next;
+                number += 1;
+            }
+            [] => return Ok(lines),
+        }
+    }
+}
+
+fn is_printable(line: &[u8]) -> bool
+    ensures { result ≡ list_all is_printable line.now }
+{
+    line.iter().all(|byte| 32 <= *byte && *byte <= 126)
+}
+
+/// The number of the first line with a byte outside 32 to 126.
+pub(crate) fn first_unprintable(lines: &[Line]) -> Option<u32>
+    ensures { result ≡ first_unprintable (map (λ l. (l.number, l.bytes.now)) lines.now) }
+{
+    for line in lines {
+        if !is_printable(line.bytes) {
+            return Some(line.number);
+        }
+    }
+    None
+}
+
+/// The number of the line at an index, or one more than that of the last line, or 1 where there is none.
+pub(crate) fn number_at(lines: &[Line], index: usize) -> usize
+    ensures { result ≡ place_number (numbers (map (λ l. (l.number, l.bytes.now)) lines.now)) index }
+{
+    if index < lines.len() {
+        return lines[index].number as usize;
+    }
+    match lines {
+        [] => 1,
+        [.., last] => last.number as usize + 1,
+    }
+}

@@ -1,0 +1,237 @@
+//! Messages.
+ghost use Rattle.std.specs.Prelude.{◌≡◌, IfOk};
+ghost use Rattle.ssim_text.specs.Message.{begun, with_sub, with_free};
+ghost use Rattle.ssim_text.specs.Canonical.{canonical};
+
+use crate::action::Sub;
+use crate::encoding::{push_free, push_kind, push_mode, push_originator, push_subs};
+use crate::kind::{Kind, TimeMode};
+use crate::originator::Originator;
+use crate::reference::GivenReference;
+use ssim_values::Memory;
+use std::alloc::{AllocError, Global};
+use std::marker::Model;
+
+/// A line of free text: bytes from 32 to 126, the last of them no blank.
+#[derive(Debug, Drop)]
+pub struct FreeLine {
+    bytes: Vec<u8>,
+}
+
+impl Model for FreeLine {
+    ghost use Rattle.std.specs.Prelude.{List, ℕ};
+
+    ghost Value = { List ℕ };
+
+    ghost view = { λ l. l.bytes.items };
+}
+
+impl FreeLine {
+    fn kept(alloc: Global, line: &[u8]) -> Result<FreeLine, AllocError>
+        ensures { IfOk result (λ l. l ≡ line.now) }
+    {
+        Ok(FreeLine {
+            bytes: Vec::from_slice(alloc, line)?,
+        })
+    }
+
+    /// The bytes of the line.
+    pub fn bytes(&self) -> &[u8]
+        ensures { result.now ≡ self.now }
+    {
+        &self.bytes
+    }
+}
+
+/// As much of a message as has been read.
+#[derive(Drop)]
+pub(crate) struct Draft {
+    originator: Originator,
+    kind: Kind,
+    mode: TimeMode,
+    reference: GivenReference,
+    subs: Vec<Sub>,
+    free: Vec<FreeLine>,
+}
+
+impl Model for Draft {
+    ghost use Rattle.ssim_text.specs.Message.{MessageValue};
+
+    ghost Value = { MessageValue };
+
+    ghost view = { λ m. record { originator = m.originator; kind = m.kind; mode = m.mode; reference = m.reference; subs = m.subs.items; free = m.free.items } };
+}
+
+impl Draft {
+    ghost use Rattle.std.specs.Prelude.{length};
+
+    pub(crate) fn begin(
+        alloc: Global,
+        originator: Originator,
+        kind: Kind,
+        mode: TimeMode,
+        reference: GivenReference,
+    ) -> Draft
+        ensures { result ≡ begun originator kind mode reference }
+    {
+        Draft {
+            originator,
+            kind,
+            mode,
+            reference,
+            subs: Vec::new(alloc),
+            free: Vec::new(alloc),
+        }
+    }
+
+    pub(crate) fn kind(&self) -> Kind
+        ensures { result ≡ self.now.kind }
+    {
+        self.kind
+    }
+
+    fn originator(&self) -> Originator
+        ensures { result ≡ self.now.originator }
+    {
+        self.originator
+    }
+
+    fn mode(&self) -> TimeMode
+        ensures { result ≡ self.now.mode }
+    {
+        self.mode
+    }
+
+    fn reference(&self) -> &GivenReference
+        ensures { result.now ≡ self.now.reference }
+    {
+        &self.reference
+    }
+
+    fn subs(&self) -> &[Sub]
+        ensures { result.now ≡ self.now.subs }
+    {
+        &self.subs
+    }
+
+    fn free(&self) -> &[FreeLine]
+        ensures { result.now ≡ self.now.free }
+    {
+        &self.free
+    }
+
+    pub(crate) fn sub_count(&self) -> usize
+        ensures { result ≡ length self.now.subs }
+    {
+        self.subs.len()
+    }
+
+    /// This message with a further sub-message.
+    pub(crate) fn with_sub(self, sub: Sub) -> Result<Draft, AllocError>
+        ensures { IfOk result (λ m. m ≡ with_sub self sub) }
+    {
+        let mut message = self;
+        message.subs.push(sub)?;
+        Ok(message)
+    }
+
+    /// This message with a further line of free text.
+    pub(crate) fn with_free(self, alloc: Global, line: &[u8]) -> Result<Draft, AllocError>
+        ensures { IfOk result (λ m. m ≡ with_free self line.now) }
+    {
+        let mut message = self;
+        message.free.push(FreeLine::kept(alloc, line)?)?;
+        Ok(message)
+    }
+}
+
+impl Draft {
+    /// The canonical text.
+    pub(crate) fn encode(&self, alloc: Global) -> Result<Vec<u8>, AllocError>
+        ensures { IfOk result (λ text. text.items ≡ canonical self.now) }
+    {
+        let mut out = Vec::new(alloc);
+        push_originator(&mut out, self.originator)?;
+        push_kind(&mut out, self.kind)?;
+        push_mode(&mut out, self.mode)?;
+        self.reference.push(&mut out)?;
+        push_subs(&mut out, &self.subs)?;
+        push_free(&mut out, &self.free)?;
+        Ok(out)
+    }
+}
+
+/// What a text says: a message of SSIM chapter 4 or 5. It keeps its dates as they were given.
+#[derive(Drop)]
+pub struct Message {
+    content: Draft,
+}
+
+impl Model for Message {
+    ghost use Rattle.ssim_text.specs.Message.{MessageValue};
+
+    ghost Value = { MessageValue };
+
+    ghost view = { λ m. m.content };
+}
+
+impl Message {
+    pub(crate) fn of(content: Draft) -> Message
+        ensures { result ≡ content }
+    {
+        Message { content }
+    }
+
+    /// The originator, seven blanks where the text does not say.
+    pub fn originator(&self) -> Originator
+        ensures { result ≡ self.now.originator }
+    {
+        self.content.originator()
+    }
+
+    /// Whether it is an SSM or an ASM.
+    pub fn kind(&self) -> Kind
+        ensures { result ≡ self.now.kind }
+    {
+        self.content.kind()
+    }
+
+    /// The time mode of its hours.
+    pub fn mode(&self) -> TimeMode
+        ensures { result ≡ self.now.mode }
+    {
+        self.content.mode()
+    }
+
+    /// The reference as it was given.
+    pub fn reference(&self) -> &GivenReference
+        ensures { result.now ≡ self.now.reference }
+    {
+        self.content.reference()
+    }
+
+    /// The sub-messages, in their order.
+    pub fn subs(&self) -> &[Sub]
+        ensures { result.now ≡ self.now.subs }
+    {
+        self.content.subs()
+    }
+
+    /// The lines of free text.
+    pub fn free(&self) -> &[FreeLine]
+        ensures { result.now ≡ self.now.free }
+    {
+        self.content.free()
+    }
+}
+
+/// The canonical text of a message: one LF after each line, the mode line always, single blanks
+/// between parts, and each value in its one written form.
+pub fn encode(alloc: Global, message: &Message) -> Result<Vec<u8>, Memory>
+    ensures { IfOk result (λ text. text.items ≡ canonical message.now) }
+{
+    match message.content.encode(alloc) {
+        Ok(text) => Ok(text),
+        Err(_) => Err(Memory),
+    }
+}

@@ -1,0 +1,83 @@
+//! Originators of texts.
+ghost use Rattle.std.specs.Prelude.{◌≡◌, IfSome, IfNone};
+ghost use Rattle.ssim_text.specs.Lines.{originator_of, address_of, is_blank_or_none};
+
+use crate::bytes::{all_alphanumeric, front};
+use std::marker::Model;
+
+/// The address of who sent a text: seven letters or digits, or seven blanks where the text does not say.
+#[derive(Clone, Copy, Debug, PartialEq, Eq, PartialOrd, Ord)]
+pub struct Originator {
+    bytes: [u8; 7],
+}
+
+impl Model for Originator {
+    ghost use Rattle.std.specs.Prelude.{List, ℕ};
+
+    ghost Value = { List ℕ };
+
+    ghost view = { λ o. o.bytes };
+
+    ghost inverse = { λ t. record { bytes = t } };
+}
+
+impl Originator {
+    ghost use Rattle.ssim_text.specs.Values.{no_originator};
+
+    /// The seven letters or digits, or seven blanks.
+    pub fn bytes(self) -> [u8; 7]
+        ensures { result ≡ self }
+    {
+        self.bytes
+    }
+
+    /// Seven blanks.
+    pub fn none() -> Originator
+        ensures { result ≡ no_originator }
+    {
+        Originator { bytes: *b"       " }
+    }
+}
+
+#[tactic(auto, unfolding(crate::specs::Lines::originator_of))]
+impl Originator {
+    /// Reads a dot and seven letters or digits; a blank and what follows it is dropped.
+    pub(crate) fn parse(line: &[u8]) -> Option<Originator>
+        ensures some { IfSome result (λ o. originator_of line.now ≡ Some o) }
+        ensures none { IfNone result (originator_of line.now ≡ None) }
+    {
+        let (dot, rest) = front(line, 1);
+        let (address, rest) = front(rest, 7);
+        let (blank, _dropped) = front(rest, 1);
+        if dot != b".".as_slice() {
+            return None;
+        }
+        if is_blank_or_none(blank) {
+            Originator::of(address)
+        } else {
+            None
+        }
+    }
+
+    fn of(address: &[u8]) -> Option<Originator>
+        ensures some { IfSome result (λ o. address_of address.now ≡ Some o) }
+        ensures none { IfNone result (address_of address.now ≡ None) }
+    {
+        match address.as_array() {
+            Some(bytes) => {
+                if all_alphanumeric(address) {
+                    Some(Originator { bytes: *bytes })
+                } else {
+                    None
+                }
+            }
+            None => None,
+        }
+    }
+}
+
+fn is_blank_or_none(text: &[u8]) -> bool
+    ensures { result ≡ is_blank_or_none text.now }
+{
+    text == b"".as_slice() || text == b" ".as_slice()
+}

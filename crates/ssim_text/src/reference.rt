@@ -1,0 +1,212 @@
+//! References of messages.
+ghost use Rattle.std.specs.Prelude.{◌≡◌, ◌<◌, ◌≤◌, ◌^◌, true, length, IfSome, IfNone, IfOk, option_map};
+ghost use Rattle.ssim_text.specs.Lines.{reference_of, numbers_of, group_code_of, creator_of, digits_in};
+ghost use Rattle.ssim_values.specs.Flight.{number_of};
+ghost use Rattle.ssim_values.specs.Characters.{is_digit};
+ghost use Rattle.std.specs.List.{list_all};
+
+use crate::bytes::{all_digits, front};
+use crate::dates::month_day;
+use crate::kind::Kind;
+use crate::originator::Originator;
+use ssim_values::{Day, DayMonth};
+use std::alloc::{AllocError, Global};
+use std::cmp::Ordering;
+use std::marker::Model;
+
+/// The reference under which a message is held; references are compared field by field, from the first.
+#[derive(Clone, Copy, Debug, PartialEq, Eq, PartialOrd, Ord)]
+pub struct Reference {
+    /// The date of the reference, with its year.
+    pub date: Day,
+    /// The message group serial, up to 99999.
+    pub group: u32,
+    /// The message serial in the group, up to 999.
+    pub serial: u16,
+    pub kind: Kind,
+    pub originator: Originator,
+}
+
+impl Reference {
+    ghost use Rattle.std.specs.Ordering.{nat_cmp};
+    ghost use Rattle.std.specs.Cmp.Lexicographic.{slice_cmp};
+    ghost use Rattle.ssim_text.specs.Reference.{reference_numbers};
+
+    /// Which of two references comes first: by date, group serial, message serial, kind (SSM before ASM),
+    /// and the bytes of the originator.
+    pub fn order(&self, other: &Reference) -> Ordering
+        ensures { result ≡ slice_cmp nat_cmp (reference_numbers self.now) (reference_numbers other.now) }
+    {
+        self.cmp(other)
+    }
+}
+
+/// Whether another message of the group follows (`C`) or none (`E`).
+#[derive(Clone, Copy, Debug, PartialEq, Eq)]
+pub enum GroupCode {
+    Continuation,
+    End,
+}
+
+/// A reference as a message gives it.
+#[derive(Debug, Drop)]
+pub struct GivenReference {
+    /// The date, without its year.
+    pub date: DayMonth,
+    /// The message group serial, up to 99999.
+    pub group: u32,
+    pub code: GroupCode,
+    /// The message serial in the group, up to 999.
+    pub serial: u16,
+    pub creator: Option<CreatorReference>,
+}
+
+/// The creator's own reference: 1 to 35 bytes from 32 to 126, the last of them no blank.
+#[derive(Debug, Drop)]
+pub struct CreatorReference {
+    bytes: Vec<u8>,
+}
+
+impl Model for CreatorReference {
+    ghost use Rattle.std.specs.Prelude.{List, ℕ};
+
+    ghost Value = { List ℕ };
+
+    ghost view = { λ c. c.bytes.items };
+}
+
+impl CreatorReference {
+    /// The bytes of the reference.
+    pub fn bytes(&self) -> &[u8]
+        ensures { result.now ≡ self.now }
+    {
+        &self.bytes
+    }
+}
+
+// ---- reading
+
+/// So many digits, as a number.
+pub(crate) fn digits(low: usize, high: usize, text: &[u8]) -> Option<u32>
+    requires { high < 6 }
+    ensures some { IfSome result (λ n. digits_in low high text.now ≡ Some n) }
+    ensures none { IfNone result (digits_in low high text.now ≡ None) }
+    ensures below { IfSome result (λ n. n < 10 ^ length text.now) }
+{
+    if text.len() < low || text.len() > high {
+        return None;
+    }
+    if !all_digits(text) {
+        return None;
+    }
+    Some(number(text))
+}
+
+fn number(digits: &[u8]) -> u32
+    requires short { length digits.now < 6 }
+    requires digits { list_all is_digit digits.now ≡ true }
+    ensures value { result ≡ number_of digits.now }
+    ensures below { result < 10 ^ length digits.now }
+{
+    let mut number = 0;
+    for digit in digits {
+        number = number * 10 + (*digit - b'0') as u32;
+    }
+    number
+}
+
+fn group_code(text: &[u8]) -> Option<GroupCode>
+    ensures some { IfSome result (λ code. group_code_of text.now ≡ Some code) }
+    ensures none { IfNone result (group_code_of text.now ≡ None) }
+{
+    match text {
+        b"C" => Some(GroupCode::Continuation),
+        b"E" => Some(GroupCode::End),
+        _ => None,
+    }
+}
+
+fn creator(text: &[u8]) -> Option<Option<&[u8]>>
+    ensures some { IfSome result (λ c. creator_of text.now ≡ Some (option_map (λ t. t.now) c)) }
+    ensures none { IfNone result (creator_of text.now ≡ None) }
+{
+    match text {
+        [] => Some(None),
+        [b'/', text @ ..] => {
+            if text.is_empty() || text.len() > 35 {
+                None
+            } else {
+                Some(Some(text))
+            }
+        }
+        _ => None,
+    }
+}
+
+impl CreatorReference {
+    fn kept(alloc: Global, text: Option<&[u8]>) -> Result<Option<CreatorReference>, AllocError>
+        ensures { IfOk result (λ c. c ≡ option_map (λ t. t.now) text.entry) }
+    {
+        match text {
+            Some(text) => {
+                let bytes = Vec::from_slice(alloc, text)?;
+                Ok(Some(CreatorReference { bytes }))
+            }
+            None => Ok(None),
+        }
+    }
+}
+
+/// The parts of a reference line that take no memory.
+#[derive(Clone, Copy)]
+struct SerialNumbers {
+    date: DayMonth,
+    group: u32,
+    code: GroupCode,
+    serial: u16,
+}
+
+#[tactic(auto, unfolding(crate::specs::Lines::numbers_of))]
+fn serials(line: &[u8]) -> Option<SerialNumbers>
+    ensures some { IfSome result (λ n. numbers_of line.now ≡ Some (n.date, n.group, n.code, n.serial)) }
+    ensures none { IfNone result (numbers_of line.now ≡ None) }
+{
+    let (date, rest) = front(line, 5);
+    let (group, rest) = front(rest, 5);
+    let (code, serial) = front(rest, 1);
+    let date = month_day(date)?;
+    let group = digits(5, 5, group)?;
+    let code = group_code(code)?;
+    let serial = digits(3, 3, serial)? as u16;
+    Some(SerialNumbers {
+        date,
+        group,
+        code,
+        serial,
+    })
+}
+
+#[tactic(auto, unfolding(crate::specs::Lines::reference_of))]
+impl GivenReference {
+    /// Reads a date without its year, five digits, `C` or `E`, three digits, and perhaps a
+    /// solidus and the creator's reference.
+    pub(crate) fn parse(alloc: Global, line: &[u8]) -> Result<Option<GivenReference>, AllocError>
+        ensures { IfOk result (λ read. reference_of line.now ≡ read) }
+    {
+        let (numbers_text, creator_text) = front(line, 14);
+        let Some(read) = serials(numbers_text) else {
+            return Ok(None);
+        };
+        let Some(creator) = creator(creator_text) else {
+            return Ok(None);
+        };
+        let creator = CreatorReference::kept(alloc, creator)?;
+        Ok(Some(GivenReference {
+            date: read.date,
+            group: read.group,
+            code: read.code,
+            serial: read.serial,
+            creator,
+        }))
+    }
+}
