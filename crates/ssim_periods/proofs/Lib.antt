@@ -1,0 +1,10 @@
+pub mod DayLemmas
+pub mod RowLemmas
+pub mod SplitLemmas
+pub mod CutLemmas
+pub mod ApplyLemmas
+pub mod CountLemmas
+pub mod CoverLemmas
+pub mod CoverLaw
+pub mod PieceLaw
+pub mod Examples

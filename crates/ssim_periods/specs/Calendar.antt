@@ -1,0 +1,16 @@
+-- The days of the calendar by number, and the days that a period holds.
+use Rattle.std.specs.Prelude.{ℕ, ◌+◌, ◌%◌, Bool, false, ◌&&◌, nat_le, slice_index_or}
+use Rattle.ssim_values.specs.Calendar.{day_limit}
+use Rattle.ssim_values.specs.Period.{DayRange}
+
+-- how many days the calendar has. Opaque, so that a list of one value per day is never written out
+unfoldable pub day_count : ℕ
+day_count = day_limit
+
+-- the place of a day's weekday among the seven, from 0 for Monday to 6 for Sunday
+abbrev pub slot : ℕ → ℕ
+slot n = (n + 5) % 7
+
+-- whether a day is one of the period
+abbrev pub holds : DayRange → ℕ → Bool
+holds period n = (nat_le period.first n && nat_le n period.last) && slice_index_or period.days (slot n) false

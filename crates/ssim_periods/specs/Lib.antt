@@ -1,0 +1,7 @@
+pub mod Calendar
+pub mod Days
+pub mod Rows
+pub mod Splits
+pub mod Count
+pub mod Cover
+pub mod Pieces

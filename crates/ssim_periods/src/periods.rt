@@ -1,0 +1,156 @@
+ghost use Rattle.std.specs.Prelude.{◌≡◌, ℕ, ◌+◌, ◌<◌, ◌≤◌, [], slice_get, Some, IfOk, OnOk, OnErr};
+ghost use Rattle.std.specs.List.{All, Contains};
+ghost use Rattle.std.specs.List.Sorted.{IsStrictlyIncreasing};
+ghost use Rattle.ssim_values.specs.Calendar.{weekday};
+ghost use Rattle.ssim_periods.specs.Calendar.{holds};
+ghost use Rattle.ssim_periods.specs.Days.{each_day, changed_on, counts_on, AddsOnly};
+
+use crate::count::class_counts;
+use crate::patches::{new_rows, put_period};
+use crate::rows::{copy_row, copy_rows, place_of, row_for_cut};
+use crate::{Change, Value};
+use ssim_values::{Day, Memory, Period};
+use std::alloc::Global;
+use std::marker::Model;
+
+/// A value for each day, seen as the list of them and the rising cuts.
+#[derive(Drop)]
+pub struct Periods<V: Value> {
+    /// The values by weekday up to the first cut.
+    before: [V; 7],
+    /// The days at which a range begins, or the day after the calendar.
+    cuts: Vec<u32>,
+    /// For each cut the values by weekday from it to the next.
+    rows: Vec<[V; 7]>,
+    alloc: Global,
+}
+
+impl<V: Value> Model for Periods<V> {
+    ghost use Rattle.ssim_periods.specs.Days.{Seen, each_day};
+    ghost use Rattle.ssim_periods.specs.Rows.{value_on, AreRows};
+
+    ghost Value = { Seen V };
+
+    ghost view = { λ p. record { days = each_day (value_on V.nothing p.before p.cuts.items p.rows.items); cuts = p.cuts.items } };
+
+    ghost invariant = { λ p. AreRows p.before p.cuts.items p.rows.items };
+}
+
+impl<V: Value> Periods<V> {
+    /// Each day has the empty value. Takes no memory.
+    pub fn new(alloc: Global) -> Self
+        ensures days { result.days ≡ each_day (λ _. V.nothing) }
+        ensures cuts { result.cuts ≡ [] }
+    {
+        Periods {
+            before: [
+                V::empty(),
+                V::empty(),
+                V::empty(),
+                V::empty(),
+                V::empty(),
+                V::empty(),
+                V::empty(),
+            ],
+            cuts: Vec::new(alloc),
+            rows: Vec::new(alloc),
+            alloc,
+        }
+    }
+
+    /// The value of a day, found by halves over the cuts.
+    pub fn at(&self, day: Day) -> &V
+        ensures { slice_get self.now.days day ≡ Some result.now }
+    {
+        let number = day.number();
+        let weekday = (number as usize + 5) % 7;
+        let place = place_of(&self.cuts, number as u32);
+        if place == 0 {
+            &self.before[weekday]
+        } else {
+            &self.rows[place - 1][weekday]
+        }
+    }
+
+    /// Each day of the period gets what the change makes of its value, and each other day keeps its own. Answers how many days of the
+    /// period had an old value of each class.
+    ///
+    /// All new values are made before the first is put in, so nothing has changed where one is refused its memory. The cost is that of the
+    /// ranges that the period touches and of moving up the ranges behind it.
+    pub fn apply<C: Change<V>>(&mut self, period: &Period, change: &C) -> Result<[u32; 5], Memory>
+        ensures days { OnOk result (self.new.days ≡ changed_on (holds period.now) (C.outcome change.now) 0 self.old.days) }
+        ensures counts { IfOk result (λ counts. counts ≡ counts_on (holds period.now) (C.class_of change.now) self.old.days) }
+        ensures cuts { OnOk result (AddsOnly self.old.cuts self.new.cuts period.now.first (period.now.last + 1)) }
+        ensures err { OnErr result (self.new ≡ self.old) }
+    {
+        let alloc = self.alloc;
+        let first = period.first().number() as u32;
+        let last = period.last().number() as u32;
+        let mask = period.mask().days();
+        let patches = new_rows(
+            alloc,
+            &self.before,
+            &self.cuts,
+            &self.rows,
+            first,
+            last,
+            &mask,
+            change,
+        )?;
+        let head = row_for_cut(alloc, &self.before, &self.cuts, &self.rows, first)?;
+        let tail = row_for_cut(alloc, &self.before, &self.cuts, &self.rows, last + 1)?;
+        let counts = class_counts(
+            &self.before,
+            &self.cuts,
+            &self.rows,
+            first,
+            last,
+            &mask,
+            change,
+        );
+        if let Err(_) = self.cuts.reserve(2) {
+            return Err(Memory);
+        }
+        if let Err(_) = self.rows.reserve(2) {
+            return Err(Memory);
+        }
+        put_period(
+            &mut self.cuts,
+            &mut self.rows,
+            first,
+            last + 1,
+            head,
+            tail,
+            patches,
+        );
+        Ok(counts)
+    }
+
+    /// The same values with the same cuts.
+    pub fn copy(&self) -> Result<Periods<V>, Memory>
+        ensures { IfOk result (λ copy. copy ≡ self.now) }
+    {
+        let alloc = self.alloc;
+        let before = copy_row(alloc, &self.before)?;
+        let rows = copy_rows(alloc, &self.rows)?;
+        let cuts = Vec::from_slice(alloc, &self.cuts)?;
+        Ok(Periods {
+            before,
+            cuts,
+            rows,
+            alloc,
+        })
+    }
+
+    /// The rising days at which a stored range begins or ends. 36,525 is one where a period ended with the calendar.
+    pub fn cuts(&self) -> &[u32]
+        ensures cuts { result.now ≡ self.now.cuts }
+        ensures rising { IsStrictlyIncreasing result.now }
+        ensures in_calendar { All (λ cut. cut ≤ 36525) result.now }
+
+        // Two days of one weekday have the same value if no cut stands after the earlier and not after the later.
+        ensures weekly { (m n : ℕ) → m ≤ n → n < 36525 → weekday m ≡ weekday n → ((cut : ℕ) → Contains result.now cut → m < cut → n < cut) → slice_get self.now.days m ≡ slice_get self.now.days n }
+    {
+        &self.cuts
+    }
+}

@@ -1,0 +1,136 @@
+//! Cuts and rows: the first row holds up to the first cut, each other row from its cut to the next.
+ghost use Rattle.std.specs.Prelude.{◌≡◌, ℕ, ◌+◌, ◌-◌, ◌<◌, ◌≤◌, ◌&&◌, Bool, false, nat_lt, List, ◌∷◌, length, IfOk, slice_index, slice_index_or, is_none, IfSome, if◌then◌else◌};
+ghost use Rattle.std.specs.List.Sorted.{IsStrictlyIncreasing};
+ghost use Rattle.ssim_periods.specs.Rows.{place, row_on};
+ghost use Rattle.ssim_periods.specs.Splits.{has_cut};
+ghost use Rattle.ssim_periods.specs.Count.{below, with_days};
+
+use crate::Value;
+use ssim_values::Memory;
+use std::alloc::Global;
+
+/// The number of days from 1 January 2000 to 31 December 2099.
+pub(crate) const DAYS: u32 = 36_525;
+
+// How many cuts are not after the day: the place of its row.
+pub(crate) fn place_of(cuts: &[u32], day: u32) -> usize
+    requires { IsStrictlyIncreasing cuts.now }
+    ensures place { result ≡ place cuts.now day }
+    ensures within { result ≤ length cuts.now }
+{
+    cuts.partition_point(|cut| *cut <= day)
+}
+
+// Whether a day is a cut.
+pub(crate) fn has_cut(cuts: &[u32], day: u32) -> bool
+    requires { IsStrictlyIncreasing cuts.now }
+    ensures { result ≡ has_cut cuts.now day }
+{
+    let place = place_of(cuts, day);
+    if place == 0 {
+        false
+    } else {
+        cuts[place - 1] == day
+    }
+}
+
+// The row at a place.
+pub(crate) fn row_at<'a, V: Value>(
+    before: &'a [V; 7],
+    rows: &'a [[V; 7]],
+    place: usize,
+) -> &'a [V; 7]
+    requires { place ≤ length rows.now }
+    ensures { (other : List V) → result.now ≡ slice_index_or (before.now ∷ rows.now) place other }
+{
+    if place == 0 { before } else { &rows[place - 1] }
+}
+
+// Where the range at a place ends, or `end` if that is earlier.
+pub(crate) fn range_end(cuts: &[u32], place: usize, end: u32) -> u32
+    ensures before_end { result ≤ end }
+    ensures before_cut { place < length cuts.now → result ≤ slice_index cuts.now place }
+    ensures at_cut { result < end → (place < length cuts.now) × (result ≡ slice_index cuts.now place) }
+{
+    if place < cuts.len() && cuts[place] < end {
+        cuts[place]
+    } else {
+        end
+    }
+}
+
+// How many days before a day have a weekday, from 0 for Monday.
+pub(crate) fn days_before(weekday: u32, day: u32) -> u32
+    requires weekday { weekday < 7 }
+    requires in_calendar { day ≤ 36525 }
+    ensures { result ≡ below weekday day }
+{
+    (day + 6 - (weekday + 2) % 7) / 7
+}
+
+// Whether a weekday is in the mask and has a day in a stretch.
+pub(crate) fn has_days(mask: &[bool; 7], weekday: u32, from: u32, to: u32) -> bool
+    requires weekday { weekday < 7 }
+    requires from { from ≤ 36525 }
+    requires to { to ≤ 36525 }
+    ensures { result ≡ (slice_index_or mask.now weekday false && nat_lt (below weekday from) (below weekday to)) }
+{
+    if mask[weekday as usize] {
+        days_before(weekday, from) < days_before(weekday, to)
+    } else {
+        false
+    }
+}
+
+// A copy of a row.
+pub(crate) fn copy_row<V: Value>(alloc: Global, row: &[V; 7]) -> Result<[V; 7], Memory>
+    ensures { IfOk result (λ copy. copy ≡ row.now) }
+{
+    let monday = row[0].copy(alloc)?;
+    let tuesday = row[1].copy(alloc)?;
+    let wednesday = row[2].copy(alloc)?;
+    let thursday = row[3].copy(alloc)?;
+    let friday = row[4].copy(alloc)?;
+    let saturday = row[5].copy(alloc)?;
+    let sunday = row[6].copy(alloc)?;
+    Ok([
+        monday, tuesday, wednesday, thursday, friday, saturday, sunday,
+    ])
+}
+
+// Copies of rows.
+pub(crate) fn copy_rows<V: Value>(alloc: Global, rows: &[[V; 7]]) -> Result<Vec<[V; 7]>, Memory>
+    ensures { IfOk result (λ copies. copies.items ≡ rows.now) }
+{
+    let mut copies = Vec::new(alloc);
+    if let Err(_) = copies.reserve(rows.len()) {
+        return Err(Memory);
+    }
+    for row in rows {
+        let copy = copy_row(alloc, row)?;
+        if copies.push(copy).is_err() {
+            return Err(Memory);
+        }
+    }
+    Ok(copies)
+}
+
+// The row for a cut at a day, if there is none yet.
+pub(crate) fn row_for_cut<V: Value>(
+    alloc: Global,
+    before: &[V; 7],
+    cuts: &[u32],
+    rows: &[[V; 7]],
+    day: u32,
+) -> Result<Option<[V; 7]>, Memory>
+    requires rising { IsStrictlyIncreasing cuts.now }
+    requires row_count { length rows.now ≡ length cuts.now }
+    ensures missing { IfOk result (λ row. is_none row ≡ has_cut cuts.now day) }
+    ensures row { IfOk result (λ row. IfSome row (λ r. r ≡ row_on before.now cuts.now rows.now day)) }
+{
+    if has_cut(cuts, day) {
+        return Ok(None);
+    }
+    let place = place_of(cuts, day);
+    Ok(Some(copy_row(alloc, row_at(before, rows, place))?))
+}

@@ -1,0 +1,50 @@
+ghost use Rattle.std.specs.Prelude.{◌≡◌, ℕ, ◌<◌, ◌↔◌, IsTrue, IfOk, Bool};
+
+use ssim_values::Memory;
+use std::alloc::Global;
+
+/// What a day may have.
+pub trait Value: Drop {
+    /// The empty value.
+    ghost nothing: { Self };
+
+    /// Whether two values are one.
+    ghost alike: { Self → Self → Bool };
+
+    /// The value of a day that has none.
+    fn empty() -> Self
+        ensures { result ≡ nothing };
+
+    /// Whether it is the empty value.
+    fn is_empty(&self) -> bool
+        ensures { IsTrue result ↔ (self.now ≡ nothing) };
+
+    /// Whether two values are equal.
+    fn same(&self, other: &Self) -> bool
+        ensures { result ≡ alike self.now other.now };
+
+    /// An equal value, or the want of memory.
+    fn copy(&self, alloc: Global) -> Result<Self, Memory>
+        ensures { IfOk result (λ copy. copy ≡ self.now) };
+
+    /// Two values are alike exactly where they are equal.
+    ghost exact: { (x y : Self) → IsTrue (alike x y) ↔ (x ≡ y) };
+}
+
+/// What becomes of a day's value. Both calls are made only with values that some day of the changed period has.
+pub trait Change<V> {
+    /// The value afterwards.
+    ghost outcome: { Self → V → V };
+
+    /// The class of the old value.
+    ghost class_of: { Self → V → ℕ };
+
+    /// The value that a day gets in place of the old one, or the want of memory.
+    fn after(&self, alloc: Global, old: &V) -> Result<V, Memory>
+        ensures { IfOk result (λ new. new ≡ outcome self.now old.now) };
+
+    /// The class under which a day with the old value is counted, from 0 to 4.
+    fn class(&self, old: &V) -> u8
+        ensures class { result ≡ class_of self.now old.now }
+        ensures below_five { result < 5 };
+}
