@@ -1,0 +1,228 @@
+-- The steps of framing: what is ahead stays the same while bytes are fetched, and falls by the blocks that are given.
+use Rattle.std.proofs.Common.{◌≡◌, ℕ, ◌+◌, ◌-◌, ◌%◌, ◌^◌, ◌<◌, ◌≤◌, Bool, true, false, List, [], ◌∷◌, ◌++◌, length, Option, Some, None, Ok, Err, refl, sym, ap, ◌∙◌, append_assoc, arith}
+use Rattle.std.specs.Prelude.{nat_lt, Result}
+use Rattle.std.specs.Io.KnownBytes.{IsAtEnd}
+use Rattle.std.proofs.Math.Nat.{mod-add-mod}
+use Rattle.std.proofs.lemmas.List.{length-append, append-nil}
+use Rattle.std.proofs.lemmas.Bool.Decides.{nat_tests}
+use Rattle.ssim_records.specs.declared.blocks.Stop.{Stop}
+use Rattle.ssim_records.specs.declared.blocks.Stop.TheVariants.{Short, ReadFault, ReaderNeverEnds}
+use Rattle.ssim_records.specs.declared.device.DeviceFault.{DeviceFault}
+use Rattle.ssim_records.specs.Device.{CountsBytes}
+use Rattle.ssim_records.specs.Frames.{trim, Frames, others, is_fill}
+use Rattle.ssim_records.specs.Blocks.{SameAhead, NextBlock, GivesBlock, GivesOther, Ahead, CountsOn}
+use Rattle.ssim_records.proofs.LineEnds.{trim_front, trim_pass, trim_twice, trim_less}
+use Rattle.ssim_records.proofs.Slices.{same_front, same_back}
+
+-- what stands ahead stays, and how much came or will come, where it is told
+abbrev pub Stays : Bool → ℕ → List ℕ → Option (List ℕ) → ℕ → List ℕ → Option (List ℕ) → Type 0
+Stays behind came held None came' held' left' = Unit {0}
+Stays behind came held (Some left) came' held' None = ⊥
+Stays behind came held (Some left) came' held' (Some left') =
+    (came' + length left' ≡ came + length left) × (trim behind (held' ++ left') ≡ trim behind (held ++ left))
+
+pub took : (behind : Bool) (limit came0 came : ℕ) (old held trimmed block later : List ℕ) (left0 left1 : Option (List ℕ)) → Stays behind came0 old left0 came held left1 → trimmed ≡ trim behind held → 2 ≤ length trimmed → trimmed ≡ block ++ later → length block ≡ 200 → came ≤ limit + length later
+    → GivesBlock limit behind came0 old left0 came later left1 (Ok (Some block))
+took behind limit came0 came old held trimmed block later None left1 stays is long parts len room = tt
+took behind limit came0 came old held trimmed block later (Some x) None stays is long parts len room = stays
+took behind limit came0 came old held trimmed block later (Some x) (Some y) stays is long parts len room =
+    let long' : 2 ≤ length (trim behind held) = rw (← is) long in
+    (stays.0, (len, sym stays.1 ∙ trim_front behind held y long' ∙ ap (λ (t : List ℕ). t ++ y) (sym is ∙ parts) ∙ append_assoc block later y, omega (arith, stays.0, length-append later y)))
+
+pub stays_on : (behind : Bool) (came0 came : ℕ) (old held trimmed new : List ℕ) (left0 left1 left2 : Option (List ℕ)) (n : ℕ) → Stays behind came0 old left0 came held left1 → trimmed ≡ trim behind held → SameAhead trimmed left1 new left2 → length new ≡ length trimmed + n → Stays behind came0 old left0 (came + n) new left2
+stays_on behind came0 came old held trimmed new None left1 left2 n stays is same len = tt
+stays_on behind came0 came old held trimmed new (Some x) None left2 n stays is same len = absurd stays
+stays_on behind came0 came old held trimmed new (Some x) (Some z) None n stays is same len = same
+stays_on behind came0 came old held trimmed new (Some x) (Some z) (Some y) n stays is same len =
+    let lens : length new + length y ≡ length trimmed + length z = sym (length-append new y) ∙ ap length same ∙ length-append trimmed z in
+    (omega (arith, lens, len, stays.0), ap (trim behind) (same ∙ ap (λ (t : List ℕ). t ++ z) is) ∙ trim_pass behind held z ∙ stays.1)
+
+-- at the end of a reader all that is ahead is held
+abbrev pub AllHeld : ℕ → Bool → ℕ → List ℕ → Option (List ℕ) → ℕ → List ℕ → Option (List ℕ) → Type 0
+AllHeld limit behind came held None came' new left' = Unit {0}
+AllHeld limit behind came held (Some left) came' new None = ⊥
+AllHeld limit behind came held (Some left) came' new (Some left') =
+    (came' + length left' ≡ came + length left) × (trim behind (held ++ left) ≡ new) × (left' ≡ [])
+
+pub all_held : (behind : Bool) (limit came0 came : ℕ) (old held trimmed new : List ℕ) (left0 left1 left2 : Option (List ℕ)) → Stays behind came0 old left0 came held left1 → trimmed ≡ trim behind held → SameAhead trimmed left1 new left2 → IsAtEnd left2 → new ≡ trimmed → AllHeld limit behind came0 old left0 came new left2
+all_held behind limit came0 came old held trimmed new None left1 left2 stays is same end' kept = tt
+all_held behind limit came0 came old held trimmed new (Some x) left1 None stays is same end' kept =
+    stays_on behind came0 came old held trimmed new (Some x) left1 None 0 stays is same (omega (arith, ap length kept))
+all_held behind limit came0 came old held trimmed new (Some x) left1 (Some y) stays is same end' kept =
+    let z : came + 0 ≡ came = omega arith in
+    let on = stays_on behind came0 came old held trimmed new (Some x) left1 (Some y) 0 stays is same (omega (arith, ap length kept)) in
+    (omega (arith, on.0, z), sym on.1 ∙ ap (λ (t : List ℕ). trim behind (new ++ t)) end' ∙ ap (trim behind) (append-nil new ∙ kept ∙ is) ∙ trim_twice behind held ∙ sym is ∙ sym kept, end')
+
+pub ends_empty : (behind : Bool) (limit came0 came : ℕ) (old new : List ℕ) (left0 left2 : Option (List ℕ)) → AllHeld limit behind came0 old left0 came new left2 → length new ≡ 0 → came ≤ limit → GivesBlock limit behind came0 old left0 came new left2 (Ok None)
+ends_empty behind limit came0 came old new None left2 all empty within = tt
+ends_empty behind limit came0 came old new (Some x) None all empty within = all
+ends_empty behind limit came0 came old [] (Some x) (Some y) all empty within = (all.0, (all.1, omega (arith, all.0, ap length all.2)))
+ends_empty behind limit came0 came old (b ∷ bs) (Some x) (Some y) all empty within = absurd (omega (arith, empty))
+
+pub ends_short : (behind : Bool) (limit came0 came : ℕ) (old new : List ℕ) (left0 left2 : Option (List ℕ)) → AllHeld limit behind came0 old left0 came new left2 → 0 < length new → length new < 200 → came ≤ limit → GivesBlock limit behind came0 old left0 came new left2 (Err Short)
+ends_short behind limit came0 came old new None left2 all some short within = tt
+ends_short behind limit came0 came old new (Some x) None all some short within = all
+ends_short behind limit came0 came old new (Some x) (Some y) all some short within =
+    let n = ap length all.1 in
+    (all.0, (omega (arith, n, some), omega (arith, n, short), omega (arith, all.0, ap length all.2)))
+
+pub never_ends : (behind : Bool) (limit came0 came : ℕ) (old held trimmed : List ℕ) (left0 left1 : Option (List ℕ)) → Stays behind came0 old left0 came held left1 → trimmed ≡ trim behind held → length trimmed ≤ 200 → limit < came → GivesBlock limit behind came0 old left0 came trimmed left1 (Err ReaderNeverEnds)
+never_ends behind limit came0 came old held trimmed None left1 stays is few over = tt
+never_ends behind limit came0 came old held trimmed (Some x) None stays is few over = stays
+never_ends behind limit came0 came old held trimmed (Some x) (Some y) stays is few over =
+    let all : trim behind (old ++ x) ≡ trim behind (trimmed ++ y) = sym stays.1 ∙ sym (trim_pass behind held y) ∙ ap (λ (t : List ℕ). trim behind (t ++ y)) (sym is) in
+    (stays.0, (omega (arith, stays.0), omega (arith, ap length all, trim_less behind (trimmed ++ y), length-append trimmed y, stays.0)))
+
+pub faulted : (behind : Bool) (limit came0 came : ℕ) (old held trimmed new : List ℕ) (left0 left1 left2 : Option (List ℕ)) → Stays behind came0 old left0 came held left1 → trimmed ≡ trim behind held → SameAhead trimmed left1 new left2 → length new ≡ length trimmed → GivesBlock limit behind came0 old left0 came new left2 (Err ReadFault)
+faulted behind limit came0 came old held trimmed new None left1 left2 stays is same len = tt
+faulted behind limit came0 came old held trimmed new (Some x) left1 None stays is same len = stays_on behind came0 came old held trimmed new (Some x) left1 None 0 stays is same (omega (arith, len))
+faulted behind limit came0 came old held trimmed new (Some x) left1 (Some y) stays is same len =
+    let on = stays_on behind came0 came old held trimmed new (Some x) left1 (Some y) 0 stays is same (omega (arith, len)) in
+    (omega (arith, on.0), tt)
+
+-- ---- counts
+
+pub counts_on : (l0 l1 l2 : Option (List ℕ)) (r0 r1 r2 came0 came n : ℕ) → CountsOn l0 l1 r0 r1 came0 came → CountsBytes l1 l2 r1 r2 (Ok n) → CountsOn l0 l2 r0 r2 came0 (came + n)
+counts_on (Some x) l1 l2 r0 r1 r2 came0 came n h k = tt
+counts_on None (Some x) l2 r0 r1 r2 came0 came n h k = absurd h
+counts_on None None (Some x) r0 r1 r2 came0 came n h k = k
+counts_on None None None r0 r1 r2 came0 came n h k =
+    let a : (r2 + came0) % 2 ^ 128 ≡ (r1 + n + came0) % 2 ^ 128 = ap (λ (x : ℕ). (x + came0) % 2 ^ 128) k ∙ mod-add-mod (r1 + n) (2 ^ 128) came0 in
+    let b : r1 + n + came0 ≡ (r1 + came0) + n = omega arith in
+    let c : ((r1 + came0) + n) % 2 ^ 128 ≡ ((r0 + came) + n) % 2 ^ 128 = sym (mod-add-mod (r1 + came0) (2 ^ 128) n) ∙ ap (λ (x : ℕ). (x + n) % 2 ^ 128) h ∙ mod-add-mod (r0 + came) (2 ^ 128) n in
+    let d : (r0 + came) + n ≡ r0 + (came + n) = omega arith in
+    a ∙ ap (λ (x : ℕ). x % 2 ^ 128) b ∙ c ∙ ap (λ (x : ℕ). x % 2 ^ 128) d
+
+pub counts_same : (l0 l1 l2 : Option (List ℕ)) (r0 r1 r2 came0 came : ℕ) (e : DeviceFault) → CountsOn l0 l1 r0 r1 came0 came → CountsBytes l1 l2 r1 r2 (Err e) → CountsOn l0 l2 r0 r2 came0 came
+counts_same (Some x) l1 l2 r0 r1 r2 came0 came e h k = tt
+counts_same None (Some x) l2 r0 r1 r2 came0 came e h k = absurd h
+counts_same None None (Some x) r0 r1 r2 came0 came e h k = k
+counts_same None None None r0 r1 r2 came0 came e h k = ap (λ (x : ℕ). (x + came0) % 2 ^ 128) k ∙ h
+
+pub counts_none : (l : Option (List ℕ)) (r came : ℕ) → CountsOn l l r r came came
+counts_none (Some x) r came = tt
+counts_none None r came = refl
+
+pub counts_twice : (l0 l1 l2 : Option (List ℕ)) (r0 r1 r2 came0 came1 came2 : ℕ) → CountsOn l0 l1 r0 r1 came0 came1 → CountsOn l1 l2 r1 r2 came1 came2 → CountsOn l0 l2 r0 r2 came0 came2
+counts_twice (Some x) l1 l2 r0 r1 r2 came0 came1 came2 h k = tt
+counts_twice None (Some x) l2 r0 r1 r2 came0 came1 came2 h k = absurd h
+counts_twice None None (Some x) r0 r1 r2 came0 came1 came2 h k = k
+counts_twice None None None r0 r1 r2 came0 came1 came2 h k = omega (arith, h, k)
+
+-- ---- blocks and the frames that they begin
+
+pub some_before : (n : ℕ) → nat_lt 0 (n + 1) ≡ true
+some_before n = grind (arith, nat_tests)
+
+-- The block in front is the first of the frames, where it lies before the limit.
+pub first_frame : (over : ℕ) (behind : Bool) (bytes block later : List ℕ) (blocks : List (List ℕ)) (rest : List ℕ) → length block ≡ 200 → trim behind bytes ≡ block ++ later → over ≤ length later → Frames over behind bytes blocks rest
+    → (more : List (List ℕ)) × (blocks ≡ block ∷ more) × Frames over true later more rest
+first_frame over behind bytes block later [] rest len parts room h =
+    absurd (omega (arith, ap length (sym h.0 ∙ parts), length-append block later, h.1, len, room))
+first_frame over behind bytes block later (b ∷ bs) rest len parts room h =
+    let same : b ++ h.0 ≡ block ++ later = sym h.2 ∙ parts in
+    let lens : length b ≡ length block = h.1 ∙ sym len in
+    let front = same_front b block h.0 later lens same in
+    let back = same_back b block h.0 later lens same in
+    (bs, ap (λ (x : List ℕ). x ∷ bs) front, rw (← back) h.4)
+
+-- no block is left where too few bytes are
+pub no_frame : (over : ℕ) (behind : Bool) (bytes : List ℕ) (blocks : List (List ℕ)) (rest : List ℕ) → length (trim behind bytes) < 200 + over → Frames over behind bytes blocks rest
+    → (blocks ≡ []) × (trim behind bytes ≡ rest)
+no_frame over behind bytes [] rest few h = (refl, h.0)
+no_frame over behind bytes (b ∷ bs) rest few h = absurd (omega (arith, ap length h.2, length-append b h.0, h.1, h.3, few))
+
+-- ---- blocks of fill
+
+-- what is left, behind the blocks of fill that were counted
+abbrev pub Skipped : ℕ → ℕ → ℕ → List ℕ → Option (List ℕ) → ℕ → ℕ → List ℕ → Option (List ℕ) → Type 0
+Skipped limit n came held None n' came' held' left' = Unit {0}
+Skipped limit n came held (Some left) n' came' held' None = ⊥
+Skipped limit n came held (Some left) n' came' held' (Some left') =
+    (came' + length left' ≡ came + length left)
+    × ((blocks : List (List ℕ)) → (rest : List ℕ) → Ahead limit n came held left blocks rest
+    → (later : List (List ℕ)) × (others n blocks ≡ others n' later) × (n' + length later ≡ n + length blocks) × Ahead limit n' came' held' left' later rest)
+
+pub none_skipped : (limit n came : ℕ) (held : List ℕ) (left : Option (List ℕ)) → Skipped limit n came held left n came held left
+none_skipped limit n came held None = tt
+none_skipped limit n came held (Some x) = (refl, λ blocks rest h. (blocks, refl, refl, h))
+
+over_same : (limit a b c d : ℕ) → a + b ≡ c + d → (a + b) - limit ≡ (c + d) - limit
+over_same limit a b c d e = ap (λ (x : ℕ). x - limit) e
+
+-- a block that is given, where records were counted
+given : (limit n came came' : ℕ) (held held' x y block : List ℕ) (blocks : List (List ℕ)) (rest : List ℕ) → came' + length y ≡ came + length x → NextBlock ((came + length x) - limit) (trim (nat_lt 0 n) (held ++ x)) (held' ++ y) (Ok (Some block)) → Ahead limit n came held x blocks rest
+    → (more : List (List ℕ)) × (blocks ≡ block ∷ more) × Ahead limit (n + 1) came' held' y more rest
+given limit n came came' held held' x y block blocks rest total b h =
+    let f = first_frame ((came + length x) - limit) (nat_lt 0 n) (held ++ x) block (held' ++ y) blocks rest b.0 b.1 b.2 h in
+    (f.0, f.1, rw (some_before n, total) f.2)
+
+pub one_more : (limit n n1 came came1 came2 : ℕ) (held held1 held2 : List ℕ) (l l1 l2 : Option (List ℕ)) (block : List ℕ) → Skipped limit n came held l n1 came1 held1 l1 → GivesBlock limit (nat_lt 0 n1) came1 held1 l1 came2 held2 l2 (Ok (Some block)) → is_fill block ≡ true → Skipped limit n came held l (n1 + 1) came2 held2 l2
+one_more limit n n1 came came1 came2 held held1 held2 None l1 l2 block s b is = tt
+one_more limit n n1 came came1 came2 held held1 held2 (Some x) None l2 block s b is = absurd s
+one_more limit n n1 came came1 came2 held held1 held2 (Some x) (Some y) None block s b is = b
+one_more limit n n1 came came1 came2 held held1 held2 (Some x) (Some y) (Some z) block s b is = (
+  b.0 ∙ s.0,
+  λ blocks rest h.
+      let t = s.1 blocks rest h in
+      let g = given limit n1 came1 came2 held1 held2 y z block t.0 rest b.0 b.1 t.3 in
+      let same : others n1 t.0 ≡ others (n1 + 1) g.0 = ap (others n1) g.1 ∙ rw is refl in
+      (g.0, t.1 ∙ same, omega (arith, t.2, ap length g.1), g.2),
+)
+
+-- the number of the answer
+abbrev pub Counts : ℕ → ℕ → Result (Option (List ℕ)) Stop → Type 0
+Counts n n' (Ok None) = n' ≡ n
+Counts n n' (Ok (Some block)) = (n' ≡ n + 1) × (is_fill block ≡ false)
+Counts n n' (Err e) = n' ≡ n
+
+few_empty : (over : ℕ) (b : List ℕ) → b ≡ [] → length b < 200 + over
+few_empty over b e = omega (arith, ap length e)
+
+none_left : (n n1 n2 : ℕ) (blocks later : List (List ℕ)) → others n blocks ≡ others n1 later → n1 + length later ≡ n + length blocks → later ≡ [] → n2 ≡ n1 → (others n blocks ≡ []) × (n2 ≡ n + length blocks)
+none_left n n1 n2 blocks later same count e is = (same ∙ ap (others n1) e, omega (arith, count, ap length e, is))
+
+pub gives_other : (limit n n1 n2 came came1 came2 : ℕ) (held held1 held2 : List ℕ) (l l1 l2 : Option (List ℕ)) (r : Result (Option (List ℕ)) Stop) → Skipped limit n came held l n1 came1 held1 l1 → GivesBlock limit (nat_lt 0 n1) came1 held1 l1 came2 held2 l2 r → Counts n1 n2 r → GivesOther limit n came held l n2 came2 held2 l2 r
+gives_other limit n n1 n2 came came1 came2 held held1 held2 None l1 l2 r s b c = tt
+gives_other limit n n1 n2 came came1 came2 held held1 held2 (Some x) None l2 r s b c = absurd s
+gives_other limit n n1 n2 came came1 came2 held held1 held2 (Some x) (Some y) None r s b c = b
+gives_other limit n n1 n2 came came1 came2 held held1 held2 (Some x) (Some y) (Some z) (Ok None) s b c = (
+  b.0 ∙ s.0,
+  λ blocks rest h.
+      let t = s.1 blocks rest h in
+      let e = no_frame ((came1 + length y) - limit) (nat_lt 0 n1) (held1 ++ y) t.0 rest (few_empty _ _ b.1.0) t.3 in
+      let f = none_left n n1 n2 blocks t.0 t.1 t.2 e.0 c in
+      (f.0, f.1, sym e.1 ∙ b.1.0, sym (over_same limit came1 (length y) came (length x) s.0) ∙ b.1.1),
+)
+gives_other limit n n1 n2 came came1 came2 held held1 held2 (Some x) (Some y) (Some z) (Ok (Some block)) s b c = (
+  b.0 ∙ s.0,
+  λ blocks rest h.
+      let t = s.1 blocks rest h in
+      let g = given limit n1 came1 came2 held1 held2 y z block t.0 rest b.0 b.1 t.3 in
+      let same : others n1 t.0 ≡ (n1 + 1, block) ∷ others (n1 + 1) g.0 = ap (others n1) g.1 ∙ rw c.1 refl in
+      (g.0, rw c.0 (t.1 ∙ same), omega (arith, t.2, ap length g.1, c.0), rw c.0 g.2),
+)
+gives_other limit n n1 n2 came came1 came2 held held1 held2 (Some x) (Some y) (Some z) (Err Short) s b c = (
+  b.0 ∙ s.0,
+  λ blocks rest h.
+      let t = s.1 blocks rest h in
+      let e = no_frame ((came1 + length y) - limit) (nat_lt 0 n1) (held1 ++ y) t.0 rest (omega (arith, b.1.1)) t.3 in
+      let f = none_left n n1 n2 blocks t.0 t.1 t.2 e.0 c in
+      let len = ap length e.1 in
+      (f.0, f.1, omega (arith, len, b.1.0), omega (arith, len, b.1.1), sym (over_same limit came1 (length y) came (length x) s.0) ∙ b.1.2),
+)
+gives_other limit n n1 n2 came came1 came2 held held1 held2 (Some x) (Some y) (Some z) (Err ReadFault) s b c = (
+  b.0 ∙ s.0,
+  λ blocks rest h.
+      let t = s.1 blocks rest h in
+      (t.0, rw c t.1, omega (arith, t.2, c)),
+)
+gives_other limit n n1 n2 came came1 came2 held held1 held2 (Some x) (Some y) (Some z) (Err ReaderNeverEnds) s b c = (
+  b.0 ∙ s.0,
+  λ blocks rest h.
+      let t = s.1 blocks rest h in
+      let e = no_frame ((came1 + length y) - limit) (nat_lt 0 n1) (held1 ++ y) t.0 rest b.1.1 t.3 in
+      let f = none_left n n1 n2 blocks t.0 t.1 t.2 e.0 c in
+      let over = over_same limit came1 (length y) came (length x) s.0 in
+      (f.0, f.1, omega (arith, over, b.1.0)),
+)

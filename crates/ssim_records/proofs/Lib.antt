@@ -1,0 +1,4 @@
+pub mod Slices
+pub mod LineEnds
+pub mod Windows
+pub mod Framing

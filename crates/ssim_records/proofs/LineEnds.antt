@@ -1,0 +1,62 @@
+-- Line ends at the front of bytes, passed over in one go or in two.
+use Rattle.std.proofs.Common.{◌≡◌, ℕ, ◌≤◌, ◌==◌, Bool, true, false, ◌&&◌, List, [], ◌∷◌, ◌++◌, length, refl, sym, ap, ◌∙◌, arith, ◌⊎◌, inl, inr}
+use Rattle.std.proofs.lemmas.List.{length-append, append-nil}
+use Rattle.ssim_records.specs.Frames.{drop_line_ends, trim}
+
+pub pick : (t : Bool) → (t ≡ true) ⊎ (t ≡ false)
+pick true = inl refl
+pick false = inr refl
+
+-- what is passed over in front is passed over with what follows
+pub pass_front : (P L : List ℕ) → drop_line_ends (drop_line_ends P ++ L) ≡ drop_line_ends (P ++ L)
+pass_front [] L = refl
+pass_front (b ∷ []) [] = elim (pick (b == 10)) [ inl t ↦ simp t | inr f ↦ simp f ]
+pass_front (b ∷ []) (d ∷ L) = elim (pick (b == 10)) [ inl t ↦ simp t | inr f ↦ simp f ]
+pass_front (b ∷ c ∷ bs) L =
+    elim (pick (b == 10)) [
+      | inl t ↦ simp t (pass_front (c ∷ bs) L)
+      | inr f ↦ elim (pick (b == 13 && c == 10)) [ inl t ↦ simp (f, t) (pass_front bs L) | inr u ↦ simp (f, u) ]
+    ]
+
+-- two bytes or more that are left in front are left
+pub left_front : (P L : List ℕ) → 2 ≤ length (drop_line_ends P) → drop_line_ends (P ++ L) ≡ drop_line_ends P ++ L
+left_front [] L h = absurd (omega (arith, h))
+left_front (b ∷ []) L h = elim (pick (b == 10)) [ inl t ↦ let k = simp t at h in absurd (omega (arith, k)) | inr f ↦ let k = simp f at h in absurd (omega (arith, k)) ]
+left_front (b ∷ c ∷ bs) L h =
+    elim (pick (b == 10)) [
+      | inl t ↦ let k = simp t at h in simp t (left_front (c ∷ bs) L k)
+      | inr f ↦ elim (pick (b == 13 && c == 10)) [ inl t ↦ let k = simp (f, t) at h in simp (f, t) (left_front bs L k) | inr u ↦ simp (f, u) ]
+    ]
+
+-- what is left behind line ends is the end of the bytes
+pub is_end : (P : List ℕ) → (front : List ℕ) × (P ≡ front ++ drop_line_ends P)
+is_end [] = ([], refl)
+is_end (b ∷ []) = elim (pick (b == 10)) [ inl t ↦ (b ∷ [], simp t) | inr f ↦ ([], simp f) ]
+is_end (b ∷ c ∷ bs) =
+    elim (pick (b == 10)) [
+      | inl t ↦ let r = is_end (c ∷ bs) in (b ∷ r.0, simp t (ap (λ (x : List ℕ). b ∷ x) r.1))
+      | inr f ↦ elim (pick (b == 13 && c == 10)) [ inl t ↦ let r = is_end bs in (b ∷ c ∷ r.0, simp (f, t) (ap (λ (x : List ℕ). b ∷ c ∷ x) r.1)) | inr u ↦ ([], simp (f, u)) ]
+    ]
+
+drops_less : (P : List ℕ) → length (drop_line_ends P) ≤ length P
+drops_less P = let r = is_end P in omega (arith, ap length r.1, length-append r.0 (drop_line_ends P))
+
+pub less_after : (P new : List ℕ) → new ≡ drop_line_ends P → length new ≤ length P
+less_after P new is = rw is (drops_less P)
+
+-- ---- behind a block or not
+
+pub trim_front : (started : Bool) (P L : List ℕ) → 2 ≤ length (trim started P) → trim started (P ++ L) ≡ trim started P ++ L
+trim_front true P L h = left_front P L h
+trim_front false P L h = refl
+
+pub trim_pass : (started : Bool) (P L : List ℕ) → trim started (trim started P ++ L) ≡ trim started (P ++ L)
+trim_pass true P L = pass_front P L
+trim_pass false P L = refl
+
+pub trim_twice : (started : Bool) (P : List ℕ) → trim started (trim started P) ≡ trim started P
+trim_twice started P = ap (trim started) (sym (append-nil (trim started P))) ∙ trim_pass started P [] ∙ ap (trim started) (append-nil P)
+
+pub trim_less : (behind : Bool) (P : List ℕ) → length (trim behind P) ≤ length P
+trim_less true P = drops_less P
+trim_less false P = omega arith

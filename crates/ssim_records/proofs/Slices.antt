@@ -1,0 +1,23 @@
+-- Parts of lists, inside other parts and one after another.
+use Rattle.std.proofs.Common.{◌≡◌, ℕ, ◌+◌, ◌-◌, ◌≤◌, List, ◌++◌, length, take, drop, refl, sym, ap, ◌∙◌, arith}
+use Rattle.std.specs.Prelude.{slice_range}
+use Rattle.std.proofs.lemmas.List.{take-take, drop-take, drop-drop, take_at, length-take, length-drop, append_cancel_left}
+
+pub length_slice : (d : List ℕ) (i j : ℕ) → i ≤ j → j ≤ length d → length (slice_range d i j) ≡ j - i
+length_slice d i j le h = omega (arith, length-take (j - i) (drop i d), length-drop i d)
+
+pub slice_in : (x : List ℕ) (from to i j : ℕ) → i ≤ j → from + j ≤ to → slice_range (slice_range x from to) i j ≡ slice_range x (from + i) (from + j)
+slice_in x from to i j le h =
+    let m : to - from ≡ i + (to - from - i) = omega arith in
+    let w : (from + j) - (from + i) ≡ j - i = omega arith in
+    let s : j - i ≤ to - from - i = omega arith in
+    rw (w, m, drop-take i (to - from - i) (drop from x), drop-drop i from x) (take-take (j - i) (to - from - i) (drop (from + i) x) s)
+
+-- one list begins in one way with so many elements
+pub same_front : (a b x y : List ℕ) → length a ≡ length b → a ++ x ≡ b ++ y → a ≡ b
+same_front a b x y len e = sym (take_at a x (length b) len) ∙ ap (take (length b)) e ∙ take_at b y (length b) refl
+
+pub same_back : (a b x y : List ℕ) → length a ≡ length b → a ++ x ≡ b ++ y → x ≡ y
+same_back a b x y len e =
+    let front : a ≡ b = same_front a b x y len e in
+    append_cancel_left b x y (ap (λ (t : List ℕ). t ++ x) (sym front) ∙ e)

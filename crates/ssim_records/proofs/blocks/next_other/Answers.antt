@@ -1,0 +1,37 @@
+-- A block of fill is counted and passed over; any other answer is that of the blocks behind the fill.
+use Rattle.std.proofs.Common.{◌≡◌, ◌∙◌, Ok, Err, Some, None, sym, refl, arith, rules}
+use Rattle.ssim_records.proofs.Framing.{one_more, counts_twice, gives_other}
+use Rattle.ssim_records.proofs.blocks.next_other.Goals as goal
+
+pub loop-block-preserved : goal.loop-block-preserved
+loop-block-preserved g c =
+    let e : c.next_block.result ≡ Ok (Some c.in-Some.block) = search rules in
+    let b = rw e at c.next_block.ensures.block in
+    let few = rw e at c.next_block.ensures.few in
+    let fault = rw e at c.next_block.ensures.fault in
+    record {
+      came_fits = c.next_block.ensures.came;
+      counted = omega (arith, few, c.loop-block.invariant.counted);
+      skipped = one_more _ _ _ _ _ _ _ _ _ _ _ _ c.in-Some.block c.loop-block.invariant.skipped b (sym c.is_fill.ensures ∙ c.if-not-is_fill.false);
+      counts = counts_twice _ _ _ _ _ _ _ _ _ c.loop-block.invariant.counts c.next_block.ensures.count;
+      no_failure = fault ∙ c.loop-block.invariant.no_failure;
+    }
+
+pub returns-in_err-block-clause-block : goal.returns-in_err-block-clause-block
+returns-in_err-block-clause-block g c =
+    let e : c.next_block.result ≡ Err c.in_err-block.field-0.0 = search rules in
+    let k : c.from_residual.result ≡ Err c.in_err-block.field-0.0 = search rules in
+    let b = rw e at c.next_block.ensures.block in
+    rw k (gives_other _ _ _ _ _ _ _ _ _ _ _ _ _ (Err c.in_err-block.field-0.0) c.loop-block.invariant.skipped b refl)
+
+pub returns-in_default-clause-block : goal.returns-in_default-clause-block
+returns-in_default-clause-block g c =
+    let e : c.next_block.result ≡ Ok None = search rules in
+    let b = rw e at c.next_block.ensures.block in
+    gives_other _ _ _ _ _ _ _ _ _ _ _ _ _ (Ok None) c.loop-block.invariant.skipped b refl
+
+pub returns-then-not-is_fill-clause-block : goal.returns-then-not-is_fill-clause-block
+returns-then-not-is_fill-clause-block g c =
+    let e : c.next_block.result ≡ Ok (Some c.in-Some.block) = search rules in
+    let b = rw e at c.next_block.ensures.block in
+    gives_other _ _ _ _ _ _ _ _ _ _ _ _ _ (Ok (Some c.in-Some.block)) c.loop-block.invariant.skipped b (refl, sym c.is_fill.ensures ∙ c.if-not-is_fill.true)

@@ -1,0 +1,19 @@
+-- The blocks so far were fill, and those other than fill stay the same.
+use Rattle.std.proofs.Common.{◌≡◌, ◌≤◌, ◌+◌, ◌-◌, ◌*◌, ℕ, List, length}
+use Rattle.std.specs.Prelude.{Option}
+use Rattle.ssim_records.specs.Blocks.{CountsOn}
+use Rattle.ssim_records.proofs.Framing.{Skipped}
+use Rattle.ssim_records.proofs.blocks.next_other.Given as goal
+
+pub record Goes {R : Type 0} (left : R → Option (List ℕ)) (came_of failures : R → ℕ) (limit came0 came number0 number : ℕ) (held0 held : List ℕ) (before reader : R) : Type 0 where
+  pub came_fits : came ≤ limit + 1
+  pub counted : 200 * number + length held ≤ came
+  pub skipped : Skipped limit number0 came0 held0 (left before) number came held (left reader)
+  pub counts : CountsOn (left before) (left reader) (came_of before) (came_of reader) came0 came
+  pub no_failure : failures reader ≡ failures before
+
+abbrev pub invariant-loop-block : goal.invariant-loop-block
+invariant-loop-block g l = Goes g.R.Source.left g.R.Source.came g.R.Source.failures l.limit l.initial.came l.came l.initial.number l.number l.initial.window l.window l.initial.reader l.reader
+
+abbrev pub decreases-loop-block : goal.decreases-loop-block
+decreases-loop-block g l = (l.limit + 1 - l.came) + length l.window

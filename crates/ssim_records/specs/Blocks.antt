@@ -1,0 +1,63 @@
+-- What the steps of framing do with the bytes that are held and those that a reader has left.
+use Rattle.std.specs.Prelude.{ℕ, ◌≡◌, ◌+◌, ◌-◌, ◌%◌, ◌^◌, ◌<◌, ◌≤◌, Bool, List, [], ◌∷◌, ◌++◌, length, nat_lt, Option, Some, None, Result, Ok, Err}
+use Rattle.ssim_records.specs.declared.blocks.Stop.{Stop}
+use Rattle.ssim_records.specs.declared.blocks.Stop.TheVariants.{Short, ReadFault, ReaderNeverEnds}
+use Rattle.ssim_records.specs.Frames.{trim, Frames, others}
+
+-- What is held, followed by what is left, stays the same, where it is told.
+abbrev pub SameAhead : List ℕ → Option (List ℕ) → List ℕ → Option (List ℕ) → Type 0
+SameAhead held None held' left' = Unit {0}
+SameAhead held (Some left) held' None = ⊥
+SameAhead held (Some left) held' (Some left') = held' ++ left' ≡ held ++ left
+
+-- how many of all bytes come behind the limit
+abbrev pub beyond : ℕ → ℕ → List ℕ → ℕ
+beyond limit came left = (came + length left) - limit
+
+-- the answer, of all that stands ahead
+abbrev pub NextBlock : ℕ → List ℕ → List ℕ → Result (Option (List ℕ)) Stop → Type 0
+NextBlock over ahead later (Ok None) = (ahead ≡ []) × (over ≡ 0)
+NextBlock over ahead later (Ok (Some block)) = (length block ≡ 200) × (ahead ≡ block ++ later) × (over ≤ length later)
+NextBlock over ahead later (Err Short) = (0 < length ahead) × (length ahead < 200) × (over ≡ 0)
+NextBlock over ahead later (Err ReadFault) = Unit {0}
+NextBlock over ahead later (Err ReaderNeverEnds) = (0 < over) × (length ahead < 200 + over)
+
+abbrev pub GivesBlock : ℕ → Bool → ℕ → List ℕ → Option (List ℕ) → ℕ → List ℕ → Option (List ℕ) → Result (Option (List ℕ)) Stop → Type 0
+GivesBlock limit behind came held None came' held' left' result = Unit {0}
+GivesBlock limit behind came held (Some left) came' held' None result = ⊥
+GivesBlock limit behind came held (Some left) came' held' (Some left') result =
+    (came' + length left' ≡ came + length left) × NextBlock (beyond limit came left) (trim behind (held ++ left)) (held' ++ left') result
+
+-- what is ahead, where blocks were counted
+abbrev pub Ahead : ℕ → ℕ → ℕ → List ℕ → List ℕ → List (List ℕ) → List ℕ → Type 0
+Ahead limit number came held left blocks rest = Frames (beyond limit came left) (nat_lt 0 number) (held ++ left) blocks rest
+
+-- the answer, of the blocks and the rest that are ahead
+abbrev pub NextOther : ℕ → ℕ → List (List ℕ) → List ℕ → ℕ → (List (List ℕ) → Type 0) → Result (Option (List ℕ)) Stop → Type 0
+NextOther over number blocks rest number' After (Ok None) = (others number blocks ≡ []) × (number' ≡ number + length blocks) × (rest ≡ []) × (over ≡ 0)
+NextOther over number blocks rest number' After (Ok (Some block)) =
+    (later : List (List ℕ)) × (others number blocks ≡ (number', block) ∷ others number' later) × (number' + length later ≡ number + length blocks) × After later
+NextOther over number blocks rest number' After (Err Short) = (others number blocks ≡ []) × (number' ≡ number + length blocks) × (0 < length rest) × (length rest < 200) × (over ≡ 0)
+NextOther over number blocks rest number' After (Err ReadFault) = (later : List (List ℕ)) × (others number blocks ≡ others number' later) × (number' + length later ≡ number + length blocks)
+NextOther over number blocks rest number' After (Err ReaderNeverEnds) = (others number blocks ≡ []) × (number' ≡ number + length blocks) × (0 < over)
+
+abbrev pub GivesOther : ℕ → ℕ → ℕ → List ℕ → Option (List ℕ) → ℕ → ℕ → List ℕ → Option (List ℕ) → Result (Option (List ℕ)) Stop → Type 0
+GivesOther limit number came held None number' came' held' left' result = Unit {0}
+GivesOther limit number came held (Some left) number' came' held' None result = ⊥
+GivesOther limit number came held (Some left) number' came' held' (Some left') result =
+    (came' + length left' ≡ came + length left)
+    × ((blocks : List (List ℕ)) → (rest : List ℕ) → Ahead limit number came held left blocks rest
+    → NextOther (beyond limit came left) number blocks rest number' (λ later. Ahead limit number' came' held' left' later rest) result)
+
+-- a failure was counted exactly where the answer is a read fault
+abbrev pub FailsOnce : ℕ → ℕ → Result (Option (List ℕ)) Stop → Type 0
+FailsOnce old new (Ok o) = new ≡ old
+FailsOnce old new (Err Short) = new ≡ old
+FailsOnce old new (Err ReadFault) = new ≡ (old + 1) % 2 ^ 64
+FailsOnce old new (Err ReaderNeverEnds) = new ≡ old
+
+-- A source that does not tell its bytes counted as many as came.
+abbrev pub CountsOn : Option (List ℕ) → Option (List ℕ) → ℕ → ℕ → ℕ → ℕ → Type 0
+CountsOn (Some left) left' old new came came' = Unit {0}
+CountsOn None (Some left) old new came came' = ⊥
+CountsOn None None old new came came' = (new + came) % 2 ^ 128 ≡ (old + came') % 2 ^ 128

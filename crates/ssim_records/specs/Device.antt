@@ -1,0 +1,26 @@
+-- What devices count, and what a buffer holds.
+use Rattle.std.specs.Prelude.{ℕ, ◌≡◌, ◌+◌, ◌%◌, ◌^◌, ◌==◌, ◌&&◌, nat_lt, if◌then◌else◌, List, length, Option, Some, None, Result, Ok, Err}
+use Rattle.ssim_records.specs.declared.device.DeviceFault.{DeviceFault}
+
+-- Of a source that tells its bytes nothing is counted. Of one that does not, and never will, the bytes that came are, and
+-- the count wraps.
+abbrev pub CountsBytes : Option (List ℕ) → Option (List ℕ) → ℕ → ℕ → Result ℕ DeviceFault → Type 0
+CountsBytes (Some bytes) left old new result = Unit {0}
+CountsBytes None (Some bytes) old new result = ⊥
+CountsBytes None None old new (Ok n) = new ≡ (old + n) % 2 ^ 128
+CountsBytes None None old new (Err e) = new ≡ old
+
+-- a failure is counted, and the count wraps
+abbrev pub CountsFailure : ℕ → ℕ → Result ℕ DeviceFault → Type 0
+CountsFailure old new (Ok n) = new ≡ old
+CountsFailure old new (Err e) = new ≡ (old + 1) % 2 ^ 64
+
+-- So is a put that took no byte where there was one.
+abbrev pub CountsPut : ℕ → ℕ → Result ℕ DeviceFault → List ℕ → Type 0
+CountsPut old new (Err e) bytes = new ≡ (old + 1) % 2 ^ 64
+CountsPut old new (Ok n) bytes = new ≡ (if n == 0 && nat_lt 0 (length bytes) then (old + 1) % 2 ^ 64 else old)
+
+-- a buffer: what it holds, and how often it could not grow
+pub record Buffer : Type 0 where
+  pub bytes : List ℕ
+  pub failures : ℕ

@@ -1,0 +1,105 @@
+//! The blocks of a stream of bytes, one after another.
+
+ghost use Rattle.std.specs.Prelude.{◌≡◌, ◌<◌, ◌≤◌, ◌+◌, ◌*◌, [], length, Ok, Err, IfOk, IfSome, true, false};
+ghost use Rattle.ssim_records.specs.declared.blocks.Stop.TheVariants.{ReaderNeverEnds};
+ghost use Rattle.ssim_records.specs.Frames.{is_fill};
+ghost use Rattle.ssim_records.specs.Blocks.{GivesBlock, GivesOther, FailsOnce, CountsOn};
+
+use crate::device::Source;
+use crate::window::Window;
+use std::marker::Model;
+
+/// Why no block came.
+#[derive(Clone, Copy, Debug, PartialEq, Eq)]
+pub enum Stop {
+    Short,
+    ReadFault,
+    ReaderNeverEnds,
+}
+
+/// How many bytes have to be held for a block: one more where the last came behind the limit.
+fn needed(came: u128, limit: u64) -> usize
+    requires { came ≤ limit + 1 }
+    ensures block { 200 ≤ result }
+    ensures small { result ≤ 201 }
+    ensures inside { came ≤ limit → result ≡ 200 }
+    ensures within { came + 200 ≤ limit + result }
+{
+    if came > limit as u128 { 201 } else { 200 }
+}
+
+/// The next block, of all that the window holds and the reader has left.
+fn next_block<R: Source>(
+    window: &mut Window,
+    came: &mut u128,
+    limit: u64,
+    behind: bool,
+    reader: &mut R,
+) -> Result<Option<[u8; 200]>, Stop>
+    requires { came.old ≤ limit + 1 }
+    ensures came { came.new ≤ limit + 1 }
+    ensures held { length window.new + came.old ≤ length window.old + came.new }
+    ensures few { IfOk result (λ o. IfSome o (λ _. length window.new + 200 + came.old ≤ length window.old + came.new)) }
+    ensures block { GivesBlock limit behind came.old window.old (R.left reader.old) came.new window.new (R.left reader.new) result }
+    ensures never_ends { result ≡ Err ReaderNeverEnds → (limit < came.new) × (length window.new ≤ 200) }
+    ensures fault { FailsOnce (R.failures reader.old) (R.failures reader.new) result }
+    ensures count { CountsOn (R.left reader.old) (R.left reader.new) (R.came reader.old) (R.came reader.new) came.old came.new }
+{
+    loop {
+        window.trim(behind);
+        if window.len() >= needed(*came, limit) {
+            return Ok(Some(window.take()));
+        }
+        if *came > limit as u128 {
+            return Err(Stop::ReaderNeverEnds);
+        }
+        let room = (limit as u128 + 1 - *came).min(16384) as usize;
+        match window.fetch(reader, room) {
+            Err(_) => return Err(Stop::ReadFault),
+            Ok(0) => {
+                if window.len() == 0 {
+                    return Ok(None);
+                }
+                return Err(Stop::Short);
+            }
+            Ok(n) => *came += n as u128,
+        }
+    }
+}
+
+const FILL: [u8; 200] = [b'0'; 200];
+
+#[tactic(auto, unfolding(crate::specs::Frames::is_fill))]
+fn is_fill(block: &[u8; 200]) -> bool
+    ensures { result ≡ is_fill block.now }
+{
+    block.as_slice() == FILL.as_slice()
+}
+
+/// The next block that is not fill, of all that the window holds and the reader has left. Each block is counted.
+fn next_other<R: Source>(
+    window: &mut Window,
+    came: &mut u128,
+    number: &mut u64,
+    limit: u64,
+    reader: &mut R,
+) -> Result<Option<[u8; 200]>, Stop>
+    requires came { came.old ≤ limit + 1 }
+    requires counted { 200 * number.old + length window.old ≤ came.old }
+    ensures came { came.new ≤ limit + 1 }
+    ensures counted { 200 * number.new + length window.new ≤ came.new }
+    ensures block { GivesOther limit number.old came.old window.old (R.left reader.old) number.new came.new window.new (R.left reader.new) result }
+    ensures never_ends { result ≡ Err ReaderNeverEnds → (limit < came.new) × (length window.new ≤ 200) }
+    ensures fault { FailsOnce (R.failures reader.old) (R.failures reader.new) result }
+    ensures count { CountsOn (R.left reader.old) (R.left reader.new) (R.came reader.old) (R.came reader.new) came.old came.new }
+{
+    loop {
+        let Some(block) = next_block(window, came, limit, *number > 0, reader)? else {
+            return Ok(None);
+        };
+        *number += 1;
+        if !is_fill(&block) {
+            return Ok(Some(block));
+        }
+    }
+}

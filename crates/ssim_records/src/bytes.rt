@@ -1,0 +1,59 @@
+//! A sink that keeps its bytes.
+
+ghost use Rattle.std.specs.Prelude.{◌≡◌, [], Some};
+
+use crate::device::{DeviceFault, Sink};
+use std::alloc::Global;
+use std::marker::Model;
+
+/// A buffer that grows, and holds in order the bytes that were put into it. It fails only for memory, and then
+/// takes nothing.
+#[derive(Drop)]
+pub struct Bytes {
+    bytes: Vec<u8>,
+    /// How often it could not grow.
+    failures: u64,
+}
+
+impl Model for Bytes {
+    ghost use Rattle.ssim_records.specs.Device.{Buffer};
+
+    ghost Value = { Buffer };
+
+    ghost view = { λ s. record { bytes = s.bytes.items; failures = s.failures } };
+}
+
+impl Bytes {
+    /// An empty buffer. It takes no memory.
+    pub fn new(alloc: Global) -> Bytes
+        ensures { result ≡ record { bytes = []; failures = 0 } }
+    {
+        Bytes {
+            bytes: Vec::new(alloc),
+            failures: 0,
+        }
+    }
+
+    /// All bytes that were put.
+    pub fn bytes(&self) -> &[u8]
+        ensures { result.now ≡ self.now.bytes }
+    {
+        &self.bytes
+    }
+}
+
+impl Sink for Bytes {
+    ghost taken = { λ s. Some s.bytes };
+
+    ghost failures = { λ s. s.failures };
+
+    fn put(&mut self, bytes: &[u8]) -> Result<usize, DeviceFault> {
+        match self.bytes.extend_from_slice(bytes) {
+            Ok(()) => Ok(bytes.len()),
+            Err(_) => {
+                self.failures = self.failures.wrapping_add(1);
+                Err(DeviceFault::Memory)
+            }
+        }
+    }
+}

@@ -1,0 +1,84 @@
+//! Std's readers and writers as devices. Their bytes are not told.
+
+ghost use Rattle.std.specs.Prelude.{None};
+
+use crate::device::{DeviceFault, Sink, Source};
+use std::io::{Read, Write};
+
+/// A reader of std.
+#[derive(Drop)]
+pub struct Input<R> {
+    reader: R,
+    came: u128,
+    failures: u64,
+}
+
+impl<R: Read> Input<R> {
+    /// A source of what the reader gives. It takes no memory.
+    pub fn new(reader: R) -> Input<R> {
+        Input {
+            reader,
+            came: 0,
+            failures: 0,
+        }
+    }
+}
+
+impl<R: Read> Source for Input<R> {
+    ghost left = { λ _. None };
+
+    ghost came = { λ s. s.came };
+
+    ghost failures = { λ s. s.failures };
+
+    fn fetch(&mut self, into: &mut [u8]) -> Result<usize, DeviceFault> {
+        match self.reader.read(into) {
+            Ok(n) => {
+                self.came = self.came.wrapping_add(n as u128);
+                Ok(n)
+            }
+            Err(_) => {
+                self.failures = self.failures.wrapping_add(1);
+                Err(DeviceFault::Failed)
+            }
+        }
+    }
+}
+
+/// A writer of std.
+#[derive(Drop)]
+pub struct Output<W> {
+    writer: W,
+    failures: u64,
+}
+
+impl<W: Write> Output<W> {
+    /// A sink that hands its bytes to the writer. It takes no memory.
+    pub fn new(writer: W) -> Output<W> {
+        Output {
+            writer,
+            failures: 0,
+        }
+    }
+}
+
+impl<W: Write> Sink for Output<W> {
+    ghost taken = { λ _. None };
+
+    ghost failures = { λ s. s.failures };
+
+    fn put(&mut self, bytes: &[u8]) -> Result<usize, DeviceFault> {
+        match self.writer.write(bytes) {
+            Ok(n) => {
+                if n == 0 && !bytes.is_empty() {
+                    self.failures = self.failures.wrapping_add(1);
+                }
+                Ok(n)
+            }
+            Err(_) => {
+                self.failures = self.failures.wrapping_add(1);
+                Err(DeviceFault::Failed)
+            }
+        }
+    }
+}

@@ -1,0 +1,117 @@
+//! Bytes that came and are not used yet.
+
+ghost use Rattle.std.specs.Prelude.{◌≡◌, ◌<◌, ◌≤◌, ◌+◌, ◌++◌, [], length, IfOk, OnErr, Ok};
+ghost use Rattle.std.specs.Io.KnownBytes.{IsAtEnd};
+ghost use Rattle.ssim_records.specs.Device.{CountsBytes, CountsFailure};
+ghost use Rattle.ssim_records.specs.Frames.{drop_line_ends, trim};
+ghost use Rattle.ssim_records.specs.Blocks.{SameAhead};
+
+use crate::device::{DeviceFault, Source};
+use std::marker::Model;
+
+/// How many bytes a window has room for: a fetch asks for this many, but for a rest below a block.
+const ROOM: usize = 16384;
+
+/// The bytes behind the line ends at the front.
+fn after_line_ends(bytes: &[u8]) -> &[u8]
+    ensures len { length result.now ≤ length bytes.now }
+    ensures value { result.now ≡ drop_line_ends bytes.now }
+{
+    let mut rest = bytes;
+    loop {
+        rest = match rest {
+            [b'\n', after @ ..] => after,
+            [b'\r', b'\n', after @ ..] => after,
+            _ => return rest,
+        };
+    }
+}
+
+/// Bytes that came and are not used yet, seen as their list. It stands inline, since reading takes no memory.
+#[derive(Drop)]
+pub struct Window {
+    bytes: [u8; ROOM],
+    start: usize,
+    end: usize,
+}
+
+impl Model for Window {
+    ghost use Rattle.std.specs.Prelude.{List, ℕ, ◌≤◌, slice_range};
+
+    ghost Value = { List ℕ };
+
+    ghost view = { λ w. slice_range w.bytes w.start w.end };
+
+    ghost invariant = { λ w. (w.start ≤ w.end) × (w.end ≤ 16384) };
+}
+
+impl Window {
+    pub fn new() -> Window
+        ensures { result ≡ [] }
+    {
+        Window {
+            bytes: [0; ROOM],
+            start: 0,
+            end: 0,
+        }
+    }
+
+    pub fn len(&self) -> usize
+        ensures value { result ≡ length self.now }
+        ensures small { result ≤ 16384 }
+    {
+        self.end - self.start
+    }
+
+    /// Passes over the line ends at the front.
+    fn drop_line_ends(&mut self)
+        ensures less { length self.new ≤ length self.old }
+        ensures value { self.new ≡ drop_line_ends self.old }
+    {
+        let rest = after_line_ends(&self.bytes[self.start..self.end]).len();
+        self.start = self.end - rest;
+    }
+
+    /// Passes over the line ends at the front, if a block stands before them.
+    pub fn trim(&mut self, behind: bool)
+        ensures less { length self.new ≤ length self.old }
+        ensures value { self.new ≡ trim behind self.old }
+    {
+        if behind {
+            self.drop_line_ends();
+        }
+    }
+
+    /// Takes a block from the front.
+    pub fn take(&mut self) -> [u8; 200]
+        requires { 200 ≤ length self.old }
+        ensures len { length result ≡ 200 }
+        ensures parts { self.old ≡ result ++ self.new }
+    {
+        let mut block = [0; 200];
+        block.copy_from_slice(&self.bytes[self.start..self.start + 200]);
+        self.start += 200;
+        block
+    }
+
+    /// Fetches more bytes, at most that many.
+    pub fn fetch<R: Source>(&mut self, reader: &mut R, most: usize) -> Result<usize, DeviceFault>
+        requires len { length self.old ≤ 200 }
+        requires some { 0 < most }
+        ensures ok { IfOk result (λ n. (n ≤ most) × (length self.new ≡ length self.old + n)) }
+        ensures err { OnErr result (length self.new ≡ length self.old) }
+        ensures ahead { SameAhead self.old (R.left reader.old) self.new (R.left reader.new) }
+        ensures end { result ≡ Ok 0 → IsAtEnd (R.left reader.new) }
+        ensures none { result ≡ Ok 0 → self.new ≡ self.old }
+        ensures count { CountsBytes (R.left reader.old) (R.left reader.new) (R.came reader.old) (R.came reader.new) result }
+        ensures failures { CountsFailure (R.failures reader.old) (R.failures reader.new) result }
+    {
+        self.bytes.copy_within(self.start..self.end, 0);
+        self.end -= self.start;
+        self.start = 0;
+        let room = most.min(ROOM - self.end);
+        let n = reader.fetch(&mut self.bytes[self.end..self.end + room])?;
+        self.end += n;
+        Ok(n)
+    }
+}
