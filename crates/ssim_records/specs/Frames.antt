@@ -31,3 +31,12 @@ is_fill block = bytes_eq block fill
 abbrev pub others : ℕ → List (List ℕ) → List (ℕ × List ℕ)
 others number [] = []
 others number (block ∷ blocks) = if is_fill block then others (number + 1) blocks else (number + 1, block) ∷ others (number + 1) blocks
+
+-- any bytes have frames
+abbrev pub FramesExist : Type 0
+FramesExist = (beyond : ℕ) (behind : Bool) (bytes : List ℕ) → (blocks : List (List ℕ)) × ((rest : List ℕ) × Frames beyond behind bytes blocks rest)
+
+-- and only one blocks and rest
+abbrev pub FramesAreOne : Type 0
+FramesAreOne = (beyond : ℕ) (behind : Bool) (bytes : List ℕ) (blocks blocks' : List (List ℕ)) (rest rest' : List ℕ)
+    → Frames beyond behind bytes blocks rest → Frames beyond behind bytes blocks' rest' → (blocks ≡ blocks') × (rest ≡ rest')

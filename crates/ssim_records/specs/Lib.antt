@@ -1,3 +1,12 @@
 pub mod Device
 pub mod Frames
 pub mod Blocks
+pub mod Numbers
+pub mod Columns
+pub mod Header
+pub mod Carrier
+pub mod Leg
+pub mod Segment
+pub mod Trailer
+pub mod Record
+pub mod Reading

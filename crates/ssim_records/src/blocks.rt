@@ -77,7 +77,7 @@ fn is_fill(block: &[u8; 200]) -> bool
 }
 
 /// The next block that is not fill, of all that the window holds and the reader has left. Each block is counted.
-fn next_other<R: Source>(
+pub fn next_other<R: Source>(
     window: &mut Window,
     came: &mut u128,
     number: &mut u64,

@@ -1,0 +1,37 @@
+-- Any bytes have frames, and only one.
+use Rattle.std.proofs.Common.{◌≡◌, ℕ, zero, suc, ◌+◌, ◌-◌, ◌<◌, ◌≤◌, Bool, true, false, List, [], ◌∷◌, ◌++◌, length, take, drop, refl, sym, ap, ◌∙◌, arith, inl, inr}
+use Rattle.std.specs.Prelude.{nat_lt}
+use Rattle.std.proofs.lemmas.Bool.Decides.{nat_tests}
+use Rattle.std.proofs.lemmas.List.{length-take, length-drop, take-append-drop, length-append}
+use Rattle.ssim_records.specs.Frames.{trim, Frames}
+use Rattle.ssim_records.proofs.LineEnds.{pick, trim_less}
+use Rattle.ssim_records.proofs.Framing.{first_frame, no_frame}
+
+exist_to : (fuel beyond : ℕ) (behind : Bool) (bytes : List ℕ) → length bytes < fuel → (blocks : List (List ℕ)) × ((rest : List ℕ) × Frames beyond behind bytes blocks rest)
+exist_to zero beyond behind bytes few = absurd (omega (arith, few))
+exist_to (suc fuel) beyond behind bytes few =
+    let t = trim behind bytes in
+    let less = trim_less behind bytes in
+    elim (pick (nat_lt (length t) (200 + beyond))) [
+      | inl h ↦ (let short : length t < 200 + beyond = grind (arith, nat_tests, h) in ([], (t, (refl, short))))
+      | inr h ↦ (
+          let long : 200 + beyond ≤ length t = grind (arith, nat_tests, h) in
+          let lens = length-take 200 t in
+          let rest = length-drop 200 t in
+          let more = exist_to fuel beyond true (drop 200 t) (omega (arith, rest, long, less, few)) in
+          (take 200 t ∷ more.0, (more.1.0, (drop 200 t, omega (arith, lens, long), sym (take-append-drop 200 t), omega (arith, rest, long), more.1.1)))
+          )
+    ]
+
+pub frames_exist : (beyond : ℕ) (behind : Bool) (bytes : List ℕ) → (blocks : List (List ℕ)) × ((rest : List ℕ) × Frames beyond behind bytes blocks rest)
+frames_exist beyond behind bytes = exist_to (suc (length bytes)) beyond behind bytes (omega arith)
+
+pub frames_are_one : (beyond : ℕ) (behind : Bool) (bytes : List ℕ) (blocks others : List (List ℕ)) (rest rest' : List ℕ) → Frames beyond behind bytes blocks rest → Frames beyond behind bytes others rest' → (blocks ≡ others) × (rest ≡ rest')
+frames_are_one beyond behind bytes [] others rest rest' h k =
+    let few : length (trim behind bytes) < 200 + beyond = omega (arith, ap length h.0, h.1) in
+    let n = no_frame beyond behind bytes others rest' few k in
+    (sym n.0, sym h.0 ∙ n.1)
+frames_are_one beyond behind bytes (b ∷ bs) others rest rest' h k =
+    let f = first_frame beyond behind bytes b h.0 others rest' h.1 h.2 h.3 k in
+    let later = frames_are_one beyond true h.0 bs f.0 rest rest' h.4 f.2 in
+    (ap (λ (x : List (List ℕ)). b ∷ x) later.0 ∙ sym f.1, later.1)

@@ -1,0 +1,60 @@
+-- Which leg a record speaks of: columns 2 to 13 say one name, and what is written for it is read again.
+use Rattle.std.proofs.Common.{◌≡◌, ℕ, ◌+◌, ◌<◌, ◌≤◌, Bool, true, false, ◌&&◌, ◌||◌, List, [], ◌∷◌, length, Option, Some, None, refl, sym, ap, ◌∙◌, arith, inl, inr}
+use Rattle.std.specs.Prelude.{IsTrue, is_some, ◌==◌}
+use Rattle.std.proofs.lemmas.Bool.Decides.{nat_tests}
+use Rattle.ssim_values.specs.Airline.{is_airline}
+use Rattle.ssim_values.specs.Station.{is_station}
+use Rattle.ssim_values.specs.Flight.{FlightNumber, is_suffix}
+use Rattle.ssim_records.specs.declared.field.Kind.TheVariants.{Suffix, AirlineCode}
+use Rattle.ssim_records.specs.Numbers.{number_of, sequence_of, digits}
+use Rattle.ssim_records.specs.Columns.{columns, fault_in, unless, EachStands}
+use Rattle.ssim_records.specs.Leg.{Name, SpellsName, IsName, name_table}
+use Rattle.ssim_records.proofs.LineEnds.{pick}
+use Rattle.ssim_records.proofs.Numbers.{number_of-digits, sequence_of-digits}
+use Rattle.ssim_records.proofs.Rows.{is_true, stands_by, stands_as}
+
+name_of : List ℕ → ℕ → ℕ → ℕ → ℕ → Name
+name_of airline number suffix variation sequence = record { airline = airline; flight = record { number = number; suffix = suffix }; variation = variation; sequence = sequence }
+
+made : (n : Name) → name_of n.airline n.flight.number n.flight.suffix n.variation n.sequence ≡ n
+unfolding name_of
+made n = refl
+
+pub one_name : (b : List ℕ) (m n : Name) → SpellsName m b → SpellsName n b → m ≡ n
+one_name b m n p q = sym (made m) ∙ (cc) ∙ made n
+
+-- where each part of the name stands in what is written
+pub record NameLies (n : Name) (b : List ℕ) : Type 0 where
+  pub suffix : columns 2 2 b ≡ n.flight.suffix ∷ []
+  pub airline : columns 3 5 b ≡ n.airline
+  pub number : columns 6 9 b ≡ digits 4 n.flight.number
+  pub variation : columns 10 11 b ≡ digits 2 n.variation
+  pub sequence : columns 12 13 b ≡ digits 2 n.sequence
+
+pub spells_name : (n : Name) (b : List ℕ) → IsName n → NameLies n b → SpellsName n b
+spells_name n b fits at =
+    let bound = fits.flight.number_to in
+    record {
+      suffix = at.suffix;
+      airline = at.airline;
+      number = ap number_of at.number ∙ number_of-digits 3 n.flight.number (omega arith);
+      variation = ap number_of at.variation ∙ number_of-digits 1 n.variation fits.variation;
+      sequence = ap sequence_of at.sequence ∙ sequence_of-digits 1 n.sequence fits.sequence_from fits.sequence_to;
+    }
+
+pub name_stands : (n : Name) (b : List ℕ) → IsName n → SpellsName n b → EachStands b name_table
+name_stands n b fits s = (
+  ap (fault_in Suffix) s.suffix ∙ rw (is_true (is_suffix n.flight.suffix) fits.flight.suffixed) refl,
+  (
+    ap (fault_in AirlineCode) s.airline ∙ stands_by (is_airline n.airline) fits.airline,
+    (
+      stands_as (number_of (columns 6 9 b)) n.flight.number s.number,
+      (stands_as (number_of (columns 10 11 b)) n.variation s.variation, (stands_as (sequence_of (columns 12 13 b)) n.sequence s.sequence, tt)),
+    ),
+  ),
+)
+
+-- ---- an airline has three columns
+
+pub length_airline : (t : List ℕ) → IsTrue (is_airline t) → length t ≡ 3
+length_airline t h = elim (pick (length t == 3)) [ inl e ↦ grind (arith, nat_tests, e) | inr f ↦ (let k = simp f at h in absurd cc) ]

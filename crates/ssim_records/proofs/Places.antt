@@ -1,0 +1,68 @@
+-- Parts that stand one after another, each in its place.
+use Rattle.std.proofs.Common.{◌≡◌, ℕ, ◌+◌, ◌-◌, ◌≤◌, List, [], ◌∷◌, ◌++◌, length, take, drop, Option, Some, None, refl, sym, ap, ◌∙◌, append_assoc, arith}
+use Rattle.std.specs.Prelude.{slice_range}
+use Rattle.std.specs.List.{concat, AllZip}
+use Rattle.std.proofs.lemmas.List.{take_at, drop_at, drop-drop, drop-take, length-append}
+use Rattle.ssim_values.specs.Day.{day_of}
+use Rattle.ssim_records.specs.declared.field.Kind.TheVariants.{Dates}
+use Rattle.ssim_records.specs.Columns.{columns, fault_in, dates_fault, end_from}
+use Rattle.ssim_records.proofs.Slices.{slice_in}
+
+-- the parts stand one after another, from place n on, each as wide as it is said to be
+abbrev pub Placed : ℕ → List ℕ → List (List ℕ) → List ℕ → Type 0
+Placed n [] ps b = Unit {0}
+Placed n (w ∷ ws) [] b = Unit {0}
+Placed n (w ∷ ws) (p ∷ ps) b = (slice_range b n (n + w) ≡ p) × Placed (n + w) ws ps b
+
+part_at : (before p after : List ℕ) (n w : ℕ) → n ≡ length before → length p ≡ w → slice_range (before ++ (p ++ after)) n (n + w) ≡ p
+part_at before p after n w at len =
+    let k : (n + w) - n ≡ w = omega arith in
+    rw (k, drop_at before (p ++ after) n (sym at)) (take_at p after w len)
+
+placed : (before : List ℕ) (n : ℕ) (ws : List ℕ) (ps : List (List ℕ)) → n ≡ length before → AllZip (λ w p. length p ≡ w) ws ps → Placed n ws ps (before ++ concat ps)
+placed before n [] ps at h = tt
+placed before n (w ∷ ws) [] at h = tt
+placed before n (w ∷ ws) (p ∷ ps) at h =
+    let later : Placed (n + w) ws ps ((before ++ p) ++ concat ps) = placed (before ++ p) (n + w) ws ps (omega (arith, length-append before p, h.0)) h.1 in
+    (part_at before p (concat ps) n w at h.0, rw (← append_assoc before p (concat ps)) later)
+
+pub all_placed : (ws : List ℕ) (ps : List (List ℕ)) → AllZip (λ w p. length p ≡ w) ws ps → Placed 0 ws ps (concat ps)
+all_placed ws ps h = placed [] 0 ws ps refl h
+
+abbrev pub sum_of : List ℕ → ℕ
+sum_of [] = 0
+sum_of (w ∷ ws) = w + sum_of ws
+
+-- all of them are as long as their widths together
+pub length_concat : (ws : List ℕ) (ps : List (List ℕ)) → AllZip (λ w p. length p ≡ w) ws ps → length ws ≡ length ps → length (concat ps) ≡ sum_of ws
+length_concat [] [] h e = refl
+length_concat [] (p ∷ ps) h e = absurd (omega (arith, e))
+length_concat (w ∷ ws) [] h e = absurd (omega (arith, e))
+length_concat (w ∷ ws) (p ∷ ps) h e = omega (arith, length-append p (concat ps), h.0, length_concat ws ps h.1 (omega (arith, e)))
+
+-- ---- a start and an end
+
+pub first_day_in : (b : List ℕ) → take 7 (slice_range b 14 28) ≡ slice_range b 14 21
+first_day_in b = slice_in b 14 28 0 7 (omega arith) (omega arith)
+
+pub last_day_in : (b : List ℕ) → drop 7 (slice_range b 14 28) ≡ slice_range b 21 28
+last_day_in b = drop-take 7 7 (drop 14 b) ∙ ap (take 7) (drop-drop 7 14 b)
+
+pub no_first_day : (b : List ℕ) → fault_in Dates (columns 15 28 b) ≡ None → day_of (columns 15 21 b) ≡ None → ⊥
+unfolding dates_fault
+no_first_day b s h =
+    let e : day_of (take 7 (slice_range b 14 28)) ≡ None = ap day_of (first_day_in b) ∙ h in
+    let t = rw e at s in
+    cc
+
+pub no_last_day : (b : List ℕ) (start : ℕ) → fault_in Dates (columns 15 28 b) ≡ None → day_of (columns 15 21 b) ≡ Some start → end_from (Some start) (columns 22 28 b) ≡ None → ⊥
+unfolding dates_fault
+no_last_day b start s p h =
+    let e : day_of (take 7 (slice_range b 14 28)) ≡ Some start = ap day_of (first_day_in b) ∙ p in
+    let f : end_from (Some start) (drop 7 (slice_range b 14 28)) ≡ None = ap (end_from (Some start)) (last_day_in b) ∙ h in
+    let t = rw (e, f) at s in
+    cc
+
+pub dates_stand : (b : List ℕ) (start : ℕ) (o : Option ℕ) → day_of (columns 15 21 b) ≡ Some start → end_from (Some start) (columns 22 28 b) ≡ Some o → fault_in Dates (columns 15 28 b) ≡ None
+unfolding dates_fault
+dates_stand b start o p q = rw (first_day_in b, last_day_in b, p, q) refl

@@ -1,0 +1,99 @@
+-- Reading the records of a stream: what is ahead, and the answers to it.
+use Rattle.std.specs.Prelude.{ℕ, ◌≡◌, ◌+◌, ◌-◌, ◌%◌, ◌^◌, ◌<◌, List, [], ◌∷◌, ◌++◌, length, nat_lt, Option, Some, None, Result, Ok, Err}
+use Rattle.ssim_records.specs.declared.fault.RecordFault.{RecordFault}
+use Rattle.ssim_records.specs.declared.fault.RecordFault.TheVariants.{Short, BadType, BadColumn, ReadFault, ReaderNeverEnds}
+use Rattle.ssim_records.specs.declared.record.Record.{Record}
+use Rattle.ssim_records.specs.declared.records.Ending.{Ending}
+use Rattle.ssim_records.specs.declared.records.Ending.TheVariants.{End, Refused}
+use Rattle.ssim_records.specs.Frames.{Frames, others}
+use Rattle.ssim_records.specs.Blocks.{beyond}
+use Rattle.ssim_records.specs.Record.{Spells, fault_of}
+
+-- a reading: how many bytes may come, how many came, how many records were counted, which bytes are held, and how it
+-- ended
+pub record Reading : Type 0 where
+  pub limit : ℕ
+  pub came : ℕ
+  pub number : ℕ
+  pub held : List ℕ
+  pub ended : Option Ending
+
+-- The bytes that are held, followed by those that the reader has left, are these blocks and this rest. No block reaches
+-- behind the limit.
+abbrev pub IsAhead : Reading → List ℕ → List (List ℕ) → List ℕ → Type 0
+IsAhead r left blocks rest = Frames (beyond r.limit r.came left) (nat_lt 0 r.number) (r.held ++ left) blocks rest
+
+abbrev pub Answer : Type 0
+Answer = Result (Option (ℕ × Record)) RecordFault
+
+-- no block but fill is left, and the fault's number is that behind the last
+abbrev pub IsLast : Reading → List (List ℕ) → Reading → Type 0
+IsLast old blocks new = (others old.number blocks ≡ []) × (new.number ≡ old.number + length blocks)
+
+-- the next block that is not fill is this, with this number
+abbrev pub IsNext : Reading → List (List ℕ) → Reading → List ℕ → List (List ℕ) → Type 0
+IsNext old blocks new block later =
+    (others old.number blocks ≡ (new.number, block) ∷ others new.number later) × (new.number + length later ≡ old.number + length blocks)
+
+-- the fault that a block has
+abbrev pub IsRefused : Reading → List (List ℕ) → Reading → RecordFault → Type 0
+IsRefused old blocks new fault = (block : List ℕ) × (later : List (List ℕ)) × IsNext old blocks new block later × (fault_of new.number block ≡ Some fault)
+
+-- The answer, where these blocks and this rest are ahead: the record that the next block other than fill spells, with
+-- its number, and then what stands behind it is ahead; or the block's fault; or the end, a rest that is cut, or more
+-- bytes than the limit. A reader that failed had given fill alone.
+abbrev pub Answers : Reading → List ℕ → List (List ℕ) → List ℕ → Reading → (List (List ℕ) → Type 0) → Answer → Type 0
+Answers old left blocks rest new After (Ok None) = IsLast old blocks new × (rest ≡ []) × (beyond old.limit old.came left ≡ 0)
+Answers old left blocks rest new After (Ok (Some found)) =
+    (block : List ℕ) × (later : List (List ℕ)) × IsNext old blocks new block later × (found.0 ≡ new.number) × Spells found.1 block × After later
+Answers old left blocks rest new After (Err (Short n)) = IsLast old blocks new × (0 < length rest) × (length rest < 200) × (beyond old.limit old.came left ≡ 0)
+Answers old left blocks rest new After (Err (BadType n)) = IsRefused old blocks new (BadType n)
+Answers old left blocks rest new After (Err (BadColumn n column)) = IsRefused old blocks new (BadColumn n column)
+Answers old left blocks rest new After (Err (ReadFault n)) =
+    (later : List (List ℕ)) × (others old.number blocks ≡ others new.number later) × (new.number + length later ≡ old.number + length blocks)
+Answers old left blocks rest new After (Err (ReaderNeverEnds n)) = IsLast old blocks new × (0 < beyond old.limit old.came left)
+
+-- what is given where the reader tells its bytes, whatever they are
+abbrev pub GivesNext : Reading → Option (List ℕ) → Reading → Option (List ℕ) → Answer → Type 0
+GivesNext old None new left' result = Unit {0}
+GivesNext old (Some left) new None result = ⊥
+GivesNext old (Some left) new (Some left') result =
+    (new.came + length left' ≡ old.came + length left)
+    × ((blocks : List (List ℕ)) → (rest : List ℕ) → IsAhead old left blocks rest
+    → Answers old left blocks rest new (λ later. IsAhead new left' later rest) result)
+
+-- A refused record has the number of those counted, and any other refusal one more.
+abbrev pub HasNumber : ℕ → Answer → Type 0
+HasNumber number (Ok None) = Unit {0}
+HasNumber number (Ok (Some found)) = found.0 ≡ number
+HasNumber number (Err (Short n)) = n ≡ number + 1
+HasNumber number (Err (BadType n)) = n ≡ number
+HasNumber number (Err (BadColumn n column)) = n ≡ number
+HasNumber number (Err (ReadFault n)) = n ≡ number + 1
+HasNumber number (Err (ReaderNeverEnds n)) = n ≡ number + 1
+
+-- a failure of the reader was counted exactly where the answer is a read fault
+abbrev pub FailsAs : ℕ → ℕ → Answer → Type 0
+FailsAs old new (Ok found) = new ≡ old
+FailsAs old new (Err (Short n)) = new ≡ old
+FailsAs old new (Err (BadType n)) = new ≡ old
+FailsAs old new (Err (BadColumn n column)) = new ≡ old
+FailsAs old new (Err (ReadFault n)) = new ≡ (old + 1) % 2 ^ 64
+FailsAs old new (Err (ReaderNeverEnds n)) = new ≡ old
+
+-- More bytes than the limit came, and no record is held that ends within it.
+abbrev pub NeverEnds : Reading → Answer → Type 0
+NeverEnds new (Ok found) = Unit {0}
+NeverEnds new (Err (ReaderNeverEnds n)) = (new.limit < new.came) × (length new.held < 201)
+NeverEnds new (Err fault) = Unit {0}
+
+-- what an ended reading answers
+abbrev pub last_answer : Ending → Answer
+last_answer End = Ok None
+last_answer (Refused fault) = Err fault
+
+-- the end that an answer is
+abbrev pub ending_of : Answer → Option Ending
+ending_of (Ok None) = Some End
+ending_of (Ok (Some found)) = None
+ending_of (Err fault) = Some (Refused fault)

@@ -1,0 +1,102 @@
+//! Which leg a record of type 3 or 4 speaks of.
+
+ghost use Rattle.std.specs.Prelude.{◌≡◌, ◌<◌, IsSome};
+ghost use Rattle.ssim_records.specs.Columns.{EachStands};
+ghost use Rattle.ssim_records.specs.Leg.{Name, IsName, SpellsName, name_table};
+
+use crate::columns::{airline_at, number_at, sequence_at, suffix_at};
+use ssim_values::{Airline, Flight};
+use std::marker::Model;
+
+/// Which leg a record of type 3 or 4 speaks of: an airline's flight, the itinerary variation and the leg sequence, in
+/// columns 2 to 13. Names are ordered by airline, flight, variation and sequence.
+#[derive(Clone, Copy, Debug, PartialEq, Eq, PartialOrd, Ord, Hash)]
+pub struct LegName {
+    airline: Airline,
+    flight: Flight,
+    /// 0 to 99.
+    variation: u8,
+    /// 1 to 99.
+    sequence: u8,
+}
+
+impl Model for LegName {
+    ghost use Rattle.ssim_records.specs.Leg.{Name, IsName};
+
+    ghost Value = { Name };
+
+    ghost view = { λ n. record { airline = n.airline; flight = n.flight; variation = n.variation; sequence = n.sequence } };
+
+    ghost invariant = { λ n. IsName (record { airline = n.airline; flight = n.flight; variation = n.variation; sequence = n.sequence }) };
+
+    ghost inverse = { λ v. record { airline = v.airline; flight = v.flight; variation = v.variation; sequence = v.sequence } };
+}
+
+/// The name in columns 2 to 13.
+pub(crate) fn name_at(bytes: &[u8; 200]) -> LegName
+    requires { EachStands bytes.now name_table }
+    ensures spells { SpellsName result bytes.now }
+    ensures is_name { IsName result }
+{
+    let number = number_at(bytes, 6, 9);
+    let Some(flight) = Flight::new(number as u16, suffix_at(bytes)) else {
+        unreachable!();
+    };
+    LegName {
+        airline: airline_at(bytes),
+        flight,
+        variation: number_at(bytes, 10, 11) as u8,
+        sequence: sequence_at(bytes, 12, 13) as u8,
+    }
+}
+
+impl LegName {
+    /// The name of a leg of a flight.
+    pub fn new(airline: Airline, flight: Flight, variation: u8, sequence: u8) -> LegName
+        requires variation { variation < 100 }
+        requires sequence_from { 0 < sequence }
+        requires sequence_to { sequence < 100 }
+        ensures { result ≡ record { airline = airline; flight = flight; variation = variation; sequence = sequence } }
+    {
+        let _ = airline.write();
+        let _ = flight.number();
+        let _ = flight.suffix();
+        LegName {
+            airline,
+            flight,
+            variation,
+            sequence,
+        }
+    }
+
+    /// The airline whose flight it is.
+    pub fn airline(self) -> Airline
+        ensures { result ≡ self.airline }
+    {
+        self.airline
+    }
+
+    /// The flight.
+    pub fn flight(self) -> Flight
+        ensures { result ≡ self.flight }
+    {
+        self.flight
+    }
+
+    /// The itinerary variation, 0 to 99.
+    pub fn variation(self) -> u8
+        ensures value { result ≡ self.variation }
+        ensures bound { result < 100 }
+    {
+        self.variation
+    }
+
+    /// The leg sequence, 1 to 99.
+    pub fn sequence(self) -> u8
+        ensures value { result ≡ self.sequence }
+        ensures from { 0 < result }
+        ensures to { result < 100 }
+    {
+        self.sequence
+    }
+}

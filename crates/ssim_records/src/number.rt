@@ -1,0 +1,115 @@
+//! Numbers in the columns of a record.
+
+ghost use Rattle.std.specs.Prelude.{◌≡◌, ◌≤◌, ◌<◌, ◌+◌, ◌%◌, ◌^◌, length, IfSome};
+ghost use Rattle.ssim_values.specs.Characters.{is_digit};
+ghost use Rattle.ssim_records.specs.Numbers.{digits_of, drop_blanks, drop_blanks_at_end, number_of, sequence_of, digits};
+
+fn is_digit(byte: u8) -> bool
+    ensures { result ≡ is_digit byte }
+{
+    byte.is_ascii_digit()
+}
+
+/// The number that digits alone spell.
+#[tactic(auto, unfolding(crate::specs::Numbers::digits_of))]
+pub fn digits_of(text: &[u8]) -> Option<u32>
+    requires { length text.now ≤ 6 }
+    ensures below { IfSome result (λ number. number < 10 ^ length text.now) }
+    ensures value { result ≡ digits_of text.now }
+{
+    if text.is_empty() {
+        return None;
+    }
+    let mut number: u32 = 0;
+    for byte in text {
+        if !is_digit(*byte) {
+            return None;
+        }
+        number = number * 10 + (*byte - b'0') as u32;
+    }
+    Some(number)
+}
+
+fn drop_blanks(text: &[u8]) -> &[u8]
+    ensures len { length result.now ≤ length text.now }
+    ensures value { result.now ≡ drop_blanks text.now }
+{
+    let mut text = text;
+    while let [b' ', rest @ ..] = text {
+        text = rest;
+    }
+    text
+}
+
+#[tactic(auto, unfolding(crate::specs::Numbers::drop_blanks_at_end))]
+fn drop_blanks_at_end(text: &[u8]) -> &[u8]
+    ensures len { length result.now ≤ length text.now }
+    ensures value { result.now ≡ drop_blanks_at_end text.now }
+{
+    let mut text = text;
+    while let [rest @ .., b' '] = text {
+        text = rest;
+    }
+    text
+}
+
+/// The number that digits spell, with blanks before or after.
+#[tactic(auto, unfolding(crate::specs::Numbers::number_of))]
+pub fn number_of(text: &[u8]) -> Option<u32>
+    requires { length text.now ≤ 6 }
+    ensures below { IfSome result (λ number. number < 10 ^ length text.now) }
+    ensures value { result ≡ number_of text.now }
+{
+    digits_of(drop_blanks_at_end(drop_blanks(text)))
+}
+
+/// The same from 1.
+#[tactic(auto, unfolding(crate::specs::Numbers::sequence_of))]
+pub fn sequence_of(text: &[u8]) -> Option<u32>
+    requires { length text.now ≤ 6 }
+    ensures below { IfSome result (λ number. (0 < number) × (number < 10 ^ length text.now)) }
+    ensures value { result ≡ sequence_of text.now }
+{
+    match number_of(text) {
+        Some(0) | None => None,
+        Some(number) => Some(number),
+    }
+}
+
+fn digit(number: u32) -> u8
+    ensures { result ≡ 48 + number % 10 }
+{
+    b'0' + (number % 10) as u8
+}
+
+pub fn two_digits(number: u32) -> [u8; 2]
+    ensures { result ≡ digits 2 number }
+{
+    [digit(number / 10), digit(number)]
+}
+
+pub fn four_digits(number: u32) -> [u8; 4]
+    ensures { result ≡ digits 4 number }
+{
+    let hundreds = number / 10 / 10;
+    [
+        digit(hundreds / 10),
+        digit(hundreds),
+        digit(number / 10),
+        digit(number),
+    ]
+}
+
+pub fn six_digits(number: u32) -> [u8; 6]
+    ensures { result ≡ digits 6 number }
+{
+    let thousands = number / 10 / 10 / 10;
+    [
+        digit(thousands / 10 / 10),
+        digit(thousands / 10),
+        digit(thousands),
+        digit(number / 10 / 10),
+        digit(number / 10),
+        digit(number),
+    ]
+}

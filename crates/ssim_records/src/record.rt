@@ -1,0 +1,188 @@
+//! A record of any type.
+
+ghost use Rattle.std.specs.Prelude.{◌≡◌, ◌<◌, ◌↔◌, ◌∷◌, [], Ok, Some, IfOk, IfErr, IsTrue};
+ghost use Rattle.ssim_records.specs.Columns.{columns};
+ghost use Rattle.ssim_records.specs.declared.record.Record.{Record};
+ghost use Rattle.ssim_records.specs.Frames.{FramesExist, FramesAreOne};
+ghost use Rattle.ssim_records.specs.Record.{Spells, IsRecord, written, fault_of, with_serial, serial_of, WrittenIsFramed, WrittenSpells};
+
+use crate::carrier::{Carrier, read_carrier};
+use crate::fault::RecordFault;
+use crate::header::{Header, read_header};
+use crate::leg::{LegRecord, read_leg};
+use crate::segment::{SegmentRecord, read_segment};
+use crate::trailer::{Trailer, read_trailer};
+
+/// A record of chapter 7, by its type in column 1.
+#[derive(Clone, Copy, Debug)]
+pub enum Record {
+    /// Type 1.
+    Header(Header),
+    /// Type 2.
+    Carrier(Carrier),
+    /// Type 3.
+    Leg(LegRecord),
+    /// Type 4.
+    Segment(SegmentRecord),
+    /// Type 5.
+    Trailer(Trailer),
+}
+
+fn kind_of(bytes: &[u8; 200]) -> u8
+    ensures { columns 1 1 bytes.now ≡ result ∷ [] }
+{
+    bytes[0]
+}
+
+fn header_record(bytes: &[u8; 200], number: u64) -> Result<Record, RecordFault>
+    requires { columns 1 1 bytes.now ≡ 49 ∷ [] }
+    ensures ok { IfOk result (λ r. Spells r bytes.now) }
+    ensures only { (r : Record) → Spells r bytes.now → result ≡ Ok r }
+    ensures err { IfErr result (λ e. fault_of number bytes.now ≡ Some e) }
+{
+    match read_header(bytes) {
+        Ok(header) => Ok(Record::Header(header)),
+        Err(column) => Err(RecordFault::BadColumn(number, column)),
+    }
+}
+
+fn carrier_record(bytes: &[u8; 200], number: u64) -> Result<Record, RecordFault>
+    requires { columns 1 1 bytes.now ≡ 50 ∷ [] }
+    ensures ok { IfOk result (λ r. Spells r bytes.now) }
+    ensures only { (r : Record) → Spells r bytes.now → result ≡ Ok r }
+    ensures err { IfErr result (λ e. fault_of number bytes.now ≡ Some e) }
+{
+    match read_carrier(bytes) {
+        Ok(carrier) => Ok(Record::Carrier(carrier)),
+        Err(column) => Err(RecordFault::BadColumn(number, column)),
+    }
+}
+
+fn leg_record(bytes: &[u8; 200], number: u64) -> Result<Record, RecordFault>
+    requires { columns 1 1 bytes.now ≡ 51 ∷ [] }
+    ensures ok { IfOk result (λ r. Spells r bytes.now) }
+    ensures only { (r : Record) → Spells r bytes.now → result ≡ Ok r }
+    ensures err { IfErr result (λ e. fault_of number bytes.now ≡ Some e) }
+{
+    match read_leg(bytes) {
+        Ok(leg) => Ok(Record::Leg(leg)),
+        Err(column) => Err(RecordFault::BadColumn(number, column)),
+    }
+}
+
+fn segment_record(bytes: &[u8; 200], number: u64) -> Result<Record, RecordFault>
+    requires { columns 1 1 bytes.now ≡ 52 ∷ [] }
+    ensures ok { IfOk result (λ r. Spells r bytes.now) }
+    ensures only { (r : Record) → Spells r bytes.now → result ≡ Ok r }
+    ensures err { IfErr result (λ e. fault_of number bytes.now ≡ Some e) }
+{
+    match read_segment(bytes) {
+        Ok(segment) => Ok(Record::Segment(segment)),
+        Err(column) => Err(RecordFault::BadColumn(number, column)),
+    }
+}
+
+fn trailer_record(bytes: &[u8; 200], number: u64) -> Result<Record, RecordFault>
+    requires { columns 1 1 bytes.now ≡ 53 ∷ [] }
+    ensures ok { IfOk result (λ r. Spells r bytes.now) }
+    ensures only { (r : Record) → Spells r bytes.now → result ≡ Ok r }
+    ensures err { IfErr result (λ e. fault_of number bytes.now ≡ Some e) }
+{
+    match read_trailer(bytes) {
+        Ok(trailer) => Ok(Record::Trailer(trailer)),
+        Err(column) => Err(RecordFault::BadColumn(number, column)),
+    }
+}
+
+/// The record that 200 bytes spell, or the fault at this record number.
+pub(crate) fn read_numbered(bytes: &[u8; 200], number: u64) -> Result<Record, RecordFault>
+    ensures ok { IfOk result (λ r. Spells r bytes.now) }
+    ensures only { (r : Record) → Spells r bytes.now → result ≡ Ok r }
+    ensures err { IfErr result (λ e. fault_of number bytes.now ≡ Some e) }
+{
+    match kind_of(bytes) {
+        b'1' => header_record(bytes, number),
+        b'2' => carrier_record(bytes, number),
+        b'3' => leg_record(bytes, number),
+        b'4' => segment_record(bytes, number),
+        b'5' => trailer_record(bytes, number),
+        _ => Err(RecordFault::BadType(number)),
+    }
+}
+
+/// The record that 200 bytes spell. A refusal is 11 `BadType` or 12 `BadColumn`, with record number 0.
+pub fn read_record(bytes: &[u8; 200]) -> Result<Record, RecordFault>
+    ensures ok { IfOk result (λ r. Spells r bytes.now) }
+    ensures only { (r : Record) → Spells r bytes.now → result ≡ Ok r }
+    ensures err { IfErr result (λ e. fault_of 0 bytes.now ≡ Some e) }
+{
+    read_numbered(bytes, 0)
+}
+
+/// The one written spelling of a record. It is read back as this record.
+pub fn write_record(value: &Record) -> [u8; 200]
+    ensures value { result ≡ written value.now }
+    ensures spells { Spells value.now result }
+    ensures is_record { IsRecord value.now }
+{
+    match value {
+        Record::Header(header) => header.written(),
+        Record::Carrier(carrier) => carrier.written(),
+        Record::Leg(leg) => leg.written(),
+        Record::Segment(segment) => segment.written(),
+        Record::Trailer(trailer) => trailer.written(),
+    }
+}
+
+/// Any bytes have frames, and only one blocks and rest: what `Records::next` says of the frames of what is ahead, it
+/// says of some.
+pub fn frames_are_one()
+    ensures exist { FramesExist }
+    ensures one { FramesAreOne }
+{}
+
+/// Records that are written one after another, each with LF and with fill between them, are read back: by frames as
+/// these blocks, with their numbers, and each block spells its record.
+pub fn written_records_read_back()
+    ensures frames { WrittenIsFramed }
+    ensures spells { WrittenSpells }
+{}
+
+impl Record {
+    /// Whether two records are the same: their written spellings are, and each spelling is of one record.
+    pub fn same(&self, other: &Record) -> bool
+        ensures { IsTrue result ↔ (self.now ≡ other.now) }
+    {
+        write_record(self).as_slice() == write_record(other).as_slice()
+    }
+
+    /// The serial that the record had.
+    pub fn serial(&self) -> u32
+        ensures { result ≡ serial_of self.now }
+    {
+        match self {
+            Record::Header(header) => header.serial(),
+            Record::Carrier(carrier) => carrier.serial(),
+            Record::Leg(leg) => leg.serial(),
+            Record::Segment(segment) => segment.serial(),
+            Record::Trailer(trailer) => trailer.serial(),
+        }
+    }
+
+    /// The same record with this serial.
+    pub fn with_serial(self, serial: u32) -> Record
+        requires { serial < 1000000 }
+        ensures { result ≡ with_serial serial self }
+    {
+        match self {
+            Record::Header(header) => Record::Header(header.with_serial(serial)),
+            Record::Carrier(carrier) => Record::Carrier(carrier.with_serial(serial)),
+            Record::Leg(leg) => Record::Leg(leg.with_serial(serial)),
+            Record::Segment(segment) => Record::Segment(segment.with_serial(serial)),
+            Record::Trailer(trailer) => {
+                let check = trailer.check();
+                Record::Trailer(trailer.with_serials(check, serial))
+            }
+        }
+    }
+}

@@ -1,0 +1,120 @@
+//! The records of a stream, one after another.
+
+ghost use Rattle.std.specs.Prelude.{◌≡◌, ◌<◌, [], IfNone, IfSome};
+ghost use Rattle.ssim_records.specs.Blocks.{CountsOn};
+ghost use Rattle.ssim_records.specs.Reading.{GivesNext, HasNumber, FailsAs, NeverEnds, last_answer, ending_of};
+
+use crate::blocks::{Stop, next_other};
+use crate::device::Source;
+use crate::fault::RecordFault;
+use crate::record::{Record, read_numbered};
+use crate::window::Window;
+use std::marker::Model;
+
+/// How a reading ended.
+#[derive(Clone, Copy, Debug, PartialEq, Eq)]
+pub enum Ending {
+    End,
+    Refused(RecordFault),
+}
+
+/// A reading of the records of a stream: blocks of 200 bytes, each followed by any number of line ends, LF or CR LF.
+/// A block of 200 zero digits is fill: it is counted and passed over. The same reader is handed in at each call.
+///
+/// A refusal is 10 `Short`, 11 `BadType`, 12 `BadColumn`, 13 `ReadFault` or 14 `ReaderNeverEnds`, with the record
+/// number from 1. At most one byte more than the limit is fetched.
+#[derive(Drop)]
+pub struct Records {
+    /// How many bytes may come.
+    limit: u64,
+    /// How many came, at most one more than the limit.
+    came: u128,
+    /// How many records were given or were fill.
+    number: u64,
+    /// The bytes that came and are not used.
+    window: Window,
+    /// The answer that comes again.
+    ended: Option<Ending>,
+}
+
+impl Model for Records {
+    ghost use Rattle.std.specs.Prelude.{◌≤◌, ◌+◌, ◌*◌, length};
+    ghost use Rattle.ssim_records.specs.Reading.{Reading};
+
+    ghost Value = { Reading };
+
+    ghost view = { λ r. record { limit = r.limit; came = r.came; number = r.number; held = r.window; ended = r.ended } };
+
+    ghost invariant = { λ r. (r.came ≤ r.limit + 1) × (200 * r.number + length r.window ≤ r.came) };
+}
+
+impl Records {
+    /// A reading that gives a reader up once more than `limit` bytes came.
+    pub fn new(limit: u64) -> Records
+        ensures { result ≡ record { limit = limit; came = 0; number = 0; held = []; ended = None } }
+    {
+        Records {
+            limit,
+            came: 0,
+            number: 0,
+            window: Window::new(),
+            ended: None,
+        }
+    }
+
+    fn answer<R: Source>(&mut self, reader: &mut R) -> Result<Option<(u64, Record)>, RecordFault>
+        ensures limit { self.new.limit ≡ self.old.limit }
+        ensures record { GivesNext self.old (R.left reader.old) self.new (R.left reader.new) result }
+        ensures number { HasNumber self.new.number result }
+        ensures never_ends { NeverEnds self.new result }
+        ensures fault { FailsAs (R.failures reader.old) (R.failures reader.new) result }
+        ensures count { CountsOn (R.left reader.old) (R.left reader.new) (R.came reader.old) (R.came reader.new) self.old.came self.new.came }
+    {
+        match next_other(
+            &mut self.window,
+            &mut self.came,
+            &mut self.number,
+            self.limit,
+            reader,
+        ) {
+            Ok(None) => Ok(None),
+            Ok(Some(block)) => match read_numbered(&block, self.number) {
+                Ok(record) => Ok(Some((self.number, record))),
+                Err(fault) => Err(fault),
+            },
+            Err(Stop::Short) => Err(RecordFault::Short(self.number + 1)),
+            Err(Stop::ReadFault) => Err(RecordFault::ReadFault(self.number + 1)),
+            Err(Stop::ReaderNeverEnds) => Err(RecordFault::ReaderNeverEnds(self.number + 1)),
+        }
+    }
+
+    /// The next record that is not fill, and its number. After the end, and after a refusal, the answer stays.
+    pub fn next<R: Source>(&mut self, reader: &mut R) -> Result<Option<(u64, Record)>, RecordFault>
+        // An answer that ended the reading comes again, and nothing else happens.
+        ensures again { IfSome self.old.ended (λ e. (result ≡ last_answer e) × (self.new ≡ self.old) × (reader.new ≡ reader.old)) }
+        ensures ended { self.new.ended ≡ ending_of result }
+        ensures limit { self.new.limit ≡ self.old.limit }
+
+        // Where the reader tells its bytes, the answer is the next record of what is ahead.
+        ensures record { IfNone self.old.ended (GivesNext self.old (R.left reader.old) self.new (R.left reader.new) result) }
+        ensures number { IfNone self.old.ended (HasNumber self.new.number result) }
+
+        // 13 comes where the reader failed, 14 behind the limit, and the bytes that came are those of the reader.
+        ensures fault { IfNone self.old.ended (FailsAs (R.failures reader.old) (R.failures reader.new) result) }
+        ensures never_ends { IfNone self.old.ended (NeverEnds self.new result) }
+        ensures count { IfNone self.old.ended (CountsOn (R.left reader.old) (R.left reader.new) (R.came reader.old) (R.came reader.new) self.old.came self.new.came) }
+    {
+        match self.ended {
+            Some(Ending::End) => return Ok(None),
+            Some(Ending::Refused(fault)) => return Err(fault),
+            None => {}
+        }
+        let answer = self.answer(reader);
+        self.ended = match &answer {
+            Ok(None) => Some(Ending::End),
+            Ok(Some(_)) => None,
+            Err(fault) => Some(Ending::Refused(*fault)),
+        };
+        answer
+    }
+}

@@ -1,0 +1,119 @@
+//! The columns of a segment record that are its own.
+
+ghost use Rattle.std.specs.Prelude.{◌≡◌, ◌≤◌, ◌+◌, ◌↔◌, length, IsSome, IfSome};
+ghost use Rattle.ssim_records.specs.Columns.{EachStands};
+ghost use Rattle.ssim_records.specs.Segment.{IsTail, tail_of, tail_columns, segment_table};
+
+use crate::columns::join;
+use crate::field::{are_carried, three, two};
+use std::marker::Model;
+
+/// The tail of a segment record: the bytes of its columns 15 to 27 and 29 to 194, all carried. The readers say columns
+/// as the record counts them.
+#[derive(Clone, Copy, Debug, PartialEq, Eq, Hash)]
+pub struct SegmentTail {
+    bytes: [u8; 179],
+}
+
+impl Model for SegmentTail {
+    ghost use Rattle.std.specs.Prelude.{List, ℕ};
+    ghost use Rattle.ssim_records.specs.Segment.{IsTail};
+
+    ghost Value = { List ℕ };
+
+    ghost view = { λ s. s.bytes };
+
+    ghost invariant = { λ s. IsTail s.bytes };
+
+    ghost inverse = { λ v. record { bytes = v } };
+}
+
+/// The tail in a record.
+pub(crate) fn tail_at(bytes: &[u8; 200]) -> SegmentTail
+    requires { EachStands bytes.now segment_table }
+    ensures value { tail_of bytes.now ≡ result }
+    ensures is_tail { IsTail result }
+{
+    let mut tail = [0; 179];
+    join(&mut tail, &[&bytes[14..27], &bytes[28..194]]);
+    SegmentTail { bytes: tail }
+}
+
+/// Columns from 29 to 194.
+fn part(tail: &[u8; 179], first: usize, last: usize) -> &[u8]
+    requires from { 29 ≤ first }
+    requires some { first ≤ last }
+    requires to { last ≤ 194 }
+    ensures len { length result.now + first ≡ last + 1 }
+    ensures value { result.now ≡ tail_columns first last tail.now }
+{
+    &tail[first - 16..last - 15]
+}
+
+impl SegmentTail {
+    /// The tail, where each of its bytes can be carried.
+    pub fn of(bytes: &[u8; 179]) -> Option<SegmentTail>
+        ensures some { IsSome result ↔ IsTail bytes.now }
+        ensures value { IfSome result (λ tail. tail ≡ bytes.now) }
+    {
+        if are_carried(bytes) {
+            Some(SegmentTail { bytes: *bytes })
+        } else {
+            None
+        }
+    }
+
+    /// The bytes of columns 15 to 27 and 29 to 194.
+    pub fn bytes(&self) -> [u8; 179]
+        ensures value { result ≡ self.now }
+        ensures is_tail { IsTail result }
+    {
+        self.bytes
+    }
+
+    /// Columns 15 to 27, carried.
+    pub fn columns_15_to_27(&self) -> [u8; 13]
+        ensures { result ≡ tail_columns 15 27 self.now }
+    {
+        let mut bytes = [0; 13];
+        bytes.copy_from_slice(&self.bytes[0..13]);
+        bytes
+    }
+
+    /// Columns 29 and 30: the indicators of board and off point.
+    pub fn point_indicators(&self) -> [u8; 2]
+        ensures { result ≡ tail_columns 29 30 self.now }
+    {
+        two(part(&self.bytes, 29, 30))
+    }
+
+    /// Columns 31 to 33: the data element identifier.
+    pub fn data_element_identifier(&self) -> [u8; 3]
+        ensures { result ≡ tail_columns 31 33 self.now }
+    {
+        three(part(&self.bytes, 31, 33))
+    }
+
+    /// Columns 34 to 36: the board point.
+    pub fn board_point(&self) -> [u8; 3]
+        ensures { result ≡ tail_columns 34 36 self.now }
+    {
+        three(part(&self.bytes, 34, 36))
+    }
+
+    /// Columns 37 to 39: the off point.
+    pub fn off_point(&self) -> [u8; 3]
+        ensures { result ≡ tail_columns 37 39 self.now }
+    {
+        three(part(&self.bytes, 37, 39))
+    }
+
+    /// Columns 40 to 194: the data.
+    pub fn data(&self) -> [u8; 155]
+        ensures { result ≡ tail_columns 40 194 self.now }
+    {
+        let mut bytes = [0; 155];
+        bytes.copy_from_slice(part(&self.bytes, 40, 194));
+        bytes
+    }
+}
