@@ -1,5 +1,5 @@
 -- Days of a weekday, counted by arithmetic.
-use Rattle.std.proofs.Common.{◌≡◌, ℕ, zero, suc, ◌+◌, ◌-◌, ◌*◌, ◌%◌, ◌<◌, ◌≤◌, Bool, true, false, ◌&&◌, if◌then◌else◌, nat_eq, nat_lt, List, [], ◌∷◌, map, length, refl, ap, ◌∙◌, sym, ◌≢◌, slice_index_or, slice_set, add-one, get_or-set_same, get_or-set_other, arith, ◌⊎◌, inl, inr}
+use Rattle.std.proofs.Common.{subst, ◌≡◌, ℕ, zero, suc, ◌+◌, ◌-◌, ◌*◌, ◌%◌, ◌<◌, ◌≤◌, Bool, true, false, ◌&&◌, if◌then◌else◌, nat_eq, nat_lt, List, [], ◌∷◌, map, length, refl, ap, ◌∙◌, sym, ◌≢◌, slice_index_or, slice_set, add-one, get_or-set_same, get_or-set_other, arith, ◌⊎◌, inl, inr}
 use Rattle.std.specs.List.{range_with_len}
 use Rattle.std.proofs.lemmas.Bool.Decides.{nat_tests}
 use Rattle.ssim_periods.specs.Calendar.{slot, day_count}
@@ -289,3 +289,25 @@ with_days-own mask from n to l h =
 -- a stretch up to the end of its range has a day
 pub longer : (cuts : List ℕ) (day next end p : ℕ) → p ≡ place cuts day → day < end → (next < end → (p < length cuts) × (next ≡ slice_index_or cuts p 0)) → next ≤ end → day < next
 longer cuts day next end p at lt cut le = elim (le_or_lt end next) [ inl h ↦ omega arith | inr h ↦ let f = cut h in let g = place-next-after cuts day (omega arith) in let e : slice_index_or cuts p 0 ≡ slice_index_or cuts (place cuts day) 0 = ap (λ i. slice_index_or cuts i 0) at in omega arith ]
+
+-- a stretch from a day to the end of its range, or to an earlier end
+pub record Reaches (cuts : List ℕ) (day next end p : ℕ) : Type 0 where
+  pub at : p ≡ place cuts day
+  pub long : day < next
+  pub stays : (n : ℕ) → day ≤ n → n < next → place cuts n ≡ place cuts day
+  pub next_at : next < end → p + 1 ≡ place cuts next
+
+pub reaches : (cuts seen read : List ℕ) (day next end p : ℕ) → IsStrictlyIncreasing cuts → cuts ≡ seen → p ≡ place seen day → read ≡ cuts → day < end → next ≤ end → (p < length read → next ≤ slice_index_or read p 0) → (next < end → (p < length read) × (next ≡ slice_index_or read p 0)) → Reaches cuts day next end p
+reaches cuts seen read day next end p rising same at read_is before le cut exact =
+    let here : p ≡ place cuts day = at ∙ ap (λ cs. place cs day) (sym same) in
+    let exact' : next < end → (p < length cuts) × (next ≡ slice_index_or cuts p 0) = subst (λ cs. next < end → (p < length cs) × (next ≡ slice_index_or cs p 0)) read_is exact in
+    let free : place cuts day < length cuts → next ≤ slice_index_or cuts (place cuts day) 0 = subst (λ q. q < length cuts → next ≤ slice_index_or cuts q 0) here (subst (λ cs. p < length cs → next ≤ slice_index_or cs p 0) read_is cut) in
+    record {
+      at = here;
+      long = longer cuts day next end p here before exact' le;
+      stays = λ n l h. place-stays cuts day n l (λ q. let f = free q in omega arith);
+      next_at = λ lt.
+          let f = exact' lt in
+          let is : next ≡ slice_index_or cuts (place cuts day) 0 = f.1 ∙ ap (λ q. slice_index_or cuts q 0) here in
+          ap (λ q. q + 1) here ∙ sym (ap (place cuts) is ∙ place-next cuts day rising (let s = f.0 in omega arith));
+    }

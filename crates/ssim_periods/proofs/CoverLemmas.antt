@@ -1,5 +1,6 @@
 -- The first day that passes, found in at most seven days of a stretch.
-use Rattle.std.proofs.Common.{◌≡◌, ℕ, zero, suc, ◌+◌, ◌-◌, ◌*◌, ◌/◌, ◌%◌, slice_index_or, ◌<◌, ◌≤◌, Bool, true, false, if◌then◌else◌, nat_lt, refl, ap, ◌∙◌, sym, arith, ◌⊎◌, inl, inr}
+use Rattle.std.proofs.Common.{◌≡◌, ℕ, zero, suc, ◌+◌, ◌-◌, ◌*◌, ◌/◌, ◌%◌, slice_index_or, ◌<◌, ◌≤◌, Bool, true, false, not, if◌then◌else◌, nat_lt, refl, ap, ◌∙◌, sym, arith, ◌⊎◌, inl, inr}
+use Rattle.std.proofs.Math.Bool.{beq}
 use Rattle.std.proofs.lemmas.Bool.Decides.{nat_tests}
 use Rattle.ssim_periods.specs.Calendar.{slot}
 use Rattle.ssim_periods.specs.Cover.{first_where, last_where, weekdays_of, differ, breaks, break_after}
@@ -130,3 +131,30 @@ break_after-is is_in a end h =
           let later : a < first_where (breaks is_in mask) a (end - a) = elim (same_or_less a (first_where (breaks is_in mask) a (end - a)) low) [ inl e ↦ let bad = sym own ∙ ap (breaks is_in mask) e ∙ some.2 in cc | inr lt ↦ lt ] in
           (later, omega arith, λ m l u. same-differ (is_in m) _ (some.3 m l u))
     ]
+
+pub first_where-same : (f g : ℕ → Bool) (n k : ℕ) → ((m : ℕ) → n ≤ m → m < n + k → f m ≡ g m) → first_where f n k ≡ first_where g n k
+first_where-same f g n zero h = refl
+first_where-same f g n (suc k) h =
+    ap (λ b. if b then n else first_where f (n + 1) k) (h n (omega arith) (omega arith))
+    ∙ ap (λ r. if g n then n else r) (first_where-same f g (n + 1) k (λ m a b. h m (omega arith) (omega arith)))
+
+pub last_where-same : (f g : ℕ → Bool) (n k : ℕ) → ((m : ℕ) → n ≤ m → m < n + k → f m ≡ g m) → last_where f n k ≡ last_where g n k
+last_where-same f g n zero h = refl
+last_where-same f g n (suc k) h =
+    ap (λ b. if b then n + k else last_where f n k) (h (n + k) (omega arith) (omega arith))
+    ∙ ap (λ r. if g (n + k) then n + k else r) (last_where-same f g n k (λ m a b. h m a (omega arith)))
+
+-- a day is the last that passes
+pub last_where-at : (test : ℕ → Bool) (n k l : ℕ) → n ≤ l → l < n + k → test l ≡ true → ((m : ℕ) → l < m → m < n + k → test m ≡ false) → last_where test n k ≡ l
+last_where-at test n zero l a b t after = absurd (omega arith)
+last_where-at test n (suc k) l a b t after =
+    elim (same_or_less l (n + k) (omega arith)) [
+      | inl e ↦ ap (λ c. if c then n + k else last_where test n k) (ap test (sym e) ∙ t) ∙ sym e
+      | inr lt ↦ ap (λ c. if c then n + k else last_where test n k) (after (n + k) lt (omega arith)) ∙ last_where-at test n k l a lt t (λ m x y. after m x (omega arith))
+    ]
+
+pub differ-tested : (x y : Bool) → not (beq x y) ≡ true → differ x y ≡ true
+differ-tested true true h = h
+differ-tested true false h = refl
+differ-tested false true h = refl
+differ-tested false false h = h

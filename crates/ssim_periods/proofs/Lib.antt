@@ -7,4 +7,9 @@ pub mod CountLemmas
 pub mod CoverLemmas
 pub mod CoverLaw
 pub mod PieceLaw
+pub mod CoverSteps
+pub mod PieceRows
+pub mod PieceOrder
+pub mod PiecesFound
+pub mod GatherLemmas
 pub mod Examples

@@ -76,13 +76,13 @@ held_on-all alike days (v ∷ values) n =
     ∙ ap (λ r. (if has_value alike days v n then v ∷ [] else []) ++ r) (held_on-all alike days values n)
     ∙ elim (has_value alike days v n) as (λ b. (if b then v ∷ [] else []) ++ filter (λ w. has_value alike days w n) values ≡ (if b then v ∷ filter (λ w. has_value alike days w n) values else filter (λ w. has_value alike days w n) values)) [ true ↦ refl | false ↦ refl ]
 
-filter-same : {X : Type 0} (p q : X → Bool) (xs : List X) → ((x : X) → p x ≡ q x) → filter p xs ≡ filter q xs
+pub filter-same : {X : Type 0} (p q : X → Bool) (xs : List X) → ((x : X) → p x ≡ q x) → filter p xs ≡ filter q xs
 filter-same p q [] h = refl
 filter-same p q (x ∷ xs) h =
     ap (λ b. if b then x ∷ filter p xs else filter p xs) (h x) ∙ ap (λ r. if q x then x ∷ r else r) (filter-same p q xs h)
 
 -- no value passes, so none is among them
-none_alike : {V : Type 0} (alike : V → V → Bool) → ((x y : V) → IsTrue (alike x y) ↔ (x ≡ y)) → (x : V) (values : List V) → filter (λ v. alike v x) values ≡ [] → list_any (alike x) values ≡ false
+pub none_alike : {V : Type 0} (alike : V → V → Bool) → ((x y : V) → IsTrue (alike x y) ↔ (x ≡ y)) → (x : V) (values : List V) → filter (λ v. alike v x) values ≡ [] → list_any (alike x) values ≡ false
 none_alike alike exact x [] h = refl
 none_alike alike exact x (v ∷ values) h =
     elim (alike v x) as (λ b. alike v x ≡ b → (if b then v ∷ filter (λ v. alike v x) values else filter (λ v. alike v x) values) ≡ [] → (alike x v || list_any (alike x) values) ≡ false) [
@@ -90,7 +90,7 @@ none_alike alike exact x (v ∷ values) h =
       | false ↦ λ e k. ap (λ b. b || list_any (alike x) values) (alike-turned alike exact x v ∙ e) ∙ none_alike alike exact x values k
     ] refl h
 
-some_alike : {V : Type 0} (alike : V → V → Bool) → ((x y : V) → IsTrue (alike x y) ↔ (x ≡ y)) → (x : V) (values : List V) → list_any (alike x) values ≡ false → filter (λ v. alike v x) values ≡ []
+pub some_alike : {V : Type 0} (alike : V → V → Bool) → ((x y : V) → IsTrue (alike x y) ↔ (x ≡ y)) → (x : V) (values : List V) → list_any (alike x) values ≡ false → filter (λ v. alike v x) values ≡ []
 some_alike alike exact x [] h = refl
 some_alike alike exact x (v ∷ values) h =
     elim (alike x v) as (λ b. alike x v ≡ b → (b || list_any (alike x) values) ≡ false → (if alike v x then v ∷ filter (λ v. alike v x) values else filter (λ v. alike v x) values) ≡ []) [
@@ -215,10 +215,10 @@ pieces_with-begins {V} alike days (v ∷ values) =
     (Every-paired (length days) v (cover (has_value alike days v) (length days)) (cover_from-begins (length days) (has_value alike days v) 0 (length days)))
     (pieces_with-begins alike days values)
 
-is-among : {V : Type 0} (alike : V → V → Bool) (nothing : V) → ((x y : V) → IsTrue (alike x y) ↔ (x ≡ y)) → (days : List V) (n : ℕ) → n < length days → list_any (alike (slice_index_or days n nothing)) days ≡ true
+pub is-among : {V : Type 0} (alike : V → V → Bool) (nothing : V) → ((x y : V) → IsTrue (alike x y) ↔ (x ≡ y)) → (days : List V) (n : ℕ) → n < length days → list_any (alike (slice_index_or days n nothing)) days ≡ true
 is-among alike nothing exact days n h = list_any_at (alike (slice_index_or days n nothing)) days n nothing h (alike-self alike exact (slice_index_or days n nothing))
 
-filter-none : {X : Type 0} (p : X → Bool) (xs : List X) → ((x : X) → p x ≡ false) → filter p xs ≡ []
+pub filter-none : {X : Type 0} (p : X → Bool) (xs : List X) → ((x : X) → p x ≡ false) → filter p xs ≡ []
 filter-none p [] h = refl
 filter-none p (x ∷ xs) h = ap (λ b. if b then x ∷ filter p xs else filter p xs) (h x) ∙ filter-none p xs h
 

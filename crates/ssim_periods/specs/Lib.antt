@@ -5,3 +5,4 @@ pub mod Splits
 pub mod Count
 pub mod Cover
 pub mod Pieces
+pub mod Gather

@@ -21,13 +21,17 @@
 #![tactic(auto)]
 
 mod count;
+mod cover;
 mod patches;
 mod periods;
-mod pieces;
+#[cfg(test)]
+mod plain_tests;
 mod rows;
+#[cfg(test)]
+mod tests;
 mod value;
 
 pub use periods::Periods;
-pub use pieces::{covers_hold_each_day_once, pieces_hold_each_day_once};
+pub use periods::pieces::{covers_hold_each_day_once, pieces_hold_each_day_once};
 pub use ssim_values::Memory;
 pub use value::{Change, Value};

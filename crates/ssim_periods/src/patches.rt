@@ -32,9 +32,7 @@ fn new_row<V: Value, C: Change<V>>(
         if wanted {
             new = Some(change.after(alloc, &row[weekday as usize])?);
         }
-        if patch.push(new).is_err() {
-            return Err(Memory);
-        }
+        patch.push(new)?;
     }
     Ok(patch)
 }
@@ -64,9 +62,7 @@ pub(crate) fn new_rows<V: Value, C: Change<V>>(
     while day < end {
         let next = range_end(cuts, place, end);
         let patch = new_row(alloc, row_at(before, rows, place), mask, day, next, change)?;
-        if patches.push(patch).is_err() {
-            return Err(Memory);
-        }
+        patches.push(patch)?;
         day = next;
         place += 1;
     }

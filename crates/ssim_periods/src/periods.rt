@@ -5,6 +5,8 @@ ghost use Rattle.ssim_values.specs.Calendar.{weekday};
 ghost use Rattle.ssim_periods.specs.Calendar.{holds};
 ghost use Rattle.ssim_periods.specs.Days.{each_day, changed_on, counts_on, AddsOnly};
 
+pub(crate) mod pieces;
+
 use crate::count::class_counts;
 use crate::patches::{new_rows, put_period};
 use crate::rows::{copy_row, copy_rows, place_of, row_for_cut};
@@ -108,12 +110,8 @@ impl<V: Value> Periods<V> {
             &mask,
             change,
         );
-        if let Err(_) = self.cuts.reserve(2) {
-            return Err(Memory);
-        }
-        if let Err(_) = self.rows.reserve(2) {
-            return Err(Memory);
-        }
+        self.cuts.reserve(2)?;
+        self.rows.reserve(2)?;
         put_period(
             &mut self.cuts,
             &mut self.rows,

@@ -103,14 +103,10 @@ pub(crate) fn copy_rows<V: Value>(alloc: Global, rows: &[[V; 7]]) -> Result<Vec<
     ensures { IfOk result (λ copies. copies.items ≡ rows.now) }
 {
     let mut copies = Vec::new(alloc);
-    if let Err(_) = copies.reserve(rows.len()) {
-        return Err(Memory);
-    }
+    copies.reserve(rows.len())?;
     for row in rows {
         let copy = copy_row(alloc, row)?;
-        if copies.push(copy).is_err() {
-            return Err(Memory);
-        }
+        copies.push(copy)?;
     }
     Ok(copies)
 }

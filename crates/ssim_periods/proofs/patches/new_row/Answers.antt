@@ -1,4 +1,4 @@
-use Rattle.std.proofs.Common.{length, ◌&&◌, nat_lt, ◌≡◌, ℕ, List, slice_index_or, Option, Some, None, Bool, true, false, not, if◌then◌else◌, ap, sym, ◌∙◌, arith}
+use Rattle.std.proofs.Common.{length, ◌&&◌, nat_lt, ◌≡◌, ℕ, List, slice_index_or, Option, Some, None, Bool, true, false, if◌then◌else◌, refl, ap, sym, ◌∙◌, arith}
 use Rattle.ssim_periods.specs.Count.{below, with_days}
 use Rattle.ssim_periods.proofs.CountLemmas.{with_days-at, length-with_days}
 use Rattle.ssim_periods.proofs.RowLemmas.{index-default}
@@ -22,7 +22,7 @@ loop-weekday-preserved g c =
       week = i.week;
       told = patch_of-told (with_days 0 c.args.mask.now c.args.from c.args.to) (g.C.Change.outcome c.args.change.now) row w g.V.Value.nothing _ _ c.if-wanted.new _
           (let l = c.told-mask in let n = length-with_days 0 c.args.mask.now c.args.from c.args.to in omega arith) (omega arith)
-          (c.is_err.ensures.negation ∙ ap not c.if-is_err.false) c.push.ensures.items
+          refl c.in_ok-push.ensures.items
           (elim c.if-wanted.branch [
             | then-wanted+in_ok-after k ↦ on_mask (with_days 0 c.args.mask.now c.args.from c.args.to) w (g.C.Change.outcome c.args.change.now) _ _ (wanted_is c.args.mask.now w c.args.from c.args.to _ c.has_days-wanted.ensures ∙ k.if-wanted.true) (k.new-is ∙ ap Some (k.in_ok-after.ensures ∙ ap (g.C.Change.outcome c.args.change.now) (index-default row w _ _ (omega arith))))
             | else-wanted k ↦ off_mask (with_days 0 c.args.mask.now c.args.from c.args.to) w (g.C.Change.outcome c.args.change.now) (slice_index_or row w g.V.Value.nothing) _ (wanted_is c.args.mask.now w c.args.from c.args.to _ c.has_days-wanted.ensures ∙ k.if-wanted.false) k.new-is

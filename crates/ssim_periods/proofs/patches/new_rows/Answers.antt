@@ -1,5 +1,5 @@
 -- Each range that is passed adds the patch of its row, which has the new value of each of its days.
-use Rattle.std.proofs.Common.{◌≡◌, ◌+◌, ◌-◌, ◌<◌, ◌≤◌, ℕ, false, not, if◌then◌else◌, List, [], ◌∷◌, ◌++◌, length, map, slice_index_or, vec_len, Option, Some, None, Vec, Global, ap, sym, subst, ◌∙◌, arith, rules, inl, inr}
+use Rattle.std.proofs.Common.{◌≡◌, ◌+◌, ◌-◌, ◌<◌, ◌≤◌, ℕ, false, if◌then◌else◌, List, [], ◌∷◌, ◌++◌, length, map, slice_index_or, vec_len, Option, Some, None, Vec, Global, ap, sym, subst, ◌∙◌, arith, rules, inl, inr}
 use Rattle.std.specs.List.{All}
 use Rattle.ssim_periods.specs.Calendar.{slot}
 use Rattle.ssim_periods.specs.Count.{with_days}
@@ -34,10 +34,9 @@ loop-day-preserved g c =
     let gt = longer cuts day next _ c.loop-day.place at c.loop-day-test.true e.at_cut e.before_end in
     let from = i.from in
     let free : place cuts day < length cuts → next ≤ slice_index_or cuts (place cuts day) 0 = subst (λ q. q < length cuts → next ≤ slice_index_or cuts q 0) at e.before_cut in
-    let good = c.is_err.ensures.negation ∙ ap not c.if-is_err.false in
     let items = c.loop-day.patches.items in let patch = c.in_ok-patch.patch in
-    let more : c.push.new.self.items ≡ items ++ patch ∷ [] = c.push.ensures.items ∙ ap (λ b. if b then items ++ patch ∷ [] else items) good in
-    let longer_by : vec_len c.push.new.self ≡ vec_len c.loop-day.patches + 1 = c.push.ensures.len ∙ ap (λ b. if b then vec_len c.loop-day.patches + 1 else vec_len c.loop-day.patches) good in
+    let more : c.push.new.self.items ≡ items ++ patch ∷ [] = c.in_ok-push.ensures.items in
+    let longer_by : vec_len c.push.new.self ≡ vec_len c.loop-day.patches + 1 = c.in_ok-push.ensures.len in
     let old_ok = c.loop-day.patches.ok in let patch_ok = patch.ok in
     let many = length-map-one values items in
     let len = i.len in

@@ -14,7 +14,7 @@ use Rattle.ssim_periods.proofs.periods.Periods.apply.Goals as goal
 pub put_period-requires : goal.put_period-requires
 put_period-requires g c =
     let v = c.self.invariant in let first = c.number-first.result in let last = c.number-last.result in
-    let f = c.number-first.ensures.value in let f' = c.first.ensures.value in let l = c.number-last.ensures.value in let l' = c.last.ensures.value in let o = c.first.ensures.ordered in
+    let f = c.number-first.ensures.value in let f' = c.first.ensures.value in let l = c.number-last.ensures.value in let l' = c.last.ensures.value in let o = c.first.ensures.period.ordered in
     let kept : c.reserve.new.self.items ≡ c.self.inside.cuts.items = c.reserve.ensures.items in
     let kept_rows : c.reserve-2.new.self.items ≡ c.self.inside.rows.items = c.reserve-2.ensures.items in
     let count = c.in_ok-patches.ensures.len in
@@ -26,9 +26,9 @@ put_period-requires g c =
         (
           subst IsStrictlyIncreasing (sym kept) v.rising,
           (
-            c.in_default.ensures.ok,
+            c.in_ok-reserve.ensures.ok,
             (
-              c.in_default-reserve.ensures.ok,
+              c.in_ok-reserve-2.ensures.ok,
               (
                 ap length kept_rows ∙ v.row_count ∙ sym (ap length kept),
                 (
@@ -52,7 +52,7 @@ pub invariant_of-self-2 : goal.invariant_of-self-2
 unfolding values
 invariant_of-self-2 g c =
     let v = c.self.invariant in let first = c.number-first.result in let last = c.number-last.result in
-    let f = c.number-first.ensures.value in let f' = c.first.ensures.value in let l = c.number-last.ensures.value in let l' = c.last.ensures.value in let o = c.first.ensures.ordered in
+    let f = c.number-first.ensures.value in let f' = c.first.ensures.value in let l = c.number-last.ensures.value in let l' = c.last.ensures.value in let o = c.first.ensures.period.ordered in
     let before = c.self.inside.before in let cuts = c.self.inside.cuts.items in let rows = c.self.inside.rows.items in
     let split = split-made before cuts _ _ rows _ _ first last c.in_ok-head.head c.in_ok-tail.tail v (omega arith) c.deref-3.ensures.value c.deref-4.ensures.value c.in_ok-head.ensures.missing c.in_ok-head.ensures.row c.deref-5.ensures.value c.deref-6.ensures.value c.in_ok-tail.ensures.missing c.in_ok-tail.ensures.row in
     let patches = map values c.in_ok-patches.patches.items in
@@ -64,7 +64,7 @@ pub returns-clause-days : goal.returns-clause-days
 unfolding values
 returns-clause-days g c =
     let v = c.self.invariant in let first = c.number-first.result in let last = c.number-last.result in let mask = c.days-mask.result in
-    let f = c.number-first.ensures.value in let f' = c.first.ensures.value in let l = c.number-last.ensures.value in let l' = c.last.ensures.value in let o = c.first.ensures.ordered in
+    let f = c.number-first.ensures.value in let f' = c.first.ensures.value in let l = c.number-last.ensures.value in let l' = c.last.ensures.value in let o = c.first.ensures.period.ordered in
     let before = c.self.inside.before in let cuts = c.self.inside.cuts.items in let rows = c.self.inside.rows.items in
     let split = split-made before cuts _ _ rows _ _ first last c.in_ok-head.head c.in_ok-tail.tail v (omega arith) c.deref-3.ensures.value c.deref-4.ensures.value c.in_ok-head.ensures.missing c.in_ok-head.ensures.row c.deref-5.ensures.value c.deref-6.ensures.value c.in_ok-tail.ensures.missing c.in_ok-tail.ensures.row in
     let patches = map values c.in_ok-patches.patches.items in
@@ -81,7 +81,7 @@ returns-clause-days g c =
     (cuts-made cuts _ _ first last c.put_period.ensures.cuts c.reserve.ensures.items)
     (rows-made cuts _ rows _ _ first last _ _ patches c.put_period.ensures.rows c.reserve.ensures.items c.reserve-2.ensures.items)
     (ap (λ s. s.days) c.self.view_is)
-    ∙ within-holds (λ s. changed_on s after 0 c.args.self.now.days) c.args.period.now first last mask (f ∙ f') (l ∙ l') (c.days-mask.ensures.value ∙ c.mask.ensures)
+    ∙ within-holds (λ s. changed_on s after 0 c.args.self.now.days) c.args.period.now first last mask (f ∙ f') (l ∙ l') (c.days-mask.ensures.value ∙ c.mask.ensures.value)
 
 pub returns-clause-cuts : goal.returns-clause-cuts
 returns-clause-cuts g c =
@@ -95,7 +95,7 @@ returns-clause-cuts g c =
 pub returns-clause-counts : goal.returns-clause-counts
 returns-clause-counts g c =
     let first = c.number-first.result in let last = c.number-last.result in let mask = c.days-mask.result in
-    let f = c.number-first.ensures.value in let f' = c.first.ensures.value in let l = c.number-last.ensures.value in let l' = c.last.ensures.value in let o = c.first.ensures.ordered in
+    let f = c.number-first.ensures.value in let f' = c.first.ensures.value in let l = c.number-last.ensures.value in let l' = c.last.ensures.value in let o = c.first.ensures.period.ordered in
     let class = g.C.Change.class_of c.args.change.now in let e = g.V.Value.nothing in
     let before = c.self.inside.before in let cuts = c.self.inside.cuts.items in let rows = c.self.inside.rows.items in
     counts-of e class before cuts rows first last mask c.class_counts-counts.result c.args.self.now.days (omega arith) c.number-last.ensures.bound c.class_counts-counts.ensures.len
@@ -103,4 +103,4 @@ returns-clause-counts g c =
     ∙ ap (λ cs. tally (is_of_class e class before cs c.deref-8.result.now first last mask k) first (last + 1 - first)) c.deref-7.ensures.value
     ∙ ap (λ rs. tally (is_of_class e class before cuts rs first last mask k) first (last + 1 - first)) c.deref-8.ensures.value)
     (ap (λ s. s.days) c.self.view_is)
-    ∙ within-holds (λ s. counts_on s class c.args.self.now.days) c.args.period.now first last mask (f ∙ f') (l ∙ l') (c.days-mask.ensures.value ∙ c.mask.ensures)
+    ∙ within-holds (λ s. counts_on s class c.args.self.now.days) c.args.period.now first last mask (f ∙ f') (l ∙ l') (c.days-mask.ensures.value ∙ c.mask.ensures.value)

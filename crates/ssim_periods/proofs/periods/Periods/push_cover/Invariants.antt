@@ -1,0 +1,16 @@
+use Rattle.std.proofs.Common.{◌≡◌, ◌-◌, ◌<◌, ◌≤◌, ◌++◌, true, map, length}
+use Rattle.ssim_periods.specs.Pieces.{has_value, pieces_with}
+use Rattle.ssim_periods.proofs.CoverSteps.{cover_at}
+use Rattle.ssim_periods.proofs.periods.Periods.push_cover.Given as goal
+
+abbrev pub invariant-loop-first : goal.invariant-loop-first
+invariant-loop-first g l =
+    let is_in = has_value g.V.Value.alike l.self.days l.value in
+    record {
+      to : l.first ≤ 36525;
+      own : l.first < 36525 → is_in l.first ≡ true;
+      rest : l.pieces.items ++ map (λ period. (period, l.value)) (cover_at is_in (length l.self.days) l.first) ≡ l.fn.pieces.items ++ pieces_with g.V.Value.alike l.self.days l.value;
+    }
+
+abbrev pub decreases-loop-first : goal.decreases-loop-first
+decreases-loop-first g l = 36525 - l.first

@@ -1,0 +1,120 @@
+//! What covers and pieces are made from.
+ghost use Rattle.std.specs.Prelude.{◌≡◌, ℕ, ◌+◌, ◌-◌, ◌<◌, ◌≤◌, false, true, [], ◌∷◌, map, IfOk, OnOk, slice_index_or};
+ghost use Rattle.std.specs.List.{list_any, flat_map};
+ghost use Rattle.ssim_values.specs.DayMask.{IsMask};
+ghost use Rattle.ssim_periods.specs.Calendar.{slot};
+ghost use Rattle.ssim_periods.specs.Cover.{first_where, last_where, differ};
+ghost use Rattle.ssim_periods.specs.Gather.{gathered};
+
+use crate::Value;
+use ssim_values::{Day, DayMask, Memory, Period};
+use std::alloc::Global;
+
+// The first day of a stretch with one row that has the value although its weekday is not among the days, or the other way round; the
+// end of the stretch where there is none. Looks at seven days of it at most.
+pub(crate) fn unlike_in_row<V: Value>(
+    row: &[V; 7],
+    value: &V,
+    days: &[bool; 7],
+    from: u32,
+    to: u32,
+) -> u32
+    requires ordered { from ≤ to }
+    requires in_calendar { to ≤ 36525 }
+    ensures { result ≡ first_where (λ n. differ (V.alike value.now (slice_index_or row.now (slot n) V.nothing)) (slice_index_or days.now (slot n) false)) from (to - from) }
+{
+    let week = if to - from < 7 { to } else { from + 7 };
+    for day in from..week {
+        let weekday = (day as usize + 5) % 7;
+        let has = value.same(&row[weekday]);
+        if has != days[weekday] {
+            return day;
+        }
+    }
+    to
+}
+
+// The last day of a stretch whose weekday is among the days, as its first day's is.
+pub(crate) fn last_in(days: &[bool; 7], first: u32, after: u32) -> u32
+    requires ordered { first < after }
+    requires own { slice_index_or days.now (slot first) false ≡ true }
+    ensures { result ≡ last_where (λ n. slice_index_or days.now (slot n) false) first (after - first) }
+{
+    let mut day = after - 1;
+    while first < day {
+        let weekday = (day as usize + 5) % 7;
+        if days[weekday] {
+            return day;
+        }
+        day -= 1;
+    }
+    first
+}
+
+// The period with these parts.
+pub(crate) fn period_of(first: u32, last: u32, days: [bool; 7]) -> Period
+    requires ordered { first ≤ last }
+    requires in_calendar { last < 36525 }
+    requires mask { IsMask days }
+    ensures first { result.first ≡ first }
+    ensures last { result.last ≡ last }
+    ensures days { result.days ≡ days }
+{
+    let Some(first) = Day::from_number(first as u16) else {
+        unreachable!();
+    };
+    let Some(last) = Day::from_number(last as u16) else {
+        unreachable!();
+    };
+    let Some(mask) = DayMask::of(days) else {
+        unreachable!();
+    };
+    let Ok(period) = Period::new(first, last, mask) else {
+        unreachable!();
+    };
+    period
+}
+
+// Whether a value is among others.
+fn is_among<V: Value>(values: &[&V], value: &V) -> bool
+    ensures { result ≡ list_any (V.alike value.now) (map (λ other. other.now) values.now) }
+{
+    for other in values {
+        if value.same(other) {
+            return true;
+        }
+    }
+    false
+}
+
+// Adds the values of a row that are not empty and not yet there.
+fn add_row<'a, V: Value>(values: &mut Vec<&'a V>, row: &'a [V; 7]) -> Result<(), Memory>
+    ensures { OnOk result (map (λ other. other.now) values.new.items ≡ gathered V.alike V.nothing (map (λ other. other.now) values.old.items) row.now) }
+{
+    for weekday in 0..7 {
+        let value = &row[weekday];
+        if !value.is_empty() {
+            let known = is_among(values, value);
+            if !known {
+                values.push(value)?;
+            }
+        }
+    }
+    Ok(())
+}
+
+// The distinct values of rows, other than the empty one.
+pub(crate) fn distinct_values<'a, V: Value>(
+    alloc: Global,
+    before: &'a [V; 7],
+    rows: &'a [[V; 7]],
+) -> Result<Vec<&'a V>, Memory>
+    ensures { IfOk result (λ values. map (λ other. other.now) values.items ≡ gathered V.alike V.nothing [] (flat_map (λ row. row) (before.now ∷ rows.now))) }
+{
+    let mut values = Vec::new(alloc);
+    add_row(&mut values, before)?;
+    for row in rows {
+        add_row(&mut values, row)?;
+    }
+    Ok(values)
+}

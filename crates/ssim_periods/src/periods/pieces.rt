@@ -1,0 +1,108 @@
+//! The pieces of a list of one value per day, read from the rows, and the laws of their definition.
+ghost use Rattle.std.specs.Prelude.{◌≡◌, length, ℕ, ◌+◌, ◌-◌, ◌%◌, ◌<◌, ◌≤◌, List, ◌++◌, true, IfOk, OnOk};
+ghost use Rattle.ssim_periods.specs.Calendar.{slot};
+ghost use Rattle.ssim_periods.specs.Cover.{first_where, weekdays_of, breaks, CoverLaw};
+ghost use Rattle.ssim_periods.specs.Pieces.{has_value, pieces_with, pieces_of, ArePieces};
+
+use crate::cover::{distinct_values, last_in, period_of, unlike_in_row};
+use crate::rows::{DAYS, place_of, range_end, row_at};
+use crate::{Periods, Value};
+use ssim_values::{Day, Memory, Period};
+
+const NO_DAYS: [bool; 7] = [false; 7];
+
+impl<V: Value> Periods<V> {
+    /// The covers of the days of each value other than the empty one, each period with its value, sorted by first day.
+    ///
+    /// They are read from the rows: a range is compared with the weekdays of a period by at most seven of its days. The cost for each
+    /// distinct value is that of the ranges.
+    pub fn pieces(&self) -> Result<Vec<(Period, V)>, Memory>
+        ensures { IfOk result (λ pieces. pieces.items ≡ pieces_of V.alike V.nothing self.now.days) }
+    {
+        let values = distinct_values(self.alloc, &self.before, &self.rows)?;
+        let mut pieces = Vec::new(self.alloc);
+        for value in &values {
+            self.push_cover(value, &mut pieces)?;
+        }
+        pieces.sort_by_key(|piece| piece.0.first().number())?;
+        Ok(pieces)
+    }
+
+    // Adds the cover of the days that have a value.
+    fn push_cover(&self, value: &V, pieces: &mut Vec<(Period, V)>) -> Result<(), Memory>
+        ensures { OnOk result (pieces.new.items ≡ pieces.old.items ++ pieces_with V.alike self.now.days value.now) }
+    {
+        let mut first = self.first_unlike(value, &NO_DAYS, 0);
+        while first < DAYS {
+            let days = self.weekdays_from(value, first);
+            let after = self.first_unlike(value, &days, first);
+            let period = period_of(first, last_in(&days, first, after), days);
+            pieces.push((period, value.copy(self.alloc)?))?;
+            first = self.first_unlike(value, &NO_DAYS, after);
+        }
+        Ok(())
+    }
+
+    // The first day from a day on that has the value although its weekday is not among the days, or the other way round; 36,525
+    // where there is none.
+    fn first_unlike(&self, value: &V, days: &[bool; 7], from: u32) -> u32
+        requires { from ≤ 36525 }
+        ensures { result ≡ first_where (breaks (has_value V.alike self.now.days value.now) days.now) from (length self.now.days - from) }
+    {
+        let mut day = from;
+        let mut place = place_of(&self.cuts, from);
+        while day < DAYS {
+            let next = range_end(&self.cuts, place, DAYS);
+            let row = row_at(&self.before, &self.rows, place);
+            let found = unlike_in_row(row, value, days, day, next);
+            if found < next {
+                return found;
+            }
+            day = next;
+            place += 1;
+        }
+        DAYS
+    }
+
+    // Whether the first day with a weekday from a day on has the value.
+    fn has_on(&self, value: &V, first: u32, weekday: u32) -> bool
+        requires weekday { weekday < 7 }
+        requires in_calendar { first < 36525 }
+        requires all_days { length self.now.days ≡ 36525 }
+        ensures { result ≡ has_value V.alike self.now.days value.now (first + (weekday + 7 - slot first) % 7) }
+    {
+        let day = first + (weekday + 7 - (first + 5) % 7) % 7;
+        match Day::from_number(day as u16) {
+            Some(day) => value.same(self.at(day)),
+            None => false,
+        }
+    }
+
+    // The weekdays that the value has on the seven days from a day on.
+    fn weekdays_from(&self, value: &V, first: u32) -> [bool; 7]
+        requires in_calendar { first < 36525 }
+        requires all_days { length self.now.days ≡ 36525 }
+        ensures { result ≡ weekdays_of (has_value V.alike self.now.days value.now) first }
+    {
+        [
+            self.has_on(value, first, 0),
+            self.has_on(value, first, 1),
+            self.has_on(value, first, 2),
+            self.has_on(value, first, 3),
+            self.has_on(value, first, 4),
+            self.has_on(value, first, 5),
+            self.has_on(value, first, 6),
+        ]
+    }
+}
+
+/// The law of covers, which the contract states: each day of a set is in exactly one period of its cover, and no other day is in any.
+pub fn covers_hold_each_day_once()
+    ensures { CoverLaw }
+{}
+
+/// The law of pieces, which the contract states: on each day exactly one piece holds, the one with the day's value, or none where
+/// the value is empty; and each piece holds its own first day.
+pub fn pieces_hold_each_day_once<V: Value>()
+    ensures { (days : List V) → ArePieces V.alike V.nothing days (pieces_of V.alike V.nothing days) }
+{}
