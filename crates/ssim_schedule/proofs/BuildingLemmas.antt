@@ -1,0 +1,156 @@
+-- One more record before those that were built: each case of the definitions, day by day and name by name.
+use Rattle.std.proofs.Common.{◌≡◌, ℕ, ◌+◌, ◌-◌, ◌*◌, ◌/◌, ◌%◌, ◌<◌, ◌≤◌, Bool, true, false, ◌&&◌, ◌||◌, ◌==◌, nat_eq, if◌then◌else◌, IsTrue, List, [], ◌∷◌, Some, unwrap_or, refl, sym, ap, ◌∙◌, arith}
+use Rattle.std.proofs.lemmas.Bool.Decides.{nat_tests}
+use Rattle.ssim_values.specs.Flight.{FlightNumber, IsFlight, is_suffix}
+use Rattle.ssim_values.specs.Period.{DayRange}
+use Rattle.ssim_periods.specs.Calendar.{holds}
+use Rattle.ssim_periods.specs.Days.{changed_on, each_day}
+use Rattle.ssim_periods.proofs.DayLemmas.{changed_on-each_day, each_day-same}
+use Rattle.ssim_records.specs.Leg.{LegFields, Name}
+use Rattle.ssim_records.specs.Segment.{SegmentFields}
+use Rattle.ssim_records.specs.declared.record.Record.{Record}
+use Rattle.ssim_records.specs.declared.record.Record.TheVariants.{Header, Carrier, Leg, Segment, Trailer}
+use Rattle.ssim_schedule.specs.Timetable.{Days, LegValue, Legs, days_of, is_on, itinerary, leg_of, period_of, placed, same_flight, same_name, tails_of}
+use Rattle.ssim_schedule.specs.Building.{IsPlaced, name_place}
+use Rattle.ssim_schedule.specs.Built.{IsBuilt, TakesLeg, TakesSegment}
+use Rattle.ssim_schedule.specs.ReadBack.{place_of}
+use Rattle.ssim_schedule.specs.Schedule.{days_in}
+use Rattle.ssim_schedule.specs.Waiting.{waiting_at}
+use Rattle.ssim_schedule.specs.declared.building.Building.{Building}
+
+-- where a suffix stands among the 27
+abbrev suffix_place : ℕ → ℕ
+suffix_place s = if nat_eq s 32 then 0 else s - 64
+
+suffix_below : (s : ℕ) → IsTrue (is_suffix s) → suffix_place s < 27
+suffix_below s h = grind (arith, nat_tests)
+
+suffix_told : (s t : ℕ) → IsTrue (is_suffix s) → IsTrue (is_suffix t) → suffix_place s ≡ suffix_place t → s ≡ t
+suffix_told s t h k e = grind (arith, nat_tests)
+
+told : (n m s t : ℕ) → s < 27 → t < 27 → 27 * n + s ≡ 27 * m + t → (n ≡ m) × (s ≡ t)
+told n m s t low high e = (omega arith, omega arith)
+
+both_same : (a b : FlightNumber) → a.number ≡ b.number → a.suffix ≡ b.suffix → same_flight a b ≡ true
+both_same a b n s = grind (arith, nat_tests)
+
+same_place : (a b : FlightNumber) → same_flight a b ≡ true → place_of a ≡ place_of b
+same_place a b e =
+    let number : a.number ≡ b.number = grind (arith, nat_tests) in
+    let suffix : a.suffix ≡ b.suffix = grind (arith, nat_tests) in
+    rw (number, suffix) refl
+
+-- the place of a flight tells it from all others
+pub same_flight-place : (a b : FlightNumber) → IsFlight a → IsFlight b → same_flight a b ≡ nat_eq (place_of a) (place_of b)
+same_flight-place a b f g = by (same_flight a b) (nat_eq (place_of a) (place_of b)) refl refl
+  where
+    by : (x y : Bool) → same_flight a b ≡ x → nat_eq (place_of a) (place_of b) ≡ y → x ≡ y
+    by true true p q = refl
+    by false false p q = refl
+    by true false p q = let e = same_place a b p in absurd (grind (arith, nat_tests))
+    by false true p q =
+        let same : place_of a ≡ place_of b = grind (arith, nat_tests) in
+        let parts = told a.number b.number (suffix_place a.suffix) (suffix_place b.suffix) (suffix_below a.suffix f.suffixed) (suffix_below b.suffix g.suffixed) same in
+        let yes = both_same a b parts.0 (suffix_told a.suffix b.suffix f.suffixed g.suffixed parts.1) in
+        cc
+
+parts_told : (x y v w s t : ℕ) → v < 100 → w < 100 → s < 100 → t < 100 → (x * 100 + v) * 100 + s ≡ (y * 100 + w) * 100 + t → (x ≡ y) × (v ≡ w) × (s ≡ t)
+parts_told x y v w s t a b c d e = (omega arith, omega arith, omega arith)
+
+-- the place of a leg's name tells it from all others
+pub same_name-place : (a b : Name) → IsPlaced a → IsPlaced b → same_name a b ≡ nat_eq (name_place a) (name_place b)
+same_name-place a b p q = by (same_flight a.flight b.flight) refl
+  where
+    flights : same_flight a.flight b.flight ≡ nat_eq (place_of a.flight) (place_of b.flight)
+    flights = same_flight-place a.flight b.flight p.flight q.flight
+
+    by : (x : Bool) → same_flight a.flight b.flight ≡ x → (x && (nat_eq a.variation b.variation && nat_eq a.sequence b.sequence)) ≡ nat_eq (name_place a) (name_place b)
+    by true e =
+        let same : place_of a.flight ≡ place_of b.flight = grind (arith, nat_tests, flights) in
+        rw same (grind (arith, nat_tests, p.variation, q.variation, p.sequence, q.sequence))
+    by false e =
+        let other : nat_eq (place_of a.flight) (place_of b.flight) ≡ false = sym flights ∙ e in
+        sym (differ other)
+      where
+        differ : nat_eq (place_of a.flight) (place_of b.flight) ≡ false → nat_eq (name_place a) (name_place b) ≡ false
+        differ other = elim (nat_eq (name_place a) (name_place b)) as (λ z. nat_eq (name_place a) (name_place b) ≡ z → z ≡ false) [
+          | true ↦ λ t.
+              let same : name_place a ≡ name_place b = grind (arith, nat_tests) in
+              let parts = parts_told (place_of a.flight) (place_of b.flight) a.variation b.variation a.sequence b.sequence p.variation q.variation p.sequence q.sequence same in
+              absurd (grind (arith, nat_tests, parts.0))
+          | false ↦ λ f. refl
+        ] refl
+
+-- ---- a record more
+
+pub built-other : (b : Building) (r : Record) (done : List Record) → ((g : FlightNumber) (n : ℕ) → itinerary (r ∷ done) g n ≡ itinerary done g n) → ((n : Name) → tails_of n (r ∷ done) ≡ tails_of n done)
+    → IsBuilt b done → IsBuilt b (r ∷ done)
+built-other b r done days tails h = record {
+  days = λ g is. h.days g is ∙ sym (each_day-same (itinerary (r ∷ done) g) (itinerary done g) (λ n l. days g n));
+  tails = λ n is. h.tails n is ∙ sym (tails n);
+}
+
+pub built-segment : (old new : Building) (r : SegmentFields) (done : List Record) → TakesSegment old new r → IsBuilt old done → IsBuilt new (Segment r ∷ done)
+built-segment old new r done t h = record {
+  days = λ g is. ap (λ s. days_in s g) t.days ∙ h.days g is ∙ sym (each_day-same (itinerary (Segment r ∷ done) g) (itinerary done g) (λ n l. refl));
+  tails = λ n is.
+      t.tails (name_place n)
+      ∙ ap (λ b. if b then r.tail ∷ waiting_at old.waiting (name_place n) else waiting_at old.waiting (name_place n)) (sym (same_name-place n r.name is t.named))
+      ∙ ap (λ ts. if same_name n r.name then r.tail ∷ ts else ts) (h.tails n is);
+}
+
+pub built-leg : (old new : Building) (r : LegFields) (done : List Record) → TakesLeg old new r → IsBuilt old done → IsBuilt new (Leg r ∷ done)
+built-leg old new r done t h = record {
+  days = λ g is. one g is;
+  tails = λ n is.
+      t.tails (name_place n)
+      ∙ ap (λ b. if b then [] else waiting_at old.waiting (name_place n)) (sym (same_name-place n r.name is t.named))
+      ∙ ap (λ ts. if same_name n r.name then [] else ts) (h.tails n is);
+}
+  where
+    its : LegValue
+    its = record { sequence = r.name.sequence; columns = r.columns; tails = waiting_at old.waiting (name_place r.name) }
+
+    is_leg : its ≡ leg_of r done
+    is_leg = ap (λ (ts : List (List ℕ)). record { sequence = r.name.sequence; columns = r.columns; tails = ts }) (h.tails r.name t.named)
+
+    choose : (b : Bool) (g : FlightNumber) → same_flight r.name.flight g ≡ b
+        → (if b then changed_on (holds (period_of r)) (placed (leg_of r done)) 0 (days_of done g) else days_of done g) ≡ days_of (Leg r ∷ done) g
+    choose true g e =
+        changed_on-each_day (holds (period_of r)) (placed (leg_of r done)) (itinerary done g)
+        ∙ each_day-same (λ n. if holds (period_of r) n then placed (leg_of r done) (itinerary done g n) else itinerary done g n) (itinerary (Leg r ∷ done) g)
+        (λ n l. ap (λ b. if b && holds (period_of r) n then placed (leg_of r done) (itinerary done g n) else itinerary done g n) (sym e))
+    choose false g e =
+        each_day-same (itinerary done g) (itinerary (Leg r ∷ done) g)
+        (λ n l. ap (λ b. if b && holds (period_of r) n then placed (leg_of r done) (itinerary done g n) else itinerary done g n) (sym e))
+
+    one : (g : FlightNumber) → IsFlight g → days_in new.schedule g ≡ days_of (Leg r ∷ done) g
+    one g is =
+        t.days g
+        ∙ ap (λ b. if b then changed_on (holds (period_of r)) (placed its) 0 (days_in old.schedule g) else days_in old.schedule g) (sym (same_flight-place r.name.flight g t.named.flight is))
+        ∙ ap (λ (l : LegValue). if same_flight r.name.flight g then changed_on (holds (period_of r)) (placed l) 0 (days_in old.schedule g) else days_in old.schedule g) is_leg
+        ∙ ap (λ (ds : List Legs). if same_flight r.name.flight g then changed_on (holds (period_of r)) (placed (leg_of r done)) 0 ds else ds) (h.days g is)
+        ∙ choose (same_flight r.name.flight g) g refl
+
+-- ---- what a change by one leg is, with its parts under other names
+
+pub put-days : (q q' : FlightNumber) (p p' : DayRange) (l l' : LegValue) (new old : Days) (g : FlightNumber) → q ≡ q' → p ≡ p' → l ≡ l'
+    → new ≡ (if nat_eq (place_of q) (place_of g) then changed_on (holds p) (placed l) 0 old else old)
+    → new ≡ (if nat_eq (place_of q') (place_of g) then changed_on (holds p') (placed l') 0 old else old)
+put-days q q' p p' l l' new old g flights periods legs h =
+    h
+    ∙ ap (λ (f : FlightNumber). if nat_eq (place_of f) (place_of g) then changed_on (holds p) (placed l) 0 old else old) flights
+    ∙ ap (λ (r : DayRange). if nat_eq (place_of q') (place_of g) then changed_on (holds r) (placed l) 0 old else old) periods
+    ∙ ap (λ (m : LegValue). if nat_eq (place_of q') (place_of g) then changed_on (holds p') (placed m) 0 old else old) legs
+
+pub same_period : (p : DayRange) (r : LegFields) (last : ℕ) → p.first ≡ r.first → p.last ≡ last → p.days ≡ r.days → r.last ≡ Some last → p ≡ period_of r
+same_period p r last first end' days some =
+    let known : last ≡ unwrap_or r.last 0 = rw some refl in
+    let firsts : p ≡ record { first = r.first; last = p.last; days = p.days } = ap (λ (f : ℕ). record { first = f; last = p.last; days = p.days }) first in
+    let lasts : record { first = r.first; last = p.last; days = p.days } ≡ record { first = r.first; last = unwrap_or r.last 0; days = p.days } = ap (λ (l : ℕ). record { first = r.first; last = l; days = p.days }) (end' ∙ known) in
+    let masks : record { first = r.first; last = unwrap_or r.last 0; days = p.days } ≡ period_of r = ap (λ (d : List Bool). record { first = r.first; last = unwrap_or r.last 0; days = d }) days in
+    firsts ∙ lasts ∙ masks
+
+pub same_leg_value : (l : LegValue) (sequence : ℕ) (columns : List ℕ) (tails : List (List ℕ)) (s : ℕ) (c : List ℕ) (t : List (List ℕ)) → l ≡ record { sequence = s; columns = c; tails = t }
+    → s ≡ sequence → c ≡ columns → t ≡ tails → l ≡ record { sequence = sequence; columns = columns; tails = tails }
+same_leg_value l sequence columns tails s c t made a b d = made ∙ rw (a, b, d) refl

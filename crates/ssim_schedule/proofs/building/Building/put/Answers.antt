@@ -1,0 +1,15 @@
+-- A record of each type, one before those that were built.
+use Rattle.std.proofs.Common.{◌≡◌, sym, subst}
+use Rattle.ssim_records.specs.declared.record.Record.{Record}
+use Rattle.ssim_schedule.specs.Built.{IsBuilt}
+use Rattle.ssim_schedule.proofs.BuildingLemmas.{built-leg, built-segment}
+use Rattle.ssim_schedule.proofs.ChangeLemmas.{on_ok}
+use Rattle.ssim_schedule.proofs.building.Building.put.Goals as goal
+
+pub returns-in-Leg : goal.returns-in-Leg
+returns-in-Leg c =
+    on_ok c.put_leg.result (λ takes done built. rw c.in-Leg.is (built-leg c.args.self.now c.put_leg.new.self c.in-Leg.leg done takes built)) c.put_leg.ensures
+
+pub returns-in-Segment : goal.returns-in-Segment
+returns-in-Segment c =
+    on_ok c.put_segment.result (λ takes done built. rw c.in-Segment.is (built-segment c.args.self.now c.put_segment.new.self c.in-Segment.segment done takes built)) c.put_segment.ensures

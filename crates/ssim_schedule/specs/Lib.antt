@@ -1,0 +1,12 @@
+pub mod Timetable
+pub mod Shared
+pub mod Base
+pub mod Export
+pub mod ItineraryLaws
+pub mod Put
+pub mod ReadBack
+pub mod Schedule
+pub mod Building
+pub mod Waiting
+pub mod Built
+pub mod Examples

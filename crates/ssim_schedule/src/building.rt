@@ -1,0 +1,90 @@
+//! The timetable of records, made from the last record to the first: so each tail is met before its leg.
+
+ghost use Rattle.std.specs.Prelude.{◌≡◌, ◌∷◌, [], List, IfOk, OnOk, Some};
+ghost use Rattle.std.specs.List.{All};
+ghost use Rattle.ssim_values.specs.Flight.{FlightNumber, IsFlight};
+ghost use Rattle.ssim_records.specs.declared.record.Record.{Record};
+ghost use Rattle.ssim_schedule.specs.Building.{IsClosed};
+ghost use Rattle.ssim_schedule.specs.Schedule.{days_in};
+ghost use Rattle.ssim_schedule.specs.Timetable.{days_of};
+
+use crate::leg::PlacedLeg;
+use crate::put::Put;
+use crate::schedule::Schedule;
+use crate::waiting::Waiting;
+use ssim_records::{LegRecord, Record, SegmentRecord};
+use ssim_values::{Memory, Period};
+use std::alloc::Global;
+
+/// What some records at the end of a base say: their timetable, and the tails whose leg record is not among them.
+#[derive(Drop)]
+pub(crate) struct Building {
+    pub schedule: Schedule,
+    waiting: Waiting,
+    alloc: Global,
+}
+
+/// The timetable of these records.
+pub(crate) fn timetable(alloc: Global, records: &[Record]) -> Result<Schedule, Memory>
+    requires { All IsClosed records.now }
+    ensures { IfOk result (λ s. (g : FlightNumber) → IsFlight g → days_in s g ≡ days_of records.now g) }
+{
+    let mut building = Building::new(alloc);
+    let mut place = records.len();
+    while place > 0 {
+        place -= 1;
+        building.put(&records[place])?;
+    }
+    Ok(building.schedule)
+}
+
+impl Building {
+    ghost use Rattle.ssim_schedule.specs.Built.{IsBuilt, TakesLeg, TakesSegment};
+
+    /// What no record says.
+    pub(crate) fn new(alloc: Global) -> Building
+        ensures { IsBuilt result [] }
+    {
+        Building {
+            schedule: Schedule::new(alloc),
+            waiting: Waiting::new(alloc),
+            alloc,
+        }
+    }
+
+    /// What these records and one more before them say.
+    pub(crate) fn put(&mut self, record: &Record) -> Result<(), Memory>
+        requires { IsClosed record.now }
+        ensures { OnOk result ((done : List Record) → IsBuilt self.old done → IsBuilt self.new (record.now ∷ done)) }
+    {
+        match record {
+            Record::Leg(leg) => self.put_leg(leg),
+            Record::Segment(segment) => self.put_segment(segment),
+            Record::Header(_) | Record::Carrier(_) | Record::Trailer(_) => Ok(()),
+        }
+    }
+
+    fn put_segment(&mut self, segment: &SegmentRecord) -> Result<(), Memory>
+        ensures { OnOk result (TakesSegment self.old self.new segment.now) }
+    {
+        self.waiting.add(segment.name(), segment.tail())
+    }
+
+    fn put_leg(&mut self, leg: &LegRecord) -> Result<(), Memory>
+        requires { IsClosed (Record.Leg leg.now) }
+        ensures { OnOk result (TakesLeg self.old self.new leg.now) }
+    {
+        let name = leg.name();
+        let Some(last) = leg.last() else {
+            unreachable!();
+        };
+        let Ok(period) = Period::new(leg.first(), last, leg.days()) else {
+            unreachable!();
+        };
+        let tails = self.waiting.take(name);
+        let placed = PlacedLeg::new(name.sequence(), leg.columns(), tails);
+        let put = Put::new(self.alloc, placed)?;
+        self.schedule.change(name.flight(), &period, &put)?;
+        Ok(())
+    }
+}

@@ -1,0 +1,37 @@
+//! What holds of exports, for any frame and timetable.
+ghost use Rattle.ssim_schedule.specs.ReadBack.{BasesExport, BytesReadBack, BytesTell, ReadOnce, SameBytes, ReadsBack, ExportsAgain, ExportsTell, FlownSuffice, SameExport, Stands};
+ghost use Rattle.ssim_schedule.specs.Examples;
+
+use ssim_records::written_records_read_back;
+
+/// An export reads back to the timetable that was exported, no record of it is refused, and the export of what was read
+/// is the same records. So equal exports are of equal timetables, and the other way round.
+pub fn export_reads_back()
+    ensures stands { Stands }
+    ensures same { ReadsBack }
+    ensures again { ExportsAgain }
+    ensures tells { ExportsTell }
+    ensures told { SameExport }
+{}
+
+/// Flights without a flown day add nothing to an export.
+pub fn flown_flights_suffice()
+    ensures { FlownSuffice }
+{}
+
+/// The bytes of an export are read as records, none of which is refused and of which nothing is noted. The base has the frame
+/// and, on each date, the itineraries that were exported, and its export is the same bytes. Bytes are read in one way,
+/// so equal bytes are of equal timetables, and the other way round.
+pub fn export_bytes_read_back()
+    ensures read { BytesReadBack }
+    ensures once { ReadOnce }
+    ensures tells { BytesTell }
+    ensures told { SameBytes }
+{
+    written_records_read_back();
+}
+
+/// A base that is read has a frame, and gives a timetable, that can be exported.
+pub fn bases_can_be_exported()
+    ensures { BasesExport }
+{}

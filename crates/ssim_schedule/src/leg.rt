@@ -1,0 +1,111 @@
+//! A leg of an itinerary.
+
+ghost use Rattle.std.specs.Prelude.{◌≡◌, ◌<◌, IfOk, map};
+ghost use Rattle.ssim_schedule.specs.Export.{same_leg, same_tails};
+
+use ssim_records::{LegColumns, SegmentTail};
+use ssim_values::Memory;
+use std::alloc::Global;
+use std::marker::Model;
+
+/// A leg of an itinerary: its leg sequence, its own columns, and its tails, the segment data that begin with it.
+#[derive(Drop)]
+pub struct PlacedLeg {
+    /// 1 to 99.
+    sequence: u8,
+    /// Columns 14, 37 to 127 and 129 to 194 of its record.
+    columns: LegColumns,
+    /// Columns 15 to 27 and 29 to 194 of each of its segment records, in their order.
+    tails: Vec<SegmentTail>,
+}
+
+impl Model for PlacedLeg {
+    ghost use Rattle.std.specs.Prelude.{◌<◌};
+    ghost use Rattle.ssim_schedule.specs.Timetable.{LegValue};
+
+    ghost Value = { LegValue };
+
+    ghost view = { λ l. record { sequence = l.sequence; columns = l.columns; tails = l.tails.items } };
+
+    ghost invariant = { λ l. (0 < l.sequence) × (l.sequence < 100) };
+}
+
+impl PlacedLeg {
+    /// A leg with this leg sequence, 1 to 99.
+    pub(crate) fn new(sequence: u8, columns: LegColumns, tails: Vec<SegmentTail>) -> PlacedLeg
+        requires from { 0 < sequence }
+        requires to { sequence < 100 }
+        ensures { result ≡ record { sequence = sequence; columns = columns; tails = tails.items } }
+    {
+        PlacedLeg {
+            sequence,
+            columns,
+            tails,
+        }
+    }
+
+    /// The leg sequence, 1 to 99.
+    pub fn sequence(&self) -> u8
+        ensures value { result ≡ self.now.sequence }
+        ensures from { 0 < result }
+        ensures to { result < 100 }
+    {
+        self.sequence
+    }
+
+    /// Its own columns.
+    pub fn columns(&self) -> LegColumns
+        ensures { result ≡ self.now.columns }
+    {
+        self.columns
+    }
+
+    /// Its tails, in the order of their records.
+    pub fn tails(&self) -> &[SegmentTail]
+        ensures { result.now ≡ self.now.tails }
+    {
+        &self.tails
+    }
+
+    /// Whether the two are one leg.
+    pub(crate) fn same(&self, other: &PlacedLeg) -> bool
+        ensures { result ≡ same_leg self.now other.now }
+    {
+        self.sequence == other.sequence
+            && same_bytes(&self.columns.bytes(), &other.columns.bytes())
+            && same_tails(&self.tails, &other.tails)
+    }
+
+    /// An equal leg.
+    pub(crate) fn copy(&self, alloc: Global) -> Result<PlacedLeg, Memory>
+        ensures { IfOk result (λ copy. copy ≡ self.now) }
+    {
+        Ok(PlacedLeg {
+            sequence: self.sequence,
+            columns: self.columns,
+            tails: Vec::from_slice(alloc, &self.tails)?,
+        })
+    }
+}
+
+ghost use Rattle.std.specs.Str.{bytes_eq};
+
+fn same_bytes(mine: &[u8], theirs: &[u8]) -> bool
+    ensures { result ≡ bytes_eq mine.now theirs.now }
+{
+    mine == theirs
+}
+
+fn same_tails(mine: &[SegmentTail], theirs: &[SegmentTail]) -> bool
+    ensures { result ≡ same_tails mine.now theirs.now }
+{
+    match mine.split_first() {
+        None => theirs.is_empty(),
+        Some((tail, tails)) => match theirs.split_first() {
+            None => false,
+            Some((other, others)) => {
+                same_bytes(&tail.bytes(), &other.bytes()) && same_tails(tails, others)
+            }
+        },
+    }
+}

@@ -1,0 +1,158 @@
+//! The itinerary of each flight on each date.
+
+ghost use Rattle.std.specs.Prelude.{◌≡◌, ℕ, ◌<◌, ◌≤◌, nat_eq, if◌then◌else◌, List, [], length, true, IfOk, IfErr, OnOk, OnErr, slice_index_or};
+ghost use Rattle.ssim_values.specs.Flight.{FlightNumber, IsFlight};
+ghost use Rattle.ssim_periods.specs.Calendar.{holds};
+ghost use Rattle.ssim_periods.specs.Days.{AddsOnly, changed_on, counts_on, each_day};
+ghost use Rattle.ssim_schedule.specs.Timetable.{same_flight};
+ghost use Rattle.ssim_schedule.specs.ReadBack.{place_of};
+
+use crate::itinerary::Itinerary;
+use crate::leg::PlacedLeg;
+use ssim_periods::{Change, Periods};
+use ssim_values::{Day, Flight, Memory, Period};
+use std::alloc::Global;
+use std::marker::Model;
+
+/// A flight, and its itinerary on each date.
+#[derive(Drop)]
+pub struct FlightPeriods {
+    flight: Flight,
+    periods: Periods<Itinerary>,
+}
+
+/// The itinerary of each flight on each date, kept flight by flight as cuts and week rows of shared itineraries.
+#[derive(Drop)]
+pub struct Schedule {
+    /// By number and suffix.
+    flights: Vec<FlightPeriods>,
+    alloc: Global,
+}
+
+impl Model for Schedule {
+    ghost use Rattle.ssim_schedule.specs.Schedule.{Table, AreRising};
+
+    ghost Value = { Table };
+
+    ghost view = { λ s. s.flights.items };
+
+    ghost invariant = { λ s. AreRising s.flights.items };
+}
+
+impl Schedule {
+    ghost use Rattle.ssim_schedule.specs.Schedule.{AddsOnlyAt, IsAt, IsGapFor, cuts_in, days_in};
+
+    /// No flight flies on any date.
+    pub(crate) fn new(alloc: Global) -> Schedule
+        ensures { result ≡ [] }
+    {
+        Schedule {
+            flights: Vec::new(alloc),
+            alloc,
+        }
+    }
+
+    /// The legs of a flight on a date of origin, by leg sequence; none where it does not fly.
+    pub fn itinerary(&self, flight: &Flight, day: Day) -> &[PlacedLeg]
+        ensures { result.now ≡ slice_index_or (days_in self.now flight.now) day [] }
+    {
+        match self.search(*flight) {
+            Ok(place) => self.flights[place].periods.at(day).legs(),
+            Err(_) => &[],
+        }
+    }
+
+    /// The rising days at which a stored range of the flight begins or ends; none for a flight that was never named.
+    pub fn cuts(&self, flight: &Flight) -> &[u32]
+        ensures { result.now ≡ cuts_in self.now flight.now }
+    {
+        match self.search(*flight) {
+            Ok(place) => self.flights[place].periods.cuts(),
+            Err(_) => &[],
+        }
+    }
+
+    /// The same timetable with the same cuts; the itineraries are shared.
+    pub fn copy(&self) -> Result<Schedule, Memory>
+        ensures { IfOk result (λ copy. copy ≡ self.now) }
+    {
+        Ok(Schedule {
+            flights: copies(self.alloc, &self.flights)?,
+            alloc: self.alloc,
+        })
+    }
+
+    /// What a change makes of a flight's itinerary on each date of a period. Answers how many of the dates were of each
+    /// class.
+    pub(crate) fn change<C: Change<Itinerary>>(
+        &mut self,
+        flight: Flight,
+        period: &Period,
+        change: &C,
+    ) -> Result<[u32; 5], Memory>
+        ensures days { OnOk result ((g : FlightNumber) → days_in self.new g ≡ (if nat_eq (place_of flight) (place_of g) then changed_on (holds period.now) (C.outcome change.now) 0 (days_in self.old g) else days_in self.old g)) }
+        ensures cuts { OnOk result ((g : FlightNumber) → AddsOnlyAt flight period.now g (cuts_in self.old g) (cuts_in self.new g)) }
+        ensures counts { IfOk result (λ counts. counts ≡ counts_on (holds period.now) (C.class_of change.now) (days_in self.old flight)) }
+        ensures err { OnErr result (self.new ≡ self.old) }
+    {
+        match self.search(flight) {
+            Ok(place) => self.flights[place].periods.apply(period, change),
+            Err(place) => self.change_first(place, flight, period, change),
+        }
+    }
+
+    // The same for a flight that has no entry yet, whose place is in this gap.
+    fn change_first<C: Change<Itinerary>>(
+        &mut self,
+        gap: usize,
+        flight: Flight,
+        period: &Period,
+        change: &C,
+    ) -> Result<[u32; 5], Memory>
+        requires { IsGapFor self.old flight gap }
+        ensures days { OnOk result ((g : FlightNumber) → days_in self.new g ≡ (if nat_eq (place_of flight) (place_of g) then changed_on (holds period.now) (C.outcome change.now) 0 (days_in self.old g) else days_in self.old g)) }
+        ensures cuts { OnOk result ((g : FlightNumber) → AddsOnlyAt flight period.now g (cuts_in self.old g) (cuts_in self.new g)) }
+        ensures counts { IfOk result (λ counts. counts ≡ counts_on (holds period.now) (C.class_of change.now) (days_in self.old flight)) }
+        ensures err { OnErr result (self.new ≡ self.old) }
+    {
+        let mut periods = Periods::new(self.alloc);
+        let counts = periods.apply(period, change)?;
+        self.flights.insert(gap, FlightPeriods { flight, periods })?;
+        Ok(counts)
+    }
+
+    // Where the flight's entry is, or where it would go.
+    fn search(&self, flight: Flight) -> Result<usize, usize>
+        ensures found { IfOk result (IsAt self.now flight) }
+        ensures absent { IfErr result (IsGapFor self.now flight) }
+    {
+        self.flights
+            .binary_search_by_key(&place(flight), |f| place(f.flight))
+    }
+}
+
+fn copies(alloc: Global, flights: &[FlightPeriods]) -> Result<Vec<FlightPeriods>, Memory>
+    ensures { IfOk result (λ copies. copies.items ≡ flights.now) }
+{
+    let mut copies = Vec::with_capacity(alloc, flights.len())?;
+    for entry in flights {
+        copies.push(FlightPeriods {
+            flight: entry.flight,
+            periods: entry.periods.copy()?,
+        })?;
+    }
+    Ok(copies)
+}
+
+// The place of a flight among all flights: by number, then by suffix, the blank first.
+pub(crate) fn place(flight: Flight) -> u32
+    ensures value { result ≡ place_of flight }
+    ensures small { result < 270000 }
+    ensures flight { IsFlight flight }
+{
+    let suffix = match flight.suffix() {
+        b' ' => 0,
+        letter => letter as u32 - 64,
+    };
+    27 * flight.number() as u32 + suffix
+}
