@@ -43,6 +43,8 @@ mod records;
 mod segment;
 mod segment_tail;
 mod stream;
+#[cfg(test)]
+mod tests;
 mod trailer;
 mod window;
 
