@@ -1,16 +1,16 @@
 -- One more record before those that were built: each case of the definitions, day by day and name by name.
-use Rattle.std.proofs.Common.{◌≡◌, ℕ, ◌+◌, ◌-◌, ◌*◌, ◌/◌, ◌%◌, ◌<◌, ◌≤◌, Bool, true, false, ◌&&◌, ◌||◌, ◌==◌, nat_eq, if◌then◌else◌, IsTrue, List, [], ◌∷◌, Some, unwrap_or, refl, sym, ap, ◌∙◌, arith}
+use Rattle.std.proofs.Common.{◌≡◌, ℕ, ◌+◌, ◌-◌, ◌*◌, ◌<◌, Bool, true, false, ◌&&◌, nat_eq, if◌then◌else◌, IsTrue, List, [], ◌∷◌, Some, unwrap_or, refl, sym, ap, ◌∙◌, arith}
 use Rattle.std.proofs.lemmas.Bool.Decides.{nat_tests}
 use Rattle.ssim_values.specs.Flight.{FlightNumber, IsFlight, is_suffix}
 use Rattle.ssim_values.specs.Period.{DayRange}
 use Rattle.ssim_periods.specs.Calendar.{holds}
-use Rattle.ssim_periods.specs.Days.{changed_on, each_day}
+use Rattle.ssim_periods.specs.Days.{changed_on}
 use Rattle.ssim_periods.proofs.DayLemmas.{changed_on-each_day, each_day-same}
 use Rattle.ssim_records.specs.Leg.{LegFields, Name}
 use Rattle.ssim_records.specs.Segment.{SegmentFields}
 use Rattle.ssim_records.specs.declared.record.Record.{Record}
-use Rattle.ssim_records.specs.declared.record.Record.TheVariants.{Header, Carrier, Leg, Segment, Trailer}
-use Rattle.ssim_schedule.specs.Timetable.{Days, LegValue, Legs, days_of, is_on, itinerary, leg_of, period_of, placed, same_flight, same_name, tails_of}
+use Rattle.ssim_records.specs.declared.record.Record.TheVariants.{Leg, Segment}
+use Rattle.ssim_schedule.specs.Timetable.{Days, LegValue, Legs, days_of, itinerary, leg_of, period_of, placed, same_flight, same_name, tails_of}
 use Rattle.ssim_schedule.specs.Building.{IsPlaced, name_place}
 use Rattle.ssim_schedule.specs.Built.{IsBuilt, TakesLeg, TakesSegment}
 use Rattle.ssim_schedule.specs.ReadBack.{place_of}

@@ -6,7 +6,7 @@ use Rattle.ssim_periods.specs.Days.{changed_on}
 use Rattle.ssim_records.specs.Leg.{LegFields, Name}
 use Rattle.ssim_records.specs.Segment.{SegmentFields}
 use Rattle.ssim_records.specs.declared.record.Record.{Record}
-use Rattle.ssim_schedule.specs.Timetable.{LegValue, days_of, period_of, placed, tails_of}
+use Rattle.ssim_schedule.specs.Timetable.{days_of, period_of, placed, tails_of}
 use Rattle.ssim_schedule.specs.Building.{IsPlaced, name_place}
 use Rattle.ssim_schedule.specs.ReadBack.{place_of}
 use Rattle.ssim_schedule.specs.Schedule.{days_in}

@@ -1,7 +1,6 @@
 -- Two itineraries pass the test exactly where they are equal.
-use Rattle.std.proofs.Common.{◌≡◌, ◌↔◌, ℕ, Bool, true, false, ◌&&◌, IsTrue, nat_eq, List, [], ◌∷◌, refl, ap, ◌∙◌}
+use Rattle.std.proofs.Common.{◌≡◌, ◌↔◌, ℕ, IsTrue, List, [], ◌∷◌, refl, ap, ◌∙◌}
 use Rattle.std.specs.Bool.{Decides}
-use Rattle.std.specs.Str.{bytes_eq}
 use Rattle.std.proofs.lemmas.Bool.Decides.{Decides-and, Decides-eqb, Decides-like}
 use Rattle.std.proofs.lemmas.Slice.Eq.{bytes_eq-Decides}
 use Rattle.ssim_schedule.specs.Timetable.{LegValue, Legs}

@@ -160,10 +160,6 @@ pub record IsExport (frame : Frame) (days : FlightNumber → Days) (bytes : List
 abbrev pub BytesReadBack : Type 0
 BytesReadBack = (frame : Frame) (days : FlightNumber → Days) (bytes : List ℕ) → IsExport frame days bytes → ReadsBackFrom frame days bytes
 
--- a block spells one record
-abbrev pub OneRecord : Type 0
-OneRecord = (r s : Record) (block : List ℕ) → Spells r block → Spells s block → r ≡ s
-
 -- bytes are read in one way
 abbrev pub ReadOnce : Type 0
 ReadOnce = (bytes : List ℕ) (count other : ℕ) (records others : List (ℕ × Record)) → AreRead bytes count records → AreRead bytes other others

@@ -1,9 +1,9 @@
 -- What a schedule keeps: for each flight that was named, its itinerary on each day and its cuts.
 use Rattle.std.specs.Prelude.{◌≡◌, ◌⊎◌, ℕ, ◌+◌, ◌<◌, ◌≤◌, nat_eq, if◌then◌else◌, List, [], ◌∷◌, length, slice_index_or, Contains}
-use Rattle.ssim_values.specs.Flight.{FlightNumber, IsFlight}
+use Rattle.ssim_values.specs.Flight.{FlightNumber}
 use Rattle.ssim_values.specs.Period.{DayRange}
-use Rattle.ssim_periods.specs.Days.{Seen, each_day, AddsOnly}
-use Rattle.ssim_schedule.specs.Timetable.{Legs, Days}
+use Rattle.ssim_periods.specs.Days.{each_day}
+use Rattle.ssim_schedule.specs.Timetable.{Days}
 use Rattle.ssim_schedule.specs.ReadBack.{place_of}
 use Rattle.ssim_schedule.specs.declared.schedule.FlightPeriods.{FlightPeriods}
 

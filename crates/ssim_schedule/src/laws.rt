@@ -2,7 +2,7 @@
 ghost use Rattle.ssim_schedule.specs.ReadBack.{BasesExport, BytesReadBack, BytesTell, ReadOnce, SameBytes, ReadsBack, ExportsAgain, ExportsTell, FlownSuffice, SameExport, Stands};
 ghost use Rattle.ssim_schedule.specs.Examples;
 
-use ssim_records::written_records_read_back;
+use ssim_records::{frames_are_one, written_records_read_back};
 
 /// An export reads back to the timetable that was exported, no record of it is refused, and the export of what was read
 /// is the same records. So equal exports are of equal timetables, and the other way round.
@@ -28,6 +28,7 @@ pub fn export_bytes_read_back()
     ensures tells { BytesTell }
     ensures told { SameBytes }
 {
+    frames_are_one();
     written_records_read_back();
 }
 

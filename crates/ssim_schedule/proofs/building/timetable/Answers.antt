@@ -1,8 +1,7 @@
 -- From the last record to the first: what stands behind a place is built.
-use Rattle.std.proofs.Common.{◌≡◌, ◌<◌, ◌-◌, ◌≤◌, ℕ, List, [], ◌∷◌, suc, drop, get_or, length, refl, sym, ap, subst, ◌∙◌, arith, drop-cons}
+use Rattle.std.proofs.Common.{◌≡◌, ◌<◌, ◌-◌, ℕ, List, ◌∷◌, suc, drop, length, sym, ap, subst, ◌∙◌, arith, drop-cons}
 use Rattle.std.proofs.lemmas.List.{drop_all}
 use Rattle.ssim_records.specs.declared.record.Record.{Record}
-use Rattle.ssim_values.specs.Flight.{FlightNumber}
 use Rattle.ssim_schedule.specs.Building.{IsClosed}
 use Rattle.ssim_schedule.specs.Built.{IsBuilt}
 use Rattle.ssim_schedule.specs.Timetable.{days_of}

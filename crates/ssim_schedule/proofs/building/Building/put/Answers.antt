@@ -1,7 +1,4 @@
 -- A record of each type, one before those that were built.
-use Rattle.std.proofs.Common.{◌≡◌, sym, subst}
-use Rattle.ssim_records.specs.declared.record.Record.{Record}
-use Rattle.ssim_schedule.specs.Built.{IsBuilt}
 use Rattle.ssim_schedule.proofs.BuildingLemmas.{built-leg, built-segment}
 use Rattle.ssim_schedule.proofs.ChangeLemmas.{on_ok}
 use Rattle.ssim_schedule.proofs.building.Building.put.Goals as goal

@@ -1,10 +1,10 @@
 -- An entry that is changed keeps its flight, and so the order; what its flight has alone is changed.
-use Rattle.std.proofs.Common.{◌≡◌, List, ℕ, [], nat_eq, if◌then◌else◌, sym, ap, subst, ◌∙◌, get_or, set}
+use Rattle.std.proofs.Common.{◌≡◌, nat_eq, if◌then◌else◌, sym, ap, subst, ◌∙◌, get_or, set}
 use Rattle.std.proofs.lemmas.List.{get_or_default}
 use Rattle.ssim_periods.specs.Calendar.{holds}
 use Rattle.ssim_periods.specs.Days.{changed_on, counts_on}
 use Rattle.ssim_schedule.specs.ReadBack.{place_of}
-use Rattle.ssim_schedule.specs.Schedule.{AddsOnlyAt, AreRising, IsAt, Table, cuts_in, days_in, no_entry}
+use Rattle.ssim_schedule.specs.Schedule.{AddsOnlyAt, IsAt, Table, cuts_in, days_in, no_entry}
 use Rattle.ssim_schedule.proofs.ChangeLemmas.{cuts-set, days-set, days_at, if_ok, no_days, on_ok, own}
 use Rattle.ssim_schedule.proofs.TableLemmas.{found_at, rising_set}
 use Rattle.ssim_schedule.proofs.schedule.Schedule.change.Goals as goal

@@ -1,8 +1,7 @@
 -- A new entry in its gap keeps the order, and changes what its flight has alone.
-use Rattle.std.proofs.Common.{◌≡◌, List, ℕ, [], nat_eq, if◌then◌else◌, sym, ap, subst, ◌∙◌}
+use Rattle.std.proofs.Common.{◌≡◌, [], nat_eq, if◌then◌else◌, sym, ap, subst, ◌∙◌}
 use Rattle.ssim_periods.specs.Calendar.{holds}
 use Rattle.ssim_periods.specs.Days.{changed_on, counts_on, each_day}
-use Rattle.ssim_schedule.specs.Timetable.{Days, Legs}
 use Rattle.ssim_schedule.specs.ReadBack.{place_of}
 use Rattle.ssim_schedule.specs.Schedule.{AddsOnlyAt, AreRising, IsGapFor, Table, cuts_in, days_in}
 use Rattle.ssim_schedule.proofs.ChangeLemmas.{cuts-insert, days-insert, days_at, no_days}

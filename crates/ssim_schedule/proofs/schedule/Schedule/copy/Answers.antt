@@ -1,5 +1,5 @@
 -- A copy has the same entries in the same order.
-use Rattle.std.proofs.Common.{◌≡◌, sym, subst, ◌∙◌}
+use Rattle.std.proofs.Common.{sym, subst, ◌∙◌}
 use Rattle.ssim_schedule.specs.Schedule.{AreRising, Table}
 use Rattle.ssim_schedule.proofs.schedule.Schedule.copy.Goals as goal
 

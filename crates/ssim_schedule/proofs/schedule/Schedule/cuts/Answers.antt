@@ -1,5 +1,5 @@
 -- The cuts are those of the flight's entry.
-use Rattle.std.proofs.Common.{◌≡◌, List, ℕ, [], sym, ap, subst, ◌∙◌, get_or}
+use Rattle.std.proofs.Common.{◌≡◌, [], sym, ap, subst, ◌∙◌, get_or}
 use Rattle.std.proofs.lemmas.List.{get_or_default}
 use Rattle.ssim_schedule.specs.Schedule.{IsAt, Table, cuts_in, no_entry}
 use Rattle.ssim_schedule.specs.declared.schedule.FlightPeriods.{FlightPeriods}

@@ -1,5 +1,5 @@
 -- The itinerary is that of the flight's entry on the day.
-use Rattle.std.proofs.Common.{◌≡◌, List, ℕ, [], sym, ap, subst, ◌∙◌, get_or, slice_index_or}
+use Rattle.std.proofs.Common.{◌≡◌, [], sym, ap, subst, ◌∙◌, get_or, slice_index_or}
 use Rattle.std.proofs.lemmas.List.{get_or_default}
 use Rattle.ssim_periods.specs.Days.{each_day}
 use Rattle.ssim_schedule.specs.Timetable.{Days, Legs}
