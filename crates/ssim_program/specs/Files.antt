@@ -1,0 +1,23 @@
+-- Named files.
+use Rattle.std.specs.Prelude.{Vec, ◌≡◌, ◌<◌, ℕ, IfSome, List, ◌∷◌, ⊤, Option, Some, Result, Ok, Err, find, length, option_map}
+use Rattle.std.specs.Str.{bytes_eq}
+use Rattle.ssim_program.specs.declared.store.StoreFault.{StoreFault}
+use Rattle.ssim_program.specs.declared.store.StoreFault.TheVariants as fault
+
+abbrev pub Files : Type 0
+Files = List (List ℕ × List ℕ)
+
+-- the newest file of this name
+abbrev pub file_of : Files → List ℕ → Option (List ℕ)
+file_of all name = option_map (λ f. f.1) (find (λ f. bytes_eq f.0 name) all)
+
+-- a load gives the file, and is a fault only where there is none within the limit
+abbrev pub LoadsFile : {A : Type 0} → Files → List ℕ → ℕ → Result (Vec ℕ A) StoreFault → Type 0
+LoadsFile all name limit (Ok v) = file_of all name ≡ Some v.items
+LoadsFile all name limit (Err fault.Memory) = ⊤
+LoadsFile all name limit (Err fault.Fault) = IfSome (file_of all name) (λ bytes. limit < length bytes)
+
+-- a file that is kept comes first, and one that is not leaves all as it was
+abbrev pub KeepsFile : Option Files → Option Files → List ℕ → List ℕ → Result ⊤ StoreFault → Type 0
+KeepsFile old new name bytes (Ok x) = new ≡ option_map (λ all. (name, bytes) ∷ all) old
+KeepsFile old new name bytes (Err e) = new ≡ old

@@ -1,0 +1,6 @@
+pub mod Line
+pub mod Commands
+pub mod Request
+pub mod Files
+pub mod Refusal
+pub mod Printed

@@ -1,0 +1,32 @@
+-- The lines that refusals print, without their line ends.
+use Rattle.std.specs.Prelude.{ℕ, List, ◌++◌, codes}
+use Rattle.std.specs.Fmt.{decimal}
+use Rattle.ssim_values.specs.Designator.{designator_text}
+use Rattle.ssim_program.specs.declared.refusal.Refusal.{Refusal}
+use Rattle.ssim_program.specs.declared.refusal.Refusal.TheVariants as refusal
+
+-- number and name, and the record
+abbrev pub at_record : List ℕ → ℕ → List ℕ
+at_record name n = codes "refused " ++ name ++ codes " record " ++ decimal n
+
+abbrev pub refusal_text : Refusal → List ℕ
+refusal_text (refusal.Short n) = at_record (codes "10 Short") n
+refusal_text (refusal.BadType n) = at_record (codes "11 BadType") n
+refusal_text (refusal.BadColumn n column) = at_record (codes "12 BadColumn") n ++ codes " column " ++ decimal column
+refusal_text (refusal.ReadFault n) = at_record (codes "13 ReadFault") n
+refusal_text (refusal.ReaderNeverEnds n) = at_record (codes "14 ReaderNeverEnds") n
+refusal_text (refusal.NoHeader n) = at_record (codes "30 NoHeader") n
+refusal_text (refusal.NoCarrier n) = at_record (codes "31 NoCarrier") n
+refusal_text (refusal.NoTrailer n) = at_record (codes "32 NoTrailer") n
+refusal_text (refusal.OtherAirline n) = at_record (codes "33 OtherAirline") n
+refusal_text (refusal.Overlap n) = at_record (codes "34 Overlap") n
+refusal_text (refusal.Segment n) = at_record (codes "35 Segment") n
+refusal_text (refusal.Overflow n) = at_record (codes "36 Overflow") n
+refusal_text (refusal.Frequency n) = at_record (codes "37 Frequency") n
+refusal_text (refusal.Continuation n) = at_record (codes "38 Continuation") n
+refusal_text (refusal.Stations n) = codes "refused 39 Stations line " ++ decimal n
+refusal_text (refusal.Variations flight) = codes "refused 50 Variations flight " ++ designator_text flight
+refusal_text refusal.Records = codes "refused 51 Records"
+refusal_text refusal.WriteFault = codes "refused 52 WriteFault"
+refusal_text refusal.Memory = codes "refused 90 Memory"
+refusal_text (refusal.File name) = codes "refused 91 File " ++ name.now
