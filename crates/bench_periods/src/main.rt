@@ -132,7 +132,7 @@ fn main(rt: HostRuntime) -> anyhow::Result<()> {
     let start = Instant::now(&rt)?;
     let pieces = periods.pieces()?;
     let read = start.elapsed(&rt)?;
-    println!(rt;
+    eprintln!(rt;
         "single days 365: apply {} us, cuts {}, pieces {} in {} us",
         made.as_micros(),
         periods.cuts().len(),
@@ -151,7 +151,7 @@ fn main(rt: HostRuntime) -> anyhow::Result<()> {
         let start = Instant::now(&rt)?;
         let pieces = periods.pieces()?;
         let read = start.elapsed(&rt)?;
-        println!(rt;
+        eprintln!(rt;
             "random {count} up to {longest} days: apply {} us, cuts {}, pieces {} in {} us",
             made.as_micros(),
             periods.cuts().len(),
