@@ -1,4 +1,10 @@
 //! The base of a data set, its timetable, and its canonical export.
+//!
+//! - [`Schedule`]: the itinerary of each flight on each date, which is its [`PlacedLeg`]s in order.
+//! - [`laws`]: what holds of exports as they are defined. An export reads back to its timetable, byte for byte.
+//! - [`BaseRefusal`]: why records are no base.
+//!
+//! To come: reading a base, writing an export, and what messages do to a timetable.
 #![tactic(auto)]
 
 mod building;
