@@ -2,7 +2,7 @@
 //!
 //! - [`Schedule`]: the itinerary of each flight on each date, which is its [`PlacedLeg`]s in order.
 //! - [`laws`]: what holds of exports as they are defined. An export reads back to its timetable, byte for byte.
-//! - [`BaseRefusal`]: why records are no base.
+//! - [`BaseFault`]: why records are no base.
 //!
 //! To come: reading a base, writing an export, and what messages do to a timetable.
 #![tactic(auto)]
@@ -12,11 +12,13 @@ mod fault;
 mod itinerary;
 pub mod laws;
 mod leg;
+mod note;
 mod put;
 mod schedule;
 mod waiting;
 
-pub use fault::BaseRefusal;
+pub use fault::{BaseFault, BaseRefusal};
 pub use itinerary::Itinerary;
 pub use leg::PlacedLeg;
+pub use note::Note;
 pub use schedule::{FlightPeriods, Schedule};
