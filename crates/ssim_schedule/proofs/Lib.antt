@@ -16,3 +16,4 @@ pub mod Stands
 pub mod TableLemmas
 pub mod Valid
 pub mod Whole
+pub mod KeptLemmas

@@ -9,4 +9,7 @@ pub mod Schedule
 pub mod Building
 pub mod Waiting
 pub mod Built
+pub mod Taken
+pub mod Kept
+pub mod Gathering
 pub mod Examples

@@ -9,12 +9,16 @@
 
 mod building;
 mod fault;
+mod gathering;
 mod itinerary;
+mod kept;
 pub mod laws;
 mod leg;
+mod leg_names;
 mod note;
 mod put;
 mod schedule;
+mod taken;
 mod waiting;
 
 pub use fault::{BaseFault, BaseRefusal};
