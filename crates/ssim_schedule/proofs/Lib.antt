@@ -13,6 +13,7 @@ pub mod Places
 pub mod ReadOnce
 pub mod Serials
 pub mod Stands
+pub mod StationLines
 pub mod TableLemmas
 pub mod Valid
 pub mod Whole

@@ -9,4 +9,5 @@ pub mod Schedule
 pub mod Building
 pub mod Waiting
 pub mod Built
+pub mod Stations
 pub mod Examples
