@@ -175,7 +175,8 @@ impl Carrier {
 
     /// The serial that the record had.
     pub fn serial(&self) -> u32
-        ensures { result ≡ self.now.serial }
+        ensures value { result ≡ self.now.serial }
+        ensures is_carrier { IsCarrier self.now }
     {
         self.serial
     }

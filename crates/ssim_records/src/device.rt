@@ -1,6 +1,6 @@
 //! Where bytes come from, and where they go.
 
-ghost use Rattle.std.specs.Prelude.{List, ℕ, Option, Some};
+ghost use Rattle.std.specs.Prelude.{◌≡◌, List, ℕ, Option, Some};
 ghost use Rattle.std.specs.Io.{ReadsAtMost, WritesAtMost};
 ghost use Rattle.std.specs.Io.KnownBytes.{ReadConsumes, WriteAppends};
 ghost use Rattle.ssim_records.specs.Device.{CountsBytes, CountsFailure, CountsPut};
@@ -42,11 +42,16 @@ pub trait Sink {
     /// How many puts failed, or took no byte where there was one. It wraps at 2^64.
     ghost failures: { Self → ℕ };
 
+    /// Which device the bytes go to, by a number of its own, 0 where none is told. No put changes it. So a caller that
+    /// hands its sink to a function over any sink, and has it back, knows that it still writes to the same device.
+    ghost device: { Self → ℕ } = { λ _. 0 };
+
     /// Takes bytes from the front of `bytes`, and says how many.
     fn put(&mut self, bytes: &[u8]) -> Result<usize, DeviceFault>
         ensures bound { WritesAtMost result bytes.now }
         ensures bytes { WriteAppends (taken self.old) (taken self.new) result bytes.now }
-        ensures failures { CountsPut (failures self.old) (failures self.new) result bytes.now };
+        ensures failures { CountsPut (failures self.old) (failures self.new) result bytes.now }
+        ensures device { device self.new ≡ device self.old };
 }
 
 /// A slice gives its bytes in order, and never fails.

@@ -77,7 +77,8 @@ impl Header {
 
     /// The serial that the record had.
     pub fn serial(&self) -> u32
-        ensures { result ≡ self.now.serial }
+        ensures value { result ≡ self.now.serial }
+        ensures is_header { IsHeader self.now }
     {
         self.serial
     }

@@ -204,7 +204,8 @@ impl LegRecord {
 
     /// The serial that the record had.
     pub fn serial(&self) -> u32
-        ensures { result ≡ self.now.serial }
+        ensures value { result ≡ self.now.serial }
+        ensures is_leg { IsLeg self.now }
     {
         self.serial
     }

@@ -158,7 +158,8 @@ impl Record {
 
     /// The serial that the record had.
     pub fn serial(&self) -> u32
-        ensures { result ≡ serial_of self.now }
+        ensures value { result ≡ serial_of self.now }
+        ensures is_record { IsRecord self.now }
     {
         match self {
             Record::Header(header) => header.serial(),

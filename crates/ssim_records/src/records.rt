@@ -1,6 +1,6 @@
 //! The records of a stream, one after another.
 
-ghost use Rattle.std.specs.Prelude.{◌≡◌, ◌<◌, [], IfNone, IfSome};
+ghost use Rattle.std.specs.Prelude.{◌≡◌, ◌≤◌, ◌<◌, ◌+◌, ◌*◌, [], IfNone, IfSome};
 ghost use Rattle.ssim_records.specs.Blocks.{CountsOn};
 ghost use Rattle.ssim_records.specs.Reading.{GivesNext, HasNumber, FailsAs, NeverEnds, last_answer, ending_of};
 
@@ -60,6 +60,14 @@ impl Records {
             window: Window::new(),
             ended: None,
         }
+    }
+
+    /// How many records were given or were fill.
+    pub fn number(&self) -> u64
+        ensures value { result ≡ self.now.number }
+        ensures small { 200 * result ≤ self.now.limit + 1 }
+    {
+        self.number
     }
 
     fn answer<R: Source>(&mut self, reader: &mut R) -> Result<Option<(u64, Record)>, RecordFault>

@@ -139,7 +139,8 @@ impl SegmentRecord {
 
     /// The serial that the record had.
     pub fn serial(&self) -> u32
-        ensures { result ≡ self.now.serial }
+        ensures value { result ≡ self.now.serial }
+        ensures is_segment { IsSegment self.now }
     {
         self.serial
     }

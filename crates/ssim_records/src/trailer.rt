@@ -147,7 +147,8 @@ impl Trailer {
 
     /// The serial that the record had.
     pub fn serial(&self) -> u32
-        ensures { result ≡ self.now.serial }
+        ensures value { result ≡ self.now.serial }
+        ensures is_trailer { IsTrailer self.now }
     {
         self.serial
     }

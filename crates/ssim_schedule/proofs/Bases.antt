@@ -21,9 +21,11 @@ use Rattle.ssim_records.specs.declared.trailer.EndCode.{EndCode}
 use Rattle.ssim_records.specs.declared.trailer.EndCode.TheVariants.{Continuation, End}
 use Rattle.ssim_schedule.specs.Timetable.{LegValue, Legs, same_flight, same_name, tails_of, leg_of, period_of, is_on, placed, itinerary, Above}
 use Rattle.ssim_schedule.specs.Base as base
-use Rattle.ssim_schedule.specs.Base.{refuse_if, or_else, first_of, airline_of, carrier_end, closed, is_trailer, meet, overlaps, is_overflow, is_rate, is_continued, place_refusal, own_refusal, refusal_at, missing, kept, kept_all, Ending, Done, Broken, at_record, at_end, first_refusal, Note, notes_of, data_set}
+use Rattle.ssim_schedule.specs.Base.{refuse_if, or_else, first_of, airline_of, carrier_end, closed, is_trailer, meet, overlaps, is_overflow, is_rate, is_continued, place_refusal, own_refusal, refusal_at, missing, kept, kept_all, Ending, Done, Broken, at_record, at_end, first_refusal, notes_of, data_set}
+use Rattle.ssim_schedule.specs.declared.fault.BaseFault.{BaseFault}
 use Rattle.ssim_schedule.specs.declared.fault.BaseRefusal.{BaseRefusal}
 use Rattle.ssim_schedule.specs.declared.fault.BaseRefusal.TheVariants as refused
+use Rattle.ssim_schedule.specs.declared.note.Note.{Note}
 use Rattle.ssim_schedule.specs.Export.{Frame}
 use Rattle.ssim_schedule.specs.ReadBack.{IsFrame, IsWritable, IsWritableFrame, HasFrame, kept_frame, CanExport, BasesExport}
 use Rattle.ssim_schedule.proofs.Places.{same-self, same-true}
@@ -40,13 +42,13 @@ or_else-none : (a b : Option BaseRefusal) → or_else a b ≡ None → (a ≡ No
 or_else-none (Some x) b h = absurd cc
 or_else-none None b h = (refl, h)
 
-at_record-none : (n : ℕ) (a : Option BaseRefusal) (later : Option (ℕ × BaseRefusal)) → at_record n a later ≡ None → (a ≡ None) × (later ≡ None)
+at_record-none : (n : ℕ) (a : Option BaseRefusal) (later : Option BaseFault) → at_record n a later ≡ None → (a ≡ None) × (later ≡ None)
 at_record-none n (Some x) later h = absurd cc
 at_record-none n None later h = (refl, h)
 
 stood : (ending : Ending) (e : List Record) (records : List (ℕ × Record)) → first_refusal ending e records ≡ None → StandsTo e (map (λ r. r.1) records) (λ d. missing d ≡ None)
 stood (Done n) e [] h = (at_record-none n (missing e) None h).0
-stood (Broken n x) e [] h = absurd cc
+stood (Broken x) e [] h = absurd cc
 stood ending e (r ∷ records) h =
     let parts = at_record-none r.0 (refusal_at e r.1) (first_refusal ending (kept e r.1 ∷ e) records) h in
     (parts.0, stood ending (kept e r.1 ∷ e) records parts.1)
@@ -334,7 +336,7 @@ begins-well (Header r ∷ Carrier s ∷ rs) valid h =
 abbrev with_notes : List Record → List Note → List Record × List Note
 with_notes records notes = (records, notes)
 
-from-ok : (o : Option (ℕ × BaseRefusal)) (rs these : List Record) (notes noted : List Note) → base.unless_refused o (with_notes rs notes) ≡ Ok (with_notes these noted)
+from-ok : (o : Option BaseFault) (rs these : List Record) (notes noted : List Note) → base.unless_refused o (with_notes rs notes) ≡ Ok (with_notes these noted)
     → (o ≡ None) × (rs ≡ these)
 from-ok (Some x) rs these notes noted h = absurd cc
 from-ok None rs these notes noted h =

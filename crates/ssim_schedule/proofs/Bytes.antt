@@ -11,8 +11,8 @@ use Rattle.ssim_records.specs.Trailer.{TrailerFields}
 use Rattle.ssim_values.specs.Flight.{FlightNumber}
 use Rattle.ssim_schedule.specs.Timetable.{Days, itinerary}
 use Rattle.ssim_schedule.specs.Base as base
-use Rattle.ssim_schedule.specs.Base.{Done, Note, first_refusal, kept_all, notes_of, data_set}
-use Rattle.ssim_schedule.specs.declared.fault.BaseRefusal.{BaseRefusal}
+use Rattle.ssim_schedule.specs.declared.note.Note.{Note}
+use Rattle.ssim_schedule.specs.Base.{Done, Outcome, first_refusal, kept_all, notes_of, data_set}
 use Rattle.ssim_schedule.specs.Export.{Frame, all_flights, flights_records, sections, export_refusal, chapter7_records, export_bytes, result_map}
 use Rattle.ssim_schedule.specs.ReadBack.{IsFrame, IsTimetable, records_of, base_of, items_of, EachSpells, HasFrame, kept_frame, BytesReadBack, ReadOnce, BytesTell, SameBytes}
 use Rattle.ssim_schedule.proofs.Whole.{exported, base-frame, reads_back, exports_again, same_export}
@@ -22,7 +22,7 @@ use Rattle.ssim_schedule.proofs.Lines.{records_at, export-lines, records-numbere
 use Rattle.ssim_schedule.proofs.Valid.{export-valid}
 use Rattle.ssim_schedule.proofs.Notes.{Counted, no_notes, sections-counted}
 
-abbrev stood : List Record → List Note → Result (List Record × List Note) (ℕ × BaseRefusal)
+abbrev stood : List Record → List Note → Outcome
 stood records notes = Ok (records, notes)
 
 -- the base of an export's records has nothing noted

@@ -8,7 +8,9 @@ use Rattle.ssim_records.specs.declared.record.Record.TheVariants.{Header, Carrie
 use Rattle.ssim_values.specs.Flight.{FlightNumber}
 use Rattle.ssim_values.specs.Period.{DayRange}
 use Rattle.ssim_schedule.specs.Timetable.{LegValue, Days}
-use Rattle.ssim_schedule.specs.Base.{Serial, serial_of, is_trailer, note_if, check_notes, notes_of}
+use Rattle.ssim_schedule.specs.Base.{is_trailer, note_if, check_notes, notes_of}
+use Rattle.ssim_schedule.specs.declared.note.Note.TheVariants.{Serial}
+use Rattle.ssim_records.specs.Record.{serial_of}
 use Rattle.ssim_schedule.specs.Export.{Frame, tail_record, leg_records, flights_records, with_serial, numbered, sections}
 use Rattle.ssim_schedule.specs.ReadBack.{records_of}
 use Rattle.ssim_schedule.proofs.Each.{each-map}

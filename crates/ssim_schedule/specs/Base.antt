@@ -7,13 +7,20 @@ use Rattle.ssim_values.specs.Period.{DayRange}
 use Rattle.ssim_periods.specs.Calendar.{day_count, holds}
 use Rattle.ssim_records.specs.Carrier.{CarrierFields}
 use Rattle.ssim_records.specs.Leg.{LegFields, Name}
+use Rattle.ssim_records.specs.Record.{fault_number, serial_of}
 use Rattle.ssim_records.specs.declared.record.Record.{Record}
 use Rattle.ssim_records.specs.declared.record.Record.TheVariants.{Header, Carrier, Leg, Segment, Trailer}
 use Rattle.ssim_records.specs.declared.trailer.EndCode.{EndCode}
 use Rattle.ssim_records.specs.declared.trailer.EndCode.TheVariants.{Continuation, End}
 use Rattle.ssim_schedule.specs.Timetable.{same_flight, same_name, period_of}
+use Rattle.ssim_records.specs.declared.fault.RecordFault.{RecordFault}
+use Rattle.ssim_schedule.specs.declared.fault.BaseFault.{BaseFault}
+use Rattle.ssim_schedule.specs.declared.fault.BaseFault.TheVariants as fault
+use Rattle.ssim_schedule.specs.declared.fault.BaseFault.TheVariants.{Read, Refused}
 use Rattle.ssim_schedule.specs.declared.fault.BaseRefusal.{BaseRefusal}
 use Rattle.ssim_schedule.specs.declared.fault.BaseRefusal.TheVariants as refused
+use Rattle.ssim_schedule.specs.declared.note.Note.{Note}
+use Rattle.ssim_schedule.specs.declared.note.Note.TheVariants.{Serial, CheckReference}
 
 -- the refusal where the test holds
 abbrev pub refuse_if : Bool → BaseRefusal → Option BaseRefusal
@@ -149,17 +156,17 @@ kept earlier (Leg r) = Leg (record (closed (carrier_end earlier) r) { rate = 32;
 kept earlier (Segment r) = Segment (record r { overflow = 32; serial = 0 })
 kept earlier (Trailer r) = Trailer (record r { check = 0; serial = 0 })
 
--- how the records of an input end: behind the last, whose number is one less, or at a record that is refused as it is read
+-- how the records of an input end: behind the last, whose number is one less, or at a record that cannot be read
 pub data Ending : Type 0 where
   Done : ℕ → Ending
-  Broken : ℕ → BaseRefusal → Ending
+  Broken : RecordFault → Ending
 
-abbrev pub at_record : ℕ → Option BaseRefusal → Option (ℕ × BaseRefusal) → Option (ℕ × BaseRefusal)
-at_record number (Some refusal) later = Some (number, refusal)
+abbrev pub at_record : ℕ → Option BaseRefusal → Option BaseFault → Option BaseFault
+at_record number (Some refusal) later = Some (Refused number refusal)
 at_record number None later = later
 
-abbrev pub at_end : Ending → Option BaseRefusal → Option (ℕ × BaseRefusal)
-at_end (Broken number refusal) lacking = Some (number, refusal)
+abbrev pub at_end : Ending → Option BaseRefusal → Option BaseFault
+at_end (Broken fault) lacking = Some (Read fault)
 at_end (Done number) lacking = at_record number lacking None
 
 -- the records of a base in order, behind those that it has so far, the latest of which comes first
@@ -168,23 +175,31 @@ kept_all earlier [] = []
 kept_all earlier (r ∷ later) = kept earlier r ∷ kept_all (kept earlier r ∷ earlier) later
 
 -- the first record that cannot stand, of records with their numbers, and how they end
-abbrev pub first_refusal : Ending → List Record → List (ℕ × Record) → Option (ℕ × BaseRefusal)
+abbrev pub first_refusal : Ending → List Record → List (ℕ × Record) → Option BaseFault
 first_refusal ending earlier [] = at_end ending (missing earlier)
 first_refusal ending earlier (r ∷ later) = at_record r.0 (refusal_at earlier r.1) (first_refusal ending (kept earlier r.1 ∷ earlier) later)
 
+-- ---- the numbers of refusals
+
+abbrev pub refusal_number : BaseRefusal → ℕ
+refusal_number refused.BadType = 11
+refusal_number refused.OpenEnd = 12
+refusal_number refused.NoHeader = 30
+refusal_number refused.NoCarrier = 31
+refusal_number refused.NoTrailer = 32
+refusal_number refused.OtherAirline = 33
+refusal_number refused.Overlap = 34
+refusal_number refused.Segment = 35
+refusal_number refused.Overflow = 36
+refusal_number refused.Frequency = 37
+refusal_number refused.Continuation = 38
+
+abbrev pub base_fault_number : BaseFault → ℕ
+base_fault_number fault.Memory = 90
+base_fault_number (Read f) = fault_number f
+base_fault_number (Refused n refusal) = refusal_number refusal
+
 -- ---- notes
-
--- what is noted of a data set and not refused
-pub data Note : Type 0 where
-  Serial : ℕ → Note  -- the record whose serial is not one more than that of the record before
-  CheckReference : ℕ → Note  -- the trailer whose check reference is not the serial of the record before
-
-abbrev pub serial_of : Record → ℕ
-serial_of (Header r) = r.serial
-serial_of (Carrier r) = r.serial
-serial_of (Leg r) = r.serial
-serial_of (Segment r) = r.serial
-serial_of (Trailer r) = r.serial
 
 abbrev pub note_if : Bool → Note → List Note
 note_if test note = if test then note ∷ [] else []
@@ -206,10 +221,14 @@ notes_of previous (r ∷ later) =
 
 -- ---- the whole
 
-abbrev pub unless_refused : Option (ℕ × BaseRefusal) → List Record × List Note → Result (List Record × List Note) (ℕ × BaseRefusal)
+-- what a data set is read as
+abbrev pub Outcome : Type 0
+Outcome = Result (List Record × List Note) BaseFault
+
+abbrev pub unless_refused : Option BaseFault → List Record × List Note → Outcome
 unless_refused (Some refusal) base = Err refusal
 unless_refused None base = Ok base
 
--- the records and notes of a base, or the number of the first record that cannot stand with its refusal
-abbrev pub data_set : Ending → List (ℕ × Record) → Result (List Record × List Note) (ℕ × BaseRefusal)
+-- the records and notes of a base, or the first record that cannot stand
+abbrev pub data_set : Ending → List (ℕ × Record) → Outcome
 data_set ending records = unless_refused (first_refusal ending [] records) (kept_all [] (map (λ r. r.1) records), notes_of 0 records)

@@ -8,8 +8,10 @@ use Rattle.ssim_records.specs.declared.trailer.EndCode.TheVariants as code
 use Rattle.ssim_schedule.specs.Timetable.{LegValue, itinerary}
 use Rattle.ssim_schedule.specs.Export.{flight_at}
 use Rattle.ssim_schedule.specs.ReadBack.{place_of, section_items}
-use Rattle.ssim_schedule.specs.Base.{Done, Serial, CheckReference, first_refusal, notes_of, end_of}
+use Rattle.ssim_schedule.specs.Base.{Done, first_refusal, notes_of, end_of}
+use Rattle.ssim_schedule.specs.declared.fault.BaseFault.TheVariants.{Refused}
 use Rattle.ssim_schedule.specs.declared.fault.BaseRefusal.TheVariants as refused
+use Rattle.ssim_schedule.specs.declared.note.Note.TheVariants.{Serial, CheckReference}
 
 abbrev flight : FlightNumber
 flight = record { number = 544; suffix = 32 }
@@ -45,19 +47,19 @@ rests = refl
 other_flight : itinerary (top ∷ season ∷ leg ∷ tail ∷ bottom 4 5 ∷ []) (record { number = 544; suffix = 65 }) 10 ≡ []
 other_flight = refl
 
-empty : first_refusal (Done 1) [] [] ≡ Some (1, refused.NoHeader)
+empty : first_refusal (Done 1) [] [] ≡ Some (Refused 1 refused.NoHeader)
 empty = refl
 
-no_header : first_refusal (Done 3) [] ((1, season) ∷ (2, leg) ∷ []) ≡ Some (1, refused.NoHeader)
+no_header : first_refusal (Done 3) [] ((1, season) ∷ (2, leg) ∷ []) ≡ Some (Refused 1 refused.NoHeader)
 no_header = refl
 
-no_carrier : first_refusal (Done 2) [] ((1, top) ∷ []) ≡ Some (2, refused.NoCarrier)
+no_carrier : first_refusal (Done 2) [] ((1, top) ∷ []) ≡ Some (Refused 2 refused.NoCarrier)
 no_carrier = refl
 
-no_trailer : first_refusal (Done 4) [] ((1, top) ∷ (2, season) ∷ (3, leg) ∷ []) ≡ Some (4, refused.NoTrailer)
+no_trailer : first_refusal (Done 4) [] ((1, top) ∷ (2, season) ∷ (3, leg) ∷ []) ≡ Some (Refused 4 refused.NoTrailer)
 no_trailer = refl
 
-no_leg : first_refusal (Done 5) [] ((1, top) ∷ (2, season) ∷ (3, tail) ∷ (4, bottom 3 4) ∷ []) ≡ Some (3, refused.Segment)
+no_leg : first_refusal (Done 5) [] ((1, top) ∷ (2, season) ∷ (3, tail) ∷ (4, bottom 3 4) ∷ []) ≡ Some (Refused 3 refused.Segment)
 no_leg = refl
 
 stands : first_refusal (Done 6) [] ((1, top) ∷ (2, season) ∷ (3, leg) ∷ (4, tail) ∷ (5, bottom 4 5) ∷ []) ≡ None

@@ -14,7 +14,8 @@ use Rattle.ssim_records.specs.declared.record.Record.{Record}
 use Rattle.ssim_records.specs.declared.record.Record.TheVariants.{Header, Carrier, Trailer}
 use Rattle.ssim_records.specs.declared.trailer.EndCode.TheVariants.{End}
 use Rattle.ssim_schedule.specs.Timetable.{LegValue, Days, itinerary, days_of, on_day, Above, same_flight}
-use Rattle.ssim_schedule.specs.Base.{Ending, Done, Note, first_refusal, kept_all, data_set}
+use Rattle.ssim_schedule.specs.Base.{Ending, Done, first_refusal, kept_all, data_set}
+use Rattle.ssim_schedule.specs.declared.note.Note.{Note}
 use Rattle.ssim_schedule.specs.Export.{Frame, pieces, chapter7_records, export_of, fill_count, chapter7}
 
 -- a value for each day of each flight, each with its legs by rising sequence

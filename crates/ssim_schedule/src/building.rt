@@ -53,11 +53,11 @@ impl Building {
     }
 
     /// What these records and one more before them say.
-    pub(crate) fn put(&mut self, record: &Record) -> Result<(), Memory>
-        requires { IsClosed record.now }
-        ensures { OnOk result ((done : List Record) → IsBuilt self.old done → IsBuilt self.new (record.now ∷ done)) }
+    pub(crate) fn put(&mut self, one: &Record) -> Result<(), Memory>
+        requires { IsClosed one.now }
+        ensures { OnOk result ((done : List Record) → IsBuilt self.old done → IsBuilt self.new (one.now ∷ done)) }
     {
-        match record {
+        match one {
             Record::Leg(leg) => self.put_leg(leg),
             Record::Segment(segment) => self.put_segment(segment),
             Record::Header(_) | Record::Carrier(_) | Record::Trailer(_) => Ok(()),

@@ -3,7 +3,7 @@
 //! - [`Schedule`]: the itinerary of each flight on each date, which is its [`PlacedLeg`]s in order.
 //! - [`laws`]: what holds of exports as they are defined. An export reads back to its timetable, byte for byte.
 //! - [`Stations`]: which UTC variation a station has on a day, read from a table of [`StationRow`]s.
-//! - [`BaseRefusal`]: why records are no base.
+//! - [`BaseFault`]: why records are no base.
 //!
 //! To come: reading a base, writing an export, and what messages do to a timetable.
 #![tactic(auto)]
@@ -14,6 +14,7 @@ mod itinerary;
 pub mod laws;
 mod leg;
 mod line;
+mod note;
 mod put;
 mod schedule;
 #[cfg(test)]
@@ -21,8 +22,9 @@ mod station_tests;
 mod stations;
 mod waiting;
 
-pub use fault::BaseRefusal;
+pub use fault::{BaseFault, BaseRefusal};
 pub use itinerary::Itinerary;
 pub use leg::PlacedLeg;
+pub use note::Note;
 pub use schedule::{FlightPeriods, Schedule};
 pub use stations::{StationFault, StationRow, Stations};
