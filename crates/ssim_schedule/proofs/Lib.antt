@@ -13,7 +13,9 @@ pub mod Places
 pub mod ReadOnce
 pub mod Serials
 pub mod Stands
+pub mod StationLines
 pub mod TableLemmas
 pub mod Valid
 pub mod Whole
 pub mod KeptLemmas
+pub mod ReadingLemmas

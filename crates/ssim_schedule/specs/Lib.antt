@@ -12,4 +12,7 @@ pub mod Built
 pub mod Taken
 pub mod Kept
 pub mod Gathering
+pub mod Stations
+pub mod BaseSeen
+pub mod Reading
 pub mod Examples

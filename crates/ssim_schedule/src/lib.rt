@@ -2,11 +2,13 @@
 //!
 //! - [`Schedule`]: the itinerary of each flight on each date, which is its [`PlacedLeg`]s in order.
 //! - [`laws`]: what holds of exports as they are defined. An export reads back to its timetable, byte for byte.
+//! - [`Stations`]: which UTC variation a station has on a day, read from a table of [`StationRow`]s.
 //! - [`BaseFault`]: why records are no base.
 //!
 //! To come: reading a base, writing an export, and what messages do to a timetable.
 #![tactic(auto)]
 
+mod base;
 mod building;
 mod fault;
 mod gathering;
@@ -15,14 +17,21 @@ mod kept;
 pub mod laws;
 mod leg;
 mod leg_names;
+mod line;
 mod note;
 mod put;
+mod reading;
 mod schedule;
+#[cfg(test)]
+mod station_tests;
+mod stations;
 mod taken;
 mod waiting;
 
+pub use base::{Base, BaseRead};
 pub use fault::{BaseFault, BaseRefusal};
 pub use itinerary::Itinerary;
 pub use leg::PlacedLeg;
 pub use note::Note;
 pub use schedule::{FlightPeriods, Schedule};
+pub use stations::{StationFault, StationRow, Stations};
