@@ -19,3 +19,5 @@ pub mod Valid
 pub mod Whole
 pub mod KeptLemmas
 pub mod ReadingLemmas
+pub mod FlightLists
+pub mod BaseFrame

@@ -1,13 +1,13 @@
 -- From record to record: what was read so far, and what the blocks that are left still give.
-use Rattle.std.proofs.Common.{◌≡◌, ℕ, zero, suc, ◌+◌, ◌-◌, ◌*◌, ◌<◌, ◌≤◌, false, not, nat_eq, List, [], ◌∷◌, ◌++◌, map, reverse, length, Option, Some, None, Result, Ok, Err, inl, inr, refl, sym, ap, subst, ◌∙◌, append_assoc, arith}
+use Rattle.std.proofs.Common.{◌≡◌, ℕ, zero, suc, ◌+◌, ◌-◌, ◌<◌, false, not, nat_eq, List, [], ◌∷◌, ◌++◌, map, reverse, length, Option, Some, None, Ok, Err, inl, inr, refl, sym, ap, subst, ◌∙◌, append_assoc, arith}
 use Rattle.std.proofs.lemmas.List.{append-nil, reverse-append}
 use Rattle.std.proofs.lemmas.List.Elements.{All-append}
 use Rattle.std.specs.List.{All}
 use Rattle.std.specs.Prelude.{IfNone}
 use Rattle.ssim_records.specs.Blocks.{beyond}
 use Rattle.ssim_records.specs.Frames.{Frames, FramesExist, others}
-use Rattle.ssim_records.specs.Reading.{Reading, Answer, GivesNext, HasNumber, IsAhead}
-use Rattle.ssim_records.specs.Record.{IsRecord, Spells, fault_of, serial_of}
+use Rattle.ssim_records.specs.Reading.{Reading, GivesNext, HasNumber, IsAhead}
+use Rattle.ssim_records.specs.Record.{IsRecord, fault_of, serial_of}
 use Rattle.ssim_records.specs.declared.fault.RecordFault.{RecordFault}
 use Rattle.ssim_records.specs.declared.fault.RecordFault.TheVariants.{Short, BadType, BadColumn, ReadFault, ReaderNeverEnds}
 use Rattle.ssim_records.specs.declared.record.Record.{Record}
@@ -15,13 +15,14 @@ use Rattle.ssim_records.specs.declared.records.Ending as records
 use Rattle.ssim_schedule.specs.Base.{Ending, Done, Broken, Outcome, at_record, check_notes, data_set, first_refusal, kept, kept_all, missing, note_if, notes_of, refusal_at, unless_refused}
 use Rattle.ssim_schedule.specs.Gathering.{IsSoFar, notes_at}
 use Rattle.ssim_schedule.specs.Kept.{IsKept, IsRefused, Stood}
-use Rattle.ssim_schedule.specs.Reading.{AreBlocks, AreFirst, AreGiven, AreGivenOf, Begins, Gives, IsOfAll, IsOfFirst, IsReadAs, IsReadOf, Refuses, Stops}
+use Rattle.ssim_schedule.specs.Reading.{AreBlocks, AreGiven, AreGivenOf, Begins, Gives, IsReadOf, Refuses, Stops}
 use Rattle.ssim_schedule.specs.ReadBack.{EachSpells}
 use Rattle.ssim_schedule.specs.declared.fault.BaseFault.{BaseFault}
 use Rattle.ssim_schedule.specs.declared.fault.BaseFault.TheVariants as fault
 use Rattle.ssim_schedule.specs.declared.fault.BaseFault.TheVariants.{Read, Refused}
 use Rattle.ssim_schedule.specs.declared.fault.BaseRefusal.{BaseRefusal}
 use Rattle.ssim_schedule.specs.declared.gathering.Gathering.{Gathering}
+use Rattle.ssim_schedule.specs.declared.note.Note.{Note}
 use Rattle.ssim_schedule.specs.declared.note.Note.TheVariants.{Serial}
 
 abbrev pub Numbered : Type 0
@@ -272,3 +273,29 @@ step-refused limit told left left' r new g earlier done x fault.Memory so_far t 
 step-refused limit told left left' r new g earlier done x (Read f) so_far t given is = absurd is
 step-refused limit told left left' r new g earlier done x (Refused n refusal) so_far t given is =
     subst (λ k. IsReadOf limit told (Err (Refused k refusal))) (sym is.0) (told-refused limit told left left' r new g earlier done x refusal so_far t given is.1)
+
+-- ---- behind the last record
+
+-- nothing is missing: the records and notes so far are the outcome
+pub whole-outcome : (g : Gathering) (earlier : List Record) (done : List Numbered) (number : ℕ) → IsSoFar g earlier done → missing earlier ≡ None
+    → Ok (g.kept.records.items, g.notes.items) ≡ data_set (Done number) done
+whole-outcome g earlier done number so_far whole =
+    ap (λ rs. outcome rs g.notes.items) (so_far.is_kept.records ∙ sym (append-nil (reverse earlier)) ∙ sym (so_far.kept []) ∙ ap (λ rs. kept_all [] (records_in rs)) (append-nil done))
+    ∙ ap (outcome (kept_all [] (records_in done))) (sym (append-nil g.notes.items) ∙ sym (so_far.noted []) ∙ ap (notes_of 0) (append-nil done))
+    ∙ ap (λ o. unless_refused o (kept_all [] (records_in done), notes_of 0 done))
+    (sym (ap (first_refusal (Done number) []) (sym (append-nil done)) ∙ so_far.refused (Done number) [] ∙ ap (λ o. at_record number o None) whole))
+  where
+    outcome : List Record → List Note → Outcome
+    outcome rs ns = Ok (rs, ns)
+
+-- something is missing
+pub missing-outcome : (g : Gathering) (earlier : List Record) (done : List Numbered) (number : ℕ) (refusal : BaseRefusal) → IsSoFar g earlier done → missing earlier ≡ Some refusal
+    → Err (Refused number refusal) ≡ data_set (Done number) done
+missing-outcome g earlier done number refusal so_far lacking =
+    sym (ap (λ o. unless_refused o (kept_all [] (records_in done), notes_of 0 done))
+    (ap (first_refusal (Done number) []) (sym (append-nil done)) ∙ so_far.refused (Done number) [] ∙ ap (λ o. at_record number o None) lacking))
+
+-- the outcome of all records
+pub of-all : (limit : ℕ) (told : Option (List ℕ)) (done : List Numbered) (number : ℕ) (outcome : Outcome) → AreGivenOf limit told done (Done number) → outcome ≡ data_set (Done number) done → IsReadOf limit told outcome
+of-all limit None done number outcome given is = tt
+of-all limit (Some all) done number outcome given is = inl (record { records = done; ending = Done number; given = given; is = is })

@@ -1,5 +1,5 @@
 -- What contracts see of a base, and what it always is.
-use Rattle.std.specs.Prelude.{◌≡◌, ℕ, Bool, false, List, [], Ok}
+use Rattle.std.specs.Prelude.{◌≡◌, ℕ, Bool, false, List, Ok}
 use Rattle.std.specs.List.{All, list_any}
 use Rattle.ssim_values.specs.Flight.{FlightNumber, IsFlight}
 use Rattle.ssim_records.specs.Record.{IsRecord}

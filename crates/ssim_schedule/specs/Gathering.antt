@@ -28,3 +28,9 @@ pub record HasRead (limit : ℕ) (told : Option (List ℕ)) (g : Gathering) (num
   pub done : List (ℕ × Record)
   pub so_far : IsSoFar g earlier done
   pub given : AreGivenOf limit told done (Done number)
+
+-- whatever was read is known
+pub record IsWhole (g : Gathering) : Type 0 where
+  pub earlier : List Record
+  pub done : List (ℕ × Record)
+  pub so_far : IsSoFar g earlier done

@@ -1,16 +1,19 @@
 //! A data set as it is kept.
 
-ghost use Rattle.std.specs.Prelude.{◌≡◌, ◌↔◌, List, IsTrue, IfOk, IfErr};
+ghost use Rattle.std.specs.Prelude.{◌≡◌, ◌↔◌, ℕ, List, Option, IsTrue, IfOk, IfErr};
 ghost use Rattle.ssim_schedule.specs.Base.{airline_of};
 ghost use Rattle.ssim_schedule.specs.BaseSeen.{AreFlights};
+ghost use Rattle.ssim_schedule.specs.Export.{Frame};
+ghost use Rattle.ssim_schedule.specs.ReadBack.{HasFrame};
 ghost use Rattle.ssim_schedule.specs.Reading.{Answers, FailsAs, IsReadOf};
 
 use crate::fault::BaseFault;
+use crate::flights::flights_of;
 use crate::gathering::Gathering;
 use crate::note::Note;
 use crate::reading::gather;
 use crate::stations::{StationRow, Stations};
-use ssim_records::{Record, Source};
+use ssim_records::{Carrier, Header, Record, Source, Trailer};
 use ssim_values::{Airline, Flight, Memory};
 use std::alloc::Global;
 use std::marker::Model;
@@ -46,6 +49,111 @@ pub struct BaseRead {
 }
 
 impl Base {
+    ghost use Rattle.ssim_schedule.specs.Gathering.{HasRead, IsWhole};
+
+    /// Reads a data set, record by record, and keeps the station table with it. At most `limit` bytes and one more are fetched.
+    ///
+    /// Refuses the first record that cannot stand, with its number from 1, fill counted. At one record the order is 13, 14, 10, 11,
+    /// 12; its place (30, 31, else 11); 33, 36, 37, 12 at column 22 for an open end before the start, 34, 35, 38. A record that is
+    /// missing at the end has the number after the last.
+    pub fn read<R: Source>(
+        alloc: Global,
+        reader: &mut R,
+        stations: Stations,
+        limit: u64,
+    ) -> Result<BaseRead, BaseFault>
+        ensures read { Answers result (IsReadOf limit (R.left reader.old)) }
+        ensures rows { IfOk result (λ read. read.base.rows ≡ stations) }
+        ensures no_failure { IfOk result (λ _. R.failures reader.new ≡ R.failures reader.old) }
+        ensures failure { IfErr result (λ e. FailsAs (R.failures reader.old) (R.failures reader.new) e) }
+    {
+        let (gathering, number) = gather(alloc, reader, limit)?;
+        Base::finish(alloc, gathering, number, stations)
+    }
+
+    // The base of the records that were gathered, where none is missing behind them.
+    fn finish(
+        alloc: Global,
+        gathering: Gathering,
+        number: u64,
+        stations: Stations,
+    ) -> Result<BaseRead, BaseFault>
+        requires { IsWhole gathering }
+        ensures read { (limit : ℕ) (told : Option (List ℕ)) → HasRead limit told gathering number → Answers result (IsReadOf limit told) }
+        ensures rows { IfOk result (λ read. read.base.rows ≡ stations) }
+        ensures failure { (n : ℕ) → IfErr result (λ e. FailsAs n n e) }
+    {
+        let Gathering { kept, notes, .. } = gathering;
+        if let Some(refusal) = kept.missing() {
+            return Err(BaseFault::Refused(number, refusal));
+        }
+        let flights = flights_of(alloc, &kept.records)?;
+        let base = Base {
+            records: kept.records,
+            stations,
+            flights,
+            alloc,
+        };
+        Ok(BaseRead { base, notes })
+    }
+
+    /// The same base.
+    pub fn copy(&self) -> Result<Base, Memory>
+        ensures { IfOk result (λ copy. copy ≡ self.now) }
+    {
+        Ok(Base {
+            records: Vec::from_slice(self.alloc, &self.records)?,
+            stations: self.stations.copy(self.alloc)?,
+            flights: Vec::from_slice(self.alloc, &self.flights)?,
+            alloc: self.alloc,
+        })
+    }
+
+    /// Whether two bases are the same: their records are, and the rows of their station tables.
+    pub fn same(&self, other: &Base) -> bool
+        ensures { IsTrue result ↔ (self.now ≡ other.now) }
+    {
+        same_records(&self.records, &other.records) && self.stations.same(&other.stations)
+    }
+
+    /// The airline whose schedule it is.
+    pub fn airline(&self) -> Airline
+        ensures { result ≡ airline_of self.now.records }
+    {
+        self.carrier().airline()
+    }
+
+    /// The header, which is the first record.
+    pub(crate) fn header(&self) -> &Header
+        ensures { (frame : Frame) → HasFrame frame self.now.records → result.now ≡ frame.header }
+    {
+        match &self.records[0] {
+            Record::Header(header) => header,
+            _ => unreachable!(),
+        }
+    }
+
+    /// The carrier record, which is the second.
+    pub(crate) fn carrier(&self) -> &Carrier
+        ensures carrier { (frame : Frame) → HasFrame frame self.now.records → result.now ≡ frame.carrier }
+        ensures exists { (frame : Frame) × HasFrame frame self.now.records }
+    {
+        match &self.records[1] {
+            Record::Carrier(carrier) => carrier,
+            _ => unreachable!(),
+        }
+    }
+
+    /// The trailer, which is the last.
+    pub(crate) fn trailer(&self) -> &Trailer
+        ensures { (frame : Frame) → HasFrame frame self.now.records → result.now ≡ frame.trailer }
+    {
+        match &self.records[self.records.len() - 1] {
+            Record::Trailer(trailer) => trailer,
+            _ => unreachable!(),
+        }
+    }
+
     /// The records, in order, with serial 0.
     pub fn records(&self) -> &[Record]
         ensures { result.now ≡ self.now.records }
@@ -66,4 +174,19 @@ impl Base {
     {
         &self.flights
     }
+}
+
+// Whether the two lists have the same records.
+fn same_records(mine: &[Record], theirs: &[Record]) -> bool
+    ensures { IsTrue result ↔ (mine.now ≡ theirs.now) }
+{
+    if mine.len() != theirs.len() {
+        return false;
+    }
+    for (place, record) in mine.iter().enumerate() {
+        if !record.same(&theirs[place]) {
+            return false;
+        }
+    }
+    true
 }

@@ -3,7 +3,7 @@
 ghost use Rattle.std.specs.Prelude.{◌≡◌, ◌++◌, ◌∷◌, [], List, IfErr, IfOk, OnOk};
 ghost use Rattle.std.specs.Str.{bytes_eq};
 ghost use Rattle.ssim_records.specs.declared.record.Record.{Record};
-ghost use Rattle.ssim_schedule.specs.Base.{end_of, is_overflow, is_rate};
+ghost use Rattle.ssim_schedule.specs.Base.{end_of, is_overflow, is_rate, missing};
 ghost use Rattle.ssim_schedule.specs.Kept.{IsKept, IsPlace, IsRefused, LegStands, Stood};
 ghost use Rattle.ssim_schedule.specs.declared.kept.Place.TheVariants as place;
 
@@ -75,6 +75,18 @@ impl Kept {
                 }
             },
             Place::End => Err(BaseFault::Refused(number, BaseRefusal::BadType)),
+        }
+    }
+
+    /// What is missing where no record follows.
+    pub(crate) fn missing(&self) -> Option<BaseRefusal>
+        ensures { (earlier : List Record) → IsKept self.now earlier → result ≡ missing earlier }
+    {
+        match self.place {
+            Place::Header => Some(BaseRefusal::NoHeader),
+            Place::Carrier => Some(BaseRefusal::NoCarrier),
+            Place::Legs(_) => Some(BaseRefusal::NoTrailer),
+            Place::End => None,
         }
     }
 

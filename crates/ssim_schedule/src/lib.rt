@@ -11,6 +11,7 @@
 mod base;
 mod building;
 mod fault;
+mod flights;
 mod gathering;
 mod itinerary;
 mod kept;

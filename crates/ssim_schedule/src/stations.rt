@@ -1,12 +1,12 @@
 //! The UTC variations of stations, from a table of lines.
 
-ghost use Rattle.std.specs.Prelude.{◌≡◌, ◌≤◌, ◌++◌, List, [], IfOk, IfErr, IfSome, IfNone, Ok};
+ghost use Rattle.std.specs.Prelude.{◌≡◌, ◌≤◌, ◌++◌, List, [], IfOk, IfErr, IfSome, IfNone, IsTrue, ◌↔◌, Ok};
 ghost use Rattle.ssim_text.specs.Left.{lines_left, numbered};
 ghost use Rattle.ssim_text.specs.Lines.{day_in, station_in};
 ghost use Rattle.ssim_schedule.specs.Stations.{Gives, NamesLine, Row, SpellsTable, StopsAs, covers, row_of, rows_of, variation_at, variation_in};
 
 use crate::line::{cut, first_word, without_end};
-use ssim_values::{Day, Station, Variation};
+use ssim_values::{Day, Memory, Station, Variation};
 use std::alloc::{AllocFailed, Global};
 use std::marker::Model;
 use thiserror::Error;
@@ -98,6 +98,16 @@ impl StationRow {
         ensures { result ≡ self.now.variation }
     {
         self.variation
+    }
+
+    /// Whether two rows are the same.
+    fn same(&self, other: &StationRow) -> bool
+        ensures { IsTrue result ↔ (self.now ≡ other.now) }
+    {
+        self.station == other.station
+            && self.first == other.first
+            && self.last == other.last
+            && self.variation == other.variation
     }
 
     fn covers(&self, station: Station, day: Day) -> bool
@@ -202,6 +212,22 @@ impl Stations {
         }
     }
 
+    /// The same table.
+    pub(crate) fn copy(&self, alloc: Global) -> Result<Stations, Memory>
+        ensures { IfOk result (λ copy. copy ≡ self.now) }
+    {
+        Ok(Stations {
+            rows: Vec::from_slice(alloc, &self.rows)?,
+        })
+    }
+
+    /// Whether two tables have the same rows.
+    pub(crate) fn same(&self, other: &Stations) -> bool
+        ensures { IsTrue result ↔ (self.now ≡ other.now) }
+    {
+        same_rows(&self.rows, &other.rows)
+    }
+
     /// The rows in the order of their lines.
     pub fn rows(&self) -> &[StationRow]
         ensures { result.now ≡ self.now }
@@ -268,4 +294,19 @@ fn read_rows(alloc: Global, text: &[u8]) -> Result<Vec<StationRow>, StationFault
             [] => return Ok(rows),
         }
     }
+}
+
+// Whether the two lists have the same rows.
+fn same_rows(mine: &[StationRow], theirs: &[StationRow]) -> bool
+    ensures { IsTrue result ↔ (mine.now ≡ theirs.now) }
+{
+    if mine.len() != theirs.len() {
+        return false;
+    }
+    for (place, row) in mine.iter().enumerate() {
+        if !row.same(&theirs[place]) {
+            return false;
+        }
+    }
+    true
 }

@@ -1,8 +1,8 @@
 -- From record to record, by the lemmas on what was read so far; each answer that ends the reading is the outcome of the bytes.
-use Rattle.std.proofs.Common.{rules, ◌≡◌, ℕ, ◌+◌, ◌*◌, Some, None, Ok, Err, [], ◌∷◌, ◌++◌, refl, sym, ap, subst, ◌∙◌, arith}
+use Rattle.std.proofs.Common.{rules, ◌≡◌, ℕ, ◌+◌, Some, None, Ok, Err, [], ◌∷◌, ◌++◌, refl, sym, ap, subst, ◌∙◌, arith}
 use Rattle.ssim_records.specs.Reading.{Answer, Counts, FailsAs, GivesNext, HasNumber, Reading, ending_of}
 use Rattle.ssim_schedule.specs.Base.{Done, kept}
-use Rattle.ssim_schedule.specs.Reading.{AreGivenOf, Refuses}
+use Rattle.ssim_schedule.specs.Reading.{AreGivenOf}
 use Rattle.ssim_schedule.proofs.ReadingLemmas.{Numbered, Told, step-refused, while-open, nothing, one-more, told-end, told-fault, told-first, told-step}
 use Rattle.ssim_schedule.proofs.reading.gather.Goals as goal
 

@@ -1,5 +1,5 @@
 -- A leg record stands where none before it has one of its dates.
-use Rattle.std.proofs.Common.{◌≡◌, ◌++◌, ◌∷◌, [], ℕ, Bool, ◌||◌, nat_eq, nat_lt, if◌then◌else◌, refl, sym, ap, subst, ◌∙◌}
+use Rattle.std.proofs.Common.{◌≡◌, ◌++◌, ◌∷◌, [], ℕ, ◌||◌, nat_eq, nat_lt, if◌then◌else◌, refl, sym, ap, subst, ◌∙◌}
 use Rattle.std.specs.BTreeSet.{contains}
 use Rattle.std.specs.Ordering.{nat_cmp}
 use Rattle.ssim_values.specs.Flight.{FlightNumber}

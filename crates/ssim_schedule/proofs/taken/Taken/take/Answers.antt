@@ -1,8 +1,8 @@
 -- The dates at the place are those that were taken out, or none is used.
-use Rattle.std.proofs.Common.{rules, ◌≡◌, ℕ, nat_lt, slice_index_or, List, sym, ap, ◌∙◌}
+use Rattle.std.proofs.Common.{rules, ℕ, nat_lt, slice_index_or, List, ap, ◌∙◌}
 use Rattle.ssim_periods.specs.Calendar.{holds}
 use Rattle.ssim_periods.specs.Days.{count_on}
-use Rattle.ssim_schedule.specs.Taken.{class_of_use, sequence_place, used_at}
+use Rattle.ssim_schedule.specs.Taken.{class_of_use}
 use Rattle.ssim_schedule.specs.declared.taken.DateUse.{DateUse}
 use Rattle.ssim_schedule.proofs.taken.Taken.take.Goals as goal
 use Rattle.ssim_schedule.proofs.taken.Taken.take.Goals.{in-Some, in-None}

@@ -1,0 +1,38 @@
+-- The records of a base stand in its frame: header and carrier first, the trailer last.
+use Rattle.std.proofs.Common.{◌≡◌, suc, ◌+◌, ◌-◌, List, [], ◌∷◌, ◌++◌, length, slice_index_or, refl, ap, ◌∙◌, arith}
+use Rattle.std.proofs.lemmas.List.{length-append}
+use Rattle.ssim_records.specs.declared.record.Record.{Record}
+use Rattle.ssim_records.specs.declared.record.Record.TheVariants.{Header, Carrier, Trailer}
+use Rattle.ssim_schedule.specs.Base.{airline_of}
+use Rattle.ssim_schedule.specs.BaseSeen.{WasRead}
+use Rattle.ssim_schedule.specs.Export.{Frame}
+use Rattle.ssim_schedule.specs.ReadBack.{CanExport, HasFrame}
+use Rattle.ssim_schedule.proofs.Bases.{bases_export}
+
+pub exportable : (rs : List Record) → WasRead rs → CanExport rs
+exportable rs w = bases_export w.ending w.records rs w.notes w.spelt w.read
+
+pub framed : (rs : List Record) → WasRead rs → (frame : Frame) × HasFrame frame rs
+framed rs w = let e = exportable rs w in (e.frame, e.has_frame)
+
+pub length-framed : (frame : Frame) (rs : List Record) → (f : HasFrame frame rs) → length rs ≡ suc (suc (length f.0 + 1))
+length-framed frame rs f = ap length f.1 ∙ ap (λ n. suc (suc n)) (length-append f.0 (Trailer frame.trailer ∷ []))
+
+pub first-is : (frame : Frame) (rs : List Record) (d : Record) → HasFrame frame rs → slice_index_or rs 0 d ≡ Header frame.header
+first-is frame rs d f = ap (λ xs. slice_index_or xs 0 d) f.1
+
+pub second-is : (frame : Frame) (rs : List Record) (d : Record) → HasFrame frame rs → slice_index_or rs 1 d ≡ Carrier frame.carrier
+second-is frame rs d f = ap (λ xs. slice_index_or xs 1 d) f.1
+
+at-end : (xs : List Record) (x d : Record) → slice_index_or (xs ++ x ∷ []) (length xs) d ≡ x
+at-end [] x d = refl
+at-end (y ∷ xs) x d = at-end xs x d
+
+pub last-is : (frame : Frame) (rs : List Record) (d : Record) → HasFrame frame rs → slice_index_or rs (length rs - 1) d ≡ Trailer frame.trailer
+last-is frame rs d f =
+    let len = length-framed frame rs f in
+    let place : length rs - 1 ≡ suc (suc (length f.0)) = omega (arith, len) in
+    ap (λ n. slice_index_or rs n d) place ∙ ap (λ xs. slice_index_or xs (suc (suc (length f.0))) d) f.1 ∙ at-end f.0 (Trailer frame.trailer) d
+
+pub airline-is : (frame : Frame) (rs : List Record) → HasFrame frame rs → airline_of rs ≡ frame.carrier.airline
+airline-is frame rs f = ap airline_of f.1

@@ -1,0 +1,19 @@
+-- The second record of a base is its carrier.
+use Rattle.std.proofs.Common.{arith, ◌∙◌}
+use Rattle.ssim_schedule.proofs.BaseFrame.{framed, length-framed, second-is}
+use Rattle.ssim_schedule.proofs.base.Base.carrier.Goals as goal
+
+pub index-requires : goal.index-requires
+index-requires c =
+    let f = framed c.self.inside.records.items c.self.invariant.0 in
+    let len = length-framed f.0 c.self.inside.records.items f.1 in
+    omega (arith, len)
+
+pub unreachable-requires : goal.unreachable-requires
+unreachable-requires c =
+    let f = framed c.self.inside.records.items c.self.invariant.0 in
+    absurd (c.in_default.not-Carrier f.0.carrier (c.index.ensures ∙ second-is f.0 c.self.inside.records.items c.index.result.now f.1))
+
+pub returns-clause-exists : goal.returns-clause-exists
+returns-clause-exists c =
+    rw (← c.self.view_is) (framed c.self.inside.records.items c.self.invariant.0)

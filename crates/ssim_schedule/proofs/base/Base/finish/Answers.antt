@@ -1,0 +1,33 @@
+-- The records that were gathered are a base where none is missing.
+use Rattle.std.proofs.Common.{◌≡◌, List, Err, None, rules, sym, subst, ◌∙◌}
+use Rattle.ssim_records.specs.declared.record.Record.{Record}
+use Rattle.ssim_schedule.specs.Base.{Done}
+use Rattle.ssim_schedule.specs.BaseSeen.{AreFlights}
+use Rattle.ssim_schedule.specs.declared.fault.BaseFault.TheVariants.{Refused}
+use Rattle.ssim_schedule.proofs.ReadingLemmas.{missing-outcome, of-all, whole-outcome}
+use Rattle.ssim_schedule.proofs.base.Base.finish.Goals as goal
+
+pub returns-in-Some-clause-read : goal.returns-in-Some-clause-read
+returns-in-Some-clause-read c = λ limit told h.
+    of-all limit told h.done c.args.number (Err (Refused c.args.number c.in-Some.refusal)) h.given
+    (missing-outcome c.args.gathering h.earlier h.done c.args.number c.in-Some.refusal h.so_far (sym (c.missing.ensures h.earlier h.so_far.is_kept) ∙ c.in-Some.is))
+
+pub invariant_of-base : goal.invariant_of-base
+invariant_of-base c =
+    let r = c.requires in
+    let none : c.missing.result ≡ None = search rules in (
+      record {
+        ending = Done c.args.number;
+        records = r.done;
+        notes = c.args.gathering.notes.items;
+        spelt = r.so_far.records;
+        read = sym (whole-outcome c.args.gathering r.earlier r.done c.args.number r.so_far (sym (c.missing.ensures r.earlier r.so_far.is_kept) ∙ none));
+      },
+      subst (λ (rs : List Record). AreFlights rs c.in_ok-flights.flights.items) c.deref.ensures.value c.in_ok-flights.ensures,
+    )
+
+pub returns-clause-read : goal.returns-clause-read
+returns-clause-read c = λ limit told h.
+    let none : c.missing.result ≡ None = search rules in
+    of-all limit told h.done c.args.number _ h.given
+    (whole-outcome c.args.gathering h.earlier h.done c.args.number h.so_far (sym (c.missing.ensures h.earlier h.so_far.is_kept) ∙ none))

@@ -1,0 +1,8 @@
+-- Gathering to the end counted no failure, and nothing is read behind it.
+use Rattle.std.proofs.Common.{ℕ, IfErr, sym, subst}
+use Rattle.ssim_schedule.specs.Reading.{FailsAs}
+use Rattle.ssim_schedule.proofs.base.Base.read.Goals as goal
+
+pub returns-clause-failure : goal.returns-clause-failure
+returns-clause-failure g c =
+    subst (λ (n : ℕ). IfErr c.finish.result (λ e. FailsAs (g.R.Source.failures c.args.reader.now) n e)) (sym c.in_ok-gathering.ensures.no_failure) (c.finish.ensures.failure (g.R.Source.failures c.args.reader.now))
