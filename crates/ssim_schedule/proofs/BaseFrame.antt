@@ -1,13 +1,16 @@
 -- The records of a base stand in its frame: header and carrier first, the trailer last.
-use Rattle.std.proofs.Common.{◌≡◌, suc, ◌+◌, ◌-◌, List, [], ◌∷◌, ◌++◌, length, slice_index_or, refl, ap, ◌∙◌, arith}
+use Rattle.std.proofs.Common.{◌≡◌, suc, ◌+◌, ◌-◌, List, [], ◌∷◌, ◌++◌, length, map, slice_index_or, refl, ap, subst, ◌∙◌, arith}
 use Rattle.std.proofs.lemmas.List.{length-append}
+use Rattle.std.proofs.lemmas.List.Elements.{All-from_recursion}
+use Rattle.std.specs.List.{All, AllByRecursion as Each}
 use Rattle.ssim_records.specs.declared.record.Record.{Record}
-use Rattle.ssim_records.specs.declared.record.Record.TheVariants.{Header, Carrier, Trailer}
-use Rattle.ssim_schedule.specs.Base.{airline_of}
+use Rattle.ssim_records.specs.declared.record.Record.TheVariants.{Header, Carrier, Leg, Segment, Trailer}
+use Rattle.ssim_schedule.specs.Base.{airline_of, first_refusal, kept, kept_all, notes_of}
 use Rattle.ssim_schedule.specs.BaseSeen.{WasRead}
+use Rattle.ssim_schedule.specs.Building.{IsClosed}
 use Rattle.ssim_schedule.specs.Export.{Frame}
 use Rattle.ssim_schedule.specs.ReadBack.{CanExport, HasFrame}
-use Rattle.ssim_schedule.proofs.Bases.{bases_export}
+use Rattle.ssim_schedule.proofs.Bases.{bases_export, from-ok}
 
 pub exportable : (rs : List Record) → WasRead rs → CanExport rs
 exportable rs w = bases_export w.ending w.records rs w.notes w.spelt w.read
@@ -36,3 +39,21 @@ last-is frame rs d f =
 
 pub airline-is : (frame : Frame) (rs : List Record) → HasFrame frame rs → airline_of rs ≡ frame.carrier.airline
 airline-is frame rs f = ap airline_of f.1
+
+-- ---- no end is open
+
+kept-closed : (earlier : List Record) (r : Record) → IsClosed (kept earlier r)
+kept-closed earlier (Header r) = tt
+kept-closed earlier (Carrier r) = tt
+kept-closed earlier (Leg r) = refl
+kept-closed earlier (Segment r) = tt
+kept-closed earlier (Trailer r) = tt
+
+all-closed : (earlier rs : List Record) → Each IsClosed (kept_all earlier rs)
+all-closed earlier [] = tt
+all-closed earlier (r ∷ rs) = (kept-closed earlier r, all-closed (kept earlier r ∷ earlier) rs)
+
+pub closed-records : (rs : List Record) → WasRead rs → All IsClosed rs
+closed-records rs w =
+    subst (λ xs. All IsClosed xs) ((from-ok (first_refusal w.ending [] w.records) (kept_all [] (map (λ r. r.1) w.records)) rs (notes_of 0 w.records) w.notes w.read).1)
+    (All-from_recursion IsClosed (kept_all [] (map (λ r. r.1) w.records)) (all-closed [] (map (λ r. r.1) w.records)))

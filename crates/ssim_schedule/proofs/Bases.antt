@@ -333,10 +333,10 @@ begins-well (Header r ∷ Carrier s ∷ rs) valid h =
 
 -- ---- the whole
 
-abbrev with_notes : List Record → List Note → List Record × List Note
+abbrev pub with_notes : List Record → List Note → List Record × List Note
 with_notes records notes = (records, notes)
 
-from-ok : (o : Option BaseFault) (rs these : List Record) (notes noted : List Note) → base.unless_refused o (with_notes rs notes) ≡ Ok (with_notes these noted)
+pub from-ok : (o : Option BaseFault) (rs these : List Record) (notes noted : List Note) → base.unless_refused o (with_notes rs notes) ≡ Ok (with_notes these noted)
     → (o ≡ None) × (rs ≡ these)
 from-ok (Some x) rs these notes noted h = absurd cc
 from-ok None rs these notes noted h =

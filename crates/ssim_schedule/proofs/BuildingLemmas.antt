@@ -1,20 +1,25 @@
 -- One more record before those that were built: each case of the definitions, day by day and name by name.
-use Rattle.std.proofs.Common.{◌≡◌, ℕ, ◌+◌, ◌-◌, ◌*◌, ◌<◌, Bool, true, false, ◌&&◌, nat_eq, if◌then◌else◌, IsTrue, List, [], ◌∷◌, Some, unwrap_or, refl, sym, ap, ◌∙◌, arith}
+use Rattle.std.proofs.Common.{◌≡◌, ℕ, ◌+◌, ◌-◌, ◌*◌, ◌<◌, Bool, ◌⊎◌, inl, inr, Contains, true, false, ◌&&◌, ◌||◌, nat_eq, if◌then◌else◌, IsTrue, List, [], ◌∷◌, Some, unwrap_or, refl, sym, ap, subst, ◌∙◌, arith}
+use Rattle.std.specs.List.{list_any}
 use Rattle.std.proofs.lemmas.Bool.Decides.{nat_tests}
 use Rattle.ssim_values.specs.Flight.{FlightNumber, IsFlight, is_suffix}
 use Rattle.ssim_values.specs.Period.{DayRange}
 use Rattle.ssim_periods.specs.Calendar.{holds}
 use Rattle.ssim_periods.specs.Days.{changed_on}
 use Rattle.ssim_periods.proofs.DayLemmas.{changed_on-each_day, each_day-same}
+use Rattle.ssim_records.specs.Carrier.{CarrierFields}
+use Rattle.ssim_records.specs.Header.{HeaderFields}
 use Rattle.ssim_records.specs.Leg.{LegFields, Name}
+use Rattle.ssim_records.specs.Trailer.{TrailerFields}
 use Rattle.ssim_records.specs.Segment.{SegmentFields}
 use Rattle.ssim_records.specs.declared.record.Record.{Record}
-use Rattle.ssim_records.specs.declared.record.Record.TheVariants.{Leg, Segment}
+use Rattle.ssim_records.specs.declared.record.Record.TheVariants.{Header, Carrier, Leg, Segment, Trailer}
 use Rattle.ssim_schedule.specs.Timetable.{Days, LegValue, Legs, days_of, itinerary, leg_of, period_of, placed, same_flight, same_name, tails_of}
 use Rattle.ssim_schedule.specs.Building.{IsPlaced, name_place}
 use Rattle.ssim_schedule.specs.Built.{IsBuilt, TakesLeg, TakesSegment}
 use Rattle.ssim_schedule.specs.ReadBack.{place_of}
-use Rattle.ssim_schedule.specs.Schedule.{days_in}
+use Rattle.ssim_schedule.specs.Points.{AreAtPoints, is_point}
+use Rattle.ssim_schedule.specs.Schedule.{cuts_in, days_in}
 use Rattle.ssim_schedule.specs.Waiting.{waiting_at}
 use Rattle.ssim_schedule.specs.declared.building.Building.{Building}
 
@@ -83,12 +88,27 @@ same_name-place a b p q = by (same_flight a.flight b.flight) refl
 
 -- ---- a record more
 
+eq-self : (n : ℕ) → nat_eq n n ≡ true
+eq-self n = grind (arith, nat_tests)
+
+or-true : (a b : Bool) → b ≡ true → (a || b) ≡ true
+or-true true b h = refl
+or-true false b h = h
+
 pub built-other : (b : Building) (r : Record) (done : List Record) → ((g : FlightNumber) (n : ℕ) → itinerary (r ∷ done) g n ≡ itinerary done g n) → ((n : Name) → tails_of n (r ∷ done) ≡ tails_of n done)
-    → IsBuilt b done → IsBuilt b (r ∷ done)
-built-other b r done days tails h = record {
+    → ((g : FlightNumber) → IsFlight g → AreAtPoints (cuts_in b.schedule g) g (r ∷ done)) → IsBuilt b done → IsBuilt b (r ∷ done)
+built-other b r done days tails points h = record {
   days = λ g is. h.days g is ∙ sym (each_day-same (itinerary (r ∷ done) g) (itinerary done g) (λ n l. days g n));
   tails = λ n is. h.tails n is ∙ sym (tails n);
+  cuts = points;
 }
+
+-- a record that is neither leg nor segment
+pub built-plain : (b : Building) (r : Record) (done : List Record) → ((x : HeaderFields) × (r ≡ Header x)) ⊎ ((x : CarrierFields) × (r ≡ Carrier x)) ⊎ ((x : TrailerFields) × (r ≡ Trailer x))
+    → IsBuilt b done → IsBuilt b (r ∷ done)
+built-plain b r done (inl (x, is)) h = subst (λ r. IsBuilt b (r ∷ done)) (sym is) (built-other b (Header x) done (λ g n. refl) (λ n. refl) h.cuts h)
+built-plain b r done (inr (inl (x, is))) h = subst (λ r. IsBuilt b (r ∷ done)) (sym is) (built-other b (Carrier x) done (λ g n. refl) (λ n. refl) h.cuts h)
+built-plain b r done (inr (inr (x, is))) h = subst (λ r. IsBuilt b (r ∷ done)) (sym is) (built-other b (Trailer x) done (λ g n. refl) (λ n. refl) h.cuts h)
 
 pub built-segment : (old new : Building) (r : SegmentFields) (done : List Record) → TakesSegment old new r → IsBuilt old done → IsBuilt new (Segment r ∷ done)
 built-segment old new r done t h = record {
@@ -97,6 +117,7 @@ built-segment old new r done t h = record {
       t.tails (name_place n)
       ∙ ap (λ b. if b then r.tail ∷ waiting_at old.waiting (name_place n) else waiting_at old.waiting (name_place n)) (sym (same_name-place n r.name is t.named))
       ∙ ap (λ ts. if same_name n r.name then r.tail ∷ ts else ts) (h.tails n is);
+  cuts = λ g is. subst (λ s. AreAtPoints (cuts_in s g) g done) (sym t.days) (h.cuts g is);
 }
 
 pub built-leg : (old new : Building) (r : LegFields) (done : List Record) → TakesLeg old new r → IsBuilt old done → IsBuilt new (Leg r ∷ done)
@@ -106,8 +127,21 @@ built-leg old new r done t h = record {
       t.tails (name_place n)
       ∙ ap (λ b. if b then [] else waiting_at old.waiting (name_place n)) (sym (same_name-place n r.name is t.named))
       ∙ ap (λ ts. if same_name n r.name then [] else ts) (h.tails n is);
+  cuts = λ g is cut has. at_point g is cut (t.cuts g cut has);
 }
   where
+    point : (g : FlightNumber) → IsFlight g → (cut : ℕ) → place_of r.name.flight ≡ place_of g → (nat_eq cut r.first || nat_eq cut ((period_of r).last + 1)) ≡ true
+        → (is_point g cut (Leg r) || list_any (is_point g cut) done) ≡ true
+    point g is cut same at =
+        let flight : same_flight r.name.flight g ≡ true = same_flight-place r.name.flight g t.named.flight is ∙ ap (λ k. nat_eq k (place_of g)) same ∙ eq-self (place_of g) in
+        rw (flight, at) refl
+
+    at_point : (g : FlightNumber) → IsFlight g → (cut : ℕ) → Contains (cuts_in old.schedule g) cut ⊎ ((place_of r.name.flight ≡ place_of g) × ((cut ≡ r.first) ⊎ (cut ≡ (period_of r).last + 1)))
+        → (is_point g cut (Leg r) || list_any (is_point g cut) done) ≡ true
+    at_point g is cut (inl has) = or-true (is_point g cut (Leg r)) (list_any (is_point g cut) done) (h.cuts g is cut has)
+    at_point g is cut (inr (same, inl at)) = point g is cut same (rw (ap (λ n. nat_eq n r.first) at ∙ eq-self r.first) refl)
+    at_point g is cut (inr (same, inr at)) = point g is cut same (or-true (nat_eq cut r.first) (nat_eq cut ((period_of r).last + 1)) (ap (λ n. nat_eq n ((period_of r).last + 1)) at ∙ eq-self ((period_of r).last + 1)))
+
     its : LegValue
     its = record { sequence = r.name.sequence; columns = r.columns; tails = waiting_at old.waiting (name_place r.name) }
 

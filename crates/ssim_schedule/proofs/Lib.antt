@@ -21,3 +21,4 @@ pub mod KeptLemmas
 pub mod ReadingLemmas
 pub mod FlightLists
 pub mod BaseFrame
+pub mod Unflown

@@ -9,7 +9,8 @@ use Rattle.ssim_records.specs.declared.record.Record.{Record}
 use Rattle.ssim_schedule.specs.Timetable.{days_of, period_of, placed, tails_of}
 use Rattle.ssim_schedule.specs.Building.{IsPlaced, name_place}
 use Rattle.ssim_schedule.specs.ReadBack.{place_of}
-use Rattle.ssim_schedule.specs.Schedule.{days_in}
+use Rattle.ssim_schedule.specs.Points.{AreAtPoints}
+use Rattle.ssim_schedule.specs.Schedule.{AddsOnlyAt, cuts_in, days_in}
 use Rattle.ssim_schedule.specs.Waiting.{waiting_at}
 use Rattle.ssim_schedule.specs.declared.building.Building.{Building}
 
@@ -17,6 +18,7 @@ use Rattle.ssim_schedule.specs.declared.building.Building.{Building}
 pub record IsBuilt (b : Building) (done : List Record) : Type 0 where
   pub days : (g : FlightNumber) → IsFlight g → days_in b.schedule g ≡ days_of done g
   pub tails : (n : Name) → IsPlaced n → waiting_at b.waiting (name_place n) ≡ tails_of n done
+  pub cuts : (g : FlightNumber) → IsFlight g → AreAtPoints (cuts_in b.schedule g) g done
 
 -- a tail more waits
 pub record TakesSegment (old new : Building) (r : SegmentFields) : Type 0 where
@@ -32,3 +34,4 @@ pub record TakesLeg (old new : Building) (r : LegFields) : Type 0 where
       then changed_on (holds (period_of r)) (placed (record { sequence = r.name.sequence; columns = r.columns; tails = waiting_at old.waiting (name_place r.name) })) 0 (days_in old.schedule g)
       else days_in old.schedule g)
   pub tails : (place : ℕ) → waiting_at new.waiting place ≡ (if nat_eq place (name_place r.name) then [] else waiting_at old.waiting place)
+  pub cuts : (g : FlightNumber) → AddsOnlyAt r.name.flight (period_of r) g (cuts_in old.schedule g) (cuts_in new.schedule g)

@@ -1,8 +1,10 @@
 //! A data set as it is kept.
 
 ghost use Rattle.std.specs.Prelude.{◌≡◌, ◌↔◌, ℕ, List, Option, IsTrue, IfOk, IfErr};
+ghost use Rattle.std.specs.List.{All};
 ghost use Rattle.ssim_schedule.specs.Base.{airline_of};
 ghost use Rattle.ssim_schedule.specs.BaseSeen.{AreFlights};
+ghost use Rattle.ssim_schedule.specs.Building.{IsClosed};
 ghost use Rattle.ssim_schedule.specs.Export.{Frame};
 ghost use Rattle.ssim_schedule.specs.ReadBack.{HasFrame};
 ghost use Rattle.ssim_schedule.specs.Reading.{Answers, FailsAs, IsReadOf};
@@ -123,6 +125,11 @@ impl Base {
         self.carrier().airline()
     }
 
+    /// From where the memory of what is made of it comes.
+    pub(crate) fn allocator(&self) -> Global {
+        self.alloc
+    }
+
     /// The header, which is the first record.
     pub(crate) fn header(&self) -> &Header
         ensures { (frame : Frame) → HasFrame frame self.now.records → result.now ≡ frame.header }
@@ -154,9 +161,10 @@ impl Base {
         }
     }
 
-    /// The records, in order, with serial 0.
+    /// The records, in order, with serial 0. The end of no leg record is open.
     pub fn records(&self) -> &[Record]
-        ensures { result.now ≡ self.now.records }
+        ensures value { result.now ≡ self.now.records }
+        ensures closed { All IsClosed result.now }
     {
         &self.records
     }

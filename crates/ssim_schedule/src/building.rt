@@ -5,15 +5,19 @@ ghost use Rattle.std.specs.List.{All};
 ghost use Rattle.ssim_values.specs.Flight.{FlightNumber, IsFlight};
 ghost use Rattle.ssim_records.specs.declared.record.Record.{Record};
 ghost use Rattle.ssim_schedule.specs.Building.{IsClosed};
-ghost use Rattle.ssim_schedule.specs.Schedule.{days_in};
+ghost use Rattle.ssim_periods.specs.Days.{each_day};
+ghost use Rattle.ssim_schedule.specs.Points.{AreAtPoints};
+ghost use Rattle.ssim_schedule.specs.ReadBack.{Rise};
+ghost use Rattle.ssim_schedule.specs.Schedule.{cuts_in, days_in};
 ghost use Rattle.ssim_schedule.specs.Timetable.{days_of};
 
+use crate::base::Base;
 use crate::leg::PlacedLeg;
 use crate::put::Put;
 use crate::schedule::Schedule;
 use crate::waiting::Waiting;
 use ssim_records::{LegRecord, Record, SegmentRecord};
-use ssim_values::{Memory, Period};
+use ssim_values::{Flight, Memory, Period};
 use std::alloc::Global;
 
 /// What some records at the end of a base say: their timetable, and the tails whose leg record is not among them.
@@ -24,12 +28,26 @@ pub(crate) struct Building {
     alloc: Global,
 }
 
-/// The timetable of these records.
-pub(crate) fn timetable(alloc: Global, records: &[Record]) -> Result<Schedule, Memory>
-    requires { All IsClosed records.now }
-    ensures { IfOk result (λ s. (g : FlightNumber) → IsFlight g → days_in s g ≡ days_of records.now g) }
+impl Schedule {
+    /// The timetable of a base: on each date of origin the legs of the leg records whose period holds it.
+    pub fn of(base: &Base) -> Result<Schedule, Memory>
+        ensures days { IfOk result (λ s. (g : FlightNumber) → IsFlight g → days_in s g ≡ days_of base.now.records g) }
+
+        // A cut is the first day of a leg record of the flight, or the day after its last.
+        ensures cuts { IfOk result (λ s. (g : FlightNumber) → IsFlight g → AreAtPoints (cuts_in s g) g base.now.records) }
+    {
+        timetable(base.allocator(), base.records(), base.flights())
+    }
+}
+
+/// The timetable of these records, whose flights these are.
+fn timetable(alloc: Global, records: &[Record], flights: &[Flight]) -> Result<Schedule, Memory>
+    requires closed { All IsClosed records.now }
+    requires rising { Rise 0 flights.now }
+    ensures days { IfOk result (λ s. (g : FlightNumber) → IsFlight g → days_in s g ≡ days_of records.now g) }
+    ensures cuts { IfOk result (λ s. (g : FlightNumber) → IsFlight g → AreAtPoints (cuts_in s g) g records.now) }
 {
-    let mut building = Building::new(alloc);
+    let mut building = Building::new(alloc, Schedule::of_flights(alloc, flights)?);
     let mut place = records.len();
     while place > 0 {
         place -= 1;
@@ -41,12 +59,14 @@ pub(crate) fn timetable(alloc: Global, records: &[Record]) -> Result<Schedule, M
 impl Building {
     ghost use Rattle.ssim_schedule.specs.Built.{IsBuilt, TakesLeg, TakesSegment};
 
-    /// What no record says.
-    pub(crate) fn new(alloc: Global) -> Building
+    /// What no record says, with the entries of the flights that are to come.
+    pub(crate) fn new(alloc: Global, schedule: Schedule) -> Building
+        requires days { (g : FlightNumber) → days_in schedule g ≡ each_day (λ _. []) }
+        requires cuts { (g : FlightNumber) → cuts_in schedule g ≡ [] }
         ensures { IsBuilt result [] }
     {
         Building {
-            schedule: Schedule::new(alloc),
+            schedule,
             waiting: Waiting::new(alloc),
             alloc,
         }

@@ -1,11 +1,12 @@
 //! The itinerary of each flight on each date.
 
-ghost use Rattle.std.specs.Prelude.{◌≡◌, ℕ, ◌<◌, ◌≤◌, nat_eq, if◌then◌else◌, List, [], length, true, IfOk, IfErr, OnOk, OnErr, slice_index_or};
+ghost use Rattle.std.specs.Prelude.{◌≡◌, ℕ, ◌<◌, ◌≤◌, nat_eq, if◌then◌else◌, List, [], length, true, IfOk, IfErr, OnOk, OnErr, map, slice_index_or};
 ghost use Rattle.ssim_values.specs.Flight.{FlightNumber, IsFlight};
 ghost use Rattle.ssim_periods.specs.Calendar.{holds};
 ghost use Rattle.ssim_periods.specs.Days.{AddsOnly, changed_on, counts_on, each_day};
 ghost use Rattle.ssim_schedule.specs.Timetable.{same_flight};
-ghost use Rattle.ssim_schedule.specs.ReadBack.{place_of};
+ghost use Rattle.ssim_schedule.specs.ReadBack.{Rise, place_of};
+ghost use Rattle.ssim_schedule.specs.Schedule.{unflown};
 
 use crate::itinerary::Itinerary;
 use crate::leg::PlacedLeg;
@@ -50,6 +51,18 @@ impl Schedule {
             flights: Vec::new(alloc),
             alloc,
         }
+    }
+
+    /// Entries of these flights, none of which flies on any date. Where they are known beforehand, none has to be put between others.
+    pub(crate) fn of_flights(alloc: Global, flights: &[Flight]) -> Result<Schedule, Memory>
+        requires { Rise 0 flights.now }
+        ensures days { IfOk result (λ s. (g : FlightNumber) → days_in s g ≡ each_day (λ _. [])) }
+        ensures cuts { IfOk result (λ s. (g : FlightNumber) → cuts_in s g ≡ []) }
+    {
+        Ok(Schedule {
+            flights: entries(alloc, flights)?,
+            alloc,
+        })
     }
 
     /// The legs of a flight on a date of origin, by leg sequence; none where it does not fly.
@@ -129,6 +142,19 @@ impl Schedule {
         self.flights
             .binary_search_by_key(&place(flight), |f| place(f.flight))
     }
+}
+
+fn entries(alloc: Global, flights: &[Flight]) -> Result<Vec<FlightPeriods>, Memory>
+    ensures { IfOk result (λ entries. entries.items ≡ map unflown flights.now) }
+{
+    let mut entries = Vec::with_capacity(alloc, flights.len())?;
+    for flight in flights {
+        entries.push(FlightPeriods {
+            flight: *flight,
+            periods: Periods::new(alloc),
+        })?;
+    }
+    Ok(entries)
 }
 
 fn copies(alloc: Global, flights: &[FlightPeriods]) -> Result<Vec<FlightPeriods>, Memory>

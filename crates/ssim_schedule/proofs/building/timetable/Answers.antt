@@ -4,6 +4,8 @@ use Rattle.std.proofs.lemmas.List.{drop_all}
 use Rattle.ssim_records.specs.declared.record.Record.{Record}
 use Rattle.ssim_schedule.specs.Building.{IsClosed}
 use Rattle.ssim_schedule.specs.Built.{IsBuilt}
+use Rattle.ssim_schedule.specs.Points.{AreAtPoints}
+use Rattle.ssim_schedule.specs.Schedule.{cuts_in}
 use Rattle.ssim_schedule.specs.Timetable.{days_of}
 use Rattle.ssim_schedule.proofs.building.timetable.Goals as goal
 
@@ -14,7 +16,7 @@ loop-place-init c =
 pub put-requires : goal.put-requires
 put-requires c =
     let within : c.loop-place.place - 1 < length c.args.records.now = omega (arith, c.loop-place.invariant.0) in
-    subst (λ (r : Record). IsClosed r) (sym c.index-records-place.is) (c.requires (c.loop-place.place - 1) c.index-records-place.result within)
+    subst (λ (r : Record). IsClosed r) (sym c.index-records-place.is) (c.requires.closed (c.loop-place.place - 1) c.index-records-place.result within)
 
 pub loop-place-preserved : goal.loop-place-preserved
 loop-place-preserved c =
@@ -27,7 +29,12 @@ loop-place-preserved c =
     ∙ ap (λ (k : ℕ). c.index-records-place.result ∷ drop k records) back in
     (omega (arith, c.loop-place.invariant.0), subst (λ (done : List Record). IsBuilt c.put.new.self done) (sym step) (c.in_ok-put.ensures (drop place records) c.loop-place.invariant.1))
 
-pub returns : goal.returns
-returns c = λ g is.
+pub returns-clause-days : goal.returns-clause-days
+returns-clause-days c = λ g is.
     let none : c.loop-place.place ≡ 0 = omega arith in
     c.loop-place.invariant.1.days g is ∙ ap (λ (k : ℕ). days_of (drop k c.args.records.now) g) none
+
+pub returns-clause-cuts : goal.returns-clause-cuts
+returns-clause-cuts c = λ g is.
+    let none : c.loop-place.place ≡ 0 = omega arith in
+    subst (λ (k : ℕ). AreAtPoints (cuts_in c.loop-place.building.schedule g) g (drop k c.args.records.now)) none (c.loop-place.invariant.1.cuts g is)

@@ -1,5 +1,5 @@
 -- A record of each type, one before those that were built.
-use Rattle.ssim_schedule.proofs.BuildingLemmas.{built-leg, built-segment}
+use Rattle.ssim_schedule.proofs.BuildingLemmas.{built-leg, built-plain, built-segment}
 use Rattle.ssim_schedule.proofs.ChangeLemmas.{on_ok}
 use Rattle.ssim_schedule.proofs.building.Building.put.Goals as goal
 
@@ -10,3 +10,12 @@ returns-in-Leg c =
 pub returns-in-Segment : goal.returns-in-Segment
 returns-in-Segment c =
     on_ok c.put_segment.result (λ takes done built. rw c.in-Segment.is (built-segment c.args.self.now c.put_segment.new.self c.in-Segment.segment done takes built)) c.put_segment.ensures
+
+pub returns-in-Header : goal.returns-in-Header
+returns-in-Header c = λ done built. built-plain c.args.self.now c.args.one.now done c.in-Header.is built
+
+pub returns-in-Header-2 : goal.returns-in-Header-2
+returns-in-Header-2 c = λ done built. built-plain c.args.self.now c.args.one.now done c.in-Header.is built
+
+pub returns-in-Header-3 : goal.returns-in-Header-3
+returns-in-Header-3 c = λ done built. built-plain c.args.self.now c.args.one.now done c.in-Header.is built

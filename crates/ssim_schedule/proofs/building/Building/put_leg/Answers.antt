@@ -1,8 +1,11 @@
 -- The leg is put on the days of its period, with the tails that waited for it.
 use Rattle.std.proofs.Common.{◌≡◌, Some, ap, sym, subst, ◌∙◌}
+use Rattle.ssim_values.specs.Flight.{FlightNumber}
+use Rattle.ssim_values.specs.Period.{DayRange}
 use Rattle.ssim_records.specs.Leg.{Name}
 use Rattle.ssim_schedule.specs.Building.{IsPlaced, name_place}
 use Rattle.ssim_schedule.specs.Put.{leg_in}
+use Rattle.ssim_schedule.specs.Schedule.{AddsOnlyAt, cuts_in}
 use Rattle.ssim_schedule.specs.Timetable.{period_of}
 use Rattle.ssim_schedule.specs.Waiting.{waiting_at}
 use Rattle.ssim_schedule.proofs.BuildingLemmas.{put-days, same_leg_value, same_period}
@@ -24,4 +27,7 @@ returns c =
       days = λ g.
           put-days c.flight.result r.name.flight c.in-Ok.period (period_of r) (leg_in c.in_ok-put.put.alone) _ _ _ g (c.flight.ensures ∙ ap (λ (n : Name). n.flight) name) period leg (c.in_ok-change.ensures.days g);
       tails = λ place. rw (← c.name-name.ensures) (c.take-tails.ensures.others place);
+      cuts = λ g.
+          subst (λ (f : FlightNumber). AddsOnlyAt f (period_of r) g (cuts_in c.args.self.now.schedule g) (cuts_in c.change.new.self g)) (c.flight.ensures ∙ ap (λ (n : Name). n.flight) name)
+          (subst (λ (p : DayRange). AddsOnlyAt c.flight.result p g (cuts_in c.args.self.now.schedule g) (cuts_in c.change.new.self g)) period (c.in_ok-change.ensures.cuts g));
     }
