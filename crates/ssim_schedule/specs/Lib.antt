@@ -9,5 +9,7 @@ pub mod Schedule
 pub mod Building
 pub mod Waiting
 pub mod Built
+pub mod Sinks
+pub mod Plan
 pub mod Stations
 pub mod Examples

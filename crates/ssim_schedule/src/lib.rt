@@ -9,6 +9,7 @@
 #![tactic(auto)]
 
 mod building;
+mod export;
 mod fault;
 mod itinerary;
 pub mod laws;
@@ -22,6 +23,7 @@ mod station_tests;
 mod stations;
 mod waiting;
 
+pub use export::ExportFault;
 pub use fault::{BaseFault, BaseRefusal};
 pub use itinerary::Itinerary;
 pub use leg::PlacedLeg;

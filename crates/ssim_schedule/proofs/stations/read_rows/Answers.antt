@@ -1,9 +1,8 @@
 -- The line at hand is the first of the rest.
-use Rattle.std.proofs.Common.{rules, ◌≡◌, ℕ, List, [], ◌∷◌, Result, Ok, Err, get_or, sym, ap, subst, ◌∙◌, arith}
+use Rattle.std.proofs.Common.{rules, ◌≡◌, ℕ, List, [], Err, get_or, sym, ap, subst, ◌∙◌, arith}
 use Rattle.ssim_text.specs.Left.{lines_left, numbered, without_end}
 use Rattle.ssim_text.proofs.LeftLemmas.{from_shorter, tail_cons, tail_none}
-use Rattle.ssim_schedule.specs.Stations.{Row, StopsAs, rows_of}
-use Rattle.ssim_schedule.specs.declared.stations.StationFault.{StationFault}
+use Rattle.ssim_schedule.specs.Stations.{StopsAs, rows_of}
 use Rattle.ssim_schedule.proofs.StationLines.{line_on, last_line, stops}
 use Rattle.ssim_schedule.proofs.stations.read_rows.Goals as goal
 
