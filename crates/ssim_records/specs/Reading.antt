@@ -1,5 +1,5 @@
 -- Reading the records of a stream: what is ahead, and the answers to it.
-use Rattle.std.specs.Prelude.{ℕ, ◌≡◌, ◌+◌, ◌%◌, ◌^◌, ◌<◌, List, [], ◌∷◌, ◌++◌, length, nat_lt, Option, Some, None, Result, Ok, Err}
+use Rattle.std.specs.Prelude.{ℕ, ◌≡◌, ◌+◌, ◌*◌, ◌%◌, ◌^◌, ◌<◌, ◌≤◌, List, [], ◌∷◌, ◌++◌, length, nat_lt, Option, Some, None, Result, Ok, Err}
 use Rattle.ssim_records.specs.declared.fault.RecordFault.{RecordFault}
 use Rattle.ssim_records.specs.declared.fault.RecordFault.TheVariants.{Short, BadType, BadColumn, ReadFault, ReaderNeverEnds}
 use Rattle.ssim_records.specs.declared.record.Record.{Record}
@@ -61,6 +61,12 @@ GivesNext old (Some left) new (Some left') result =
     (new.came + length left' ≡ old.came + length left)
     × ((blocks : List (List ℕ)) → (rest : List ℕ) → IsAhead old left blocks rest
     → Answers old left blocks rest new (λ later. IsAhead new left' later rest) result)
+
+-- a record that is given is counted, and so are its 200 bytes
+abbrev pub Counts : Reading → Reading → Answer → Type 0
+Counts old new (Ok None) = Unit {0}
+Counts old new (Ok (Some found)) = (old.number < new.number) × (200 * new.number ≤ new.limit + 1)
+Counts old new (Err fault) = Unit {0}
 
 -- A refused record has the number of those counted, and any other refusal one more.
 abbrev pub HasNumber : ℕ → Answer → Type 0

@@ -88,6 +88,7 @@ pub fn next_other<R: Source>(
     requires counted { 200 * number.old + length window.old ≤ came.old }
     ensures came { came.new ≤ limit + 1 }
     ensures counted { 200 * number.new + length window.new ≤ came.new }
+    ensures more { IfOk result (λ o. IfSome o (λ _. number.old < number.new)) }
     ensures block { GivesOther limit number.old came.old window.old (R.left reader.old) number.new came.new window.new (R.left reader.new) result }
     ensures never_ends { result ≡ Err ReaderNeverEnds → (limit < came.new) × (length window.new ≤ 200) }
     ensures fault { FailsOnce (R.failures reader.old) (R.failures reader.new) result }

@@ -2,7 +2,7 @@
 
 ghost use Rattle.std.specs.Prelude.{◌≡◌, ◌≤◌, ◌<◌, ◌+◌, ◌*◌, [], IfNone, IfSome};
 ghost use Rattle.ssim_records.specs.Blocks.{CountsOn};
-ghost use Rattle.ssim_records.specs.Reading.{GivesNext, HasNumber, FailsAs, NeverEnds, last_answer, ending_of};
+ghost use Rattle.ssim_records.specs.Reading.{Counts, GivesNext, HasNumber, FailsAs, NeverEnds, last_answer, ending_of};
 
 use crate::blocks::{Stop, next_other};
 use crate::device::Source;
@@ -74,6 +74,7 @@ impl Records {
         ensures limit { self.new.limit ≡ self.old.limit }
         ensures record { GivesNext self.old (R.left reader.old) self.new (R.left reader.new) result }
         ensures number { HasNumber self.new.number result }
+        ensures counts { Counts self.old self.new result }
         ensures never_ends { NeverEnds self.new result }
         ensures fault { FailsAs (R.failures reader.old) (R.failures reader.new) result }
         ensures count { CountsOn (R.left reader.old) (R.left reader.new) (R.came reader.old) (R.came reader.new) self.old.came self.new.came }
@@ -106,6 +107,7 @@ impl Records {
         // Where the reader tells its bytes, the answer is the next record of what is ahead.
         ensures record { IfNone self.old.ended (GivesNext self.old (R.left reader.old) self.new (R.left reader.new) result) }
         ensures number { IfNone self.old.ended (HasNumber self.new.number result) }
+        ensures counts { IfNone self.old.ended (Counts self.old self.new result) }
 
         // 13 comes where the reader failed, 14 behind the limit, and the bytes that came are those of the reader.
         ensures fault { IfNone self.old.ended (FailsAs (R.failures reader.old) (R.failures reader.new) result) }

@@ -18,5 +18,7 @@ pub mod Stands
 pub mod StationLines
 pub mod TableLemmas
 pub mod Valid
-pub mod Taken
+pub mod SinkLemmas
 pub mod Whole
+pub mod KeptLemmas
+pub mod ReadingLemmas

@@ -11,5 +11,10 @@ pub mod Waiting
 pub mod Built
 pub mod Sinks
 pub mod Plan
+pub mod Taken
+pub mod Kept
+pub mod Gathering
 pub mod Stations
+pub mod BaseSeen
+pub mod Reading
 pub mod Examples

@@ -4,6 +4,7 @@ ghost use Rattle.std.specs.Prelude.{◌≡◌};
 
 use ssim_records::RecordFault;
 use ssim_values::Memory;
+use std::alloc::AllocFailed;
 use thiserror::Error;
 
 /// Why a record cannot stand in a data set, where it can be read.
@@ -97,7 +98,21 @@ impl BaseFault {
 }
 
 impl From<Memory> for BaseFault {
+    ghost use Rattle.ssim_schedule.specs.declared.fault.BaseFault.TheVariants.{Memory};
+
+    ghost from_gives = { λ _ e. e ≡ Memory };
+
     fn from(_refused: Memory) -> BaseFault {
+        BaseFault::Memory
+    }
+}
+
+impl<T: Drop> From<AllocFailed<T>> for BaseFault {
+    ghost use Rattle.ssim_schedule.specs.declared.fault.BaseFault.TheVariants.{Memory};
+
+    ghost from_gives = { λ _ e. e ≡ Memory };
+
+    fn from(_refused: AllocFailed<T>) -> BaseFault {
         BaseFault::Memory
     }
 }

@@ -8,21 +8,28 @@
 //! To come: reading a base, writing an export, and what messages do to a timetable.
 #![tactic(auto)]
 
+mod base;
 mod building;
 mod export;
 mod fault;
+mod gathering;
 mod itinerary;
+mod kept;
 pub mod laws;
 mod leg;
+mod leg_names;
 mod line;
 mod note;
 mod put;
+mod reading;
 mod schedule;
 #[cfg(test)]
 mod station_tests;
 mod stations;
+mod taken;
 mod waiting;
 
+pub use base::{Base, BaseRead};
 pub use export::ExportFault;
 pub use fault::{BaseFault, BaseRefusal};
 pub use itinerary::Itinerary;

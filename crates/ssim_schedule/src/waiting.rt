@@ -61,7 +61,7 @@ impl Waiting {
 }
 
 // The place of a leg among all legs of all flights' itinerary variations.
-fn name_place(name: LegName) -> u64
+pub(crate) fn name_place(name: LegName) -> u64
     ensures value { result ≡ name_place name }
     ensures named { IsPlaced name }
 {

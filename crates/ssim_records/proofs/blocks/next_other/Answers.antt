@@ -11,6 +11,7 @@ loop-block-preserved g c =
     let fault = rw e at c.next_block.ensures.fault in
     record {
       came_fits = c.next_block.ensures.came;
+      not_less = omega (arith, c.loop-block.invariant.not_less);
       counted = omega (arith, few, c.loop-block.invariant.counted);
       skipped = one_more _ _ _ _ _ _ _ _ _ _ _ _ c.in-Some.block c.loop-block.invariant.skipped b (sym c.is_fill.ensures ∙ c.if-not-is_fill.false);
       counts = counts_twice _ _ _ _ _ _ _ _ _ c.loop-block.invariant.counts c.next_block.ensures.count;

@@ -7,6 +7,7 @@ use Rattle.ssim_records.proofs.blocks.next_other.Given as goal
 
 pub record Goes {R : Type 0} (left : R → Option (List ℕ)) (came_of failures : R → ℕ) (limit came0 came number0 number : ℕ) (held0 held : List ℕ) (before reader : R) : Type 0 where
   pub came_fits : came ≤ limit + 1
+  pub not_less : number0 ≤ number
   pub counted : 200 * number + length held ≤ came
   pub skipped : Skipped limit number0 came0 held0 (left before) number came held (left reader)
   pub counts : CountsOn (left before) (left reader) (came_of before) (came_of reader) came0 came

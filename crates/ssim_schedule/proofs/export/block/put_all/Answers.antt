@@ -1,7 +1,7 @@
 -- The sink took the front of the rest.
 use Rattle.std.proofs.Common.{◌∙◌, arith}
 use Rattle.std.proofs.lemmas.Bool.Decides.{nat_tests}
-use Rattle.ssim_schedule.proofs.Taken.{then, front_taken}
+use Rattle.ssim_schedule.proofs.SinkLemmas.{then, front_taken}
 use Rattle.ssim_schedule.proofs.export.block.put_all.Goals as goal
 
 pub loop-rest-preserved : goal.loop-rest-preserved

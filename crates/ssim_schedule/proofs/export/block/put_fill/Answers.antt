@@ -3,7 +3,7 @@ use Rattle.std.proofs.Common.{◌-◌, ◌++◌, replicate, ◌∙◌}
 use Rattle.std.specs.List.{flat_map}
 use Rattle.ssim_records.specs.Frames.{fill}
 use Rattle.ssim_schedule.specs.Export.{line}
-use Rattle.ssim_schedule.proofs.Taken.{at_fault, step, halt, fill_more}
+use Rattle.ssim_schedule.proofs.SinkLemmas.{at_fault, step, halt, fill_more}
 use Rattle.ssim_schedule.proofs.export.block.put_fill.Goals as goal
 
 pub returns-in_err-put_line-clause-err : goal.returns-in_err-put_line-clause-err

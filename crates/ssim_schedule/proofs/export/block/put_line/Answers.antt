@@ -1,7 +1,7 @@
 -- The block fails before the line is held.
 use Rattle.std.proofs.Common.{refl}
 use Rattle.ssim_schedule.specs.Export.{line}
-use Rattle.ssim_schedule.proofs.Taken.{at_fault, front_more}
+use Rattle.ssim_schedule.proofs.SinkLemmas.{at_fault, front_more}
 use Rattle.ssim_schedule.proofs.export.block.put_line.Goals as goal
 
 pub returns-in_err-flush-clause-err : goal.returns-in_err-flush-clause-err

@@ -6,7 +6,7 @@ use Rattle.ssim_records.specs.Record.{written}
 use Rattle.ssim_records.specs.declared.record.Record.{Record}
 use Rattle.ssim_schedule.specs.Export.{line, section_bytes}
 use Rattle.ssim_schedule.specs.Sinks.{TakesFront, TakesUpTo}
-use Rattle.ssim_schedule.proofs.Taken.{at_fault, if_ok, if_err, front_more, step_last, halt_last, one_section}
+use Rattle.ssim_schedule.proofs.SinkLemmas.{at_fault, if_ok, if_err, front_more, step_last, halt_last, one_section}
 use Rattle.ssim_schedule.proofs.export.lines.put_alone.Goals as goal
 
 -- the bytes behind those of the block

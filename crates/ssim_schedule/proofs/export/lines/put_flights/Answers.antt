@@ -5,7 +5,7 @@ use Rattle.ssim_schedule.specs.Export.{Piece, pieces_records}
 use Rattle.ssim_schedule.specs.Plan.{numbered_lines, pieces_count, plan_count, plan_records}
 use Rattle.ssim_schedule.specs.Sinks.{TakesFront, TakesUpTo}
 use Rattle.ssim_schedule.proofs.Puts.{item, flight-split}
-use Rattle.ssim_schedule.proofs.Taken.{at_fault, step, halt}
+use Rattle.ssim_schedule.proofs.SinkLemmas.{at_fault, step, halt}
 use Rattle.ssim_schedule.proofs.export.lines.put_flights.Goals as goal
 
 -- the lines of the flight at hand are those of the plan's entry

@@ -9,7 +9,7 @@ use Rattle.ssim_schedule.specs.Export.{leg_records, line, tail_record, with_seri
 use Rattle.ssim_schedule.specs.Plan.{legs_count, numbered_lines}
 use Rattle.ssim_schedule.specs.Sinks.{TakesFront, TakesUpTo}
 use Rattle.ssim_schedule.proofs.Puts.{item, leg-split, leg-tails-split, leg_from, name_from}
-use Rattle.ssim_schedule.proofs.Taken.{at_fault, step, halt}
+use Rattle.ssim_schedule.proofs.SinkLemmas.{at_fault, step, halt}
 use Rattle.ssim_schedule.proofs.export.lines.put_legs.Goals as goal
 
 -- the leg's line

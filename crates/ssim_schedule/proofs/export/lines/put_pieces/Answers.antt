@@ -6,7 +6,7 @@ use Rattle.ssim_schedule.specs.Export.{leg_records, pieces_records}
 use Rattle.ssim_schedule.specs.Plan.{legs_count, numbered_lines, pieces_count}
 use Rattle.ssim_schedule.specs.Sinks.{TakesFront, TakesUpTo}
 use Rattle.ssim_schedule.proofs.Puts.{item, piece-split}
-use Rattle.ssim_schedule.proofs.Taken.{at_fault, step, halt}
+use Rattle.ssim_schedule.proofs.SinkLemmas.{at_fault, step, halt}
 use Rattle.ssim_schedule.proofs.export.lines.put_pieces.Goals as goal
 
 pub returns-in_err-next-clause-err : goal.returns-in_err-next-clause-err

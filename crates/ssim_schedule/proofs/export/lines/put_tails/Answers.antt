@@ -6,7 +6,7 @@ use Rattle.ssim_records.specs.declared.record.Record.TheVariants.{Segment}
 use Rattle.ssim_schedule.specs.Export.{line, tail_record}
 use Rattle.ssim_schedule.specs.Plan.{numbered_lines}
 use Rattle.ssim_schedule.proofs.Puts.{item, segment-is, tails-split}
-use Rattle.ssim_schedule.proofs.Taken.{at_fault, step, halt}
+use Rattle.ssim_schedule.proofs.SinkLemmas.{at_fault, step, halt}
 use Rattle.ssim_schedule.proofs.export.lines.put_tails.Goals as goal
 
 pub returns-in_err-put_line-clause-err : goal.returns-in_err-put_line-clause-err

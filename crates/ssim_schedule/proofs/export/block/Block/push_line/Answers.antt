@@ -1,7 +1,7 @@
 -- The record is copied behind what is held, and LF behind it.
 use Rattle.std.proofs.Common.{◌≡◌, ◌≤◌, ◌+◌, ◌-◌, ℕ, List, [], ◌∷◌, ◌++◌, length, refl, ap, ◌∙◌, arith}
 use Rattle.std.proofs.lemmas.Grind.{common_steps}
-use Rattle.ssim_schedule.proofs.Taken.{pushed}
+use Rattle.ssim_schedule.proofs.SinkLemmas.{pushed}
 use Rattle.ssim_schedule.proofs.export.block.Block.push_line.Goals as goal
 
 pub returns : goal.returns

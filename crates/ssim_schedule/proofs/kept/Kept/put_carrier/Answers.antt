@@ -1,0 +1,12 @@
+-- Behind the header alone a carrier stands.
+use Rattle.std.proofs.Common.{◌++◌, ◌∷◌, [], ap, ◌∙◌}
+use Rattle.ssim_records.specs.Carrier.{CarrierFields}
+use Rattle.ssim_records.specs.declared.record.Record.TheVariants.{Carrier}
+use Rattle.ssim_schedule.proofs.KeptLemmas.{stood-carrier}
+use Rattle.ssim_schedule.proofs.kept.Kept.put_carrier.Goals as goal
+
+pub returns-in_ok-push-in-Carrier-clause-stood : goal.returns-in_ok-push-in-Carrier-clause-stood
+returns-in_ok-push-in-Carrier-clause-stood c = λ earlier is.
+    let pushed = c.in_ok-push-in-Carrier.ensures in
+    rw c.in-Carrier.is (stood-carrier c.args.self.now c.push.new.self (record { airline = c.airline.result; end = c.end_of.result }) c.in-Carrier.carrier earlier c.requires is
+    (pushed.records ∙ ap (λ (r : CarrierFields). c.args.self.now.records.items ++ Carrier r ∷ []) c.with_serial.ensures) pushed.place (cc) (cc) pushed.taken pushed.names)

@@ -1,0 +1,12 @@
+-- A trailer stands that ends the data set.
+use Rattle.std.proofs.Common.{rules, ◌++◌, ◌∷◌, [], ap, ◌∙◌}
+use Rattle.ssim_records.specs.Trailer.{TrailerFields}
+use Rattle.ssim_records.specs.declared.record.Record.TheVariants.{Trailer}
+use Rattle.ssim_schedule.proofs.KeptLemmas.{stood-trailer}
+use Rattle.ssim_schedule.proofs.kept.Kept.put_trailer.Goals as goal
+
+pub returns-in_ok-push-in-End-clause-stood : goal.returns-in_ok-push-in-End-clause-stood
+returns-in_ok-push-in-End-clause-stood c = λ earlier is.
+    let pushed = c.in_ok-push-in-End.ensures in
+    stood-trailer c.args.self.now c.push.new.self c.args.heading c.args.trailer.now earlier c.requires is
+    (pushed.records ∙ ap (λ (r : TrailerFields). c.args.self.now.records.items ++ Trailer r ∷ []) c.with_serials.ensures) pushed.place pushed.taken pushed.names (search rules) (search rules)

@@ -1,0 +1,85 @@
+-- From record to record, by the lemmas on what was read so far; each answer that ends the reading is the outcome of the bytes.
+use Rattle.std.proofs.Common.{rules, ◌≡◌, ℕ, ◌+◌, ◌*◌, Some, None, Ok, Err, [], ◌∷◌, ◌++◌, refl, sym, ap, subst, ◌∙◌, arith}
+use Rattle.ssim_records.specs.Reading.{Answer, Counts, FailsAs, GivesNext, HasNumber, Reading, ending_of}
+use Rattle.ssim_schedule.specs.Base.{Done, kept}
+use Rattle.ssim_schedule.specs.Reading.{AreGivenOf, Refuses}
+use Rattle.ssim_schedule.proofs.ReadingLemmas.{Numbered, Told, step-refused, while-open, nothing, one-more, told-end, told-fault, told-first, told-step}
+use Rattle.ssim_schedule.proofs.reading.gather.Goals as goal
+
+pub loop-number-init : goal.loop-number-init
+loop-number-init g c =
+    let number : c.new-records.result.number ≡ 0 = ap (λ (r : Reading). r.number) c.new-records.ensures in
+    record {
+      limit_is = ap (λ (r : Reading). r.limit) c.new-records.ensures;
+      open' = ap (λ (r : Reading). r.ended) c.new-records.ensures;
+      counted = omega (arith, number);
+      earlier = [];
+      done = [];
+      so_far = nothing c.new-gathering.result c.new-gathering.ensures.kept c.new-gathering.ensures.notes c.new-gathering.ensures.previous;
+      told = subst (λ (r : Reading). Told c.args.limit (g.R.Source.left c.args.reader.now) (g.R.Source.left c.args.reader.now) r []) (sym c.new-records.ensures)
+          (told-first c.args.limit (g.R.Source.left c.args.reader.now) c.frames_are_one.ensures.exist);
+      no_failure = refl;
+    }
+
+pub loop-number-preserved : goal.loop-number-preserved
+loop-number-preserved g c =
+    let i = c.loop-number.invariant in
+    let old = c.loop-number.records in
+    let new = c.next.new.self in
+    let x : Numbered = (c.in-Ok-Some.number, c.in-Ok-Some.record) in
+    let answer : c.next.result ≡ Ok (Some x) = search rules in
+    let given = subst (λ (a : Answer). GivesNext old (g.R.Source.left c.loop-number.reader) new (g.R.Source.left c.next.new.reader) a) answer (while-open old.ended i.open' c.next.ensures.record) in
+    let counts = subst (λ (a : Answer). Counts old new a) answer (while-open old.ended i.open' c.next.ensures.counts) in
+    let fault = subst (λ (a : Answer). FailsAs (g.R.Source.failures c.loop-number.reader) (g.R.Source.failures c.next.new.reader) a) answer (while-open old.ended i.open' c.next.ensures.fault) in
+    let more = counts.1 in
+    let same = c.next.ensures.limit in
+    let limit = i.limit_is in
+    let taken = c.in_ok-take-in-Ok-Some.ensures in
+    record {
+      limit_is = same ∙ limit;
+      open' = c.next.ensures.ended ∙ ap ending_of answer;
+      counted = omega (arith, more, same, limit);
+      earlier = kept i.earlier x.1 ∷ i.earlier;
+      done = i.done ++ x ∷ [];
+      so_far = one-more c.loop-number.gathering c.take.new.self i.earlier i.done x i.so_far (taken.stood i.earlier i.so_far.is_kept) taken.noted taken.previous taken.is_record;
+      told = told-step c.args.limit (g.R.Source.left c.args.reader.now) (g.R.Source.left c.loop-number.reader) (g.R.Source.left c.next.new.reader) old new i.done x i.told given;
+      no_failure = fault ∙ i.no_failure;
+    }
+
+pub returns-in_err-take-in-Ok-Some-clause-err : goal.returns-in_err-take-in-Ok-Some-clause-err
+returns-in_err-take-in-Ok-Some-clause-err g c =
+    let i = c.loop-number.invariant in
+    let old = c.loop-number.records in
+    let new = c.next.new.self in
+    let x : Numbered = (c.in-Ok-Some.number, c.in-Ok-Some.record) in
+    let answer : c.next.result ≡ Ok (Some x) = search rules in
+    let given = subst (λ (a : Answer). GivesNext old (g.R.Source.left c.loop-number.reader) new (g.R.Source.left c.next.new.reader) a) answer (while-open old.ended i.open' c.next.ensures.record) in
+    let refusal : c.from_residual.result ≡ Err c.in_err-take-in-Ok-Some.field-0.0 = search rules in
+    rw refusal (step-refused c.args.limit (g.R.Source.left c.args.reader.now) (g.R.Source.left c.loop-number.reader) (g.R.Source.left c.next.new.reader) old new c.loop-number.gathering i.earlier i.done x
+    c.in_err-take-in-Ok-Some.field-0.0 i.so_far i.told given (c.in_err-take-in-Ok-Some.ensures.err i.earlier i.so_far.is_kept))
+
+pub returns-in-Ok-None-clause-ok : goal.returns-in-Ok-None-clause-ok
+returns-in-Ok-None-clause-ok g c =
+    let i = c.loop-number.invariant in
+    let old = c.loop-number.records in
+    let new = c.next.new.self in
+    let answer : c.next.result ≡ Ok None = c.in-Ok-None.is ∙ ap Ok c.in-Ok-None.field-0-is in
+    let given = subst (λ (a : Answer). GivesNext old (g.R.Source.left c.loop-number.reader) new (g.R.Source.left c.next.new.reader) a) answer (while-open old.ended i.open' c.next.ensures.record) in
+    record {
+      earlier = i.earlier;
+      done = i.done;
+      so_far = i.so_far;
+      given = subst (λ (n : ℕ). AreGivenOf c.args.limit (g.R.Source.left c.args.reader.now) i.done (Done (n + 1))) (sym c.number.ensures.value)
+          (told-end c.args.limit (g.R.Source.left c.args.reader.now) (g.R.Source.left c.loop-number.reader) (g.R.Source.left c.next.new.reader) old new i.done i.limit_is i.told given);
+    }
+
+pub returns-in-Err-clause-err : goal.returns-in-Err-clause-err
+returns-in-Err-clause-err g c =
+    let i = c.loop-number.invariant in
+    let old = c.loop-number.records in
+    let new = c.next.new.self in
+    let answer : c.next.result ≡ Err c.in-Err.fault = search rules in
+    let given = subst (λ (a : Answer). GivesNext old (g.R.Source.left c.loop-number.reader) new (g.R.Source.left c.next.new.reader) a) answer (while-open old.ended i.open' c.next.ensures.record) in
+    let number = subst (λ (a : Answer). HasNumber new.number a) answer (while-open old.ended i.open' c.next.ensures.number) in
+    told-fault c.args.limit (g.R.Source.left c.args.reader.now) (g.R.Source.left c.loop-number.reader) (g.R.Source.left c.next.new.reader) old new c.loop-number.gathering i.earlier i.done
+    c.in-Err.fault i.limit_is i.so_far i.told given number

@@ -1,0 +1,72 @@
+//! Records on their way into a base, with what is noted of them.
+
+ghost use Rattle.std.specs.Prelude.{◌≡◌, ◌++◌, [], List, IfErr, OnOk};
+ghost use Rattle.ssim_records.specs.Record.{IsRecord, serial_of};
+ghost use Rattle.ssim_records.specs.declared.record.Record.{Record};
+
+use crate::fault::BaseFault;
+use crate::kept::Kept;
+use crate::note::Note;
+use ssim_records::Record;
+use ssim_values::Memory;
+use std::alloc::Global;
+
+/// The records so far as a base keeps them, and what is noted of them.
+#[derive(Drop)]
+pub(crate) struct Gathering {
+    pub kept: Kept,
+    pub notes: Vec<Note>,
+    /// The serial of the record before, or 0.
+    previous: u32,
+}
+
+impl Gathering {
+    ghost use Rattle.ssim_schedule.specs.Kept.{IsKept, IsRefused, Stood};
+    ghost use Rattle.ssim_schedule.specs.Gathering.{notes_at};
+
+    /// No record.
+    pub(crate) fn new(alloc: Global) -> Gathering
+        ensures kept { IsKept result.kept [] }
+        ensures notes { result.notes.items ≡ [] }
+        ensures previous { result.previous ≡ 0 }
+    {
+        Gathering {
+            kept: Kept::new(alloc),
+            notes: Vec::new(alloc),
+            previous: 0,
+        }
+    }
+
+    /// One record more, with its number, or its refusal.
+    pub(crate) fn take(&mut self, number: u64, one: &Record) -> Result<(), BaseFault>
+        ensures stood { OnOk result ((earlier : List Record) → IsKept self.old.kept earlier → Stood self.new.kept earlier one.now) }
+        ensures noted { OnOk result (self.new.notes.items ≡ self.old.notes.items ++ notes_at number self.old.previous one.now) }
+        ensures previous { OnOk result (self.new.previous ≡ serial_of one.now) }
+        ensures err { IfErr result (λ e. (earlier : List Record) → IsKept self.old.kept earlier → IsRefused number earlier one.now e) }
+        ensures is_record { OnOk result (IsRecord one.now) }
+    {
+        self.kept.put(number, one)?;
+        self.note(number, one)?;
+        Ok(())
+    }
+
+    // What is noted of a record.
+    fn note(&mut self, number: u64, one: &Record) -> Result<(), Memory>
+        ensures noted { OnOk result (self.new.notes.items ≡ self.old.notes.items ++ notes_at number self.old.previous one.now) }
+        ensures previous { OnOk result (self.new.previous ≡ serial_of one.now) }
+        ensures kept { self.new.kept ≡ self.old.kept }
+        ensures is_record { IsRecord one.now }
+    {
+        let serial = one.serial();
+        if serial as u64 != self.previous as u64 + 1 {
+            self.notes.push(Note::Serial(number))?;
+        }
+        if let Record::Trailer(trailer) = one {
+            if trailer.check() != self.previous {
+                self.notes.push(Note::CheckReference(number))?;
+            }
+        }
+        self.previous = serial;
+        Ok(())
+    }
+}

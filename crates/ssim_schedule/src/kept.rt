@@ -1,0 +1,247 @@
+//! The records that a base keeps, and where each next one can stand.
+
+ghost use Rattle.std.specs.Prelude.{◌≡◌, ◌++◌, ◌∷◌, [], List, IfErr, IfOk, OnOk};
+ghost use Rattle.std.specs.Str.{bytes_eq};
+ghost use Rattle.ssim_records.specs.declared.record.Record.{Record};
+ghost use Rattle.ssim_schedule.specs.Base.{end_of, is_overflow, is_rate};
+ghost use Rattle.ssim_schedule.specs.Kept.{IsKept, IsPlace, IsRefused, LegStands, Stood};
+ghost use Rattle.ssim_schedule.specs.declared.kept.Place.TheVariants as place;
+
+use crate::fault::{BaseFault, BaseRefusal};
+use crate::leg_names::LegNames;
+use crate::taken::Taken;
+use ssim_records::{Carrier, EndCode, LegRecord, Record, SegmentRecord, Trailer};
+use ssim_values::{Airline, Day, Memory, Period};
+use std::alloc::Global;
+
+/// What the carrier record says of those that follow.
+#[derive(Clone, Copy, Debug, PartialEq, Eq)]
+pub(crate) struct Heading {
+    /// Whose flights they are.
+    airline: Airline,
+    /// The day that an open end stands for.
+    end: Day,
+}
+
+/// What may come next.
+#[derive(Clone, Copy, Debug, PartialEq, Eq)]
+pub(crate) enum Place {
+    /// A header.
+    Header,
+    /// A carrier.
+    Carrier,
+    /// Legs and segments, or the trailer.
+    Legs(Heading),
+    /// Nothing.
+    End,
+}
+
+/// The records so far as a base keeps them, and what those that follow are held against.
+#[derive(Drop)]
+pub(crate) struct Kept {
+    pub records: Vec<Record>,
+    pub place: Place,
+    taken: Taken,
+    names: LegNames,
+}
+
+impl Kept {
+    /// No record.
+    pub(crate) fn new(alloc: Global) -> Kept
+        ensures { IsKept result [] }
+    {
+        Kept {
+            records: Vec::new(alloc),
+            place: Place::Header,
+            taken: Taken::new(alloc),
+            names: LegNames::new(alloc),
+        }
+    }
+
+    /// One record more, with its number, or its refusal.
+    pub(crate) fn put(&mut self, number: u64, one: &Record) -> Result<(), BaseFault>
+        ensures stood { OnOk result ((earlier : List Record) → IsKept self.old earlier → Stood self.new earlier one.now) }
+        ensures err { IfErr result (λ e. (earlier : List Record) → IsKept self.old earlier → IsRefused number earlier one.now e) }
+    {
+        match self.place {
+            Place::Header => self.put_header(number, one),
+            Place::Carrier => self.put_carrier(number, one),
+            Place::Legs(heading) => match one {
+                Record::Leg(leg) => self.put_leg(number, heading, leg),
+                Record::Segment(segment) => self.put_segment(number, heading, segment),
+                Record::Trailer(trailer) => self.put_trailer(number, heading, trailer),
+                Record::Header(_) | Record::Carrier(_) => {
+                    Err(BaseFault::Refused(number, BaseRefusal::BadType))
+                }
+            },
+            Place::End => Err(BaseFault::Refused(number, BaseRefusal::BadType)),
+        }
+    }
+
+    // Keeps a record, behind which the place is another.
+    fn push(&mut self, place: Place, one: Record) -> Result<(), Memory>
+        ensures records { OnOk result (self.new.records.items ≡ self.old.records.items ++ one ∷ []) }
+        ensures place { OnOk result (self.new.place ≡ place) }
+        ensures taken { self.new.taken ≡ self.old.taken }
+        ensures names { self.new.names ≡ self.old.names }
+    {
+        self.records.push(one)?;
+        self.place = place;
+        Ok(())
+    }
+
+    fn put_header(&mut self, number: u64, one: &Record) -> Result<(), BaseFault>
+        requires { self.old.place ≡ place.Header }
+        ensures stood { OnOk result ((earlier : List Record) → IsKept self.old earlier → Stood self.new earlier one.now) }
+        ensures err { IfErr result (λ e. (earlier : List Record) → IsKept self.old earlier → IsRefused number earlier one.now e) }
+    {
+        match one {
+            Record::Header(header) => {
+                self.push(Place::Carrier, Record::Header(header.with_serial(0)))?;
+                Ok(())
+            }
+            _ => Err(BaseFault::Refused(number, BaseRefusal::NoHeader)),
+        }
+    }
+
+    fn put_carrier(&mut self, number: u64, one: &Record) -> Result<(), BaseFault>
+        requires { self.old.place ≡ place.Carrier }
+        ensures stood { OnOk result ((earlier : List Record) → IsKept self.old earlier → Stood self.new earlier one.now) }
+        ensures err { IfErr result (λ e. (earlier : List Record) → IsKept self.old earlier → IsRefused number earlier one.now e) }
+    {
+        match one {
+            Record::Carrier(carrier) => {
+                let heading = Heading {
+                    airline: carrier.airline(),
+                    end: end_of(carrier),
+                };
+                self.push(
+                    Place::Legs(heading),
+                    Record::Carrier(carrier.with_serial(0)),
+                )?;
+                Ok(())
+            }
+            _ => Err(BaseFault::Refused(number, BaseRefusal::NoCarrier)),
+        }
+    }
+
+    fn put_leg(&mut self, number: u64, heading: Heading, leg: &LegRecord) -> Result<(), BaseFault>
+        requires { self.old.place ≡ place.Legs heading }
+        ensures stood { OnOk result ((earlier : List Record) → IsKept self.old earlier → Stood self.new earlier (Record.Leg leg.now)) }
+        ensures err { IfErr result (λ e. (earlier : List Record) → IsKept self.old earlier → IsRefused number earlier (Record.Leg leg.now) e) }
+    {
+        let period = leg_period(number, heading, leg)?;
+        let name = leg.name();
+        self.names.add(name)?;
+        if self.taken.take(name.flight(), name.sequence(), &period)? {
+            return Err(BaseFault::Refused(number, BaseRefusal::Overlap));
+        }
+        let leg = leg.with_last(period.last()).with_blanks().with_serial(0);
+        self.records.push(Record::Leg(leg))?;
+        Ok(())
+    }
+
+    fn put_segment(
+        &mut self,
+        number: u64,
+        heading: Heading,
+        segment: &SegmentRecord,
+    ) -> Result<(), BaseFault>
+        requires { self.old.place ≡ place.Legs heading }
+        ensures stood { OnOk result ((earlier : List Record) → IsKept self.old earlier → Stood self.new earlier (Record.Segment segment.now)) }
+        ensures err { IfErr result (λ e. (earlier : List Record) → IsKept self.old earlier → IsRefused number earlier (Record.Segment segment.now) e) }
+    {
+        if !same_airline(segment.name().airline(), heading.airline) {
+            return Err(BaseFault::Refused(number, BaseRefusal::OtherAirline));
+        }
+        if is_overflow(segment.overflow()) {
+            return Err(BaseFault::Refused(number, BaseRefusal::Overflow));
+        }
+        if !self.names.has(segment.name()) {
+            return Err(BaseFault::Refused(number, BaseRefusal::Segment));
+        }
+        let segment = segment.with_blank().with_serial(0);
+        self.records.push(Record::Segment(segment))?;
+        Ok(())
+    }
+
+    fn put_trailer(
+        &mut self,
+        number: u64,
+        heading: Heading,
+        trailer: &Trailer,
+    ) -> Result<(), BaseFault>
+        requires { self.old.place ≡ place.Legs heading }
+        ensures stood { OnOk result ((earlier : List Record) → IsKept self.old earlier → Stood self.new earlier (Record.Trailer trailer.now)) }
+        ensures err { IfErr result (λ e. (earlier : List Record) → IsKept self.old earlier → IsRefused number earlier (Record.Trailer trailer.now) e) }
+    {
+        if !same_airline(trailer.airline(), heading.airline) {
+            return Err(BaseFault::Refused(number, BaseRefusal::OtherAirline));
+        }
+        match trailer.code() {
+            EndCode::Continuation => Err(BaseFault::Refused(number, BaseRefusal::Continuation)),
+            EndCode::End => {
+                self.push(Place::End, Record::Trailer(trailer.with_serials(0, 0)))?;
+                Ok(())
+            }
+        }
+    }
+}
+
+// The period of a leg record whose airline, overflow, rate and end can stand.
+fn leg_period(number: u64, heading: Heading, leg: &LegRecord) -> Result<Period, BaseFault>
+    ensures ok { IfOk result (LegStands heading leg.now) }
+    ensures err { IfErr result (λ e. (earlier : List Record) → IsPlace (place.Legs heading) earlier → IsRefused number earlier (Record.Leg leg.now) e) }
+{
+    if !same_airline(leg.airline(), heading.airline) {
+        return Err(BaseFault::Refused(number, BaseRefusal::OtherAirline));
+    }
+    if is_overflow(leg.overflow()) {
+        return Err(BaseFault::Refused(number, BaseRefusal::Overflow));
+    }
+    if !is_rate(leg.rate()) {
+        return Err(BaseFault::Refused(number, BaseRefusal::Frequency));
+    }
+    let last = leg.last().unwrap_or(heading.end);
+    match Period::new(leg.first(), last, leg.days()) {
+        Ok(period) => Ok(period),
+        Err(_) => Err(BaseFault::Refused(number, BaseRefusal::OpenEnd)),
+    }
+}
+
+// Whether an overflow of the itinerary variation is meant.
+fn is_overflow(byte: u8) -> bool
+    ensures { result ≡ is_overflow byte }
+{
+    !(byte == b' ' || byte == b'0')
+}
+
+// Whether a frequency rate says that the leg operates in each week.
+fn is_rate(byte: u8) -> bool
+    ensures { result ≡ is_rate byte }
+{
+    byte == b' ' || byte == b'1'
+}
+
+// Whether two airlines are one.
+fn same_airline(one: Airline, other: Airline) -> bool
+    ensures { result ≡ bytes_eq one other }
+{
+    one.write().as_slice() == other.write().as_slice()
+}
+
+// The end of the carrier's validity: where it is open, 730 days after the start, within the calendar.
+fn end_of(carrier: &Carrier) -> Day
+    ensures { result ≡ end_of carrier.now }
+{
+    match carrier.last() {
+        Some(last) => last,
+        None => {
+            let end = (carrier.first().number() + 730).min(36_524);
+            match Day::from_number(end) {
+                Some(day) => day,
+                None => unreachable!(),
+            }
+        }
+    }
+}

@@ -1,0 +1,33 @@
+//! The records of a reader on their way into a base.
+
+ghost use Rattle.std.specs.Prelude.{◌≡◌, IfOk, IfErr};
+ghost use Rattle.ssim_schedule.specs.Gathering.{HasRead};
+ghost use Rattle.ssim_schedule.specs.Reading.{FailsAs, Refuses};
+
+use crate::fault::BaseFault;
+use crate::gathering::Gathering;
+use ssim_records::{Records, Source, frames_are_one};
+use std::alloc::Global;
+
+/// What is gathered of the records of a reader, and the number behind the last of them.
+pub(crate) fn gather<R: Source>(
+    alloc: Global,
+    reader: &mut R,
+    limit: u64,
+) -> Result<(Gathering, u64), BaseFault>
+    ensures ok { IfOk result (λ read. HasRead limit (R.left reader.old) read.0 read.1) }
+    ensures err { IfErr result (λ e. Refuses limit (R.left reader.old) e) }
+    ensures no_failure { IfOk result (λ _. R.failures reader.new ≡ R.failures reader.old) }
+    ensures failure { IfErr result (λ e. FailsAs (R.failures reader.old) (R.failures reader.new) e) }
+{
+    frames_are_one();
+    let mut records = Records::new(limit);
+    let mut gathering = Gathering::new(alloc);
+    loop {
+        match records.next(reader) {
+            Ok(Some((number, record))) => gathering.take(number, &record)?,
+            Ok(None) => return Ok((gathering, records.number() + 1)),
+            Err(fault) => return Err(BaseFault::Read(fault)),
+        }
+    }
+}
