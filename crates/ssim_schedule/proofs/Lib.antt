@@ -10,12 +10,15 @@ pub mod Notes
 pub mod Parts
 pub mod Pieces
 pub mod Places
+pub mod Planning
+pub mod Puts
 pub mod ReadOnce
 pub mod Serials
 pub mod Stands
 pub mod StationLines
 pub mod TableLemmas
 pub mod Valid
+pub mod SinkLemmas
 pub mod Whole
 pub mod KeptLemmas
 pub mod ReadingLemmas

@@ -10,6 +10,8 @@ pub mod Points
 pub mod Building
 pub mod Waiting
 pub mod Built
+pub mod Sinks
+pub mod Plan
 pub mod Taken
 pub mod Kept
 pub mod Gathering

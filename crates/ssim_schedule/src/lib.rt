@@ -10,6 +10,7 @@
 
 mod base;
 mod building;
+mod export;
 mod fault;
 mod flights;
 mod gathering;
@@ -30,6 +31,7 @@ mod taken;
 mod waiting;
 
 pub use base::{Base, BaseRead};
+pub use export::ExportFault;
 pub use fault::{BaseFault, BaseRefusal};
 pub use itinerary::Itinerary;
 pub use leg::PlacedLeg;

@@ -18,8 +18,8 @@ use std::marker::Model;
 /// A flight, and its itinerary on each date.
 #[derive(Drop)]
 pub struct FlightPeriods {
-    flight: Flight,
-    periods: Periods<Itinerary>,
+    pub(crate) flight: Flight,
+    pub(crate) periods: Periods<Itinerary>,
 }
 
 /// The itinerary of each flight on each date, kept flight by flight as cuts and week rows of shared itineraries.
@@ -41,7 +41,7 @@ impl Model for Schedule {
 }
 
 impl Schedule {
-    ghost use Rattle.ssim_schedule.specs.Schedule.{AddsOnlyAt, IsAt, IsGapFor, cuts_in, days_in};
+    ghost use Rattle.ssim_schedule.specs.Schedule.{AddsOnlyAt, AreRising, IsAt, IsGapFor, cuts_in, days_in};
 
     /// No flight flies on any date.
     pub(crate) fn new(alloc: Global) -> Schedule
@@ -132,6 +132,14 @@ impl Schedule {
         let counts = periods.apply(period, change)?;
         self.flights.insert(gap, FlightPeriods { flight, periods })?;
         Ok(counts)
+    }
+
+    /// The entries, by number and suffix of their flights.
+    pub(crate) fn entries(&self) -> &[FlightPeriods]
+        ensures value { result.now ≡ self.now }
+        ensures rising { AreRising self.now }
+    {
+        &self.flights
     }
 
     // Where the flight's entry is, or where it would go.

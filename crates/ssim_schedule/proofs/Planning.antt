@@ -1,0 +1,183 @@
+-- A plan says of a schedule's flights what the definition says of all flights.
+use Rattle.std.proofs.Common.{◌≡◌, ◌≤◌, ◌<◌, ℕ, suc, ◌+◌, Bool, true, false, ◌||◌, nat_eq, if◌then◌else◌, List, [], ◌∷◌, ◌++◌, map, length, take, get_or, Option, Some, None, Result, Ok, Err, refl, sym, ap, subst, ◌∙◌, arith}
+use Rattle.std.specs.Prelude.{◌&&◌, nat_lt}
+use Rattle.std.specs.List.{All, list_any, AllByRecursion as Each}
+use Rattle.std.proofs.lemmas.Bool.Decides.{nat_tests}
+use Rattle.std.proofs.lemmas.List.{take_more, get_or_default}
+use Rattle.std.proofs.lemmas.List.Elements.{All-append, All-cons, All-nil, recursion_from_All, All-from_recursion}
+use Rattle.ssim_values.specs.Flight.{FlightNumber, IsFlight}
+use Rattle.ssim_periods.specs.Days.{each_day}
+use Rattle.ssim_records.specs.declared.record.Record.{Record}
+use Rattle.ssim_schedule.specs.Timetable.{Days, same_flight}
+use Rattle.ssim_schedule.specs.Export as refusal
+use Rattle.ssim_schedule.specs.Export.{ExportRefusal, Frame, flight_at, Piece, pieces, pieces_records, flight_records, flights_records, export_refusal, export_of, chapter7, chapter7_records, sections, unless_refused, result_map, export_bytes}
+use Rattle.ssim_schedule.specs.Plan.{IsRefusedAs, Planned, Refuses, pieces_count, plan_bytes, plan_count, plan_of, plan_records, plan_refusal}
+use Rattle.ssim_schedule.specs.Schedule.{Table, AreRising, days_in, key_at, no_entry}
+use Rattle.ssim_schedule.specs.ReadBack as law
+use Rattle.ssim_schedule.specs.ReadBack.{place_of}
+use Rattle.ssim_schedule.specs.declared.export.ExportFault.{ExportFault}
+use Rattle.ssim_schedule.specs.declared.export.ExportFault.TheVariants.{Variations, Records, WriteFault, Memory}
+use Rattle.ssim_schedule.specs.declared.schedule.FlightPeriods.{FlightPeriods}
+use Rattle.ssim_schedule.proofs.Calendars.{length-each_day, at-each_day}
+use Rattle.ssim_schedule.proofs.Flown.{flown_suffice, unflown}
+use Rattle.ssim_schedule.proofs.Places.{flight-place, same-self}
+use Rattle.ssim_schedule.proofs.Puts.{pieces-counted}
+use Rattle.ssim_schedule.proofs.TableLemmas.{found_at}
+
+-- ---- flight by flight
+
+abbrev planned : FlightPeriods → Planned
+planned f = (f.flight, pieces f.periods.days)
+
+plan-append : (xs ys : Table) → plan_of (xs ++ ys) ≡ plan_of xs ++ plan_of ys
+plan-append [] ys = refl
+plan-append (x ∷ xs) ys = ap (λ (ps : List Planned). planned x ∷ ps) (plan-append xs ys)
+
+pub planned_more : (entries : Table) (i : ℕ) (f : FlightPeriods) (plan new : List Planned) (ps : List Piece) → i < length entries → f ≡ get_or entries i f
+    → plan ≡ plan_of (take i entries) → ps ≡ pieces f.periods.days → new ≡ plan ++ (f.flight, ps) ∷ [] → new ≡ plan_of (take (i + 1) entries)
+planned_more entries i f plan new ps less is before its push =
+    let front : take (i + 1) entries ≡ take i entries ++ f ∷ [] = take_more entries i f less ∙ ap (λ (x : FlightPeriods). take i entries ++ x ∷ []) (sym is) in
+    push ∙ ap (λ (xs : List Piece). plan ++ (f.flight, xs) ∷ []) its ∙ ap (λ (xs : List Planned). xs ++ planned f ∷ []) before ∙ sym (plan-append (take i entries) (f ∷ [])) ∙ ap plan_of (sym front)
+
+abbrev Exists : FlightPeriods → Type 0
+Exists f = IsFlight f.flight
+
+pub existing_more : (entries : Table) (i : ℕ) (f : FlightPeriods) → i < length entries → f ≡ get_or entries i f → All Exists (take i entries) → IsFlight f.flight → All Exists (take (i + 1) entries)
+existing_more entries i f less is before one =
+    let front : take (i + 1) entries ≡ take i entries ++ f ∷ [] = take_more entries i f less ∙ ap (λ (x : FlightPeriods). take i entries ++ x ∷ []) (sym is) in
+    subst (λ (xs : Table). All Exists xs) (sym front) (All-append Exists (take i entries) (f ∷ []) before (All-cons Exists f [] one (All-nil Exists)))
+
+-- ---- what can be written
+
+no_piece : (ps : List Piece) → length ps ≡ 0 → pieces_count ps ≡ 0
+no_piece [] h = refl
+no_piece (p ∷ ps) h = absurd (omega arith)
+
+room : (count : ℕ) (ps : List Piece) → count < 999999 → (nat_lt 0 (length ps) && nat_lt 999999 ((count + pieces_count ps) + 1)) ≡ false → count + pieces_count ps < 999999
+room count ps less h = by (nat_lt 0 (length ps)) (nat_lt 999999 ((count + pieces_count ps) + 1)) refl refl h
+  where
+    by : (b d : Bool) → nat_lt 0 (length ps) ≡ b → nat_lt 999999 ((count + pieces_count ps) + 1) ≡ d → (b && d) ≡ false → count + pieces_count ps < 999999
+    by true true e f k = absurd cc
+    by true false e f k = grind (arith, nat_tests)
+    by false d e f k =
+        let none : length ps ≡ 0 = grind (arith, nat_tests) in
+        omega (arith, no_piece ps none)
+
+abbrev IsShort : Planned → Type 0
+IsShort p = length p.1 ≤ 99
+
+fits_each : (count : ℕ) (plan : List Planned) → count < 999999 → plan_refusal count plan ≡ None → Each IsShort plan × (count + plan_count plan < 999999)
+fits_each count [] less h = (tt, omega arith)
+fits_each count (p ∷ plan) less h = by (nat_lt 99 (length p.1)) (nat_lt 0 (length p.1) && nat_lt 999999 ((count + pieces_count p.1) + 1)) refl refl (fits_each (count + pieces_count p.1) plan) h
+  where
+    by : (b d : Bool) → nat_lt 99 (length p.1) ≡ b → (nat_lt 0 (length p.1) && nat_lt 999999 ((count + pieces_count p.1) + 1)) ≡ d
+        → (count + pieces_count p.1 < 999999 → plan_refusal (count + pieces_count p.1) plan ≡ None → Each IsShort plan × ((count + pieces_count p.1) + plan_count plan < 999999))
+        → (if b then Some (refusal.Variations p.0) else (if d then Some refusal.Records else plan_refusal (count + pieces_count p.1) plan)) ≡ None
+        → Each IsShort (p ∷ plan) × (count + plan_count (p ∷ plan) < 999999)
+    by true d e f more k = absurd cc
+    by false true e f more k = absurd cc
+    by false false e f more k =
+        let short : length p.1 ≤ 99 = grind (arith, nat_tests) in
+        let later = more (room count p.1 less f) k in
+        ((short, later.0), omega (arith, later.1))
+
+pub fits : (plan : List Planned) → plan_refusal 2 plan ≡ None → All IsShort plan × (2 + plan_count plan < 999999)
+fits plan h = let each = fits_each 2 plan (omega arith) h in (All-from_recursion IsShort plan each.0, each.1)
+
+-- ---- the definition at the flights of a schedule
+
+abbrev flights_in : Table → List FlightNumber
+flights_in table = map (λ f. f.flight) table
+
+abbrev HasDays : (FlightNumber → Days) → FlightPeriods → Type 0
+HasDays days f = days f.flight ≡ f.periods.days
+
+its_days : (table : Table) → AreRising table → Each (HasDays (days_in table)) table
+its_days table rising = recursion_from_All (HasDays (days_in table)) table (λ k d less.
+    let f = get_or table k d in
+    let same : get_or table k d ≡ get_or table k no_entry = get_or_default table k d no_entry less in
+    found_at (λ (x : FlightPeriods). x.periods.days) (each_day (λ _. [])) table rising f.flight k (record { in_range = less; its = ap (λ (x : FlightPeriods). place_of x.flight) (sym same) })
+    ∙ ap (λ (x : FlightPeriods). x.periods.days) (sym same))
+
+abbrev after_flight : ℕ → ℕ → FlightNumber → ℕ → Option ExportRefusal → Option ExportRefusal
+after_flight count many flight after later =
+    if nat_lt 99 many then Some (refusal.Variations flight) else (if nat_lt 0 many && nat_lt 999999 (after + 1) then Some refusal.Records else later)
+
+refusal-same : (a : List ℕ) (days : FlightNumber → Days) (count : ℕ) (table : Table) → Each (HasDays days) table → export_refusal a days count (flights_in table) ≡ plan_refusal count (plan_of table)
+refusal-same a days count [] each = refl
+refusal-same a days count (f ∷ table) each =
+    let ps = pieces f.periods.days in
+    ap (λ (ds : Days). after_flight count (length (pieces ds)) f.flight (count + length (pieces_records a f.flight 1 (pieces ds))) (export_refusal a days (count + length (pieces_records a f.flight 1 (pieces ds))) (flights_in table))) each.0
+    ∙ ap (λ (n : ℕ). after_flight count (length ps) f.flight (count + n) (export_refusal a days (count + n) (flights_in table))) (pieces-counted a f.flight 1 ps)
+    ∙ ap (λ (o : Option ExportRefusal). after_flight count (length ps) f.flight (count + pieces_count ps) o) (refusal-same a days (count + pieces_count ps) table each.1)
+
+records-same : (a : List ℕ) (days : FlightNumber → Days) (table : Table) → Each (HasDays days) table → flights_records a days (flights_in table) ≡ plan_records a (plan_of table)
+records-same a days [] each = refl
+records-same a days (f ∷ table) each =
+    ap (λ (ds : Days). pieces_records a f.flight 1 (pieces ds) ++ flights_records a days (flights_in table)) each.0
+    ∙ ap (λ (rs : List Record). pieces_records a f.flight 1 (pieces f.periods.days) ++ rs) (records-same a days table each.1)
+
+rising_tail : (f : FlightPeriods) (table : Table) → AreRising (f ∷ table) → AreRising table
+rising_tail f table rising i j less within = rising (suc i) (suc j) (omega arith) (omega arith)
+
+rises : (low : ℕ) (table : Table) → AreRising table → Each Exists table → (0 < length table → low ≤ key_at table 0) → law.Rise low (flights_in table)
+rises low [] rising each from = tt
+rises low (f ∷ table) rising each from =
+    (from (omega arith), each.0, rises (place_of f.flight + 1) table (rising_tail f table rising) each.1 (λ some. let next = rising 0 1 (omega arith) (omega arith) in omega (arith, next)))
+
+-- a flight without an entry has none on any day
+absent : (table : Table) (g : FlightNumber) → IsFlight g → Each Exists table → list_any (same_flight g) (flights_in table) ≡ false → days_in table g ≡ each_day (λ _. [])
+absent [] g is each none = refl
+absent (f ∷ table) g is each none = by (same_flight g f.flight) (nat_eq (place_of f.flight) (place_of g)) refl refl (absent table g is each.1) none
+  where
+    by : (b d : Bool) → same_flight g f.flight ≡ b → nat_eq (place_of f.flight) (place_of g) ≡ d
+        → (list_any (same_flight g) (flights_in table) ≡ false → days_in table g ≡ each_day (λ _. [])) → (b || list_any (same_flight g) (flights_in table)) ≡ false
+        → (if d then f.periods.days else days_in table g) ≡ each_day (λ _. [])
+    by true d e k more h = absurd cc
+    by false false e k more h = more h
+    by false true e k more h =
+        let places : place_of f.flight ≡ place_of g = grind (arith, nat_tests) in
+        let one : g ≡ f.flight = sym (flight-place g is) ∙ ap flight_at (sym places) ∙ flight-place f.flight each.0 in
+        let same : same_flight g f.flight ≡ true = ap (λ (x : FlightNumber). same_flight g x) (sym one) ∙ same-self g in
+        absurd cc
+
+no_other : (table : Table) → Each Exists table → law.NoOther (days_in table) (flights_in table)
+no_other table each g is out =
+    ap pieces (absent table g is each out) ∙ unflown (each_day (λ n. [])) (λ n l. let len = length-each_day (λ n. []) in at-each_day (λ n. []) n (omega arith))
+
+abbrev Planned_export : Frame → Table → Result (List ℕ) ExportRefusal
+Planned_export frame table = result_map export_bytes (unless_refused (plan_refusal 2 (plan_of table)) (sections frame (plan_records frame.carrier.airline (plan_of table))))
+
+exported : (frame : Frame) (table : Table) → AreRising table → All Exists table → chapter7 frame (days_in table) ≡ Planned_export frame table
+exported frame table rising exist =
+    let a = frame.carrier.airline in
+    let each = recursion_from_All Exists table exist in
+    let days = its_days table rising in
+    ap (λ r. result_map export_bytes r) (flown_suffice frame (days_in table) (flights_in table) (rises 0 table rising each (λ some. omega arith)) (no_other table each))
+    ∙ ap (λ o. result_map export_bytes (unless_refused o (sections frame (flights_records a (days_in table) (flights_in table))))) (refusal-same a (days_in table) 2 table days)
+    ∙ ap (λ rs. result_map export_bytes (unless_refused (plan_refusal 2 (plan_of table)) (sections frame rs))) (records-same a (days_in table) table days)
+
+-- the export, where none of the flights is refused
+pub export_is : (frame : Frame) (table : Table) (plan : List Planned) → AreRising table → All Exists table → plan ≡ plan_of table → plan_refusal 2 plan ≡ None
+    → chapter7 frame (days_in table) ≡ Ok (plan_bytes frame plan)
+unfolding plan_bytes
+export_is frame table plan rising exist is none =
+    exported frame table rising exist
+    ∙ ap (λ (ps : List Planned). result_map export_bytes (unless_refused (plan_refusal 2 ps) (sections frame (plan_records frame.carrier.airline ps)))) (sym is)
+    ∙ ap (λ o. result_map export_bytes (unless_refused o (sections frame (plan_records frame.carrier.airline plan)))) none
+
+-- its refusal, where one is
+pub refusal_is : (frame : Frame) (table : Table) (plan : List Planned) (r : ExportRefusal) → AreRising table → All Exists table → plan ≡ plan_of table → plan_refusal 2 plan ≡ Some r
+    → chapter7 frame (days_in table) ≡ Err r
+refusal_is frame table plan r rising exist is some =
+    exported frame table rising exist
+    ∙ ap (λ (ps : List Planned). result_map export_bytes (unless_refused (plan_refusal 2 ps) (sections frame (plan_records frame.carrier.airline ps)))) (sym is)
+    ∙ ap (λ o. result_map export_bytes (unless_refused o (sections frame (plan_records frame.carrier.airline plan)))) some
+
+-- what was measured is what is answered
+pub refuses : {W : Type 0} (taken : W → Option (List ℕ)) (failures : W → ℕ) (export : Result (List ℕ) ExportRefusal) (out : W) (answer : Option ExportRefusal) (fault : ExportFault)
+    → IsRefusedAs answer fault → ((r : ExportRefusal) → answer ≡ Some r → export ≡ Err r) → Refuses taken failures export out out fault
+refuses taken failures export out answer (Variations flight) h is = (is (refusal.Variations flight) h, refl)
+refuses taken failures export out answer Records h is = (is refusal.Records h, refl)
+refuses taken failures export out answer WriteFault h is = absurd h
+refuses taken failures export out answer Memory h is = absurd h

@@ -1,0 +1,10 @@
+-- The count so far and that of what is left is all.
+use Rattle.std.proofs.Common.{◌≡◌, ◌<◌, ◌+◌, drop}
+use Rattle.ssim_schedule.specs.Plan.{pieces_count}
+use Rattle.ssim_schedule.proofs.export.plan.count_pieces.Given as goal
+
+abbrev pub invariant-loop-piece : goal.invariant-loop-piece
+invariant-loop-piece l = record {
+  room : l.count < 999999;
+  all : l.count + pieces_count (drop l.piece-index l.pieces) ≡ l.before + pieces_count l.pieces;
+}

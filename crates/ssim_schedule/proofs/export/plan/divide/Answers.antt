@@ -1,0 +1,13 @@
+-- A flight more is planned.
+use Rattle.ssim_schedule.proofs.Planning.{planned_more, existing_more}
+use Rattle.ssim_schedule.proofs.export.plan.divide.Goals as goal
+
+pub loop-entry-preserved : goal.loop-entry-preserved
+loop-entry-preserved c =
+    let entries = c.args.entries.now in
+    let i = c.loop-entry.entry-index in
+    let entry = c.entry-item.result in
+    record {
+      plan = planned_more entries i entry c.loop-entry.plan.items c.push.new.self.items c.in_ok-pieces.field-0.items c.loop-entry-test.true c.entry-item.is c.loop-entry.invariant.plan c.in_ok-pieces.ensures c.in_ok-push.ensures.items;
+      flights = existing_more entries i entry c.loop-entry-test.true c.entry-item.is c.loop-entry.invariant.flights c.place.ensures.flight;
+    }

@@ -1,0 +1,95 @@
+-- What is to be exported, flight by flight: pieces instead of days.
+use Rattle.std.specs.Prelude.{◌≡◌, ℕ, ◌+◌, ◌%◌, ◌^◌, ◌&&◌, nat_lt, if◌then◌else◌, List, [], ◌∷◌, map, length, Option, Some, None, Result, Ok, Err}
+use Rattle.std.specs.List.{flat_map}
+use Rattle.std.specs.Io.KnownBytes.{Appends}
+use Rattle.ssim_values.specs.Flight.{FlightNumber}
+use Rattle.ssim_records.specs.Carrier.{CarrierFields}
+use Rattle.ssim_records.specs.Header.{HeaderFields}
+use Rattle.ssim_records.specs.Trailer.{TrailerFields}
+use Rattle.ssim_records.specs.Record.{written}
+use Rattle.ssim_records.specs.declared.record.Record.{Record}
+use Rattle.ssim_schedule.specs.Timetable.{Legs}
+use Rattle.ssim_schedule.specs.Export as refusal
+use Rattle.ssim_schedule.specs.Export.{ExportRefusal, Frame, Piece, export_bytes, line, numbered, pieces, pieces_records, sections}
+use Rattle.ssim_schedule.specs.Schedule.{Table}
+use Rattle.ssim_schedule.specs.Sinks.{TakesFront}
+use Rattle.ssim_schedule.specs.declared.export.ExportFault.{ExportFault}
+use Rattle.ssim_schedule.specs.declared.export.ExportFault.TheVariants.{Variations, Records, WriteFault, Memory}
+
+-- a flight and its pieces
+abbrev pub Planned : Type 0
+Planned = FlightNumber × List Piece
+
+-- the flights of a schedule with their pieces
+abbrev pub plan_of : Table → List Planned
+plan_of table = map (λ f. (f.flight, pieces f.periods.days)) table
+
+-- ---- how many records there are
+
+-- each leg has one, and one for each of its tails
+abbrev pub legs_count : Legs → ℕ
+legs_count [] = 0
+legs_count (l ∷ legs) = (1 + length l.tails) + legs_count legs
+
+abbrev pub pieces_count : List Piece → ℕ
+pieces_count [] = 0
+pieces_count (piece ∷ later) = legs_count piece.1 + pieces_count later
+
+abbrev pub plan_count : List Planned → ℕ
+plan_count [] = 0
+plan_count (p ∷ plan) = pieces_count p.1 + plan_count plan
+
+-- ---- the export of a plan
+
+-- its records, with serial 0
+abbrev pub plan_records : List ℕ → List Planned → List Record
+plan_records airline plan = flat_map (λ p. pieces_records airline p.0 1 p.1) plan
+
+-- the refusal of its first flight that cannot be exported, where so many records stand before it
+abbrev pub plan_refusal : ℕ → List Planned → Option ExportRefusal
+plan_refusal count [] = None
+plan_refusal count (p ∷ plan) =
+    let after = count + pieces_count p.1 in
+    if nat_lt 99 (length p.1) then Some (refusal.Variations p.0)
+    else (if nat_lt 0 (length p.1) && nat_lt 999999 (after + 1) then Some refusal.Records
+    else plan_refusal after plan)
+
+-- the records as lines, with serials from n on
+abbrev pub numbered_lines : ℕ → List Record → List ℕ
+numbered_lines n records = flat_map (λ r. line (written r)) (numbered n records)
+
+abbrev pub frame_from : HeaderFields → CarrierFields → TrailerFields → Frame
+frame_from header carrier trailer = record { header = header; carrier = carrier; trailer = trailer }
+
+-- the bytes of its export
+unfoldable pub plan_bytes : Frame → List Planned → List ℕ
+plan_bytes frame plan = export_bytes (sections frame (plan_records frame.carrier.airline plan))
+
+-- ---- what an export answers
+
+-- the fault says the refusal
+abbrev pub IsRefusedAs : Option ExportRefusal → ExportFault → Type 0
+IsRefusedAs answer (Variations flight) = answer ≡ Some (refusal.Variations flight)
+IsRefusedAs answer Records = answer ≡ Some refusal.Records
+IsRefusedAs answer WriteFault = ⊥
+IsRefusedAs answer Memory = ⊥
+
+-- the sink took the bytes of the export, and did not fail
+abbrev pub Writes : {W : Type 0} → (W → Option (List ℕ)) → (W → ℕ) → Result (List ℕ) ExportRefusal → W → W → Type 0
+Writes taken failures export old new =
+    (bytes : List ℕ) × (export ≡ Ok bytes) × Appends (taken old) (taken new) bytes × (failures new ≡ failures old)
+
+-- The export is refused as it is defined, or memory is, and the sink is as it was. Or the sink failed, once, and took a front
+-- of the bytes.
+abbrev pub Refuses : {W : Type 0} → (W → Option (List ℕ)) → (W → ℕ) → Result (List ℕ) ExportRefusal → W → W → ExportFault → Type 0
+Refuses taken failures export old new (Variations flight) = (export ≡ Err (refusal.Variations flight)) × (new ≡ old)
+Refuses taken failures export old new Records = (export ≡ Err refusal.Records) × (new ≡ old)
+Refuses taken failures export old new Memory = new ≡ old
+Refuses taken failures export old new WriteFault =
+    (bytes : List ℕ) × (export ≡ Ok bytes) × TakesFront bytes (taken old) (taken new) × (failures new ≡ (failures old + 1) % 2 ^ 64)
+
+abbrev pub export_fault_number : ExportFault → ℕ
+export_fault_number (Variations flight) = 50
+export_fault_number Records = 51
+export_fault_number WriteFault = 52
+export_fault_number Memory = 90

@@ -1,0 +1,144 @@
+//! Lines on their way to a sink, gathered into blocks.
+
+ghost use Rattle.std.specs.Prelude.{◌≡◌, ◌↔◌, ◌≤◌, ◌+◌, ◌++◌, [], length, replicate, IsTrue, OnOk, OnErr};
+ghost use Rattle.std.specs.List.{flat_map};
+ghost use Rattle.std.specs.Io.KnownBytes.{Appends};
+ghost use Rattle.ssim_records.specs.Frames.{fill};
+ghost use Rattle.ssim_schedule.specs.Export.{line};
+ghost use Rattle.ssim_schedule.specs.Sinks.{CountsFault, TakesFront, TakesUpTo};
+
+use ssim_records::Sink;
+use std::marker::Model;
+
+/// How many bytes a block has room for: forty lines.
+const ROOM: usize = 8040;
+
+/// A record that says nothing.
+const FILL: [u8; 200] = [b'0'; 200];
+
+/// The sink failed, or took no byte where there was one.
+#[derive(Clone, Copy, Debug)]
+pub(crate) struct SinkFailed;
+
+/// Bytes that wait for their sink, seen as their list. They stand inline, since writing takes no memory.
+#[derive(Drop)]
+pub(crate) struct Block {
+    bytes: [u8; ROOM],
+    end: usize,
+}
+
+impl Model for Block {
+    ghost use Rattle.std.specs.Prelude.{List, ℕ, ◌≤◌, take};
+
+    ghost Value = { List ℕ };
+
+    ghost view = { λ b. take b.end b.bytes };
+
+    ghost invariant = { λ b. b.end ≤ 8040 };
+}
+
+impl Block {
+    pub(crate) fn new() -> Block
+        ensures { result ≡ [] }
+    {
+        Block {
+            bytes: [0; ROOM],
+            end: 0,
+        }
+    }
+
+    fn has_room(&self) -> bool
+        ensures { IsTrue result ↔ (length self.now + 201 ≤ 8040) }
+    {
+        self.end + 201 <= ROOM
+    }
+
+    fn push_line(&mut self, bytes: &[u8; 200])
+        requires { length self.old + 201 ≤ 8040 }
+        ensures { self.new ≡ self.old ++ line bytes.now }
+    {
+        let end = self.end + 200;
+        self.bytes[self.end..end].copy_from_slice(bytes);
+        self.bytes[end] = b'\n';
+        self.end = end + 1;
+    }
+
+    fn bytes(&self) -> &[u8]
+        ensures { result.now ≡ self.now }
+    {
+        &self.bytes[..self.end]
+    }
+
+    fn clear(&mut self)
+        ensures { self.new ≡ [] }
+    {
+        self.end = 0;
+    }
+}
+
+/// Hands all of the bytes to the sink, however many it takes at a time.
+fn put_all<W: Sink>(out: &mut W, bytes: &[u8]) -> Result<(), SinkFailed>
+    ensures ok { OnOk result (Appends (W.taken out.old) (W.taken out.new) bytes.now) }
+    ensures err { OnErr result (TakesFront bytes.now (W.taken out.old) (W.taken out.new)) }
+    ensures failures { CountsFault (W.failures out.old) (W.failures out.new) result }
+    ensures device { W.device out.new ≡ W.device out.old }
+{
+    let mut rest = bytes;
+    while !rest.is_empty() {
+        match out.put(rest) {
+            Ok(0) | Err(_) => return Err(SinkFailed),
+            Ok(n) => rest = rest.split_at(n).1,
+        }
+    }
+    Ok(())
+}
+
+/// Hands the bytes of the block to the sink.
+pub(crate) fn flush<W: Sink>(out: &mut W, block: &mut Block) -> Result<(), SinkFailed>
+    ensures ok { OnOk result (Appends (W.taken out.old) (W.taken out.new) block.old) }
+    ensures empty { OnOk result (block.new ≡ []) }
+    ensures err { OnErr result (TakesFront block.old (W.taken out.old) (W.taken out.new)) }
+    ensures failures { CountsFault (W.failures out.old) (W.failures out.new) result }
+    ensures device { W.device out.new ≡ W.device out.old }
+{
+    put_all(out, block.bytes())?;
+    block.clear();
+    Ok(())
+}
+
+/// Puts a record with its LF behind the bytes of the block, which go to the sink first where it is full.
+pub(crate) fn put_line<W: Sink>(
+    out: &mut W,
+    block: &mut Block,
+    bytes: &[u8; 200],
+) -> Result<(), SinkFailed>
+    ensures ok { OnOk result (TakesUpTo (block.old ++ line bytes.now) block.new (W.taken out.old) (W.taken out.new)) }
+    ensures err { OnErr result (TakesFront (block.old ++ line bytes.now) (W.taken out.old) (W.taken out.new)) }
+    ensures failures { CountsFault (W.failures out.old) (W.failures out.new) result }
+    ensures device { W.device out.new ≡ W.device out.old }
+{
+    if !block.has_room() {
+        flush(out, block)?;
+    }
+    block.push_line(bytes);
+    Ok(())
+}
+
+/// Puts so many records of fill.
+pub(crate) fn put_fill<W: Sink>(
+    out: &mut W,
+    block: &mut Block,
+    count: usize,
+) -> Result<(), SinkFailed>
+    ensures ok { OnOk result (TakesUpTo (block.old ++ flat_map line (replicate count fill)) block.new (W.taken out.old) (W.taken out.new)) }
+    ensures err { OnErr result (TakesFront (block.old ++ flat_map line (replicate count fill)) (W.taken out.old) (W.taken out.new)) }
+    ensures failures { CountsFault (W.failures out.old) (W.failures out.new) result }
+    ensures device { W.device out.new ≡ W.device out.old }
+{
+    let mut left = count;
+    while left > 0 {
+        put_line(out, block, &FILL)?;
+        left -= 1;
+    }
+    Ok(())
+}

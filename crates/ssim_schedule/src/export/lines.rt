@@ -1,0 +1,203 @@
+//! The lines of an export, from what is planned.
+
+ghost use Rattle.std.specs.Prelude.{◌≡◌, ◌≤◌, ◌<◌, ◌+◌, ◌++◌, [], ◌∷◌, List, length, map, slice_index, IfOk, OnOk, OnErr};
+ghost use Rattle.std.specs.List.{All, flat_map};
+ghost use Rattle.std.specs.Io.KnownBytes.{Appends};
+ghost use Rattle.ssim_records.specs.Leg.{LegFields};
+ghost use Rattle.ssim_schedule.specs.Export.{fill_count, leg_records, numbered, pieces_records, section_bytes, tail_record};
+ghost use Rattle.ssim_schedule.specs.Plan.{frame_from, legs_count, numbered_lines, pieces_count, plan_bytes, plan_count, plan_records};
+ghost use Rattle.ssim_schedule.specs.Sinks.{CountsFault, TakesFront, TakesUpTo};
+
+use crate::export::block::{Block, SinkFailed, flush, put_fill, put_line};
+use crate::export::plan::FlightPieces;
+use crate::itinerary::Itinerary;
+use crate::leg::PlacedLeg;
+use ssim_records::{
+    Carrier, Header, LegName, LegRecord, Record, SegmentTail, Sink, Trailer, write_record,
+};
+use ssim_values::{Airline, Flight, Period};
+
+/// Puts the export of a plan, all of it.
+pub(crate) fn put_export<W: Sink>(
+    out: &mut W,
+    header: &Header,
+    carrier: &Carrier,
+    trailer: &Trailer,
+    plan: &[FlightPieces],
+) -> Result<(), SinkFailed>
+    requires few { All (λ p. length p.1 ≤ 99) plan.now }
+    requires room { 3 + plan_count plan.now < 1000000 }
+    ensures ok { OnOk result (Appends (W.taken out.old) (W.taken out.new) (plan_bytes (frame_from header.now carrier.now trailer.now) plan.now)) }
+    ensures err { OnErr result (TakesFront (plan_bytes (frame_from header.now carrier.now trailer.now) plan.now) (W.taken out.old) (W.taken out.new)) }
+    ensures failures { CountsFault (W.failures out.old) (W.failures out.new) result }
+    ensures device { W.device out.new ≡ W.device out.old }
+{
+    let mut block = Block::new();
+    put_alone(out, &mut block, &Record::Header(header.with_serial(1)))?;
+    put_alone(out, &mut block, &Record::Carrier(carrier.with_serial(2)))?;
+    let next = put_body(out, &mut block, carrier.airline(), plan)?;
+    put_alone(
+        out,
+        &mut block,
+        &Record::Trailer(trailer.with_serials(next - 1, next)),
+    )?;
+    flush(out, &mut block)
+}
+
+// A record, and fill up to five.
+fn put_alone<W: Sink>(out: &mut W, block: &mut Block, one: &Record) -> Result<(), SinkFailed>
+    ensures ok { OnOk result (TakesUpTo (block.old ++ section_bytes (one.now ∷ [])) block.new (W.taken out.old) (W.taken out.new)) }
+    ensures err { OnErr result (TakesFront (block.old ++ section_bytes (one.now ∷ [])) (W.taken out.old) (W.taken out.new)) }
+    ensures failures { CountsFault (W.failures out.old) (W.failures out.new) result }
+    ensures device { W.device out.new ≡ W.device out.old }
+{
+    put_line(out, block, &write_record(one))?;
+    put_fill(out, block, 4)
+}
+
+// The flights, and fill up to a multiple of five. Answers the next serial.
+fn put_body<W: Sink>(
+    out: &mut W,
+    block: &mut Block,
+    airline: Airline,
+    plan: &[FlightPieces],
+) -> Result<u32, SinkFailed>
+    requires few { All (λ p. length p.1 ≤ 99) plan.now }
+    requires room { 3 + plan_count plan.now ≤ 1000000 }
+    ensures next { IfOk result (λ next. next ≡ 3 + plan_count plan.now) }
+    ensures ok { OnOk result (TakesUpTo (block.old ++ section_bytes (numbered 3 (plan_records airline plan.now))) block.new (W.taken out.old) (W.taken out.new)) }
+    ensures err { OnErr result (TakesFront (block.old ++ section_bytes (numbered 3 (plan_records airline plan.now))) (W.taken out.old) (W.taken out.new)) }
+    ensures failures { CountsFault (W.failures out.old) (W.failures out.new) result }
+    ensures device { W.device out.new ≡ W.device out.old }
+{
+    let next = put_flights(out, block, airline, plan, 3)?;
+    put_fill(out, block, fill_count(next as usize - 3))?;
+    Ok(next)
+}
+
+fn fill_count(count: usize) -> usize
+    ensures { result ≡ fill_count count }
+{
+    (5 - count % 5) % 5
+}
+
+// The flights with serials from `serial` on. Answers the next serial.
+fn put_flights<W: Sink>(
+    out: &mut W,
+    block: &mut Block,
+    airline: Airline,
+    plan: &[FlightPieces],
+    serial: u32,
+) -> Result<u32, SinkFailed>
+    requires few { All (λ p. length p.1 ≤ 99) plan.now }
+    requires room { serial + plan_count plan.now ≤ 1000000 }
+    ensures next { IfOk result (λ next. next ≡ serial + plan_count plan.now) }
+    ensures ok { OnOk result (TakesUpTo (block.old ++ numbered_lines serial (plan_records airline plan.now)) block.new (W.taken out.old) (W.taken out.new)) }
+    ensures err { OnErr result (TakesFront (block.old ++ numbered_lines serial (plan_records airline plan.now)) (W.taken out.old) (W.taken out.new)) }
+    ensures failures { CountsFault (W.failures out.old) (W.failures out.new) result }
+    ensures device { W.device out.new ≡ W.device out.old }
+{
+    let mut next = serial;
+    for planned in plan {
+        next = put_pieces(
+            out,
+            block,
+            airline,
+            planned.flight(),
+            planned.pieces(),
+            next,
+        )?;
+    }
+    Ok(next)
+}
+
+// The pieces of a flight as variations 1, 2, ..
+fn put_pieces<W: Sink>(
+    out: &mut W,
+    block: &mut Block,
+    airline: Airline,
+    flight: Flight,
+    pieces: &[(Period, Itinerary)],
+    serial: u32,
+) -> Result<u32, SinkFailed>
+    requires few { length pieces.now ≤ 99 }
+    requires room { serial + pieces_count pieces.now ≤ 1000000 }
+    ensures next { IfOk result (λ next. next ≡ serial + pieces_count pieces.now) }
+    ensures ok { OnOk result (TakesUpTo (block.old ++ numbered_lines serial (pieces_records airline flight 1 pieces.now)) block.new (W.taken out.old) (W.taken out.new)) }
+    ensures err { OnErr result (TakesFront (block.old ++ numbered_lines serial (pieces_records airline flight 1 pieces.now)) (W.taken out.old) (W.taken out.new)) }
+    ensures failures { CountsFault (W.failures out.old) (W.failures out.new) result }
+    ensures device { W.device out.new ≡ W.device out.old }
+{
+    let mut next = serial;
+    let mut variation = 1;
+    for piece in pieces {
+        let (period, itinerary) = piece;
+        next = put_legs(
+            out,
+            block,
+            airline,
+            flight,
+            variation,
+            *period,
+            itinerary.legs(),
+            next,
+        )?;
+        variation += 1;
+    }
+    Ok(next)
+}
+
+// The legs of a piece, each followed by its tails.
+fn put_legs<W: Sink>(
+    out: &mut W,
+    block: &mut Block,
+    airline: Airline,
+    flight: Flight,
+    variation: u8,
+    period: Period,
+    legs: &[PlacedLeg],
+    serial: u32,
+) -> Result<u32, SinkFailed>
+    requires variation { variation < 100 }
+    requires room { serial + legs_count legs.now ≤ 1000000 }
+    ensures next { IfOk result (λ next. next ≡ serial + legs_count legs.now) }
+    ensures ok { OnOk result (TakesUpTo (block.old ++ numbered_lines serial (flat_map (leg_records airline flight variation period) legs.now)) block.new (W.taken out.old) (W.taken out.new)) }
+    ensures err { OnErr result (TakesFront (block.old ++ numbered_lines serial (flat_map (leg_records airline flight variation period) legs.now)) (W.taken out.old) (W.taken out.new)) }
+    ensures failures { CountsFault (W.failures out.old) (W.failures out.new) result }
+    ensures device { W.device out.new ≡ W.device out.old }
+{
+    let mut next = serial;
+    for leg in legs {
+        let name = LegName::new(airline, flight, variation, leg.sequence());
+        let leg_record = LegRecord::new(name, period, leg.columns());
+        let bytes = write_record(&Record::Leg(leg_record.with_serial(next)));
+        put_line(out, block, &bytes)?;
+        next = put_tails(out, block, &leg_record, leg.tails(), next + 1)?;
+    }
+    Ok(next)
+}
+
+// The tails of a leg.
+fn put_tails<W: Sink>(
+    out: &mut W,
+    block: &mut Block,
+    leg: &LegRecord,
+    tails: &[SegmentTail],
+    serial: u32,
+) -> Result<u32, SinkFailed>
+    requires columns { length leg.now.columns ≡ 158 }
+    requires room { serial + length tails.now ≤ 1000000 }
+    ensures next { IfOk result (λ next. next ≡ serial + length tails.now) }
+    ensures ok { OnOk result (TakesUpTo (block.old ++ numbered_lines serial (map (tail_record leg.now.name (slice_index leg.now.columns 0)) tails.now)) block.new (W.taken out.old) (W.taken out.new)) }
+    ensures err { OnErr result (TakesFront (block.old ++ numbered_lines serial (map (tail_record leg.now.name (slice_index leg.now.columns 0)) tails.now)) (W.taken out.old) (W.taken out.new)) }
+    ensures failures { CountsFault (W.failures out.old) (W.failures out.new) result }
+    ensures device { W.device out.new ≡ W.device out.old }
+{
+    let mut next = serial;
+    for tail in tails {
+        let segment = leg.segment(*tail).with_serial(next);
+        put_line(out, block, &write_record(&Record::Segment(segment)))?;
+        next += 1;
+    }
+    Ok(next)
+}

@@ -1,0 +1,106 @@
+//! What is to be exported, made and measured before a byte is written.
+
+ghost use Rattle.std.specs.Prelude.{◌≡◌, ◌≤◌, ◌<◌, ◌+◌, List, length, None, IfOk, IfErr, IfSome, IfNone, OnOk};
+ghost use Rattle.std.specs.List.{All};
+ghost use Rattle.ssim_values.specs.Flight.{IsFlight};
+ghost use Rattle.ssim_schedule.specs.Plan.{IsRefusedAs, legs_count, pieces_count, plan_of, plan_refusal};
+
+use crate::export::ExportFault;
+use crate::itinerary::Itinerary;
+use crate::leg::PlacedLeg;
+use crate::schedule::{FlightPeriods, place};
+use ssim_values::{Flight, Memory, Period};
+use std::alloc::Global;
+use std::marker::Model;
+
+/// A flight and its pieces.
+#[derive(Drop)]
+pub(crate) struct FlightPieces {
+    flight: Flight,
+    pieces: Vec<(Period, Itinerary)>,
+}
+
+impl Model for FlightPieces {
+    ghost use Rattle.ssim_schedule.specs.Plan.{Planned};
+
+    ghost Value = { Planned };
+
+    ghost view = { λ p. (p.flight, p.pieces.items) };
+}
+
+impl FlightPieces {
+    pub(crate) fn flight(&self) -> Flight
+        ensures { result ≡ self.now.0 }
+    {
+        self.flight
+    }
+
+    pub(crate) fn pieces(&self) -> &[(Period, Itinerary)]
+        ensures { result.now ≡ self.now.1 }
+    {
+        &self.pieces
+    }
+}
+
+/// The flights with their pieces.
+pub(crate) fn divide(alloc: Global, entries: &[FlightPeriods]) -> Result<Vec<FlightPieces>, Memory>
+    ensures plan { IfOk result (λ plan. plan.items ≡ plan_of entries.now) }
+    ensures flights { OnOk result (All (λ f. IsFlight f.flight) entries.now) }
+{
+    let mut plan = Vec::with_capacity(alloc, entries.len())?;
+    for entry in entries {
+        let _ = place(entry.flight);
+        plan.push(FlightPieces {
+            flight: entry.flight,
+            pieces: entry.periods.pieces()?,
+        })?;
+    }
+    Ok(plan)
+}
+
+/// Refuses the first flight with more than 99 pieces, or with which there are more than 999,999 records.
+pub(crate) fn measure(plan: &[FlightPieces]) -> Result<(), ExportFault>
+    ensures ok { OnOk result (plan_refusal 2 plan.now ≡ None) }
+    ensures err { IfErr result (λ fault. IsRefusedAs (plan_refusal 2 plan.now) fault) }
+{
+    let mut count = 2;
+    for planned in plan {
+        if planned.pieces().len() > 99 {
+            return Err(ExportFault::Variations(planned.flight()));
+        }
+        match count_pieces(count, planned.pieces()) {
+            Some(after) => count = after,
+            None => return Err(ExportFault::Records),
+        }
+    }
+    Ok(())
+}
+
+// How many records there are behind these pieces, where so many stand before them and a trailer is to follow.
+fn count_pieces(before: u32, pieces: &[(Period, Itinerary)]) -> Option<u32>
+    requires { before < 999999 }
+    ensures some { IfSome result (λ count. (count ≡ before + pieces_count pieces.now) × (count < 999999)) }
+    ensures none { IfNone result (999999 ≤ before + pieces_count pieces.now) }
+{
+    let mut count = before;
+    for piece in pieces {
+        count = count_legs(count, piece.1.legs())?;
+    }
+    Some(count)
+}
+
+fn count_legs(before: u32, legs: &[PlacedLeg]) -> Option<u32>
+    requires { before < 999999 }
+    ensures some { IfSome result (λ count. (count ≡ before + legs_count legs.now) × (count < 999999)) }
+    ensures none { IfNone result (999999 ≤ before + legs_count legs.now) }
+{
+    let mut count = before;
+    for leg in legs {
+        let tails = leg.tails().len();
+        if tails >= (999_998 - count) as usize {
+            return None;
+        }
+        count += 1 + tails as u32;
+    }
+    Some(count)
+}
