@@ -8,9 +8,10 @@ use Rattle.ssim_records.specs.Header.{HeaderFields}
 use Rattle.ssim_records.specs.Trailer.{TrailerFields}
 use Rattle.ssim_records.specs.Record.{written}
 use Rattle.ssim_records.specs.declared.record.Record.{Record}
-use Rattle.ssim_schedule.specs.Timetable.{Legs}
+use Rattle.ssim_schedule.specs.ReadBack.{HasFrame}
+use Rattle.ssim_schedule.specs.Timetable.{Days, Legs}
 use Rattle.ssim_schedule.specs.Export as refusal
-use Rattle.ssim_schedule.specs.Export.{ExportRefusal, Frame, Piece, export_bytes, line, numbered, pieces, pieces_records, sections}
+use Rattle.ssim_schedule.specs.Export.{ExportRefusal, Frame, Piece, chapter7, export_bytes, line, numbered, pieces, pieces_records, sections}
 use Rattle.ssim_schedule.specs.Schedule.{Table}
 use Rattle.ssim_schedule.specs.Sinks.{TakesFront}
 use Rattle.ssim_schedule.specs.declared.export.ExportFault.{ExportFault}
@@ -93,3 +94,10 @@ export_fault_number (Variations flight) = 50
 export_fault_number Records = 51
 export_fault_number WriteFault = 52
 export_fault_number Memory = 90
+
+-- the same for a base, whose header, carrier and trailer stand around it
+abbrev pub WritesBase : {W : Type 0} → (W → Option (List ℕ)) → (W → ℕ) → List Record → (FlightNumber → Days) → W → W → Type 0
+WritesBase taken failures base days old new = (frame : Frame) × HasFrame frame base × Writes taken failures (chapter7 frame days) old new
+
+abbrev pub RefusesBase : {W : Type 0} → (W → Option (List ℕ)) → (W → ℕ) → List Record → (FlightNumber → Days) → W → W → ExportFault → Type 0
+RefusesBase taken failures base days old new fault = (frame : Frame) × HasFrame frame base × Refuses taken failures (chapter7 frame days) old new fault

@@ -2,13 +2,14 @@
 
 ghost use Rattle.std.specs.Prelude.{◌≡◌, IfErr, OnOk};
 ghost use Rattle.ssim_schedule.specs.Export.{chapter7};
-ghost use Rattle.ssim_schedule.specs.Plan.{Refuses, Writes, frame_from};
+ghost use Rattle.ssim_schedule.specs.Plan.{Refuses, RefusesBase, Writes, WritesBase, frame_from};
 ghost use Rattle.ssim_schedule.specs.Schedule.{days_in};
 
 mod block;
 mod lines;
 mod plan;
 
+use crate::base::Base;
 use crate::export::lines::put_export;
 use crate::export::plan::{divide, measure};
 use crate::schedule::Schedule;
@@ -63,8 +64,31 @@ impl From<Memory> for ExportFault {
     }
 }
 
+impl Schedule {
+    /// Writes the canonical export: the base's header and carrier, each flight by number and suffix with its pieces as itinerary
+    /// variations 01, 02, .., each leg with its segment data, and the base's trailer. Serials and the check reference are counted
+    /// anew, each section is filled up to five records, and each record has LF behind it.
+    ///
+    /// Refuses as 50 the first flight with more than 99 pieces and as 51 more than 999,999 records; at one flight 50 comes first.
+    /// Neither writes a byte, nor does want of memory. 52 says that the sink failed or took no byte.
+    pub fn export<W: Sink>(&self, base: &Base, out: &mut W) -> Result<(), ExportFault>
+        ensures ok { OnOk result (WritesBase W.taken W.failures base.now.records (days_in self.now) out.old out.new) }
+        ensures err { IfErr result (λ fault. RefusesBase W.taken W.failures base.now.records (days_in self.now) out.old out.new fault) }
+        ensures device { W.device out.new ≡ W.device out.old }
+    {
+        export_frame(
+            self,
+            base.header(),
+            base.carrier(),
+            base.trailer(),
+            base.allocator(),
+            out,
+        )
+    }
+}
+
 /// Writes the canonical export of a timetable between a header, a carrier and a trailer.
-pub(crate) fn export_frame<W: Sink>(
+fn export_frame<W: Sink>(
     schedule: &Schedule,
     header: &Header,
     carrier: &Carrier,

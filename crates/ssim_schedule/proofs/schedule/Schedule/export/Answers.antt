@@ -1,0 +1,33 @@
+-- The header, the carrier and the trailer are those of the base.
+use Rattle.std.proofs.Common.{◌≡◌, Result, Ok, Err, IfErr, ap, subst, ◌∙◌}
+use Rattle.ssim_records.specs.Carrier.{CarrierFields}
+use Rattle.ssim_records.specs.Header.{HeaderFields}
+use Rattle.ssim_records.specs.Trailer.{TrailerFields}
+use Rattle.ssim_schedule.specs.Export.{Frame, chapter7}
+use Rattle.ssim_schedule.specs.Plan.{Refuses, Writes, frame_from}
+use Rattle.ssim_schedule.specs.Schedule.{days_in}
+use Rattle.ssim_schedule.proofs.ChangeLemmas.{on_ok}
+use Rattle.ssim_schedule.proofs.schedule.Schedule.export.Goals as goal
+
+same-frame : (h : HeaderFields) (k : CarrierFields) (t : TrailerFields) (frame : Frame) → h ≡ frame.header → k ≡ frame.carrier → t ≡ frame.trailer → frame_from h k t ≡ frame
+same-frame h k t frame a b c = ap (λ (x : HeaderFields). frame_from x k t) a ∙ ap (λ (x : CarrierFields). frame_from frame.header x t) b ∙ ap (λ (x : TrailerFields). frame_from frame.header frame.carrier x) c
+
+if_err : {T E : Type 0} (r : Result T E) (P Q : E → Type 0) → ((e : E) → P e → Q e) → IfErr r P → IfErr r Q
+if_err (Ok x) P Q f h = h
+if_err (Err e) P Q f h = f e h
+
+pub returns-clause-ok : goal.returns-clause-ok
+returns-clause-ok g c =
+    let f = c.carrier.ensures.exists in
+    let same = same-frame c.header.result.now c.carrier.result.now c.trailer.result.now f.0 (c.header.ensures f.0 f.1) (c.carrier.ensures.carrier f.0 f.1) (c.trailer.ensures f.0 f.1) in
+    on_ok c.export_frame.result
+    (λ written. (f.0, f.1, subst (λ (frame : Frame). Writes g.W.Sink.taken g.W.Sink.failures (chapter7 frame (days_in c.args.self.now)) c.args.out.now c.export_frame.new.out) same written))
+    c.export_frame.ensures.ok
+
+pub returns-clause-err : goal.returns-clause-err
+returns-clause-err g c =
+    let f = c.carrier.ensures.exists in
+    let same = same-frame c.header.result.now c.carrier.result.now c.trailer.result.now f.0 (c.header.ensures f.0 f.1) (c.carrier.ensures.carrier f.0 f.1) (c.trailer.ensures f.0 f.1) in
+    if_err c.export_frame.result _ _
+    (λ fault refused. (f.0, f.1, subst (λ (frame : Frame). Refuses g.W.Sink.taken g.W.Sink.failures (chapter7 frame (days_in c.args.self.now)) c.args.out.now c.export_frame.new.out fault) same refused))
+    c.export_frame.ensures.err
