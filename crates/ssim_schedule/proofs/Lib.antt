@@ -25,3 +25,4 @@ pub mod ReadingLemmas
 pub mod FlightLists
 pub mod BaseFrame
 pub mod Unflown
+pub mod ReadBackBy
