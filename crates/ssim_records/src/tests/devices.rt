@@ -1,0 +1,82 @@
+//! Readers that fail and readers that never end, and the devices themselves.
+
+use super::*;
+
+#[test]
+fn devices_that_fail(rt: HostRuntime) {
+    let a = data_set(0, b"");
+    check(&rt, &a, 700, (3, Some(RecordFault::ReaderNeverEnds(4))));
+    check(
+        &rt,
+        &[b'1'; 1000],
+        100,
+        (0, Some(RecordFault::ReaderNeverEnds(1))),
+    );
+    assert_eq!(rt;
+        outcome(&mut in_pieces(&a, 300, 2), 1000),
+        (1, Some(RecordFault::ReadFault(2)))
+    );
+}
+
+// A reader of one byte at a time has given k - 1 bytes of data set A when its k-th call fails, and a record is complete
+// behind 200 of its 201. The 805th call is the one that finds the end.
+#[test]
+fn fails_at_each_call(rt: HostRuntime) {
+    let a = data_set(0, b"");
+    for k in 1..=805u64 {
+        let complete = k / 201;
+        assert_eq!(rt;
+            outcome(&mut in_pieces(&a, 1, k), 1000),
+            (complete, Some(RecordFault::ReadFault(complete + 1))),
+            "call {k}"
+        );
+    }
+    assert_eq!(rt; outcome(&mut in_pieces(&a, 1, 806), 1000), (4, None));
+}
+
+// The refusal comes again although the reader would go on, and no more is fetched.
+#[test]
+fn a_refusal_stays(rt: HostRuntime) {
+    let a = data_set(0, b"");
+    let mut reader = in_pieces(&a, 1, 300);
+    let mut records = Records::new(1000);
+    assert!(rt; matches!(records.next(&mut reader), Ok(Some((1, Record::Header(_))))));
+    for _ in 0..3 {
+        assert!(rt; matches!(records.next(&mut reader), Err(RecordFault::ReadFault(2))));
+        assert_eq!(rt; reader.calls, 300);
+    }
+}
+
+// Records that are complete within the limit come before the refusal.
+#[test]
+fn readers_that_never_end(rt: HostRuntime) {
+    let a = data_set(0, b"");
+    for piece in [1, 200, 20_000] {
+        for (bytes, limit, want) in [
+            (b"1".as_slice(), 100, (0, 1)),
+            (b"\n", 100, (0, 1)),
+            (a.as_slice(), 0, (0, 1)),
+            (&a, 100, (0, 1)),
+            (&a, 199, (0, 1)),
+            (&a, 200, (1, 2)),
+            (&a, 803, (4, 5)),
+            (&a, 804, (4, 5)),
+            (&a, 1004, (5, 6)),
+        ] {
+            assert_eq!(rt;
+                outcome(&mut without_end(bytes, piece), limit),
+                (want.0, Some(RecordFault::ReaderNeverEnds(want.1))),
+                "limit {limit}, {piece} bytes at a time"
+            );
+        }
+    }
+}
+
+#[test]
+fn a_buffer_keeps_what_is_put(rt: HostRuntime) {
+    let mut taken = Bytes::new(rt.alloc());
+    assert_eq!(rt; taken.put(b"AB"), Ok(2));
+    assert_eq!(rt; taken.put(b""), Ok(0));
+    assert_eq!(rt; taken.put(b"C"), Ok(1));
+    assert!(rt; taken.bytes() == b"ABC".as_slice());
+}
