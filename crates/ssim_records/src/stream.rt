@@ -1,6 +1,6 @@
 //! Std's readers and writers as devices. Their bytes are not told.
 
-ghost use Rattle.std.specs.Prelude.{None};
+ghost use Rattle.std.specs.Prelude.{◌≡◌, None};
 
 use crate::device::{DeviceFault, Sink, Source};
 use std::io::{Read, Write};
@@ -14,8 +14,12 @@ pub struct Input<R> {
 }
 
 impl<R: Read> Input<R> {
-    /// A source of what the reader gives. It takes no memory.
-    pub fn new(reader: R) -> Input<R> {
+    /// A source of what the reader gives, of which nothing came yet. It takes no memory.
+    pub fn new(reader: R) -> Input<R>
+        ensures reader { result.reader ≡ reader }
+        ensures came { result.came ≡ 0 }
+        ensures failures { result.failures ≡ 0 }
+    {
         Input {
             reader,
             came: 0,
@@ -54,7 +58,10 @@ pub struct Output<W> {
 
 impl<W: Write> Output<W> {
     /// A sink that hands its bytes to the writer. It takes no memory.
-    pub fn new(writer: W) -> Output<W> {
+    pub fn new(writer: W) -> Output<W>
+        ensures writer { result.writer ≡ writer }
+        ensures failures { result.failures ≡ 0 }
+    {
         Output {
             writer,
             failures: 0,
