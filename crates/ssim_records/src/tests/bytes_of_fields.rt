@@ -7,14 +7,19 @@ use super::*;
 // The fields behind column 1, from the format: first and last column, and whether they are carried.
 const HEADER_FIELDS: &[(usize, usize, bool)] = &[
     (2, 35, false),
-    (36, 194, true),
+    (36, 40, true),
+    (41, 41, true),
+    (42, 191, true),
+    (192, 194, true),
     (195, 200, false),
 ];
 
 const CARRIER_FIELDS: &[(usize, usize, bool)] = &[
     (2, 2, false),
     (3, 5, false),
-    (6, 14, true),
+    (6, 10, true),
+    (11, 13, true),
+    (14, 14, true),
     (15, 21, false),
     (22, 28, false),
     (29, 35, false),
@@ -42,7 +47,14 @@ const LEG_FIELDS: &[(usize, usize, bool)] = &[
     (58, 61, false),
     (62, 65, false),
     (66, 70, false),
-    (71, 194, true),
+    (71, 72, true),
+    (73, 75, true),
+    (76, 95, true),
+    (96, 127, true),
+    (128, 128, true),
+    (129, 172, true),
+    (173, 192, true),
+    (193, 194, true),
     (195, 200, false),
 ];
 
@@ -52,14 +64,22 @@ const SEGMENT_FIELDS: &[(usize, usize, bool)] = &[
     (6, 9, false),
     (10, 11, false),
     (12, 13, false),
-    (14, 194, true),
+    (14, 14, true),
+    (15, 27, true),
+    (28, 28, true),
+    (29, 30, true),
+    (31, 33, true),
+    (34, 36, true),
+    (37, 39, true),
+    (40, 194, true),
     (195, 200, false),
 ];
 
 const TRAILER_FIELDS: &[(usize, usize, bool)] = &[
     (2, 2, true),
     (3, 5, false),
-    (6, 187, true),
+    (6, 12, true),
+    (13, 187, true),
     (188, 193, false),
     (194, 194, false),
     (195, 200, false),
