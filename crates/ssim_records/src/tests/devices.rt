@@ -1,6 +1,47 @@
 //! Readers that fail and readers that never end, and the devices themselves.
 
+ghost use Rattle.std.specs.Prelude.{◌≤◌, IfOk};
+
 use super::*;
+use std::io;
+use std::io::{ErrorKind, Read, Write};
+
+/// A reader and writer of std: one byte at its first call, an error at its second, nothing at its third, and then one
+/// byte a call again.
+#[derive(Drop)]
+struct Halting {
+    calls: u64,
+}
+
+impl Halting {
+    fn next(&mut self, room: usize) -> io::Result<usize>
+        ensures { IfOk result (λ n. n ≤ room) }
+    {
+        self.calls = self.calls.wrapping_add(1);
+        match self.calls {
+            2 => Err(io::Error::from(ErrorKind::BrokenPipe)),
+            3 => Ok(0),
+            _ => Ok(room.min(1)),
+        }
+    }
+}
+
+impl Read for Halting {
+    fn read(&mut self, buf: &mut [u8]) -> io::Result<usize> {
+        buf.fill(b'x');
+        self.next(buf.len())
+    }
+}
+
+impl Write for Halting {
+    fn write(&mut self, buf: &[u8]) -> io::Result<usize> {
+        self.next(buf.len())
+    }
+
+    fn flush(&mut self) -> io::Result<()> {
+        Ok(())
+    }
+}
 
 #[test]
 fn devices_that_fail(rt: HostRuntime) {
@@ -15,6 +56,10 @@ fn devices_that_fail(rt: HostRuntime) {
     assert_eq!(rt;
         outcome(&mut in_pieces(&a, 300, 2), 1000),
         (1, Some(RecordFault::ReadFault(2)))
+    );
+    assert_eq!(rt;
+        outcome(&mut Input::new(Halting { calls: 1 }), 1000),
+        (0, Some(RecordFault::ReadFault(1)))
     );
 }
 
@@ -79,4 +124,21 @@ fn a_buffer_keeps_what_is_put(rt: HostRuntime) {
     assert_eq!(rt; taken.put(b""), Ok(0));
     assert_eq!(rt; taken.put(b"C"), Ok(1));
     assert!(rt; taken.bytes() == b"ABC".as_slice());
+}
+
+// An error of std's reader or writer is one failure, and the next call asks it again.
+#[test]
+fn devices_over_std(rt: HostRuntime) {
+    let mut input = Input::new(Halting { calls: 0 });
+    let mut room = [0; 4];
+    assert_eq!(rt; input.fetch(&mut room), Ok(1));
+    assert_eq!(rt; room[0], b'x');
+    assert_eq!(rt; input.fetch(&mut room), Err(DeviceFault::Failed));
+    assert_eq!(rt; input.fetch(&mut room), Ok(0));
+    assert_eq!(rt; input.fetch(&mut room), Ok(1));
+    let mut output = Output::new(Halting { calls: 0 });
+    assert_eq!(rt; output.put(b"AB"), Ok(1));
+    assert_eq!(rt; output.put(b"B"), Err(DeviceFault::Failed));
+    assert_eq!(rt; output.put(b"B"), Ok(0));
+    assert_eq!(rt; output.put(b"B"), Ok(1));
 }
