@@ -107,12 +107,18 @@ fn outcome<R: Source>(reader: &mut R, limit: u64) -> (u64, Option<RecordFault>) 
     (count, None)
 }
 
-/// Data set A, with other bytes from a place on.
-fn data_set(place: usize, other: &[u8]) -> [u8; 804] {
+/// Data set A.
+fn data_set() -> [u8; 804] {
     let mut bytes = [b'\n'; 804];
     for (i, record) in [HEADER, CARRIER, LEG, TRAILER].iter().enumerate() {
         bytes[201 * i..201 * i + 200].copy_from_slice(record.as_slice());
     }
+    bytes
+}
+
+/// Data set A with other bytes from a place on.
+fn data_set_with(place: usize, other: &[u8]) -> [u8; 804] {
+    let mut bytes = data_set();
     for (i, byte) in other.iter().enumerate() {
         if place < 804 && i < 804 - place {
             bytes[place + i] = *byte;

@@ -45,7 +45,7 @@ impl Write for Halting {
 
 #[test]
 fn devices_that_fail(rt: HostRuntime) {
-    let a = data_set(0, b"");
+    let a = data_set();
     check(&rt, &a, 700, (3, Some(RecordFault::ReaderNeverEnds(4))));
     check(
         &rt,
@@ -67,7 +67,7 @@ fn devices_that_fail(rt: HostRuntime) {
 // behind 200 of its 201. The 805th call is the one that finds the end.
 #[test]
 fn fails_at_each_call(rt: HostRuntime) {
-    let a = data_set(0, b"");
+    let a = data_set();
     for k in 1..=805u64 {
         let complete = k / 201;
         assert_eq!(rt;
@@ -82,7 +82,7 @@ fn fails_at_each_call(rt: HostRuntime) {
 // The refusal comes again although the reader would go on, and no more is fetched.
 #[test]
 fn a_refusal_stays(rt: HostRuntime) {
-    let a = data_set(0, b"");
+    let a = data_set();
     let mut reader = in_pieces(&a, 1, 300);
     let mut records = Records::new(1000);
     assert!(rt; matches!(records.next(&mut reader), Ok(Some((1, Record::Header(_))))));
@@ -92,28 +92,36 @@ fn a_refusal_stays(rt: HostRuntime) {
     }
 }
 
+fn check_endless(rt: &impl Abort, bytes: &[u8], limit: u64, complete: u64) {
+    for piece in [1, 200, 20_000] {
+        assert_eq!(rt;
+            outcome(&mut without_end(bytes, piece), limit),
+            (
+                complete,
+                Some(RecordFault::ReaderNeverEnds(complete.wrapping_add(1)))
+            ),
+            "limit {limit}, {piece} bytes at a time"
+        );
+    }
+}
+
 // Records that are complete within the limit come before the refusal.
 #[test]
 fn readers_that_never_end(rt: HostRuntime) {
-    let a = data_set(0, b"");
-    for piece in [1, 200, 20_000] {
-        for (bytes, limit, want) in [
-            (b"1".as_slice(), 100, (0, 1)),
-            (b"\n", 100, (0, 1)),
-            (a.as_slice(), 0, (0, 1)),
-            (&a, 100, (0, 1)),
-            (&a, 199, (0, 1)),
-            (&a, 200, (1, 2)),
-            (&a, 803, (4, 5)),
-            (&a, 804, (4, 5)),
-            (&a, 1004, (5, 6)),
-        ] {
-            assert_eq!(rt;
-                outcome(&mut without_end(bytes, piece), limit),
-                (want.0, Some(RecordFault::ReaderNeverEnds(want.1))),
-                "limit {limit}, {piece} bytes at a time"
-            );
-        }
+    check_endless(&rt, b"1", 100, 0);
+    check_endless(&rt, b"\n", 100, 0);
+    let a = data_set();
+    for (limit, complete) in [
+        (0, 0),
+        (100, 0),
+        (199, 0),
+        (200, 1),
+        (401, 2),
+        (803, 4),
+        (804, 4),
+        (1004, 5),
+    ] {
+        check_endless(&rt, &a, limit, complete);
     }
 }
 

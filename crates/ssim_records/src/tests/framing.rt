@@ -4,7 +4,7 @@ use super::*;
 
 #[test]
 fn record_refusals(rt: HostRuntime) {
-    let a = data_set(0, b"");
+    let a = data_set();
     check(&rt, &a, 804, (4, None));
     check(&rt, front(&a, 803), 1000, (4, None));
     check(&rt, front(&a, 802), 1000, (3, Some(RecordFault::Short(4))));
@@ -17,13 +17,13 @@ fn base_refusals(rt: HostRuntime) {
     let third = 402;
     check(
         &rt,
-        &data_set(third, b"6"),
+        &data_set_with(third, b"6"),
         1000,
         (2, Some(RecordFault::BadType(3))),
     );
     check(
         &rt,
-        &data_set(third + 36, b"Z1H"),
+        &data_set_with(third + 36, b"Z1H"),
         1000,
         (2, Some(RecordFault::BadColumn(3, 37))),
     );
@@ -32,7 +32,7 @@ fn base_refusals(rt: HostRuntime) {
 // Each record of data set A has 201 bytes with its LF. Behind 200 of them it is complete, with its LF or without.
 #[test]
 fn cut_at_each_byte(rt: HostRuntime) {
-    let a = data_set(0, b"");
+    let a = data_set();
     for len in 0..=804 {
         let complete = (len as u64 + 1) / 201;
         let ending = match len % 201 {
