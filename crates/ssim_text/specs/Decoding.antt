@@ -1,5 +1,5 @@
 -- What decoding answers.
-use Rattle.std.specs.Prelude.{◌≡◌, ℕ, ◌≤◌, ◌<◌, ◌⊎◌, Some, None, List, length}
+use Rattle.std.specs.Prelude.{◌≡◌, ℕ, ◌<◌, ◌⊎◌, Some, List, length}
 use Rattle.ssim_text.specs.declared.fault.Fault.TheVariants as fault
 use Rattle.ssim_text.specs.declared.fault.TextFault.{TextFault}
 use Rattle.ssim_text.specs.declared.fault.TextFault.TheVariants as answer
@@ -9,13 +9,7 @@ use Rattle.ssim_text.specs.Message.{MessageValue}
 use Rattle.ssim_text.specs.Grammar.{SpellsText, NamesPlace}
 use Rattle.ssim_text.specs.Left.{lines_left, texts, numbers, place_number, first_unprintable}
 use Rattle.ssim_text.specs.Canonical.{canonical}
-
--- the bytes of a text spell the message
-pub record SpellsMessage (m : MessageValue) (text : List ℕ) : Type 0 where
-  pub short : length text ≤ 65536
-  pub printable : first_unprintable (lines_left text) ≡ None
-  pub spelled : SpellsText m (texts (lines_left text))
-  pub canonical_short : length (canonical m) ≤ 65536
+use Rattle.ssim_text.specs.Spelling.{SpellsMessage}
 
 -- a refusal for memory says nothing of the lines
 abbrev pub IsPlace : List (List ℕ) → Refusal → Type 0

@@ -7,5 +7,6 @@ pub mod Fault
 pub mod Machine
 pub mod Left
 pub mod Canonical
+pub mod Spelling
 pub mod Decoding
 pub mod Reference

@@ -2,7 +2,8 @@
 ghost use Rattle.std.specs.Prelude.{◌≡◌, ◌≤◌, ℕ, length, map, IfOk, IfErr};
 ghost use Rattle.ssim_text.specs.Message.{MessageValue};
 ghost use Rattle.ssim_text.specs.Grammar.{SpellsText};
-ghost use Rattle.ssim_text.specs.Decoding.{IsRefusal, IsPlace, IsTooManyAtOne, NoMessage, SpellsMessage};
+ghost use Rattle.ssim_text.specs.Decoding.{IsRefusal, IsPlace, IsTooManyAtOne, NoMessage};
+ghost use Rattle.ssim_text.specs.Spelling.{SpellsMessage};
 ghost use Rattle.ssim_text.specs.Canonical.{canonical};
 
 use crate::fault::{Fault, TextFault};

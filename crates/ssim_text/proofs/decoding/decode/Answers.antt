@@ -5,7 +5,8 @@ use Rattle.ssim_text.specs.declared.lines.Line.{Line}
 use Rattle.ssim_text.specs.Message.{MessageValue}
 use Rattle.ssim_text.specs.Left.{lines_left, numbers, place_number, first_unprintable}
 use Rattle.ssim_text.specs.Canonical.{canonical}
-use Rattle.ssim_text.specs.Decoding.{SpellsMessage, IsRefusal, IsTooManyAtOne, NoMessage}
+use Rattle.ssim_text.specs.Spelling.{SpellsMessage}
+use Rattle.ssim_text.specs.Decoding.{IsRefusal, IsTooManyAtOne, NoMessage}
 use Rattle.ssim_text.proofs.DecodeLemmas.{ok_then, err_then, lines_of_text, message_found, message_only, too_long_none, too_long_place, misplaced_none, misplaced_place}
 use Rattle.ssim_text.proofs.decoding.decode.Goals as goal
 
