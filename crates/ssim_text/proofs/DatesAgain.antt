@@ -3,6 +3,7 @@
 use Rattle.std.proofs.Common.{◌≡◌, ◌≤◌, ℕ, ◌+◌, ◌/◌, ◌%◌, Bool, true, false, not, IsTrue, List, [], ◌∷◌, ◌++◌, length, refl, sym, ap, subst, ◌∙◌, append_assoc, arith, Option, Some, None, codes, drop, length-append, length-drop}
 use Rattle.std.specs.Prelude.{◌==◌, nat_lt, if◌then◌else◌, option_map}
 use Rattle.std.specs.List.{list_all}
+use Rattle.std.proofs.lemmas.Bool.{and_parts}
 use Rattle.std.specs.Str.{bytes_eq}
 use Rattle.std.proofs.lemmas.Bool.Decides.{nat_tests}
 use Rattle.std.proofs.lemmas.Slice.Eq.{bytes_eq-Decides}
@@ -29,7 +30,7 @@ use Rattle.ssim_text.specs.Lines.{month_day_in, date_of, last_date_of, compact_d
 use Rattle.ssim_text.specs.Grammar.{FlightPart, DatedFlightPart, PeriodPart}
 use Rattle.ssim_text.specs.Canonical.{given_date_text, given_end_text, period_text}
 use Rattle.ssim_text.proofs.Runs.{none_some, some_same}
-use Rattle.ssim_text.proofs.LinesKept.{IsLine, ReadsAgain, chosen, both_true, all_join, all_more, all_before, line_behind, line_from, line_drop}
+use Rattle.ssim_text.proofs.LinesKept.{IsLine, ReadsAgain, chosen, all_join, all_more, all_before, line_behind, line_from, line_drop}
 use Rattle.ssim_text.proofs.Words.{bound, only_if, lacks, is_solid, alphanumeric_solid, alphanumeric_no_solidus, solid_line, before_lacks, before_mark, from_mark, no_blanks, blanks_twice, word_first, behind_first, below_four, line_after, word_some}
 
 -- ---- dates
@@ -67,7 +68,7 @@ digit_no_blank b h = grind (arith, nat_tests)
 digits_whole : (text : List ℕ) → list_all is_digit text ≡ true → without_blanks text ≡ text
 digits_whole [] h = refl
 digits_whole (x ∷ text) h =
-    let p = both_true (is_digit x) (list_all is_digit text) h in
+    let p = and_parts (is_digit x) (list_all is_digit text) h in
     chosen (not (x == 32)) (x ∷ without_blanks text) (without_blanks text) (digit_no_blank x p.0) ∙ ap (λ (y : List ℕ). x ∷ y) (digits_whole text p.1)
 
 days_one_text : (text : List ℕ) (days : List Bool) → compact_days_of text ≡ Some days → text ≡ digits_of days

@@ -2,6 +2,7 @@
 use Rattle.std.proofs.Common.{◌≡◌, ◌≤◌, ℕ, true, not, ◌&&◌, List, [], ◌∷◌, ◌++◌, length, refl, sym, ap, subst, ◌∙◌, append-nil, arith, Option, Some, None, eqb-true, leb-true}
 use Rattle.std.specs.Prelude.{◌==◌, nat_le}
 use Rattle.std.specs.List.{list_all}
+use Rattle.std.proofs.lemmas.Bool.{and_parts, and_from}
 use Rattle.std.proofs.lemmas.Bool.Decides.{nat_tests}
 use Rattle.ssim_values.specs.Characters.{is_letter}
 use Rattle.ssim_text.specs.Values.{EquipmentValue}
@@ -10,7 +11,7 @@ use Rattle.ssim_text.specs.Lines.{service_of, aircraft_of, designators_of, confi
 use Rattle.ssim_text.specs.Grammar.{EquipmentPart}
 use Rattle.ssim_text.specs.Canonical.{unless_empty, third_text, equipment_text}
 use Rattle.ssim_text.proofs.Runs.{none_some, some_same}
-use Rattle.ssim_text.proofs.LinesKept.{IsLine, ReadsAgain, chosen, both_true, true_both, all_more, line_behind}
+use Rattle.ssim_text.proofs.LinesKept.{IsLine, ReadsAgain, chosen, all_more, line_behind}
 use Rattle.ssim_text.proofs.Words.{bound, only_if, lacks, is_solid, solid_printable, solid_no_blank, alphanumeric_solid, solid_line, before_none, before_from, no_blanks, blanks_twice, word_first, behind_first, behind_last, line_after, word_some}
 
 record IsService (text : List ℕ) (service : ℕ) : Type 0 where
@@ -36,8 +37,8 @@ record IsAircraft (text aircraft : List ℕ) : Type 0 where
 aircraft_sound : (text aircraft : List ℕ) → aircraft_of text ≡ Some aircraft → IsAircraft text aircraft
 aircraft_sound text aircraft h =
     let p = only_if (is_text_of is_alphanumeric 3 3 text) (Some text) aircraft h in
-    let q = both_true (nat_le 3 (length text) && nat_le (length text) 3) (list_all is_alphanumeric text) p.0 in
-    let r = both_true (nat_le 3 (length text)) (nat_le (length text) 3) q.0 in
+    let q = and_parts (nat_le 3 (length text) && nat_le (length text) 3) (list_all is_alphanumeric text) p.0 in
+    let r = and_parts (nat_le 3 (length text)) (nat_le (length text) 3) q.0 in
     let same = some_same text aircraft p.1 in
     let long = leb-true 3 (length text) r.0 in
     record { same = same; some = omega (arith, long, ap length same); all = ap (list_all is_alphanumeric) (sym same) ∙ q.1 }
@@ -50,9 +51,9 @@ configuration_sound : (text configuration : List ℕ) → configuration_of text 
 configuration_sound [] configuration h = ap (unless_empty 46) (some_same [] configuration h)
 configuration_sound (b ∷ text) configuration h =
     let p = only_if ((b == 46) && is_text_of is_alphanumeric 1 20 text) (Some text) configuration h in
-    let q = both_true (b == 46) (is_text_of is_alphanumeric 1 20 text) p.0 in
-    let r = both_true (nat_le 1 (length text) && nat_le (length text) 20) (list_all is_alphanumeric text) q.1 in
-    let some = leb-true 1 (length text) (both_true (nat_le 1 (length text)) (nat_le (length text) 20) r.0).0 in
+    let q = and_parts (b == 46) (is_text_of is_alphanumeric 1 20 text) p.0 in
+    let r = and_parts (nat_le 1 (length text) && nat_le (length text) 20) (list_all is_alphanumeric text) q.1 in
+    let some = leb-true 1 (length text) (and_parts (nat_le 1 (length text)) (nat_le (length text) 20) r.0).0 in
     ap (λ (x : ℕ). x ∷ text) (eqb-true b 46 q.0) ∙ sym (unless_some 46 text some) ∙ ap (unless_empty 46) (some_same text configuration p.1)
 
 designators_same : (text designators : List ℕ) → designators_of text ≡ Some designators → text ≡ designators
@@ -102,7 +103,7 @@ written_read e third letter some all whole d c a =
     let solid = all_more is_alphanumeric is_solid alphanumeric_solid e.aircraft all in
     let lacking = all_more is_solid (λ b. not (b == 32)) solid_no_blank e.aircraft solid in
     let rest = e.aircraft ++ unless_empty 32 third in
-    let own : lacks 32 (e.service ∷ []) ≡ true = true_both (not (e.service == 32)) true (solid_no_blank e.service (letter_solid e.service letter)) refl in
+    let own : lacks 32 (e.service ∷ []) ≡ true = and_from (not (e.service == 32)) true (solid_no_blank e.service (letter_solid e.service letter)) refl in
     let first : word (e.service ∷ 32 ∷ rest) ≡ e.service ∷ [] = word_first (e.service ∷ []) rest own in
     let after : behind (e.service ∷ 32 ∷ rest) ≡ rest = behind_first (e.service ∷ []) rest own (no_blanks e.aircraft (unless_empty 32 third) some lacking) in
     let last : behind (behind (e.service ∷ 32 ∷ rest)) ≡ third = ap behind after ∙ third_behind e.aircraft third lacking whole in
@@ -115,7 +116,7 @@ written_read e third letter some all whole d c a =
 written_line : (service : ℕ) (aircraft third : List ℕ) → is_letter service ≡ true → IsLine aircraft → (1 ≤ length third → IsLine third) → IsLine (written service aircraft third)
 unfolding written
 written_line service aircraft third h l k =
-    line_behind (service ∷ 32 ∷ []) (aircraft ++ unless_empty 32 third) (true_both (is_printable service) true (solid_printable service (letter_solid service h)) refl) (third_line aircraft third l k)
+    line_behind (service ∷ 32 ∷ []) (aircraft ++ unless_empty 32 third) (and_from (is_printable service) true (solid_printable service (letter_solid service h)) refl) (third_line aircraft third l k)
 
 is_written : (e : EquipmentValue) (third : List ℕ) → third ≡ third_text e → written e.service e.aircraft third ≡ equipment_text e
 unfolding written

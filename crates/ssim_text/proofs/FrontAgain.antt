@@ -2,6 +2,7 @@
 use Rattle.std.proofs.Common.{◌≡◌, ◌≤◌, ◌<◌, ℕ, true, ◌&&◌, List, [], ◌∷◌, ◌++◌, length, refl, sym, ap, subst, ◌∙◌, append_assoc, arith, Option, Some, None, codes, take, drop, eqb-true, eq-eqb, drop_of_length-le, take_all}
 use Rattle.std.specs.Prelude.{◌==◌, nat_le, if◌then◌else◌}
 use Rattle.std.specs.List.{list_all}
+use Rattle.std.proofs.lemmas.Bool.{and_parts, and_from}
 use Rattle.std.specs.Str.{bytes_eq}
 use Rattle.std.proofs.lemmas.Bool.Decides.{nat_tests}
 use Rattle.ssim_values.specs.DayMonth.{MonthDay, month_day_of, month_day_text}
@@ -14,7 +15,7 @@ use Rattle.ssim_text.specs.Lines.{month_day_in, address_of, is_blank_or_none, or
 use Rattle.ssim_text.specs.Grammar.{OriginatorPart, ReferencePart}
 use Rattle.ssim_text.specs.Canonical.{three_digits, five_digits, group_code_text, creator_text}
 use Rattle.ssim_text.proofs.Runs.{some_same}
-use Rattle.ssim_text.proofs.LinesKept.{IsLine, ReadsAgain, chosen, both_true, true_both, all_more, all_take, line_behind, line_drop}
+use Rattle.ssim_text.proofs.LinesKept.{IsLine, ReadsAgain, chosen, all_more, all_take, line_behind, line_drop}
 use Rattle.ssim_text.proofs.Words.{bound, only_if, alphanumeric_solid, solid_printable, is_solid, solid_line, below_five, below_three, digits_sound, digits_complete}
 
 -- ---- the originator
@@ -57,7 +58,7 @@ originator_again originator line h =
     let a = address_from line originator h in
     record {
       spelled = dotted originator a.long a.all;
-      line = solid_line (46 ∷ originator) (omega arith) (true_both (is_solid 46) (list_all is_solid originator) refl (all_more is_alphanumeric is_solid alphanumeric_solid originator a.all));
+      line = solid_line (46 ∷ originator) (omega arith) (and_from (is_solid 46) (list_all is_solid originator) refl (all_more is_alphanumeric is_solid alphanumeric_solid originator a.all));
     }
 
 -- ---- the reference
@@ -106,8 +107,8 @@ creator_sound : (text : List ℕ) (creator : Option (List ℕ)) → creator_of t
 creator_sound [] creator h = ap creator_text (some_same None creator h)
 creator_sound (b ∷ text) creator h =
     let p = only_if ((b == 47) && nat_le 1 (length text) && nat_le (length text) 35) (Some (Some text)) creator h in
-    let q = both_true ((b == 47) && nat_le 1 (length text)) (nat_le (length text) 35) p.0 in
-    let solidus = both_true (b == 47) (nat_le 1 (length text)) q.0 in
+    let q = and_parts ((b == 47) && nat_le 1 (length text)) (nat_le (length text) 35) p.0 in
+    let solidus = and_parts (b == 47) (nat_le 1 (length text)) q.0 in
     ap (λ (x : ℕ). x ∷ text) (eqb-true b 47 solidus.0) ∙ ap creator_text (some_same (Some text) creator p.1)
 
 record IsReference (line : List ℕ) (r : GivenReference) : Type 0 where

@@ -2,6 +2,7 @@
 use Rattle.std.proofs.Common.{◌≡◌, ◌≤◌, ◌<◌, ℕ, ◌+◌, ◌-◌, ◌/◌, ◌%◌, Bool, true, false, not, ◌&&◌, List, [], ◌∷◌, ◌++◌, length, refl, sym, ap, subst, ◌∙◌, append_assoc, append-nil, arith, Option, Some, None, codes, take, drop, take-append-drop, eqb-true, leb-true, ltb-true}
 use Rattle.std.specs.Prelude.{◌==◌, nat_le, nat_lt, if◌then◌else◌}
 use Rattle.std.specs.List.{list_all}
+use Rattle.std.proofs.lemmas.Bool.{and_parts}
 use Rattle.std.specs.Str.{bytes_eq}
 use Rattle.std.proofs.lemmas.Bool.Decides.{nat_tests}
 use Rattle.ssim_values.specs.Characters.{is_digit}
@@ -16,7 +17,7 @@ use Rattle.ssim_text.specs.Lines.{station_in, clock_in, variation_of, passenger_
 use Rattle.ssim_text.specs.Grammar.{LegPart, SegmentPart}
 use Rattle.ssim_text.specs.Canonical.{three_digits, short_digits, variation_text, passenger_text, leg_end_text, segment_line_text}
 use Rattle.ssim_text.proofs.Runs.{none_some, some_same}
-use Rattle.ssim_text.proofs.LinesKept.{IsLine, ReadsAgain, chosen, both_true, all_join, all_more, line_behind, line_from}
+use Rattle.ssim_text.proofs.LinesKept.{IsLine, ReadsAgain, chosen, all_join, all_more, line_behind, line_from}
 use Rattle.ssim_text.proofs.Words.{bound, only_if, only_else, lacks, is_solid, solid_printable, solid_no_blank, solid_line, before_mark, from_mark, no_blanks, word_first, behind_first, line_after, below_three, AreDigits, digits_sound, digits_complete}
 
 -- ---- stations
@@ -56,7 +57,7 @@ variation_bound [] v h = absurd (none_some v h)
 variation_bound (b ∷ []) v h = absurd (none_some v h)
 variation_bound (b ∷ d ∷ []) v h =
     let p = only_if ((b == 47) && nat_le 48 d && nat_le d 55) (Some (d - 48)) v h in
-    let most = leb-true d 55 (both_true ((b == 47) && nat_le 48 d) (nat_le d 55) p.0).1 in
+    let most = leb-true d 55 (and_parts ((b == 47) && nat_le 48 d) (nat_le d 55) p.0).1 in
     omega (arith, most, some_same (d - 48) v p.1)
 variation_bound (b ∷ d ∷ c ∷ text) v h = absurd (none_some v h)
 
@@ -240,8 +241,8 @@ segment_text_sound : (text own : List ℕ) → segment_text_of text ≡ Some own
 segment_text_sound [] own h = absurd (none_some own h)
 segment_text_sound (b ∷ text) own h =
     let p = only_if ((b == 47) && nat_le 1 (length text) && nat_le (length text) 155) (Some text) own h in
-    let q = both_true ((b == 47) && nat_le 1 (length text)) (nat_le (length text) 155) p.0 in
-    let solidus = both_true (b == 47) (nat_le 1 (length text)) q.0 in
+    let q = and_parts ((b == 47) && nat_le 1 (length text)) (nat_le (length text) 155) p.0 in
+    let solidus = and_parts (b == 47) (nat_le 1 (length text)) q.0 in
     let same = some_same text own p.1 in
     (ap (λ (x : ℕ). x ∷ text) (eqb-true b 47 solidus.0) ∙ ap (λ (x : List ℕ). 47 ∷ x) same, subst (λ (x : List ℕ). 1 ≤ length x) same (leb-true 1 (length text) solidus.1))
 

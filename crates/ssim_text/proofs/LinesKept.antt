@@ -2,6 +2,7 @@
 use Rattle.std.proofs.Common.{◌≡◌, ◌≤◌, ℕ, zero, suc, ◌+◌, Bool, true, false, cond, ◌&&◌, List, [], ◌∷◌, ◌++◌, length, map, refl, sym, ap, ◌∙◌, append_assoc, arith, None, Some, Option, drop, take, length-drop}
 use Rattle.std.specs.Prelude.{◌==◌, if◌then◌else◌}
 use Rattle.std.specs.List.{AllByRecursion, list_all, onto_first}
+use Rattle.std.proofs.lemmas.Bool.{and_parts, and_from}
 use Rattle.std.proofs.lemmas.Bool.Decides.{nat_tests}
 use Rattle.ssim_text.specs.Bytes.{before, from, drop_blanks, is_printable}
 use Rattle.ssim_text.specs.Left.{is_dropped, onto, without_end, numbered, left_from, pieces, texts, first_unprintable}
@@ -29,42 +30,35 @@ chosen b x y h = rw h refl
 pub other : {A : Type 0} (b : Bool) (x y : A) → b ≡ false → (if b then x else y) ≡ y
 other b x y h = rw h refl
 
-pub both_true : (a b : Bool) → a && b ≡ true → (a ≡ true) × (b ≡ true)
-both_true true b h = (refl, h)
-both_true false b h = absurd (false_true h)
-
-pub true_both : (a b : Bool) → a ≡ true → b ≡ true → a && b ≡ true
-true_both a b h k = rw (h, k) refl
-
 pub all_join : (f : ℕ → Bool) (xs ys : List ℕ) → list_all f xs ≡ true → list_all f ys ≡ true → list_all f (xs ++ ys) ≡ true
 all_join f [] ys h k = k
 all_join f (x ∷ xs) ys h k =
-    let p = both_true (f x) (list_all f xs) h in
-    true_both (f x) (list_all f (xs ++ ys)) p.0 (all_join f xs ys p.1 k)
+    let p = and_parts (f x) (list_all f xs) h in
+    and_from (f x) (list_all f (xs ++ ys)) p.0 (all_join f xs ys p.1 k)
 
 pub all_more : (f g : ℕ → Bool) → ((b : ℕ) → f b ≡ true → g b ≡ true) → (xs : List ℕ) → list_all f xs ≡ true → list_all g xs ≡ true
 all_more f g m [] h = refl
 all_more f g m (x ∷ xs) h =
-    let p = both_true (f x) (list_all f xs) h in
-    true_both (g x) (list_all g xs) (m x p.0) (all_more f g m xs p.1)
+    let p = and_parts (f x) (list_all f xs) h in
+    and_from (g x) (list_all g xs) (m x p.0) (all_more f g m xs p.1)
 
 all_before_at : (f : ℕ → Bool) (t : Bool) (x : ℕ) (ys : List ℕ) → f x ≡ true → list_all f ys ≡ true → list_all f (if t then [] else x ∷ ys) ≡ true
 all_before_at f true x ys h k = refl
-all_before_at f false x ys h k = true_both (f x) (list_all f ys) h k
+all_before_at f false x ys h k = and_from (f x) (list_all f ys) h k
 
 -- what holds of all bytes holds of those before a mark
 pub all_before : (f : ℕ → Bool) (mark : ℕ) (xs : List ℕ) → list_all f xs ≡ true → list_all f (before mark xs) ≡ true
 all_before f mark [] h = refl
 all_before f mark (x ∷ xs) h =
-    let p = both_true (f x) (list_all f xs) h in
+    let p = and_parts (f x) (list_all f xs) h in
     all_before_at f (x == mark) x (before mark xs) p.0 (all_before f mark xs p.1)
 
 pub all_take : (f : ℕ → Bool) (n : ℕ) (xs : List ℕ) → list_all f xs ≡ true → list_all f (take n xs) ≡ true
 all_take f zero xs h = refl
 all_take f (suc n) [] h = refl
 all_take f (suc n) (x ∷ xs) h =
-    let p = both_true (f x) (list_all f xs) h in
-    true_both (f x) (list_all f (take n xs)) p.0 (all_take f n xs p.1)
+    let p = and_parts (f x) (list_all f xs) h in
+    and_from (f x) (list_all f (take n xs)) p.0 (all_take f n xs p.1)
 
 -- ---- the end of a line
 
@@ -102,7 +96,7 @@ pub line_tail : (b : ℕ) (rest : List ℕ) → IsLine (b ∷ rest) → 1 ≤ le
 line_tail b [] h some = absurd (omega (arith, some))
 line_tail b (c ∷ rest) h some = record {
   some = some;
-  printable = (both_true (is_printable b) (list_all is_printable (c ∷ rest)) h.printable).1;
+  printable = (and_parts (is_printable b) (list_all is_printable (c ∷ rest)) h.printable).1;
   ended = ended_after b c rest (without_end (c ∷ rest)) h.ended;
 }
 
@@ -110,11 +104,11 @@ line_tail b (c ∷ rest) h some = record {
 pub line_behind : (xs ys : List ℕ) → list_all is_printable xs ≡ true → IsLine ys → IsLine (xs ++ ys)
 line_behind [] ys h l = l
 line_behind (x ∷ xs) ys h l =
-    let p = both_true (is_printable x) (list_all is_printable xs) h in
+    let p = and_parts (is_printable x) (list_all is_printable xs) h in
     let rest = line_behind xs ys p.1 l in
     record {
       some = omega arith;
-      printable = true_both (is_printable x) (list_all is_printable (xs ++ ys)) p.0 rest.printable;
+      printable = and_from (is_printable x) (list_all is_printable (xs ++ ys)) p.0 rest.printable;
       ended = ap (onto x) rest.ended ∙ onto_some x (xs ++ ys) rest.some;
     }
 
@@ -175,7 +169,7 @@ piece_on t x parts h = rw h refl
 piece_cut : (line rest : List ℕ) → list_all is_printable line ≡ true → pieces (line ++ 10 ∷ rest) ≡ line ∷ pieces rest
 piece_cut [] rest h = refl
 piece_cut (x ∷ line) rest h =
-    let p = both_true (is_printable x) (list_all is_printable line) h in
+    let p = and_parts (is_printable x) (list_all is_printable line) h in
     piece_on (x == 10) x (pieces (line ++ 10 ∷ rest)) (not_ended x p.0) ∙ ap (onto_first x) (piece_cut line rest p.1)
 
 numbered_some : (n : ℕ) (line : List ℕ) (later : List (ℕ × List ℕ)) → 1 ≤ length line → numbered n line later ≡ (n, line) ∷ later

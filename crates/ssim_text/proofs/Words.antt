@@ -2,6 +2,7 @@
 use Rattle.std.proofs.Common.{◌≡◌, ◌≤◌, ◌<◌, ℕ, ◌+◌, ◌-◌, ◌*◌, Bool, true, false, not, ◌&&◌, List, [], ◌∷◌, ◌++◌, length, refl, ap, ◌∙◌, arith, Option, Some, None, fold, leb-true, le-leb}
 use Rattle.std.specs.Prelude.{◌==◌, nat_le, if◌then◌else◌}
 use Rattle.std.specs.List.{list_all}
+use Rattle.std.proofs.lemmas.Bool.{and_parts, and_from}
 use Rattle.std.proofs.lemmas.Bool.Decides.{nat_tests}
 use Rattle.ssim_values.specs.Characters.{is_digit}
 use Rattle.ssim_values.specs.Flight.{number_of}
@@ -10,7 +11,7 @@ use Rattle.ssim_text.specs.Lines.{digits_in}
 use Rattle.ssim_text.specs.Left.{is_dropped}
 use Rattle.ssim_text.proofs.LeftLemmas.{keep_last}
 use Rattle.ssim_text.proofs.Runs.{none_some, some_same, false_true}
-use Rattle.ssim_text.proofs.LinesKept.{chosen, other, both_true, true_both, IsLine, line_behind, line_from, line_blanks}
+use Rattle.ssim_text.proofs.LinesKept.{chosen, other, IsLine, line_behind, line_from, line_blanks}
 
 -- ---- steps that may say nothing
 
@@ -40,10 +41,10 @@ abbrev pub is_solid : ℕ → Bool
 is_solid b = is_printable b && not (b == 32)
 
 pub solid_printable : (b : ℕ) → is_solid b ≡ true → is_printable b ≡ true
-solid_printable b h = (both_true (is_printable b) (not (b == 32)) h).0
+solid_printable b h = (and_parts (is_printable b) (not (b == 32)) h).0
 
 pub solid_no_blank : (b : ℕ) → is_solid b ≡ true → not (b == 32) ≡ true
-solid_no_blank b h = (both_true (is_printable b) (not (b == 32)) h).1
+solid_no_blank b h = (and_parts (is_printable b) (not (b == 32)) h).1
 
 pub alphanumeric_solid : (b : ℕ) → is_alphanumeric b ≡ true → is_solid b ≡ true
 alphanumeric_solid b h = grind (arith, nat_tests)
@@ -64,15 +65,15 @@ no_blank_no_end b h = grind (arith, nat_tests)
 pub solid_line : (xs : List ℕ) → 1 ≤ length xs → list_all is_solid xs ≡ true → IsLine xs
 solid_line [] some h = absurd (omega (arith, some))
 solid_line (x ∷ []) some h =
-    let p = both_true (is_solid x) (list_all is_solid []) h in
+    let p = and_parts (is_solid x) (list_all is_solid []) h in
     record {
       some = some;
-      printable = true_both (is_printable x) true (solid_printable x p.0) refl;
+      printable = and_from (is_printable x) true (solid_printable x p.0) refl;
       ended = keep_last [] x (no_blank_no_end x p.0);
     }
 solid_line (x ∷ y ∷ xs) some h =
-    let p = both_true (is_solid x) (list_all is_solid (y ∷ xs)) h in
-    line_behind (x ∷ []) (y ∷ xs) (true_both (is_printable x) true (solid_printable x p.0) refl) (solid_line (y ∷ xs) (omega arith) p.1)
+    let p = and_parts (is_solid x) (list_all is_solid (y ∷ xs)) h in
+    line_behind (x ∷ []) (y ∷ xs) (and_from (is_printable x) true (solid_printable x p.0) refl) (solid_line (y ∷ xs) (omega arith) p.1)
 
 -- ---- where a mark stands
 
@@ -92,30 +93,30 @@ mark_here mark = grind (arith, nat_tests)
 pub before_mark : (mark : ℕ) (xs rest : List ℕ) → lacks mark xs ≡ true → before mark (xs ++ mark ∷ rest) ≡ xs
 before_mark mark [] rest h = chosen (mark == mark) [] (mark ∷ before mark rest) (mark_here mark)
 before_mark mark (x ∷ xs) rest h =
-    let p = both_true (not (x == mark)) (lacks mark xs) h in
+    let p = and_parts (not (x == mark)) (lacks mark xs) h in
     before_on mark x (xs ++ mark ∷ rest) (same_not (x == mark) p.0) ∙ ap (λ (y : List ℕ). x ∷ y) (before_mark mark xs rest p.1)
 
 pub from_mark : (mark : ℕ) (xs rest : List ℕ) → lacks mark xs ≡ true → from mark (xs ++ mark ∷ rest) ≡ mark ∷ rest
 from_mark mark [] rest h = chosen (mark == mark) (mark ∷ rest) (from mark rest) (mark_here mark)
 from_mark mark (x ∷ xs) rest h =
-    let p = both_true (not (x == mark)) (lacks mark xs) h in
+    let p = and_parts (not (x == mark)) (lacks mark xs) h in
     from_on mark x (xs ++ mark ∷ rest) (same_not (x == mark) p.0) ∙ from_mark mark xs rest p.1
 
 pub before_none : (mark : ℕ) (xs : List ℕ) → lacks mark xs ≡ true → before mark xs ≡ xs
 before_none mark [] h = refl
 before_none mark (x ∷ xs) h =
-    let p = both_true (not (x == mark)) (lacks mark xs) h in
+    let p = and_parts (not (x == mark)) (lacks mark xs) h in
     before_on mark x xs (same_not (x == mark) p.0) ∙ ap (λ (y : List ℕ). x ∷ y) (before_none mark xs p.1)
 
 pub from_none : (mark : ℕ) (xs : List ℕ) → lacks mark xs ≡ true → from mark xs ≡ []
 from_none mark [] h = refl
 from_none mark (x ∷ xs) h =
-    let p = both_true (not (x == mark)) (lacks mark xs) h in
+    let p = and_parts (not (x == mark)) (lacks mark xs) h in
     from_on mark x xs (same_not (x == mark) p.0) ∙ from_none mark xs p.1
 
 before_lacks_at : (mark x : ℕ) (t : Bool) (rest : List ℕ) → (x == mark) ≡ t → lacks mark rest ≡ true → lacks mark (if t then [] else x ∷ rest) ≡ true
 before_lacks_at mark x true rest e h = refl
-before_lacks_at mark x false rest e h = true_both (not (x == mark)) (lacks mark rest) (ap not e) h
+before_lacks_at mark x false rest e h = and_from (not (x == mark)) (lacks mark rest) (ap not e) h
 
 -- what stands before a mark lacks it
 pub before_lacks : (mark : ℕ) (xs : List ℕ) → lacks mark (before mark xs) ≡ true
@@ -138,7 +139,7 @@ no_blank_first x xs h = other (x == 32) (drop_blanks xs) (x ∷ xs) (same_not (x
 -- a word with no blank before it is not cut
 pub no_blanks : (xs rest : List ℕ) → 1 ≤ length xs → lacks 32 xs ≡ true → drop_blanks (xs ++ rest) ≡ xs ++ rest
 no_blanks [] rest some h = absurd (omega (arith, some))
-no_blanks (x ∷ xs) rest some h = no_blank_first x (xs ++ rest) (both_true (not (x == 32)) (lacks 32 xs) h).0
+no_blanks (x ∷ xs) rest some h = no_blank_first x (xs ++ rest) (and_parts (not (x == 32)) (lacks 32 xs) h).0
 
 blanks_twice_at : (x : ℕ) (t : Bool) (xs : List ℕ) → (x == 32) ≡ t → drop_blanks (drop_blanks xs) ≡ drop_blanks xs → drop_blanks (if t then drop_blanks xs else x ∷ xs) ≡ (if t then drop_blanks xs else x ∷ xs)
 blanks_twice_at x true xs e h = h
@@ -189,7 +190,7 @@ digit_small n limit b h lt = let most : b ≤ 57 = grind (arith, nat_tests) in o
 below_grown : (n limit : ℕ) (text : List ℕ) → list_all is_digit text ≡ true → n < limit → fold with_digit n text < grown limit text
 below_grown n limit [] h lt = lt
 below_grown n limit (b ∷ text) h lt =
-    let p = both_true (is_digit b) (list_all is_digit text) h in
+    let p = and_parts (is_digit b) (list_all is_digit text) h in
     below_grown (with_digit n b) (limit * 10) text p.1 (digit_small n limit b p.0 lt)
 
 pub below_five : (text : List ℕ) → list_all is_digit text ≡ true → length text ≡ 5 → number_of text < 100000
@@ -226,12 +227,12 @@ pub record AreDigits (low high n : ℕ) (text : List ℕ) : Type 0 where
 pub digits_sound : (low high : ℕ) (text : List ℕ) (n : ℕ) → digits_in low high text ≡ Some n → AreDigits low high n text
 digits_sound low high text n h =
     let p = only_if (is_text_of is_digit low high text) (Some (number_of text)) n h in
-    let q = both_true (nat_le low (length text) && nat_le (length text) high) (list_all is_digit text) p.0 in
-    let r = both_true (nat_le low (length text)) (nat_le (length text) high) q.0 in
+    let q = and_parts (nat_le low (length text) && nat_le (length text) high) (list_all is_digit text) p.0 in
+    let r = and_parts (nat_le low (length text)) (nat_le (length text) high) q.0 in
     record { from = leb-true low (length text) r.0; to = leb-true (length text) high r.1; all = q.1; number = some_same (number_of text) n p.1 }
 
 pub digits_complete : (low high : ℕ) (text : List ℕ) (n : ℕ) → AreDigits low high n text → digits_in low high text ≡ Some n
 digits_complete low high text n h =
     chosen (is_text_of is_digit low high text) (Some (number_of text)) None
-    (true_both (nat_le low (length text) && nat_le (length text) high) (list_all is_digit text) (true_both (nat_le low (length text)) (nat_le (length text) high) (le-leb low (length text) h.from) (le-leb (length text) high h.to)) h.all)
+    (and_from (nat_le low (length text) && nat_le (length text) high) (list_all is_digit text) (and_from (nat_le low (length text)) (nat_le (length text) high) (le-leb low (length text) h.from) (le-leb (length text) high h.to)) h.all)
     ∙ ap (λ (x : ℕ). Some x) h.number

@@ -1,5 +1,5 @@
 -- What was read of the lines, said of the text.
-use Rattle.std.proofs.Common.{◌≡◌, ◌≤◌, ℕ, List, map, sym, ap, ◌∙◌, inr, length, arith, None}
+use Rattle.std.proofs.Common.{◌≡◌, ◌≤◌, ℕ, List, map, sym, ap, ◌∙◌, inr, length, arith, None, refl}
 use Rattle.ssim_text.specs.declared.fault.TextFault.{TextFault}
 use Rattle.ssim_text.specs.declared.lines.Line.{Line}
 use Rattle.ssim_text.specs.Message.{MessageValue}
@@ -8,10 +8,21 @@ use Rattle.ssim_text.specs.Canonical.{canonical}
 use Rattle.ssim_text.specs.Spelling.{SpellsMessage}
 use Rattle.ssim_text.specs.Decoding.{IsRefusal, IsTooManyAtOne, NoMessage}
 use Rattle.ssim_text.proofs.DecodeLemmas.{ok_then, err_then, lines_of_text, message_found, message_only, too_long_none, too_long_place, misplaced_none, misplaced_place}
+use Rattle.ssim_text.proofs.ReadsBack.{canonical_reads_back}
 use Rattle.ssim_text.proofs.decoding.decode.Goals as goal
 
 seen : List Line → List (ℕ × List ℕ)
 seen lines = map (λ (l : Line). (l.number, l.bytes.now)) lines
+
+pub finished-requires : goal.finished-requires
+unfolding seen
+finished-requires c = λ short.
+    let d = c.in-Ok.draft in
+    let printable : first_unprintable (lines_left c.args.text.now) ≡ None =
+    ap first_unprintable (sym c.in_ok-lines.ensures ∙ ap seen (sym c.deref.ensures.value)) ∙ sym c.first_unprintable.ensures ∙ c.in_default.is in
+    let lines = lines_of_text c.args.text.now c.in_ok-lines.lines.items c.deref-2.result.now c.deref-2.ensures.value c.in_ok-lines.ensures in
+    canonical_reads_back d c.args.text.now
+    (message_found c.args.text.now (map (λ (l : Line). l.bytes.now) c.deref-2.result.now) d d (omega (arith, c.if-text-gt65536.false)) printable lines c.in-Ok.ensures.found refl short)
 
 pub returns-in-Ok-clause-found : goal.returns-in-Ok-clause-found
 unfolding seen
