@@ -13,3 +13,4 @@ pub mod FrontAgain
 pub mod DatesAgain
 pub mod EquipmentAgain
 pub mod LegsAgain
+pub mod SameLemmas
