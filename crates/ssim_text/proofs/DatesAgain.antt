@@ -31,7 +31,7 @@ use Rattle.ssim_text.specs.Grammar.{FlightPart, DatedFlightPart, PeriodPart}
 use Rattle.ssim_text.specs.Canonical.{given_date_text, given_end_text, period_text}
 use Rattle.ssim_text.proofs.Runs.{none_some, some_same}
 use Rattle.ssim_text.proofs.LinesKept.{IsLine, ReadsAgain, chosen, all_join, all_more, all_before, line_behind, line_from, line_drop}
-use Rattle.ssim_text.proofs.Words.{bound, only_if, lacks, is_solid, alphanumeric_solid, alphanumeric_no_solidus, solid_line, before_lacks, before_mark, from_mark, no_blanks, blanks_twice, word_first, behind_first, below_four, line_after, word_some}
+use Rattle.ssim_text.proofs.Words.{bound, carried, only_if, lacks, is_solid, alphanumeric_solid, alphanumeric_no_solidus, solid_line, before_lacks, before_mark, from_mark, no_blanks, blanks_twice, word_first, behind_first, below_four, line_after, word_some}
 
 -- ---- dates
 
@@ -168,7 +168,7 @@ period_sound line p h =
     let first = bound (date_of (word line)) (λ (x : GivenDate). last_date_of (word (behind line)) >>= λ y. compact_days_of (behind (behind line)) >>= λ z. Some (record { first = x; last = y; days = z })) p h in
     let last = bound (last_date_of (word (behind line))) (λ (y : GivenEnd). compact_days_of (behind (behind line)) >>= λ z. Some (record { first = first.0; last = y; days = z })) p first.2 in
     let days = bound (compact_days_of (behind (behind line))) (λ (z : List Bool). Some (record { first = first.0; last = last.0; days = z })) p last.2 in
-    subst (IsPeriodLine line) (some_same (record { first = first.0; last = last.0; days = days.0 }) p days.2) (record { first = first.1; last = last.1; days = days.1 })
+    carried (IsPeriodLine line) (record { first = first.0; last = last.0; days = days.0 }) p days.2 (record { first = first.1; last = last.1; days = days.1 })
 
 by_parts : (first : Option GivenDate) (last : Option GivenEnd) (days : Option (List Bool)) (p : GivenPeriod) → first ≡ Some p.first → last ≡ Some p.last → days ≡ Some p.days
     → (first >>= λ x. last >>= λ y. days >>= λ z. Some (record { first = x; last = y; days = z })) ≡ Some p

@@ -12,7 +12,7 @@ use Rattle.ssim_text.specs.Grammar.{EquipmentPart}
 use Rattle.ssim_text.specs.Canonical.{unless_empty, third_text, equipment_text}
 use Rattle.ssim_text.proofs.Runs.{none_some, some_same}
 use Rattle.ssim_text.proofs.LinesKept.{IsLine, ReadsAgain, chosen, all_more, line_behind}
-use Rattle.ssim_text.proofs.Words.{bound, only_if, lacks, is_solid, solid_printable, solid_no_blank, alphanumeric_solid, solid_line, before_none, before_from, no_blanks, blanks_twice, word_first, behind_first, behind_last, line_after, word_some}
+use Rattle.ssim_text.proofs.Words.{bound, carried, only_if, lacks, is_solid, solid_printable, solid_no_blank, alphanumeric_solid, solid_line, before_none, before_from, no_blanks, blanks_twice, word_first, behind_first, behind_last, line_after, word_some}
 
 record IsService (text : List ℕ) (service : ℕ) : Type 0 where
   same : text ≡ service ∷ []
@@ -73,7 +73,7 @@ equipment_sound line e h =
     let aircraft = bound (aircraft_of (word (behind line))) (λ (y : List ℕ). designators_of (before 46 third) >>= λ z. configuration_of (from 46 third) >>= λ w. Some (record { service = service.0; aircraft = y; designators = z; configuration = w })) e service.2 in
     let designators = bound (designators_of (before 46 third)) (λ (z : List ℕ). configuration_of (from 46 third) >>= λ w. Some (record { service = service.0; aircraft = aircraft.0; designators = z; configuration = w })) e aircraft.2 in
     let configuration = bound (configuration_of (from 46 third)) (λ (w : List ℕ). Some (record { service = service.0; aircraft = aircraft.0; designators = designators.0; configuration = w })) e designators.2 in
-    subst (IsEquipmentLine line) (some_same (record { service = service.0; aircraft = aircraft.0; designators = designators.0; configuration = configuration.0 }) e configuration.2)
+    carried (IsEquipmentLine line) (record { service = service.0; aircraft = aircraft.0; designators = designators.0; configuration = configuration.0 }) e configuration.2
     (record { service = service.1; aircraft = aircraft.1; designators = designators.1; configuration = configuration.1 })
 
 by_parts : (service : Option ℕ) (aircraft designators configuration : Option (List ℕ)) (e : EquipmentValue) → service ≡ Some e.service → aircraft ≡ Some e.aircraft → designators ≡ Some e.designators → configuration ≡ Some e.configuration

@@ -16,7 +16,7 @@ use Rattle.ssim_text.specs.Grammar.{OriginatorPart, ReferencePart}
 use Rattle.ssim_text.specs.Canonical.{three_digits, five_digits, group_code_text, creator_text}
 use Rattle.ssim_text.proofs.Runs.{some_same}
 use Rattle.ssim_text.proofs.LinesKept.{IsLine, ReadsAgain, chosen, all_more, all_take, line_behind, line_drop}
-use Rattle.ssim_text.proofs.Words.{bound, only_if, alphanumeric_solid, solid_printable, is_solid, solid_line, below_five, below_three, digits_sound, digits_complete}
+use Rattle.ssim_text.proofs.Words.{bound, carried, only_if, alphanumeric_solid, solid_printable, is_solid, solid_line, below_five, below_three, digits_sound, digits_complete}
 
 -- ---- the originator
 
@@ -93,9 +93,8 @@ numbers_sound text n h =
     let group = bound (digits_in 5 5 (take 5 (drop 5 text))) (λ (y : ℕ). group_code_of (take 1 (drop 5 (drop 5 text))) >>= λ z. digits_in 3 3 (drop 1 (drop 5 (drop 5 text))) >>= λ w. Some (date.0, y, z, w)) n date.2 in
     let code = bound (group_code_of (take 1 (drop 5 (drop 5 text)))) (λ (z : GroupCode). digits_in 3 3 (drop 1 (drop 5 (drop 5 text))) >>= λ w. Some (date.0, group.0, z, w)) n group.2 in
     let serial = bound (digits_in 3 3 (drop 1 (drop 5 (drop 5 text)))) (λ (w : ℕ). Some (date.0, group.0, code.0, w)) n code.2 in
-    let all = some_same (date.0, group.0, code.0, serial.0) n serial.2 in
     let read = only_if (length (take 5 text) == 5) (month_day_of (take 5 text)) date.0 date.1 in
-    subst (λ (x : MonthDay × ℕ × GroupCode × ℕ). AreNumbers text x.0 x.1 x.2 x.3) all (record {
+    carried (λ (x : MonthDay × ℕ × GroupCode × ℕ). AreNumbers text x.0 x.1 x.2 x.3) (date.0, group.0, code.0, serial.0) n serial.2 (record {
       long = eqb-true (length (take 5 text)) 5 read.0;
       date_read = read.1;
       group_below = group_bound (take 5 (drop 5 text)) group.0 group.1;
@@ -120,7 +119,7 @@ unfolding reference_of
 reference_sound line r h =
     let numbers = bound (numbers_of (take 14 line)) (λ (n : MonthDay × ℕ × GroupCode × ℕ). creator_of (drop 14 line) >>= λ c. Some (record { date = n.0; group = n.1; code = n.2; serial = n.3; creator = c })) r h in
     let creator = bound (creator_of (drop 14 line)) (λ (c : Option (List ℕ)). Some (record { date = numbers.0.0; group = numbers.0.1; code = numbers.0.2; serial = numbers.0.3; creator = c })) r numbers.2 in
-    subst (IsReference line) (some_same (record { date = numbers.0.0; group = numbers.0.1; code = numbers.0.2; serial = numbers.0.3; creator = creator.0 }) r creator.2)
+    carried (IsReference line) (record { date = numbers.0.0; group = numbers.0.1; code = numbers.0.2; serial = numbers.0.3; creator = creator.0 }) r creator.2
     (record { numbers = numbers_sound (take 14 line) numbers.0 numbers.1; creator_read = creator.1 })
 
 abbrev some_numbers : MonthDay → ℕ → GroupCode → ℕ → Option (MonthDay × ℕ × GroupCode × ℕ)

@@ -18,7 +18,7 @@ use Rattle.ssim_text.specs.Grammar.{LegPart, SegmentPart}
 use Rattle.ssim_text.specs.Canonical.{three_digits, short_digits, variation_text, passenger_text, leg_end_text, segment_line_text}
 use Rattle.ssim_text.proofs.Runs.{none_some, some_same}
 use Rattle.ssim_text.proofs.LinesKept.{IsLine, ReadsAgain, chosen, all_join, all_more, line_behind, line_from}
-use Rattle.ssim_text.proofs.Words.{bound, only_if, only_else, lacks, is_solid, solid_printable, solid_no_blank, solid_line, before_mark, from_mark, no_blanks, word_first, behind_first, line_after, below_three, AreDigits, digits_sound, digits_complete}
+use Rattle.ssim_text.proofs.Words.{bound, carried, only_if, only_else, lacks, is_solid, solid_printable, solid_no_blank, solid_line, before_mark, from_mark, no_blanks, word_first, behind_first, line_after, below_three, AreDigits, digits_sound, digits_complete}
 
 -- ---- stations
 
@@ -144,7 +144,7 @@ end_sound text e h =
     let time = bound (clock_in (take 4 (drop 3 text))) (λ (t : ℕ). variations_of t (drop 4 (drop 3 text)) >>= λ r. Some (record { station = station.0; time = t; variation = r.0; passenger = r.1 })) e station.2 in
     let rest = bound (variations_of time.0 (drop 4 (drop 3 text))) (λ (r : ℕ × ℕ). Some (record { station = station.0; time = time.0; variation = r.0; passenger = r.1 })) e time.2 in
     let bounded = clock_bound (take 4 (drop 3 text)) time.0 time.1 in
-    subst (IsEnd text) (some_same (record { station = station.0; time = time.0; variation = rest.0.0; passenger = rest.0.1 }) e rest.2)
+    carried (IsEnd text) (record { station = station.0; time = time.0; variation = rest.0.0; passenger = rest.0.1 }) e rest.2
     (record { station = station_sound (take 3 text) station.0 station.1; time = bounded; rest = variations_bound time.0 (drop 4 (drop 3 text)) rest.0 bounded rest.1 })
 
 by_parts : (station : Option (List ℕ)) (time : Option ℕ) (rest : ℕ → Option (ℕ × ℕ)) (e : LegEnd) → station ≡ Some e.station → time ≡ Some e.time → rest e.time ≡ Some (a_pair e.variation e.passenger)
@@ -193,7 +193,7 @@ unfolding leg_of
 leg_sound line leg h =
     let departure = bound (end_of (word line)) (λ (d : LegEnd). end_of (behind line) >>= λ a. Some (record { departure = d; arrival = a })) leg h in
     let arrival = bound (end_of (behind line)) (λ (a : LegEnd). Some (record { departure = departure.0; arrival = a })) leg departure.2 in
-    subst (IsLeg line) (some_same (record { departure = departure.0; arrival = arrival.0 }) leg arrival.2) (record { departure = departure.1; arrival = arrival.1 })
+    carried (IsLeg line) (record { departure = departure.0; arrival = arrival.0 }) leg arrival.2 (record { departure = departure.1; arrival = arrival.1 })
 
 both_ends : (departure arrival : Option LegEnd) (leg : LegLine) → departure ≡ Some leg.departure → arrival ≡ Some leg.arrival → (departure >>= λ d. arrival >>= λ a. Some (record { departure = d; arrival = a })) ≡ Some leg
 both_ends departure arrival leg h k = rw (h, k) refl
@@ -257,7 +257,7 @@ segment_sound line s h =
     let points = bound (points_of (word line)) (λ (p : List ℕ × List ℕ). digits_in 1 3 (before 47 (behind line)) >>= λ i. segment_text_of (from 47 (behind line)) >>= λ t. Some (record { board = p.0; off = p.1; identifier = i; text = t })) s h in
     let identifier = bound (digits_in 1 3 (before 47 (behind line))) (λ (i : ℕ). segment_text_of (from 47 (behind line)) >>= λ t. Some (record { board = points.0.0; off = points.0.1; identifier = i; text = t })) s points.2 in
     let text = bound (segment_text_of (from 47 (behind line))) (λ (t : List ℕ). Some (record { board = points.0.0; off = points.0.1; identifier = identifier.0; text = t })) s identifier.2 in
-    subst (IsSegment line) (some_same (record { board = points.0.0; off = points.0.1; identifier = identifier.0; text = text.0 }) s text.2) (record { points = points.1; identifier = identifier.1; text = text.1 })
+    carried (IsSegment line) (record { board = points.0.0; off = points.0.1; identifier = identifier.0; text = text.0 }) s text.2 (record { points = points.1; identifier = identifier.1; text = text.1 })
 
 three_parts : (points : Option (List ℕ × List ℕ)) (identifier : Option ℕ) (text : Option (List ℕ)) (s : SegmentLine) → points ≡ Some (two s.board s.off) → identifier ≡ Some s.identifier → text ≡ Some s.text
     → (points >>= λ p. identifier >>= λ i. text >>= λ t. Some (record { board = p.0; off = p.1; identifier = i; text = t })) ≡ Some s

@@ -14,3 +14,4 @@ pub mod DatesAgain
 pub mod EquipmentAgain
 pub mod LegsAgain
 pub mod SameLemmas
+pub mod WorkedLemmas

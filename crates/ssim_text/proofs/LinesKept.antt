@@ -1,5 +1,5 @@
 -- What is left of a line is a line; written lines, each with LF behind it, are left as they are.
-use Rattle.std.proofs.Common.{◌≡◌, ◌≤◌, ℕ, zero, suc, ◌+◌, Bool, true, false, cond, ◌&&◌, List, [], ◌∷◌, ◌++◌, length, map, refl, sym, ap, ◌∙◌, append_assoc, arith, None, Some, Option, drop, take, length-drop}
+use Rattle.std.proofs.Common.{◌≡◌, ◌≤◌, ℕ, zero, suc, ◌+◌, Bool, true, false, cond, List, [], ◌∷◌, ◌++◌, length, map, refl, sym, ap, ◌∙◌, append_assoc, arith, None, Some, Option, drop, take, length-drop}
 use Rattle.std.specs.Prelude.{◌==◌, if◌then◌else◌}
 use Rattle.std.specs.List.{AllByRecursion, list_all, onto_first}
 use Rattle.std.proofs.lemmas.Bool.{and_parts, and_from}
@@ -9,7 +9,7 @@ use Rattle.ssim_text.specs.Left.{is_dropped, onto, without_end, numbered, left_f
 use Rattle.ssim_text.specs.Grammar.{Part, Spells}
 use Rattle.ssim_text.specs.Canonical.{part_text, written}
 use Rattle.ssim_text.proofs.LeftLemmas.{keep_last}
-use Rattle.ssim_text.proofs.Runs.{none_some, false_true}
+use Rattle.ssim_text.proofs.Runs.{none_some}
 
 -- a line as it may be left: some bytes, each of them printable, the last of them no blank
 pub record IsLine (line : List ℕ) : Type 0 where

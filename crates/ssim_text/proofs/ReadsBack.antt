@@ -115,7 +115,7 @@ canonical_again m parts h k =
     (choice_again (bytes_eq m.originator no_originator) m.originator f.originator_parts refl f.is_originator own)
     (kind_again m.kind, (mode_again m.mode, (reference.0, all_right h.front rest whole)))
 
-canonical_has : (m : MessageValue) → HasParts m (canonical_parts m)
+pub canonical_has : (m : MessageValue) → HasParts m (canonical_parts m)
 canonical_has m =
     let own = originator_parts m.originator in
     let middle = KindPart m.kind ∷ ModePart m.mode ∷ ReferencePart m.reference ∷ [] in

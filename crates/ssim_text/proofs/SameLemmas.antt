@@ -81,12 +81,12 @@ exact_reference a b =
     (λ h. λ i. record { date = h.0.0.0.0 i; group = h.0.0.0.1 i; code = h.0.0.1 i; serial = h.0.1 i; creator = h.1 i })
     (λ e. ((((ap (λ (x : GivenReference). x.date) e, ap (λ (x : GivenReference). x.group) e), ap (λ (x : GivenReference). x.code) e), ap (λ (x : GivenReference). x.serial) e), ap (λ (x : GivenReference). x.creator) e))
     (Decides-and (same_month_day a.date b.date && (a.group == b.group) && same_code a.code b.code && (a.serial == b.serial)) (same_creator a.creator b.creator)
-        (Decides-and (same_month_day a.date b.date && (a.group == b.group) && same_code a.code b.code) (a.serial == b.serial)
-            (Decides-and (same_month_day a.date b.date && (a.group == b.group)) (same_code a.code b.code)
-                (Decides-and (same_month_day a.date b.date) (a.group == b.group) (exact_month_day a.date b.date) (Decides-eqb a.group b.group))
-                (exact_code a.code b.code))
-            (Decides-eqb a.serial b.serial))
-        (exact_creator a.creator b.creator))
+    (Decides-and (same_month_day a.date b.date && (a.group == b.group) && same_code a.code b.code) (a.serial == b.serial)
+    (Decides-and (same_month_day a.date b.date && (a.group == b.group)) (same_code a.code b.code)
+    (Decides-and (same_month_day a.date b.date) (a.group == b.group) (exact_month_day a.date b.date) (Decides-eqb a.group b.group))
+    (exact_code a.code b.code))
+    (Decides-eqb a.serial b.serial))
+    (exact_creator a.creator b.creator))
 
 -- ---- flights and dates
 
@@ -121,8 +121,8 @@ exact_period a b =
     (λ h. λ i. record { first = h.0.0 i; last = h.0.1 i; days = h.1 i })
     (λ e. ((ap (λ (x : GivenPeriod). x.first) e, ap (λ (x : GivenPeriod). x.last) e), ap (λ (x : GivenPeriod). x.days) e))
     (Decides-and (same_date a.first b.first && same_end a.last b.last) (same_days a.days b.days)
-        (Decides-and (same_date a.first b.first) (same_end a.last b.last) (exact_date a.first b.first) (exact_end a.last b.last))
-        (exact_days a.days b.days))
+    (Decides-and (same_date a.first b.first) (same_end a.last b.last) (exact_date a.first b.first) (exact_end a.last b.last))
+    (exact_days a.days b.days))
 
 exact_dates : (a b : Dates) → Decides (same_dates a b) (a ≡ b)
 exact_dates (Period a) (Period b) = within Period a b (same_period a b) (λ e. cc) (exact_period a b)
@@ -138,10 +138,10 @@ exact_equipment a b =
     (λ h. λ i. record { service = h.0.0.0 i; aircraft = h.0.0.1 i; designators = h.0.1 i; configuration = h.1 i })
     (λ e. (((ap (λ (x : EquipmentValue). x.service) e, ap (λ (x : EquipmentValue). x.aircraft) e), ap (λ (x : EquipmentValue). x.designators) e), ap (λ (x : EquipmentValue). x.configuration) e))
     (Decides-and ((a.service == b.service) && bytes_eq a.aircraft b.aircraft && bytes_eq a.designators b.designators) (bytes_eq a.configuration b.configuration)
-        (Decides-and ((a.service == b.service) && bytes_eq a.aircraft b.aircraft) (bytes_eq a.designators b.designators)
-            (Decides-and (a.service == b.service) (bytes_eq a.aircraft b.aircraft) (Decides-eqb a.service b.service) (bytes_eq-Decides a.aircraft b.aircraft))
-            (bytes_eq-Decides a.designators b.designators))
-        (bytes_eq-Decides a.configuration b.configuration))
+    (Decides-and ((a.service == b.service) && bytes_eq a.aircraft b.aircraft) (bytes_eq a.designators b.designators)
+    (Decides-and (a.service == b.service) (bytes_eq a.aircraft b.aircraft) (Decides-eqb a.service b.service) (bytes_eq-Decides a.aircraft b.aircraft))
+    (bytes_eq-Decides a.designators b.designators))
+    (bytes_eq-Decides a.configuration b.configuration))
 
 exact_leg_end : (a b : LegEnd) → Decides (same_leg_end a b) (a ≡ b)
 exact_leg_end a b =
@@ -149,10 +149,10 @@ exact_leg_end a b =
     (λ h. λ i. record { station = h.0.0.0 i; time = h.0.0.1 i; variation = h.0.1 i; passenger = h.1 i })
     (λ e. (((ap (λ (x : LegEnd). x.station) e, ap (λ (x : LegEnd). x.time) e), ap (λ (x : LegEnd). x.variation) e), ap (λ (x : LegEnd). x.passenger) e))
     (Decides-and (bytes_eq a.station b.station && (a.time == b.time) && (a.variation == b.variation)) (a.passenger == b.passenger)
-        (Decides-and (bytes_eq a.station b.station && (a.time == b.time)) (a.variation == b.variation)
-            (Decides-and (bytes_eq a.station b.station) (a.time == b.time) (bytes_eq-Decides a.station b.station) (Decides-eqb a.time b.time))
-            (Decides-eqb a.variation b.variation))
-        (Decides-eqb a.passenger b.passenger))
+    (Decides-and (bytes_eq a.station b.station && (a.time == b.time)) (a.variation == b.variation)
+    (Decides-and (bytes_eq a.station b.station) (a.time == b.time) (bytes_eq-Decides a.station b.station) (Decides-eqb a.time b.time))
+    (Decides-eqb a.variation b.variation))
+    (Decides-eqb a.passenger b.passenger))
 
 exact_leg : (a b : LegLine) → Decides (same_leg a b) (a ≡ b)
 exact_leg a b =
@@ -168,10 +168,10 @@ exact_segment a b =
     (λ h. λ i. record { board = h.0.0.0 i; off = h.0.0.1 i; identifier = h.0.1 i; text = h.1 i })
     (λ e. (((ap (λ (x : SegmentLine). x.board) e, ap (λ (x : SegmentLine). x.off) e), ap (λ (x : SegmentLine). x.identifier) e), ap (λ (x : SegmentLine). x.text) e))
     (Decides-and (bytes_eq a.board b.board && bytes_eq a.off b.off && (a.identifier == b.identifier)) (bytes_eq a.text b.text)
-        (Decides-and (bytes_eq a.board b.board && bytes_eq a.off b.off) (a.identifier == b.identifier)
-            (Decides-and (bytes_eq a.board b.board) (bytes_eq a.off b.off) (bytes_eq-Decides a.board b.board) (bytes_eq-Decides a.off b.off))
-            (Decides-eqb a.identifier b.identifier))
-        (bytes_eq-Decides a.text b.text))
+    (Decides-and (bytes_eq a.board b.board && bytes_eq a.off b.off) (a.identifier == b.identifier)
+    (Decides-and (bytes_eq a.board b.board) (bytes_eq a.off b.off) (bytes_eq-Decides a.board b.board) (bytes_eq-Decides a.off b.off))
+    (Decides-eqb a.identifier b.identifier))
+    (bytes_eq-Decides a.text b.text))
 
 exact_new : (a b : NewLegs) → Decides (same_new a b) (a ≡ b)
 exact_new a b =
@@ -179,8 +179,8 @@ exact_new a b =
     (λ h. λ i. record { equipment = h.0.0 i; legs = h.0.1 i; segments = h.1 i })
     (λ e. ((ap (λ (x : NewLegs). x.equipment) e, ap (λ (x : NewLegs). x.legs) e), ap (λ (x : NewLegs). x.segments) e))
     (Decides-and (same_equipment a.equipment b.equipment && pointwise same_leg a.legs b.legs) (pointwise same_segment a.segments b.segments)
-        (Decides-and (same_equipment a.equipment b.equipment) (pointwise same_leg a.legs b.legs) (exact_equipment a.equipment b.equipment) (exact_legs a.legs b.legs))
-        (slice_eq-Decides exact_segment a.segments b.segments (pointwise same_segment a.segments b.segments) refl))
+    (Decides-and (same_equipment a.equipment b.equipment) (pointwise same_leg a.legs b.legs) (exact_equipment a.equipment b.equipment) (exact_legs a.legs b.legs))
+    (slice_eq-Decides exact_segment a.segments b.segments (pointwise same_segment a.segments b.segments) refl))
 
 -- ---- messages
 
@@ -217,8 +217,8 @@ exact_sub a b =
     (λ h. λ i. record { designator = h.0.0 i; dates = h.0.1 i; action = h.1 i })
     (λ e. ((ap (λ (x : Sub). x.designator) e, ap (λ (x : Sub). x.dates) e), ap (λ (x : Sub). x.action) e))
     (Decides-and (same_designator a.designator b.designator && same_dates a.dates b.dates) (same_action a.action b.action)
-        (Decides-and (same_designator a.designator b.designator) (same_dates a.dates b.dates) (exact_designator a.designator b.designator) (exact_dates a.dates b.dates))
-        (exact_action a.action b.action))
+    (Decides-and (same_designator a.designator b.designator) (same_dates a.dates b.dates) (exact_designator a.designator b.designator) (exact_dates a.dates b.dates))
+    (exact_action a.action b.action))
 
 pub exact_message : (a b : MessageValue) → Decides (same_message a b) (a ≡ b)
 exact_message a b =
@@ -230,11 +230,11 @@ exact_message a b =
     (λ h. λ i. record { originator = h.0.0.0.0.0 i; kind = h.0.0.0.0.1 i; mode = h.0.0.0.1 i; reference = h.0.0.1 i; subs = h.0.1 i; free = h.1 i })
     (λ e. (((((ap (λ (x : MessageValue). x.originator) e, ap (λ (x : MessageValue). x.kind) e), ap (λ (x : MessageValue). x.mode) e), ap (λ (x : MessageValue). x.reference) e), ap (λ (x : MessageValue). x.subs) e), ap (λ (x : MessageValue). x.free) e))
     (Decides-and acted (pointwise bytes_eq a.free b.free)
-        (Decides-and referred (pointwise same_sub a.subs b.subs)
-            (Decides-and timed (same_reference a.reference b.reference)
-                (Decides-and front (same_mode a.mode b.mode)
-                    (Decides-and (bytes_eq a.originator b.originator) (same_kind a.kind b.kind) (bytes_eq-Decides a.originator b.originator) (exact_kind a.kind b.kind))
-                    (exact_mode a.mode b.mode))
-                (exact_reference a.reference b.reference))
-            (slice_eq-Decides exact_sub a.subs b.subs (pointwise same_sub a.subs b.subs) refl))
-        (slice_eq-Decides bytes_eq-Decides a.free b.free (pointwise bytes_eq a.free b.free) refl))
+    (Decides-and referred (pointwise same_sub a.subs b.subs)
+    (Decides-and timed (same_reference a.reference b.reference)
+    (Decides-and front (same_mode a.mode b.mode)
+    (Decides-and (bytes_eq a.originator b.originator) (same_kind a.kind b.kind) (bytes_eq-Decides a.originator b.originator) (exact_kind a.kind b.kind))
+    (exact_mode a.mode b.mode))
+    (exact_reference a.reference b.reference))
+    (slice_eq-Decides exact_sub a.subs b.subs (pointwise same_sub a.subs b.subs) refl))
+    (slice_eq-Decides bytes_eq-Decides a.free b.free (pointwise bytes_eq a.free b.free) refl))

@@ -1,5 +1,5 @@
 -- How a line that was written is cut into the parts that were written.
-use Rattle.std.proofs.Common.{◌≡◌, ◌≤◌, ◌<◌, ℕ, ◌+◌, ◌-◌, ◌*◌, Bool, true, false, not, ◌&&◌, List, [], ◌∷◌, ◌++◌, length, refl, ap, ◌∙◌, arith, Option, Some, None, fold, leb-true, le-leb}
+use Rattle.std.proofs.Common.{◌≡◌, ◌≤◌, ◌<◌, ℕ, ◌+◌, ◌-◌, ◌*◌, Bool, true, false, not, ◌&&◌, List, [], ◌∷◌, ◌++◌, length, refl, ap, subst, ◌∙◌, arith, Option, Some, None, fold, leb-true, le-leb}
 use Rattle.std.specs.Prelude.{◌==◌, nat_le, if◌then◌else◌}
 use Rattle.std.specs.List.{list_all}
 use Rattle.std.proofs.lemmas.Bool.{and_parts, and_from}
@@ -19,8 +19,9 @@ pub bound : {A B : Type 0} (o : Option A) (f : A → Option B) (y : B) → o >>=
 bound None f y h = absurd (none_some y h)
 bound (Some x) f y h = (x, refl, h)
 
-pub bind : {A B : Type 0} (o : Option A) (f : A → Option B) (x : A) (y : Option B) → o ≡ Some x → f x ≡ y → o >>= f ≡ y
-bind o f x y h k = rw h k
+-- what holds of what was read holds of the value
+pub carried : {A : Type 0} (P : A → Type 0) (x y : A) → Some x ≡ Some y → P x → P y
+carried P x y h p = subst P (some_same x y h) p
 
 pub only_if : {A : Type 0} (b : Bool) (o : Option A) (y : A) → (if b then o else None) ≡ Some y → (b ≡ true) × (o ≡ Some y)
 only_if true o y h = (refl, h)

@@ -9,5 +9,6 @@ pub mod Machine
 pub mod Left
 pub mod Canonical
 pub mod Spelling
+pub mod Worked
 pub mod Decoding
 pub mod Reference

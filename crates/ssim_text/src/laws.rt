@@ -1,6 +1,7 @@
 //! Laws of the grammar.
 ghost use Rattle.ssim_text.specs.Grammar.{OneMessage};
 ghost use Rattle.ssim_text.specs.Spelling.{CanonicalReadsBack, EqualWhereWrittenEqual};
+ghost use Rattle.ssim_text.specs.Worked.{WorkedTexts};
 
 /// No text spells two messages.
 pub fn one_message()
@@ -15,4 +16,9 @@ pub fn canonical_reads_back()
 /// Texts spell equal messages exactly where their canonical texts are equal.
 pub fn equal_where_written_equal()
     ensures { EqualWhereWrittenEqual }
+{}
+
+/// Ten texts worked out by hand spell their messages and are the canonical texts of them.
+pub fn worked_texts()
+    ensures { WorkedTexts }
 {}
