@@ -30,6 +30,8 @@ mod lines;
 mod message;
 mod originator;
 mod reference;
+#[cfg(test)]
+mod replaced_tests;
 mod same;
 mod segment;
 mod state;
