@@ -1,12 +1,13 @@
 -- What was read of the lines, said of the text.
-use Rattle.std.proofs.Common.{◌≡◌, ◌≤◌, ℕ, List, map, sym, ap, ◌∙◌, inr, length, arith, None, refl}
+use Rattle.std.proofs.Common.{◌≡◌, ◌≤◌, ℕ, List, map, sym, ap, ◌∙◌, inr, length, arith, None, refl, subst}
+use Rattle.ssim_text.specs.declared.fault.Fault.{Fault}
 use Rattle.ssim_text.specs.declared.fault.TextFault.{TextFault}
 use Rattle.ssim_text.specs.declared.lines.Line.{Line}
 use Rattle.ssim_text.specs.Message.{MessageValue}
 use Rattle.ssim_text.specs.Left.{lines_left, numbers, place_number, first_unprintable}
 use Rattle.ssim_text.specs.Canonical.{canonical}
 use Rattle.ssim_text.specs.Spelling.{SpellsMessage}
-use Rattle.ssim_text.specs.Decoding.{IsRefusal, IsTooManyAtOne, NoMessage}
+use Rattle.ssim_text.specs.Decoding.{IsFaultAt, IsRefusal, IsTooManyAtOne, NoMessage}
 use Rattle.ssim_text.proofs.DecodeLemmas.{ok_then, err_then, lines_of_text, message_found, message_only, too_long_none, too_long_place, misplaced_none, misplaced_place}
 use Rattle.ssim_text.proofs.ReadsBack.{canonical_reads_back}
 use Rattle.ssim_text.proofs.decoding.decode.Goals as goal
@@ -62,10 +63,13 @@ returns-in-Ok-clause-place c =
 pub returns-clause-none : goal.returns-clause-none
 returns-clause-none c =
     let lines = lines_of_text c.args.text.now c.in_ok-lines.lines.items c.deref-2.result.now c.deref-2.ensures.value c.in_ok-lines.ensures in
-    misplaced_none c.args.text.now (map (λ (l : Line). l.bytes.now) c.deref-2.result.now) c.in-Err-Misplaced.index lines (rw c.in-Err-Misplaced.field-0-is at c.in-Err-Misplaced.ensures.place)
+    misplaced_none c.args.text.now (map (λ (l : Line). l.bytes.now) c.deref-2.result.now) c.in-Err-Misplaced.index lines (rw c.in-Err-Misplaced.field-0-is at c.in-Err-Misplaced.ensures.place).0
 
 pub returns-clause-place : goal.returns-clause-place
 unfolding seen
 returns-clause-place c =
     let lines = lines_of_text c.args.text.now c.in_ok-lines.lines.items c.deref-2.result.now c.deref-2.ensures.value c.in_ok-lines.ensures in
-    inr (inr (misplaced_place c.args.text.now (map (λ (l : Line). l.bytes.now) c.deref-2.result.now) (seen c.deref-in-Err-Misplaced.result.now) c.in-Err-Misplaced.index c.number_at.result lines (ap seen c.deref-in-Err-Misplaced.ensures.value ∙ c.in_ok-lines.ensures) (rw c.in-Err-Misplaced.field-0-is at c.in-Err-Misplaced.ensures.place) (c.number_at.ensures ∙ ap (λ (i : ℕ). place_number (numbers (seen c.deref-in-Err-Misplaced.result.now)) i) c.in-Err-Misplaced.index-is)))
+    let place = rw c.in-Err-Misplaced.field-0-is at c.in-Err-Misplaced.ensures.place in
+    let numbered = c.number_at.ensures ∙ ap (λ (i : ℕ). place_number (numbers (seen c.deref-in-Err-Misplaced.result.now)) i) c.in-Err-Misplaced.index-is in
+    let at_fault = subst (λ (x : Fault). IsFaultAt (map (λ (l : Line). l.bytes.now) c.deref-2.result.now) c.in-Err-Misplaced.index x) (sym c.in-Err-Misplaced.fault-is) place.1 in
+    inr (inr (misplaced_place c.args.text.now (map (λ (l : Line). l.bytes.now) c.deref-2.result.now) (seen c.deref-in-Err-Misplaced.result.now) c.in-Err-Misplaced.index c.number_at.result _ lines (ap seen c.deref-in-Err-Misplaced.ensures.value ∙ c.in_ok-lines.ensures) place.0 at_fault numbered))
