@@ -60,13 +60,13 @@ fn is_first(alloc: Global, text: &[u8], number: u8, line: usize) -> bool {
     let (with, _rest) = front(text, start_of_line(text, line.saturating_add(1)));
     let starts = match refusal(alloc, before) {
         None => true,
-        Some((_number, at)) => at <= line && at > line_count_left(before),
+        Some((_number, at)) => at <= line && at > last_line_left(before),
     };
     starts && refusal(alloc, with) == Some((number, line))
 }
 
 /// The number of the last line with a byte other than CR or blank, 0 without one.
-fn line_count_left(text: &[u8]) -> usize {
+fn last_line_left(text: &[u8]) -> usize {
     let mut line: usize = 1;
     let mut last = 0;
     for byte in text {
@@ -104,13 +104,20 @@ fn replaced(alloc: Global, text: &[u8], at: usize, byte: u8) -> Result<Vec<u8>, 
     Ok(changed)
 }
 
+fn replaced_at(alloc: Global, text: &[u8], at: usize) -> Result<bool, Fail> {
+    for byte in [b'0', b'A', b' ', b'\n', 255] {
+        let changed = replaced(alloc, text, at, byte)?;
+        if !stands_or_is_refused(alloc, &changed)? {
+            return Ok(false);
+        }
+    }
+    Ok(true)
+}
+
 fn all_replaced(alloc: Global, text: &[u8]) -> Result<bool, Fail> {
     for at in 0..text.len() {
-        for byte in [b'0', b'A', b' ', b'\n', 255] {
-            let changed = replaced(alloc, text, at, byte)?;
-            if !stands_or_is_refused(alloc, &changed)? {
-                return Ok(false);
-            }
+        if !replaced_at(alloc, text, at)? {
+            return Ok(false);
         }
     }
     stands_or_is_refused(alloc, text)

@@ -175,7 +175,7 @@ fn limits(rt: HostRuntime) -> Result<(), Fail> {
 }
 
 #[test]
-fn texts_of_the_rows(rt: HostRuntime) -> Result<(), Fail> {
+fn worked_texts(rt: HostRuntime) -> Result<(), Fail> {
     let texts: [&[u8]; 15] = [
         b"SSM\nUTC\n01JUN00002E001\nCNL\nLX544\n30MAR25 25OCT25 3\n",
         b"SSM\nUTC\n01JUN00003E001\nTIM\nLX544\n01JUL25 31JUL25 1\nZRH0600 LHR0715\n",
@@ -200,7 +200,7 @@ fn texts_of_the_rows(rt: HostRuntime) -> Result<(), Fail> {
 }
 
 #[test]
-fn segment_line_refusals(rt: HostRuntime) -> Result<(), Fail> {
+fn segment_lines(rt: HostRuntime) -> Result<(), Fail> {
     let lines: [&[u8]; 4] = [
         b"ZRHJFK 99/X\n",
         b"QQQQQQ 99/X\n",
@@ -267,6 +267,11 @@ fn spellings_of_one_message(rt: HostRuntime) -> Result<(), Fail> {
     for text in same {
         assert!(rt; are_same(rt.alloc(), X2, text)?);
     }
+    Ok(())
+}
+
+#[test]
+fn other_messages(rt: HostRuntime) -> Result<(), Fail> {
     let others: [&[u8]; 14] = [
         b".ZRHRMLX\nSSM\nUTC\n01JUN00001E001\nCNL\nLX544\n01JUL25 07JUL25 2\n",
         b"ASM\nUTC\n01JUN00001E001\nCNL\nLX544/01JUL25\n",
@@ -286,6 +291,18 @@ fn spellings_of_one_message(rt: HostRuntime) -> Result<(), Fail> {
     for text in others {
         assert!(rt; !are_same(rt.alloc(), X2, text)?);
     }
+    Ok(())
+}
+
+#[test]
+fn originators(rt: HostRuntime) -> Result<(), Fail> {
+    let named = b".ZRHRMLX\nSSM\nUTC\n01JUN00001E001\nCNL\nLX544\n01JUL25 07JUL25 2\n";
+    let more = b".ZRHRMLX 231200\nSSM\nUTC\n01JUN00001E001\nCNL\nLX544\n01JUL25 07JUL25 2\n";
+    let short = b".ZRHRML\nSSM\nUTC\n01JUN00001E001\nCNL\nLX544\n01JUL25 07JUL25 2\n";
+    assert_eq!(rt; canonical(rt.alloc(), more)?.len(), 60);
+    assert!(rt; are_same(rt.alloc(), named, more)?);
+    assert!(rt; !are_same(rt.alloc(), named, X2)?);
+    assert_eq!(rt; refusal(rt.alloc(), short), Some((20, 1)));
     Ok(())
 }
 
@@ -346,7 +363,15 @@ fn reference(message: &Message, date: Day) -> Reference {
     }
 }
 
-/// References in their order: each differs from the one before in one field, and is less in those behind it.
+/// Whether a reference is greater than the first `place` of the others, equal to the next and less than the rest.
+fn stands_at(one: &Reference, others: &[Reference], place: usize) -> bool {
+    others
+        .iter()
+        .enumerate()
+        .all(|(at, other)| one.order(other) == place.cmp(&at))
+}
+
+/// References in their order: each is greater than the one before in one field, and not in those before that field.
 #[test]
 fn references_in_order(rt: HostRuntime) -> Result<(), Fail> {
     let texts: [(&[u8], &[u8; 7]); 6] = [
@@ -372,12 +397,12 @@ fn references_in_order(rt: HostRuntime) -> Result<(), Fail> {
             b"01JUN26",
         ),
     ];
-    for (low, (text, day)) in texts.iter().enumerate() {
-        let one = reference(&decode(rt.alloc(), text)?, Day::parse(day)?);
-        for (high, (text, day)) in texts.iter().enumerate() {
-            let other = reference(&decode(rt.alloc(), text)?, Day::parse(day)?);
-            assert_eq!(rt; one.order(&other), low.cmp(&high));
-        }
+    let mut references = Vec::new(rt.alloc());
+    for (text, day) in texts {
+        references.push(reference(&decode(rt.alloc(), text)?, Day::parse(day)?))?;
+    }
+    for (place, one) in references.iter().enumerate() {
+        assert!(rt; stands_at(one, &references, place));
     }
     Ok(())
 }
