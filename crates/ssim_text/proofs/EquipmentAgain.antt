@@ -14,11 +14,11 @@ use Rattle.ssim_text.proofs.Runs.{none_some, some_same}
 use Rattle.ssim_text.proofs.LinesKept.{IsLine, ReadsAgain, chosen, all_more, line_behind}
 use Rattle.ssim_text.proofs.Words.{bound, carried, only_if, lacks, is_solid, solid_printable, solid_no_blank, alphanumeric_solid, solid_line, before_none, before_from, no_blanks, blanks_twice, word_first, behind_first, behind_last, line_after, word_some}
 
-record IsService (text : List ℕ) (service : ℕ) : Type 0 where
-  same : text ≡ service ∷ []
-  letter : is_letter service ≡ true
+pub record IsService (text : List ℕ) (service : ℕ) : Type 0 where
+  pub same : text ≡ service ∷ []
+  pub letter : is_letter service ≡ true
 
-service_sound : (text : List ℕ) (service : ℕ) → service_of text ≡ Some service → IsService text service
+pub service_sound : (text : List ℕ) (service : ℕ) → service_of text ≡ Some service → IsService text service
 service_sound [] service h = absurd (none_some service h)
 service_sound (b ∷ []) service h =
     let p = only_if (is_letter b) (Some b) service h in
@@ -29,12 +29,12 @@ service_sound (b ∷ c ∷ text) service h = absurd (none_some service h)
 letter_solid : (b : ℕ) → is_letter b ≡ true → is_solid b ≡ true
 letter_solid b h = grind (arith, nat_tests)
 
-record IsAircraft (text aircraft : List ℕ) : Type 0 where
-  same : text ≡ aircraft
-  some : 1 ≤ length aircraft
-  all : list_all is_alphanumeric aircraft ≡ true
+pub record IsAircraft (text aircraft : List ℕ) : Type 0 where
+  pub same : text ≡ aircraft
+  pub some : 1 ≤ length aircraft
+  pub all : list_all is_alphanumeric aircraft ≡ true
 
-aircraft_sound : (text aircraft : List ℕ) → aircraft_of text ≡ Some aircraft → IsAircraft text aircraft
+pub aircraft_sound : (text aircraft : List ℕ) → aircraft_of text ≡ Some aircraft → IsAircraft text aircraft
 aircraft_sound text aircraft h =
     let p = only_if (is_text_of is_alphanumeric 3 3 text) (Some text) aircraft h in
     let q = and_parts (nat_le 3 (length text) && nat_le (length text) 3) (list_all is_alphanumeric text) p.0 in
@@ -59,13 +59,13 @@ configuration_sound (b ∷ text) configuration h =
 designators_same : (text designators : List ℕ) → designators_of text ≡ Some designators → text ≡ designators
 designators_same text designators h = some_same text designators (only_if (is_text_of is_letter 0 20 text) (Some text) designators h).1
 
-record IsEquipmentLine (line : List ℕ) (e : EquipmentValue) : Type 0 where
-  service : service_of (word line) ≡ Some e.service
-  aircraft : aircraft_of (word (behind line)) ≡ Some e.aircraft
-  designators : designators_of (before 46 (behind (behind line))) ≡ Some e.designators
-  configuration : configuration_of (from 46 (behind (behind line))) ≡ Some e.configuration
+pub record IsEquipmentLine (line : List ℕ) (e : EquipmentValue) : Type 0 where
+  pub service : service_of (word line) ≡ Some e.service
+  pub aircraft : aircraft_of (word (behind line)) ≡ Some e.aircraft
+  pub designators : designators_of (before 46 (behind (behind line))) ≡ Some e.designators
+  pub configuration : configuration_of (from 46 (behind (behind line))) ≡ Some e.configuration
 
-equipment_sound : (line : List ℕ) (e : EquipmentValue) → equipment_of line ≡ Some e → IsEquipmentLine line e
+pub equipment_sound : (line : List ℕ) (e : EquipmentValue) → equipment_of line ≡ Some e → IsEquipmentLine line e
 unfolding equipment_of
 equipment_sound line e h =
     let third = behind (behind line) in

@@ -74,11 +74,11 @@ code_again Continuation = refl
 code_again End = refl
 
 -- what is read of the fourteen bytes
-record AreNumbers (text : List ℕ) (date : MonthDay) (group : ℕ) (code : GroupCode) (serial : ℕ) : Type 0 where
-  long : length (take 5 text) ≡ 5
-  date_read : month_day_of (take 5 text) ≡ Some date
-  group_below : group < 100000
-  serial_below : serial < 1000
+pub record AreNumbers (text : List ℕ) (date : MonthDay) (group : ℕ) (code : GroupCode) (serial : ℕ) : Type 0 where
+  pub long : length (take 5 text) ≡ 5
+  pub date_read : month_day_of (take 5 text) ≡ Some date
+  pub group_below : group < 100000
+  pub serial_below : serial < 1000
 
 group_bound : (text : List ℕ) (n : ℕ) → digits_in 5 5 text ≡ Some n → n < 100000
 group_bound text n h = let d = digits_sound 5 5 text n h in subst (λ (x : ℕ). x < 100000) d.number (below_five text d.all (omega (arith, d.from, d.to)))
@@ -110,11 +110,11 @@ creator_sound (b ∷ text) creator h =
     let solidus = and_parts (b == 47) (nat_le 1 (length text)) q.0 in
     ap (λ (x : ℕ). x ∷ text) (eqb-true b 47 solidus.0) ∙ ap creator_text (some_same (Some text) creator p.1)
 
-record IsReference (line : List ℕ) (r : GivenReference) : Type 0 where
-  numbers : AreNumbers (take 14 line) r.date r.group r.code r.serial
-  creator_read : creator_of (drop 14 line) ≡ Some r.creator
+pub record IsReference (line : List ℕ) (r : GivenReference) : Type 0 where
+  pub numbers : AreNumbers (take 14 line) r.date r.group r.code r.serial
+  pub creator_read : creator_of (drop 14 line) ≡ Some r.creator
 
-reference_sound : (line : List ℕ) (r : GivenReference) → reference_of line ≡ Some r → IsReference line r
+pub reference_sound : (line : List ℕ) (r : GivenReference) → reference_of line ≡ Some r → IsReference line r
 unfolding reference_of
 reference_sound line r h =
     let numbers = bound (numbers_of (take 14 line)) (λ (n : MonthDay × ℕ × GroupCode × ℕ). creator_of (drop 14 line) >>= λ c. Some (record { date = n.0; group = n.1; code = n.2; serial = n.3; creator = c })) r h in

@@ -22,10 +22,10 @@ use Rattle.ssim_text.proofs.Words.{bound, carried, only_if, only_else, lacks, is
 
 -- ---- stations
 
-record IsStation (text station : List ℕ) : Type 0 where
-  same : text ≡ station
-  long : length station ≡ 3
-  valid : is_station station ≡ true
+pub record IsStation (text station : List ℕ) : Type 0 where
+  pub same : text ≡ station
+  pub long : length station ≡ 3
+  pub valid : is_station station ≡ true
 
 station_sound : (text station : List ℕ) → station_in text ≡ Some station → IsStation text station
 station_sound text station h =
@@ -65,10 +65,10 @@ passenger_bound : (text : List ℕ) (n : ℕ) → passenger_of text ≡ Some n �
 passenger_bound [] n h = absurd (none_some n h)
 passenger_bound (b ∷ text) n h = clock_bound text n (only_if (b == 47) (clock_in text) n h).1
 
-abbrev Bounded : ℕ × ℕ → Type 0
+abbrev pub Bounded : ℕ × ℕ → Type 0
 Bounded r = (r.0 ≤ 7) × (r.1 ≤ 1440)
 
-abbrev a_pair : ℕ → ℕ → ℕ × ℕ
+abbrev pub a_pair : ℕ → ℕ → ℕ × ℕ
 a_pair v p = (v, p)
 
 bounded_at : (none two five : Bool) (time : ℕ) (text : List ℕ) (r : ℕ × ℕ) → time ≤ 1440
@@ -132,12 +132,12 @@ passenger_solid_at false p h = all_join is_solid (47 ∷ []) (clock_text p) refl
 
 -- ---- ends of legs
 
-record IsEnd (text : List ℕ) (e : LegEnd) : Type 0 where
-  station : IsStation (take 3 text) e.station
-  time : e.time ≤ 1440
-  rest : Bounded (a_pair e.variation e.passenger)
+pub record IsEnd (text : List ℕ) (e : LegEnd) : Type 0 where
+  pub station : IsStation (take 3 text) e.station
+  pub time : e.time ≤ 1440
+  pub rest : Bounded (a_pair e.variation e.passenger)
 
-end_sound : (text : List ℕ) (e : LegEnd) → end_of text ≡ Some e → IsEnd text e
+pub end_sound : (text : List ℕ) (e : LegEnd) → end_of text ≡ Some e → IsEnd text e
 unfolding end_of
 end_sound text e h =
     let station = bound (station_in (take 3 text)) (λ (s : List ℕ). clock_in (take 4 (drop 3 text)) >>= λ t. variations_of t (drop 4 (drop 3 text)) >>= λ r. Some (record { station = s; time = t; variation = r.0; passenger = r.1 })) e h in
@@ -184,11 +184,11 @@ end_some text e h = some_first e.station (clock_text e.time) (variation_text e.v
 
 -- ---- leg lines
 
-record IsLeg (line : List ℕ) (leg : LegLine) : Type 0 where
-  departure : end_of (word line) ≡ Some leg.departure
-  arrival : end_of (behind line) ≡ Some leg.arrival
+pub record IsLeg (line : List ℕ) (leg : LegLine) : Type 0 where
+  pub departure : end_of (word line) ≡ Some leg.departure
+  pub arrival : end_of (behind line) ≡ Some leg.arrival
 
-leg_sound : (line : List ℕ) (leg : LegLine) → leg_of line ≡ Some leg → IsLeg line leg
+pub leg_sound : (line : List ℕ) (leg : LegLine) → leg_of line ≡ Some leg → IsLeg line leg
 unfolding leg_of
 leg_sound line leg h =
     let departure = bound (end_of (word line)) (λ (d : LegEnd). end_of (behind line) >>= λ a. Some (record { departure = d; arrival = a })) leg h in
@@ -227,7 +227,7 @@ record ArePoints (text : List ℕ) (points : List ℕ × List ℕ) : Type 0 wher
   board : IsStation (take 3 text) points.0
   off : IsStation (drop 3 text) points.1
 
-abbrev two : List ℕ → List ℕ → List ℕ × List ℕ
+abbrev pub two : List ℕ → List ℕ → List ℕ × List ℕ
 two board off = (board, off)
 
 points_sound : (text : List ℕ) (points : List ℕ × List ℕ) → points_of text ≡ Some points → ArePoints text points
@@ -246,12 +246,12 @@ segment_text_sound (b ∷ text) own h =
     let same = some_same text own p.1 in
     (ap (λ (x : ℕ). x ∷ text) (eqb-true b 47 solidus.0) ∙ ap (λ (x : List ℕ). 47 ∷ x) same, subst (λ (x : List ℕ). 1 ≤ length x) same (leb-true 1 (length text) solidus.1))
 
-record IsSegment (line : List ℕ) (s : SegmentLine) : Type 0 where
-  points : points_of (word line) ≡ Some (two s.board s.off)
-  identifier : digits_in 1 3 (before 47 (behind line)) ≡ Some s.identifier
-  text : segment_text_of (from 47 (behind line)) ≡ Some s.text
+pub record IsSegment (line : List ℕ) (s : SegmentLine) : Type 0 where
+  pub points : points_of (word line) ≡ Some (two s.board s.off)
+  pub identifier : digits_in 1 3 (before 47 (behind line)) ≡ Some s.identifier
+  pub text : segment_text_of (from 47 (behind line)) ≡ Some s.text
 
-segment_sound : (line : List ℕ) (s : SegmentLine) → segment_of line ≡ Some s → IsSegment line s
+pub segment_sound : (line : List ℕ) (s : SegmentLine) → segment_of line ≡ Some s → IsSegment line s
 unfolding segment_of
 segment_sound line s h =
     let points = bound (points_of (word line)) (λ (p : List ℕ × List ℕ). digits_in 1 3 (before 47 (behind line)) >>= λ i. segment_text_of (from 47 (behind line)) >>= λ t. Some (record { board = p.0; off = p.1; identifier = i; text = t })) s h in

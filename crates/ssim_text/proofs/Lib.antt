@@ -15,3 +15,4 @@ pub mod EquipmentAgain
 pub mod LegsAgain
 pub mod SameLemmas
 pub mod WorkedLemmas
+pub mod BoundsLemmas

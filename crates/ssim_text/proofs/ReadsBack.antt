@@ -70,13 +70,13 @@ parts_again [] (line ∷ lines) h l = absurd h
 parts_again (p ∷ parts) [] h l = absurd h
 parts_again (p ∷ parts) (line ∷ lines) h l = (part_again p line h.0 l.0, parts_again parts lines h.1 l.1)
 
-all_left : (xs ys : List Part) → AllByRecursion ReadsAgain (xs ++ ys) → AllByRecursion ReadsAgain xs
-all_left [] ys h = tt
-all_left (x ∷ xs) ys h = (h.0, all_left xs ys h.1)
+pub all_left : (P : Part → Type 0) (xs ys : List Part) → AllByRecursion P (xs ++ ys) → AllByRecursion P xs
+all_left P [] ys h = tt
+all_left P (x ∷ xs) ys h = (h.0, all_left P xs ys h.1)
 
-all_right : (xs ys : List Part) → AllByRecursion ReadsAgain (xs ++ ys) → AllByRecursion ReadsAgain ys
-all_right [] ys h = h
-all_right (x ∷ xs) ys h = all_right xs ys h.1
+pub all_right : (P : Part → Type 0) (xs ys : List Part) → AllByRecursion P (xs ++ ys) → AllByRecursion P ys
+all_right P [] ys h = h
+all_right P (x ∷ xs) ys h = all_right P xs ys h.1
 
 all_both : (xs ys : List Part) → AllByRecursion ReadsAgain xs → AllByRecursion ReadsAgain ys → AllByRecursion ReadsAgain (xs ++ ys)
 all_both [] ys h k = k
@@ -107,13 +107,13 @@ canonical_again m parts h k =
     let f = h.is_front in
     let rest = subs_parts m.subs ++ free_parts m.free in
     let whole = subst (AllByRecursion ReadsAgain) h.whole k in
-    let front = subst (AllByRecursion ReadsAgain) f.whole (all_left h.front rest whole) in
-    let middle = all_right f.originator_parts (KindPart m.kind ∷ (f.mode_parts ++ ReferencePart m.reference ∷ [])) front in
-    let own = all_left f.originator_parts (KindPart m.kind ∷ (f.mode_parts ++ ReferencePart m.reference ∷ [])) front in
-    let reference = all_right f.mode_parts (ReferencePart m.reference ∷ []) middle.1 in
+    let front = subst (AllByRecursion ReadsAgain) f.whole (all_left ReadsAgain h.front rest whole) in
+    let middle = all_right ReadsAgain f.originator_parts (KindPart m.kind ∷ (f.mode_parts ++ ReferencePart m.reference ∷ [])) front in
+    let own = all_left ReadsAgain f.originator_parts (KindPart m.kind ∷ (f.mode_parts ++ ReferencePart m.reference ∷ [])) front in
+    let reference = all_right ReadsAgain f.mode_parts (ReferencePart m.reference ∷ []) middle.1 in
     all_both (originator_parts m.originator) (KindPart m.kind ∷ ModePart m.mode ∷ ReferencePart m.reference ∷ rest)
     (choice_again (bytes_eq m.originator no_originator) m.originator f.originator_parts refl f.is_originator own)
-    (kind_again m.kind, (mode_again m.mode, (reference.0, all_right h.front rest whole)))
+    (kind_again m.kind, (mode_again m.mode, (reference.0, all_right ReadsAgain h.front rest whole)))
 
 pub canonical_has : (m : MessageValue) → HasParts m (canonical_parts m)
 canonical_has m =

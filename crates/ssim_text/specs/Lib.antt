@@ -7,6 +7,7 @@ pub mod Grammar
 pub mod Fault
 pub mod Machine
 pub mod Left
+pub mod Bounds
 pub mod Canonical
 pub mod Spelling
 pub mod Worked

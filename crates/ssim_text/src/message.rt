@@ -2,6 +2,8 @@
 ghost use Rattle.std.specs.Prelude.{◌≡◌, IfOk};
 ghost use Rattle.ssim_text.specs.Message.{begun, with_sub, with_free};
 ghost use Rattle.ssim_text.specs.Canonical.{canonical};
+ghost use Rattle.ssim_text.specs.Grammar.{IsShape};
+ghost use Rattle.ssim_text.specs.Bounds.{AreSubsBounded, IsReferenceBounded};
 ghost use Rattle.ssim_text.specs.Spelling.{SpellsMessage};
 
 use crate::action::Sub;
@@ -210,16 +212,20 @@ impl Message {
         self.content.mode()
     }
 
-    /// The reference as it was given.
+    /// The reference as it was given: its group has five digits at most, its serial three.
     pub fn reference(&self) -> &GivenReference
-        ensures { result.now ≡ self.now.reference }
+        ensures value { result.now ≡ self.now.reference }
+        ensures bounded { IsReferenceBounded self.now.reference }
     {
         self.content.reference()
     }
 
-    /// The sub-messages, in their order.
+    /// The sub-messages, in their order: 1 to 250, each with the dates that the kind wants, 1 to 20 leg lines where it
+    /// has any, and values in their bounds.
     pub fn subs(&self) -> &[Sub]
-        ensures { result.now ≡ self.now.subs }
+        ensures value { result.now ≡ self.now.subs }
+        ensures shape { IsShape self.now }
+        ensures bounded { AreSubsBounded self.now.subs }
     {
         self.content.subs()
     }
