@@ -23,6 +23,7 @@ mod line;
 mod note;
 mod put;
 mod reading;
+mod resolved;
 mod schedule;
 #[cfg(test)]
 mod station_tests;
@@ -36,5 +37,6 @@ pub use fault::{BaseFault, BaseRefusal};
 pub use itinerary::Itinerary;
 pub use leg::PlacedLeg;
 pub use note::Note;
+pub use resolved::Resolved;
 pub use schedule::{FlightPeriods, Schedule};
 pub use stations::{StationFault, StationRow, Stations};
