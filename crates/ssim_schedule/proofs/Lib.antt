@@ -26,3 +26,4 @@ pub mod FlightLists
 pub mod BaseFrame
 pub mod Unflown
 pub mod ReadBackBy
+pub mod ResolveLemmas
