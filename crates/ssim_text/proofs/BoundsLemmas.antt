@@ -1,5 +1,5 @@
 -- What the lines that spell a message say of its values.
-use Rattle.std.proofs.Common.{◌≡◌, ◌≤◌, ◌<◌, ℕ, ◌&&◌, true, List, [], ◌∷◌, ◌++◌, length, map, sym, ap, subst, ◌∙◌, arith, Some, leb-true, eqb-true}
+use Rattle.std.proofs.Common.{Option, None, IfSome, drop, ◌≡◌, ◌≤◌, ◌<◌, ℕ, ◌&&◌, true, List, [], ◌∷◌, ◌++◌, length, map, sym, ap, subst, ◌∙◌, arith, Some, leb-true, eqb-true}
 use Rattle.std.specs.Prelude.{◌==◌, nat_le}
 use Rattle.std.specs.List.{AllByRecursion, AllZip, list_all}
 use Rattle.std.proofs.lemmas.Bool.{and_parts}
@@ -13,15 +13,15 @@ use Rattle.ssim_text.specs.declared.action.Action.TheVariants as action
 use Rattle.ssim_text.specs.declared.action.Sub.{Sub}
 use Rattle.ssim_text.specs.Bytes.{before, from, word, behind, is_alphanumeric, is_printable, is_text_of}
 use Rattle.ssim_text.specs.Values.{EquipmentValue}
-use Rattle.ssim_text.specs.Lines.{reference_of, designators_of, configuration_of, equipment_of, leg_of, segment_text_of, segment_of}
+use Rattle.ssim_text.specs.Lines.{creator_of, reference_of, designators_of, configuration_of, equipment_of, leg_of, segment_text_of, segment_of}
 use Rattle.ssim_text.specs.Message.{MessageValue}
 use Rattle.ssim_text.specs.Grammar.{Part, OriginatorPart, KindPart, ModePart, ReferencePart, ActionPart, FlightPart, DatedFlightPart, PeriodPart, EquipmentPart, LegPart, SegmentPart, Divider, FreePart, Spells, flight_parts, body_parts, sub_parts, later_parts, subs_parts, free_parts}
 use Rattle.ssim_text.specs.Left.{lines_left, pieces, texts}
 use Rattle.ssim_text.specs.Spelling.{SpellsMessage}
-use Rattle.ssim_text.specs.Bounds.{IsLegBounded, IsSegmentBounded, IsEquipmentBounded, AreNewLegsBounded, IsActionBounded, AreSubsBounded, IsReferenceBounded}
+use Rattle.ssim_text.specs.Bounds.{IsLegBounded, IsSegmentBounded, IsEquipmentBounded, AreNewLegsBounded, IsActionBounded, AreSubsBounded, IsCreatorBounded, IsReferenceBounded, AreFreeLinesBounded}
 use Rattle.ssim_text.proofs.Runs.{none_some, some_same}
-use Rattle.ssim_text.proofs.LinesKept.{IsLine, line_from, left_lines}
-use Rattle.ssim_text.proofs.Words.{only_if, line_after, below_three, digits_sound}
+use Rattle.ssim_text.proofs.LinesKept.{IsLine, all_drop, line_from, left_lines}
+use Rattle.ssim_text.proofs.Words.{carried, only_if, line_after, below_three, digits_sound}
 use Rattle.ssim_text.proofs.FrontAgain.{reference_sound}
 use Rattle.ssim_text.proofs.EquipmentAgain.{service_sound, aircraft_sound, equipment_sound}
 use Rattle.ssim_text.proofs.LegsAgain.{leg_sound, end_sound, segment_sound}
@@ -29,12 +29,22 @@ use Rattle.ssim_text.proofs.ReadsBack.{all_left, all_right}
 
 -- ---- each line
 
-reference_bounded : (r : GivenReference) (line : List ℕ) → reference_of line ≡ Some r → IsReferenceBounded r
-reference_bounded r line h =
-    let n = (reference_sound line r h).numbers in
+creator_bounded : (text : List ℕ) (creator : Option (List ℕ)) → creator_of text ≡ Some creator → list_all is_printable text ≡ true → IfSome creator IsCreatorBounded
+creator_bounded [] creator h l = carried (λ (x : Option (List ℕ)). IfSome x IsCreatorBounded) None creator h tt
+creator_bounded (b ∷ text) creator h l =
+    let p = only_if ((b == 47) && nat_le 1 (length text) && nat_le (length text) 35) (Some (Some text)) creator h in
+    let q = and_parts ((b == 47) && nat_le 1 (length text)) (nat_le (length text) 35) p.0 in
+    let some = leb-true 1 (length text) (and_parts (b == 47) (nat_le 1 (length text)) q.0).1 in
+    let few = leb-true (length text) 35 q.1 in
+    carried (λ (x : Option (List ℕ)). IfSome x IsCreatorBounded) (Some text) creator p.1 (record { some = some; few = few; printable = (and_parts (is_printable b) (list_all is_printable text) l).1 })
+
+reference_bounded : (r : GivenReference) (line : List ℕ) → reference_of line ≡ Some r → IsLine line → IsReferenceBounded r
+reference_bounded r line h l =
+    let s = reference_sound line r h in
+    let n = s.numbers in
     let group = n.group_below in
     let serial = n.serial_below in
-    record { group = omega (arith, group); serial = omega (arith, serial) }
+    record { group = omega (arith, group); serial = omega (arith, serial); creator = creator_bounded (drop 14 line) r.creator s.creator_read (all_drop is_printable 14 line l.printable) }
 
 leg_bounded : (leg : LegLine) (line : List ℕ) → leg_of line ≡ Some leg → IsLegBounded leg
 leg_bounded leg line h =
@@ -115,13 +125,13 @@ IsPartBounded (EquipmentPart equipment) = IsEquipmentBounded equipment
 IsPartBounded (LegPart leg) = IsLegBounded leg
 IsPartBounded (SegmentPart segment) = IsSegmentBounded segment
 IsPartBounded Divider = Unit {0}
-IsPartBounded (FreePart line) = Unit {0}
+IsPartBounded (FreePart line) = list_all is_printable line ≡ true
 
 part_bounded : (p : Part) (line : List ℕ) → Spells p line → IsLine line → IsPartBounded p
 part_bounded (OriginatorPart originator) line h l = tt
 part_bounded (KindPart kind) line h l = tt
 part_bounded (ModePart mode) line h l = tt
-part_bounded (ReferencePart reference) line h l = reference_bounded reference line h
+part_bounded (ReferencePart reference) line h l = reference_bounded reference line h l
 part_bounded (ActionPart identifier) line h l = tt
 part_bounded (FlightPart designator) line h l = tt
 part_bounded (DatedFlightPart designator date) line h l = tt
@@ -130,7 +140,7 @@ part_bounded (EquipmentPart equipment) line h l = equipment_bounded equipment li
 part_bounded (LegPart leg) line h l = leg_bounded leg line h
 part_bounded (SegmentPart segment) line h l = segment_bounded segment line h l
 part_bounded Divider line h l = tt
-part_bounded (FreePart free) line h l = tt
+part_bounded (FreePart free) line h l = ap (list_all is_printable) (sym h) ∙ l.printable
 
 parts_bounded : (parts : List Part) (lines : List (List ℕ)) → AllZip Spells parts lines → AllByRecursion IsLine lines → AllByRecursion IsPartBounded parts
 parts_bounded [] [] h l = tt
@@ -173,6 +183,14 @@ subs_bounded : (subs : List Sub) → AllByRecursion IsPartBounded (subs_parts su
 subs_bounded [] h = tt
 subs_bounded (sub ∷ subs) h = (sub_bounded sub (all_left IsPartBounded (sub_parts sub) (later_parts subs) h), later_bounded subs (all_right IsPartBounded (sub_parts sub) (later_parts subs) h))
 
+free_lines_bounded : (lines : List (List ℕ)) → AllByRecursion IsPartBounded (map FreePart lines) → AreFreeLinesBounded lines
+free_lines_bounded [] h = tt
+free_lines_bounded (line ∷ lines) h = (h.0, free_lines_bounded lines h.1)
+
+free_bounded : (lines : List (List ℕ)) → AllByRecursion IsPartBounded (free_parts lines) → AreFreeLinesBounded lines
+free_bounded [] h = tt
+free_bounded (line ∷ lines) h = free_lines_bounded (line ∷ lines) h.1
+
 -- ---- messages
 
 all_bounded : (m : MessageValue) (text : List ℕ) (h : SpellsMessage m text) → AllByRecursion IsPartBounded h.spelled.parts
@@ -185,6 +203,14 @@ spelled_subs_bounded m text h =
     let rest = subs_parts m.subs ++ free_parts m.free in
     let whole = subst (AllByRecursion IsPartBounded) p.whole (all_bounded m text h) in
     subs_bounded m.subs (all_left IsPartBounded (subs_parts m.subs) (free_parts m.free) (all_right IsPartBounded p.front rest whole))
+
+-- the lines of free text
+pub spelled_free_bounded : (m : MessageValue) (text : List ℕ) → SpellsMessage m text → AreFreeLinesBounded m.free
+spelled_free_bounded m text h =
+    let p = h.spelled.has_parts in
+    let rest = subs_parts m.subs ++ free_parts m.free in
+    let whole = subst (AllByRecursion IsPartBounded) p.whole (all_bounded m text h) in
+    free_bounded m.free (all_right IsPartBounded (subs_parts m.subs) (free_parts m.free) (all_right IsPartBounded p.front rest whole))
 
 -- the numbers of the reference
 pub spelled_reference_bounded : (m : MessageValue) (text : List ℕ) → SpellsMessage m text → IsReferenceBounded m.reference

@@ -60,6 +60,11 @@ all_take f (suc n) (x ∷ xs) h =
     let p = and_parts (f x) (list_all f xs) h in
     and_from (f x) (list_all f (take n xs)) p.0 (all_take f n xs p.1)
 
+pub all_drop : (f : ℕ → Bool) (n : ℕ) (xs : List ℕ) → list_all f xs ≡ true → list_all f (drop n xs) ≡ true
+all_drop f zero xs h = h
+all_drop f (suc n) [] h = refl
+all_drop f (suc n) (x ∷ xs) h = all_drop f n xs (and_parts (f x) (list_all f xs) h).1
+
 -- ---- the end of a line
 
 none_or_one : (b : ℕ) (d : Bool) → is_dropped b ≡ d → without_end (if d then [] else b ∷ []) ≡ (if d then [] else b ∷ [])

@@ -1,5 +1,5 @@
 -- Which values a message has: what a caller may rely on who writes them into columns.
-use Rattle.std.specs.Prelude.{◌≡◌, ◌≤◌, true, List, length}
+use Rattle.std.specs.Prelude.{◌≡◌, ℕ, ◌≤◌, true, List, length, IfSome}
 use Rattle.std.specs.List.{AllByRecursion, list_all}
 use Rattle.ssim_values.specs.Characters.{is_letter}
 use Rattle.ssim_text.specs.declared.leg.LegLine.{LegLine}
@@ -45,7 +45,18 @@ IsActionBounded (action.Tim legs) = AllByRecursion IsLegBounded legs
 abbrev pub AreSubsBounded : List Sub → Type 0
 AreSubsBounded = AllByRecursion (λ sub. IsActionBounded sub.action)
 
--- five and three digits
+-- 1 to 35 bytes that can be printed
+pub record IsCreatorBounded (creator : List ℕ) : Type 0 where
+  pub some : 1 ≤ length creator
+  pub few : length creator ≤ 35
+  pub printable : list_all is_printable creator ≡ true
+
+-- five and three digits, and the creator's own reference
 pub record IsReferenceBounded (r : GivenReference) : Type 0 where
   pub group : r.group ≤ 99999
   pub serial : r.serial ≤ 999
+  pub creator : IfSome r.creator IsCreatorBounded
+
+-- each line can be printed
+abbrev pub AreFreeLinesBounded : List (List ℕ) → Type 0
+AreFreeLinesBounded = AllByRecursion (λ line. list_all is_printable line ≡ true)

@@ -8,8 +8,9 @@ ghost use Rattle.ssim_text.specs.Canonical.{canonical};
 
 use crate::fault::{Fault, TextFault};
 use crate::lines::{Line, first_unprintable, lines_left, number_at};
-use crate::message::{Draft, Message};
+use crate::message::{Draft, Message, encode};
 use crate::state::{State, Stop};
+use ssim_values::Memory;
 use std::alloc::Global;
 
 /// Why lines are refused: for memory, or with a fault and the index of the line.
@@ -77,6 +78,19 @@ pub fn decode(alloc: Global, text: &[u8]) -> Result<Message, TextFault>
         Err(Refusal::NoMemory) => Err(TextFault::Memory),
         Err(Refusal::Misplaced(fault, index)) => {
             Err(TextFault::Refused(fault, number_at(&lines, index)))
+        }
+    }
+}
+
+impl Message {
+    /// An equal message, or the want of memory: what its canonical text is decoded to.
+    pub fn copy(&self, alloc: Global) -> Result<Message, Memory>
+        ensures { IfOk result (λ copy. copy ≡ self.now) }
+    {
+        let text = encode(alloc, self)?;
+        match decode(alloc, &text) {
+            Ok(message) => Ok(message),
+            Err(_) => Err(Memory),
         }
     }
 }

@@ -13,7 +13,7 @@
 //! first line that cannot stand, or the line that is wanted behind the last. What `encode` writes spells its
 //! message, so `decode` gives that message back. Dates, times and designators are kept as values, so other
 //! spellings of a value are the same message; [`Message::same`] compares messages, and two are equal exactly
-//! where their canonical texts are.
+//! where their canonical texts are; [`Message::copy`] makes an equal one.
 #![tactic(auto)]
 
 mod action;

@@ -3,7 +3,7 @@ ghost use Rattle.std.specs.Prelude.{◌≡◌, IfOk};
 ghost use Rattle.ssim_text.specs.Message.{begun, with_sub, with_free};
 ghost use Rattle.ssim_text.specs.Canonical.{canonical};
 ghost use Rattle.ssim_text.specs.Grammar.{IsShape};
-ghost use Rattle.ssim_text.specs.Bounds.{AreSubsBounded, IsReferenceBounded};
+ghost use Rattle.ssim_text.specs.Bounds.{AreSubsBounded, IsReferenceBounded, AreFreeLinesBounded};
 ghost use Rattle.ssim_text.specs.Spelling.{SpellsMessage};
 
 use crate::action::Sub;
@@ -212,7 +212,8 @@ impl Message {
         self.content.mode()
     }
 
-    /// The reference as it was given: its group has five digits at most, its serial three.
+    /// The reference as it was given: its group has five digits at most, its serial three, and the creator's own
+    /// reference 1 to 35 bytes from 32 to 126.
     pub fn reference(&self) -> &GivenReference
         ensures value { result.now ≡ self.now.reference }
         ensures bounded { IsReferenceBounded self.now.reference }
@@ -230,9 +231,10 @@ impl Message {
         self.content.subs()
     }
 
-    /// The lines of free text.
+    /// The lines of free text: bytes from 32 to 126.
     pub fn free(&self) -> &[FreeLine]
-        ensures { result.now ≡ self.now.free }
+        ensures value { result.now ≡ self.now.free }
+        ensures bounded { AreFreeLinesBounded self.now.free }
     {
         self.content.free()
     }

@@ -335,6 +335,15 @@ fn other_legs_and_lines(rt: HostRuntime) -> Result<(), Fail> {
 }
 
 #[test]
+fn copies(rt: HostRuntime) -> Result<(), Fail> {
+    for text in [X2, LEGS] {
+        let message = decode(rt.alloc(), text)?;
+        assert!(rt; message.copy(rt.alloc())?.same(&message));
+    }
+    Ok(())
+}
+
+#[test]
 fn pairs_of_points(rt: HostRuntime) -> Result<(), Fail> {
     let message = decode(rt.alloc(), LEGS)?;
     let zrh = Station::parse(b"ZRH")?;
