@@ -4,3 +4,4 @@ pub mod Request
 pub mod Files
 pub mod Refusal
 pub mod Printed
+pub mod Made

@@ -1,7 +1,9 @@
 //! Why a command was refused, as it is printed.
-ghost use Rattle.std.specs.Prelude.{Some};
-ghost use Rattle.ssim_program.specs.Refusal.{refusal_text};
+ghost use Rattle.std.specs.Prelude.{◌≡◌, Some};
+ghost use Rattle.ssim_program.specs.Refusal.{refusal_at, refusal_of_base, refusal_of_record, refusal_text};
 
+use ssim_records::RecordFault;
+use ssim_schedule::{BaseFault, BaseRefusal};
 use ssim_values::Designator;
 use std::fmt;
 
@@ -89,5 +91,55 @@ impl fmt::Display for Refusal<'_> {
             Refusal::Memory => write!(f, "refused 90 Memory"),
             Refusal::File { name } => write!(f, "refused 91 File {name}"),
         }
+    }
+}
+
+impl From<BaseFault> for Refusal<'_> {
+    ghost from_gives = { λ fault refusal. refusal ≡ refusal_of_base fault };
+
+    fn from(fault: BaseFault) -> Self {
+        match fault {
+            BaseFault::Memory => Refusal::Memory,
+            BaseFault::Read(fault) => unread(fault),
+            BaseFault::Refused(record, why) => refused_at(record, why),
+        }
+    }
+}
+
+// The record cannot be read.
+fn unread<'a>(fault: RecordFault) -> Refusal<'a>
+    ensures { result ≡ refusal_of_record fault }
+{
+    match fault {
+        RecordFault::Short(record) => Refusal::Short { record },
+        RecordFault::BadType(record) => Refusal::BadType { record },
+        RecordFault::BadColumn(record, column) => Refusal::BadColumn {
+            record,
+            column: column as u64,
+        },
+        RecordFault::ReadFault(record) => Refusal::ReadFault { record },
+        RecordFault::ReaderNeverEnds(record) => Refusal::ReaderNeverEnds { record },
+    }
+}
+
+// The record cannot stand where it does.
+fn refused_at<'a>(number: u64, why: BaseRefusal) -> Refusal<'a>
+    ensures { result ≡ refusal_at number why }
+{
+    match why {
+        BaseRefusal::BadType => Refusal::BadType { record: number },
+        BaseRefusal::OpenEnd => Refusal::BadColumn {
+            record: number,
+            column: 22,
+        },
+        BaseRefusal::NoHeader => Refusal::NoHeader { record: number },
+        BaseRefusal::NoCarrier => Refusal::NoCarrier { record: number },
+        BaseRefusal::NoTrailer => Refusal::NoTrailer { record: number },
+        BaseRefusal::OtherAirline => Refusal::OtherAirline { record: number },
+        BaseRefusal::Overlap => Refusal::Overlap { record: number },
+        BaseRefusal::Segment => Refusal::Segment { record: number },
+        BaseRefusal::Overflow => Refusal::Overflow { record: number },
+        BaseRefusal::Frequency => Refusal::Frequency { record: number },
+        BaseRefusal::Continuation => Refusal::Continuation { record: number },
     }
 }

@@ -1,0 +1,8 @@
+-- What is left of the lines is left of the file's lines.
+use Rattle.ssim_program.proofs.Leaving.{leaves_check}
+use Rattle.ssim_program.proofs.check.check.Goals as goal
+
+pub returns-clause-refused : goal.returns-clause-refused
+returns-clause-refused g c =
+    leaves_check (g.S.Store.files c.args.store.now) c.args.name.now c.in-Ok.read.base.records c.in-Ok.read.notes.items c.deref.result.now c.in-Ok-lines_on.lines.items (g.O.Write.contents c.args.out.now) (g.O.Write.contents c.print.new.out)
+    c.in-Ok.ensures.read c.in-Ok-lines_on.ensures c.deref.ensures.value c.in-Err-print.ensures.err

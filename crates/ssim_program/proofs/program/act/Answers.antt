@@ -1,0 +1,16 @@
+-- The request is the command's.
+use Rattle.std.proofs.Common.{sym, subst, OnErr}
+use Rattle.ssim_program.specs.Made.{Leaves}
+use Rattle.ssim_program.specs.Request.{line_of}
+use Rattle.ssim_program.specs.declared.command_line.Request.{Request}
+use Rattle.ssim_program.proofs.program.act.Goals as goal
+
+pub returns-in-Check-clause-refused : goal.returns-in-Check-clause-refused
+returns-in-Check-clause-refused g c =
+    subst (λ (r : Request). OnErr c.check.result (Leaves (line_of r) (g.S.Store.files c.args.store.now) (g.O.Write.contents c.args.out.now) (g.O.Write.contents c.check.new.out)))
+    (sym c.in-Check.is) c.check.ensures.refused
+
+pub returns-in-Tidy-clause-refused : goal.returns-in-Tidy-clause-refused
+returns-in-Tidy-clause-refused g c =
+    subst (λ (r : Request). OnErr c.tidy.result (Leaves (line_of r) (g.S.Store.files c.args.store.now) (g.O.Write.contents c.args.out.now) (g.O.Write.contents c.tidy.new.out)))
+    (sym c.in-Tidy.is) c.tidy.ensures.refused

@@ -1,0 +1,90 @@
+-- What the commands make of a data set, and what `out` holds then.
+use Rattle.std.specs.Prelude.{◌≡◌, ◌⊎◌, ℕ, ◌<◌, IfSome, List, ◌++◌, codes, length, Option, Some, Ok, Err}
+use Rattle.std.specs.List.{flat_map}
+use Rattle.std.specs.Io.KnownBytes.{Appends, Keeps}
+use Rattle.ssim_values.specs.Flight.{FlightNumber}
+use Rattle.ssim_records.specs.declared.record.Record.{Record}
+use Rattle.ssim_schedule.specs.Base.{Outcome}
+use Rattle.ssim_schedule.specs.BaseSeen.{AreFlights}
+use Rattle.ssim_schedule.specs.Export.{Frame, chapter7, line}
+use Rattle.ssim_schedule.specs.ReadBack.{HasFrame}
+use Rattle.ssim_schedule.specs.Reading.{IsReadAs}
+use Rattle.ssim_schedule.specs.Sinks.{TakesFront}
+use Rattle.ssim_schedule.specs.Timetable.{days_of}
+use Rattle.ssim_schedule.specs.declared.fault.BaseFault.{BaseFault}
+use Rattle.ssim_schedule.specs.declared.note.Note.{Note}
+use Rattle.ssim_schedule.specs.declared.note.Note.TheVariants as note
+use Rattle.ssim_program.specs.Files.{Files, file_of}
+use Rattle.ssim_program.specs.Line.{Line, Text, Check, Tidy}
+use Rattle.ssim_program.specs.Printed.{printed_text}
+use Rattle.ssim_program.specs.Refusal.{refusal_of_base, refusal_text}
+use Rattle.ssim_program.specs.declared.refusal.Refusal.{Refusal}
+use Rattle.ssim_program.specs.declared.refusal.Refusal.TheVariants as refused
+use Rattle.ssim_program.specs.declared.printed.Printed.{Printed}
+use Rattle.ssim_program.specs.declared.printed.Printed.TheVariants as printed
+
+-- ---- what is made of a base
+
+-- the bytes are the canonical export of these records
+abbrev pub IsExportOf : List Record → List ℕ → Type 0
+IsExportOf base bytes = (frame : Frame) × HasFrame frame base × (chapter7 frame (days_of base) ≡ Ok bytes)
+
+abbrev pub as_printed : Note → Printed
+as_printed (note.Serial n) = printed.SerialNote n
+as_printed (note.CheckReference n) = printed.CheckReferenceNote n
+
+abbrev pub note_line : Note → List ℕ
+note_line n = line (printed_text (as_printed n))
+
+-- a line for each note, in order, and the summary: records other than fill, distinct flights, notes
+abbrev pub checked_lines : List Record → List FlightNumber → List Note → List ℕ
+checked_lines base flights notes =
+    flat_map note_line notes ++ line (printed_text (printed.Summary (length base) (length flights) (length notes)))
+
+-- the bytes are those lines
+abbrev pub AreLinesOn : List Record → List Note → List ℕ → Type 0
+AreLinesOn base notes bytes = (flights : List FlightNumber) × AreFlights base flights × (bytes ≡ checked_lines base flights notes)
+
+-- ---- what is made of a file
+
+-- the most bytes that a file may have
+abbrev pub file_limit : ℕ
+file_limit = 268435456
+
+-- the file of this name has these bytes, where the files are known
+abbrev pub HasFile : Option Files → Text → List ℕ → Type 0
+HasFile files name bytes = IfSome files (λ all. file_of all name ≡ Some bytes)
+
+-- the data set in the file of this name is read as this
+abbrev pub ReadsFile : Option Files → Text → Outcome → Type 0
+ReadsFile files name outcome = (bytes : List ℕ) × HasFile files name bytes × IsReadAs file_limit bytes outcome
+
+-- Why no base is read of it: memory is wanted; or there is no such file within the limit; or the data set is refused.
+abbrev pub RefusesFile : Option Files → Text → Refusal → Type 0
+RefusesFile files name refusal =
+    (refusal ≡ refused.Memory)
+    ⊎ ((refusal_text refusal ≡ codes "refused 91 File " ++ name) × IfSome files (λ all. IfSome (file_of all name) (λ bytes. file_limit < length bytes)))
+    ⊎ ((fault : BaseFault) × (refusal ≡ refusal_of_base fault) × ReadsFile files name (Err fault))
+
+-- these are the bytes that a command makes of the files
+abbrev pub Makes : Line → Option Files → List ℕ → Type 0
+Makes (Check name) files bytes = (base : List Record) × (notes : List Note) × ReadsFile files name (Ok (base, notes)) × AreLinesOn base notes bytes
+Makes (Tidy name) files bytes = (base : List Record) × (notes : List Note) × ReadsFile files name (Ok (base, notes)) × IsExportOf base bytes
+
+-- ---- what `out` holds
+
+-- it has grown by exactly the export of these records
+abbrev pub Exports : List Record → Option (List ℕ) → Option (List ℕ) → Type 0
+Exports base before after = (bytes : List ℕ) × IsExportOf base bytes × Appends before after bytes
+
+-- it is as it was, or took a front of the export
+abbrev pub LeavesExport : List Record → Option (List ℕ) → Option (List ℕ) → Type 0
+LeavesExport base before after = Keeps before after ⊎ ((bytes : List ℕ) × IsExportOf base bytes × TakesFront bytes before after)
+
+-- it has grown by exactly what the command makes
+abbrev pub Writes : Line → Option Files → Option (List ℕ) → Option (List ℕ) → Type 0
+Writes line files before after = (bytes : List ℕ) × Makes line files bytes × Appends before after bytes
+
+-- it is as it was; or it failed, and took a front of what the command makes
+abbrev pub Leaves : Line → Option Files → Option (List ℕ) → Option (List ℕ) → Type 0
+Leaves line files before after = Keeps before after ⊎ ((bytes : List ℕ) × Makes line files bytes × TakesFront bytes before after)

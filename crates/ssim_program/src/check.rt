@@ -1,0 +1,77 @@
+//! The command `check`: notes on a data set, and a summary.
+
+ghost use Rattle.std.specs.Prelude.{◌≡◌, ◌++◌, IfOk, OnErr, OnOk, length};
+ghost use Rattle.ssim_schedule.specs.Export.{line};
+ghost use Rattle.ssim_program.specs.Line.{Check};
+ghost use Rattle.ssim_program.specs.Made.{AreLinesOn, Leaves, Writes, as_printed};
+ghost use Rattle.ssim_program.specs.Printed.{printed_text};
+
+use crate::data_set::load;
+use crate::printed::Printed;
+use crate::refusal::Refusal;
+use crate::store::Store;
+use crate::writing::print;
+use ssim_schedule::{BaseRead, Note};
+use ssim_values::Memory;
+use std::alloc::Global;
+use std::io::Write;
+
+/// Prints the notes on the data set in the file of this name, and a summary.
+pub(crate) fn check<'n, S: Store, O: Write>(
+    alloc: Global,
+    name: &'n str,
+    store: &mut S,
+    out: &mut O,
+) -> Result<(), Refusal<'n>>
+    ensures done { OnOk result (Writes (Check name.entry.now) (S.files store.old) (O.contents out.old) (O.contents out.new)) }
+    ensures refused { OnErr result (Leaves (Check name.entry.now) (S.files store.old) (O.contents out.old) (O.contents out.new)) }
+    ensures same { S.files store.new ≡ S.files store.old }
+{
+    let read = match load(alloc, name, store) {
+        Ok(read) => read,
+        Err(refusal) => return Err(refusal),
+    };
+    let Ok(lines) = lines_on(alloc, &read) else {
+        return Err(Refusal::Memory);
+    };
+    match print(out, &lines) {
+        Ok(()) => Ok(()),
+        Err(_) => Err(Refusal::WriteFault),
+    }
+}
+
+/// A line for each note, in order, and the summary.
+fn lines_on(alloc: Global, read: &BaseRead) -> Result<Vec<u8>, Memory>
+    ensures { IfOk result (λ lines. AreLinesOn read.now.base.records read.now.notes.items lines.items) }
+{
+    let mut lines = Vec::new(alloc);
+    for note in &read.notes {
+        add_line(&mut lines, printed_note(*note))?;
+    }
+    let summary = Printed::Summary {
+        records: read.base.records().len(),
+        flights: read.base.flights().len(),
+        notes: read.notes.len(),
+    };
+    add_line(&mut lines, summary)?;
+    Ok(lines)
+}
+
+fn printed_note(note: Note) -> Printed
+    ensures { result ≡ as_printed note }
+{
+    match note {
+        Note::Serial(number) => Printed::SerialNote { record: number },
+        Note::CheckReference(number) => Printed::CheckReferenceNote { record: number },
+    }
+}
+
+/// A printed line behind the others.
+fn add_line(lines: &mut Vec<u8>, printed: Printed) -> Result<(), Memory>
+    ensures { OnOk result (lines.new.items ≡ lines.old.items ++ line (printed_text printed)) }
+{
+    match writeln!(lines, "{printed}") {
+        Ok(()) => Ok(()),
+        Err(_) => Err(Memory),
+    }
+}

@@ -1,0 +1,101 @@
+//! The program, from its words to its status.
+
+ghost use Rattle.std.specs.Prelude.{◌≡◌, ◌≤◌, ◌++◌, ◌∷◌, [], OnErr, OnOk, map};
+ghost use Rattle.std.specs.Io.KnownBytes.{Appends, Keeps};
+ghost use Rattle.ssim_program.specs.Line.{Line, Spells};
+ghost use Rattle.ssim_program.specs.Made.{Leaves, Writes};
+ghost use Rattle.ssim_program.specs.Refusal.{refusal_text};
+ghost use Rattle.ssim_program.specs.Request.{line_of};
+
+use crate::check::check;
+use crate::command_line::{LineFault, Request, parse};
+use crate::refusal::Refusal;
+use crate::store::Store;
+use crate::tidy::tidy;
+use std::alloc::Global;
+use std::io;
+use std::io::Write;
+
+/// Runs the program on its words, the first of which is its own name, and answers its status: 0 where the command was
+/// done, or help was asked for; 1 where it was refused; 2 where the words name no command.
+///
+/// What a command prints goes to `out`, why it was refused to `err`, as a line. Where `out` fails, it has taken a front of
+/// what was printed. A failure of `err` changes nothing.
+pub fn run<S: Store, O: Write, E: Write>(
+    alloc: Global,
+    words: &[&str],
+    store: &mut S,
+    out: &mut O,
+    err: &mut E,
+) -> u8
+    ensures status { result ≤ 2 }
+
+    // The words of a command are no fault of the command line.
+    ensures known { (line : Line) → Spells (map (λ w. w.now) words.now) line → result ≤ 1 }
+
+    // What was done: exactly what the command makes of the file was written, and nothing else.
+    ensures done { (line : Line) → Spells (map (λ w. w.now) words.now) line → result ≡ 0 → Writes line (S.files store.old) (O.contents out.old) (O.contents out.new) }
+    ensures quiet { (line : Line) → Spells (map (λ w. w.now) words.now) line → result ≡ 0 → Keeps (E.contents err.old) (E.contents err.new) }
+
+    // A refusal wrote nothing to `out`, unless `out` itself failed.
+    ensures refused { (line : Line) → Spells (map (λ w. w.now) words.now) line → result ≡ 1 → Leaves line (S.files store.old) (O.contents out.old) (O.contents out.new) }
+    ensures files { S.files store.new ≡ S.files store.old }
+{
+    match parse(alloc, words) {
+        Ok(request) => match act(alloc, request, store, out) {
+            Ok(()) => 0,
+            Err(refusal) => refuse(&refusal, err),
+        },
+        Err(LineFault::Memory) => refuse(&Refusal::Memory, err),
+        Err(LineFault::Shown(error)) => show(&error, out, err),
+        Err(LineFault::NoCommand) => {
+            let _ = writeln!(err, "error: the words name no command");
+            2
+        }
+    }
+}
+
+/// Does what a command asks.
+fn act<'n, S: Store, O: Write>(
+    alloc: Global,
+    request: Request<'n>,
+    store: &mut S,
+    out: &mut O,
+) -> Result<(), Refusal<'n>>
+    ensures done { OnOk result (Writes (line_of request.entry) (S.files store.old) (O.contents out.old) (O.contents out.new)) }
+    ensures refused { OnErr result (Leaves (line_of request.entry) (S.files store.old) (O.contents out.old) (O.contents out.new)) }
+    ensures same { S.files store.new ≡ S.files store.old }
+{
+    match request {
+        Request::Check(name) => check(alloc, name, store, out),
+        Request::Tidy(name) => tidy(alloc, name, store, out),
+    }
+}
+
+/// Prints why a command was refused. A failure of `err` changes nothing.
+fn refuse<E: Write>(refusal: &Refusal<'_>, err: &mut E) -> u8
+    ensures { result ≡ 1 }
+{
+    let _ = print_refusal(refusal, err);
+    1
+}
+
+fn print_refusal<E: Write>(refusal: &Refusal<'_>, err: &mut E) -> io::Result<()>
+    ensures { OnOk result (Appends (E.contents err.old) (E.contents err.new) (refusal_text refusal.now ++ 10 ∷ [])) }
+{
+    writeln!(err, "{refusal}")
+}
+
+/// Prints what `clap` has to say: help on `out`, with status 0, and all else on `err`, with 2.
+fn show<O: Write, E: Write>(error: &clap::Error, out: &mut O, err: &mut E) -> u8
+    ensures { result ≤ 2 }
+{
+    if error.use_stderr() {
+        let _ = write!(err, "{error}");
+        return 2;
+    }
+    if write!(out, "{error}").is_err() || out.flush().is_err() {
+        return refuse(&Refusal::WriteFault, err);
+    }
+    0
+}

@@ -1,0 +1,93 @@
+//! The command `tidy`: the canonical export of a data set.
+
+ghost use Rattle.std.specs.Prelude.{◌≡◌, OnErr, OnOk};
+ghost use Rattle.ssim_program.specs.Made.{Exports, Leaves, LeavesExport, Writes};
+ghost use Rattle.ssim_program.specs.Line.{Tidy};
+ghost use Rattle.ssim_program.specs.Refusal.{refusal_of_export};
+
+use crate::data_set::load;
+use crate::refusal::Refusal;
+use crate::store::Store;
+use crate::writing::Writing;
+use ssim_records::Sink;
+use ssim_schedule::laws::export_reads_back;
+use ssim_schedule::{Base, BaseRead, ExportFault, Schedule};
+use ssim_values::{Airline, Designator};
+use std::alloc::Global;
+use std::io::Write;
+
+/// Writes the canonical export of the data set in the file of this name.
+pub(crate) fn tidy<'n, S: Store, O: Write>(
+    alloc: Global,
+    name: &'n str,
+    store: &mut S,
+    out: &mut O,
+) -> Result<(), Refusal<'n>>
+    ensures done { OnOk result (Writes (Tidy name.entry.now) (S.files store.old) (O.contents out.old) (O.contents out.new)) }
+    ensures refused { OnErr result (Leaves (Tidy name.entry.now) (S.files store.old) (O.contents out.old) (O.contents out.new)) }
+    ensures same { S.files store.new ≡ S.files store.old }
+{
+    match load(alloc, name, store) {
+        Ok(BaseRead { base, .. }) => match export(&base, out) {
+            Ok(()) => Ok(()),
+            Err(fault) => Err(refusal_of(fault, base.airline())),
+        },
+        Err(refusal) => Err(refusal),
+    }
+}
+
+/// Writes the canonical export of a base, and then wants it written on.
+fn export<O: Write>(base: &Base, out: &mut O) -> Result<(), ExportFault>
+    ensures ok { OnOk result (Exports base.now.records (O.contents out.old) (O.contents out.new)) }
+    ensures err { OnErr result (LeavesExport base.now.records (O.contents out.old) (O.contents out.new)) }
+{
+    put_export(base, out)?;
+    match out.flush() {
+        Ok(()) => Ok(()),
+        Err(_) => Err(ExportFault::WriteFault),
+    }
+}
+
+/// Writes the canonical export of a base.
+fn put_export<O: Write>(base: &Base, out: &mut O) -> Result<(), ExportFault>
+    ensures ok { OnOk result (Exports base.now.records (O.contents out.old) (O.contents out.new)) }
+    ensures err { OnErr result (LeavesExport base.now.records (O.contents out.old) (O.contents out.new)) }
+{
+    let mut sink = Writing {
+        writer: out,
+        failures: 0,
+    };
+    let exported = export_into(base, &mut sink);
+    let Writing {
+        writer,
+        failures: _,
+    } = sink;
+    // No effect at run time. The proof reads what `out` holds from this use of `writer`.
+    let _ = &*writer;
+    exported
+}
+
+/// Makes the timetable of a base, and puts its canonical export.
+fn export_into<W: Sink>(base: &Base, out: &mut W) -> Result<(), ExportFault>
+    ensures ok { OnOk result (Exports base.now.records (W.taken out.old) (W.taken out.new)) }
+    ensures err { OnErr result (LeavesExport base.now.records (W.taken out.old) (W.taken out.new)) }
+    ensures device { W.device out.new ≡ W.device out.old }
+{
+    export_reads_back();
+    let schedule = Schedule::of(base)?;
+    schedule.export(base, out)
+}
+
+/// The refusal of an export of this airline's flights.
+fn refusal_of<'n>(fault: ExportFault, airline: Airline) -> Refusal<'n>
+    ensures { result ≡ refusal_of_export airline fault }
+{
+    match fault {
+        ExportFault::Variations(flight) => Refusal::Variations {
+            flight: Designator { airline, flight },
+        },
+        ExportFault::Records => Refusal::Records,
+        ExportFault::WriteFault => Refusal::WriteFault,
+        ExportFault::Memory => Refusal::Memory,
+    }
+}

@@ -1,0 +1,81 @@
+//! A store whose files are the system's, with `-` as the standard input.
+
+ghost use Rattle.std.specs.Prelude.{◌≤◌, IfOk, length};
+
+use ssim_program::{Store, StoreFault};
+use std::alloc::Global;
+use std::fs;
+use std::fs::OpenFile;
+use std::io::{Error, ErrorKind, Read};
+use std::rt::Files;
+
+/// The files of the system. The name `-` is the standard input, and nothing is kept under it.
+#[derive(Drop)]
+pub struct FileStore<'r, R> {
+    rt: &'r R,
+}
+
+impl<'r, R> FileStore<'r, R> {
+    pub fn new(rt: &'r R) -> Self {
+        FileStore { rt }
+    }
+}
+
+fn fault_of(error: &Error) -> StoreFault {
+    match error.kind() {
+        ErrorKind::OutOfMemory => StoreFault::Memory,
+        _ => StoreFault::Fault,
+    }
+}
+
+/// All that the reader has, where that is no more than `limit` bytes. Room for `expected` bytes is made at once, and more
+/// where more come.
+fn read_within<R: Read + Drop>(
+    alloc: Global,
+    reader: R,
+    expected: u64,
+    limit: u64,
+) -> Result<Vec<u8>, StoreFault>
+    ensures { IfOk result (λ v. length v.items ≤ limit) }
+{
+    let room = expected.min(limit).saturating_add(1);
+    let Ok(mut bytes) = Vec::with_capacity(alloc, room as usize) else {
+        return Err(StoreFault::Memory);
+    };
+    let mut within = reader.take(limit.saturating_add(1));
+    if let Err(error) = within.read_to_end(&mut bytes) {
+        return Err(fault_of(&error));
+    }
+    if bytes.len() as u64 > limit {
+        return Err(StoreFault::Fault);
+    }
+    Ok(bytes)
+}
+
+impl<R: Files + Input> Store for FileStore<'_, R> {
+    fn load(&mut self, alloc: Global, name: &str, limit: u64) -> Result<Vec<u8>, StoreFault> {
+        if name == "-" {
+            return read_within(alloc, self.rt.reader(), 0, limit);
+        }
+        match fs::open(self.rt, name) {
+            Ok(file) => {
+                let expected = match file.metadata() {
+                    Ok(metadata) => metadata.len(),
+                    Err(_) => 0,
+                };
+                read_within(alloc, file, expected, limit)
+            }
+            Err(error) => Err(fault_of(&error)),
+        }
+    }
+
+    fn keep(&mut self, name: &str, bytes: &[u8]) -> Result<(), StoreFault> {
+        if name == "-" {
+            return Err(StoreFault::Fault);
+        }
+        match fs::write(self.rt, name, bytes) {
+            Ok(()) => Ok(()),
+            Err(error) => Err(fault_of(&error)),
+        }
+    }
+}
