@@ -13,6 +13,7 @@ pub mod Places
 pub mod Planning
 pub mod Puts
 pub mod ReadOnce
+pub mod SameTails
 pub mod Serials
 pub mod Stands
 pub mod StationLines
