@@ -26,3 +26,4 @@ pub mod ReadingLemmas
 pub mod FlightLists
 pub mod BaseFrame
 pub mod Unflown
+pub mod ReadBackBy

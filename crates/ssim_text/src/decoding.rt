@@ -2,7 +2,8 @@
 ghost use Rattle.std.specs.Prelude.{◌≡◌, ◌≤◌, ℕ, length, map, IfOk, IfErr};
 ghost use Rattle.ssim_text.specs.Message.{MessageValue};
 ghost use Rattle.ssim_text.specs.Grammar.{SpellsText};
-ghost use Rattle.ssim_text.specs.Decoding.{IsRefusal, IsPlace, IsTooManyAtOne, NoMessage, SpellsMessage};
+ghost use Rattle.ssim_text.specs.Decoding.{IsRefusal, IsPlace, IsTooManyAtOne, NoMessage};
+ghost use Rattle.ssim_text.specs.Spelling.{SpellsMessage, IsSpelledWhereShort};
 ghost use Rattle.ssim_text.specs.Canonical.{canonical};
 
 use crate::fault::{Fault, TextFault};
@@ -39,8 +40,9 @@ fn read_lines(alloc: Global, lines: &[Line]) -> Result<Draft, Refusal>
     }
 }
 
-/// The message that the lines spell, if its canonical text is not too long.
+/// The message of what was read, if its canonical text is not too long.
 fn finished(alloc: Global, draft: Draft) -> Result<Message, TextFault>
+    requires { IsSpelledWhereShort draft }
     ensures ok { IfOk result (λ m. (m ≡ draft) × (length (canonical draft) ≤ 65536)) }
     ensures err { IfErr result (λ fault. IsTooManyAtOne draft fault) }
 {
