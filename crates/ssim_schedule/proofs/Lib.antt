@@ -22,6 +22,7 @@ pub mod Valid
 pub mod SinkLemmas
 pub mod Whole
 pub mod KeptLemmas
+pub mod ReadingBack
 pub mod ReadingLemmas
 pub mod FlightLists
 pub mod BaseFrame
