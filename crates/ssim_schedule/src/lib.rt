@@ -30,6 +30,8 @@ mod schedule;
 mod station_tests;
 mod stations;
 mod taken;
+#[cfg(test)]
+mod tests;
 mod waiting;
 
 pub use base::{Base, BaseRead};
