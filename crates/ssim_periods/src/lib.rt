@@ -27,6 +27,7 @@ mod periods;
 #[cfg(test)]
 mod plain_tests;
 mod rows;
+mod shared;
 #[cfg(test)]
 mod tests;
 mod value;

@@ -19,12 +19,12 @@ use std::marker::Model;
 #[derive(Drop)]
 pub struct Periods<V: Value> {
     /// The values by weekday up to the first cut.
-    before: [V; 7],
+    pub(crate) before: [V; 7],
     /// The days at which a range begins, or the day after the calendar.
-    cuts: Vec<u32>,
+    pub(crate) cuts: Vec<u32>,
     /// For each cut the values by weekday from it to the next.
-    rows: Vec<[V; 7]>,
-    alloc: Global,
+    pub(crate) rows: Vec<[V; 7]>,
+    pub(crate) alloc: Global,
 }
 
 impl<V: Value> Model for Periods<V> {

@@ -122,6 +122,7 @@ fn periods_over_numbers(rt: HostRuntime) -> Result<(), Fail> {
     let wanted = [(*b"01JUL25", *b"01JUL25", *b" 2     ", 7)];
     assert!(rt; has_pieces(&periods, &wanted)?);
     assert!(rt; has_pieces(&periods.copy()?, &wanted)?);
+    assert!(rt; has_pieces(&periods.shared()?, &wanted)?);
     Ok(())
 }
 

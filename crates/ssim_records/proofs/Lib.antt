@@ -17,3 +17,4 @@ pub mod AnyRecord
 pub mod Lines
 pub mod Readings
 pub mod FrameLaws
+pub mod Examples

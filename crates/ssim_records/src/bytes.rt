@@ -1,6 +1,9 @@
 //! A sink that keeps its bytes.
 
-ghost use Rattle.std.specs.Prelude.{◌≡◌, [], Some};
+ghost use Rattle.std.specs.Prelude.{◌≡◌, [], Some, length, IfOk, IfErr};
+ghost use Rattle.std.specs.Io.{WritesAtMost};
+ghost use Rattle.std.specs.Io.KnownBytes.{WriteAppends};
+ghost use Rattle.ssim_records.specs.Device.{CountsPut};
 
 use crate::device::{DeviceFault, Sink};
 use std::alloc::Global;
@@ -47,7 +50,15 @@ impl Sink for Bytes {
 
     ghost failures = { λ s. s.failures };
 
-    fn put(&mut self, bytes: &[u8]) -> Result<usize, DeviceFault> {
+    fn put(&mut self, bytes: &[u8]) -> Result<usize, DeviceFault>
+        ensures bound { WritesAtMost result bytes.now }
+        ensures bytes { WriteAppends (Some self.old.bytes) (Some self.new.bytes) result bytes.now }
+        ensures failures { CountsPut self.old.failures self.new.failures result bytes.now }
+
+        // It takes all, or memory was refused.
+        ensures all { IfOk result (λ n. n ≡ length bytes.now) }
+        ensures memory { IfErr result (λ fault. fault ≡ DeviceFault.Memory) }
+    {
         match self.bytes.extend_from_slice(bytes) {
             Ok(()) => Ok(bytes.len()),
             Err(_) => {

@@ -1,6 +1,6 @@
 //! Carrier records, type 2.
 
-ghost use Rattle.std.specs.Prelude.{◌≡◌, ◌<◌, ◌∷◌, [], None, Ok, IfOk, IfErr, Some, IsTrue};
+ghost use Rattle.std.specs.Prelude.{◌≡◌, ◌<◌, ◌∷◌, [], None, Ok, IfOk, IfErr, Some, IsTrue, slice_range};
 ghost use Rattle.std.specs.List.{list_all};
 ghost use Rattle.ssim_values.specs.Calendar.{day_limit};
 ghost use Rattle.ssim_records.specs.declared.field.Kind.TheVariants.{Carried, Mode};
@@ -11,7 +11,7 @@ ghost use Rattle.ssim_records.specs.Carrier.{CarrierFields, IsCarrier, SpellsCar
 use crate::columns::{
     airline_at, created_at, details_at, digits_at, first_day_at, join, last_day_at,
 };
-use crate::field::{Field, Kind, first_fault, time_mode_of};
+use crate::field::{Field, Kind, first_fault, three, time_mode_of};
 use crate::leg::end_text;
 use crate::number::six_digits;
 use ssim_values::{Airline, Day};
@@ -151,6 +151,20 @@ impl Carrier {
         self.airline
     }
 
+    /// Columns 11 to 13: the season, carried.
+    pub fn season(&self) -> [u8; 3]
+        ensures { result ≡ slice_range self.now.season 5 8 }
+    {
+        three(&self.season[5..8])
+    }
+
+    /// Columns 6 to 14, carried: the season and the columns beside it.
+    pub fn columns_6_to_14(&self) -> [u8; 9]
+        ensures { result ≡ self.now.season }
+    {
+        self.season
+    }
+
     /// The first day of the validity.
     pub fn first(&self) -> Day
         ensures { result ≡ self.now.first }
@@ -171,6 +185,13 @@ impl Carrier {
         ensures { result ≡ self.now.created }
     {
         self.created
+    }
+
+    /// Columns 36 to 194, carried.
+    pub fn details(&self) -> [u8; 159]
+        ensures { result ≡ self.now.details }
+    {
+        self.details
     }
 
     /// The serial that the record had.

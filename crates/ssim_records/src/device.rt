@@ -1,6 +1,6 @@
 //! Where bytes come from, and where they go.
 
-ghost use Rattle.std.specs.Prelude.{◌≡◌, List, ℕ, Option, Some};
+ghost use Rattle.std.specs.Prelude.{◌≡◌, List, ℕ, Option, Some, Ok, length, min};
 ghost use Rattle.std.specs.Io.{ReadsAtMost, WritesAtMost};
 ghost use Rattle.std.specs.Io.KnownBytes.{ReadConsumes, WriteAppends};
 ghost use Rattle.ssim_records.specs.Device.{CountsBytes, CountsFailure, CountsPut};
@@ -62,7 +62,14 @@ impl<'a> Source for &'a [u8] {
 
     ghost failures = { λ _. 0 };
 
-    fn fetch(&mut self, into: &mut [u8]) -> Result<usize, DeviceFault> {
+    fn fetch(&mut self, into: &mut [u8]) -> Result<usize, DeviceFault>
+        ensures bound { ReadsAtMost result into.new }
+        ensures bytes { ReadConsumes (Some self.old.now) (Some self.new.now) result into.new }
+        ensures failures { CountsFailure 0 0 result }
+
+        // It gives as many as there is room for.
+        ensures all { result ≡ Ok (min (length self.old.now) (length into.old)) }
+    {
         let n = self.len().min(into.len());
         let (front, rest) = self.split_at(n);
         into[..n].copy_from_slice(front);

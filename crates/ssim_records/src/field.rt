@@ -135,7 +135,7 @@ fn five(text: &[u8]) -> [u8; 5]
     bytes
 }
 
-fn seven(text: &[u8]) -> [u8; 7]
+pub fn seven(text: &[u8]) -> [u8; 7]
     requires { length text.now ≡ 7 }
     ensures { result ≡ text.now }
 {

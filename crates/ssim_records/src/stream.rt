@@ -1,6 +1,9 @@
 //! Std's readers and writers as devices. Their bytes are not told.
 
-ghost use Rattle.std.specs.Prelude.{None};
+ghost use Rattle.std.specs.Prelude.{◌≡◌, None};
+ghost use Rattle.std.specs.Io.{ReadsAtMost, WritesAtMost};
+ghost use Rattle.std.specs.Io.KnownBytes.{ReadConsumes, WriteAppends};
+ghost use Rattle.ssim_records.specs.Device.{CountsBytes, CountsFailure, CountsPut};
 
 use crate::device::{DeviceFault, Sink, Source};
 use std::io::{Read, Write};
@@ -14,8 +17,12 @@ pub struct Input<R> {
 }
 
 impl<R: Read> Input<R> {
-    /// A source of what the reader gives. It takes no memory.
-    pub fn new(reader: R) -> Input<R> {
+    /// A source of what the reader gives, of which nothing came yet. It takes no memory.
+    pub fn new(reader: R) -> Input<R>
+        ensures reader { result.reader ≡ reader }
+        ensures came { result.came ≡ 0 }
+        ensures failures { result.failures ≡ 0 }
+    {
         Input {
             reader,
             came: 0,
@@ -31,7 +38,14 @@ impl<R: Read> Source for Input<R> {
 
     ghost failures = { λ s. s.failures };
 
-    fn fetch(&mut self, into: &mut [u8]) -> Result<usize, DeviceFault> {
+    fn fetch(&mut self, into: &mut [u8]) -> Result<usize, DeviceFault>
+        ensures bound { ReadsAtMost result into.new }
+        ensures count { CountsBytes None None self.old.came self.new.came result }
+        ensures failures { CountsFailure self.old.failures self.new.failures result }
+
+        // Where the reader tells its bytes, these are given.
+        ensures reader { ReadConsumes (R.remaining self.old.reader) (R.remaining self.new.reader) result into.new }
+    {
         match self.reader.read(into) {
             Ok(n) => {
                 self.came = self.came.wrapping_add(n as u128);
@@ -54,7 +68,10 @@ pub struct Output<W> {
 
 impl<W: Write> Output<W> {
     /// A sink that hands its bytes to the writer. It takes no memory.
-    pub fn new(writer: W) -> Output<W> {
+    pub fn new(writer: W) -> Output<W>
+        ensures writer { result.writer ≡ writer }
+        ensures failures { result.failures ≡ 0 }
+    {
         Output {
             writer,
             failures: 0,
@@ -67,7 +84,13 @@ impl<W: Write> Sink for Output<W> {
 
     ghost failures = { λ s. s.failures };
 
-    fn put(&mut self, bytes: &[u8]) -> Result<usize, DeviceFault> {
+    fn put(&mut self, bytes: &[u8]) -> Result<usize, DeviceFault>
+        ensures bound { WritesAtMost result bytes.now }
+        ensures failures { CountsPut self.old.failures self.new.failures result bytes.now }
+
+        // Where the writer tells its bytes, these are appended.
+        ensures writer { WriteAppends (W.contents self.old.writer) (W.contents self.new.writer) result bytes.now }
+    {
         match self.writer.write(bytes) {
             Ok(n) => {
                 if n == 0 && !bytes.is_empty() {

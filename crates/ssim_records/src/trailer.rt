@@ -1,13 +1,13 @@
 //! Trailer records, type 5.
 
-ghost use Rattle.std.specs.Prelude.{◌≡◌, ◌<◌, ◌∷◌, [], None, Ok, IfOk, IfErr, Some, IsTrue};
+ghost use Rattle.std.specs.Prelude.{◌≡◌, ◌<◌, ◌∷◌, [], None, Ok, IfOk, IfErr, Some, IsTrue, slice_range};
 ghost use Rattle.std.specs.List.{list_all};
 ghost use Rattle.ssim_records.specs.declared.field.Kind.TheVariants.{Carried, Code};
 ghost use Rattle.ssim_records.specs.Columns.{columns, fault_in, first_fault, is_carried, end_code_of, EachStands};
 ghost use Rattle.ssim_records.specs.Trailer.{TrailerFields, IsTrailer, SpellsTrailer, trailer_table, end_code_text, written_trailer};
 
 use crate::columns::{airline_at, carried_at, digits_at, join};
-use crate::field::{Field, Kind, end_code_of, first_fault};
+use crate::field::{Field, Kind, end_code_of, first_fault, seven};
 use crate::number::six_digits;
 use ssim_values::Airline;
 use std::marker::Model;
@@ -124,11 +124,32 @@ pub(crate) fn read_trailer(bytes: &[u8; 200]) -> Result<Trailer, usize>
 }
 
 impl Trailer {
+    /// Column 2, carried.
+    pub fn column_2(&self) -> u8
+        ensures { result ≡ self.now.spare }
+    {
+        self.spare
+    }
+
     /// The airline whose records end here.
     pub fn airline(&self) -> Airline
         ensures { result ≡ self.now.airline }
     {
         self.airline
+    }
+
+    /// Columns 6 to 12: the release date, carried.
+    pub fn release_date(&self) -> [u8; 7]
+        ensures { result ≡ slice_range self.now.release 0 7 }
+    {
+        seven(&self.release[0..7])
+    }
+
+    /// Columns 6 to 187, carried: the release date and the columns behind it.
+    pub fn columns_6_to_187(&self) -> [u8; 182]
+        ensures { result ≡ self.now.release }
+    {
+        self.release
     }
 
     /// The serial of the record before, as the trailer says it.

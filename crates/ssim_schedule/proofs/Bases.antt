@@ -42,7 +42,7 @@ or_else-none : (a b : Option BaseRefusal) → or_else a b ≡ None → (a ≡ No
 or_else-none (Some x) b h = absurd cc
 or_else-none None b h = (refl, h)
 
-at_record-none : (n : ℕ) (a : Option BaseRefusal) (later : Option BaseFault) → at_record n a later ≡ None → (a ≡ None) × (later ≡ None)
+pub at_record-none : (n : ℕ) (a : Option BaseRefusal) (later : Option BaseFault) → at_record n a later ≡ None → (a ≡ None) × (later ≡ None)
 at_record-none n (Some x) later h = absurd cc
 at_record-none n None later h = (refl, h)
 

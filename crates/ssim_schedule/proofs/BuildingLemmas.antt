@@ -103,6 +103,14 @@ built-other b r done days tails points h = record {
   cuts = points;
 }
 
+-- the same timetable and the same tails
+pub built-same : (old new : Building) (done : List Record) → new.schedule ≡ old.schedule → new.waiting ≡ old.waiting → IsBuilt old done → IsBuilt new done
+built-same old new done schedule waiting h = record {
+  days = λ g is. ap (λ s. days_in s g) schedule ∙ h.days g is;
+  tails = λ n is. ap (λ w. waiting_at w (name_place n)) waiting ∙ h.tails n is;
+  cuts = λ g is. subst (λ s. AreAtPoints (cuts_in s g) g done) (sym schedule) (h.cuts g is);
+}
+
 -- a record that is neither leg nor segment
 pub built-plain : (b : Building) (r : Record) (done : List Record) → ((x : HeaderFields) × (r ≡ Header x)) ⊎ ((x : CarrierFields) × (r ≡ Carrier x)) ⊎ ((x : TrailerFields) × (r ≡ Trailer x))
     → IsBuilt b done → IsBuilt b (r ∷ done)

@@ -13,6 +13,7 @@ pub mod Places
 pub mod Planning
 pub mod Puts
 pub mod ReadOnce
+pub mod SameTails
 pub mod Serials
 pub mod Stands
 pub mod StationLines
@@ -21,7 +22,10 @@ pub mod Valid
 pub mod SinkLemmas
 pub mod Whole
 pub mod KeptLemmas
+pub mod ReadingBack
 pub mod ReadingLemmas
 pub mod FlightLists
 pub mod BaseFrame
 pub mod Unflown
+pub mod ReadBackBy
+pub mod ResolveLemmas

@@ -19,3 +19,4 @@ pub mod Stations
 pub mod BaseSeen
 pub mod Reading
 pub mod Examples
+pub mod Resolve

@@ -2,14 +2,14 @@
 use Rattle.std.specs.Prelude.{◌≡◌, ℕ, ◌+◌, ◌%◌, ◌^◌, ◌&&◌, nat_lt, if◌then◌else◌, List, [], ◌∷◌, map, length, Option, Some, None, Result, Ok, Err}
 use Rattle.std.specs.List.{flat_map}
 use Rattle.std.specs.Io.KnownBytes.{Appends}
-use Rattle.ssim_values.specs.Flight.{FlightNumber}
+use Rattle.ssim_values.specs.Flight.{FlightNumber, IsFlight}
 use Rattle.ssim_records.specs.Carrier.{CarrierFields}
 use Rattle.ssim_records.specs.Header.{HeaderFields}
 use Rattle.ssim_records.specs.Trailer.{TrailerFields}
 use Rattle.ssim_records.specs.Record.{written}
 use Rattle.ssim_records.specs.declared.record.Record.{Record}
-use Rattle.ssim_schedule.specs.ReadBack.{HasFrame}
-use Rattle.ssim_schedule.specs.Timetable.{Days, Legs}
+use Rattle.ssim_schedule.specs.ReadBack.{HasFrame, ReadsBackFrom}
+use Rattle.ssim_schedule.specs.Timetable.{Days, Legs, days_of}
 use Rattle.ssim_schedule.specs.Export as refusal
 use Rattle.ssim_schedule.specs.Export.{ExportRefusal, Frame, Piece, chapter7, export_bytes, line, numbered, pieces, pieces_records, sections}
 use Rattle.ssim_schedule.specs.Schedule.{Table}
@@ -101,3 +101,12 @@ WritesBase taken failures base days old new = (frame : Frame) × HasFrame frame 
 
 abbrev pub RefusesBase : {W : Type 0} → (W → Option (List ℕ)) → (W → ℕ) → List Record → (FlightNumber → Days) → W → W → ExportFault → Type 0
 RefusesBase taken failures base days old new fault = (frame : Frame) × HasFrame frame base × Refuses taken failures (chapter7 frame days) old new fault
+
+-- the bytes that the sink took read back, in the frame of the base
+abbrev pub ReadsBackBase : {W : Type 0} → (W → Option (List ℕ)) → List Record → (FlightNumber → Days) → W → W → Type 0
+ReadsBackBase taken base days old new =
+    (frame : Frame) × HasFrame frame base × (bytes : List ℕ) × Appends (taken old) (taken new) bytes × ReadsBackFrom frame days bytes
+
+-- the timetable is that of the base
+abbrev pub IsOfBase : List Record → (FlightNumber → Days) → Type 0
+IsOfBase base days = (flight : FlightNumber) → IsFlight flight → days flight ≡ days_of base flight

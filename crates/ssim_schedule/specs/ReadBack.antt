@@ -178,6 +178,11 @@ SameBytes = (frame other : Frame) (days others : FlightNumber → Days) → kept
     → ((flight : FlightNumber) (n : ℕ) → IsFlight flight → n < day_count → on_day (days flight) n ≡ on_day (others flight) n)
     → chapter7 frame days ≡ chapter7 other others
 
+-- each day has its legs by rising sequence, with columns and tails that records may have
+pub record CanReadBack (days : FlightNumber → Days) : Type 0 where
+  pub timetable : IsTimetable days
+  pub legs : AreWritable days
+
 -- ---- what a base gives
 
 -- a base has a frame, which a base keeps as it is, and gives a timetable, and both can be exported

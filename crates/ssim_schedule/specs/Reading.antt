@@ -6,9 +6,11 @@ use Rattle.ssim_records.specs.declared.fault.RecordFault.{RecordFault}
 use Rattle.ssim_records.specs.declared.fault.RecordFault.TheVariants.{Short, BadType, BadColumn, ReadFault, ReaderNeverEnds}
 use Rattle.ssim_records.specs.declared.record.Record.{Record}
 use Rattle.ssim_schedule.specs.Base.{Ending, Done, Broken, Outcome, data_set}
+use Rattle.ssim_schedule.specs.ReadBack.{AreRead}
 use Rattle.ssim_schedule.specs.declared.base.BaseRead.{BaseRead}
 use Rattle.ssim_schedule.specs.declared.fault.BaseFault.{BaseFault}
 use Rattle.ssim_schedule.specs.declared.fault.BaseFault.TheVariants as fault
+use Rattle.ssim_schedule.specs.declared.note.Note.{Note}
 
 -- the first of the numbered blocks that are left spells no record
 abbrev pub IsFaulty : List (ℕ × List ℕ) → ℕ → RecordFault → Type 0
@@ -102,3 +104,15 @@ abbrev pub Refuses : ℕ → Option (List ℕ) → BaseFault → Type 0
 Refuses limit told fault.Memory = Unit {0}
 Refuses limit told (fault.Read f) = IsReadOf limit told (Err (fault.Read f))
 Refuses limit told (fault.Refused number refusal) = IsReadOf limit told (Err (fault.Refused number refusal))
+
+-- ---- reading back what was written
+
+-- the reader failed, which is not in the bytes
+abbrev pub FailedReader : Outcome → Type 0
+FailedReader outcome = (number : ℕ) × (outcome ≡ Err (fault.Read (ReadFault number)))
+
+-- bytes within the limit that spell the records of a base, and nothing else, are read as this base with its notes, unless the reader fails
+abbrev pub IsReadBack : Type 0
+IsReadBack = (bytes : List ℕ) (count : ℕ) (records : List (ℕ × Record)) (base : List Record) (notes : List Note) (limit : ℕ) (outcome : Outcome)
+    → AreRead bytes count records → data_set (Done (count + 1)) records ≡ Ok (base, notes) → length bytes ≤ limit → IsReadAs limit bytes outcome
+    → (outcome ≡ Ok (base, notes)) ⊎ FailedReader outcome

@@ -6,7 +6,7 @@ ghost use Rattle.ssim_schedule.specs.Base.{airline_of};
 ghost use Rattle.ssim_schedule.specs.BaseSeen.{AreFlights};
 ghost use Rattle.ssim_schedule.specs.Building.{IsClosed};
 ghost use Rattle.ssim_schedule.specs.Export.{Frame};
-ghost use Rattle.ssim_schedule.specs.ReadBack.{HasFrame};
+ghost use Rattle.ssim_schedule.specs.ReadBack.{CanExport, HasFrame};
 ghost use Rattle.ssim_schedule.specs.Reading.{Answers, FailsAs, IsReadOf};
 
 use crate::fault::BaseFault;
@@ -144,6 +144,7 @@ impl Base {
     pub(crate) fn carrier(&self) -> &Carrier
         ensures carrier { (frame : Frame) → HasFrame frame self.now.records → result.now ≡ frame.carrier }
         ensures exists { (frame : Frame) × HasFrame frame self.now.records }
+        ensures exports { CanExport self.now.records }
     {
         match &self.records[1] {
             Record::Carrier(carrier) => carrier,

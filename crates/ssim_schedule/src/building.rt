@@ -20,11 +20,16 @@ use ssim_records::{LegRecord, Record, SegmentRecord};
 use ssim_values::{Flight, Memory, Period};
 use std::alloc::Global;
 
+// How many cuts a flight may have to be shared whenever another comes.
+const FEW: usize = 256;
+
 /// What some records at the end of a base say: their timetable, and the tails whose leg record is not among them.
 #[derive(Drop)]
 pub(crate) struct Building {
     pub schedule: Schedule,
     waiting: Waiting,
+    /// The flight of the latest leg record.
+    latest: Option<Flight>,
     alloc: Global,
 }
 
@@ -36,7 +41,9 @@ impl Schedule {
         // A cut is the first day of a leg record of the flight, or the day after its last.
         ensures cuts { IfOk result (λ s. (g : FlightNumber) → IsFlight g → AreAtPoints (cuts_in s g) g base.now.records) }
     {
-        timetable(base.allocator(), base.records(), base.flights())
+        let mut schedule = timetable(base.allocator(), base.records(), base.flights())?;
+        schedule.share_all(base.flights())?;
+        Ok(schedule)
     }
 }
 
@@ -51,7 +58,9 @@ fn timetable(alloc: Global, records: &[Record], flights: &[Flight]) -> Result<Sc
     let mut place = records.len();
     while place > 0 {
         place -= 1;
-        building.put(&records[place])?;
+        let one = &records[place];
+        building.leave(one)?;
+        building.put(one)?;
     }
     Ok(building.schedule)
 }
@@ -68,6 +77,7 @@ impl Building {
         Building {
             schedule,
             waiting: Waiting::new(alloc),
+            latest: None,
             alloc,
         }
     }
@@ -82,6 +92,24 @@ impl Building {
             Record::Segment(segment) => self.put_segment(segment),
             Record::Header(_) | Record::Carrier(_) | Record::Trailer(_) => Ok(()),
         }
+    }
+
+    /// Where a record is a leg of another flight than the latest, the itineraries of that are shared, if it has few cuts: files go from
+    /// flight to flight, and a flight that comes again and again costs no more than its cuts each time.
+    pub(crate) fn leave(&mut self, one: &Record) -> Result<(), Memory>
+        ensures schedule { self.new.schedule ≡ self.old.schedule }
+        ensures waiting { self.new.waiting ≡ self.old.waiting }
+    {
+        let Record::Leg(leg) = one else {
+            return Ok(());
+        };
+        if let Some(latest) = self.latest {
+            if latest != leg.flight() && self.schedule.cuts(&latest).len() < FEW {
+                self.schedule.share(latest)?;
+            }
+        }
+        self.latest = Some(leg.flight());
+        Ok(())
     }
 
     fn put_segment(&mut self, segment: &SegmentRecord) -> Result<(), Memory>

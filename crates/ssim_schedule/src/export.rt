@@ -2,7 +2,8 @@
 
 ghost use Rattle.std.specs.Prelude.{◌≡◌, IfErr, OnOk};
 ghost use Rattle.ssim_schedule.specs.Export.{chapter7};
-ghost use Rattle.ssim_schedule.specs.Plan.{Refuses, RefusesBase, Writes, WritesBase, frame_from};
+ghost use Rattle.ssim_schedule.specs.Plan.{IsOfBase, ReadsBackBase, Refuses, RefusesBase, Writes, WritesBase, frame_from};
+ghost use Rattle.ssim_schedule.specs.ReadBack.{CanReadBack};
 ghost use Rattle.ssim_schedule.specs.Schedule.{days_in};
 
 mod block;
@@ -12,6 +13,7 @@ mod plan;
 use crate::base::Base;
 use crate::export::lines::put_export;
 use crate::export::plan::{divide, measure};
+use crate::laws::export_bytes_read_back;
 use crate::schedule::Schedule;
 use ssim_records::{Carrier, Header, Sink, Trailer};
 use ssim_values::{Flight, Memory};
@@ -75,7 +77,13 @@ impl Schedule {
         ensures ok { OnOk result (WritesBase W.taken W.failures base.now.records (days_in self.now) out.old out.new) }
         ensures err { IfErr result (λ fault. RefusesBase W.taken W.failures base.now.records (days_in self.now) out.old out.new fault) }
         ensures device { W.device out.new ≡ W.device out.old }
+
+        // What was written reads back to the timetable, on each date, and is exported as itself, where days have their legs by
+        // rising sequence as those of a base have.
+        ensures reads_back { OnOk result (CanReadBack (days_in self.now) → ReadsBackBase W.taken base.now.records (days_in self.now) out.old out.new) }
+        ensures of_base { IsOfBase base.now.records (days_in self.now) → CanReadBack (days_in self.now) }
     {
+        export_bytes_read_back();
         export_frame(
             self,
             base.header(),

@@ -243,7 +243,7 @@ fn same_airline(one: Airline, other: Airline) -> bool
 }
 
 // The end of the carrier's validity: where it is open, 730 days after the start, within the calendar.
-fn end_of(carrier: &Carrier) -> Day
+pub(crate) fn end_of(carrier: &Carrier) -> Day
     ensures { result ≡ end_of carrier.now }
 {
     match carrier.last() {

@@ -1,5 +1,6 @@
 //! What holds of exports, for any frame and timetable.
 ghost use Rattle.ssim_schedule.specs.ReadBack.{BasesExport, BytesReadBack, BytesTell, ReadOnce, SameBytes, ReadsBack, ExportsAgain, ExportsTell, FlownSuffice, SameExport, Stands};
+ghost use Rattle.ssim_schedule.specs.Reading.{IsReadBack};
 ghost use Rattle.ssim_schedule.specs.Examples;
 
 use ssim_records::{frames_are_one, written_records_read_back};
@@ -30,6 +31,14 @@ pub fn export_bytes_read_back()
 {
     frames_are_one();
     written_records_read_back();
+}
+
+/// Bytes that spell the records of a base, and nothing else, are read as this base with its notes, unless the reader fails. So the
+/// bytes of an export are read as the base of `export_bytes_read_back`, with nothing noted.
+pub fn written_bases_are_read()
+    ensures { IsReadBack }
+{
+    frames_are_one();
 }
 
 /// A base that is read has a frame, and gives a timetable, that can be exported.

@@ -99,13 +99,13 @@ fn same_bytes(mine: &[u8], theirs: &[u8]) -> bool
 fn same_tails(mine: &[SegmentTail], theirs: &[SegmentTail]) -> bool
     ensures { result ≡ same_tails mine.now theirs.now }
 {
-    match mine.split_first() {
-        None => theirs.is_empty(),
-        Some((tail, tails)) => match theirs.split_first() {
-            None => false,
-            Some((other, others)) => {
-                same_bytes(&tail.bytes(), &other.bytes()) && same_tails(tails, others)
-            }
-        },
+    if mine.len() != theirs.len() {
+        return false;
     }
+    for (place, tail) in mine.iter().enumerate() {
+        if !same_bytes(&tail.bytes(), &theirs[place].bytes()) {
+            return false;
+        }
+    }
+    true
 }

@@ -23,6 +23,8 @@ mod line;
 mod note;
 mod put;
 mod reading;
+mod resolved;
+mod resolving;
 mod schedule;
 #[cfg(test)]
 mod station_tests;
@@ -36,5 +38,7 @@ pub use fault::{BaseFault, BaseRefusal};
 pub use itinerary::Itinerary;
 pub use leg::PlacedLeg;
 pub use note::Note;
+pub use resolved::{Resolved, ResolvedSub};
+pub use resolving::{ResolveFault, ResolvedText, resolve};
 pub use schedule::{FlightPeriods, Schedule};
 pub use stations::{StationFault, StationRow, Stations};

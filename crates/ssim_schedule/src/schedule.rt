@@ -114,6 +114,27 @@ impl Schedule {
         }
     }
 
+    /// The itineraries of a flight are held once where its dates have the same.
+    pub(crate) fn share(&mut self, flight: Flight) -> Result<(), Memory>
+        ensures { self.new ≡ self.old }
+    {
+        if let Ok(place) = self.search(flight) {
+            let shared = self.flights[place].periods.shared()?;
+            self.flights[place].periods = shared;
+        }
+        Ok(())
+    }
+
+    /// The same for each of these flights.
+    pub(crate) fn share_all(&mut self, flights: &[Flight]) -> Result<(), Memory>
+        ensures { self.new ≡ self.old }
+    {
+        for flight in flights {
+            self.share(*flight)?;
+        }
+        Ok(())
+    }
+
     // The same for a flight that has no entry yet, whose place is in this gap.
     fn change_first<C: Change<Itinerary>>(
         &mut self,

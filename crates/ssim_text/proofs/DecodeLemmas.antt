@@ -1,6 +1,7 @@
 -- From what was read of the lines to what decoding answers for the text.
 use Rattle.std.proofs.Common.{◌≡◌, ◌≤◌, ℕ, List, [], ◌∷◌, length, refl, sym, ap, subst, inl, inr, ◌∙◌, None, arith, map, Ok, Err}
 use Rattle.std.specs.Prelude.{Result, IfOk, IfErr}
+use Rattle.ssim_text.specs.declared.fault.Fault.{Fault}
 use Rattle.ssim_text.specs.declared.fault.TextFault.{TextFault}
 use Rattle.ssim_text.specs.declared.fault.TextFault.TheVariants as answer
 use Rattle.ssim_text.specs.declared.lines.Line.{Line}
@@ -8,7 +9,8 @@ use Rattle.ssim_text.specs.Message.{MessageValue}
 use Rattle.ssim_text.specs.Grammar.{SpellsText, NamesPlace}
 use Rattle.ssim_text.specs.Left.{lines_left, texts, numbers, place_number, first_unprintable}
 use Rattle.ssim_text.specs.Canonical.{canonical}
-use Rattle.ssim_text.specs.Decoding.{SpellsMessage, IsRefusal, IsTooManyAtOne, NoMessage}
+use Rattle.ssim_text.specs.Spelling.{SpellsMessage}
+use Rattle.ssim_text.specs.Decoding.{IsFaultAt, IsRefusal, IsTooManyAtOne, NoMessage}
 
 pub ok_then : {T E : Type 0} (r : Result T E) (P Q : T → Type 0) → ((x : T) → P x → Q x) → IfOk r P → IfOk r Q
 ok_then (Ok x) P Q f h = f x h
@@ -51,6 +53,7 @@ too_long_place text lines d (answer.Refused f n) e s h = inl (h.0, h.1, inr (d, 
 pub misplaced_none : (text : List ℕ) (lines : List (List ℕ)) (index : ℕ) → lines ≡ texts (lines_left text) → NamesPlace lines index → (m : MessageValue) → SpellsMessage m text → ⊥
 misplaced_none text lines index e h m s = h.no_text m (subst (λ (x : List (List ℕ)). SpellsText m x) (sym e) s.spelled)
 
-pub misplaced_place : (text : List ℕ) (lines : List (List ℕ)) (seen : List (ℕ × List ℕ)) (index n : ℕ) → lines ≡ texts (lines_left text) → seen ≡ lines_left text → NamesPlace lines index → n ≡ place_number (numbers seen) index
-    → (i : ℕ) × NamesPlace (texts (lines_left text)) i × (n ≡ place_number (numbers (lines_left text)) i)
-misplaced_place text lines seen index n e g h k = (index, subst (λ (x : List (List ℕ)). NamesPlace x index) e h, k ∙ ap (λ (x : List (ℕ × List ℕ)). place_number (numbers x) index) g)
+pub misplaced_place : (text : List ℕ) (lines : List (List ℕ)) (seen : List (ℕ × List ℕ)) (index n : ℕ) (f : Fault) → lines ≡ texts (lines_left text) → seen ≡ lines_left text → NamesPlace lines index → IsFaultAt lines index f → n ≡ place_number (numbers seen) index
+    → (i : ℕ) × NamesPlace (texts (lines_left text)) i × IsFaultAt (texts (lines_left text)) i f × (n ≡ place_number (numbers (lines_left text)) i)
+misplaced_place text lines seen index n f e g h w k =
+    (index, subst (λ (x : List (List ℕ)). NamesPlace x index) e h, subst (λ (x : List (List ℕ)). IsFaultAt x index f) e w, k ∙ ap (λ (x : List (ℕ × List ℕ)). place_number (numbers x) index) g)

@@ -6,3 +6,13 @@ pub mod Place
 pub mod Writing
 pub mod LeftLemmas
 pub mod DecodeLemmas
+pub mod LinesKept
+pub mod Words
+pub mod ReadsBack
+pub mod FrontAgain
+pub mod DatesAgain
+pub mod EquipmentAgain
+pub mod LegsAgain
+pub mod SameLemmas
+pub mod WorkedLemmas
+pub mod BoundsLemmas

@@ -30,8 +30,11 @@ use Rattle.ssim_text.specs.Values.{EquipmentValue, no_originator}
 use Rattle.ssim_text.specs.Message.{MessageValue, begun, with_sub, with_free}
 use Rattle.ssim_text.specs.Lines.{numbers_of, reference_of, SpellsDatedFlight, date_of, period_of, equipment_of, leg_of}
 use Rattle.ssim_text.specs.Grammar.{Part, KindPart, ModePart, ReferencePart, ActionPart, FlightPart, DatedFlightPart, PeriodPart, EquipmentPart, LegPart, FreePart, Spells, flies, SpellsText, needs, shortest, IsCompletion, Starts, NamesPlace, OneMessage}
-use Rattle.ssim_text.specs.Machine.{step, finish, Takes, Refuses, sub_of, flight_wanted, no_legs, body_wanted, with_leg, is_whole, with_body}
-use Rattle.std.proofs.Common.{get_or}
+use Rattle.ssim_text.specs.Machine.{step, finish, Takes, Refuses, sub_of, flight_wanted, no_legs, body_wanted, with_leg, is_whole, with_body, run, Reads}
+use Rattle.std.proofs.Common.{get_or, add-one, drop-cons, drop_of_length-le}
+use Rattle.ssim_text.specs.declared.fault.Fault.{Fault}
+use Rattle.ssim_text.specs.Machine.{fault_at, fault_of, fault_before}
+use Rattle.ssim_text.specs.Decoding.{IsFaultAt}
 use Rattle.std.proofs.lemmas.List.{take_more, get_or-map}
 use Rattle.ssim_values.specs.Calendar.{day_number, leap_years, months_length}
 use Rattle.ssim_values.specs.Day.{day_of}
@@ -42,7 +45,7 @@ use Rattle.ssim_text.specs.declared.reference.GroupCode.TheVariants.{End}
 use Rattle.ssim_text.specs.declared.dates.GivenDate.TheVariants.{Full}
 use Rattle.ssim_text.specs.declared.dates.GivenEnd.TheVariants.{Until}
 use Rattle.ssim_text.specs.Lines.{variations_of, end_of}
-use Rattle.ssim_text.proofs.Runs.{run, none_some, some_same, false_true, Reads, reads_on, GoesOn, follow, goes_nowhere, run_append}
+use Rattle.ssim_text.proofs.Runs.{none_some, some_same, false_true, reads_on, GoesOn, follow, goes_nowhere, run_append}
 use Rattle.ssim_text.proofs.Complete.{complete}
 use Rattle.ssim_text.proofs.Sound.{sound, Holds, reached_holds}
 
@@ -320,3 +323,23 @@ all_read f s xs i r h k = subst (λ (x : List (List ℕ)). Reads s x) (take_whol
 
 pub refused_after : {X : Type 0} (f : X → List ℕ) (s : State) (xs : List X) → Reads s (map f xs) → finish s ≡ None → NamesPlace (map f xs) (length xs)
 refused_after f s xs r d = subst (λ (n : ℕ). NamesPlace (map f xs) n) (length-texts f xs) (refused_end s (map f xs) r d)
+
+-- ---- the fault at the place
+
+rest_from : {X : Type 0} (f : X → List ℕ) (xs : List X) (i : ℕ) (d : X) → i < length xs → drop i (map f xs) ≡ f (get_or xs i d) ∷ drop (i + 1) (map f xs)
+rest_from f xs i d lt =
+    let long : i < length (map f xs) = omega (arith, lt, length-texts f xs) in
+    let e : drop i (map f xs) ≡ get_or (map f xs) i (f d) ∷ drop (i + 1) (map f xs) = rw (add-one, drop-cons (map f xs) i (f d)) refl in
+    e ∙ ap (λ (x : List ℕ). x ∷ drop (i + 1) (map f xs)) (get_or-map f xs i d (f d) lt)
+
+pub fault_line : {X : Type 0} (f : X → List ℕ) (s : State) (xs : List X) (i : ℕ) (d : X) (w : Fault) → Reads s (take i (map f xs)) → i < length xs → w ≡ fault_of s (f (get_or xs i d)) → IsFaultAt (map f xs) i w
+fault_line f s xs i d w r lt h = record { state = s; reads = r; fault = h ∙ sym (ap (fault_before s) (rest_from f xs i d lt)) }
+
+pub fault_end : {X : Type 0} (f : X → List ℕ) (s : State) (xs : List X) (w : Fault) → Reads s (map f xs) → w ≡ fault_at s → IsFaultAt (map f xs) (length xs) w
+fault_end f s xs w r h =
+    let none_left : drop (length xs) (map f xs) ≡ [] = drop_of_length-le (map f xs) {i = length xs} (omega (arith, length-texts f xs)) in
+    record {
+      state = s;
+      reads = subst (λ (x : List (List ℕ)). Reads s x) (sym (take_whole (length xs) (map f xs) (sym (length-texts f xs)))) r;
+      fault = h ∙ sym (ap (fault_before s) none_left);
+    }

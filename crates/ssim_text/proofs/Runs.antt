@@ -18,13 +18,8 @@ use Rattle.ssim_text.specs.declared.state.State.TheVariants.{AtStart, AtKind, At
 use Rattle.ssim_text.specs.Message.{MessageValue, with_free}
 use Rattle.ssim_text.specs.Lines.{originator_of, kind_text, mode_text, numbers_of, reference_of, identifier_text, SpellsDatedFlight, period_of, equipment_of, leg_of, segment_of, begins_free}
 use Rattle.ssim_text.specs.Grammar.{Part, OriginatorPart, KindPart, ModePart, ReferencePart, ActionPart, FlightPart, DatedFlightPart, PeriodPart, EquipmentPart, LegPart, SegmentPart, Divider, FreePart, Spells}
-use Rattle.ssim_text.specs.Machine.{step, Takes, Refuses}
+use Rattle.ssim_text.specs.Machine.{step, Takes, Refuses, run, Reads}
 use Rattle.ssim_text.proofs.Arms.{leg_or_segment, leg_or_divider, segment_or_divider, no_action_free}
-
--- what is read after these parts
-abbrev pub run : State → List Part → Option State
-run s [] = Some s
-run s (p ∷ ps) = option_and_then (λ t. run t ps) (step s p)
 
 pub none_some : {A : Type 0} (a : A) → None ≡ Some a → ⊥
 none_some a h = cc
@@ -63,12 +58,6 @@ spelled_on [] [] p line h e = (e, tt)
 spelled_on [] (l ∷ lines) p line h e = absurd h
 spelled_on (q ∷ ps) [] p line h e = absurd h
 spelled_on (q ∷ ps) (l ∷ lines) p line h e = (h.0, spelled_on ps lines p line h.1 e)
-
--- these lines lead to this state
-pub record Reads (s : State) (lines : List (List ℕ)) : Type 0 where
-  pub parts : List Part
-  pub spelled : AllZip Spells parts lines
-  pub reached : run AtStart parts ≡ Some s
 
 pub reads_none : Reads AtStart []
 reads_none = record { parts = []; spelled = tt; reached = refl }

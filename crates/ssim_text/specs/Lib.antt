@@ -2,10 +2,14 @@ pub mod Bytes
 pub mod Values
 pub mod Lines
 pub mod Message
+pub mod Same
 pub mod Grammar
 pub mod Fault
 pub mod Machine
 pub mod Left
+pub mod Bounds
 pub mod Canonical
+pub mod Spelling
+pub mod Worked
 pub mod Decoding
 pub mod Reference

@@ -1,6 +1,6 @@
 -- How a message grows, part by part.
-use Rattle.std.specs.Prelude.{◌≡◌, ℕ, nat_lt, if◌then◌else◌, Bool, true, false, ◌&&◌, Option, Some, None, List, [], ◌∷◌, ◌++◌, length, ◌||◌, is_some}
-use Rattle.std.specs.List.{list_any}
+use Rattle.std.specs.Prelude.{option_and_then, ◌≡◌, ℕ, nat_lt, if◌then◌else◌, Bool, true, false, ◌&&◌, Option, Some, None, List, [], ◌∷◌, ◌++◌, length, ◌||◌, is_some}
+use Rattle.std.specs.List.{list_any, AllZip}
 use Rattle.std.specs.Str.{bytes_eq}
 use Rattle.ssim_text.specs.declared.kind.Kind.{Kind}
 use Rattle.ssim_text.specs.declared.kind.Kind.TheVariants.{Ssm, Asm}
@@ -116,6 +116,17 @@ step (AtNext m) (FreePart line) = if begins_free line then Some (AtFree (with_fr
 step (AtFree m) (FreePart line) = Some (AtFree (with_free m line))
 step s p = None
 
+-- what is read after these parts
+abbrev pub run : State → List Part → Option State
+run s [] = Some s
+run s (p ∷ ps) = option_and_then (λ t. run t ps) (step s p)
+
+-- these lines lead to this state
+pub record Reads (s : State) (lines : List (List ℕ)) : Type 0 where
+  pub parts : List Part
+  pub spelled : AllZip Spells parts lines
+  pub reached : run AtStart parts ≡ Some s
+
 -- the message, where the text may end here
 abbrev pub finish : State → Option MessageValue
 finish (AtLegs m b) = if is_whole b then Some (with_body m b) else None
@@ -153,6 +164,11 @@ fault_of (AtLegs m b) line =
     if (is_some (leg_of line) && is_none_yet b.segments) || fits_if_segment b (segment_of line) then fault.TooMany else fault.BadLeg
 fault_of (AtNext m) line = if is_action line then fault.TooMany else fault.BadAction
 fault_of s line = fault_at s
+
+-- the fault of what is left, of which the first line may not stand, or of the end
+abbrev pub fault_before : State → List (List ℕ) → Fault
+fault_before s [] = fault_at s
+fault_before s (line ∷ lines) = fault_of s line
 
 -- a line leads from one state to the next
 pub record Takes (s : State) (line : List ℕ) (next : State) : Type 0 where

@@ -2,13 +2,15 @@
 ghost use Rattle.std.specs.Prelude.{◌≡◌, ◌≤◌, ℕ, length, map, IfOk, IfErr};
 ghost use Rattle.ssim_text.specs.Message.{MessageValue};
 ghost use Rattle.ssim_text.specs.Grammar.{SpellsText};
-ghost use Rattle.ssim_text.specs.Decoding.{IsRefusal, IsPlace, IsTooManyAtOne, NoMessage, SpellsMessage};
+ghost use Rattle.ssim_text.specs.Decoding.{IsRefusal, IsPlace, IsTooManyAtOne, NoMessage};
+ghost use Rattle.ssim_text.specs.Spelling.{SpellsMessage, IsSpelledWhereShort};
 ghost use Rattle.ssim_text.specs.Canonical.{canonical};
 
 use crate::fault::{Fault, TextFault};
 use crate::lines::{Line, first_unprintable, lines_left, number_at};
-use crate::message::{Draft, Message};
+use crate::message::{Draft, Message, encode};
 use crate::state::{State, Stop};
+use ssim_values::Memory;
 use std::alloc::Global;
 
 /// Why lines are refused: for memory, or with a fault and the index of the line.
@@ -39,8 +41,9 @@ fn read_lines(alloc: Global, lines: &[Line]) -> Result<Draft, Refusal>
     }
 }
 
-/// The message that the lines spell, if its canonical text is not too long.
+/// The message of what was read, if its canonical text is not too long.
 fn finished(alloc: Global, draft: Draft) -> Result<Message, TextFault>
+    requires { IsSpelledWhereShort draft }
     ensures ok { IfOk result (λ m. (m ≡ draft) × (length (canonical draft) ≤ 65536)) }
     ensures err { IfErr result (λ fault. IsTooManyAtOne draft fault) }
 {
@@ -75,6 +78,19 @@ pub fn decode(alloc: Global, text: &[u8]) -> Result<Message, TextFault>
         Err(Refusal::NoMemory) => Err(TextFault::Memory),
         Err(Refusal::Misplaced(fault, index)) => {
             Err(TextFault::Refused(fault, number_at(&lines, index)))
+        }
+    }
+}
+
+impl Message {
+    /// An equal message, or the want of memory: what its canonical text is decoded to.
+    pub fn copy(&self, alloc: Global) -> Result<Message, Memory>
+        ensures { IfOk result (λ copy. copy ≡ self.now) }
+    {
+        let text = encode(alloc, self)?;
+        match decode(alloc, &text) {
+            Ok(message) => Ok(message),
+            Err(_) => Err(Memory),
         }
     }
 }

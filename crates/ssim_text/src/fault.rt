@@ -2,29 +2,40 @@
 ghost use Rattle.std.specs.Prelude.{◌≡◌};
 
 use std::alloc::AllocError;
+use thiserror::Error;
 
-/// Why a line, or the end of a text, may not stand where it is.
-#[derive(Clone, Copy, Debug, PartialEq, Eq)]
+/// Why a line, or the end of a text, may not stand where it is. It is displayed as its name.
+#[derive(Clone, Copy, Debug, PartialEq, Eq, Error)]
 pub enum Fault {
     /// 20: neither `SSM` nor `ASM`, nor an originator before them.
+    #[error("BadKind")]
     BadKind,
     /// 21: no reference.
+    #[error("BadReference")]
     BadReference,
     /// 22: none of the five actions.
+    #[error("BadAction")]
     BadAction,
     /// 23: no flight, or in an ASM no flight with its date.
+    #[error("BadFlight")]
     BadFlight,
     /// 24: no period.
+    #[error("BadPeriod")]
     BadPeriod,
     /// 25: no equipment.
+    #[error("BadEquipment")]
     BadEquipment,
     /// 26: no leg line, or a line that may not follow leg lines.
+    #[error("BadLeg")]
     BadLeg,
     /// 27: a line behind a whole sub-message.
+    #[error("Extra")]
     Extra,
     /// 28: more than 65,536 bytes, 250 sub-messages, 20 leg lines or 99 segment lines.
+    #[error("TooMany")]
     TooMany,
     /// 29: a byte outside 32 to 126.
+    #[error("NotAscii")]
     NotAscii,
 }
 
@@ -50,12 +61,14 @@ impl Fault {
     }
 }
 
-/// Why a text is refused, and at which line.
-#[derive(Clone, Copy, Debug, PartialEq, Eq)]
+/// Why a text is refused, and at which line. It is displayed as the name and the line: `BadLeg line 8`.
+#[derive(Clone, Copy, Debug, PartialEq, Eq, Error)]
 pub enum TextFault {
     /// 90: a growth was refused for want of memory.
+    #[error("Memory")]
     Memory,
     /// A fault, and the number of its line, from 1.
+    #[error("{0} line {1}")]
     Refused(Fault, usize),
 }
 

@@ -1,7 +1,24 @@
 //! Laws of the grammar.
 ghost use Rattle.ssim_text.specs.Grammar.{OneMessage};
+ghost use Rattle.ssim_text.specs.Spelling.{CanonicalReadsBack, EqualWhereWrittenEqual};
+ghost use Rattle.ssim_text.specs.Worked.{WorkedTexts};
 
 /// No text spells two messages.
 pub fn one_message()
     ensures { OneMessage }
+{}
+
+/// The canonical text of a message spells it: what is encoded is decoded to the same message.
+pub fn canonical_reads_back()
+    ensures { CanonicalReadsBack }
+{}
+
+/// Texts spell equal messages exactly where their canonical texts are equal.
+pub fn equal_where_written_equal()
+    ensures { EqualWhereWrittenEqual }
+{}
+
+/// Ten texts worked out by hand spell their messages and are the canonical texts of them.
+pub fn worked_texts()
+    ensures { WorkedTexts }
 {}

@@ -10,8 +10,10 @@
 //!
 //! The promise: `decode` answers a message exactly where the bytes spell one, and that one; no text
 //! spells two messages. Otherwise it answers a [`TextFault`] with its number, 20 to 29, and its line: the
-//! first line that cannot stand, or the line that is wanted behind the last. Dates, times and designators
-//! are kept as values, so other spellings of a value are the same message.
+//! first line that cannot stand, or the line that is wanted behind the last. What `encode` writes spells its
+//! message, so `decode` gives that message back. Dates, times and designators are kept as values, so other
+//! spellings of a value are the same message; [`Message::same`] compares messages, and two are equal exactly
+//! where their canonical texts are; [`Message::copy`] makes an equal one.
 #![tactic(auto)]
 
 mod action;
@@ -28,6 +30,9 @@ mod lines;
 mod message;
 mod originator;
 mod reference;
+#[cfg(test)]
+mod replaced_tests;
+mod same;
 mod segment;
 mod state;
 #[cfg(test)]

@@ -2,6 +2,9 @@
 ghost use Rattle.std.specs.Prelude.{◌≡◌, IfOk};
 ghost use Rattle.ssim_text.specs.Message.{begun, with_sub, with_free};
 ghost use Rattle.ssim_text.specs.Canonical.{canonical};
+ghost use Rattle.ssim_text.specs.Grammar.{IsShape};
+ghost use Rattle.ssim_text.specs.Bounds.{AreSubsBounded, IsReferenceBounded, AreFreeLinesBounded};
+ghost use Rattle.ssim_text.specs.Spelling.{SpellsMessage};
 
 use crate::action::Sub;
 use crate::encoding::{push_free, push_kind, push_mode, push_originator, push_subs};
@@ -161,7 +164,8 @@ impl Draft {
     }
 }
 
-/// What a text says: a message of SSIM chapter 4 or 5. It keeps its dates as they were given.
+/// What a text says: a message of SSIM chapter 4 or 5. It keeps its dates as they were given, and has a
+/// canonical text.
 #[derive(Drop)]
 pub struct Message {
     content: Draft,
@@ -169,14 +173,19 @@ pub struct Message {
 
 impl Model for Message {
     ghost use Rattle.ssim_text.specs.Message.{MessageValue};
+    ghost use Rattle.ssim_text.specs.Canonical.{canonical};
+    ghost use Rattle.ssim_text.specs.Spelling.{SpellsMessage};
 
     ghost Value = { MessageValue };
 
     ghost view = { λ m. m.content };
+
+    ghost invariant = { λ m. SpellsMessage m.content (canonical m.content) };
 }
 
 impl Message {
     pub(crate) fn of(content: Draft) -> Message
+        requires { SpellsMessage content (canonical content) }
         ensures { result ≡ content }
     {
         Message { content }
@@ -203,32 +212,40 @@ impl Message {
         self.content.mode()
     }
 
-    /// The reference as it was given.
+    /// The reference as it was given: its group has five digits at most, its serial three, and the creator's own
+    /// reference 1 to 35 bytes from 32 to 126.
     pub fn reference(&self) -> &GivenReference
-        ensures { result.now ≡ self.now.reference }
+        ensures value { result.now ≡ self.now.reference }
+        ensures bounded { IsReferenceBounded self.now.reference }
     {
         self.content.reference()
     }
 
-    /// The sub-messages, in their order.
+    /// The sub-messages, in their order: 1 to 250, each with the dates that the kind wants, 1 to 20 leg lines where it
+    /// has any, and values in their bounds.
     pub fn subs(&self) -> &[Sub]
-        ensures { result.now ≡ self.now.subs }
+        ensures value { result.now ≡ self.now.subs }
+        ensures shape { IsShape self.now }
+        ensures bounded { AreSubsBounded self.now.subs }
     {
         self.content.subs()
     }
 
-    /// The lines of free text.
+    /// The lines of free text: bytes from 32 to 126.
     pub fn free(&self) -> &[FreeLine]
-        ensures { result.now ≡ self.now.free }
+        ensures value { result.now ≡ self.now.free }
+        ensures bounded { AreFreeLinesBounded self.now.free }
     {
         self.content.free()
     }
 }
 
 /// The canonical text of a message: one LF after each line, the mode line always, single blanks
-/// between parts, and each value in its one written form.
+/// between parts, and each value in its one written form. It spells the message, so that decoding it
+/// gives an equal one.
 pub fn encode(alloc: Global, message: &Message) -> Result<Vec<u8>, Memory>
-    ensures { IfOk result (λ text. text.items ≡ canonical message.now) }
+    ensures written { IfOk result (λ text. text.items ≡ canonical message.now) }
+    ensures spells { IfOk result (λ text. SpellsMessage message.now text.items) }
 {
     match message.content.encode(alloc) {
         Ok(text) => Ok(text),

@@ -1,5 +1,6 @@
 //! The worked rows of texts: what their canonical texts are, and why others are refused.
-use crate::{decode, encode};
+use crate::{Action, Kind, Message, Reference, decode, encode, leg_pair};
+use ssim_values::{Day, Station};
 use std::alloc::Global;
 use std::test::Fail;
 
@@ -169,6 +170,262 @@ fn limits(rt: HostRuntime) -> Result<(), Fail> {
         let mut text = Vec::from_slice(rt.alloc(), X2)?;
         push_times(&mut text, count, b"\n")?;
         assert_eq!(rt; refusal(rt.alloc(), &text), answer);
+    }
+    Ok(())
+}
+
+#[test]
+fn worked_texts(rt: HostRuntime) -> Result<(), Fail> {
+    let texts: [&[u8]; 15] = [
+        b"SSM\nUTC\n01JUN00002E001\nCNL\nLX544\n30MAR25 25OCT25 3\n",
+        b"SSM\nUTC\n01JUN00003E001\nTIM\nLX544\n01JUL25 31JUL25 1\nZRH0600 LHR0715\n",
+        b"SSM\nUTC\n01JUN00005E001\nNEW\nLX544\n01JUL25 01JUL25 2\nJ 320 CY.C12Y138\nZRH0545 LHR0700\n",
+        b"SSM\nUTC\n01JUN00006E001\nCNL\nLX600\n01JUL25 01JUL25 2\n",
+        b"SSM\nUTC\n01MAY00001E001\nNEW\nLX600\n01JUL25 01JUL25 2\nJ 320 CY\nZRH0545 LHR0700\n",
+        b"SSM\nUTC\n01JAN00001E001\nEQT\nLX544\n05JAN26 05JAN26 1\nJ 319 CY\n",
+        b"SSM\nUTC\n31DEC00001E001\nEQT\nLX544\n05JAN26 05JAN26 1\nJ 320 CY\n",
+        b"SSM\nUTC\n01NOV00001E001\nCNL\nLX544\n29FEB 29FEB 2\n",
+        b"SSM\nUTC\n01NOV00001E001\nCNL\nLX544\n29FEB28 29FEB28 3\n",
+        b"SSM\nUTC\n01JUN00007E001\nCNL\nLX999\n30MAR25 25OCT25 1234567\n",
+        b"SSM\nUTC\n01JUN00008E001\nNEW\nLX700\n20OCT25 02NOV25 1234567\nJ 320 CY.C12Y138\nZRH0545 LHR0700\n",
+        b"SSM\nUTC\n01JUN00009E001\nTIM\nLX544\n01JUL25 01JUL25 2\nZRH0600 LHR0715\nLHR0800 JFK1500\n",
+        b"ASM\nUTC\n01JUN00002E001\nNEW\nLX544/01JUL\nJ 320 CY\nZRH0545 LHR0700\n",
+        b".AAAAAAA\nSSM\nUTC\n01JUN00001E001\nEQT\nLX544\n01JUL25 01JUL25 2\nJ 319 CY\n",
+        b"SSM\nUTC\n29FEB00001E001\nCNL\nLX544\n01JUL25 07JUL25 2\n",
+    ];
+    for text in texts {
+        assert_eq!(rt; canonical(rt.alloc(), text)?.as_slice(), text);
+    }
+    Ok(())
+}
+
+#[test]
+fn segment_lines(rt: HostRuntime) -> Result<(), Fail> {
+    let lines: [&[u8]; 4] = [
+        b"ZRHJFK 99/X\n",
+        b"QQQQQQ 99/X\n",
+        b"ZRHLHR 99/\n",
+        b"LHR0800 ZRH1045 \tX\n",
+    ];
+    for (line, number) in lines.iter().zip([26, 26, 26, 29]) {
+        let mut text = Vec::from_slice(
+            rt.alloc(),
+            b"SSM\nUTC\n01JUN00010E001\nNEW\nLX700\n01JUL25 01JUL25 2\nJ 320 CY\nZRH0545 LHR0700\nLHR0800 ZRH1045\n",
+        )?;
+        text.extend_from_slice(line)?;
+        assert_eq!(rt; refusal(rt.alloc(), &text), Some((number, 10)));
+    }
+    Ok(())
+}
+
+#[test]
+fn no_lines(rt: HostRuntime) {
+    let texts: [&[u8]; 4] = [b"", b"\n", b"\n\r\n  \n", b" \r \r"];
+    for text in texts {
+        assert_eq!(rt; refusal(rt.alloc(), text), Some((20, 1)));
+    }
+}
+
+/// A text whose canonical text has six bytes more: the time mode with its LF, and two digits of the flight.
+fn that_grows(alloc: Global, length: usize) -> Result<Vec<u8>, Fail> {
+    let mut text = Vec::from_slice(
+        alloc,
+        b"SSM\n01JUN00001E001\nCNL\nLX1\n01JUL25 07JUL25 2\n//\nSI",
+    )?;
+    for _ in text.len()..length {
+        text.push(b'X')?;
+    }
+    text.push(b'\n')?;
+    Ok(text)
+}
+
+#[test]
+fn canonical_text_too_long(rt: HostRuntime) -> Result<(), Fail> {
+    let text = that_grows(rt.alloc(), 65_529)?;
+    assert_eq!(rt; text.len(), 65_530);
+    assert_eq!(rt; canonical(rt.alloc(), &text)?.len(), 65_536);
+    for length in [65_530, 65_535] {
+        let longer = that_grows(rt.alloc(), length)?;
+        assert_eq!(rt; refusal(rt.alloc(), &longer), Some((28, 1)));
+    }
+    Ok(())
+}
+
+fn are_same(alloc: Global, one: &[u8], other: &[u8]) -> Result<bool, Fail> {
+    Ok(decode(alloc, one)?.same(&decode(alloc, other)?))
+}
+
+#[test]
+fn spellings_of_one_message(rt: HostRuntime) -> Result<(), Fail> {
+    let same: [&[u8]; 5] = [
+        X2,
+        b"SSM\r\nUTC\r\n01JUN00001E001\r\nCNL\r\nLX544\r\n01JUL25 07JUL25 2\r\n",
+        b"SSM  \nUTC  \n01JUN00001E001  \nCNL  \nLX544  \n01JUL25 07JUL25 2  \n",
+        b"SSM\n\n01JUN00001E001\nCNL\nLX0544\n01JUL25   07JUL25  2",
+        b"SSM\n01JUN00001E001\nCNL\nLX544\n01JUL25 07JUL25 2\n",
+    ];
+    for text in same {
+        assert!(rt; are_same(rt.alloc(), X2, text)?);
+    }
+    Ok(())
+}
+
+#[test]
+fn other_messages(rt: HostRuntime) -> Result<(), Fail> {
+    let others: [&[u8]; 14] = [
+        b".ZRHRMLX\nSSM\nUTC\n01JUN00001E001\nCNL\nLX544\n01JUL25 07JUL25 2\n",
+        b"ASM\nUTC\n01JUN00001E001\nCNL\nLX544/01JUL25\n",
+        b"SSM\nLT\n01JUN00001E001\nCNL\nLX544\n01JUL25 07JUL25 2\n",
+        b"SSM\nUTC\n02JUN00001E001\nCNL\nLX544\n01JUL25 07JUL25 2\n",
+        b"SSM\nUTC\n01JUN00002E001\nCNL\nLX544\n01JUL25 07JUL25 2\n",
+        b"SSM\nUTC\n01JUN00001C001\nCNL\nLX544\n01JUL25 07JUL25 2\n",
+        b"SSM\nUTC\n01JUN00001E002\nCNL\nLX544\n01JUL25 07JUL25 2\n",
+        b"SSM\nUTC\n01JUN00001E001/R\nCNL\nLX544\n01JUL25 07JUL25 2\n",
+        b"SSM\nUTC\n01JUN00001E001\nEQT\nLX544\n01JUL25 07JUL25 2\nJ 320\n",
+        b"SSM\nUTC\n01JUN00001E001\nCNL\nLX544A\n01JUL25 07JUL25 2\n",
+        b"SSM\nUTC\n01JUN00001E001\nCNL\nLX544\n01JUL 07JUL25 2\n",
+        b"SSM\nUTC\n01JUN00001E001\nCNL\nLX544\n01JUL25 00XXX00 2\n",
+        b"SSM\nUTC\n01JUN00001E001\nCNL\nLX544\n01JUL25 07JUL25 12\n",
+        b"SSM\nUTC\n01JUN00001E001\nCNL\nLX544\n01JUL25 07JUL25 2\n//\nSI\n",
+    ];
+    for text in others {
+        assert!(rt; !are_same(rt.alloc(), X2, text)?);
+    }
+    Ok(())
+}
+
+#[test]
+fn originators(rt: HostRuntime) -> Result<(), Fail> {
+    let named = b".ZRHRMLX\nSSM\nUTC\n01JUN00001E001\nCNL\nLX544\n01JUL25 07JUL25 2\n";
+    let more = b".ZRHRMLX 231200\nSSM\nUTC\n01JUN00001E001\nCNL\nLX544\n01JUL25 07JUL25 2\n";
+    let short = b".ZRHRML\nSSM\nUTC\n01JUN00001E001\nCNL\nLX544\n01JUL25 07JUL25 2\n";
+    assert_eq!(rt; canonical(rt.alloc(), more)?.len(), 60);
+    assert!(rt; are_same(rt.alloc(), named, more)?);
+    assert!(rt; !are_same(rt.alloc(), named, X2)?);
+    assert_eq!(rt; refusal(rt.alloc(), short), Some((20, 1)));
+    Ok(())
+}
+
+const LEGS: &[u8] =
+    b"SSM\nUTC\n01JUN00010E001\nNEW\nLX700\n01JUL25 01JUL25 2\nJ 320 CY\nZRH0545 LHR0700\nLHR0800 ZRH1045\nZRHLHR 99/X\n//\nSI\nY\n";
+
+#[test]
+fn other_legs_and_lines(rt: HostRuntime) -> Result<(), Fail> {
+    assert!(rt;
+        are_same(
+            rt.alloc(),
+            LEGS,
+            b"SSM\n01JUN00010E001\nNEW\nLX700\n01JUL25 01JUL25 2\nJ  320  CY\nZRH0545/0 LHR0700/0/0700\nLHR0800  ZRH1045\nZRHLHR 099/X\n//\nSI\nY\n"
+        )?
+    );
+    let others: [&[u8]; 8] = [
+        b"SSM\nUTC\n01JUN00010E001\nRPL\nLX700\n01JUL25 01JUL25 2\nJ 320 CY\nZRH0545 LHR0700\nLHR0800 ZRH1045\nZRHLHR 99/X\n//\nSI\nY\n",
+        b"SSM\nUTC\n01JUN00010E001\nNEW\nLX700\n01JUL25 01JUL25 2\nJ 320 CY.Y9\nZRH0545 LHR0700\nLHR0800 ZRH1045\nZRHLHR 99/X\n//\nSI\nY\n",
+        b"SSM\nUTC\n01JUN00010E001\nNEW\nLX700\n01JUL25 01JUL25 2\nJ 320 CY\nZRH0545 LHR0700/1\nLHR0800 ZRH1045\nZRHLHR 99/X\n//\nSI\nY\n",
+        b"SSM\nUTC\n01JUN00010E001\nNEW\nLX700\n01JUL25 01JUL25 2\nJ 320 CY\nZRH0545 LHR0700\nLHR0800 ZRH1045/1050\nZRHLHR 99/X\n//\nSI\nY\n",
+        b"SSM\nUTC\n01JUN00010E001\nNEW\nLX700\n01JUL25 01JUL25 2\nJ 320 CY\nZRH0545 LHR0700\nZRHLHR 99/X\n//\nSI\nY\n",
+        b"SSM\nUTC\n01JUN00010E001\nNEW\nLX700\n01JUL25 01JUL25 2\nJ 320 CY\nZRH0545 LHR0700\nLHR0800 ZRH1045\nZRHLHR 99/ X\n//\nSI\nY\n",
+        b"SSM\nUTC\n01JUN00010E001\nNEW\nLX700\n01JUL25 01JUL25 2\nJ 320 CY\nZRH0545 LHR0700\nLHR0800 ZRH1045\nZRHLHR 98/X\n//\nSI\nY\n",
+        b"SSM\nUTC\n01JUN00010E001\nNEW\nLX700\n01JUL25 01JUL25 2\nJ 320 CY\nZRH0545 LHR0700\nLHR0800 ZRH1045\nZRHLHR 99/X\n//\nSI\nZ\n",
+    ];
+    for text in others {
+        assert!(rt; !are_same(rt.alloc(), LEGS, text)?);
+    }
+    Ok(())
+}
+
+#[test]
+fn copies(rt: HostRuntime) -> Result<(), Fail> {
+    for text in [X2, LEGS] {
+        let message = decode(rt.alloc(), text)?;
+        assert!(rt; message.copy(rt.alloc())?.same(&message));
+    }
+    Ok(())
+}
+
+#[test]
+fn pairs_of_points(rt: HostRuntime) -> Result<(), Fail> {
+    let message = decode(rt.alloc(), LEGS)?;
+    let zrh = Station::parse(b"ZRH")?;
+    let lhr = Station::parse(b"LHR")?;
+    let jfk = Station::parse(b"JFK")?;
+    for sub in message.subs() {
+        if let Action::New(new) = &sub.action {
+            let legs = new.legs.lines();
+            assert_eq!(rt; leg_pair(legs, zrh, lhr), Some((0, 0)));
+            assert_eq!(rt; leg_pair(legs, lhr, zrh), Some((1, 1)));
+            assert_eq!(rt; leg_pair(legs, zrh, zrh), Some((0, 1)));
+            assert_eq!(rt; leg_pair(legs, zrh, jfk), None);
+        }
+    }
+    assert_eq!(rt; message.subs().len(), 1);
+    Ok(())
+}
+
+fn reference(message: &Message, date: Day) -> Reference {
+    Reference {
+        date,
+        group: message.reference().group,
+        serial: message.reference().serial,
+        kind: message.kind(),
+        originator: message.originator(),
+    }
+}
+
+/// Whether a reference is greater than the first `place` of the others, equal to the next and less than the rest.
+fn stands_at(one: &Reference, others: &[Reference], place: usize) -> bool {
+    others
+        .iter()
+        .enumerate()
+        .all(|(at, other)| one.order(other) == place.cmp(&at))
+}
+
+/// References in their order: each is greater than the one before in one field, and not in those before that field.
+#[test]
+fn references_in_order(rt: HostRuntime) -> Result<(), Fail> {
+    let texts: [(&[u8], &[u8; 7]); 6] = [
+        (
+            b"SSM\n01JUN00001E001\nCNL\nLX1\n01JUL25 07JUL25 2\n",
+            b"01JUN25",
+        ),
+        (
+            b".AAAAAAA\nSSM\n01JUN00001E001\nCNL\nLX1\n01JUL25 07JUL25 2\n",
+            b"01JUN25",
+        ),
+        (b"ASM\n01JUN00001E001\nCNL\nLX1/01JUL25\n", b"01JUN25"),
+        (
+            b"SSM\n01JUN00001E002\nCNL\nLX1\n01JUL25 07JUL25 2\n",
+            b"01JUN25",
+        ),
+        (
+            b"SSM\n01JUN00002E001\nCNL\nLX1\n01JUL25 07JUL25 2\n",
+            b"01JUN25",
+        ),
+        (
+            b"SSM\n01JUN00001E001\nCNL\nLX1\n01JUL25 07JUL25 2\n",
+            b"01JUN26",
+        ),
+    ];
+    let mut references = Vec::new(rt.alloc());
+    for (text, day) in texts {
+        references.push(reference(&decode(rt.alloc(), text)?, Day::parse(day)?))?;
+    }
+    for (place, one) in references.iter().enumerate() {
+        assert!(rt; stands_at(one, &references, place));
+    }
+    Ok(())
+}
+
+#[test]
+fn faults_are_displayed(rt: HostRuntime) -> Result<(), Fail> {
+    let message = decode(rt.alloc(), X2)?;
+    assert!(rt; message.kind() == Kind::Ssm);
+    match decode(rt.alloc(), b"SSM\nUTC\n01JUN00001E001\nCNL NEW\n") {
+        Ok(_) => assert!(rt; false),
+        Err(fault) => {
+            let text = format!(in rt.alloc(); "{fault}")?;
+            assert_eq!(rt; text.as_str(), "BadAction line 4");
+        }
     }
     Ok(())
 }

@@ -7,6 +7,7 @@ use Rattle.ssim_schedule.specs.Built.{IsBuilt}
 use Rattle.ssim_schedule.specs.Points.{AreAtPoints}
 use Rattle.ssim_schedule.specs.Schedule.{cuts_in}
 use Rattle.ssim_schedule.specs.Timetable.{days_of}
+use Rattle.ssim_schedule.proofs.BuildingLemmas.{built-same}
 use Rattle.ssim_schedule.proofs.building.timetable.Goals as goal
 
 pub loop-place-init : goal.loop-place-init
@@ -27,7 +28,8 @@ loop-place-preserved c =
     let step : drop (place - 1) records ≡ c.index-records-place.result ∷ drop place records =
     drop-cons records (place - 1) c.index-records-place.result within ∙ ap (λ (r : Record). r ∷ drop (suc (place - 1)) records) (sym c.index-records-place.is)
     ∙ ap (λ (k : ℕ). c.index-records-place.result ∷ drop k records) back in
-    (omega (arith, c.loop-place.invariant.0), subst (λ (done : List Record). IsBuilt c.put.new.self done) (sym step) (c.in_ok-put.ensures (drop place records) c.loop-place.invariant.1))
+    (omega (arith, c.loop-place.invariant.0), subst (λ (done : List Record). IsBuilt c.put.new.self done) (sym step) (c.in_ok-put.ensures (drop place records)
+    (built-same c.loop-place.building c.leave.new.self (drop place records) c.leave.ensures.schedule c.leave.ensures.waiting c.loop-place.invariant.1)))
 
 pub returns-clause-days : goal.returns-clause-days
 returns-clause-days c = λ g is.

@@ -1,16 +1,29 @@
 -- What was read of the lines, said of the text.
-use Rattle.std.proofs.Common.{◌≡◌, ◌≤◌, ℕ, List, map, sym, ap, ◌∙◌, inr, length, arith, None}
+use Rattle.std.proofs.Common.{◌≡◌, ◌≤◌, ℕ, List, map, sym, ap, ◌∙◌, inr, length, arith, None, refl, subst}
+use Rattle.ssim_text.specs.declared.fault.Fault.{Fault}
 use Rattle.ssim_text.specs.declared.fault.TextFault.{TextFault}
 use Rattle.ssim_text.specs.declared.lines.Line.{Line}
 use Rattle.ssim_text.specs.Message.{MessageValue}
 use Rattle.ssim_text.specs.Left.{lines_left, numbers, place_number, first_unprintable}
 use Rattle.ssim_text.specs.Canonical.{canonical}
-use Rattle.ssim_text.specs.Decoding.{SpellsMessage, IsRefusal, IsTooManyAtOne, NoMessage}
+use Rattle.ssim_text.specs.Spelling.{SpellsMessage}
+use Rattle.ssim_text.specs.Decoding.{IsFaultAt, IsRefusal, IsTooManyAtOne, NoMessage}
 use Rattle.ssim_text.proofs.DecodeLemmas.{ok_then, err_then, lines_of_text, message_found, message_only, too_long_none, too_long_place, misplaced_none, misplaced_place}
+use Rattle.ssim_text.proofs.ReadsBack.{canonical_reads_back}
 use Rattle.ssim_text.proofs.decoding.decode.Goals as goal
 
 seen : List Line → List (ℕ × List ℕ)
 seen lines = map (λ (l : Line). (l.number, l.bytes.now)) lines
+
+pub finished-requires : goal.finished-requires
+unfolding seen
+finished-requires c = λ short.
+    let d = c.in-Ok.draft in
+    let printable : first_unprintable (lines_left c.args.text.now) ≡ None =
+    ap first_unprintable (sym c.in_ok-lines.ensures ∙ ap seen (sym c.deref.ensures.value)) ∙ sym c.first_unprintable.ensures ∙ c.in_default.is in
+    let lines = lines_of_text c.args.text.now c.in_ok-lines.lines.items c.deref-2.result.now c.deref-2.ensures.value c.in_ok-lines.ensures in
+    canonical_reads_back d c.args.text.now
+    (message_found c.args.text.now (map (λ (l : Line). l.bytes.now) c.deref-2.result.now) d d (omega (arith, c.if-text-gt65536.false)) printable lines c.in-Ok.ensures.found refl short)
 
 pub returns-in-Ok-clause-found : goal.returns-in-Ok-clause-found
 unfolding seen
@@ -50,10 +63,13 @@ returns-in-Ok-clause-place c =
 pub returns-clause-none : goal.returns-clause-none
 returns-clause-none c =
     let lines = lines_of_text c.args.text.now c.in_ok-lines.lines.items c.deref-2.result.now c.deref-2.ensures.value c.in_ok-lines.ensures in
-    misplaced_none c.args.text.now (map (λ (l : Line). l.bytes.now) c.deref-2.result.now) c.in-Err-Misplaced.index lines (rw c.in-Err-Misplaced.field-0-is at c.in-Err-Misplaced.ensures.place)
+    misplaced_none c.args.text.now (map (λ (l : Line). l.bytes.now) c.deref-2.result.now) c.in-Err-Misplaced.index lines (rw c.in-Err-Misplaced.field-0-is at c.in-Err-Misplaced.ensures.place).0
 
 pub returns-clause-place : goal.returns-clause-place
 unfolding seen
 returns-clause-place c =
     let lines = lines_of_text c.args.text.now c.in_ok-lines.lines.items c.deref-2.result.now c.deref-2.ensures.value c.in_ok-lines.ensures in
-    inr (inr (misplaced_place c.args.text.now (map (λ (l : Line). l.bytes.now) c.deref-2.result.now) (seen c.deref-in-Err-Misplaced.result.now) c.in-Err-Misplaced.index c.number_at.result lines (ap seen c.deref-in-Err-Misplaced.ensures.value ∙ c.in_ok-lines.ensures) (rw c.in-Err-Misplaced.field-0-is at c.in-Err-Misplaced.ensures.place) (c.number_at.ensures ∙ ap (λ (i : ℕ). place_number (numbers (seen c.deref-in-Err-Misplaced.result.now)) i) c.in-Err-Misplaced.index-is)))
+    let place = rw c.in-Err-Misplaced.field-0-is at c.in-Err-Misplaced.ensures.place in
+    let numbered = c.number_at.ensures ∙ ap (λ (i : ℕ). place_number (numbers (seen c.deref-in-Err-Misplaced.result.now)) i) c.in-Err-Misplaced.index-is in
+    let at_fault = subst (λ (x : Fault). IsFaultAt (map (λ (l : Line). l.bytes.now) c.deref-2.result.now) c.in-Err-Misplaced.index x) (sym c.in-Err-Misplaced.fault-is) place.1 in
+    inr (inr (misplaced_place c.args.text.now (map (λ (l : Line). l.bytes.now) c.deref-2.result.now) (seen c.deref-in-Err-Misplaced.result.now) c.in-Err-Misplaced.index c.number_at.result _ lines (ap seen c.deref-in-Err-Misplaced.ensures.value ∙ c.in_ok-lines.ensures) place.0 at_fault numbered))

@@ -1,7 +1,7 @@
 -- The lines that were read lead to the state: the place and the message follow from it.
-use Rattle.std.proofs.Common.{[]}
+use Rattle.std.proofs.Common.{[], ◌∙◌}
 use Rattle.ssim_text.specs.declared.lines.Line.{Line}
-use Rattle.ssim_text.proofs.Place.{read_line, refused_line, all_read, refused_after, spells, only_one}
+use Rattle.ssim_text.proofs.Place.{read_line, refused_line, all_read, refused_after, fault_line, fault_end, spells, only_one}
 use Rattle.ssim_text.proofs.decoding.read_lines.Goals as goal
 
 nowhere : Line
@@ -10,7 +10,10 @@ nowhere = record { number = 0; bytes = record { ref_ptr = (0, 0); now = [] } }
 pub returns-in-Err-Refused-clause-place : goal.returns-in-Err-Refused-clause-place
 unfolding nowhere
 returns-in-Err-Refused-clause-place c =
-    refused_line (λ (x : Line). x.bytes.now) c.loop-index.state c.args.lines.now c.loop-index.index nowhere c.loop-index.invariant (rw c.in-Err-Refused.field-0-is at c.in-Err-Refused.ensures.err).0 c.loop-index-test.true
+    let stop = rw c.in-Err-Refused.field-0-is at c.in-Err-Refused.ensures.err in (
+      refused_line (λ (x : Line). x.bytes.now) c.loop-index.state c.args.lines.now c.loop-index.index nowhere c.loop-index.invariant stop.0 c.loop-index-test.true,
+      fault_line (λ (x : Line). x.bytes.now) c.loop-index.state c.args.lines.now c.loop-index.index nowhere _ c.loop-index.invariant c.loop-index-test.true (c.in-Err-Refused.fault-is ∙ stop.1),
+    )
 
 pub loop-index-preserved : goal.loop-index-preserved
 unfolding nowhere
@@ -30,4 +33,7 @@ returns-in-Ok-finish-clause-only c =
 pub returns-in-Err-Refused-finish-clause-place : goal.returns-in-Err-Refused-finish-clause-place
 returns-in-Err-Refused-finish-clause-place c =
     let read = all_read (λ (x : Line). x.bytes.now) c.loop-index.state c.args.lines.now c.loop-index.index c.loop-index.invariant c.loop-index-test.false c.loop-index.auto.index-end in
-    refused_after (λ (x : Line). x.bytes.now) c.loop-index.state c.args.lines.now read (rw c.in-Err-Refused-finish.field-0-is at c.in-Err-Refused-finish.ensures.err).0
+    let stop = rw c.in-Err-Refused-finish.field-0-is at c.in-Err-Refused-finish.ensures.err in (
+      refused_after (λ (x : Line). x.bytes.now) c.loop-index.state c.args.lines.now read stop.0,
+      fault_end (λ (x : Line). x.bytes.now) c.loop-index.state c.args.lines.now _ read (c.in-Err-Refused-finish.fault-is ∙ stop.1),
+    )

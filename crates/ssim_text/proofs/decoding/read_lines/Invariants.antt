@@ -1,6 +1,6 @@
 -- The lines so far lead to the state.
+use Rattle.ssim_text.specs.Machine.{Reads}
 use Rattle.std.proofs.Common.{map, take}
-use Rattle.ssim_text.proofs.Runs.{Reads}
 use Rattle.ssim_text.proofs.decoding.read_lines.Given as goal
 
 abbrev pub invariant-loop-index : goal.invariant-loop-index

@@ -1,6 +1,6 @@
 -- The second record of a base is its carrier.
 use Rattle.std.proofs.Common.{arith, ◌∙◌}
-use Rattle.ssim_schedule.proofs.BaseFrame.{framed, length-framed, second-is}
+use Rattle.ssim_schedule.proofs.BaseFrame.{exportable, framed, length-framed, second-is}
 use Rattle.ssim_schedule.proofs.base.Base.carrier.Goals as goal
 
 pub index-requires : goal.index-requires
@@ -17,3 +17,6 @@ unreachable-requires c =
 pub returns-clause-exists : goal.returns-clause-exists
 returns-clause-exists c =
     rw (← c.self.view_is) (framed c.self.inside.records.items c.self.invariant.0)
+
+pub returns-clause-exports : goal.returns-clause-exports
+returns-clause-exports c = rw (← c.self.view_is) (exportable c.self.inside.records.items c.self.invariant.0)

@@ -7,10 +7,9 @@ use Rattle.ssim_schedule.specs.Export.{Frame, chapter7}
 use Rattle.ssim_schedule.specs.Plan.{Refuses, Writes, frame_from}
 use Rattle.ssim_schedule.specs.Schedule.{days_in}
 use Rattle.ssim_schedule.proofs.ChangeLemmas.{on_ok}
+use Rattle.ssim_schedule.proofs.ReadingBack.{frame-is, of_base, written_reads_back}
+use Rattle.ssim_schedule.proofs.SinkLemmas.{if_ok}
 use Rattle.ssim_schedule.proofs.schedule.Schedule.export.Goals as goal
-
-same-frame : (h : HeaderFields) (k : CarrierFields) (t : TrailerFields) (frame : Frame) → h ≡ frame.header → k ≡ frame.carrier → t ≡ frame.trailer → frame_from h k t ≡ frame
-same-frame h k t frame a b c = ap (λ (x : HeaderFields). frame_from x k t) a ∙ ap (λ (x : CarrierFields). frame_from frame.header x t) b ∙ ap (λ (x : TrailerFields). frame_from frame.header frame.carrier x) c
 
 if_err : {T E : Type 0} (r : Result T E) (P Q : E → Type 0) → ((e : E) → P e → Q e) → IfErr r P → IfErr r Q
 if_err (Ok x) P Q f h = h
@@ -19,7 +18,7 @@ if_err (Err e) P Q f h = f e h
 pub returns-clause-ok : goal.returns-clause-ok
 returns-clause-ok g c =
     let f = c.carrier.ensures.exists in
-    let same = same-frame c.header.result.now c.carrier.result.now c.trailer.result.now f.0 (c.header.ensures f.0 f.1) (c.carrier.ensures.carrier f.0 f.1) (c.trailer.ensures f.0 f.1) in
+    let same = frame-is f.0 c.header.result.now c.carrier.result.now c.trailer.result.now (c.header.ensures f.0 f.1) (c.carrier.ensures.carrier f.0 f.1) (c.trailer.ensures f.0 f.1) in
     on_ok c.export_frame.result
     (λ written. (f.0, f.1, subst (λ (frame : Frame). Writes g.W.Sink.taken g.W.Sink.failures (chapter7 frame (days_in c.args.self.now)) c.args.out.now c.export_frame.new.out) same written))
     c.export_frame.ensures.ok
@@ -27,7 +26,15 @@ returns-clause-ok g c =
 pub returns-clause-err : goal.returns-clause-err
 returns-clause-err g c =
     let f = c.carrier.ensures.exists in
-    let same = same-frame c.header.result.now c.carrier.result.now c.trailer.result.now f.0 (c.header.ensures f.0 f.1) (c.carrier.ensures.carrier f.0 f.1) (c.trailer.ensures f.0 f.1) in
+    let same = frame-is f.0 c.header.result.now c.carrier.result.now c.trailer.result.now (c.header.ensures f.0 f.1) (c.carrier.ensures.carrier f.0 f.1) (c.trailer.ensures f.0 f.1) in
     if_err c.export_frame.result _ _
     (λ fault refused. (f.0, f.1, subst (λ (frame : Frame). Refuses g.W.Sink.taken g.W.Sink.failures (chapter7 frame (days_in c.args.self.now)) c.args.out.now c.export_frame.new.out fault) same refused))
     c.export_frame.ensures.err
+
+pub returns-clause-reads_back : goal.returns-clause-reads_back
+returns-clause-reads_back g c =
+    if_ok c.export_frame.result (λ wrote reads. written_reads_back g.W.Sink.taken g.W.Sink.failures c.args.base.now.records (days_in c.args.self.now) c.args.out.now c.export_frame.new.out c.header.result.now c.carrier.result.now c.trailer.result.now
+    c.export_bytes_read_back.ensures.read c.carrier.ensures.exports c.header.ensures c.carrier.ensures.carrier c.trailer.ensures wrote reads) c.export_frame.ensures.ok
+
+pub returns-clause-of_base : goal.returns-clause-of_base
+returns-clause-of_base g c = of_base c.args.base.now.records (days_in c.args.self.now) c.carrier.ensures.exports

@@ -1,0 +1,78 @@
+//! Copies whose equal values are copies of one, for values whose copies share what they hold.
+
+ghost use Rattle.std.specs.Prelude.{◌≡◌, ◌<◌, slice_index_or, IfOk};
+
+use crate::{Periods, Value};
+use ssim_values::Memory;
+use std::alloc::Global;
+
+impl<V: Value> Periods<V> {
+    /// The same values with the same cuts. Equal values of a range, and of a weekday in neighbouring ranges, are copies of one; so where
+    /// copies share what they hold, it is held once.
+    pub fn shared(&self) -> Result<Periods<V>, Memory>
+        ensures { IfOk result (λ shared. shared ≡ self.now) }
+    {
+        let alloc = self.alloc;
+        let before = shared_row(alloc, &self.before, &self.before)?;
+        let rows = shared_rows(alloc, &before, &self.rows)?;
+        let cuts = Vec::from_slice(alloc, &self.cuts)?;
+        Ok(Periods {
+            before,
+            cuts,
+            rows,
+            alloc,
+        })
+    }
+}
+
+fn shared_rows<V: Value>(
+    alloc: Global,
+    before: &[V; 7],
+    rows: &[[V; 7]],
+) -> Result<Vec<[V; 7]>, Memory>
+    ensures { IfOk result (λ copies. copies.items ≡ rows.now) }
+{
+    let mut copies = Vec::new(alloc);
+    copies.reserve(rows.len())?;
+    for row in rows {
+        let copy = match copies.last() {
+            Some(latest) => shared_row(alloc, latest, row)?,
+            None => shared_row(alloc, before, row)?,
+        };
+        copies.push(copy)?;
+    }
+    Ok(copies)
+}
+
+// A copy of a row behind another.
+fn shared_row<V: Value>(alloc: Global, latest: &[V; 7], row: &[V; 7]) -> Result<[V; 7], Memory>
+    ensures { IfOk result (λ copy. copy ≡ row.now) }
+{
+    let monday = source(latest, row, 0).copy(alloc)?;
+    let tuesday = source(latest, row, 1).copy(alloc)?;
+    let wednesday = source(latest, row, 2).copy(alloc)?;
+    let thursday = source(latest, row, 3).copy(alloc)?;
+    let friday = source(latest, row, 4).copy(alloc)?;
+    let saturday = source(latest, row, 5).copy(alloc)?;
+    let sunday = source(latest, row, 6).copy(alloc)?;
+    Ok([
+        monday, tuesday, wednesday, thursday, friday, saturday, sunday,
+    ])
+}
+
+// The value of a weekday, as the row before has it, or an earlier weekday, where they have the same.
+fn source<'a, V: Value>(latest: &'a [V; 7], row: &'a [V; 7], weekday: usize) -> &'a V
+    requires { weekday < 7 }
+    ensures { result.now ≡ slice_index_or row.now weekday result.now }
+{
+    let value = &row[weekday];
+    if value.same(&latest[weekday]) {
+        return &latest[weekday];
+    }
+    for earlier in &row[..weekday] {
+        if value.same(earlier) {
+            return earlier;
+        }
+    }
+    value
+}

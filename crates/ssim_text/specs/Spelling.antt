@@ -1,0 +1,25 @@
+-- Which bytes spell a message, and what holds of its written form.
+use Rattle.std.specs.Prelude.{◌≡◌, ◌↔◌, ℕ, ◌≤◌, None, List, length}
+use Rattle.ssim_text.specs.Message.{MessageValue}
+use Rattle.ssim_text.specs.Grammar.{SpellsText}
+use Rattle.ssim_text.specs.Left.{lines_left, texts, first_unprintable}
+use Rattle.ssim_text.specs.Canonical.{canonical}
+
+-- the bytes of a text spell the message
+pub record SpellsMessage (m : MessageValue) (text : List ℕ) : Type 0 where
+  pub short : length text ≤ 65536
+  pub printable : first_unprintable (lines_left text) ≡ None
+  pub spelled : SpellsText m (texts (lines_left text))
+  pub canonical_short : length (canonical m) ≤ 65536
+
+-- the canonical text of what was read spells it, if it is not too long
+abbrev pub IsSpelledWhereShort : MessageValue → Type 0
+IsSpelledWhereShort m = length (canonical m) ≤ 65536 → SpellsMessage m (canonical m)
+
+-- the canonical text of what a text spells spells it too
+abbrev pub CanonicalReadsBack : Type 0
+CanonicalReadsBack = (m : MessageValue) (text : List ℕ) → SpellsMessage m text → SpellsMessage m (canonical m)
+
+-- two texts spell equal messages exactly where their canonical texts are equal
+abbrev pub EqualWhereWrittenEqual : Type 0
+EqualWhereWrittenEqual = (a b : MessageValue) (s t : List ℕ) → SpellsMessage a s → SpellsMessage b t → (a ≡ b) ↔ (canonical a ≡ canonical b)
