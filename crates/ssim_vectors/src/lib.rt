@@ -1,0 +1,15 @@
+//! Worked examples of the whole program, and what they run on.
+//!
+//! - [`data`]: data sets, a station table and messages.
+//! - [`MemoryStore`]: files in memory, which the program's contract speaks of; [`NoStore`]: a store that gives nothing.
+//! - [`FullWriter`]: a writer that fails after some bytes; [`Pieces`]: a reader that fails after some bytes, or never ends.
+#![tactic(auto)]
+
+pub mod data;
+mod devices;
+mod memory_store;
+#[cfg(test)]
+mod tests;
+
+pub use devices::{FullWriter, NoStore, Pieces};
+pub use memory_store::MemoryStore;
