@@ -23,6 +23,8 @@ mod line;
 mod note;
 mod put;
 mod reading;
+#[cfg(test)]
+mod resolve_tests;
 mod resolved;
 mod resolving;
 mod schedule;
@@ -30,6 +32,8 @@ mod schedule;
 mod station_tests;
 mod stations;
 mod taken;
+#[cfg(test)]
+mod test_data;
 #[cfg(test)]
 mod tests;
 mod waiting;

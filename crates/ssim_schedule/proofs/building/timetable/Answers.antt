@@ -27,9 +27,11 @@ loop-place-preserved c =
     let back : suc (place - 1) ≡ place = omega arith in
     let step : drop (place - 1) records ≡ c.index-records-place.result ∷ drop place records =
     drop-cons records (place - 1) c.index-records-place.result within ∙ ap (λ (r : Record). r ∷ drop (suc (place - 1)) records) (sym c.index-records-place.is)
-    ∙ ap (λ (k : ℕ). c.index-records-place.result ∷ drop k records) back in
-    (omega (arith, c.loop-place.invariant.0), subst (λ (done : List Record). IsBuilt c.put.new.self done) (sym step) (c.in_ok-put.ensures (drop place records)
-    (built-same c.loop-place.building c.leave.new.self (drop place records) c.leave.ensures.schedule c.leave.ensures.waiting c.loop-place.invariant.1)))
+    ∙ ap (λ (k : ℕ). c.index-records-place.result ∷ drop k records) back in (
+      omega (arith, c.loop-place.invariant.0),
+      subst (λ (done : List Record). IsBuilt c.put.new.self done) (sym step) (c.in_ok-put.ensures (drop place records)
+          (built-same c.loop-place.building c.leave.new.self (drop place records) c.leave.ensures.schedule c.leave.ensures.waiting c.loop-place.invariant.1)),
+    )
 
 pub returns-clause-days : goal.returns-clause-days
 returns-clause-days c = λ g is.

@@ -1,0 +1,206 @@
+//! Data sets for tests, and how they are read and exported.
+
+ghost use Rattle.std.specs.Prelude.{None};
+
+use crate::{Base, BaseFault, BaseRead, Schedule, Stations};
+use ssim_records::{Bytes, DeviceFault, Source};
+use std::alloc::Global;
+use std::test::Fail;
+
+// A data set of four records.
+pub(crate) const HEADER: &[u8; 200] =
+    b"1AIRLINE STANDARD SCHEDULE DATA SET     1                                                                                                                                                      001000001";
+
+pub(crate) const CARRIER: &[u8; 200] =
+    b"2ULX      S25 30MAR2525OCT2501FEB25SUMMER 2025                  01FEB25                                                                                                                       0900000002";
+
+pub(crate) const LEG: &[u8; 200] =
+    b"3 LX 05440101J30MAR2525OCT251234567 ZRH05450545+0200  LHR07000700+0100  320CY                                                                                               C12Y138             00000003";
+
+pub(crate) const TRAILER: &[u8; 200] =
+    b"5 LX 01FEB25                                                                                                                                                                               000003E000004";
+
+pub(crate) const FILL: &[u8; 200] = &[b'0'; 200];
+
+/// A record with other bytes from a column on.
+pub(crate) fn with(line: &[u8; 200], column: usize, other: &[u8]) -> [u8; 200] {
+    let mut changed = *line;
+    for (place, byte) in other.iter().enumerate() {
+        if 0 < column && column <= 200 && place <= 200 - column {
+            changed[column - 1 + place] = *byte;
+        }
+    }
+    changed
+}
+
+/// Six digits.
+pub(crate) fn six(number: u32) -> [u8; 6] {
+    let mut digits = [b'0'; 6];
+    let mut rest = number;
+    for place in 0..6 {
+        digits[5 - place] = b'0' + (rest % 10) as u8;
+        rest /= 10;
+    }
+    digits
+}
+
+/// The records with this serial, and in a trailer the serial before as its check reference.
+pub(crate) fn numbered(line: &[u8; 200], serial: u32) -> [u8; 200] {
+    let counted = with(line, 195, &six(serial));
+    if line[0] == b'5' && 0 < serial {
+        with(&counted, 188, &six(serial - 1))
+    } else {
+        counted
+    }
+}
+
+/// The record with this name: `H`, `C`, `L` and `T` are those above, `0` is fill, `1` the first of the others.
+pub(crate) fn named(name: u8, others: &[[u8; 200]]) -> [u8; 200] {
+    match name {
+        b'H' => *HEADER,
+        b'C' => *CARRIER,
+        b'L' => *LEG,
+        b'T' => *TRAILER,
+        b'1'..=b'9' => match others.get(name as usize - 49) {
+            Some(record) => *record,
+            None => *FILL,
+        },
+        _ => *FILL,
+    }
+}
+
+pub(crate) fn push_line(bytes: &mut Vec<u8>, record: &[u8; 200]) -> Result<(), Fail> {
+    bytes.extend_from_slice(record.as_slice())?;
+    bytes.push(b'\n')?;
+    Ok(())
+}
+
+/// The lines of the records with these names.
+pub(crate) fn lines(alloc: Global, names: &[u8], others: &[[u8; 200]]) -> Result<Vec<u8>, Fail> {
+    let mut bytes = Vec::new(alloc);
+    for name in names {
+        push_line(&mut bytes, &named(*name, others))?;
+    }
+    Ok(bytes)
+}
+
+/// The lines of an export with these legs and segments between this carrier and the trailer: serials, check reference
+/// and fill as the format wants them.
+pub(crate) fn export_of(
+    alloc: Global,
+    carrier: &[u8; 200],
+    names: &[u8],
+    others: &[[u8; 200]],
+) -> Result<Vec<u8>, Fail> {
+    let mut bytes = lines(alloc, b"H000010000", &[*carrier])?;
+    let mut serial: u32 = 3;
+    for name in names {
+        push_line(&mut bytes, &numbered(&named(*name, others), serial))?;
+        serial = serial.wrapping_add(1);
+    }
+    for _ in 0..(5 - names.len() % 5) % 5 {
+        push_line(&mut bytes, FILL)?;
+    }
+    push_line(&mut bytes, &numbered(TRAILER, serial))?;
+    bytes.extend_from_slice(&lines(alloc, b"0000", &[])?)?;
+    Ok(bytes)
+}
+
+/// A reader of at most so many bytes at a time, which fails at one of its calls.
+#[derive(Drop)]
+pub(crate) struct Pieces<'a> {
+    pub(crate) bytes: &'a [u8],
+    pub(crate) piece: usize,
+    pub(crate) came: u128,
+    pub(crate) calls: u64,
+    pub(crate) fails_at: u64,
+    pub(crate) failures: u64,
+}
+
+impl<'a> Source for Pieces<'a> {
+    ghost left = { λ _. None };
+
+    ghost came = { λ s. s.came };
+
+    ghost failures = { λ s. s.failures };
+
+    fn fetch(&mut self, into: &mut [u8]) -> Result<usize, DeviceFault> {
+        self.calls = self.calls.wrapping_add(1);
+        if self.calls == self.fails_at {
+            self.failures = self.failures.wrapping_add(1);
+            return Err(DeviceFault::Failed);
+        }
+        let n = self.bytes.len().min(into.len()).min(self.piece);
+        let (front, rest) = self.bytes.split_at(n);
+        into[..n].copy_from_slice(front);
+        self.bytes = rest;
+        self.came = self.came.wrapping_add(n as u128);
+        Ok(n)
+    }
+}
+
+pub(crate) fn in_pieces(bytes: &[u8], piece: usize, fails_at: u64) -> Pieces<'_> {
+    Pieces {
+        bytes,
+        piece,
+        came: 0,
+        calls: 0,
+        fails_at,
+        failures: 0,
+    }
+}
+
+pub(crate) fn no_stations(alloc: Global) -> Result<Stations, Fail> {
+    Ok(Stations::read(alloc, b"")?)
+}
+
+pub(crate) fn read(alloc: Global, bytes: &[u8]) -> Result<BaseRead, Fail> {
+    let mut whole = bytes;
+    let read = Base::read(alloc, &mut whole, no_stations(alloc)?, 10_000_000)?;
+    let mut slow = in_pieces(bytes, 1, 0);
+    let again = Base::read(alloc, &mut slow, no_stations(alloc)?, 10_000_000)?;
+    if !read.base.same(&again.base) || read.notes.as_slice() != again.notes.as_slice() {
+        return Err("a base is read alike in whatever pieces it comes".into());
+    }
+    Ok(read)
+}
+
+/// The number and record of the refusal; 0 where the data set is a base.
+pub(crate) fn refusal(alloc: Global, bytes: &[u8], limit: u64) -> Result<(u8, u64), Fail> {
+    let mut whole = bytes;
+    let answer = Base::read(alloc, &mut whole, no_stations(alloc)?, limit);
+    let mut slow = in_pieces(bytes, 1, 0);
+    let again = Base::read(alloc, &mut slow, no_stations(alloc)?, limit);
+    if answer.as_ref().err() != again.as_ref().err() {
+        return Err("a data set is refused alike in whatever pieces it comes".into());
+    }
+    Ok(place(&answer))
+}
+
+pub(crate) fn place(answer: &Result<BaseRead, BaseFault>) -> (u8, u64) {
+    match answer {
+        Ok(_) => (0, 0),
+        Err(BaseFault::Refused(record, refusal)) => (refusal.number(), *record),
+        Err(BaseFault::Read(fault)) => (fault.number(), fault.record()),
+        Err(BaseFault::Memory) => (90, 0),
+    }
+}
+
+pub(crate) fn export_base(alloc: Global, base: &Base) -> Result<Bytes, Fail> {
+    let mut bytes = Bytes::new(alloc);
+    Schedule::of(base)?.export(base, &mut bytes)?;
+    Ok(bytes)
+}
+
+/// The export of a data set, which reads back to itself without a note.
+pub(crate) fn exported(alloc: Global, bytes: &[u8]) -> Result<Bytes, Fail> {
+    let export = export_base(alloc, &read(alloc, bytes)?.base)?;
+    let back = read(alloc, export.bytes())?;
+    if !back.notes.is_empty() {
+        return Err("nothing is noted of an export".into());
+    }
+    if export_base(alloc, &back.base)?.bytes() != export.bytes() {
+        return Err("an export is exported as itself".into());
+    }
+    Ok(export)
+}
