@@ -5,3 +5,4 @@ pub mod Lines
 pub mod Exporting
 pub mod Leaving
 pub mod Faults
+pub mod Again

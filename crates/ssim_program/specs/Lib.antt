@@ -5,3 +5,4 @@ pub mod Files
 pub mod Refusal
 pub mod Printed
 pub mod Made
+pub mod Again

@@ -5,6 +5,7 @@ mod check;
 mod command_line;
 mod commands;
 mod data_set;
+pub mod laws;
 mod printed;
 mod program;
 mod refusal;

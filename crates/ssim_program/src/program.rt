@@ -2,6 +2,7 @@
 
 ghost use Rattle.std.specs.Prelude.{◌≡◌, ◌≤◌, ◌++◌, ◌∷◌, [], OnErr, OnOk, map};
 ghost use Rattle.std.specs.Io.KnownBytes.{Appends, Keeps};
+ghost use Rattle.ssim_program.specs.Again.{WritesItself};
 ghost use Rattle.ssim_program.specs.Line.{Line, Spells};
 ghost use Rattle.ssim_program.specs.Made.{Leaves, Writes};
 ghost use Rattle.ssim_program.specs.Refusal.{refusal_text};
@@ -37,6 +38,9 @@ pub fn run<S: Store, O: Write, E: Write>(
     ensures done { (line : Line) → Spells (map (λ w. w.now) words.now) line → result ≡ 0 → Writes line (S.files store.old) (O.contents out.old) (O.contents out.new) }
     ensures quiet { (line : Line) → Spells (map (λ w. w.now) words.now) line → result ≡ 0 → Keeps (E.contents err.old) (E.contents err.new) }
 
+    // What `tidy` wrote is read as a base, with nothing noted, whose export it is: `laws::tidied_once`.
+    ensures again { (line : Line) → Spells (map (λ w. w.now) words.now) line → result ≡ 0 → WritesItself line (O.contents out.old) (O.contents out.new) }
+
     // A refusal wrote nothing to `out`, unless `out` itself failed.
     ensures refused { (line : Line) → Spells (map (λ w. w.now) words.now) line → result ≡ 1 → Leaves line (S.files store.old) (O.contents out.old) (O.contents out.new) }
     ensures files { S.files store.new ≡ S.files store.old }
@@ -63,6 +67,7 @@ fn act<'n, S: Store, O: Write>(
     out: &mut O,
 ) -> Result<(), Refusal<'n>>
     ensures done { OnOk result (Writes (line_of request.entry) (S.files store.old) (O.contents out.old) (O.contents out.new)) }
+    ensures again { OnOk result (WritesItself (line_of request.entry) (O.contents out.old) (O.contents out.new)) }
     ensures refused { OnErr result (Leaves (line_of request.entry) (S.files store.old) (O.contents out.old) (O.contents out.new)) }
     ensures same { S.files store.new ≡ S.files store.old }
 {

@@ -2,6 +2,7 @@
 
 ghost use Rattle.std.specs.Prelude.{◌≡◌, OnErr, OnOk};
 ghost use Rattle.ssim_program.specs.Made.{Exports, Leaves, LeavesExport, Writes};
+ghost use Rattle.ssim_program.specs.Again.{GrowsByItself};
 ghost use Rattle.ssim_program.specs.Line.{Tidy};
 ghost use Rattle.ssim_program.specs.Refusal.{refusal_of_export};
 
@@ -24,6 +25,7 @@ pub(crate) fn tidy<'n, S: Store, O: Write>(
     out: &mut O,
 ) -> Result<(), Refusal<'n>>
     ensures done { OnOk result (Writes (Tidy name.entry.now) (S.files store.old) (O.contents out.old) (O.contents out.new)) }
+    ensures again { OnOk result (GrowsByItself (O.contents out.old) (O.contents out.new)) }
     ensures refused { OnErr result (Leaves (Tidy name.entry.now) (S.files store.old) (O.contents out.old) (O.contents out.new)) }
     ensures same { S.files store.new ≡ S.files store.old }
 {
@@ -39,6 +41,7 @@ pub(crate) fn tidy<'n, S: Store, O: Write>(
 /// Writes the canonical export of a base, and then wants it written on.
 fn export<O: Write>(base: &Base, out: &mut O) -> Result<(), ExportFault>
     ensures ok { OnOk result (Exports base.now.records (O.contents out.old) (O.contents out.new)) }
+    ensures again { OnOk result (GrowsByItself (O.contents out.old) (O.contents out.new)) }
     ensures err { OnErr result (LeavesExport base.now.records (O.contents out.old) (O.contents out.new)) }
 {
     put_export(base, out)?;
@@ -51,6 +54,7 @@ fn export<O: Write>(base: &Base, out: &mut O) -> Result<(), ExportFault>
 /// Writes the canonical export of a base.
 fn put_export<O: Write>(base: &Base, out: &mut O) -> Result<(), ExportFault>
     ensures ok { OnOk result (Exports base.now.records (O.contents out.old) (O.contents out.new)) }
+    ensures again { OnOk result (GrowsByItself (O.contents out.old) (O.contents out.new)) }
     ensures err { OnErr result (LeavesExport base.now.records (O.contents out.old) (O.contents out.new)) }
 {
     let mut sink = Writing {
@@ -70,6 +74,7 @@ fn put_export<O: Write>(base: &Base, out: &mut O) -> Result<(), ExportFault>
 /// Makes the timetable of a base, and puts its canonical export.
 fn export_into<W: Sink>(base: &Base, out: &mut W) -> Result<(), ExportFault>
     ensures ok { OnOk result (Exports base.now.records (W.taken out.old) (W.taken out.new)) }
+    ensures again { OnOk result (GrowsByItself (W.taken out.old) (W.taken out.new)) }
     ensures err { OnErr result (LeavesExport base.now.records (W.taken out.old) (W.taken out.new)) }
     ensures device { W.device out.new ≡ W.device out.old }
 {

@@ -1,5 +1,6 @@
 -- The words of a command are parsed as it, or memory is wanted; so what clap shows, and no command, are no answers to them.
 use Rattle.std.proofs.Common.{subst}
+use Rattle.ssim_program.specs.Again.{WritesItself}
 use Rattle.ssim_program.specs.Line.{Line}
 use Rattle.ssim_program.specs.Made.{Leaves, Writes}
 use Rattle.ssim_program.proofs.Faults.{none_differs, shown_differs}
@@ -27,3 +28,10 @@ returns-in-Err-Shown-clause-refused g c line spells one = absurd (shown_differs 
 
 pub returns-in-Err-NoCommand-clause-known : goal.returns-in-Err-NoCommand-clause-known
 returns-in-Err-NoCommand-clause-known g c line spells = absurd (none_differs _ c.in-Err-NoCommand.field-0-is (c.in-Err-NoCommand.ensures line spells))
+
+pub returns-in-Ok-act-clause-again : goal.returns-in-Ok-act-clause-again
+returns-in-Ok-act-clause-again g c line spells zero =
+    subst (λ (l : Line). WritesItself l (g.O.Write.contents c.args.out.now) (g.O.Write.contents c.act.new.out)) (c.in-Ok.ensures line spells) c.in-Ok-act.ensures.again
+
+pub returns-in-Err-Shown-clause-again : goal.returns-in-Err-Shown-clause-again
+returns-in-Err-Shown-clause-again g c line spells zero = absurd (shown_differs _ _ c.in-Err-Shown.field-0-is (c.in-Err-Shown.ensures line spells))

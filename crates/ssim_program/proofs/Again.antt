@@ -1,0 +1,98 @@
+-- A file that is the export of its own base is read as that base, so its export is the file.
+use Rattle.std.proofs.Common.{◌≡◌, ◌∙◌, ◌⊎◌, ℕ, Bool, true, false, true≢false, List, [], Option, Result, Ok, Err, OnOk, unwrap_or, inl, inr, sym, ap, subst}
+use Rattle.ssim_values.specs.Flight.{FlightNumber}
+use Rattle.ssim_records.specs.Carrier.{CarrierFields}
+use Rattle.ssim_records.specs.Header.{HeaderFields}
+use Rattle.ssim_records.specs.Trailer.{TrailerFields}
+use Rattle.ssim_records.specs.declared.record.Record.{Record}
+use Rattle.ssim_records.specs.declared.record.Record.TheVariants.{Header, Carrier, Trailer}
+use Rattle.ssim_schedule.specs.Base.{Outcome}
+use Rattle.ssim_schedule.specs.Export.{ExportRefusal, Frame, chapter7}
+use Rattle.ssim_schedule.specs.Plan.{ReadsBackBase, frame_from}
+use Rattle.ssim_schedule.specs.ReadBack.{CanReadBack, HasFrame, ReadsBackFrom, kept_frame}
+use Rattle.ssim_schedule.specs.Reading.{FailedReader, IsReadAs, IsReadBack}
+use Rattle.ssim_schedule.specs.Timetable.{Days, days_of}
+use Rattle.ssim_schedule.specs.declared.export.ExportFault.{ExportFault}
+use Rattle.ssim_schedule.specs.declared.note.Note.{Note}
+use Rattle.ssim_schedule.proofs.BaseFrame.{first-is, last-is, second-is}
+use Rattle.ssim_program.specs.Again.{GrowsByItself, ReadsAsItself, TidiesOnce}
+use Rattle.ssim_program.specs.Made.{IsExportOf, file_limit}
+
+-- ---- a base has one frame
+
+abbrev header_of : HeaderFields → Record → HeaderFields
+header_of other (Header h) = h
+header_of other _ = other
+
+abbrev carrier_of : CarrierFields → Record → CarrierFields
+carrier_of other (Carrier c) = c
+carrier_of other _ = other
+
+abbrev trailer_of : TrailerFields → Record → TrailerFields
+trailer_of other (Trailer t) = t
+trailer_of other _ = other
+
+one_frame : (f g : Frame) (base : List Record) → HasFrame f base → HasFrame g base → f ≡ g
+one_frame f g base p q =
+    let d : Record = Header f.header in
+    let header : f.header ≡ g.header = ap (header_of f.header) (sym (first-is f base d p) ∙ first-is g base d q) in
+    let carrier : f.carrier ≡ g.carrier = ap (carrier_of f.carrier) (sym (second-is f base d p) ∙ second-is g base d q) in
+    let trailer : f.trailer ≡ g.trailer = ap (trailer_of f.trailer) (sym (last-is f base d p) ∙ last-is g base d q) in
+    ap (λ (x : HeaderFields). frame_from x f.carrier f.trailer) header
+    ∙ ap (λ (x : CarrierFields). frame_from g.header x f.trailer) carrier
+    ∙ ap (λ (x : TrailerFields). frame_from g.header g.carrier x) trailer
+
+one_export : (base : List Record) (a b : List ℕ) → IsExportOf base a → IsExportOf base b → a ≡ b
+one_export base a b p q =
+    let frame = one_frame p.0 q.0 base p.1 q.1 in
+    let same : Ok a ≡ Ok b = sym p.2 ∙ ap (λ (f : Frame). chapter7 f (days_of base)) frame ∙ q.2 in
+    ap (bytes_in a) same
+  where
+    bytes_in : List ℕ → Result (List ℕ) ExportRefusal → List ℕ
+    bytes_in other (Ok bytes) = bytes
+    bytes_in other (Err refusal) = other
+
+-- ---- the law
+
+abbrev base_in : List Record → Outcome → List Record
+base_in other (Ok read) = read.0
+base_in other (Err fault) = other
+
+abbrev is_read : Outcome → Bool
+is_read (Ok read) = true
+is_read (Err fault) = false
+
+abbrev read_as : List Record → List Note → Outcome
+read_as base notes = Ok (base, notes)
+
+as_itself : (base : List Record) (notes : List Note) (again bytes : List ℕ) (own : ReadsAsItself bytes) → IsExportOf base again
+    → (read_as base notes ≡ read_as own.base []) ⊎ FailedReader (read_as base notes) → again ≡ bytes
+as_itself base notes again bytes own export (inl e) =
+    one_export own.base again bytes (subst (λ (b : List Record). IsExportOf b again) (ap (base_in base) e) export) own.export
+as_itself base notes again bytes own export (inr f) = absurd (true≢false (ap is_read f.1))
+
+pub tidied_once : IsReadBack → TidiesOnce
+tidied_once law all name bytes again own is fits made =
+    let base = made.0 in
+    let notes = made.1 in
+    let dataset = made.2.0 in
+    let same : dataset ≡ bytes = ap (λ (o : Option (List ℕ)). unwrap_or o dataset) (sym made.2.1 ∙ is) in
+    let read : IsReadAs file_limit bytes (Ok (base, notes)) = subst (λ (d : List ℕ). IsReadAs file_limit d (Ok (base, notes))) same made.2.2 in
+    as_itself base notes again bytes own made.3 (law bytes own.count own.records own.base [] file_limit (read_as base notes) own.read own.stands fits read)
+
+-- ---- what was exported
+
+reads_itself : (frame : Frame) (days : FlightNumber → Days) (bytes : List ℕ) → ReadsBackFrom frame days bytes → ReadsAsItself bytes
+reads_itself frame days bytes r = record {
+  count = r.count;
+  records = r.records;
+  base = r.base;
+  read = r.read;
+  stands = r.stands;
+  export = (kept_frame frame, r.frame_is, r.again);
+}
+
+module _ {W : Type 0} (taken : W → Option (List ℕ)) (base : List Record) (days : FlightNumber → Days) (can : CanReadBack days) (old new : W) where
+  pub grows_if : (r : Result (Unit {0}) ExportFault) → OnOk r (CanReadBack days → ReadsBackBase taken base days old new) → OnOk r (GrowsByItself (taken old) (taken new))
+  grows_if (Ok x) h = let back = h can in (back.2, reads_itself back.0 days back.2 back.4, back.3)
+  grows_if (Err e) h = tt

@@ -1,0 +1,32 @@
+-- What `tidy` wrote, tidied again.
+use Rattle.std.specs.Prelude.{◌≡◌, ℕ, ◌+◌, ◌≤◌, List, [], length, Option, Some, Ok}
+use Rattle.std.specs.Io.KnownBytes.{Appends}
+use Rattle.ssim_records.specs.declared.record.Record.{Record}
+use Rattle.ssim_schedule.specs.Base.{Done, data_set}
+use Rattle.ssim_schedule.specs.ReadBack.{AreRead}
+use Rattle.ssim_program.specs.Files.{Files, file_of}
+use Rattle.ssim_program.specs.Line.{Line, Text, Check, Tidy}
+use Rattle.ssim_program.specs.Made.{IsExportOf, Makes, file_limit}
+
+-- the bytes are read as records, none of which is refused and of which nothing is noted, and they are the export of their base
+pub record ReadsAsItself (bytes : List ℕ) : Type 0 where
+  pub count : ℕ
+  pub records : List (ℕ × Record)
+  pub base : List Record
+  pub read : AreRead bytes count records
+  pub stands : data_set (Done (count + 1)) records ≡ Ok (base, [])
+  pub export : IsExportOf base bytes
+
+-- what `out` holds has grown by such bytes
+abbrev pub GrowsByItself : Option (List ℕ) → Option (List ℕ) → Type 0
+GrowsByItself before after = (bytes : List ℕ) × ReadsAsItself bytes × Appends before after bytes
+
+-- what a command that was done wrote, where it is `tidy`
+abbrev pub WritesItself : Line → Option (List ℕ) → Option (List ℕ) → Type 0
+WritesItself (Check name) before after = Unit {0}
+WritesItself (Tidy name) before after = GrowsByItself before after
+
+-- of a file of such bytes, `tidy` makes the same bytes
+abbrev pub TidiesOnce : Type 0
+TidiesOnce = (all : Files) (name : Text) (bytes again : List ℕ) → ReadsAsItself bytes
+    → file_of all name ≡ Some bytes → length bytes ≤ file_limit → Makes (Tidy name) (Some all) again → again ≡ bytes
