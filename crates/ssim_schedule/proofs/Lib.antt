@@ -26,3 +26,7 @@ pub mod FlightLists
 pub mod BaseFrame
 pub mod Unflown
 pub mod ReadBackBy
+pub mod LegTexts
+pub mod LegPairs
+pub mod Acts
+pub mod Applied

@@ -19,3 +19,6 @@ pub mod Stations
 pub mod BaseSeen
 pub mod Reading
 pub mod Examples
+pub mod Columns
+pub mod Effect
+pub mod Acts
