@@ -29,3 +29,7 @@ pub mod BaseFrame
 pub mod Unflown
 pub mod ReadBackBy
 pub mod ResolveLemmas
+pub mod LegTexts
+pub mod LegPairs
+pub mod Acts
+pub mod Applied

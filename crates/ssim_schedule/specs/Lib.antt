@@ -20,3 +20,6 @@ pub mod BaseSeen
 pub mod Reading
 pub mod Examples
 pub mod Resolve
+pub mod Columns
+pub mod Effect
+pub mod Acts

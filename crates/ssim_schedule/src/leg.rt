@@ -60,6 +60,13 @@ impl PlacedLeg {
         self.columns
     }
 
+    /// Its own columns become these.
+    pub(crate) fn set_columns(&mut self, columns: LegColumns)
+        ensures { self.new ≡ record self.old { columns = columns } }
+    {
+        self.columns = columns;
+    }
+
     /// Its tails, in the order of their records.
     pub fn tails(&self) -> &[SegmentTail]
         ensures { result.now ≡ self.now.tails }

@@ -8,10 +8,15 @@
 //! To come: reading a base, writing an export, and what messages do to a timetable.
 #![tactic(auto)]
 
+mod acting;
+mod applying;
 mod base;
 mod building;
+mod columns;
+mod divided;
 mod export;
 mod fault;
+mod finding;
 mod flights;
 mod gathering;
 mod itinerary;
@@ -20,7 +25,9 @@ pub mod laws;
 mod leg;
 mod leg_names;
 mod line;
+mod new_legs;
 mod note;
+mod points;
 mod put;
 mod reading;
 #[cfg(test)]
@@ -41,6 +48,7 @@ mod waiting;
 pub use base::{Base, BaseRead};
 pub use export::ExportFault;
 pub use fault::{BaseFault, BaseRefusal};
+pub use finding::Finding;
 pub use itinerary::Itinerary;
 pub use leg::PlacedLeg;
 pub use note::Note;

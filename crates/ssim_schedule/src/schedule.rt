@@ -155,6 +155,40 @@ impl Schedule {
         Ok(counts)
     }
 
+    /// From where its memory comes.
+    pub(crate) fn allocator(&self) -> Global {
+        self.alloc
+    }
+
+    /// A copy of what a flight has on each date; the itineraries are shared.
+    pub(crate) fn copy_of(&self, flight: Flight) -> Result<Periods<Itinerary>, Memory>
+        ensures days { IfOk result (λ p. p.days ≡ days_in self.now flight) }
+        ensures cuts { IfOk result (λ p. p.cuts ≡ cuts_in self.now flight) }
+    {
+        match self.search(flight) {
+            Ok(place) => self.flights[place].periods.copy(),
+            Err(_) => Ok(Periods::new(self.alloc)),
+        }
+    }
+
+    /// A flight has these from now on.
+    pub(crate) fn put(&mut self, flight: Flight, periods: Periods<Itinerary>) -> Result<(), Memory>
+        ensures days { OnOk result ((g : FlightNumber) → days_in self.new g ≡ (if nat_eq (place_of flight) (place_of g) then periods.days else days_in self.old g)) }
+        ensures cuts { OnOk result ((g : FlightNumber) → cuts_in self.new g ≡ (if nat_eq (place_of flight) (place_of g) then periods.cuts else cuts_in self.old g)) }
+        ensures err { OnErr result (self.new ≡ self.old) }
+    {
+        match self.search(flight) {
+            Ok(place) => {
+                self.flights[place] = FlightPeriods { flight, periods };
+                Ok(())
+            }
+            Err(gap) => {
+                self.flights.insert(gap, FlightPeriods { flight, periods })?;
+                Ok(())
+            }
+        }
+    }
+
     /// The entries, by number and suffix of their flights.
     pub(crate) fn entries(&self) -> &[FlightPeriods]
         ensures value { result.now ≡ self.now }

@@ -243,7 +243,7 @@ impl Stations {
     }
 }
 
-fn first_row(rows: &[StationRow], station: Station, day: Day) -> Option<Variation>
+pub(crate) fn first_row(rows: &[StationRow], station: Station, day: Day) -> Option<Variation>
     ensures { result ≡ variation_at rows.now station day }
 {
     for row in rows {

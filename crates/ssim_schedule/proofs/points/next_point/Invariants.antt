@@ -1,0 +1,14 @@
+use Rattle.std.proofs.Common.{◌≡◌, ◌⊎◌, ◌≤◌, ◌<◌, ◌-◌, ℕ, IsTrue, slice_index_or}
+use Rattle.std.specs.List.{list_any}
+use Rattle.ssim_schedule.specs.Acts.{IsSteady, is_end}
+use Rattle.ssim_schedule.specs.Stations.{Row}
+use Rattle.ssim_schedule.proofs.points.next_point.Given as goal
+
+abbrev pub invariant-loop-row : goal.invariant-loop-row
+invariant-loop-row l =
+    record {
+      after : l.from < l.next;
+      before : l.next ≤ l.limit;
+      steady : (k : ℕ) (r : Row) → k < l.row-index → IsSteady l.from (l.next - 1) (slice_index_or l.rows k r);
+      point : (l.next ≡ l.limit) ⊎ IsTrue (list_any (is_end l.next) l.rows);
+    }

@@ -1,0 +1,101 @@
+-- What a sub-message does to a schedule: to each date of its period by itself.
+use Rattle.std.specs.Prelude.{◌≡◌, ◌⊎◌, ℕ, ◌+◌, ◌≤◌, ◌<◌, Bool, true, false, ◌&&◌, ◌||◌, nat_eq, nat_lt, if◌then◌else◌, IsTrue, List, [], ◌∷◌, Contains, map, slice_index_or}
+use Rattle.std.specs.List.{list_any}
+use Rattle.ssim_values.specs.Flight.{FlightNumber}
+use Rattle.ssim_values.specs.Period.{DayRange}
+use Rattle.ssim_periods.specs.Calendar.{holds}
+use Rattle.ssim_text.specs.declared.action.Action.{Action}
+use Rattle.ssim_text.specs.declared.action.Action.TheVariants.{New, Cnl, Rpl, Eqt, Tim}
+use Rattle.ssim_schedule.specs.Effect.{class_number, effect}
+use Rattle.ssim_schedule.specs.ReadBack.{place_of}
+use Rattle.ssim_schedule.specs.Schedule.{Table, days_in}
+use Rattle.ssim_schedule.specs.Stations.{Row}
+use Rattle.ssim_schedule.specs.Timetable.{Days, Legs}
+use Rattle.ssim_schedule.specs.declared.finding.Finding.{Finding}
+
+-- a flight's days, the first of which is day n, after a change of the days of a set, each by itself
+abbrev pub changed_by : (ℕ → Bool) → (ℕ → Legs → Legs) → ℕ → Days → Days
+changed_by is_in after n [] = []
+changed_by is_in after n (old ∷ days) = (if is_in n then after n old else old) ∷ changed_by is_in after (n + 1) days
+
+-- how many days of the set are of class k
+abbrev pub counted_by : (ℕ → Bool) → (ℕ → Legs → ℕ) → ℕ → ℕ → Days → ℕ
+counted_by is_in class k n [] = 0
+counted_by is_in class k n (old ∷ days) =
+    (if is_in n && nat_eq (class n old) k then 1 else 0) + counted_by is_in class k (n + 1) days
+
+-- what a flight has on a day after the action, and the class of its reason
+abbrev pub after_on : List Row → Action → ℕ → Legs → Legs
+after_on rows action day old = (effect rows action day old).0
+
+abbrev pub class_on : List Row → Action → ℕ → Legs → ℕ
+class_on rows action day old = class_number (effect rows action day old).1
+
+-- the days of a flight after the action on the dates of a period
+abbrev pub acted_on : List Row → Action → DayRange → Days → Days
+acted_on rows action period days = changed_by (holds period) (after_on rows action) 0 days
+
+-- the days of each flight after it, of which it is the one flight that is named
+abbrev pub after_sub : List Row → Action → FlightNumber → DayRange → Table → FlightNumber → Days
+after_sub rows action flight period table g =
+    if nat_eq (place_of flight) (place_of g) then acted_on rows action period (days_in table g) else days_in table g
+
+-- how many dates of the period get the reason of class k
+abbrev pub count_of : List Row → Action → DayRange → Days → ℕ → ℕ
+count_of rows action period days k = counted_by (holds period) (class_on rows action) k 0 days
+
+-- the counts of the classes 0 to 4 on the days of a set
+abbrev pub counts_by : List Row → Action → (ℕ → Bool) → Days → List ℕ
+counts_by rows action is_in days = map (λ k. counted_by is_in (class_on rows action) k 0 days) (0 ∷ 1 ∷ 2 ∷ 3 ∷ 4 ∷ [])
+
+-- how many get each reason
+abbrev pub finding_of : List Row → Action → DayRange → Days → Finding
+finding_of rows action period days = record {
+  acted = count_of rows action period days 0;
+  absent = count_of rows action period days 1;
+  present = count_of rows action period days 2;
+  leg = count_of rows action period days 3;
+  station = count_of rows action period days 4;
+}
+
+-- the row begins at this day or ended the day before
+abbrev pub is_end : ℕ → Row → Bool
+is_end cut row = nat_eq cut row.first || nat_eq cut (row.last + 1)
+
+-- the period or a station row does
+abbrev pub is_point_of : List Row → DayRange → ℕ → Bool
+is_point_of rows period cut =
+    (nat_eq cut period.first || nat_eq cut (period.last + 1)) || list_any (is_end cut) rows
+
+-- new cuts are old ones, or such days
+abbrev pub AddsPoints : List Row → DayRange → List ℕ → List ℕ → Type 0
+AddsPoints rows period old new = (cut : ℕ) → Contains new cut → Contains old cut ⊎ IsTrue (is_point_of rows period cut)
+
+-- and those only of the flight that is named
+abbrev pub AddsPointsOf : FlightNumber → List Row → DayRange → FlightNumber → List ℕ → List ℕ → Type 0
+AddsPointsOf flight rows period g old new =
+    (cut : ℕ) → Contains new cut → Contains old cut ⊎ ((place_of flight ≡ place_of g) × IsTrue (is_point_of rows period cut))
+
+-- no row begins after d and by e, nor ends from d on and before e
+abbrev pub IsSteady : ℕ → ℕ → Row → Type 0
+IsSteady d e row = ((row.first ≤ d) ⊎ (e < row.first)) × ((row.last < d) ⊎ (e ≤ row.last))
+
+-- the effect is one on all days of the period
+abbrev pub IsUniform : List Row → Action → DayRange → Type 0
+IsUniform rows action period = (day : ℕ) → holds period day ≡ true → (old : Legs) → effect rows action period.first old ≡ effect rows action day old
+
+-- whether the action has new legs
+abbrev pub has_new : Action → Bool
+has_new (New new) = true
+has_new Cnl = false
+has_new (Rpl new) = true
+has_new (Eqt equipment) = false
+has_new (Tim lines) = false
+
+-- the days of a period before a day
+abbrev pub before : DayRange → ℕ → ℕ → Bool
+before period at n = holds period n && nat_lt n at
+
+-- two lists of five counts added
+abbrev pub sums_of : List ℕ → List ℕ → List ℕ
+sums_of a b = map (λ k. slice_index_or a k 0 + slice_index_or b k 0) (0 ∷ 1 ∷ 2 ∷ 3 ∷ 4 ∷ [])

@@ -1,0 +1,117 @@
+//! Sub-messages act on a schedule.
+
+ghost use Rattle.std.specs.Prelude.{◌≡◌, false, true, IfOk, OnErr, OnOk};
+ghost use Rattle.ssim_values.specs.Flight.{FlightNumber};
+ghost use Rattle.ssim_periods.specs.Calendar.{holds};
+ghost use Rattle.ssim_schedule.specs.Acts.{AddsPointsOf, IsUniform, after_sub, counts_by, finding_of, has_new};
+ghost use Rattle.ssim_schedule.specs.Schedule.{cuts_in, days_in};
+
+use crate::acting::Acting;
+use crate::base::Base;
+use crate::divided::act_on_parts;
+use crate::finding::Finding;
+use crate::points::next_point;
+use crate::resolved::Resolved;
+use crate::schedule::Schedule;
+use crate::stations::StationRow;
+use ssim_text::Action;
+use ssim_values::{Flight, Memory, Period};
+
+// Whether the action has new legs.
+fn has_new(action: &Action) -> bool
+    ensures { result ≡ has_new action.now }
+{
+    match action {
+        Action::New(_) | Action::Rpl(_) => true,
+        Action::Cnl | Action::Eqt(_) | Action::Tim(_) => false,
+    }
+}
+
+// Whether no station row divides the period for the action.
+fn is_uniform(rows: &[StationRow], action: &Action, period: &Period) -> bool
+    ensures { result ≡ true → IsUniform rows.now action.now period.now }
+{
+    if !has_new(action) {
+        return true;
+    }
+    let first = period.first().number() as u32;
+    let end = period.last().number() as u32 + 1;
+    next_point(rows, first, end) == end
+}
+
+impl Schedule {
+    /// A sub-message acts on each date of its period, by the rows of the base's station table, and its finding counts
+    /// the dates by what they got. No other flight or date changes.
+    ///
+    /// The cost is that of the ranges of the flight that the period touches, and of finding the flight. The legs of
+    /// `NEW` and `RPL` are made once for each part of the period within which no station row begins or ends; where
+    /// there are several, the flight's ranges are copied first. Where memory is refused nothing has changed.
+    pub fn apply_sub(&mut self, base: &Base, sub: &Resolved) -> Result<Finding, Memory>
+        ensures days { OnOk result ((g : FlightNumber) → days_in self.new g ≡ after_sub base.now.rows sub.now.action.now sub.now.flight sub.now.period self.old g) }
+        ensures finding { IfOk result (λ finding. finding ≡ finding_of base.now.rows sub.now.action.now sub.now.period (days_in self.old sub.now.flight)) }
+
+        // A new cut is a day at which the period or a station row begins, or the day after the last of one.
+        ensures cuts { OnOk result ((g : FlightNumber) → AddsPointsOf sub.now.flight base.now.rows sub.now.period g (cuts_in self.old g) (cuts_in self.new g)) }
+        ensures err { OnErr result (self.new ≡ self.old) }
+    {
+        let counts = self.act(base.rows(), sub.action, sub.flight, &sub.period)?;
+        Ok(Finding::of(&counts))
+    }
+
+    fn act(
+        &mut self,
+        rows: &[StationRow],
+        action: &Action,
+        flight: Flight,
+        period: &Period,
+    ) -> Result<[u32; 5], Memory>
+        ensures days { OnOk result ((g : FlightNumber) → days_in self.new g ≡ after_sub rows.now action.now flight period.now self.old g) }
+        ensures counts { IfOk result (λ counts. counts ≡ counts_by rows.now action.now (holds period.now) (days_in self.old flight)) }
+        ensures cuts { OnOk result ((g : FlightNumber) → AddsPointsOf flight rows.now period.now g (cuts_in self.old g) (cuts_in self.new g)) }
+        ensures err { OnErr result (self.new ≡ self.old) }
+    {
+        if is_uniform(rows, action, period) {
+            self.act_at_once(rows, action, flight, period)
+        } else {
+            self.act_by_parts(rows, action, flight, period)
+        }
+    }
+
+    // Where the effect is one on all days of the period.
+    fn act_at_once(
+        &mut self,
+        rows: &[StationRow],
+        action: &Action,
+        flight: Flight,
+        period: &Period,
+    ) -> Result<[u32; 5], Memory>
+        requires { IsUniform rows.now action.now period.now }
+        ensures days { OnOk result ((g : FlightNumber) → days_in self.new g ≡ after_sub rows.now action.now flight period.now self.old g) }
+        ensures counts { IfOk result (λ counts. counts ≡ counts_by rows.now action.now (holds period.now) (days_in self.old flight)) }
+        ensures cuts { OnOk result ((g : FlightNumber) → AddsPointsOf flight rows.now period.now g (cuts_in self.old g) (cuts_in self.new g)) }
+        ensures err { OnErr result (self.new ≡ self.old) }
+    {
+        let change = Acting::on(self.allocator(), rows, action, period.first())?;
+        self.change(flight, period, &change)
+    }
+
+    // On a copy of what the flight has, which is put in its place after the last part.
+    fn act_by_parts(
+        &mut self,
+        rows: &[StationRow],
+        action: &Action,
+        flight: Flight,
+        period: &Period,
+    ) -> Result<[u32; 5], Memory>
+        ensures days { OnOk result ((g : FlightNumber) → days_in self.new g ≡ after_sub rows.now action.now flight period.now self.old g) }
+        ensures counts { IfOk result (λ counts. counts ≡ counts_by rows.now action.now (holds period.now) (days_in self.old flight)) }
+        ensures cuts { OnOk result ((g : FlightNumber) → AddsPointsOf flight rows.now period.now g (cuts_in self.old g) (cuts_in self.new g)) }
+        ensures err { OnErr result (self.new ≡ self.old) }
+    {
+        let alloc = self.allocator();
+        let mut periods = self.copy_of(flight)?;
+        let counts = act_on_parts(alloc, rows, action, period, &mut periods)?;
+        self.put(flight, periods)?;
+        Ok(counts)
+    }
+}
