@@ -8,18 +8,20 @@ use std::alloc::Global;
 use std::io;
 use std::io::Write;
 
-/// A writer that takes so many bytes and then fails. It tells what it took.
+/// A writer that keeps so many bytes and then fails. Where it is never written on, it fails at each flush.
 #[derive(Debug, Drop)]
 pub struct FullWriter {
     pub taken: Vec<u8>,
     pub room: usize,
+    pub flushes: bool,
 }
 
 impl FullWriter {
-    pub fn new(alloc: Global, room: usize) -> FullWriter {
+    pub fn new(alloc: Global, room: usize, flushes: bool) -> FullWriter {
         FullWriter {
             taken: Vec::new(alloc),
             room,
+            flushes,
         }
     }
 }
@@ -36,7 +38,10 @@ impl Write for FullWriter {
     }
 
     fn flush(&mut self) -> io::Result<()> {
-        Ok(())
+        if self.flushes {
+            return Ok(());
+        }
+        Err(io::Error::from(io::ErrorKind::Other))
     }
 }
 

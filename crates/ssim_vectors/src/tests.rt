@@ -220,20 +220,28 @@ fn tails_stay(rt: HostRuntime) -> Result<(), Fail> {
     )
 }
 
-#[test]
-fn devices_that_fail(rt: HostRuntime) -> Result<(), Fail> {
-    let alloc = rt.alloc();
-    let export = data_set(alloc, &EXPORT, &[])?;
+/// What is left of the output of `tidy` on A in a writer that fails, and the refusal is 52.
+fn left_in(rt: &impl Abort, alloc: Global, mut out: FullWriter) -> Result<Vec<u8>, Fail> {
     let mut store = MemoryStore::new(alloc);
     assert!(rt; store.keep("summer", DATA_SET_A).is_ok());
-    let mut out = FullWriter::new(alloc, 1000);
     let mut err = Vec::new(alloc);
     let words = ["ssimdesk", "tidy", "summer"];
     let status = run(alloc, &words, &mut store, &mut out, &mut err);
     assert_eq!(rt; status, 1);
     assert!(rt; err.as_slice() == b"refused 52 WriteFault\n".as_slice());
-    assert_eq!(rt; out.taken.len(), 1000);
-    assert!(rt; export.starts_with(&out.taken));
+    let FullWriter { taken, .. } = out;
+    Ok(taken)
+}
+
+#[test]
+fn devices_that_fail(rt: HostRuntime) -> Result<(), Fail> {
+    let alloc = rt.alloc();
+    let export = data_set(alloc, &EXPORT, &[])?;
+    let front = left_in(&rt, alloc, FullWriter::new(alloc, 1000, true))?;
+    assert_eq!(rt; front.len(), 1000);
+    assert!(rt; export.starts_with(&front));
+    let whole = left_in(&rt, alloc, FullWriter::new(alloc, 4020, false))?;
+    assert!(rt; whole.as_slice() == export.as_slice());
     Ok(())
 }
 
