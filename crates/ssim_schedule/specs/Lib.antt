@@ -22,3 +22,4 @@ pub mod Examples
 pub mod Columns
 pub mod Effect
 pub mod Acts
+pub mod EffectExamples
