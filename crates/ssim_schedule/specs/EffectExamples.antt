@@ -13,7 +13,7 @@ use Rattle.ssim_schedule.specs.Acts.{acted_on, counts_by}
 use Rattle.ssim_schedule.specs.Columns.{new_columns, segment_tail, with_equipment, with_times}
 use Rattle.ssim_schedule.specs.Effect.{effect, tails_for}
 use Rattle.ssim_schedule.specs.Stations.{Row}
-use Rattle.ssim_schedule.specs.Timetable.{LegValue, Legs}
+use Rattle.ssim_schedule.specs.Timetable.{LegValue}
 use Rattle.ssim_schedule.specs.declared.finding.Reason.TheVariants as reason
 
 abbrev blanks : ℕ → List ℕ
