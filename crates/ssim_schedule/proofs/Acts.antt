@@ -3,6 +3,7 @@ use Rattle.std.proofs.Common.{◌≡◌, ◌≤◌, ◌<◌, ◌⊎◌, ℕ, zer
 use Rattle.std.specs.Str.{bytes_eq}
 use Rattle.std.specs.List.{list_any}
 use Rattle.std.proofs.lemmas.Bool.Decides.{nat_tests}
+use Rattle.std.proofs.lemmas.Slice.Eq.{bytes_eq-Decides}
 use Rattle.ssim_values.specs.Period.{DayRange}
 use Rattle.ssim_periods.specs.Calendar.{holds, slot}
 use Rattle.ssim_periods.specs.Days.{AddsOnly, changed_on, count_on, counts_on}
@@ -10,9 +11,9 @@ use Rattle.ssim_text.specs.declared.leg.LegLine.{LegLine}
 use Rattle.ssim_text.specs.declared.action.NewLegs.{NewLegs}
 use Rattle.ssim_text.specs.declared.action.Action.{Action}
 use Rattle.ssim_text.specs.declared.action.Action.TheVariants.{New, Cnl, Rpl, Eqt, Tim}
-use Rattle.ssim_schedule.specs.Acts.{AddsPoints, IsSteady, IsUniform, acted_on, after_on, before, changed_by, counts_by, class_on, counted_by, has_new, is_end, is_point_of, sums_of}
+use Rattle.ssim_schedule.specs.Acts.{AddsPoints, IsSteady, IsUniform, acted_on, after_on, before, changed_by, class_on, counted_by, counts_by, divides, is_at, is_named, is_point_of, sums_of}
 use Rattle.ssim_schedule.specs.Effect.{Outcome, Variations, class_number, create, effect, joined, leg_at, legs_from, outcome, replace, variation_on}
-use Rattle.ssim_schedule.specs.Stations.{Row, covers, variation_at}
+use Rattle.ssim_schedule.specs.Stations.{Row, variation_at}
 use Rattle.ssim_schedule.specs.Timetable.{Days, Legs}
 
 -- ---- lists of days
@@ -97,29 +98,52 @@ module _ (rows : List Row) (action : Action) (period : DayRange) (uniform : IsUn
 
 -- ---- days between which no row begins or ends
 
--- on two such days each station has one variation
-pub steady : (rows : List Row) (d e : ℕ) (station : List ℕ) → d ≤ e → ((k : ℕ) (r : Row) → k < length rows → IsSteady d e (slice_index_or rows k r)) → variation_at rows station d ≡ variation_at rows station e
-steady [] d e station l h = refl
-steady (row ∷ rows) d e station l h =
-    let here : IsSteady d e row = h 0 row (omega arith) in let first = here.0 in let last = here.1 in
-    let one : (nat_le row.first d && nat_le d row.last) ≡ (nat_le row.first e && nat_le e row.last) = grind (arith, nat_tests) in
-    let rest = steady rows d e station l (λ k r l. h (suc k) r (omega arith)) in
-    ap (λ b. if bytes_eq row.station station && b then Some row.variation else variation_at rows station d) one ∙ ap (λ o. if covers row station e then Some row.variation else o) rest
+or_true : (a b : Bool) → IsTrue b → IsTrue (a || b)
+or_true true b h = refl
+or_true false b h = h
 
-legs_same : (v w : Variations) → ((station : List ℕ) → v station ≡ w station) → (new : NewLegs) (i : ℕ) (lines : List LegLine) → legs_from v new i lines ≡ legs_from w new i lines
-legs_same v w h new i [] = refl
-legs_same v w h new i (line ∷ lines) =
-    ap (λ a. joined (leg_at a (v line.arrival.station) i line new) (legs_from v new (i + 1) lines)) (h line.departure.station)
-    ∙ ap (λ b. joined (leg_at (w line.departure.station) b i line new) (legs_from v new (i + 1) lines)) (h line.arrival.station)
-    ∙ ap (joined (leg_at (w line.departure.station) (w line.arrival.station) i line new)) (legs_same v w h new (i + 1) lines)
+true_or : (a b : Bool) → IsTrue a → IsTrue (a || b)
+true_or true b h = refl
+true_or false b h = absurd cc
+
+-- on two such days each station that is named has one variation
+pub steady : (rows : List Row) (action : Action) (d e : ℕ) (station : List ℕ) → d ≤ e → ((k : ℕ) (r : Row) → k < length rows → IsTrue (is_named action (slice_index_or rows k r).station) → IsSteady d e (slice_index_or rows k r)) → IsTrue (is_named action station)
+    → variation_at rows station d ≡ variation_at rows station e
+steady [] action d e station l h named = refl
+steady (row ∷ rows) action d e station l h named =
+    by (bytes_eq row.station station) refl (steady rows action d e station l (λ k r l n. h (suc k) r (omega arith) n) named)
+  where
+    by : (b : Bool) → bytes_eq row.station station ≡ b → variation_at rows station d ≡ variation_at rows station e
+        → (if b && (nat_le row.first d && nat_le d row.last) then Some row.variation else variation_at rows station d) ≡ (if b && (nat_le row.first e && nat_le e row.last) then Some row.variation else variation_at rows station e)
+    by true same rest =
+        let its : row.station ≡ station = (bytes_eq-Decides row.station station).0 same in
+        let here : IsSteady d e row = h 0 row (omega arith) (subst (λ t. IsTrue (is_named action t)) (sym its) named) in
+        let first = here.0 in let last = here.1 in
+        let one : (nat_le row.first d && nat_le d row.last) ≡ (nat_le row.first e && nat_le e row.last) = grind (arith, nat_tests) in
+        ap (λ b. if b then Some row.variation else variation_at rows station d) one ∙ ap (λ o. if nat_le row.first e && nat_le e row.last then Some row.variation else o) rest
+    by false same rest = rest
+
+bytes_self : (t : List ℕ) → IsTrue (bytes_eq t t)
+bytes_self t = (bytes_eq-Decides t t).1 refl
+
+legs_same : (v w : Variations) (new : NewLegs) (i : ℕ) (lines : List LegLine) → ((station : List ℕ) → IsTrue (list_any (is_at station) lines) → v station ≡ w station) → legs_from v new i lines ≡ legs_from w new i lines
+legs_same v w new i [] h = refl
+legs_same v w new i (line ∷ lines) h =
+    let board = line.departure.station in
+    let off = line.arrival.station in
+    let from : v board ≡ w board = h board (true_or (is_at board line) (list_any (is_at board) lines) (true_or (bytes_eq board board) (bytes_eq off board) (bytes_self board))) in
+    let to : v off ≡ w off = h off (true_or (is_at off line) (list_any (is_at off) lines) (or_true (bytes_eq board off) (bytes_eq off off) (bytes_self off))) in
+    ap (λ a. joined (leg_at a (v off) i line new) (legs_from v new (i + 1) lines)) from
+    ∙ ap (λ b. joined (leg_at (w board) b i line new) (legs_from v new (i + 1) lines)) to
+    ∙ ap (joined (leg_at (w board) (w off) i line new)) (legs_same v w new (i + 1) lines (λ station n. h station (or_true (is_at station line) (list_any (is_at station) lines) n)))
 
 -- the same variations give the same outcome
-outcome_same : (v w : Variations) → ((station : List ℕ) → v station ≡ w station) → (a : Action) (old : Legs) → outcome v a old ≡ outcome w a old
-outcome_same v w h (New new) old = ap (λ legs. create legs old) (legs_same v w h new 0 new.legs)
-outcome_same v w h Cnl old = refl
-outcome_same v w h (Rpl new) old = ap (λ legs. replace legs old) (legs_same v w h new 0 new.legs)
-outcome_same v w h (Eqt equipment) old = refl
-outcome_same v w h (Tim lines) old = refl
+outcome_same : (v w : Variations) (a : Action) → ((station : List ℕ) → IsTrue (is_named a station) → v station ≡ w station) → (old : Legs) → outcome v a old ≡ outcome w a old
+outcome_same v w (New new) h old = ap (λ legs. create legs old) (legs_same v w new 0 new.legs h)
+outcome_same v w Cnl h old = refl
+outcome_same v w (Rpl new) h old = ap (λ legs. replace legs old) (legs_same v w new 0 new.legs h)
+outcome_same v w (Eqt equipment) h old = refl
+outcome_same v w (Tim lines) h old = refl
 
 and_true : (a b : Bool) → (a && b) ≡ true → (a ≡ true) × (b ≡ true)
 and_true true b h = (refl, h)
@@ -137,20 +161,13 @@ held_to period day h = let b : nat_le day period.last ≡ true = (and_true (nat_
 nearer : (first day last : ℕ) (row : Row) → first ≤ day → day ≤ last → IsSteady first last row → IsSteady first day row
 nearer first day last row l m s = (elim s.0 as (λ _. (row.first ≤ first) ⊎ (day < row.first)) [ inl a ↦ inl a | inr b ↦ inr (omega arith) ], elim s.1 as (λ _. (row.last < first) ⊎ (day ≤ row.last)) [ inl a ↦ inl a | inr b ↦ inr (omega arith) ])
 
--- where no row begins or ends within the period, the effect is one on all its days
-pub uniform_steady : (rows : List Row) (action : Action) (period : DayRange) → ((k : ℕ) (r : Row) → k < length rows → IsSteady period.first period.last (slice_index_or rows k r)) → IsUniform rows action period
+-- where no row that counts begins or ends within the period, the effect is one on all its days
+pub uniform_steady : (rows : List Row) (action : Action) (period : DayRange) → ((k : ℕ) (r : Row) → k < length rows → IsTrue (is_named action (slice_index_or rows k r).station) → IsSteady period.first period.last (slice_index_or rows k r)) → IsUniform rows action period
 uniform_steady rows action period h day is_in old =
     let low = held_from period day is_in in
     let high = held_to period day is_in in
-    outcome_same (variation_on rows period.first) (variation_on rows day) (λ station. steady rows period.first day station low (λ k r l. nearer period.first day period.last (slice_index_or rows k r) low high (h k r l))) action old
-
--- an action that has no new legs has one effect
-pub uniform_any : (rows : List Row) (action : Action) (period : DayRange) → has_new action ≡ false → IsUniform rows action period
-uniform_any rows (New new) period h day is_in old = absurd cc
-uniform_any rows Cnl period h day is_in old = refl
-uniform_any rows (Rpl new) period h day is_in old = absurd cc
-uniform_any rows (Eqt equipment) period h day is_in old = refl
-uniform_any rows (Tim lines) period h day is_in old = refl
+    outcome_same (variation_on rows period.first) (variation_on rows day) action
+    (λ station named. steady rows action period.first day station low (λ k r l n. nearer period.first day period.last (slice_index_or rows k r) low high (h k r l n)) named) old
 
 -- ---- the parts of a period
 
@@ -262,41 +279,33 @@ module _ (rows : List Row) (action : Action) (period part : DayRange) (at next :
       by (suc (suc (suc (suc zero)))) l = each 4
       by (suc (suc (suc (suc (suc k))))) l = absurd (omega (arith, l))
 
-pub cuts_next : (rows : List Row) (period : DayRange) (first end : ℕ) (old mid new : List ℕ) → AddsPoints rows period old mid → AddsOnly mid new first end → IsTrue (is_point_of rows period first) → IsTrue (is_point_of rows period end) → AddsPoints rows period old new
-cuts_next rows period first end old mid new so_far adds p q cut has = by (adds cut has)
+pub cuts_next : (rows : List Row) (action : Action) (period : DayRange) (first end : ℕ) (old mid new : List ℕ) → AddsPoints rows action period old mid → AddsOnly mid new first end → IsTrue (is_point_of rows action period first) → IsTrue (is_point_of rows action period end) → AddsPoints rows action period old new
+cuts_next rows action period first end old mid new so_far adds p q cut has = by (adds cut has)
   where
-    by : Contains mid cut ⊎ (cut ≡ first) ⊎ (cut ≡ end) → Contains old cut ⊎ IsTrue (is_point_of rows period cut)
+    by : Contains mid cut ⊎ (cut ≡ first) ⊎ (cut ≡ end) → Contains old cut ⊎ IsTrue (is_point_of rows action period cut)
     by (inl was) = so_far cut was
     by (inr (inl e)) = inr (rw e p)
     by (inr (inr e)) = inr (rw e q)
 
 -- ---- points
 
-or_true : (a b : Bool) → IsTrue b → IsTrue (a || b)
-or_true true b h = refl
-or_true false b h = h
-
-true_or : (a b : Bool) → IsTrue a → IsTrue (a || b)
-true_or true b h = refl
-true_or false b h = absurd cc
-
 is_same : (n : ℕ) → nat_eq n n ≡ true
 is_same n = grind (arith, nat_tests)
 
-pub first_point : (rows : List Row) (period : DayRange) → IsTrue (is_point_of rows period period.first)
-first_point rows period = true_or (nat_eq period.first period.first || nat_eq period.first (period.last + 1)) (list_any (is_end period.first) rows) (true_or (nat_eq period.first period.first) (nat_eq period.first (period.last + 1)) (is_same period.first))
+pub first_point : (rows : List Row) (action : Action) (period : DayRange) → IsTrue (is_point_of rows action period period.first)
+first_point rows action period = true_or (nat_eq period.first period.first || nat_eq period.first (period.last + 1)) (list_any (divides action period.first) rows) (true_or (nat_eq period.first period.first) (nat_eq period.first (period.last + 1)) (is_same period.first))
 
-pub end_point : (rows : List Row) (period : DayRange) → IsTrue (is_point_of rows period (period.last + 1))
-end_point rows period = true_or (nat_eq (period.last + 1) period.first || nat_eq (period.last + 1) (period.last + 1)) (list_any (is_end (period.last + 1)) rows) (or_true (nat_eq (period.last + 1) period.first) (nat_eq (period.last + 1) (period.last + 1)) (is_same (period.last + 1)))
+pub end_point : (rows : List Row) (action : Action) (period : DayRange) → IsTrue (is_point_of rows action period (period.last + 1))
+end_point rows action period = true_or (nat_eq (period.last + 1) period.first || nat_eq (period.last + 1) (period.last + 1)) (list_any (divides action (period.last + 1)) rows) (or_true (nat_eq (period.last + 1) period.first) (nat_eq (period.last + 1) (period.last + 1)) (is_same (period.last + 1)))
 
-pub next_is_point : (rows : List Row) (period : DayRange) (limit next : ℕ) → limit ≡ period.last + 1 → (next ≡ limit) ⊎ IsTrue (list_any (is_end next) rows) → IsTrue (is_point_of rows period next)
-next_is_point rows period limit next end (inl e) = rw (e, end) (end_point rows period)
-next_is_point rows period limit next end (inr h) = or_true (nat_eq next period.first || nat_eq next (period.last + 1)) (list_any (is_end next) rows) h
+pub next_is_point : (rows : List Row) (action : Action) (period : DayRange) (limit next : ℕ) → limit ≡ period.last + 1 → (next ≡ limit) ⊎ IsTrue (list_any (divides action next) rows) → IsTrue (is_point_of rows action period next)
+next_is_point rows action period limit next end (inl e) = rw (e, end) (end_point rows action period)
+next_is_point rows action period limit next end (inr h) = or_true (nat_eq next period.first || nat_eq next (period.last + 1)) (list_any (divides action next) rows) h
 
 -- ---- the loop's start and its end
 
-pub start_point : (rows : List Row) (period : DayRange) (at : ℕ) → at ≡ period.first → IsTrue (is_point_of rows period at)
-start_point rows period at e = rw e (first_point rows period)
+pub start_point : (rows : List Row) (action : Action) (period : DayRange) (at : ℕ) → at ≡ period.first → IsTrue (is_point_of rows action period at)
+start_point rows action period at e = rw e (first_point rows action period)
 
 module _ (rows : List Row) (action : Action) (period : DayRange) (at : ℕ) (old : Days) where
   none_before : at ≡ period.first → (n : ℕ) → before period at n ≡ false
@@ -322,7 +331,7 @@ module _ (rows : List Row) (action : Action) (period : DayRange) (at : ℕ) (old
       rw (same 0, same 1, same 2, same 3, same 4) refl
 
 -- a part within which no row begins or ends
-pub uniform_part : (rows : List Row) (action : Action) (part : DayRange) (at next : ℕ) → part.first ≡ at → part.last + 1 ≡ next → ((k : ℕ) (r : Row) → k < length rows → IsSteady at (next - 1) (slice_index_or rows k r)) → IsUniform rows action part
+pub uniform_part : (rows : List Row) (action : Action) (part : DayRange) (at next : ℕ) → part.first ≡ at → part.last + 1 ≡ next → ((k : ℕ) (r : Row) → k < length rows → IsTrue (is_named action (slice_index_or rows k r).station) → IsSteady at (next - 1) (slice_index_or rows k r)) → IsUniform rows action part
 uniform_part rows action part at next first last h =
     let end : next - 1 ≡ part.last = omega (arith, last) in
-    uniform_steady rows action part (λ k r lt. subst (λ x. IsSteady x part.last (slice_index_or rows k r)) (sym first) (subst (λ y. IsSteady at y (slice_index_or rows k r)) end (h k r lt)))
+    uniform_steady rows action part (λ k r lt n. subst (λ x. IsSteady x part.last (slice_index_or rows k r)) (sym first) (subst (λ y. IsSteady at y (slice_index_or rows k r)) end (h k r lt n)))

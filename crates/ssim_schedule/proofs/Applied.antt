@@ -31,26 +31,26 @@ module _ (rows : List Row) (action : Action) (period : DayRange) (flight : Fligh
       by true e = made ∙ ap (acted_on rows action period) (found_same (λ f. f.periods.days) _ old flight g (same_place flight g e))
       by false e = refl
 
-  pub cuts_put : (cuts : List ℕ) → AddsPoints rows period (cuts_in old flight) cuts → (new : Table)
-      → ((g : FlightNumber) → cuts_in new g ≡ (if nat_eq (place_of flight) (place_of g) then cuts else cuts_in old g)) → (g : FlightNumber) → AddsPointsOf flight rows period g (cuts_in old g) (cuts_in new g)
-  cuts_put cuts adds new put g = subst (λ cs. AddsPointsOf flight rows period g (cuts_in old g) cs) (sym (put g)) (by (nat_eq (place_of flight) (place_of g)) refl)
+  pub cuts_put : (cuts : List ℕ) → AddsPoints rows action period (cuts_in old flight) cuts → (new : Table)
+      → ((g : FlightNumber) → cuts_in new g ≡ (if nat_eq (place_of flight) (place_of g) then cuts else cuts_in old g)) → (g : FlightNumber) → AddsPointsOf flight rows action period g (cuts_in old g) (cuts_in new g)
+  cuts_put cuts adds new put g = subst (λ cs. AddsPointsOf flight rows action period g (cuts_in old g) cs) (sym (put g)) (by (nat_eq (place_of flight) (place_of g)) refl)
     where
-      by : (b : Bool) → nat_eq (place_of flight) (place_of g) ≡ b → AddsPointsOf flight rows period g (cuts_in old g) (if b then cuts else cuts_in old g)
+      by : (b : Bool) → nat_eq (place_of flight) (place_of g) ≡ b → AddsPointsOf flight rows action period g (cuts_in old g) (if b then cuts else cuts_in old g)
       by true e = λ cut has. case cut (adds cut has)
         where
           same : place_of flight ≡ place_of g
           same = same_place flight g e
 
-          case : (cut : ℕ) → Contains (cuts_in old flight) cut ⊎ IsTrue (is_point_of rows period cut) → Contains (cuts_in old g) cut ⊎ ((place_of flight ≡ place_of g) × IsTrue (is_point_of rows period cut))
+          case : (cut : ℕ) → Contains (cuts_in old flight) cut ⊎ IsTrue (is_point_of rows action period cut) → Contains (cuts_in old g) cut ⊎ ((place_of flight ≡ place_of g) × IsTrue (is_point_of rows action period cut))
           case cut (inl was) = inl (subst (λ (cs : List ℕ). Contains cs cut) (found_same (λ f. f.periods.cuts) [] old flight g same) was)
           case cut (inr is) = inr (same, is)
       by false e = λ cut has. inl has
 
 -- cuts at the ends of the period alone are at points
-pub cuts_at_ends : (rows : List Row) (period : DayRange) (flight g : FlightNumber) (old new : List ℕ) → AddsOnlyAt flight period g old new → AddsPointsOf flight rows period g old new
-cuts_at_ends rows period flight g old new adds cut has = by (adds cut has)
+pub cuts_at_ends : (rows : List Row) (action : Action) (period : DayRange) (flight g : FlightNumber) (old new : List ℕ) → AddsOnlyAt flight period g old new → AddsPointsOf flight rows action period g old new
+cuts_at_ends rows action period flight g old new adds cut has = by (adds cut has)
   where
-    by : Contains old cut ⊎ ((place_of flight ≡ place_of g) × ((cut ≡ period.first) ⊎ (cut ≡ period.last + 1))) → Contains old cut ⊎ ((place_of flight ≡ place_of g) × IsTrue (is_point_of rows period cut))
+    by : Contains old cut ⊎ ((place_of flight ≡ place_of g) × ((cut ≡ period.first) ⊎ (cut ≡ period.last + 1))) → Contains old cut ⊎ ((place_of flight ≡ place_of g) × IsTrue (is_point_of rows action period cut))
     by (inl was) = inl was
-    by (inr (same, inl e)) = inr (same, rw e (first_point rows period))
-    by (inr (same, inr e)) = inr (same, rw e (end_point rows period))
+    by (inr (same, inl e)) = inr (same, rw e (first_point rows action period))
+    by (inr (same, inr e)) = inr (same, rw e (end_point rows action period))

@@ -1,9 +1,11 @@
 -- What a sub-message does to a schedule: to each date of its period by itself.
-use Rattle.std.specs.Prelude.{◌≡◌, ◌⊎◌, ℕ, ◌+◌, ◌≤◌, ◌<◌, Bool, true, false, ◌&&◌, ◌||◌, nat_eq, nat_lt, if◌then◌else◌, IsTrue, List, [], ◌∷◌, Contains, map, slice_index_or}
+use Rattle.std.specs.Prelude.{◌≡◌, ◌⊎◌, ℕ, ◌+◌, ◌≤◌, ◌<◌, Bool, true, ◌&&◌, ◌||◌, nat_eq, nat_lt, if◌then◌else◌, IsTrue, List, [], ◌∷◌, Contains, map, slice_index_or}
 use Rattle.std.specs.List.{list_any}
 use Rattle.ssim_values.specs.Flight.{FlightNumber}
 use Rattle.ssim_values.specs.Period.{DayRange}
 use Rattle.ssim_periods.specs.Calendar.{holds}
+use Rattle.std.specs.Str.{bytes_eq}
+use Rattle.ssim_text.specs.declared.leg.LegLine.{LegLine}
 use Rattle.ssim_text.specs.declared.action.Action.{Action}
 use Rattle.ssim_text.specs.declared.action.Action.TheVariants.{New, Cnl, Rpl, Eqt, Tim}
 use Rattle.ssim_schedule.specs.Effect.{class_number, effect}
@@ -58,23 +60,39 @@ finding_of rows action period days = record {
   station = count_of rows action period days 4;
 }
 
--- the row begins at this day or ended the day before
-abbrev pub is_end : ℕ → Row → Bool
-is_end cut row = nat_eq cut row.first || nat_eq cut (row.last + 1)
+-- the leg lines by which new legs are made
+abbrev pub lines_of : Action → List LegLine
+lines_of (New new) = new.legs
+lines_of Cnl = []
+lines_of (Rpl new) = new.legs
+lines_of (Eqt equipment) = []
+lines_of (Tim lines) = []
 
--- the period or a station row does
-abbrev pub is_point_of : List Row → DayRange → ℕ → Bool
-is_point_of rows period cut =
-    (nat_eq cut period.first || nat_eq cut (period.last + 1)) || list_any (is_end cut) rows
+abbrev pub is_at : List ℕ → LegLine → Bool
+is_at station line = bytes_eq line.departure.station station || bytes_eq line.arrival.station station
+
+-- whether one of them names the station
+abbrev pub is_named : Action → List ℕ → Bool
+is_named action station = list_any (is_at station) (lines_of action)
+
+-- the row is of such a station, and begins at this day or ended the day before
+abbrev pub divides : Action → ℕ → Row → Bool
+divides action cut row = is_named action row.station && (nat_eq cut row.first || nat_eq cut (row.last + 1))
+
+-- the period begins at this day or ended the day before, or such a row does
+abbrev pub is_point_of : List Row → Action → DayRange → ℕ → Bool
+is_point_of rows action period cut =
+    (nat_eq cut period.first || nat_eq cut (period.last + 1)) || list_any (divides action cut) rows
 
 -- new cuts are old ones, or such days
-abbrev pub AddsPoints : List Row → DayRange → List ℕ → List ℕ → Type 0
-AddsPoints rows period old new = (cut : ℕ) → Contains new cut → Contains old cut ⊎ IsTrue (is_point_of rows period cut)
+abbrev pub AddsPoints : List Row → Action → DayRange → List ℕ → List ℕ → Type 0
+AddsPoints rows action period old new =
+    (cut : ℕ) → Contains new cut → Contains old cut ⊎ IsTrue (is_point_of rows action period cut)
 
 -- and those only of the flight that is named
-abbrev pub AddsPointsOf : FlightNumber → List Row → DayRange → FlightNumber → List ℕ → List ℕ → Type 0
-AddsPointsOf flight rows period g old new =
-    (cut : ℕ) → Contains new cut → Contains old cut ⊎ ((place_of flight ≡ place_of g) × IsTrue (is_point_of rows period cut))
+abbrev pub AddsPointsOf : FlightNumber → List Row → Action → DayRange → FlightNumber → List ℕ → List ℕ → Type 0
+AddsPointsOf flight rows action period g old new =
+    (cut : ℕ) → Contains new cut → Contains old cut ⊎ ((place_of flight ≡ place_of g) × IsTrue (is_point_of rows action period cut))
 
 -- no row begins after d and by e, nor ends from d on and before e
 abbrev pub IsSteady : ℕ → ℕ → Row → Type 0
@@ -83,14 +101,6 @@ IsSteady d e row = ((row.first ≤ d) ⊎ (e < row.first)) × ((row.last < d) �
 -- the effect is one on all days of the period
 abbrev pub IsUniform : List Row → Action → DayRange → Type 0
 IsUniform rows action period = (day : ℕ) → holds period day ≡ true → (old : Legs) → effect rows action period.first old ≡ effect rows action day old
-
--- whether the action has new legs
-abbrev pub has_new : Action → Bool
-has_new (New new) = true
-has_new Cnl = false
-has_new (Rpl new) = true
-has_new (Eqt equipment) = false
-has_new (Tim lines) = false
 
 -- the days of a period before a day
 abbrev pub before : DayRange → ℕ → ℕ → Bool

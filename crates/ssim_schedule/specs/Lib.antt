@@ -23,3 +23,4 @@ pub mod Resolve
 pub mod Columns
 pub mod Effect
 pub mod Acts
+pub mod EffectExamples

@@ -1,9 +1,9 @@
 //! Sub-messages act on a schedule.
 
-ghost use Rattle.std.specs.Prelude.{◌≡◌, false, true, IfOk, OnErr, OnOk};
+ghost use Rattle.std.specs.Prelude.{◌≡◌, true, IfOk, OnErr, OnOk};
 ghost use Rattle.ssim_values.specs.Flight.{FlightNumber};
 ghost use Rattle.ssim_periods.specs.Calendar.{holds};
-ghost use Rattle.ssim_schedule.specs.Acts.{AddsPointsOf, IsUniform, after_sub, counts_by, finding_of, has_new};
+ghost use Rattle.ssim_schedule.specs.Acts.{AddsPointsOf, IsUniform, after_sub, counts_by, finding_of};
 ghost use Rattle.ssim_schedule.specs.Schedule.{cuts_in, days_in};
 
 use crate::acting::Acting;
@@ -17,26 +17,13 @@ use crate::stations::StationRow;
 use ssim_text::Action;
 use ssim_values::{Flight, Memory, Period};
 
-// Whether the action has new legs.
-fn has_new(action: &Action) -> bool
-    ensures { result ≡ has_new action.now }
-{
-    match action {
-        Action::New(_) | Action::Rpl(_) => true,
-        Action::Cnl | Action::Eqt(_) | Action::Tim(_) => false,
-    }
-}
-
 // Whether no station row divides the period for the action.
 fn is_uniform(rows: &[StationRow], action: &Action, period: &Period) -> bool
     ensures { result ≡ true → IsUniform rows.now action.now period.now }
 {
-    if !has_new(action) {
-        return true;
-    }
     let first = period.first().number() as u32;
     let end = period.last().number() as u32 + 1;
-    next_point(rows, first, end) == end
+    next_point(rows, action, first, end) == end
 }
 
 impl Schedule {
@@ -44,14 +31,14 @@ impl Schedule {
     /// the dates by what they got. No other flight or date changes.
     ///
     /// The cost is that of the ranges of the flight that the period touches, and of finding the flight. The legs of
-    /// `NEW` and `RPL` are made once for each part of the period within which no station row begins or ends; where
+    /// `NEW` and `RPL` are made once for each part of the period within which no row of their stations begins or ends; where
     /// there are several, the flight's ranges are copied first. Where memory is refused nothing has changed.
     pub fn apply_sub(&mut self, base: &Base, sub: &Resolved) -> Result<Finding, Memory>
         ensures days { OnOk result ((g : FlightNumber) → days_in self.new g ≡ after_sub base.now.rows sub.now.action.now sub.now.flight sub.now.period self.old g) }
         ensures finding { IfOk result (λ finding. finding ≡ finding_of base.now.rows sub.now.action.now sub.now.period (days_in self.old sub.now.flight)) }
 
-        // A new cut is a day at which the period or a station row begins, or the day after the last of one.
-        ensures cuts { OnOk result ((g : FlightNumber) → AddsPointsOf sub.now.flight base.now.rows sub.now.period g (cuts_in self.old g) (cuts_in self.new g)) }
+        // A new cut is the first day or the day after the last of the period, or of a row whose station the new legs have.
+        ensures cuts { OnOk result ((g : FlightNumber) → AddsPointsOf sub.now.flight base.now.rows sub.now.action.now sub.now.period g (cuts_in self.old g) (cuts_in self.new g)) }
         ensures err { OnErr result (self.new ≡ self.old) }
     {
         let counts = self.act(base.rows(), sub.action, sub.flight, &sub.period)?;
@@ -67,7 +54,7 @@ impl Schedule {
     ) -> Result<[u32; 5], Memory>
         ensures days { OnOk result ((g : FlightNumber) → days_in self.new g ≡ after_sub rows.now action.now flight period.now self.old g) }
         ensures counts { IfOk result (λ counts. counts ≡ counts_by rows.now action.now (holds period.now) (days_in self.old flight)) }
-        ensures cuts { OnOk result ((g : FlightNumber) → AddsPointsOf flight rows.now period.now g (cuts_in self.old g) (cuts_in self.new g)) }
+        ensures cuts { OnOk result ((g : FlightNumber) → AddsPointsOf flight rows.now action.now period.now g (cuts_in self.old g) (cuts_in self.new g)) }
         ensures err { OnErr result (self.new ≡ self.old) }
     {
         if is_uniform(rows, action, period) {
@@ -88,7 +75,7 @@ impl Schedule {
         requires { IsUniform rows.now action.now period.now }
         ensures days { OnOk result ((g : FlightNumber) → days_in self.new g ≡ after_sub rows.now action.now flight period.now self.old g) }
         ensures counts { IfOk result (λ counts. counts ≡ counts_by rows.now action.now (holds period.now) (days_in self.old flight)) }
-        ensures cuts { OnOk result ((g : FlightNumber) → AddsPointsOf flight rows.now period.now g (cuts_in self.old g) (cuts_in self.new g)) }
+        ensures cuts { OnOk result ((g : FlightNumber) → AddsPointsOf flight rows.now action.now period.now g (cuts_in self.old g) (cuts_in self.new g)) }
         ensures err { OnErr result (self.new ≡ self.old) }
     {
         let change = Acting::on(self.allocator(), rows, action, period.first())?;
@@ -105,7 +92,7 @@ impl Schedule {
     ) -> Result<[u32; 5], Memory>
         ensures days { OnOk result ((g : FlightNumber) → days_in self.new g ≡ after_sub rows.now action.now flight period.now self.old g) }
         ensures counts { IfOk result (λ counts. counts ≡ counts_by rows.now action.now (holds period.now) (days_in self.old flight)) }
-        ensures cuts { OnOk result ((g : FlightNumber) → AddsPointsOf flight rows.now period.now g (cuts_in self.old g) (cuts_in self.new g)) }
+        ensures cuts { OnOk result ((g : FlightNumber) → AddsPointsOf flight rows.now action.now period.now g (cuts_in self.old g) (cuts_in self.new g)) }
         ensures err { OnErr result (self.new ≡ self.old) }
     {
         let alloc = self.allocator();

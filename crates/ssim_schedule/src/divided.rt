@@ -81,13 +81,13 @@ pub(crate) fn act_on_parts(
 ) -> Result<[u32; 5], Memory>
     ensures days { OnOk result (periods.new.days ≡ acted_on rows.now action.now period.now periods.old.days) }
     ensures counts { IfOk result (λ counts. counts ≡ counts_by rows.now action.now (holds period.now) periods.old.days) }
-    ensures cuts { OnOk result (AddsPoints rows.now period.now periods.old.cuts periods.new.cuts) }
+    ensures cuts { OnOk result (AddsPoints rows.now action.now period.now periods.old.cuts periods.new.cuts) }
 {
     let mut counts = [0; 5];
     let mut at = period.first().number() as u32;
     let end = period.last().number() as u32 + 1;
     while at < end {
-        let next = next_point(rows, at, end);
+        let next = next_point(rows, action, at, end);
         let part = part_of(period, at, next);
         let more = act_on_part(alloc, rows, action, &part, periods)?;
         counts = sums(&counts, &more);

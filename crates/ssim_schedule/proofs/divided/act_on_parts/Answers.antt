@@ -18,7 +18,7 @@ loop-at-init c =
       from = omega (arith, first);
       to = omega (arith, first, last, ordered);
       end = omega (arith, last);
-      point = start_point rows period at first;
+      point = start_point rows action period at first;
       days = days_start rows action period at old first;
       counts = counts_start rows action period at old first;
       cuts = λ cut has. inl has;
@@ -61,9 +61,9 @@ loop-at-preserved c =
     let to : next ≤ period.last + 1 = omega (arith, c.next_point-next.ensures.before, end) in
     let comes = parts_come period part at next c.part_of-part.ensures.first c.part_of-part.ensures.last c.part_of-part.ensures.days from rises to in
     let mid = c.loop-at.periods.days in
-    let here : IsTrue (is_point_of rows period next) = next_is_point rows period (c.number.result + 1) next end c.next_point-next.ensures.point in
-    let first : IsTrue (is_point_of rows period part.first) = subst (λ n. IsTrue (is_point_of rows period n)) (sym c.part_of-part.ensures.first) c.loop-at.invariant.point in
-    let last : IsTrue (is_point_of rows period (part.last + 1)) = subst (λ n. IsTrue (is_point_of rows period n)) (sym c.part_of-part.ensures.last) here in
+    let here : IsTrue (is_point_of rows action period next) = next_is_point rows action period (c.number.result + 1) next end c.next_point-next.ensures.point in
+    let first : IsTrue (is_point_of rows action period part.first) = subst (λ n. IsTrue (is_point_of rows action period n)) (sym c.part_of-part.ensures.first) c.loop-at.invariant.point in
+    let last : IsTrue (is_point_of rows action period (part.last + 1)) = subst (λ n. IsTrue (is_point_of rows action period n)) (sym c.part_of-part.ensures.last) here in
     record {
       from = omega (arith, from, rises);
       to = omega (arith, c.next_point-next.ensures.before);
@@ -71,7 +71,7 @@ loop-at-preserved c =
       point = here;
       days = days_next rows action period part at next comes old mid c.loop-at.invariant.days c.act_on_part.new.periods.days c.in_ok-more.ensures.days;
       counts = c.sums-counts.ensures ∙ counts_next rows action period part at next comes old mid c.loop-at.invariant.days c.loop-at.counts c.in_ok-more.more c.loop-at.invariant.counts c.in_ok-more.ensures.counts;
-      cuts = cuts_next rows period part.first (part.last + 1) c.args.periods.now.cuts c.loop-at.periods.cuts c.act_on_part.new.periods.cuts c.loop-at.invariant.cuts c.in_ok-more.ensures.cuts first last;
+      cuts = cuts_next rows action period part.first (part.last + 1) c.args.periods.now.cuts c.loop-at.periods.cuts c.act_on_part.new.periods.cuts c.loop-at.invariant.cuts c.in_ok-more.ensures.cuts first last;
     }
 
 pub returns-clause-days : goal.returns-clause-days

@@ -8,10 +8,10 @@ invariant-loop-at l =
       from : l.period.first ≤ l.at;
       to : l.at ≤ l.end;
       end : l.end ≡ l.period.last + 1;
-      point : IsTrue (is_point_of l.rows l.period l.at);
+      point : IsTrue (is_point_of l.rows l.action l.period l.at);
       days : l.periods.days ≡ changed_by (before l.period l.at) (after_on l.rows l.action) 0 l.fn.periods.days;
       counts : l.counts ≡ counts_by l.rows l.action (before l.period l.at) l.fn.periods.days;
-      cuts : AddsPoints l.rows l.period l.fn.periods.cuts l.periods.cuts;
+      cuts : AddsPoints l.rows l.action l.period l.fn.periods.cuts l.periods.cuts;
     }
 
 abbrev pub decreases-loop-at : goal.decreases-loop-at

@@ -33,5 +33,5 @@ returns-clause-counts c =
 pub returns-clause-cuts : goal.returns-clause-cuts
 returns-clause-cuts c =
     on_ok c.change.result
-    (λ h g. cuts_at_ends c.args.rows.now c.args.period.now c.args.flight g (cuts_in c.args.self.now g) (cuts_in c.change.new.self g) (h g))
+    (λ h g. cuts_at_ends c.args.rows.now c.args.action.now c.args.period.now c.args.flight g (cuts_in c.args.self.now g) (cuts_in c.change.new.self g) (h g))
     c.change.ensures.cuts

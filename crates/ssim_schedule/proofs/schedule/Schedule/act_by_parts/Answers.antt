@@ -16,4 +16,4 @@ returns-clause-cuts c =
     let rows = c.args.rows.now in
     let period = c.args.period.now in
     cuts_put rows c.args.action.now period c.args.flight c.args.self.now c.act_on_parts.new.periods.cuts
-    (subst (λ cs. AddsPoints rows period cs c.act_on_parts.new.periods.cuts) c.in_ok-periods.ensures.cuts c.in_ok-counts.ensures.cuts) c.put.new.self c.in_ok-put.ensures.cuts
+    (subst (λ cs. AddsPoints rows c.args.action.now period cs c.act_on_parts.new.periods.cuts) c.in_ok-periods.ensures.cuts c.in_ok-counts.ensures.cuts) c.put.new.self c.in_ok-put.ensures.cuts
