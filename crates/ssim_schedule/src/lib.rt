@@ -14,6 +14,8 @@ mod base;
 mod building;
 mod columns;
 mod divided;
+#[cfg(test)]
+mod effect_tests;
 mod export;
 mod fault;
 mod finding;

@@ -1,0 +1,373 @@
+//! What sub-messages make of a schedule: pieces, findings, and exports as the format wants them.
+
+use crate::test_data::{CARRIER, LEG, export_of, lines, with};
+use crate::{Base, Finding, Schedule, Stations, resolve};
+use ssim_records::Bytes;
+use ssim_text::decode;
+use ssim_values::Flight;
+use std::alloc::Global;
+use std::test::Fail;
+
+const STATIONS: &[u8] =
+    b"ZRH 30MAR25 25OCT25 +0200\nLHR 30MAR25 25OCT25 +0100\nZRH 26OCT25 28MAR26 +0100\nLHR 26OCT25 28MAR26 +0000\n";
+
+const CANCELS_A_TUESDAY: &[u8] = b"SSM\nUTC\n01JUN00001E001\nCNL\nLX544\n01JUL25 07JUL25 2\n";
+
+/// The base of a header, a carrier, these legs and segments, and the trailer.
+fn base(
+    alloc: Global,
+    stations: &[u8],
+    carrier: &[u8; 200],
+    names: &[u8],
+    others: &[[u8; 200]],
+) -> Result<Base, Fail> {
+    let mut set = lines(alloc, b"H1", &[*carrier])?;
+    set.extend_from_slice(&lines(alloc, names, others)?)?;
+    set.extend_from_slice(&lines(alloc, b"T", &[])?)?;
+    let mut bytes = set.as_slice();
+    Ok(
+        Base::read(
+            alloc,
+            &mut bytes,
+            Stations::read(alloc, stations)?,
+            1_000_000,
+        )?
+        .base,
+    )
+}
+
+/// What the one sub-message of a text does.
+fn act(alloc: Global, schedule: &mut Schedule, base: &Base, text: &[u8]) -> Result<Finding, Fail> {
+    let message = decode(alloc, text)?;
+    let resolved = resolve(base, &message)?;
+    match (message.subs(), resolved.subs.as_slice()) {
+        ([sub], [dates]) => Ok(schedule.apply_sub(base, &dates.with(&sub.action))?),
+        _ => Err("there is one sub-message".into()),
+    }
+}
+
+/// How many dates were acted on, absent, present, without the leg, without a station.
+fn counts(finding: &Finding) -> [u32; 5] {
+    [
+        finding.acted,
+        finding.absent,
+        finding.present,
+        finding.leg,
+        finding.station,
+    ]
+}
+
+fn exported(alloc: Global, schedule: &Schedule, base: &Base) -> Result<Bytes, Fail> {
+    let mut bytes = Bytes::new(alloc);
+    schedule.export(base, &mut bytes)?;
+    Ok(bytes)
+}
+
+/// Whether the texts, each on the schedule that the ones before it left, have these findings and leave the export with these records.
+fn does(
+    alloc: Global,
+    base: &Base,
+    carrier: &[u8; 200],
+    texts: &[(&[u8], [u32; 5])],
+    names: &[u8],
+    others: &[[u8; 200]],
+) -> Result<bool, Fail> {
+    let mut schedule = Schedule::of(base)?;
+    for (text, want) in texts {
+        if counts(&act(alloc, &mut schedule, base, text)?) != *want {
+            return Ok(false);
+        }
+    }
+    let want = export_of(alloc, carrier, names, others)?;
+    Ok(exported(alloc, &schedule, base)?.bytes() == want.as_slice())
+}
+
+/// The leg as itinerary variation `variation`, from a day to a day, on these days.
+fn piece(leg: &[u8; 200], variation: &[u8; 2], dates: &[u8; 21]) -> [u8; 200] {
+    with(&with(leg, 10, variation), 15, dates)
+}
+
+#[test]
+fn dates_cancelled(rt: HostRuntime) -> Result<(), Fail> {
+    let alloc = rt.alloc();
+    let season = base(alloc, b"", CARRIER, b"L", &[])?;
+    let around = [
+        piece(LEG, b"01", b"30MAR2530JUN251234567"),
+        piece(LEG, b"02", b"02JUL2525OCT251234567"),
+    ];
+    let tuesday = [(CANCELS_A_TUESDAY, [1, 0, 0, 0, 0])];
+    assert!(rt; does(alloc, &season, CARRIER, &tuesday, b"12", &around)?);
+    let wednesdays: &[u8] = b"SSM\n01JUN00002E001\nCNL\nLX544\n30MAR25 25OCT25 3\n";
+    let without = [piece(LEG, b"01", b"30MAR2525OCT2512 4567")];
+    assert!(rt;
+        does(
+            alloc,
+            &season,
+            CARRIER,
+            &[(wednesdays, [30, 0, 0, 0, 0])],
+            b"1",
+            &without
+        )?
+    );
+    let unknown: &[u8] = b"SSM\n01JUN00007E001\nCNL\nLX999\n30MAR25 25OCT25 1234567\n";
+    assert!(rt;
+        does(
+            alloc,
+            &season,
+            CARRIER,
+            &[(unknown, [0, 210, 0, 0, 0])],
+            b"L",
+            &[]
+        )?
+    );
+    Ok(())
+}
+
+#[test]
+fn leap_day(rt: HostRuntime) -> Result<(), Fail> {
+    let alloc = rt.alloc();
+    let carrier = with(&with(CARRIER, 15, b"01JAN2631DEC28"), 29, b"01OCT25");
+    let leg = with(LEG, 15, b"01JAN2631DEC28");
+    let season = base(alloc, b"", &carrier, b"1", &[leg])?;
+    let day: &[u8] = b"SSM\n01NOV00001E001\nCNL\nLX544\n29FEB 29FEB 2\n";
+    let around = [
+        piece(LEG, b"01", b"01JAN2628FEB281234567"),
+        piece(LEG, b"02", b"01MAR2831DEC281234567"),
+    ];
+    assert!(rt;
+        does(
+            alloc,
+            &season,
+            &carrier,
+            &[(day, [1, 0, 0, 0, 0])],
+            b"12",
+            &around
+        )?
+    );
+    // no day of the period is a Wednesday
+    let none: &[u8] = b"SSM\n01NOV00001E001\nCNL\nLX544\n29FEB28 29FEB28 3\n";
+    assert!(rt;
+        does(
+            alloc,
+            &season,
+            &carrier,
+            &[(none, [0, 0, 0, 0, 0])],
+            b"1",
+            &[leg]
+        )?
+    );
+    Ok(())
+}
+
+/// The pieces of the flight whose Mondays in July have other times.
+fn other_mondays() -> [[u8; 200]; 4] {
+    let monday = with(&with(LEG, 40, b"06000600"), 58, b"07150715");
+    [
+        piece(LEG, b"01", b"30MAR2506JUL251234567"),
+        piece(&monday, b"02", b"07JUL2528JUL251      "),
+        piece(LEG, b"03", b"08JUL2503AUG25 234567"),
+        piece(LEG, b"04", b"04AUG2525OCT251234567"),
+    ]
+}
+
+const MONDAYS: &[u8] = b"SSM\n01JUN00003E001\nTIM\nLX544\n01JUL25 31JUL25 1\nZRH0600 LHR0715\n";
+
+#[test]
+fn times_changed_on_mondays(rt: HostRuntime) -> Result<(), Fail> {
+    let alloc = rt.alloc();
+    let season = base(alloc, b"", CARRIER, b"L", &[])?;
+    let mondays = [(MONDAYS, [4, 0, 0, 0, 0])];
+    assert!(rt; does(alloc, &season, CARRIER, &mondays, b"1234", &other_mondays())?);
+    let mut schedule = Schedule::of(&season)?;
+    act(alloc, &mut schedule, &season, MONDAYS)?;
+    let flight = Flight::new(544, b' ').ok_or("a flight")?;
+    for cut in schedule.cuts(&flight) {
+        assert!(rt; [9220, 9313, 9344, 9430].contains(cut));
+    }
+    let missing: &[u8] =
+        b"SSM\n01JUN00009E001\nTIM\nLX544\n01JUL25 01JUL25 2\nZRH0600 LHR0715\nLHR0800 JFK1500\n";
+    assert!(rt;
+        does(
+            alloc,
+            &season,
+            CARRIER,
+            &[(missing, [0, 0, 0, 1, 0])],
+            b"L",
+            &[]
+        )?
+    );
+    Ok(())
+}
+
+#[test]
+fn tails_stay_where_times_change(rt: HostRuntime) -> Result<(), Fail> {
+    let alloc = rt.alloc();
+    let segment = with(
+        &with(&[b' '; 200], 1, b"4 LX 05440101J"),
+        29,
+        b"AB099ZRHLHR99",
+    );
+    let segment = with(&segment, 195, b"000004");
+    let season = base(alloc, b"", CARRIER, b"L1", &[segment])?;
+    let [a, b, c, d] = other_mondays();
+    let others = [
+        a,
+        segment,
+        b,
+        with(&segment, 10, b"02"),
+        c,
+        with(&segment, 10, b"03"),
+        d,
+        with(&segment, 10, b"04"),
+    ];
+    let mondays = [(MONDAYS, [4, 0, 0, 0, 0])];
+    assert!(rt; does(alloc, &season, CARRIER, &mondays, b"12345678", &others)?);
+    Ok(())
+}
+
+#[test]
+fn cancelled_and_put_back(rt: HostRuntime) -> Result<(), Fail> {
+    let alloc = rt.alloc();
+    let season = base(alloc, STATIONS, CARRIER, b"L", &[])?;
+    let back: &[u8] =
+        b"SSM\n01JUN00005E001\nNEW\nLX544\n01JUL25 01JUL25 2\nJ 320 CY.C12Y138\nZRH0545 LHR0700\n";
+    let both = [
+        (CANCELS_A_TUESDAY, [1, 0, 0, 0, 0]),
+        (back, [1, 0, 0, 0, 0]),
+    ];
+    assert!(rt; does(alloc, &season, CARRIER, &both, b"L", &[])?);
+    // a flight that comes and goes, in the order of references
+    let new: &[u8] =
+        b"SSM\n01MAY00001E001\nNEW\nLX600\n01JUL25 01JUL25 2\nJ 320 CY\nZRH0545 LHR0700\n";
+    let off: &[u8] = b"SSM\n01JUN00006E001\nCNL\nLX600\n01JUL25 01JUL25 2\n";
+    assert!(rt;
+        does(
+            alloc,
+            &season,
+            CARRIER,
+            &[(off, [0, 1, 0, 0, 0])],
+            b"L",
+            &[]
+        )?
+    );
+    let in_order = [(new, [1, 0, 0, 0, 0]), (off, [1, 0, 0, 0, 0])];
+    assert!(rt; does(alloc, &season, CARRIER, &in_order, b"L", &[])?);
+    Ok(())
+}
+
+#[test]
+fn single_date_message(rt: HostRuntime) -> Result<(), Fail> {
+    let alloc = rt.alloc();
+    let season = base(alloc, STATIONS, CARRIER, b"L", &[])?;
+    let day: &[u8] = b"ASM\n01JUN00002E001\nNEW\nLX544/01JUL\nJ 320 CY.C12Y138\nZRH0545 LHR0700\n";
+    let after = [(CANCELS_A_TUESDAY, [1, 0, 0, 0, 0]), (day, [1, 0, 0, 0, 0])];
+    assert!(rt; does(alloc, &season, CARRIER, &after, b"L", &[])?);
+    let before = [(day, [0, 0, 1, 0, 0]), (CANCELS_A_TUESDAY, [1, 0, 0, 0, 0])];
+    let around = [
+        piece(LEG, b"01", b"30MAR2530JUN251234567"),
+        piece(LEG, b"02", b"02JUL2525OCT251234567"),
+    ];
+    assert!(rt; does(alloc, &season, CARRIER, &before, b"12", &around)?);
+    Ok(())
+}
+
+#[test]
+fn variation_changes_in_autumn(rt: HostRuntime) -> Result<(), Fail> {
+    let alloc = rt.alloc();
+    let text: &[u8] =
+        b"SSM\n01JUN00008E001\nNEW\nLX700\n20OCT25 02NOV25 1234567\nJ 320 CY.C12Y138\nZRH0545 LHR0700\n";
+    let new = with(LEG, 6, b"0700");
+    let winter = with(&with(&new, 48, b"+0100"), 66, b"+0000");
+    let others = [
+        piece(&new, b"01", b"20OCT2525OCT25123456 "),
+        piece(&winter, b"02", b"26OCT2502NOV251234567"),
+    ];
+    let season = base(alloc, STATIONS, CARRIER, b"L", &[])?;
+    assert!(rt;
+        does(
+            alloc,
+            &season,
+            CARRIER,
+            &[(text, [14, 0, 0, 0, 0])],
+            b"L12",
+            &others
+        )?
+    );
+    let bare = base(alloc, b"", CARRIER, b"L", &[])?;
+    assert!(rt;
+        does(
+            alloc,
+            &bare,
+            CARRIER,
+            &[(text, [0, 0, 0, 0, 14])],
+            b"L",
+            &[]
+        )?
+    );
+    Ok(())
+}
+
+#[test]
+fn segment_lines(rt: HostRuntime) -> Result<(), Fail> {
+    let alloc = rt.alloc();
+    let text: &[u8] =
+        b"SSM\nUTC\n01JUN00010E001\nNEW\nLX700\n01JUL25 01JUL25 2\nJ 320 CY\nZRH0545 LHR0700\nLHR0800 ZRH1045\nZRHLHR 99/VIA TERMINAL 2\nLHRZRH 10/LX\nZRHZRH 109/M\n";
+    let first = with(
+        &with(&piece(LEG, b"01", b"01JUL2501JUL25 2     "), 6, b"0700"),
+        173,
+        b"       ",
+    );
+    let second = with(
+        &with(&with(&first, 12, b"02"), 37, b"LHR08000800+0100"),
+        55,
+        b"ZRH10451045+0200",
+    );
+    let tail = with(&[b' '; 200], 1, b"4 LX 07000101J");
+    let others = [
+        first,
+        with(&with(&tail, 29, b"AB099ZRHLHR"), 40, b"VIA TERMINAL 2"),
+        with(&with(&tail, 29, b"AC109ZRHZRH"), 40, b"M"),
+        second,
+        with(
+            &with(&with(&tail, 12, b"02"), 29, b"BC010LHRZRH"),
+            40,
+            b"LX",
+        ),
+    ];
+    let season = base(alloc, STATIONS, CARRIER, b"L", &[])?;
+    let new = [(text, [1, 0, 0, 0, 0])];
+    assert!(rt; does(alloc, &season, CARRIER, &new, b"L12345", &others)?);
+    Ok(())
+}
+
+#[test]
+fn equipment_of_every_leg(rt: HostRuntime) -> Result<(), Fail> {
+    let alloc = rt.alloc();
+    let legs = [*LEG, with(&with(LEG, 12, b"02"), 37, b"LHR08000800+0100")];
+    let season = base(alloc, b"", CARRIER, b"12", &legs)?;
+    let text: &[u8] = b"SSM\n01JUN00001E001\nEQT\nLX544\n30MAR25 25OCT25 1234567\nC 77W\n";
+    let mut others = legs;
+    for leg in &mut others {
+        let bare = with(&with(leg, 76, &[b' '; 20]), 173, &[b' '; 20]);
+        *leg = with(&with(&bare, 14, b"C"), 73, b"77W");
+    }
+    let every = [(text, [210, 0, 0, 0, 0])];
+    assert!(rt; does(alloc, &season, CARRIER, &every, b"12", &others)?);
+    Ok(())
+}
+
+#[test]
+fn copies_act_apart(rt: HostRuntime) -> Result<(), Fail> {
+    let alloc = rt.alloc();
+    let season = base(alloc, b"", CARRIER, b"L", &[])?;
+    let schedule = Schedule::of(&season)?;
+    let mut copy = schedule.copy()?;
+    let wednesdays: &[u8] = b"SSM\n01JUN00002E001\nCNL\nLX544\n30MAR25 25OCT25 3\n";
+    assert_eq!(rt;
+        counts(&act(alloc, &mut copy, &season, wednesdays)?),
+        [30, 0, 0, 0, 0]
+    );
+    let want = export_of(alloc, CARRIER, b"L", &[])?;
+    assert!(rt; exported(alloc, &schedule, &season)?.bytes() == want.as_slice());
+    Ok(())
+}
