@@ -6,3 +6,4 @@ pub mod Exporting
 pub mod Leaving
 pub mod Faults
 pub mod Again
+pub mod Telling

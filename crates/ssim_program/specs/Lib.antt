@@ -6,3 +6,4 @@ pub mod Refusal
 pub mod Printed
 pub mod Made
 pub mod Again
+pub mod Told

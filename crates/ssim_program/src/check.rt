@@ -1,10 +1,11 @@
 //! The command `check`: notes on a data set, and a summary.
 
-ghost use Rattle.std.specs.Prelude.{◌≡◌, ◌++◌, IfOk, OnErr, OnOk, length};
+ghost use Rattle.std.specs.Prelude.{◌≡◌, ◌++◌, IfErr, IfOk, OnErr, OnOk, length};
 ghost use Rattle.ssim_schedule.specs.Export.{line};
 ghost use Rattle.ssim_program.specs.Line.{Check};
 ghost use Rattle.ssim_program.specs.Made.{AreLinesOn, Leaves, Writes, as_printed};
 ghost use Rattle.ssim_program.specs.Printed.{printed_text};
+ghost use Rattle.ssim_program.specs.Told.{Refuses};
 
 use crate::data_set::load;
 use crate::printed::Printed;
@@ -25,6 +26,7 @@ pub(crate) fn check<'n, S: Store, O: Write>(
 ) -> Result<(), Refusal<'n>>
     ensures done { OnOk result (Writes (Check name.entry.now) (S.files store.old) (O.contents out.old) (O.contents out.new)) }
     ensures refused { OnErr result (Leaves (Check name.entry.now) (S.files store.old) (O.contents out.old) (O.contents out.new)) }
+    ensures why { IfErr result (Refuses (Check name.entry.now) (S.files store.old)) }
     ensures same { S.files store.new ≡ S.files store.old }
 {
     let read = match load(alloc, name, store) {

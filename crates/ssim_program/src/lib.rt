@@ -1,4 +1,12 @@
 //! The program as a function: its command line, its store of named files, and what it prints.
+//!
+//! - [`run`]: from the words, a [`Store`] and two writers to a status. [`parse`] gives the [`Request`] that the words name.
+//! - [`Refusal`]: why a command was refused, as its line; [`Printed`]: the lines of `check`.
+//! - [`laws`]: what `tidy` wrote is tidied to itself.
+//!
+//! **Promise.** The words of a command are no fault of the command line. A command that was done has written exactly what its
+//! definition makes of the file that it names, and nothing else; one that was refused has written nothing to `out`, unless `out` failed, and
+//! says why.
 #![tactic(auto)]
 
 mod check;

@@ -1,18 +1,22 @@
 //! The program, from its words to its status.
 
-ghost use Rattle.std.specs.Prelude.{◌≡◌, ◌≤◌, ◌++◌, ◌∷◌, [], OnErr, OnOk, map};
-ghost use Rattle.std.specs.Io.KnownBytes.{Appends, Keeps};
+ghost use Rattle.std.specs.Prelude.{◌≡◌, ◌≤◌, IfErr, IfOk, OnErr, OnOk, map};
+ghost use Rattle.std.specs.Io.KnownBytes.{Keeps};
+ghost use Rattle.ssim_schedule.specs.Export.{line};
+ghost use Rattle.ssim_schedule.specs.Sinks.{TakesFront};
 ghost use Rattle.ssim_program.specs.Again.{WritesItself};
 ghost use Rattle.ssim_program.specs.Line.{Line, Spells};
 ghost use Rattle.ssim_program.specs.Made.{Leaves, Writes};
 ghost use Rattle.ssim_program.specs.Refusal.{refusal_text};
 ghost use Rattle.ssim_program.specs.Request.{line_of};
+ghost use Rattle.ssim_program.specs.Told.{Refuses, Tells, TellsWhy};
 
 use crate::check::check;
 use crate::command_line::{LineFault, Request, parse};
 use crate::refusal::Refusal;
 use crate::store::Store;
 use crate::tidy::tidy;
+use crate::writing::print;
 use std::alloc::Global;
 use std::io;
 use std::io::Write;
@@ -21,7 +25,7 @@ use std::io::Write;
 /// done, or help was asked for; 1 where it was refused; 2 where the words name no command.
 ///
 /// What a command prints goes to `out`, why it was refused to `err`, as a line. Where `out` fails, it has taken a front of
-/// what was printed. A failure of `err` changes nothing.
+/// what was to be printed. A failure of `err` changes no status.
 pub fn run<S: Store, O: Write, E: Write>(
     alloc: Global,
     words: &[&str],
@@ -43,15 +47,18 @@ pub fn run<S: Store, O: Write, E: Write>(
 
     // A refusal wrote nothing to `out`, unless `out` itself failed.
     ensures refused { (line : Line) → Spells (map (λ w. w.now) words.now) line → result ≡ 1 → Leaves line (S.files store.old) (O.contents out.old) (O.contents out.new) }
+
+    // It told why: `err` took the line of a refusal that has its reason, or a front of it where `err` failed.
+    ensures told { (line : Line) → Spells (map (λ w. w.now) words.now) line → result ≡ 1 → TellsWhy line (S.files store.old) (E.contents err.old) (E.contents err.new) }
     ensures files { S.files store.new ≡ S.files store.old }
 {
     match parse(alloc, words) {
         Ok(request) => match act(alloc, request, store, out) {
             Ok(()) => 0,
-            Err(refusal) => refuse(&refusal, err),
+            Err(refusal) => refuse(alloc, &refusal, err),
         },
-        Err(LineFault::Memory) => refuse(&Refusal::Memory, err),
-        Err(LineFault::Shown(error)) => show(&error, out, err),
+        Err(LineFault::Memory) => refuse(alloc, &Refusal::Memory, err),
+        Err(LineFault::Shown(error)) => show(alloc, &error, out, err),
         Err(LineFault::NoCommand) => {
             let _ = writeln!(err, "error: the words name no command");
             2
@@ -69,6 +76,7 @@ fn act<'n, S: Store, O: Write>(
     ensures done { OnOk result (Writes (line_of request.entry) (S.files store.old) (O.contents out.old) (O.contents out.new)) }
     ensures again { OnOk result (WritesItself (line_of request.entry) (O.contents out.old) (O.contents out.new)) }
     ensures refused { OnErr result (Leaves (line_of request.entry) (S.files store.old) (O.contents out.old) (O.contents out.new)) }
+    ensures why { IfErr result (Refuses (line_of request.entry) (S.files store.old)) }
     ensures same { S.files store.new ≡ S.files store.old }
 {
     match request {
@@ -77,22 +85,35 @@ fn act<'n, S: Store, O: Write>(
     }
 }
 
-/// Prints why a command was refused. A failure of `err` changes nothing.
-fn refuse<E: Write>(refusal: &Refusal<'_>, err: &mut E) -> u8
-    ensures { result ≡ 1 }
+/// Prints why a command was refused; where no memory is left for the line, it is that of 90. A failure of `err` changes nothing.
+fn refuse<E: Write>(alloc: Global, refusal: &Refusal<'_>, err: &mut E) -> u8
+    ensures status { result ≡ 1 }
+    ensures told { Tells refusal.now (E.contents err.old) (E.contents err.new) }
 {
-    let _ = print_refusal(refusal, err);
+    match line_of_refusal(alloc, refusal) {
+        Ok(line) => tell(&line, err),
+        Err(_) => tell(b"refused 90 Memory\n", err),
+    }
     1
 }
 
-fn print_refusal<E: Write>(refusal: &Refusal<'_>, err: &mut E) -> io::Result<()>
-    ensures { OnOk result (Appends (E.contents err.old) (E.contents err.new) (refusal_text refusal.now ++ 10 ∷ [])) }
+fn line_of_refusal(alloc: Global, refusal: &Refusal<'_>) -> io::Result<Vec<u8>>
+    ensures { IfOk result (λ bytes. bytes.items ≡ line (refusal_text refusal.now)) }
 {
-    writeln!(err, "{refusal}")
+    let mut bytes = Vec::new(alloc);
+    writeln!(bytes, "{refusal}")?;
+    Ok(bytes)
+}
+
+/// Prints a line; what a writer that fails has taken is a front of it.
+fn tell<E: Write>(line: &[u8], err: &mut E)
+    ensures { TakesFront line.now (E.contents err.old) (E.contents err.new) }
+{
+    let _ = print(err, line);
 }
 
 /// Prints what `clap` has to say: help on `out`, with status 0, and all else on `err`, with 2.
-fn show<O: Write, E: Write>(error: &clap::Error, out: &mut O, err: &mut E) -> u8
+fn show<O: Write, E: Write>(alloc: Global, error: &clap::Error, out: &mut O, err: &mut E) -> u8
     ensures { result ≤ 2 }
 {
     if error.use_stderr() {
@@ -100,7 +121,7 @@ fn show<O: Write, E: Write>(error: &clap::Error, out: &mut O, err: &mut E) -> u8
         return 2;
     }
     if write!(out, "{error}").is_err() || out.flush().is_err() {
-        return refuse(&Refusal::WriteFault, err);
+        return refuse(alloc, &Refusal::WriteFault, err);
     }
     0
 }

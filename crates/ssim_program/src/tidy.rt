@@ -1,10 +1,11 @@
 //! The command `tidy`: the canonical export of a data set.
 
-ghost use Rattle.std.specs.Prelude.{◌≡◌, OnErr, OnOk};
+ghost use Rattle.std.specs.Prelude.{◌≡◌, IfErr, OnErr, OnOk};
 ghost use Rattle.ssim_program.specs.Made.{Exports, Leaves, LeavesExport, Writes};
 ghost use Rattle.ssim_program.specs.Again.{GrowsByItself};
 ghost use Rattle.ssim_program.specs.Line.{Tidy};
 ghost use Rattle.ssim_program.specs.Refusal.{refusal_of_export};
+ghost use Rattle.ssim_program.specs.Told.{HasNoExport, Refuses};
 
 use crate::data_set::load;
 use crate::refusal::Refusal;
@@ -27,6 +28,7 @@ pub(crate) fn tidy<'n, S: Store, O: Write>(
     ensures done { OnOk result (Writes (Tidy name.entry.now) (S.files store.old) (O.contents out.old) (O.contents out.new)) }
     ensures again { OnOk result (GrowsByItself (O.contents out.old) (O.contents out.new)) }
     ensures refused { OnErr result (Leaves (Tidy name.entry.now) (S.files store.old) (O.contents out.old) (O.contents out.new)) }
+    ensures why { IfErr result (Refuses (Tidy name.entry.now) (S.files store.old)) }
     ensures same { S.files store.new ≡ S.files store.old }
 {
     match load(alloc, name, store) {
@@ -42,6 +44,7 @@ pub(crate) fn tidy<'n, S: Store, O: Write>(
 fn export<O: Write>(base: &Base, out: &mut O) -> Result<(), ExportFault>
     ensures ok { OnOk result (Exports base.now.records (O.contents out.old) (O.contents out.new)) }
     ensures again { OnOk result (GrowsByItself (O.contents out.old) (O.contents out.new)) }
+    ensures why { IfErr result (HasNoExport base.now.records) }
     ensures err { OnErr result (LeavesExport base.now.records (O.contents out.old) (O.contents out.new)) }
 {
     put_export(base, out)?;
@@ -55,6 +58,7 @@ fn export<O: Write>(base: &Base, out: &mut O) -> Result<(), ExportFault>
 fn put_export<O: Write>(base: &Base, out: &mut O) -> Result<(), ExportFault>
     ensures ok { OnOk result (Exports base.now.records (O.contents out.old) (O.contents out.new)) }
     ensures again { OnOk result (GrowsByItself (O.contents out.old) (O.contents out.new)) }
+    ensures why { IfErr result (HasNoExport base.now.records) }
     ensures err { OnErr result (LeavesExport base.now.records (O.contents out.old) (O.contents out.new)) }
 {
     let mut sink = Writing {
@@ -75,6 +79,7 @@ fn put_export<O: Write>(base: &Base, out: &mut O) -> Result<(), ExportFault>
 fn export_into<W: Sink>(base: &Base, out: &mut W) -> Result<(), ExportFault>
     ensures ok { OnOk result (Exports base.now.records (W.taken out.old) (W.taken out.new)) }
     ensures again { OnOk result (GrowsByItself (W.taken out.old) (W.taken out.new)) }
+    ensures why { IfErr result (HasNoExport base.now.records) }
     ensures err { OnErr result (LeavesExport base.now.records (W.taken out.old) (W.taken out.new)) }
     ensures device { W.device out.new ≡ W.device out.old }
 {

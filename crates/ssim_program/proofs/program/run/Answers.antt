@@ -3,6 +3,9 @@ use Rattle.std.proofs.Common.{subst}
 use Rattle.ssim_program.specs.Again.{WritesItself}
 use Rattle.ssim_program.specs.Line.{Line}
 use Rattle.ssim_program.specs.Made.{Leaves, Writes}
+use Rattle.ssim_program.specs.Told.{Refuses}
+use Rattle.ssim_program.specs.declared.refusal.Refusal.TheVariants as refused
+use Rattle.ssim_program.proofs.Telling.{memory_refuses}
 use Rattle.ssim_program.proofs.Faults.{none_differs, shown_differs}
 use Rattle.ssim_program.proofs.program.run.Goals as goal
 
@@ -35,3 +38,16 @@ returns-in-Ok-act-clause-again g c line spells zero =
 
 pub returns-in-Err-Shown-clause-again : goal.returns-in-Err-Shown-clause-again
 returns-in-Err-Shown-clause-again g c line spells zero = absurd (shown_differs _ _ c.in-Err-Shown.field-0-is (c.in-Err-Shown.ensures line spells))
+
+pub returns-in-Err-clause-told : goal.returns-in-Err-clause-told
+returns-in-Err-clause-told g c line spells one = (
+  c.in-Err.refusal,
+  subst (λ (l : Line). Refuses l (g.S.Store.files c.args.store.now) c.in-Err.refusal) (c.in-Ok.ensures line spells) c.in-Err.ensures.why,
+  c.refuse.ensures.told,
+)
+
+pub returns-in-Err-Memory-clause-told : goal.returns-in-Err-Memory-clause-told
+returns-in-Err-Memory-clause-told g c line spells one = (refused.Memory, memory_refuses line (g.S.Store.files c.args.store.now), c.refuse-in-Err-Memory.ensures.told)
+
+pub returns-in-Err-Shown-clause-told : goal.returns-in-Err-Shown-clause-told
+returns-in-Err-Shown-clause-told g c line spells one = absurd (shown_differs _ _ c.in-Err-Shown.field-0-is (c.in-Err-Shown.ensures line spells))
