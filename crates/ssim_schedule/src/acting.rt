@@ -181,6 +181,54 @@ impl<'a> Acting<'a> {
     }
 }
 
+impl<'a> Acting<'a> {
+    ghost use Rattle.std.specs.Prelude.{[]};
+    ghost use Rattle.ssim_schedule.specs.Effect.{act_or, effect};
+    ghost use Rattle.ssim_schedule.specs.declared.finding.Reason.TheVariants.{Station};
+
+    // Why NEW or RPL acts or does not where nothing else hinders it.
+    fn made_reason(&self) -> Reason
+        ensures { result ≡ (act_or Station [] self.now.made).1 }
+    {
+        if self.made.is_some() {
+            Reason::Acted
+        } else {
+            Reason::Station
+        }
+    }
+
+    // Why it acts or does not where the flight does not fly.
+    fn reason_absent(&self) -> Reason
+        ensures { result ≡ (effect self.now.rows.now self.now.action.now self.now.day []).1 }
+    {
+        match self.action {
+            Action::New(_) => self.made_reason(),
+            Action::Cnl | Action::Rpl(_) | Action::Eqt(_) | Action::Tim(_) => Reason::Absent,
+        }
+    }
+
+    // Why it acts or does not.
+    fn reason(&self, old: &Itinerary) -> Reason
+        ensures { result ≡ (effect self.now.rows.now self.now.action.now self.now.day old.now).1 }
+    {
+        if old.is_empty() {
+            return self.reason_absent();
+        }
+        match self.action {
+            Action::New(_) => Reason::Present,
+            Action::Cnl | Action::Eqt(_) => Reason::Acted,
+            Action::Rpl(_) => self.made_reason(),
+            Action::Tim(lines) => {
+                if have_all(old.legs(), lines.lines()) {
+                    Reason::Acted
+                } else {
+                    Reason::Leg
+                }
+            }
+        }
+    }
+}
+
 impl<'a> Change<Itinerary> for Acting<'a> {
     ghost use Rattle.ssim_schedule.specs.Effect.{class_number, effect};
 
@@ -211,50 +259,6 @@ impl<'a> Change<Itinerary> for Acting<'a> {
     }
 
     fn class(&self, old: &Itinerary) -> u8 {
-        let is_empty = old.is_empty();
-        let reason = match self.action {
-            Action::New(_) => {
-                if !is_empty {
-                    Reason::Present
-                } else if self.made.is_some() {
-                    Reason::Acted
-                } else {
-                    Reason::Station
-                }
-            }
-            Action::Cnl => {
-                if is_empty {
-                    Reason::Absent
-                } else {
-                    Reason::Acted
-                }
-            }
-            Action::Rpl(_) => {
-                if is_empty {
-                    Reason::Absent
-                } else if self.made.is_some() {
-                    Reason::Acted
-                } else {
-                    Reason::Station
-                }
-            }
-            Action::Eqt(_) => {
-                if is_empty {
-                    Reason::Absent
-                } else {
-                    Reason::Acted
-                }
-            }
-            Action::Tim(lines) => {
-                if is_empty {
-                    Reason::Absent
-                } else if have_all(old.legs(), lines.lines()) {
-                    Reason::Acted
-                } else {
-                    Reason::Leg
-                }
-            }
-        };
-        reason.class()
+        self.reason(old).class()
     }
 }
