@@ -8,13 +8,13 @@ use ssim_values::Flight;
 use std::alloc::Global;
 use std::test::Fail;
 
-const STATIONS: &[u8] =
+pub(crate) const STATIONS: &[u8] =
     b"ZRH 30MAR25 25OCT25 +0200\nLHR 30MAR25 25OCT25 +0100\nZRH 26OCT25 28MAR26 +0100\nLHR 26OCT25 28MAR26 +0000\n";
 
 const CANCELS_A_TUESDAY: &[u8] = b"SSM\nUTC\n01JUN00001E001\nCNL\nLX544\n01JUL25 07JUL25 2\n";
 
 /// The base of a header, a carrier, these legs and segments, and the trailer.
-fn base(
+pub(crate) fn base(
     alloc: Global,
     stations: &[u8],
     carrier: &[u8; 200],
@@ -37,7 +37,12 @@ fn base(
 }
 
 /// What the one sub-message of a text does.
-fn act(alloc: Global, schedule: &mut Schedule, base: &Base, text: &[u8]) -> Result<Finding, Fail> {
+pub(crate) fn act(
+    alloc: Global,
+    schedule: &mut Schedule,
+    base: &Base,
+    text: &[u8],
+) -> Result<Finding, Fail> {
     let message = decode(alloc, text)?;
     let resolved = resolve(base, &message)?;
     match (message.subs(), resolved.subs.as_slice()) {
@@ -47,7 +52,7 @@ fn act(alloc: Global, schedule: &mut Schedule, base: &Base, text: &[u8]) -> Resu
 }
 
 /// How many dates were acted on, absent, present, without the leg, without a station.
-fn counts(finding: &Finding) -> [u32; 5] {
+pub(crate) fn counts(finding: &Finding) -> [u32; 5] {
     [
         finding.acted,
         finding.absent,
@@ -88,7 +93,7 @@ fn piece(leg: &[u8; 200], variation: &[u8; 2], dates: &[u8; 21]) -> [u8; 200] {
 }
 
 #[test]
-fn dates_cancelled(rt: HostRuntime) -> Result<(), Fail> {
+fn one_date_cancelled(rt: HostRuntime) -> Result<(), Fail> {
     let alloc = rt.alloc();
     let season = base(alloc, b"", CARRIER, b"L", &[])?;
     let around = [
@@ -97,6 +102,13 @@ fn dates_cancelled(rt: HostRuntime) -> Result<(), Fail> {
     ];
     let tuesday = [(CANCELS_A_TUESDAY, [1, 0, 0, 0, 0])];
     assert!(rt; does(alloc, &season, CARRIER, &tuesday, b"12", &around)?);
+    Ok(())
+}
+
+#[test]
+fn one_weekday_cancelled(rt: HostRuntime) -> Result<(), Fail> {
+    let alloc = rt.alloc();
+    let season = base(alloc, b"", CARRIER, b"L", &[])?;
     let wednesdays: &[u8] = b"SSM\n01JUN00002E001\nCNL\nLX544\n30MAR25 25OCT25 3\n";
     let without = [piece(LEG, b"01", b"30MAR2525OCT2512 4567")];
     assert!(rt;
@@ -109,6 +121,13 @@ fn dates_cancelled(rt: HostRuntime) -> Result<(), Fail> {
             &without
         )?
     );
+    Ok(())
+}
+
+#[test]
+fn unknown_flight(rt: HostRuntime) -> Result<(), Fail> {
+    let alloc = rt.alloc();
+    let season = base(alloc, b"", CARRIER, b"L", &[])?;
     let unknown: &[u8] = b"SSM\n01JUN00007E001\nCNL\nLX999\n30MAR25 25OCT25 1234567\n";
     assert!(rt;
         does(
@@ -178,12 +197,26 @@ fn times_changed_on_mondays(rt: HostRuntime) -> Result<(), Fail> {
     let season = base(alloc, b"", CARRIER, b"L", &[])?;
     let mondays = [(MONDAYS, [4, 0, 0, 0, 0])];
     assert!(rt; does(alloc, &season, CARRIER, &mondays, b"1234", &other_mondays())?);
+    Ok(())
+}
+
+#[test]
+fn cuts_of_a_period(rt: HostRuntime) -> Result<(), Fail> {
+    let alloc = rt.alloc();
+    let season = base(alloc, b"", CARRIER, b"L", &[])?;
     let mut schedule = Schedule::of(&season)?;
     act(alloc, &mut schedule, &season, MONDAYS)?;
     let flight = Flight::new(544, b' ').ok_or("a flight")?;
     for cut in schedule.cuts(&flight) {
         assert!(rt; [9220, 9313, 9344, 9430].contains(cut));
     }
+    Ok(())
+}
+
+#[test]
+fn missing_leg(rt: HostRuntime) -> Result<(), Fail> {
+    let alloc = rt.alloc();
+    let season = base(alloc, b"", CARRIER, b"L", &[])?;
     let missing: &[u8] =
         b"SSM\n01JUN00009E001\nTIM\nLX544\n01JUL25 01JUL25 2\nZRH0600 LHR0715\nLHR0800 JFK1500\n";
     assert!(rt;
@@ -194,6 +227,21 @@ fn times_changed_on_mondays(rt: HostRuntime) -> Result<(), Fail> {
             &[(missing, [0, 0, 0, 1, 0])],
             b"L",
             &[]
+        )?
+    );
+    // two lines may name one leg: the later one stays
+    let twice: &[u8] =
+        b"SSM\n01JUN00009E001\nTIM\nLX544\n30MAR25 25OCT25 1234567\nZRH0600 LHR0715\nZRH0630 LHR2400/1/0001\n";
+    let last = with(&with(LEG, 40, b"06300630"), 58, b"24000001");
+    let last = with(&last, 193, b"01");
+    assert!(rt;
+        does(
+            alloc,
+            &season,
+            CARRIER,
+            &[(twice, [210, 0, 0, 0, 0])],
+            b"1",
+            &[last]
         )?
     );
     Ok(())
@@ -236,7 +284,13 @@ fn cancelled_and_put_back(rt: HostRuntime) -> Result<(), Fail> {
         (back, [1, 0, 0, 0, 0]),
     ];
     assert!(rt; does(alloc, &season, CARRIER, &both, b"L", &[])?);
-    // a flight that comes and goes, in the order of references
+    Ok(())
+}
+
+#[test]
+fn late_message_comes_first(rt: HostRuntime) -> Result<(), Fail> {
+    let alloc = rt.alloc();
+    let season = base(alloc, STATIONS, CARRIER, b"L", &[])?;
     let new: &[u8] =
         b"SSM\n01MAY00001E001\nNEW\nLX600\n01JUL25 01JUL25 2\nJ 320 CY\nZRH0545 LHR0700\n";
     let off: &[u8] = b"SSM\n01JUN00006E001\nCNL\nLX600\n01JUL25 01JUL25 2\n";
@@ -302,6 +356,31 @@ fn variation_changes_in_autumn(rt: HostRuntime) -> Result<(), Fail> {
             &[(text, [0, 0, 0, 0, 14])],
             b"L",
             &[]
+        )?
+    );
+    Ok(())
+}
+
+#[test]
+fn rows_that_overlap_end_and_lack(rt: HostRuntime) -> Result<(), Fail> {
+    let alloc = rt.alloc();
+    let rows = b"ZRH 01JUL25 01JUL25 +0300\nZRH 30MAR25 25OCT25 +0200\nLHR 30MAR25 02JUL25 +0100\n";
+    let season = base(alloc, rows, CARRIER, b"L", &[])?;
+    let text: &[u8] =
+        b"SSM\n01JUN00008E001\nNEW\nLX700\n30JUN25 03JUL25 1234567\nJ 320 CY.C12Y138\nZRH0545 LHR0700\n";
+    let new = with(LEG, 6, b"0700");
+    let others = [
+        piece(&new, b"01", b"30JUN2502JUL251 3    "),
+        piece(&with(&new, 48, b"+0300"), b"02", b"01JUL2501JUL25 2     "),
+    ];
+    assert!(rt;
+        does(
+            alloc,
+            &season,
+            CARRIER,
+            &[(text, [3, 0, 0, 0, 1])],
+            b"L12",
+            &others
         )?
     );
     Ok(())

@@ -37,6 +37,8 @@ mod new_legs;
 mod note;
 mod points;
 mod put;
+#[cfg(test)]
+mod random_tests;
 mod reading;
 #[cfg(test)]
 mod resolve_tests;
