@@ -79,7 +79,10 @@ fn main(rt: HostRuntime) -> anyhow::Result<()> {
         let start = Instant::now(&rt)?;
         let acted = apply(&mut schedule, &read.base, &sub.action, read.base.flights());
         let took = start.elapsed(&rt)?;
-        println!(rt; "10000 sub-messages, {acted} acted, in {} us", took.as_micros())?;
+        println!(rt;
+            "10000 sub-messages, {acted} acted, in {} us",
+            took.as_micros()
+        )?;
     }
     Ok(())
 }
