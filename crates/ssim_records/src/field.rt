@@ -67,10 +67,15 @@ fn are_blank(text: &[u8]) -> bool
     text.iter().all(|b| is_blank(*b))
 }
 
+/// Whether each byte can be carried. No byte ends the loop, so that many are looked at together.
 pub fn are_carried(text: &[u8]) -> bool
     ensures { result ≡ list_all is_carried text.now }
 {
-    text.iter().all(|b| is_carried(*b))
+    let mut all = true;
+    for byte in text {
+        all &= is_carried(*byte);
+    }
+    all
 }
 
 fn is_suffix(byte: u8) -> bool
@@ -95,6 +100,20 @@ fn place_of_other(text: &[u8]) -> Option<usize>
         }
     }
     None
+}
+
+// The place of the first byte that cannot be carried. Mostly there is none.
+#[tactic(auto, using(crate::proofs::Rows::none_other))]
+fn carried_fault(text: &[u8]) -> Option<usize>
+    requires { length text.now ≤ 200 }
+    ensures small { IfSome result (λ place. place ≤ 200) }
+    ensures value { result ≡ place_of_other is_carried 0 text.now }
+{
+    if are_carried(text) {
+        None
+    } else {
+        place_of_other(text)
+    }
 }
 
 // ---- texts as arrays
@@ -328,7 +347,7 @@ fn fault_in(kind: Kind, text: &[u8]) -> Option<usize>
         Kind::AirlineCode => unless(is_airline(text)),
         Kind::Number => unless(number_of(text).is_some()),
         Kind::Sequence => unless(sequence_of(text).is_some()),
-        Kind::Carried => place_of_other(text),
+        Kind::Carried => carried_fault(text),
         Kind::Dates => dates_fault(text),
         Kind::Date => unless(day_of(text).is_some()),
         Kind::Days => unless(days_of(text).is_some()),

@@ -1,6 +1,7 @@
 //! The columns of a leg itself.
 
 ghost use Rattle.std.specs.Prelude.{◌≡◌, ◌≤◌, ◌<◌, ◌+◌, ◌∷◌, ◌↔◌, [], None, Some, IsSome, IfSome, IsTrue, length};
+ghost use Rattle.std.specs.Str.{bytes_eq};
 ghost use Rattle.ssim_values.specs.Clock.{clock_of};
 ghost use Rattle.ssim_records.specs.declared.field.Kind.TheVariants.{StationCode, Time, PassengerTime, UtcVariation};
 ghost use Rattle.ssim_records.specs.Columns.{fault_in, is_carried, passenger_time_of, utc_variation_of, first_fault, EachStands};
@@ -176,6 +177,13 @@ impl LegColumns {
         ensures stands { AreLegColumns result }
     {
         self.bytes
+    }
+
+    /// Whether the two are equal.
+    pub fn same(&self, other: &LegColumns) -> bool
+        ensures { result ≡ bytes_eq self.now other.now }
+    {
+        self.bytes.as_slice() == other.bytes.as_slice()
     }
 
     /// Column 14: the service type.

@@ -1,6 +1,7 @@
 //! The columns of a segment record that are its own.
 
 ghost use Rattle.std.specs.Prelude.{◌≡◌, ◌≤◌, ◌+◌, ◌↔◌, length, IsSome, IfSome};
+ghost use Rattle.std.specs.Str.{bytes_eq};
 ghost use Rattle.ssim_records.specs.Columns.{EachStands};
 ghost use Rattle.ssim_records.specs.Segment.{IsTail, tail_of, tail_columns, segment_table};
 
@@ -69,6 +70,13 @@ impl SegmentTail {
         ensures is_tail { IsTail result }
     {
         self.bytes
+    }
+
+    /// Whether the two are equal.
+    pub fn same(&self, other: &SegmentTail) -> bool
+        ensures { result ≡ bytes_eq self.now other.now }
+    {
+        self.bytes.as_slice() == other.bytes.as_slice()
     }
 
     /// Columns 15 to 27, carried.

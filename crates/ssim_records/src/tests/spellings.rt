@@ -48,6 +48,32 @@ fn tails_stay(rt: HostRuntime) {
     assert!(rt; SegmentTail::of(&tail).is_none());
 }
 
+// The columns of a leg record that has this digit in column 194, its last.
+fn columns_with(digit: &[u8]) -> Result<LegColumns, &'static str> {
+    match &read_record(&with(LEG, 194, digit)) {
+        Ok(Record::Leg(leg)) => Ok(leg.columns()),
+        _ => Err("a leg is spelt"),
+    }
+}
+
+// The tail that has this byte in column 194, its last, and blanks before it.
+fn tail_with(byte: u8) -> Result<SegmentTail, &'static str> {
+    let mut tail = [b' '; 179];
+    tail[178] = byte;
+    SegmentTail::of(&tail).ok_or("a tail is spelt")
+}
+
+#[test]
+fn compared_to_the_last_column(rt: HostRuntime) -> Result<(), Fail> {
+    let (none, one) = (columns_with(b"0")?, columns_with(b"1")?);
+    assert!(rt; none.same(&columns_with(b"0")?));
+    assert!(rt; !none.same(&one));
+    let (blank, letter) = (tail_with(b' ')?, tail_with(b'X')?);
+    assert!(rt; blank.same(&tail_with(b' ')?));
+    assert!(rt; !blank.same(&letter));
+    Ok(())
+}
+
 fn check_leg(rt: &impl Abort, leg: &LegRecord) {
     assert_eq!(rt; leg.first().number(), 9220);
     assert_eq!(rt; leg.last().map(|day| day.number()), Some(9429));
