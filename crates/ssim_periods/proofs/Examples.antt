@@ -1,8 +1,9 @@
 -- Small examples of covers and pieces, computed. Day 0 is a Saturday.
-use Rattle.std.proofs.Common.{◌≡◌, ℕ, ◌%◌, Bool, true, false, not, ◌&&◌, ◌||◌, nat_le, nat_lt, nat_eq, if◌then◌else◌, List, [], ◌∷◌, replicate, refl}
+use Rattle.std.proofs.Common.{◌≡◌, ℕ, ◌%◌, Bool, true, false, not, ◌&&◌, ◌||◌, nat_le, nat_lt, nat_eq, if◌then◌else◌, Some, List, [], ◌∷◌, map, replicate, refl}
 use Rattle.ssim_periods.specs.Calendar.{holds}
 use Rattle.ssim_periods.specs.Days.{changed_on, counts_on}
 use Rattle.ssim_periods.specs.Cover.{cover, holding}
+use Rattle.ssim_periods.specs.Gather.{gathered, numbered}
 use Rattle.ssim_periods.specs.Pieces.{pieces_of, held_on}
 
 abbrev daily : List Bool
@@ -76,3 +77,7 @@ no_day = refl
 -- each day of a set is in one period of its cover
 in_one : holding (cover (λ n. nat_lt n 12 || (nat_le 14 n && nat_lt n 16)) 40) 14 ≡ 1
 in_one = refl
+
+-- of 0, 7, 9 and 7 with 0 empty the numbers 0, 1 and 2 stand for 0, 7 and 9
+numbers_of : map (numbered 0 (gathered nat_eq 0 [] (0 ∷ 7 ∷ 9 ∷ 7 ∷ []))) (0 ∷ 1 ∷ 2 ∷ []) ≡ Some 0 ∷ Some 7 ∷ Some 9 ∷ []
+numbers_of = refl

@@ -12,4 +12,5 @@ pub mod PieceRows
 pub mod PieceOrder
 pub mod PiecesFound
 pub mod GatherLemmas
+pub mod NumberLemmas
 pub mod Examples

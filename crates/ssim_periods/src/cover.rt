@@ -1,14 +1,11 @@
-//! What covers and pieces are made from.
-ghost use Rattle.std.specs.Prelude.{◌≡◌, ℕ, ◌+◌, ◌-◌, ◌<◌, ◌≤◌, false, true, [], ◌∷◌, map, IfOk, OnOk, slice_index_or};
-ghost use Rattle.std.specs.List.{list_any, flat_map};
+//! What covers are made from.
+ghost use Rattle.std.specs.Prelude.{◌≡◌, ℕ, ◌+◌, ◌-◌, ◌<◌, ◌≤◌, false, true, slice_index_or};
 ghost use Rattle.ssim_values.specs.DayMask.{IsMask};
 ghost use Rattle.ssim_periods.specs.Calendar.{slot};
 ghost use Rattle.ssim_periods.specs.Cover.{first_where, last_where, differ};
-ghost use Rattle.ssim_periods.specs.Gather.{gathered};
 
 use crate::Value;
-use ssim_values::{Day, DayMask, Memory, Period};
-use std::alloc::Global;
+use ssim_values::{Day, DayMask, Period};
 
 // The first day of a stretch with one row that has the value although its weekday is not among the days, or the other way round; the
 // end of the stretch where there is none. Looks at seven days of it at most.
@@ -73,48 +70,4 @@ pub(crate) fn period_of(first: u32, last: u32, days: [bool; 7]) -> Period
         unreachable!();
     };
     period
-}
-
-// Whether a value is among others.
-fn is_among<V: Value>(values: &[&V], value: &V) -> bool
-    ensures { result ≡ list_any (V.alike value.now) (map (λ other. other.now) values.now) }
-{
-    for other in values {
-        if value.same(other) {
-            return true;
-        }
-    }
-    false
-}
-
-// Adds the values of a row that are not empty and not yet there.
-fn add_row<'a, V: Value>(values: &mut Vec<&'a V>, row: &'a [V; 7]) -> Result<(), Memory>
-    ensures { OnOk result (map (λ other. other.now) values.new.items ≡ gathered V.alike V.nothing (map (λ other. other.now) values.old.items) row.now) }
-{
-    for weekday in 0..7 {
-        let value = &row[weekday];
-        if !value.is_empty() {
-            let known = is_among(values, value);
-            if !known {
-                values.push(value)?;
-            }
-        }
-    }
-    Ok(())
-}
-
-// The distinct values of rows, other than the empty one.
-pub(crate) fn distinct_values<'a, V: Value>(
-    alloc: Global,
-    before: &'a [V; 7],
-    rows: &'a [[V; 7]],
-) -> Result<Vec<&'a V>, Memory>
-    ensures { IfOk result (λ values. map (λ other. other.now) values.items ≡ gathered V.alike V.nothing [] (flat_map (λ row. row) (before.now ∷ rows.now))) }
-{
-    let mut values = Vec::new(alloc);
-    add_row(&mut values, before)?;
-    for row in rows {
-        add_row(&mut values, row)?;
-    }
-    Ok(values)
 }

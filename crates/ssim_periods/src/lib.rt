@@ -22,6 +22,7 @@
 
 mod count;
 mod cover;
+mod numbers;
 mod patches;
 mod periods;
 #[cfg(test)]

@@ -1,5 +1,5 @@
 //! New values put into cuts and rows.
-ghost use Rattle.std.specs.Prelude.{◌≡◌, ℕ, ◌+◌, ◌-◌, ◌<◌, ◌≤◌, Bool, false, unwrap_or, is_none, map, List, [], ◌∷◌, length, IfOk, slice_index_or, vec_len, vec_capacity, if◌then◌else◌, Some, None};
+ghost use Rattle.std.specs.Prelude.{◌≡◌, ℕ, ◌+◌, ◌-◌, ◌<◌, ◌≤◌, Bool, false, unwrap_or, is_none, map, List, [], ◌∷◌, length, IfOk, slice_index_or, vec_len, vec_capacity, if◌then◌else◌, Some, None, IfSome};
 ghost use Rattle.std.specs.List.{All};
 ghost use Rattle.std.specs.List.Sorted.{IsStrictlyIncreasing};
 ghost use Rattle.ssim_periods.specs.Calendar.{slot};
@@ -11,6 +11,37 @@ use crate::rows::{has_days, place_of, range_end, row_at};
 use crate::{Change, Value};
 use ssim_values::Memory;
 use std::alloc::Global;
+
+// The new value for an old one: a copy of the latest, if that was made for an equal one, so that copies share what they hold.
+// One that cannot be copied is made anew: no copy is owed where no range is divided.
+fn new_value<V: Value, C: Change<V>>(
+    alloc: Global,
+    old: &V,
+    latest: &Option<(&V, V)>,
+    change: &C,
+) -> Result<V, Memory>
+    requires { IfSome latest.now (λ l. l.1 ≡ C.outcome change.now l.0.now) }
+    ensures { IfOk result (λ new. new ≡ C.outcome change.now old.now) }
+{
+    if let Some((earlier, new)) = latest {
+        if old.same(earlier) {
+            if let Ok(shared) = new.copy(alloc) {
+                return Ok(shared);
+            }
+        }
+    }
+    change.after(alloc, old)
+}
+
+// A new value beside the old one that it was made for, if it can be copied.
+fn made_for<'a, V: Value>(alloc: Global, old: &'a V, new: &V) -> Option<(&'a V, V)>
+    ensures { IfSome result (λ made. (made.0.now ≡ old.now) × (made.1 ≡ new.now)) }
+{
+    match new.copy(alloc) {
+        Ok(kept) => Some((old, kept)),
+        Err(_) => None,
+    }
+}
 
 // The new values of a row's weekdays in the mask that have a day in a stretch.
 fn new_row<V: Value, C: Change<V>>(
@@ -25,12 +56,16 @@ fn new_row<V: Value, C: Change<V>>(
     requires to { to ≤ 36525 }
     ensures { IfOk result (λ patch. patch.items ≡ patch_of (with_days 0 mask.now from to) (C.outcome change.now) row.now) }
 {
-    let mut patch = Vec::new(alloc);
+    let mut patch = Vec::with_capacity(alloc, 7)?;
+    let mut latest = None;
     for weekday in 0..7u32 {
         let mut new = None;
         let wanted = has_days(mask, weekday, from, to);
         if wanted {
-            new = Some(change.after(alloc, &row[weekday as usize])?);
+            let old = &row[weekday as usize];
+            let value = new_value(alloc, old, &latest, change)?;
+            latest = made_for(alloc, old, &value);
+            new = Some(value);
         }
         patch.push(new)?;
     }

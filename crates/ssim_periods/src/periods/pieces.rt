@@ -1,10 +1,11 @@
 //! The pieces of a list of one value per day, read from the rows, and the laws of their definition.
-ghost use Rattle.std.specs.Prelude.{◌≡◌, length, ℕ, ◌+◌, ◌-◌, ◌%◌, ◌<◌, ◌≤◌, List, ◌++◌, true, IfOk, OnOk};
-ghost use Rattle.ssim_periods.specs.Calendar.{slot};
-ghost use Rattle.ssim_periods.specs.Cover.{first_where, weekdays_of, breaks, CoverLaw};
-ghost use Rattle.ssim_periods.specs.Pieces.{has_value, pieces_with, pieces_of, ArePieces};
+ghost use Rattle.std.specs.Prelude.{◌≡◌, length, ℕ, ◌+◌, ◌-◌, ◌%◌, ◌<◌, ◌≤◌, List, ◌++◌, map, IfOk, OnOk};
+ghost use Rattle.ssim_periods.specs.Calendar.{day_count, slot};
+ghost use Rattle.ssim_periods.specs.Cover.{first_where, cover, weekdays_of, breaks, CoverLaw};
+ghost use Rattle.ssim_periods.specs.Pieces.{has_value, pieces_of, ArePieces};
 
-use crate::cover::{distinct_values, last_in, period_of, unlike_in_row};
+use crate::cover::{last_in, period_of, unlike_in_row};
+use crate::numbers::{ValueNumber, numbered_days};
 use crate::rows::{DAYS, place_of, range_end, row_at};
 use crate::{Periods, Value};
 use ssim_values::{Day, Memory, Period};
@@ -14,30 +15,38 @@ const NO_DAYS: [bool; 7] = [false; 7];
 impl<V: Value> Periods<V> {
     /// The covers of the days of each value other than the empty one, each period with its value, sorted by first day.
     ///
-    /// They are read from the rows: a range is compared with the weekdays of a period by at most seven of its days. The cost for each
-    /// distinct value is that of the ranges.
+    /// They are read from the rows. First each value of a row gets a number, mostly by one comparison with the same weekday's value in
+    /// the row before, else by comparisons with the distinct values; no value is compared later. Then the cost for each distinct value is
+    /// that of the ranges, by at most seven numbers of each.
     pub fn pieces(&self) -> Result<Vec<(Period, V)>, Memory>
-        ensures { IfOk result (λ pieces. pieces.items ≡ pieces_of V.alike V.nothing self.now.days) }
+        ensures pieces { IfOk result (λ pieces. pieces.items ≡ pieces_of V.alike V.nothing self.now.days) }
+        ensures each_day { OnOk result (length self.now.days ≡ day_count) }
     {
-        let values = distinct_values(self.alloc, &self.before, &self.rows)?;
+        let (values, numbers) = numbered_days(self.alloc, &self.before, &self.cuts, &self.rows)?;
         let mut pieces = Vec::new(self.alloc);
-        for value in &values {
-            self.push_cover(value, &mut pieces)?;
+        for place in 0..values.len() {
+            let number = ValueNumber { number: place + 1 };
+            numbers.push_cover(&number, values[place], &mut pieces)?;
         }
         pieces.sort_by_key(|piece| piece.0.first().number())?;
         Ok(pieces)
     }
 
-    // Adds the cover of the days that have a value.
-    fn push_cover(&self, value: &V, pieces: &mut Vec<(Period, V)>) -> Result<(), Memory>
-        ensures { OnOk result (pieces.new.items ≡ pieces.old.items ++ pieces_with V.alike self.now.days value.now) }
+    // Adds the cover of the days that have a value, each period with a label.
+    fn push_cover<L: Value>(
+        &self,
+        value: &V,
+        label: &L,
+        pieces: &mut Vec<(Period, L)>,
+    ) -> Result<(), Memory>
+        ensures { OnOk result (pieces.new.items ≡ pieces.old.items ++ map (λ period. (period, label.now)) (cover (has_value V.alike self.now.days value.now) (length self.now.days))) }
     {
         let mut first = self.first_unlike(value, &NO_DAYS, 0);
         while first < DAYS {
             let days = self.weekdays_from(value, first);
             let after = self.first_unlike(value, &days, first);
             let period = period_of(first, last_in(&days, first, after), days);
-            pieces.push((period, value.copy(self.alloc)?))?;
+            pieces.push((period, label.copy(self.alloc)?))?;
             first = self.first_unlike(value, &NO_DAYS, after);
         }
         Ok(())

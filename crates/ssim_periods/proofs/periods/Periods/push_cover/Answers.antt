@@ -9,7 +9,7 @@ use Rattle.ssim_periods.proofs.periods.Periods.push_cover.Goals as goal
 
 pub loop-first-init : goal.loop-first-init
 loop-first-init g c =
-    let days = c.args.self.now.days in let v = c.args.value.now in let is_in = has_value g.V.Value.alike days v in
+    let days = c.args.self.now.days in let v = c.args.label.now in let is_in = has_value g.V.Value.alike days c.args.value.now in
     let len : length days ≡ 36525 = sym (ap (λ s. length s.days) c.self.view_is) ∙ length-each_day _ in
     let first = c.first_unlike-first.result in
     let start : length days - 0 ≡ length days = omega arith in
@@ -80,7 +80,7 @@ loop-first-smaller g c =
 
 pub loop-first-preserved : goal.loop-first-preserved
 loop-first-preserved g c =
-    let days = c.args.self.now.days in let v = c.args.value.now in let is_in = has_value g.V.Value.alike days v in let first = c.loop-first.first in let after = c.first_unlike-after.result in
+    let days = c.args.self.now.days in let v = c.args.label.now in let is_in = has_value g.V.Value.alike days c.args.value.now in let first = c.loop-first.first in let after = c.first_unlike-after.result in
     let mask = c.weekdays_from-days.result in let last = c.last_in.result in let items = c.loop-first.pieces.items in
     let len : length days ≡ 36525 = sym (ap (λ s. length s.days) c.self.view_is) ∙ length-each_day _ in let test = c.loop-first-test.true in let own = c.loop-first.invariant.own test in
     let s = step is_in (length days) first mask after (omega arith) own c.weekdays_from-days.ensures c.first_unlike-after.ensures in
@@ -98,6 +98,6 @@ loop-first-preserved g c =
 
 pub returns : goal.returns
 returns g c =
-    let days = c.args.self.now.days in let v = c.args.value.now in let is_in = has_value g.V.Value.alike days v in
+    let days = c.args.self.now.days in let v = c.args.label.now in let is_in = has_value g.V.Value.alike days c.args.value.now in
     let len : length days ≡ 36525 = sym (ap (λ s. length s.days) c.self.view_is) ∙ length-each_day _ in let done = c.loop-first-test.false in
     sym (append-nil c.loop-first.pieces.items) ∙ ap (λ ps. c.loop-first.pieces.items ++ map (λ period. (period, v)) ps) (sym (cover_at-end is_in (length days) c.loop-first.first (omega arith))) ∙ c.loop-first.invariant.rest

@@ -1,5 +1,6 @@
 use Rattle.std.proofs.Common.{◌≡◌, ◌-◌, ◌<◌, ◌≤◌, ◌++◌, true, map, length}
-use Rattle.ssim_periods.specs.Pieces.{has_value, pieces_with}
+use Rattle.ssim_periods.specs.Cover.{cover}
+use Rattle.ssim_periods.specs.Pieces.{has_value}
 use Rattle.ssim_periods.proofs.CoverSteps.{cover_at}
 use Rattle.ssim_periods.proofs.periods.Periods.push_cover.Given as goal
 
@@ -9,7 +10,7 @@ invariant-loop-first g l =
     record {
       to : l.first ≤ 36525;
       own : l.first < 36525 → is_in l.first ≡ true;
-      rest : l.pieces.items ++ map (λ period. (period, l.value)) (cover_at is_in (length l.self.days) l.first) ≡ l.fn.pieces.items ++ pieces_with g.V.Value.alike l.self.days l.value;
+      rest : l.pieces.items ++ map (λ period. (period, l.label)) (cover_at is_in (length l.self.days) l.first) ≡ l.fn.pieces.items ++ map (λ period. (period, l.label)) (cover is_in (length l.self.days));
     }
 
 abbrev pub decreases-loop-first : goal.decreases-loop-first
