@@ -1,6 +1,8 @@
--- A fact of each element of lists that are joined, mapped, and flattened.
-use Rattle.std.proofs.Common.{List, [], ◌∷◌, ◌++◌, map}
-use Rattle.std.specs.List.{flat_map, AllByRecursion as Each}
+-- A fact of each element of lists that are joined, mapped, flattened, and gone over one by one.
+use Rattle.std.proofs.Common.{◌≡◌, ◌≤◌, ◌<◌, ℕ, ◌+◌, List, [], ◌∷◌, ◌++◌, map, length, take, get_or, subst}
+use Rattle.std.specs.List.{flat_map, All, AllByRecursion as Each}
+use Rattle.std.proofs.lemmas.List.{take_all}
+use Rattle.std.proofs.lemmas.List.Elements.{All-more}
 
 pub each-any : {X : Type 0} (P : X → Type 0) (xs : List X) → ((x : X) → P x) → Each P xs
 each-any P [] h = tt
@@ -21,3 +23,11 @@ each-flat_map P f (x ∷ xs) h = each-append P (f x) (flat_map f xs) h.0 (each-f
 pub each-both : {X : Type 0} (P Q : X → Type 0) (xs : List X) → Each P xs → Each Q xs → Each (λ x. P x × Q x) xs
 each-both P Q [] a b = tt
 each-both P Q (x ∷ xs) a b = ((a.0, b.0), each-both P Q xs a.1 b.1)
+
+-- the element at hand, behind those before it
+pub all_more : {X : Type 0} (P : X → Type 0) (xs : List X) (i : ℕ) (x : X) → i < length xs → x ≡ get_or xs i x → All P (take i xs) → P x → All P (take (i + 1) xs)
+all_more P xs i x less is before one = All-more P xs i x less before (subst P is one)
+
+-- at the end these are all
+pub all_done : {X : Type 0} (P : X → Type 0) (xs : List X) (i : ℕ) → length xs ≤ i → All P (take i xs) → All P xs
+all_done P xs i done each = subst (λ ys. All P ys) (take_all i xs done) each

@@ -33,3 +33,5 @@ pub mod LegTexts
 pub mod LegPairs
 pub mod Acts
 pub mod Applied
+pub mod InOrder
+pub mod Writable

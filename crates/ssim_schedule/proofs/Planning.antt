@@ -1,10 +1,10 @@
 -- A plan says of a schedule's flights what the definition says of all flights.
-use Rattle.std.proofs.Common.{◌≡◌, ◌≤◌, ◌<◌, ℕ, suc, ◌+◌, Bool, true, false, ◌||◌, nat_eq, if◌then◌else◌, List, [], ◌∷◌, ◌++◌, map, length, take, get_or, Option, Some, None, Result, Ok, Err, refl, sym, ap, subst, ◌∙◌, arith}
+use Rattle.std.proofs.Common.{◌≡◌, ◌≤◌, ◌<◌, ℕ, suc, ◌+◌, Bool, true, false, ◌||◌, nat_eq, if◌then◌else◌, List, [], ◌∷◌, ◌++◌, map, length, take, get_or, Option, Some, None, Result, Ok, Err, refl, sym, ap, ◌∙◌, arith}
 use Rattle.std.specs.Prelude.{◌&&◌, nat_lt}
 use Rattle.std.specs.List.{All, list_any, AllByRecursion as Each}
 use Rattle.std.proofs.lemmas.Bool.Decides.{nat_tests}
 use Rattle.std.proofs.lemmas.List.{take_more, get_or_default}
-use Rattle.std.proofs.lemmas.List.Elements.{All-append, All-cons, All-nil, recursion_from_All, All-from_recursion}
+use Rattle.std.proofs.lemmas.List.Elements.{recursion_from_All, All-from_recursion}
 use Rattle.ssim_values.specs.Flight.{FlightNumber, IsFlight}
 use Rattle.ssim_periods.specs.Days.{each_day}
 use Rattle.ssim_records.specs.declared.record.Record.{Record}
@@ -41,11 +41,6 @@ planned_more entries i f plan new ps less is before its push =
 
 abbrev Exists : FlightPeriods → Type 0
 Exists f = IsFlight f.flight
-
-pub existing_more : (entries : Table) (i : ℕ) (f : FlightPeriods) → i < length entries → f ≡ get_or entries i f → All Exists (take i entries) → IsFlight f.flight → All Exists (take (i + 1) entries)
-existing_more entries i f less is before one =
-    let front : take (i + 1) entries ≡ take i entries ++ f ∷ [] = take_more entries i f less ∙ ap (λ (x : FlightPeriods). take i entries ++ x ∷ []) (sym is) in
-    subst (λ (xs : Table). All Exists xs) (sym front) (All-append Exists (take i entries) (f ∷ []) before (All-cons Exists f [] one (All-nil Exists)))
 
 -- ---- what can be written
 

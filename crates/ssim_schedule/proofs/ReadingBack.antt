@@ -1,26 +1,14 @@
 -- What is exported in the frame of a base reads back, by the law on bytes.
-use Rattle.std.proofs.Common.{◌≡◌, ℕ, List, length, Option, Result, Ok, refl, sym, ap, subst, ◌∙◌}
-use Rattle.std.specs.List.{All}
-use Rattle.std.specs.Io.KnownBytes.{Appends}
-use Rattle.ssim_values.specs.Flight.{FlightNumber, IsFlight}
+use Rattle.std.proofs.Common.{◌≡◌, ℕ, List, Option, Ok, sym, ap, ◌∙◌}
+use Rattle.ssim_values.specs.Flight.{FlightNumber}
 use Rattle.ssim_records.specs.Carrier.{CarrierFields}
 use Rattle.ssim_records.specs.Header.{HeaderFields}
 use Rattle.ssim_records.specs.Trailer.{TrailerFields}
 use Rattle.ssim_records.specs.declared.record.Record.{Record}
-use Rattle.ssim_schedule.specs.Timetable.{Above, Days, on_day, days_of}
-use Rattle.ssim_schedule.specs.Export.{ExportRefusal, Frame, chapter7}
-use Rattle.ssim_schedule.specs.Plan.{IsOfBase, ReadsBackBase, Writes, frame_from}
-use Rattle.ssim_schedule.specs.ReadBack.{AreWritable, BytesReadBack, CanExport, CanReadBack, HasFrame, IsTimetable, IsWritable}
-
--- the timetable of a base reads back
-pub of_base : (base : List Record) (days : FlightNumber → Days) → CanExport base → IsOfBase base days → CanReadBack days
-of_base base days can same = record {
-  timetable = record {
-    each_day = λ f exists. ap length (same f exists) ∙ can.timetable.each_day f exists;
-    rising = λ f n exists within. subst (λ (ds : Days). Above 0 (on_day ds n)) (sym (same f exists)) (can.timetable.rising f n exists within);
-  };
-  legs = λ f n exists within. subst (λ (ds : Days). All IsWritable (on_day ds n)) (sym (same f exists)) (can.legs f n exists within);
-}
+use Rattle.ssim_schedule.specs.Timetable.{Days}
+use Rattle.ssim_schedule.specs.Export.{Frame, chapter7}
+use Rattle.ssim_schedule.specs.Plan.{ReadsBackBase, Writes, frame_from}
+use Rattle.ssim_schedule.specs.ReadBack.{BytesReadBack, CanExport, CanReadBack, HasFrame}
 
 -- the header, carrier and trailer of a base are its frame's
 pub frame-is : (frame : Frame) (h : HeaderFields) (c : CarrierFields) (t : TrailerFields) → h ≡ frame.header → c ≡ frame.carrier → t ≡ frame.trailer → frame_from h c t ≡ frame

@@ -93,6 +93,10 @@ pub if_ok : {A E P Q : Type 0} (r : Result A E) → (P → Q) → OnOk r P → O
 if_ok (Ok a) f p = f p
 if_ok (Err e) f p = tt
 
+pub if_both : {A E P Q R : Type 0} (r : Result A E) → (P → Q → R) → OnOk r P → OnOk r Q → OnOk r R
+if_both (Ok a) f p q = f p q
+if_both (Err e) f p q = tt
+
 pub if_err : {A E P Q : Type 0} (r : Result A E) → (P → Q) → OnErr r P → OnErr r Q
 if_err (Ok a) f p = tt
 if_err (Err e) f p = f p

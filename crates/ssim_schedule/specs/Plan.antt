@@ -1,15 +1,15 @@
 -- What is to be exported, flight by flight: pieces instead of days.
 use Rattle.std.specs.Prelude.{◌≡◌, ℕ, ◌+◌, ◌%◌, ◌^◌, ◌&&◌, nat_lt, if◌then◌else◌, List, [], ◌∷◌, map, length, Option, Some, None, Result, Ok, Err}
-use Rattle.std.specs.List.{flat_map}
+use Rattle.std.specs.List.{flat_map, All}
 use Rattle.std.specs.Io.KnownBytes.{Appends}
-use Rattle.ssim_values.specs.Flight.{FlightNumber, IsFlight}
+use Rattle.ssim_values.specs.Flight.{FlightNumber}
 use Rattle.ssim_records.specs.Carrier.{CarrierFields}
 use Rattle.ssim_records.specs.Header.{HeaderFields}
 use Rattle.ssim_records.specs.Trailer.{TrailerFields}
 use Rattle.ssim_records.specs.Record.{written}
 use Rattle.ssim_records.specs.declared.record.Record.{Record}
-use Rattle.ssim_schedule.specs.ReadBack.{HasFrame, ReadsBackFrom}
-use Rattle.ssim_schedule.specs.Timetable.{Days, Legs, days_of}
+use Rattle.ssim_schedule.specs.ReadBack.{HasFrame, IsWritable, ReadsBackFrom}
+use Rattle.ssim_schedule.specs.Timetable.{Days, Legs}
 use Rattle.ssim_schedule.specs.Export as refusal
 use Rattle.ssim_schedule.specs.Export.{ExportRefusal, Frame, Piece, chapter7, export_bytes, line, numbered, pieces, pieces_records, sections}
 use Rattle.ssim_schedule.specs.Schedule.{Table}
@@ -39,6 +39,16 @@ pieces_count (piece ∷ later) = legs_count piece.1 + pieces_count later
 abbrev pub plan_count : List Planned → ℕ
 plan_count [] = 0
 plan_count (p ∷ plan) = pieces_count p.1 + plan_count plan
+
+-- ---- what records may have
+
+-- each leg of the piece can be written
+abbrev pub HasWritableLegs : Piece → Type 0
+HasWritableLegs piece = All IsWritable piece.1
+
+-- so can those of all pieces of the flight
+abbrev pub HasWritablePieces : Planned → Type 0
+HasWritablePieces p = All HasWritableLegs p.1
 
 -- ---- the export of a plan
 
@@ -106,7 +116,3 @@ RefusesBase taken failures base days old new fault = (frame : Frame) × HasFrame
 abbrev pub ReadsBackBase : {W : Type 0} → (W → Option (List ℕ)) → List Record → (FlightNumber → Days) → W → W → Type 0
 ReadsBackBase taken base days old new =
     (frame : Frame) × HasFrame frame base × (bytes : List ℕ) × Appends (taken old) (taken new) bytes × ReadsBackFrom frame days bytes
-
--- the timetable is that of the base
-abbrev pub IsOfBase : List Record → (FlightNumber → Days) → Type 0
-IsOfBase base days = (flight : FlightNumber) → IsFlight flight → days flight ≡ days_of base flight

@@ -18,10 +18,14 @@ use Rattle.ssim_schedule.specs.Base.{Ending, Done, first_refusal, kept_all, data
 use Rattle.ssim_schedule.specs.declared.note.Note.{Note}
 use Rattle.ssim_schedule.specs.Export.{Frame, pieces, chapter7_records, export_of, fill_count, chapter7}
 
+-- On each date the legs of a flight stand by rising leg sequence, from 1 to 99: so no sequence stands twice.
+abbrev pub AreInOrder : (FlightNumber → Days) → Type 0
+AreInOrder days = (flight : FlightNumber) (n : ℕ) → IsFlight flight → n < day_count → Above 0 (on_day (days flight) n)
+
 -- a value for each day of each flight, each with its legs by rising sequence
 pub record IsTimetable (days : FlightNumber → Days) : Type 0 where
   pub each_day : (flight : FlightNumber) → IsFlight flight → length (days flight) ≡ day_count
-  pub rising : (flight : FlightNumber) (n : ℕ) → IsFlight flight → n < day_count → Above 0 (on_day (days flight) n)
+  pub rising : AreInOrder days
 
 -- the trailer of a base is of the carrier's airline, and ends the data set
 pub record IsFrame (frame : Frame) : Type 0 where

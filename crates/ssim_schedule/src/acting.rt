@@ -87,7 +87,7 @@ fn have_all(legs: &[PlacedLeg], lines: &[LegLine]) -> bool
 fn copy_legs(alloc: Global, legs: &[PlacedLeg]) -> Result<Vec<PlacedLeg>, Memory>
     ensures { IfOk result (λ copies. copies.items ≡ legs.now) }
 {
-    let mut copies = Vec::new(alloc);
+    let mut copies = Vec::with_capacity(alloc, legs.len())?;
     for leg in legs {
         copies.push(leg.copy(alloc)?)?;
     }
@@ -109,7 +109,7 @@ fn equipped(alloc: Global, equipment: &Equipment, old: &Itinerary) -> Result<Iti
     if old.is_empty() {
         return old.copy(alloc);
     }
-    let mut legs = Vec::new(alloc);
+    let mut legs = Vec::with_capacity(alloc, old.legs().len())?;
     for leg in old.legs() {
         legs.push(equipped_leg(alloc, equipment, leg)?)?;
     }

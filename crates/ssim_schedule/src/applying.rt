@@ -4,13 +4,14 @@ ghost use Rattle.std.specs.Prelude.{◌≡◌, true, IfOk, OnErr, OnOk};
 ghost use Rattle.ssim_values.specs.Flight.{FlightNumber};
 ghost use Rattle.ssim_periods.specs.Calendar.{holds};
 ghost use Rattle.ssim_schedule.specs.Acts.{AddsPointsOf, IsUniform, after_sub, counts_by, finding_of};
+ghost use Rattle.ssim_schedule.specs.ReadBack.{AreInOrder};
 ghost use Rattle.ssim_schedule.specs.Schedule.{cuts_in, days_in};
 
 use crate::acting::Acting;
 use crate::base::Base;
 use crate::divided::act_on_parts;
 use crate::finding::Finding;
-use crate::points::next_point;
+use crate::points::{lines_of, next_point};
 use crate::resolved::Resolved;
 use crate::schedule::Schedule;
 use crate::stations::StationRow;
@@ -39,8 +40,13 @@ impl Schedule {
 
         // A new cut is the first day or the day after the last of the period, or of a row whose station the new legs have.
         ensures cuts { OnOk result ((g : FlightNumber) → AddsPointsOf sub.now.flight base.now.rows sub.now.action.now sub.now.period g (cuts_in self.old g) (cuts_in self.new g)) }
+
+        // So an export of what messages have made reads back.
+        ensures in_order { OnOk result (AreInOrder (days_in self.old) → AreInOrder (days_in self.new)) }
         ensures err { OnErr result (self.new ≡ self.old) }
     {
+        // No effect at run time. The proof reads from this use that there are at most twenty new legs, so that their sequences fit.
+        let _ = lines_of(sub.action);
         let counts = self.act(base.rows(), sub.action, sub.flight, &sub.period)?;
         Ok(Finding::of(&counts))
     }

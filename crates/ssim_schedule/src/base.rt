@@ -6,8 +6,9 @@ ghost use Rattle.ssim_schedule.specs.Base.{airline_of};
 ghost use Rattle.ssim_schedule.specs.BaseSeen.{AreFlights};
 ghost use Rattle.ssim_schedule.specs.Building.{IsClosed};
 ghost use Rattle.ssim_schedule.specs.Export.{Frame};
-ghost use Rattle.ssim_schedule.specs.ReadBack.{CanExport, HasFrame};
+ghost use Rattle.ssim_schedule.specs.ReadBack.{AreInOrder, CanExport, HasFrame};
 ghost use Rattle.ssim_schedule.specs.Reading.{Answers, FailsAs, IsReadOf};
+ghost use Rattle.ssim_schedule.specs.Timetable.{days_of};
 
 use crate::fault::BaseFault;
 use crate::flights::flights_of;
@@ -85,10 +86,16 @@ impl Base {
         ensures rows { IfOk result (λ read. read.base.rows ≡ stations) }
         ensures failure { (n : ℕ) → IfErr result (λ e. FailsAs n n e) }
     {
-        let Gathering { kept, notes, .. } = gathering;
+        let Gathering {
+            mut kept,
+            notes,
+            ..
+        } = gathering;
         if let Some(refusal) = kept.missing() {
             return Err(BaseFault::Refused(number, refusal));
         }
+        // A list that grew may have as much room to spare as it holds.
+        kept.records.shrink_to_fit();
         let flights = flights_of(alloc, &kept.records)?;
         let base = Base {
             records: kept.records,
@@ -162,10 +169,11 @@ impl Base {
         }
     }
 
-    /// The records, in order, with serial 0. The end of no leg record is open.
+    /// The records, in order, with serial 0. The end of no leg record is open, and no two of one flight and leg sequence hold one date.
     pub fn records(&self) -> &[Record]
         ensures value { result.now ≡ self.now.records }
         ensures closed { All IsClosed result.now }
+        ensures in_order { AreInOrder (days_of result.now) }
     {
         &self.records
     }

@@ -7,7 +7,7 @@ ghost use Rattle.ssim_records.specs.declared.record.Record.{Record};
 ghost use Rattle.ssim_schedule.specs.Building.{IsClosed};
 ghost use Rattle.ssim_periods.specs.Days.{each_day};
 ghost use Rattle.ssim_schedule.specs.Points.{AreAtPoints};
-ghost use Rattle.ssim_schedule.specs.ReadBack.{Rise};
+ghost use Rattle.ssim_schedule.specs.ReadBack.{AreInOrder, Rise};
 ghost use Rattle.ssim_schedule.specs.Schedule.{cuts_in, days_in};
 ghost use Rattle.ssim_schedule.specs.Timetable.{days_of};
 
@@ -40,9 +40,12 @@ impl Schedule {
 
         // A cut is the first day of a leg record of the flight, or the day after its last.
         ensures cuts { IfOk result (λ s. (g : FlightNumber) → IsFlight g → AreAtPoints (cuts_in s g) g base.now.records) }
+
+        // So an export of it reads back.
+        ensures in_order { IfOk result (λ s. AreInOrder (days_in s)) }
     {
         let mut schedule = timetable(base.allocator(), base.records(), base.flights())?;
-        schedule.share_all(base.flights())?;
+        schedule.share_where(base.flights(), FEW)?;
         Ok(schedule)
     }
 }
@@ -62,6 +65,7 @@ fn timetable(alloc: Global, records: &[Record], flights: &[Flight]) -> Result<Sc
         building.leave(one)?;
         building.put(one)?;
     }
+    building.leave_latest()?;
     Ok(building.schedule)
 }
 
@@ -103,12 +107,23 @@ impl Building {
         let Record::Leg(leg) = one else {
             return Ok(());
         };
+        if self.latest != Some(leg.flight()) {
+            self.leave_latest()?;
+        }
+        self.latest = Some(leg.flight());
+        Ok(())
+    }
+
+    /// The itineraries of the flight of the latest leg record are shared, if it has few cuts.
+    pub(crate) fn leave_latest(&mut self) -> Result<(), Memory>
+        ensures schedule { self.new.schedule ≡ self.old.schedule }
+        ensures waiting { self.new.waiting ≡ self.old.waiting }
+    {
         if let Some(latest) = self.latest {
-            if latest != leg.flight() && self.schedule.cuts(&latest).len() < FEW {
+            if self.schedule.cuts(&latest).len() < FEW {
                 self.schedule.share(latest)?;
             }
         }
-        self.latest = Some(leg.flight());
         Ok(())
     }
 

@@ -2,8 +2,8 @@
 
 ghost use Rattle.std.specs.Prelude.{◌≡◌, IfErr, OnOk};
 ghost use Rattle.ssim_schedule.specs.Export.{chapter7};
-ghost use Rattle.ssim_schedule.specs.Plan.{IsOfBase, ReadsBackBase, Refuses, RefusesBase, Writes, WritesBase, frame_from};
-ghost use Rattle.ssim_schedule.specs.ReadBack.{CanReadBack};
+ghost use Rattle.ssim_schedule.specs.Plan.{ReadsBackBase, Refuses, RefusesBase, Writes, WritesBase, frame_from};
+ghost use Rattle.ssim_schedule.specs.ReadBack.{AreInOrder, CanReadBack};
 ghost use Rattle.ssim_schedule.specs.Schedule.{days_in};
 
 mod block;
@@ -78,10 +78,9 @@ impl Schedule {
         ensures err { IfErr result (λ fault. RefusesBase W.taken W.failures base.now.records (days_in self.now) out.old out.new fault) }
         ensures device { W.device out.new ≡ W.device out.old }
 
-        // What was written reads back to the timetable, on each date, and is exported as itself, where days have their legs by
-        // rising sequence as those of a base have.
-        ensures reads_back { OnOk result (CanReadBack (days_in self.now) → ReadsBackBase W.taken base.now.records (days_in self.now) out.old out.new) }
-        ensures of_base { IsOfBase base.now.records (days_in self.now) → CanReadBack (days_in self.now) }
+        // What was written reads back to the timetable, on each date, and is exported as itself, where the legs of each date are in
+        // order: `Schedule::of` makes them so, and `Schedule::apply_sub` keeps them so.
+        ensures reads_back { OnOk result (AreInOrder (days_in self.now) → ReadsBackBase W.taken base.now.records (days_in self.now) out.old out.new) }
     {
         export_bytes_read_back();
         export_frame(
@@ -107,6 +106,9 @@ fn export_frame<W: Sink>(
     ensures ok { OnOk result (Writes W.taken W.failures (chapter7 (frame_from header.now carrier.now trailer.now) (days_in schedule.now)) out.old out.new) }
     ensures err { IfErr result (λ fault. Refuses W.taken W.failures (chapter7 (frame_from header.now carrier.now trailer.now) (days_in schedule.now)) out.old out.new fault) }
     ensures device { W.device out.new ≡ W.device out.old }
+
+    // Each date has an itinerary, and what was written of it is what records may have.
+    ensures readable { OnOk result (AreInOrder (days_in schedule.now) → CanReadBack (days_in schedule.now)) }
 {
     let plan = divide(alloc, schedule.entries())?;
     measure(&plan)?;

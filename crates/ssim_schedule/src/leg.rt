@@ -79,7 +79,7 @@ impl PlacedLeg {
         ensures { result ≡ same_leg self.now other.now }
     {
         self.sequence == other.sequence
-            && same_bytes(&self.columns.bytes(), &other.columns.bytes())
+            && self.columns.same(&other.columns)
             && same_tails(&self.tails, &other.tails)
     }
 
@@ -95,14 +95,6 @@ impl PlacedLeg {
     }
 }
 
-ghost use Rattle.std.specs.Str.{bytes_eq};
-
-fn same_bytes(mine: &[u8], theirs: &[u8]) -> bool
-    ensures { result ≡ bytes_eq mine.now theirs.now }
-{
-    mine == theirs
-}
-
 fn same_tails(mine: &[SegmentTail], theirs: &[SegmentTail]) -> bool
     ensures { result ≡ same_tails mine.now theirs.now }
 {
@@ -110,7 +102,7 @@ fn same_tails(mine: &[SegmentTail], theirs: &[SegmentTail]) -> bool
         return false;
     }
     for (place, tail) in mine.iter().enumerate() {
-        if !same_bytes(&tail.bytes(), &theirs[place].bytes()) {
+        if !tail.same(&theirs[place]) {
             return false;
         }
     }

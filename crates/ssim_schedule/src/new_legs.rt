@@ -95,7 +95,7 @@ fn legs_of_lines(
     requires { length lines.now ≤ 20 }
     ensures { IfOk result (λ made. made ≡ legs_from (variation_on rows.now day) new.now 0 lines.now) }
 {
-    let mut legs = Vec::new(alloc);
+    let mut legs = Vec::with_capacity(alloc, lines.len())?;
     let mut place: usize = 0;
     for line in lines {
         match leg_on(alloc, rows, day, place, line, new)? {

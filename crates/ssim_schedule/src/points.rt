@@ -20,9 +20,10 @@ fn earlier(day: u32, from: u32, next: u32) -> u32
     if from < day && day < next { day } else { next }
 }
 
-// The leg lines by which new legs are made.
-fn lines_of(action: &Action) -> &[LegLine]
-    ensures { result.now ≡ lines_of action.now }
+/// The leg lines by which new legs are made.
+pub(crate) fn lines_of(action: &Action) -> &[LegLine]
+    ensures value { result.now ≡ lines_of action.now }
+    ensures few { length (lines_of action.now) ≤ 20 }
 {
     match action {
         Action::New(new) => new.legs.lines(),

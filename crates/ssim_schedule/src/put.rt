@@ -25,7 +25,7 @@ impl Put {
     pub(crate) fn new(alloc: Global, leg: PlacedLeg) -> Result<Put, Memory>
         ensures { IfOk result (λ put. leg_in put.alone ≡ leg) }
     {
-        let mut legs = Vec::new(alloc);
+        let mut legs = Vec::with_capacity(alloc, 1)?;
         legs.push(leg)?;
         Ok(Put {
             alone: Itinerary::of(alloc, legs)?,
@@ -67,7 +67,7 @@ fn placed_among(
     ensures { IfOk result (λ all. all.items ≡ placed leg.now legs.now) }
 {
     let place = place_among(leg, legs);
-    let mut all = Vec::new(alloc);
+    let mut all = Vec::with_capacity(alloc, legs.len() + 1)?;
     push_copies(alloc, &mut all, &legs[..place])?;
     all.push(leg.copy(alloc)?)?;
     push_copies(alloc, &mut all, &legs[place..])?;

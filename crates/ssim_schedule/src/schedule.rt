@@ -125,17 +125,19 @@ impl Schedule {
         Ok(())
     }
 
-    /// The same for each of these flights.
-    pub(crate) fn share_all(&mut self, flights: &[Flight]) -> Result<(), Memory>
+    /// Shares the itineraries of those of these flights that have at least so many cuts.
+    pub(crate) fn share_where(&mut self, flights: &[Flight], least: usize) -> Result<(), Memory>
         ensures { self.new ≡ self.old }
     {
         for flight in flights {
-            self.share(*flight)?;
+            if self.cuts(flight).len() >= least {
+                self.share(*flight)?;
+            }
         }
         Ok(())
     }
 
-    // The same for a flight that has no entry yet, whose place is in this gap.
+    // What `change` does for a flight that has no entry yet, whose place is in this gap.
     fn change_first<C: Change<Itinerary>>(
         &mut self,
         gap: usize,

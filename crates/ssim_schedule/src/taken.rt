@@ -1,6 +1,8 @@
 //! The dates that leg records have, by flight and leg sequence.
 
-ghost use Rattle.std.specs.Prelude.{◌≡◌, ℕ, ◌<◌, nat_eq, nat_lt, if◌then◌else◌, OnOk, IfOk};
+ghost use Rattle.std.specs.Prelude.{◌≡◌, ℕ, ◌<◌, nat_eq, nat_lt, if◌then◌else◌, OnOk, IfOk, None};
+ghost use Rattle.std.specs.BTreeMap.{get};
+ghost use Rattle.std.specs.Ordering.{nat_cmp};
 ghost use Rattle.ssim_values.specs.Flight.{IsFlight};
 ghost use Rattle.ssim_periods.specs.Calendar.{holds};
 ghost use Rattle.ssim_periods.specs.Days.{changed_on, count_on, each_day};
@@ -102,10 +104,22 @@ impl Taken {
         ensures flight { IsFlight flight }
     {
         let place = sequence_place(flight, sequence);
-        let mut dates = match self.legs.remove(&place) {
-            Some(dates) => dates,
-            None => Periods::new(self.alloc),
-        };
+        match self.legs.get_mut(&place) {
+            Some(dates) => {
+                let counts = dates.apply(period, &Use)?;
+                Ok(counts[1] > 0)
+            }
+            None => self.take_first(place, period),
+        }
+    }
+
+    // The same where there is no entry at this place yet.
+    fn take_first(&mut self, place: u64, period: &Period) -> Result<bool, Memory>
+        requires { get nat_cmp self.old.legs place ≡ None }
+        ensures days { OnOk result ((k : ℕ) → used_at self.new k ≡ (if nat_eq k place then changed_on (holds period.now) (λ _. Used) 0 (used_at self.old k) else used_at self.old k)) }
+        ensures met { IfOk result (λ met. met ≡ nat_lt 0 (count_on (holds period.now) class_of_use 1 0 (used_at self.old place))) }
+    {
+        let mut dates = Periods::new(self.alloc);
         let counts = dates.apply(period, &Use)?;
         self.legs.insert(place, dates)?;
         Ok(counts[1] > 0)

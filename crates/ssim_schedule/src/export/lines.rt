@@ -4,8 +4,10 @@ ghost use Rattle.std.specs.Prelude.{◌≡◌, ◌≤◌, ◌<◌, ◌+◌, ◌+
 ghost use Rattle.std.specs.List.{All, flat_map};
 ghost use Rattle.std.specs.Io.KnownBytes.{Appends};
 ghost use Rattle.ssim_records.specs.Leg.{LegFields};
+ghost use Rattle.ssim_records.specs.Segment.{IsTail};
 ghost use Rattle.ssim_schedule.specs.Export.{fill_count, leg_records, numbered, pieces_records, section_bytes, tail_record};
-ghost use Rattle.ssim_schedule.specs.Plan.{frame_from, legs_count, numbered_lines, pieces_count, plan_bytes, plan_count, plan_records};
+ghost use Rattle.ssim_schedule.specs.Plan.{HasWritableLegs, HasWritablePieces, frame_from, legs_count, numbered_lines, pieces_count, plan_bytes, plan_count, plan_records};
+ghost use Rattle.ssim_schedule.specs.ReadBack.{IsWritable};
 ghost use Rattle.ssim_schedule.specs.Sinks.{CountsFault, TakesFront, TakesUpTo};
 
 use crate::export::block::{Block, SinkFailed, flush, put_fill, put_line};
@@ -28,6 +30,7 @@ pub(crate) fn put_export<W: Sink>(
     requires few { All (λ p. length p.1 ≤ 99) plan.now }
     requires room { 3 + plan_count plan.now < 1000000 }
     ensures ok { OnOk result (Appends (W.taken out.old) (W.taken out.new) (plan_bytes (frame_from header.now carrier.now trailer.now) plan.now)) }
+    ensures writable { OnOk result (All HasWritablePieces plan.now) }
     ensures err { OnErr result (TakesFront (plan_bytes (frame_from header.now carrier.now trailer.now) plan.now) (W.taken out.old) (W.taken out.new)) }
     ensures failures { CountsFault (W.failures out.old) (W.failures out.new) result }
     ensures device { W.device out.new ≡ W.device out.old }
@@ -66,6 +69,7 @@ fn put_body<W: Sink>(
     requires room { 3 + plan_count plan.now ≤ 1000000 }
     ensures next { IfOk result (λ next. next ≡ 3 + plan_count plan.now) }
     ensures ok { OnOk result (TakesUpTo (block.old ++ section_bytes (numbered 3 (plan_records airline plan.now))) block.new (W.taken out.old) (W.taken out.new)) }
+    ensures writable { OnOk result (All HasWritablePieces plan.now) }
     ensures err { OnErr result (TakesFront (block.old ++ section_bytes (numbered 3 (plan_records airline plan.now))) (W.taken out.old) (W.taken out.new)) }
     ensures failures { CountsFault (W.failures out.old) (W.failures out.new) result }
     ensures device { W.device out.new ≡ W.device out.old }
@@ -93,6 +97,7 @@ fn put_flights<W: Sink>(
     requires room { serial + plan_count plan.now ≤ 1000000 }
     ensures next { IfOk result (λ next. next ≡ serial + plan_count plan.now) }
     ensures ok { OnOk result (TakesUpTo (block.old ++ numbered_lines serial (plan_records airline plan.now)) block.new (W.taken out.old) (W.taken out.new)) }
+    ensures writable { OnOk result (All HasWritablePieces plan.now) }
     ensures err { OnErr result (TakesFront (block.old ++ numbered_lines serial (plan_records airline plan.now)) (W.taken out.old) (W.taken out.new)) }
     ensures failures { CountsFault (W.failures out.old) (W.failures out.new) result }
     ensures device { W.device out.new ≡ W.device out.old }
@@ -124,6 +129,7 @@ fn put_pieces<W: Sink>(
     requires room { serial + pieces_count pieces.now ≤ 1000000 }
     ensures next { IfOk result (λ next. next ≡ serial + pieces_count pieces.now) }
     ensures ok { OnOk result (TakesUpTo (block.old ++ numbered_lines serial (pieces_records airline flight 1 pieces.now)) block.new (W.taken out.old) (W.taken out.new)) }
+    ensures writable { OnOk result (All HasWritableLegs pieces.now) }
     ensures err { OnErr result (TakesFront (block.old ++ numbered_lines serial (pieces_records airline flight 1 pieces.now)) (W.taken out.old) (W.taken out.new)) }
     ensures failures { CountsFault (W.failures out.old) (W.failures out.new) result }
     ensures device { W.device out.new ≡ W.device out.old }
@@ -162,6 +168,7 @@ fn put_legs<W: Sink>(
     requires room { serial + legs_count legs.now ≤ 1000000 }
     ensures next { IfOk result (λ next. next ≡ serial + legs_count legs.now) }
     ensures ok { OnOk result (TakesUpTo (block.old ++ numbered_lines serial (flat_map (leg_records airline flight variation period) legs.now)) block.new (W.taken out.old) (W.taken out.new)) }
+    ensures writable { OnOk result (All IsWritable legs.now) }
     ensures err { OnErr result (TakesFront (block.old ++ numbered_lines serial (flat_map (leg_records airline flight variation period) legs.now)) (W.taken out.old) (W.taken out.new)) }
     ensures failures { CountsFault (W.failures out.old) (W.failures out.new) result }
     ensures device { W.device out.new ≡ W.device out.old }
@@ -189,6 +196,7 @@ fn put_tails<W: Sink>(
     requires room { serial + length tails.now ≤ 1000000 }
     ensures next { IfOk result (λ next. next ≡ serial + length tails.now) }
     ensures ok { OnOk result (TakesUpTo (block.old ++ numbered_lines serial (map (tail_record leg.now.name (slice_index leg.now.columns 0)) tails.now)) block.new (W.taken out.old) (W.taken out.new)) }
+    ensures writable { OnOk result (All IsTail tails.now) }
     ensures err { OnErr result (TakesFront (block.old ++ numbered_lines serial (map (tail_record leg.now.name (slice_index leg.now.columns 0)) tails.now)) (W.taken out.old) (W.taken out.new)) }
     ensures failures { CountsFault (W.failures out.old) (W.failures out.new) result }
     ensures device { W.device out.new ≡ W.device out.old }

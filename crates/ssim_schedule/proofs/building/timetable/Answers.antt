@@ -35,10 +35,14 @@ loop-place-preserved c =
 
 pub returns-clause-days : goal.returns-clause-days
 returns-clause-days c = λ g is.
+    let records = c.args.records.now in
     let none : c.loop-place.place ≡ 0 = omega arith in
-    c.loop-place.invariant.1.days g is ∙ ap (λ (k : ℕ). days_of (drop k c.args.records.now) g) none
+    let built = built-same c.loop-place.building c.leave_latest.new.self (drop c.loop-place.place records) c.leave_latest.ensures.schedule c.leave_latest.ensures.waiting c.loop-place.invariant.1 in
+    built.days g is ∙ ap (λ (k : ℕ). days_of (drop k records) g) none
 
 pub returns-clause-cuts : goal.returns-clause-cuts
 returns-clause-cuts c = λ g is.
+    let records = c.args.records.now in
     let none : c.loop-place.place ≡ 0 = omega arith in
-    subst (λ (k : ℕ). AreAtPoints (cuts_in c.loop-place.building.schedule g) g (drop k c.args.records.now)) none (c.loop-place.invariant.1.cuts g is)
+    let built = built-same c.loop-place.building c.leave_latest.new.self (drop c.loop-place.place records) c.leave_latest.ensures.schedule c.leave_latest.ensures.waiting c.loop-place.invariant.1 in
+    subst (λ (k : ℕ). AreAtPoints (cuts_in c.leave_latest.new.self.schedule g) g (drop k records)) none (built.cuts g is)

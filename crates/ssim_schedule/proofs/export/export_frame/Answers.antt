@@ -1,11 +1,13 @@
 -- The plan is that of the schedule's flights, so its export is the export.
-use Rattle.std.proofs.Common.{◌≡◌, List, None, Err, rules, sym, ap, subst, ◌∙◌, arith}
+use Rattle.std.proofs.Common.{◌≡◌, List, length, None, Err, rules, sym, ap, subst, ◌∙◌, arith}
 use Rattle.std.specs.List.{All}
 use Rattle.ssim_values.specs.Flight.{IsFlight}
+use Rattle.ssim_periods.specs.Calendar.{day_count}
 use Rattle.ssim_schedule.specs.Export.{chapter7}
 use Rattle.ssim_schedule.specs.Plan.{Planned, frame_from, plan_bytes, plan_of, plan_refusal}
 use Rattle.ssim_schedule.specs.Schedule.{Table, days_in}
 use Rattle.ssim_schedule.proofs.Planning.{export_is, fits, refusal_is, refuses}
+use Rattle.ssim_schedule.proofs.Writable.{readable}
 use Rattle.ssim_schedule.proofs.export.export_frame.Goals as goal
 
 pub returns-in_err-measure-clause-err : goal.returns-in_err-measure-clause-err
@@ -49,3 +51,11 @@ returns-clause-err g c =
     let exist : All (λ f. IsFlight f.flight) table = subst (λ (xs : Table). All (λ f. IsFlight f.flight) xs) c.entries.ensures.value c.in_ok-plan.ensures.flights in
     let none : plan_refusal 2 plan ≡ None = ap (λ (ps : List Planned). plan_refusal 2 ps) (c.deref-2.ensures.value ∙ sym c.deref.ensures.value) ∙ c.in_ok-measure.ensures.ok in
     (plan_bytes frame plan, export_is frame table plan c.entries.ensures.rising exist is none, c.in-Err.ensures.err, c.in-Err.ensures.failures)
+
+pub returns-in-Ok-clause-readable : goal.returns-in-Ok-clause-readable
+returns-in-Ok-clause-readable g c =
+    let table = c.args.schedule.now in
+    let plan = c.deref-2.result.now in
+    let is : plan ≡ plan_of table = c.deref-2.ensures.value ∙ c.in_ok-plan.ensures.plan ∙ ap plan_of c.entries.ensures.value in
+    let days : All (λ f. length f.periods.days ≡ day_count) table = subst (λ (xs : Table). All (λ f. length f.periods.days ≡ day_count) xs) c.entries.ensures.value c.in_ok-plan.ensures.days in
+    readable table plan is days c.in-Ok.ensures.writable

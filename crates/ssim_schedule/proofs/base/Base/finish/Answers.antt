@@ -1,9 +1,10 @@
 -- The records that were gathered are a base where none is missing.
-use Rattle.std.proofs.Common.{◌≡◌, List, Err, None, rules, sym, subst, ◌∙◌}
+use Rattle.std.proofs.Common.{◌≡◌, List, Ok, Err, None, rules, ap, sym, subst, ◌∙◌}
 use Rattle.ssim_records.specs.declared.record.Record.{Record}
-use Rattle.ssim_schedule.specs.Base.{Done}
-use Rattle.ssim_schedule.specs.BaseSeen.{AreFlights}
+use Rattle.ssim_schedule.specs.Base.{Done, Outcome}
+use Rattle.ssim_schedule.specs.BaseSeen.{AreFlights, WasRead}
 use Rattle.ssim_schedule.specs.declared.fault.BaseFault.TheVariants.{Refused}
+use Rattle.ssim_schedule.specs.declared.note.Note.{Note}
 use Rattle.ssim_schedule.proofs.ReadingLemmas.{missing-outcome, of-all, whole-outcome}
 use Rattle.ssim_schedule.proofs.base.Base.finish.Goals as goal
 
@@ -15,19 +16,24 @@ returns-in-Some-clause-read c = λ limit told h.
 pub invariant_of-base : goal.invariant_of-base
 invariant_of-base c =
     let r = c.requires in
+    let items = c.shrink_to_fit.ensures.items in
     let none : c.missing.result ≡ None = search rules in (
-      record {
+      subst (λ (rs : List Record). WasRead rs) (sym items) (record {
         ending = Done c.args.number;
         records = r.done;
         notes = c.args.gathering.notes.items;
         spelt = r.so_far.records;
         read = sym (whole-outcome c.args.gathering r.earlier r.done c.args.number r.so_far (sym (c.missing.ensures r.earlier r.so_far.is_kept) ∙ none));
-      },
+      }),
       subst (λ (rs : List Record). AreFlights rs c.in_ok-flights.flights.items) c.deref.ensures.value c.in_ok-flights.ensures,
     )
+
+abbrev outcome_of : List Record → List Note → Outcome
+outcome_of records notes = Ok (records, notes)
 
 pub returns-clause-read : goal.returns-clause-read
 returns-clause-read c = λ limit told h.
     let none : c.missing.result ≡ None = search rules in
     of-all limit told h.done c.args.number _ h.given
-    (whole-outcome c.args.gathering h.earlier h.done c.args.number h.so_far (sym (c.missing.ensures h.earlier h.so_far.is_kept) ∙ none))
+    (ap (λ (rs : List Record). outcome_of rs c.args.gathering.notes.items) c.shrink_to_fit.ensures.items
+    ∙ whole-outcome c.args.gathering h.earlier h.done c.args.number h.so_far (sym (c.missing.ensures h.earlier h.so_far.is_kept) ∙ none))

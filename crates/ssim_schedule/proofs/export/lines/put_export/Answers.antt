@@ -65,6 +65,9 @@ returns-clause-ok g c =
     let put = after_4 all s1 s2 s3 s4 c.new-block.result (g.W.Sink.taken c.args.out.now) c.new-block.ensures split c.put_alone.new.block c.put_alone-2.new.block c.put_body.new.block c.put_alone-3.new.block (g.W.Sink.taken c.put_alone.new.out) (g.W.Sink.taken c.put_alone-2.new.out) (g.W.Sink.taken c.put_body.new.out) (g.W.Sink.taken c.put_alone-3.new.out) c.in_ok-put_alone.ensures.ok c.in_ok-put_alone-2.ensures.ok c.in_ok-next.ensures.ok c.in_ok-put_alone-3.ensures.ok in
     if_ok c.flush.result (λ h. all_taken all (g.W.Sink.taken c.args.out.now) (g.W.Sink.taken c.flush.new.out) (then all c.put_alone-3.new.block [] (g.W.Sink.taken c.args.out.now) (g.W.Sink.taken c.put_alone-3.new.out) (g.W.Sink.taken c.flush.new.out) put (taken_all c.put_alone-3.new.block (g.W.Sink.taken c.put_alone-3.new.out) (g.W.Sink.taken c.flush.new.out) h))) c.flush.ensures.ok
 
+pub returns-clause-writable : goal.returns-clause-writable
+returns-clause-writable g c = if_ok c.flush.result (λ h. c.in_ok-next.ensures.writable) c.flush.ensures.ok
+
 pub returns-clause-err : goal.returns-clause-err
 returns-clause-err g c =
     let plan = c.args.plan.now in

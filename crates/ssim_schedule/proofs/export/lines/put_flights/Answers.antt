@@ -1,9 +1,11 @@
 -- A flight more is put.
 use Rattle.std.proofs.Common.{◌≡◌, ◌+◌, ◌++◌, ℕ, List, drop, refl, ap, subst, ◌∙◌, arith}
+use Rattle.std.specs.List.{All}
 use Rattle.ssim_values.specs.Flight.{FlightNumber}
 use Rattle.ssim_schedule.specs.Export.{Piece, pieces_records}
-use Rattle.ssim_schedule.specs.Plan.{numbered_lines, pieces_count, plan_count, plan_records}
+use Rattle.ssim_schedule.specs.Plan.{HasWritableLegs, HasWritablePieces, numbered_lines, pieces_count, plan_count, plan_records}
 use Rattle.ssim_schedule.specs.Sinks.{TakesFront, TakesUpTo}
+use Rattle.ssim_schedule.proofs.Each.{all_done, all_more}
 use Rattle.ssim_schedule.proofs.Puts.{item, flight-split}
 use Rattle.ssim_schedule.proofs.SinkLemmas.{at_fault, step, halt}
 use Rattle.ssim_schedule.proofs.export.lines.put_flights.Goals as goal
@@ -42,6 +44,10 @@ loop-planned-preserved g c =
       bytes = step (c.args.block.now ++ numbered_lines c.args.serial (plan_records a plan)) c.loop-planned.block (numbered_lines next (pieces_records a p.0 1 p.1)) (numbered_lines c.in_ok-next.next (plan_records a (drop (i + 1) plan))) c.put_pieces.new.block
           (numbered_lines next (plan_records a (drop i plan))) (g.W.Sink.taken c.args.out.now) (g.W.Sink.taken c.loop-planned.out) (g.W.Sink.taken c.put_pieces.new.out) whole c.loop-planned.invariant.bytes
           (subst (λ (bs : List ℕ). TakesUpTo (c.loop-planned.block ++ bs) c.put_pieces.new.block (g.W.Sink.taken c.loop-planned.out) (g.W.Sink.taken c.put_pieces.new.out)) (its_lines a next c.flight.result p.0 c.pieces.result.now p.1 c.flight.ensures c.pieces.ensures) c.in_ok-next.ensures.ok);
+      writable = all_more HasWritablePieces plan i p c.loop-planned-test.true c.planned-item.is c.loop-planned.invariant.writable (subst (λ (ps : List Piece). All HasWritableLegs ps) c.pieces.ensures c.in_ok-next.ensures.writable);
       failures = c.in_ok-next.ensures.failures ∙ c.loop-planned.invariant.failures;
       device = c.in_ok-next.ensures.device ∙ c.loop-planned.invariant.device;
     }
+
+pub returns-clause-writable : goal.returns-clause-writable
+returns-clause-writable g c = all_done HasWritablePieces c.args.plan.now c.loop-planned.planned-index c.loop-planned-test.false c.loop-planned.invariant.writable

@@ -1,13 +1,16 @@
 -- A leg more is put, and then its tails.
 use Rattle.std.proofs.Common.{◌≡◌, ◌+◌, ◌++◌, ℕ, List, map, drop, length, refl, ap, subst, ◌∙◌, arith}
 use Rattle.std.specs.Prelude.{slice_index}
-use Rattle.std.specs.List.{flat_map}
-use Rattle.ssim_records.specs.Leg.{LegFields, Name}
-use Rattle.ssim_records.specs.Record.{written}
+use Rattle.std.specs.List.{flat_map, All}
+use Rattle.ssim_records.specs.Leg.{AreLegColumns, LegFields, Name}
+use Rattle.ssim_records.specs.Record.{IsRecord, written}
+use Rattle.ssim_records.specs.Segment.{IsTail}
 use Rattle.ssim_records.specs.declared.record.Record.TheVariants.{Leg}
 use Rattle.ssim_schedule.specs.Export.{leg_records, line, tail_record, with_serial}
 use Rattle.ssim_schedule.specs.Plan.{legs_count, numbered_lines}
+use Rattle.ssim_schedule.specs.ReadBack.{IsWritable}
 use Rattle.ssim_schedule.specs.Sinks.{TakesFront, TakesUpTo}
+use Rattle.ssim_schedule.proofs.Each.{all_done, all_more}
 use Rattle.ssim_schedule.proofs.Puts.{item, leg-split, leg-tails-split, leg_from, name_from}
 use Rattle.ssim_schedule.proofs.SinkLemmas.{at_fault, step, halt}
 use Rattle.ssim_schedule.proofs.export.lines.put_legs.Goals as goal
@@ -80,10 +83,19 @@ loop-leg-preserved g c =
     (g.W.Sink.taken c.args.out.now) (g.W.Sink.taken c.loop-leg.out) (g.W.Sink.taken c.put_line.new.out) whole c.loop-leg.invariant.bytes c.in_ok-put_line.ensures.ok in
     let put = subst (λ (r : LegFields). TakesUpTo (c.put_line.new.block ++ numbered_lines (next + 1) (map (tail_record r.name (slice_index r.columns 0)) c.tails.result.now)) c.put_tails.new.block (g.W.Sink.taken c.put_line.new.out) (g.W.Sink.taken c.put_tails.new.out)) leg c.in_ok-next.ensures.ok in
     let its = subst (λ (ts : List (List ℕ)). TakesUpTo (c.put_line.new.block ++ numbered_lines (next + 1) (map (tail_record (name_from a f v l.sequence) (slice_index l.columns 0)) ts)) c.put_tails.new.block (g.W.Sink.taken c.put_line.new.out) (g.W.Sink.taken c.put_tails.new.out)) c.tails.ensures put in
+    let valid : IsRecord (Leg (record c.new-leg_record.result { serial = next })) = subst (λ (r : LegFields). IsRecord (Leg r)) c.with_serial.ensures c.write_record-bytes.ensures.is_record in
+    let writable : IsWritable l = record {
+      columns = subst AreLegColumns (ap (λ (r : LegFields). r.columns) leg) valid.columns;
+      tails = subst (λ (ts : List (List ℕ)). All IsTail ts) c.tails.ensures c.in_ok-next.ensures.writable;
+    } in
     record {
       next = omega (arith, counts, count, c.loop-leg.invariant.next);
       bytes = step all c.put_line.new.block (numbered_lines (next + 1) tails) (numbered_lines c.in_ok-next.next more) c.put_tails.new.block (numbered_lines (next + 1) (tails ++ more))
           (g.W.Sink.taken c.args.out.now) (g.W.Sink.taken c.put_line.new.out) (g.W.Sink.taken c.put_tails.new.out) (leg-tails-split (name_from a f v l.sequence) (slice_index l.columns 0) (next + 1) c.in_ok-next.next l.tails more count) one its;
+      writable = all_more IsWritable legs i l c.loop-leg-test.true c.leg-item.is c.loop-leg.invariant.writable writable;
       failures = c.in_ok-next.ensures.failures ∙ c.in_ok-put_line.ensures.failures ∙ c.loop-leg.invariant.failures;
       device = c.in_ok-next.ensures.device ∙ c.in_ok-put_line.ensures.device ∙ c.loop-leg.invariant.device;
     }
+
+pub returns-clause-writable : goal.returns-clause-writable
+returns-clause-writable g c = all_done IsWritable c.args.legs.now c.loop-leg.leg-index c.loop-leg-test.false c.loop-leg.invariant.writable

@@ -1,8 +1,9 @@
--- What was put, and the legs that are left, is all of it.
-use Rattle.std.proofs.Common.{◌≡◌, ◌+◌, ◌++◌, drop}
-use Rattle.std.specs.List.{flat_map}
+-- What was put, and the legs that are left, is all of it; and what was put is what records may have.
+use Rattle.std.proofs.Common.{◌≡◌, ◌+◌, ◌++◌, drop, take}
+use Rattle.std.specs.List.{flat_map, All}
 use Rattle.ssim_schedule.specs.Export.{leg_records}
 use Rattle.ssim_schedule.specs.Plan.{legs_count, numbered_lines}
+use Rattle.ssim_schedule.specs.ReadBack.{IsWritable}
 use Rattle.ssim_schedule.specs.Sinks.{TakesUpTo}
 use Rattle.ssim_schedule.proofs.export.lines.put_legs.Given as goal
 
@@ -10,6 +11,7 @@ abbrev pub invariant-loop-leg : goal.invariant-loop-leg
 invariant-loop-leg g l = record {
   next : l.next + legs_count (drop l.leg-index l.legs) ≡ l.serial + legs_count l.legs;
   bytes : TakesUpTo (l.fn.block ++ numbered_lines l.serial (flat_map (leg_records l.airline l.flight l.variation l.period) l.legs)) (l.block ++ numbered_lines l.next (flat_map (leg_records l.airline l.flight l.variation l.period) (drop l.leg-index l.legs))) (g.W.Sink.taken l.fn.out) (g.W.Sink.taken l.out);
+  writable : All IsWritable (take l.leg-index l.legs);
   failures : g.W.Sink.failures l.out ≡ g.W.Sink.failures l.fn.out;
   device : g.W.Sink.device l.out ≡ g.W.Sink.device l.fn.out;
 }

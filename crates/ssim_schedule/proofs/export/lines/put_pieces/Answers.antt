@@ -1,10 +1,12 @@
 -- A piece more is put.
 use Rattle.std.proofs.Common.{◌≡◌, ◌+◌, ◌++◌, drop, refl, ap, subst, ◌∙◌, arith}
-use Rattle.std.specs.List.{flat_map}
+use Rattle.std.specs.List.{flat_map, All}
 use Rattle.ssim_schedule.specs.Timetable.{Legs}
 use Rattle.ssim_schedule.specs.Export.{leg_records, pieces_records}
-use Rattle.ssim_schedule.specs.Plan.{legs_count, numbered_lines, pieces_count}
+use Rattle.ssim_schedule.specs.Plan.{HasWritableLegs, legs_count, numbered_lines, pieces_count}
+use Rattle.ssim_schedule.specs.ReadBack.{IsWritable}
 use Rattle.ssim_schedule.specs.Sinks.{TakesFront, TakesUpTo}
+use Rattle.ssim_schedule.proofs.Each.{all_done, all_more}
 use Rattle.ssim_schedule.proofs.Puts.{item, piece-split}
 use Rattle.ssim_schedule.proofs.SinkLemmas.{at_fault, step, halt}
 use Rattle.ssim_schedule.proofs.export.lines.put_pieces.Goals as goal
@@ -42,6 +44,10 @@ loop-piece-preserved g c =
       bytes = step (c.args.block.now ++ numbered_lines c.args.serial (pieces_records a f 1 pieces)) c.loop-piece.block (numbered_lines next (flat_map (leg_records a f v c.piece-item.result.0) c.piece-item.result.1)) (numbered_lines c.in_ok-next.next (pieces_records a f (v + 1) (drop (i + 1) pieces))) c.put_legs.new.block
           (numbered_lines next (pieces_records a f v (drop i pieces))) (g.W.Sink.taken c.args.out.now) (g.W.Sink.taken c.loop-piece.out) (g.W.Sink.taken c.put_legs.new.out) whole c.loop-piece.invariant.bytes
           (subst (λ (ls : Legs). TakesUpTo (c.loop-piece.block ++ numbered_lines next (flat_map (leg_records a f v c.piece-item.result.0) ls)) c.put_legs.new.block (g.W.Sink.taken c.loop-piece.out) (g.W.Sink.taken c.put_legs.new.out)) c.legs.ensures c.in_ok-next.ensures.ok);
+      writable = all_more HasWritableLegs pieces i c.piece-item.result c.loop-piece-test.true c.piece-item.is c.loop-piece.invariant.writable (subst (λ (ls : Legs). All IsWritable ls) c.legs.ensures c.in_ok-next.ensures.writable);
       failures = c.in_ok-next.ensures.failures ∙ c.loop-piece.invariant.failures;
       device = c.in_ok-next.ensures.device ∙ c.loop-piece.invariant.device;
     }
+
+pub returns-clause-writable : goal.returns-clause-writable
+returns-clause-writable g c = all_done HasWritableLegs c.args.pieces.now c.loop-piece.piece-index c.loop-piece-test.false c.loop-piece.invariant.writable

@@ -1,6 +1,8 @@
--- What was put, and the tails that are left, is all of it.
-use Rattle.std.proofs.Common.{◌≡◌, ◌+◌, ◌++◌, drop, map}
+-- What was put, and the tails that are left, is all of it; and what was put are tails of records.
+use Rattle.std.proofs.Common.{◌≡◌, ◌+◌, ◌++◌, drop, map, take}
 use Rattle.std.specs.Prelude.{slice_index}
+use Rattle.std.specs.List.{All}
+use Rattle.ssim_records.specs.Segment.{IsTail}
 use Rattle.ssim_schedule.specs.Export.{tail_record}
 use Rattle.ssim_schedule.specs.Plan.{numbered_lines}
 use Rattle.ssim_schedule.specs.Sinks.{TakesUpTo}
@@ -10,6 +12,7 @@ abbrev pub invariant-loop-tail : goal.invariant-loop-tail
 invariant-loop-tail g l = record {
   next : l.next ≡ l.serial + l.tail-index;
   bytes : TakesUpTo (l.fn.block ++ numbered_lines l.serial (map (tail_record l.leg.name (slice_index l.leg.columns 0)) l.tails)) (l.block ++ numbered_lines l.next (map (tail_record l.leg.name (slice_index l.leg.columns 0)) (drop l.tail-index l.tails))) (g.W.Sink.taken l.fn.out) (g.W.Sink.taken l.out);
+  writable : All IsTail (take l.tail-index l.tails);
   failures : g.W.Sink.failures l.out ≡ g.W.Sink.failures l.fn.out;
   device : g.W.Sink.device l.out ≡ g.W.Sink.device l.fn.out;
 }

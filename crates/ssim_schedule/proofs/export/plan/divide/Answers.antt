@@ -1,5 +1,9 @@
 -- A flight more is planned.
-use Rattle.ssim_schedule.proofs.Planning.{planned_more, existing_more}
+use Rattle.std.proofs.Common.{◌≡◌, length}
+use Rattle.ssim_values.specs.Flight.{IsFlight}
+use Rattle.ssim_periods.specs.Calendar.{day_count}
+use Rattle.ssim_schedule.proofs.Each.{all_more}
+use Rattle.ssim_schedule.proofs.Planning.{planned_more}
 use Rattle.ssim_schedule.proofs.export.plan.divide.Goals as goal
 
 pub loop-entry-preserved : goal.loop-entry-preserved
@@ -8,6 +12,7 @@ loop-entry-preserved c =
     let i = c.loop-entry.entry-index in
     let entry = c.entry-item.result in
     record {
-      plan = planned_more entries i entry c.loop-entry.plan.items c.push.new.self.items c.in_ok-pieces.field-0.items c.loop-entry-test.true c.entry-item.is c.loop-entry.invariant.plan c.in_ok-pieces.ensures c.in_ok-push.ensures.items;
-      flights = existing_more entries i entry c.loop-entry-test.true c.entry-item.is c.loop-entry.invariant.flights c.place.ensures.flight;
+      plan = planned_more entries i entry c.loop-entry.plan.items c.push.new.self.items c.in_ok-pieces.field-0.items c.loop-entry-test.true c.entry-item.is c.loop-entry.invariant.plan c.in_ok-pieces.ensures.pieces c.in_ok-push.ensures.items;
+      flights = all_more (λ f. IsFlight f.flight) entries i entry c.loop-entry-test.true c.entry-item.is c.loop-entry.invariant.flights c.place.ensures.flight;
+      days = all_more (λ f. length f.periods.days ≡ day_count) entries i entry c.loop-entry-test.true c.entry-item.is c.loop-entry.invariant.days c.in_ok-pieces.ensures.each_day;
     }

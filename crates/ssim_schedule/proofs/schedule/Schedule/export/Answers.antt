@@ -1,14 +1,11 @@
 -- The header, the carrier and the trailer are those of the base.
-use Rattle.std.proofs.Common.{◌≡◌, Result, Ok, Err, IfErr, ap, subst, ◌∙◌}
-use Rattle.ssim_records.specs.Carrier.{CarrierFields}
-use Rattle.ssim_records.specs.Header.{HeaderFields}
-use Rattle.ssim_records.specs.Trailer.{TrailerFields}
+use Rattle.std.proofs.Common.{Result, Ok, Err, IfErr, subst}
 use Rattle.ssim_schedule.specs.Export.{Frame, chapter7}
-use Rattle.ssim_schedule.specs.Plan.{Refuses, Writes, frame_from}
+use Rattle.ssim_schedule.specs.Plan.{Refuses, Writes}
 use Rattle.ssim_schedule.specs.Schedule.{days_in}
 use Rattle.ssim_schedule.proofs.ChangeLemmas.{on_ok}
-use Rattle.ssim_schedule.proofs.ReadingBack.{frame-is, of_base, written_reads_back}
-use Rattle.ssim_schedule.proofs.SinkLemmas.{if_ok}
+use Rattle.ssim_schedule.proofs.ReadingBack.{frame-is, written_reads_back}
+use Rattle.ssim_schedule.proofs.SinkLemmas.{if_both}
 use Rattle.ssim_schedule.proofs.schedule.Schedule.export.Goals as goal
 
 if_err : {T E : Type 0} (r : Result T E) (P Q : E → Type 0) → ((e : E) → P e → Q e) → IfErr r P → IfErr r Q
@@ -33,8 +30,5 @@ returns-clause-err g c =
 
 pub returns-clause-reads_back : goal.returns-clause-reads_back
 returns-clause-reads_back g c =
-    if_ok c.export_frame.result (λ wrote reads. written_reads_back g.W.Sink.taken g.W.Sink.failures c.args.base.now.records (days_in c.args.self.now) c.args.out.now c.export_frame.new.out c.header.result.now c.carrier.result.now c.trailer.result.now
-    c.export_bytes_read_back.ensures.read c.carrier.ensures.exports c.header.ensures c.carrier.ensures.carrier c.trailer.ensures wrote reads) c.export_frame.ensures.ok
-
-pub returns-clause-of_base : goal.returns-clause-of_base
-returns-clause-of_base g c = of_base c.args.base.now.records (days_in c.args.self.now) c.carrier.ensures.exports
+    if_both c.export_frame.result (λ wrote readable order. written_reads_back g.W.Sink.taken g.W.Sink.failures c.args.base.now.records (days_in c.args.self.now) c.args.out.now c.export_frame.new.out c.header.result.now c.carrier.result.now c.trailer.result.now
+    c.export_bytes_read_back.ensures.read c.carrier.ensures.exports c.header.ensures c.carrier.ensures.carrier c.trailer.ensures wrote (readable order)) c.export_frame.ensures.ok c.export_frame.ensures.readable

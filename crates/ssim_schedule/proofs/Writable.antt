@@ -1,0 +1,70 @@
+-- All legs of a timetable that was written can be: each day's itinerary is that of one of its pieces.
+use Rattle.std.proofs.Common.{◌≡◌, ℕ, true, false, nat_eq, if◌then◌else◌, List, [], ◌∷◌, length, sym, subst}
+use Rattle.std.specs.List.{All, AllByRecursion as Each}
+use Rattle.std.proofs.lemmas.List.Elements.{All-nil, recursion_from_All}
+use Rattle.ssim_values.specs.Flight.{FlightNumber}
+use Rattle.ssim_periods.specs.Calendar.{day_count, holds}
+use Rattle.ssim_periods.specs.Days.{each_day}
+use Rattle.ssim_periods.specs.Pieces.{alone, held_on}
+use Rattle.ssim_schedule.specs.Timetable.{Days, Legs, on_day}
+use Rattle.ssim_schedule.specs.Export.{Piece, pieces, same_itinerary}
+use Rattle.ssim_schedule.specs.Plan.{HasWritableLegs, HasWritablePieces, Planned, plan_of}
+use Rattle.ssim_schedule.specs.ReadBack.{AreInOrder, CanReadBack, IsWritable, place_of}
+use Rattle.ssim_schedule.specs.Schedule.{Table, days_in}
+use Rattle.ssim_schedule.specs.declared.schedule.FlightPeriods.{FlightPeriods}
+use Rattle.ssim_schedule.proofs.Calendars.{at-each_day, length-each_day}
+use Rattle.ssim_schedule.proofs.Pieces.{itinerary_pieces}
+
+-- ---- day by day
+
+abbrev CanBeWritten : Legs → Type 0
+CanBeWritten legs = All IsWritable legs
+
+held-writable : (ps : List Piece) (n : ℕ) → Each HasWritableLegs ps → Each CanBeWritten (held_on ps n)
+held-writable [] n h = tt
+held-writable (p ∷ ps) n h =
+    elim (holds p.0 n) as (λ b. Each CanBeWritten (if b then p.1 ∷ held_on ps n else held_on ps n)) [
+      | true ↦ (h.0, held-writable ps n h.1)
+      | false ↦ held-writable ps n h.1
+    ]
+
+alone-writable : (legs : Legs) → Each CanBeWritten (alone same_itinerary [] legs) → CanBeWritten legs
+alone-writable [] h = All-nil IsWritable
+alone-writable (l ∷ legs) h = h.0
+
+day-writable : (days : Days) (n : ℕ) → All HasWritableLegs (pieces days) → CanBeWritten (on_day days n)
+day-writable days n h =
+    let law = itinerary_pieces days in
+    alone-writable (on_day days n) (subst (λ (values : List Legs). Each CanBeWritten values) (law.on_each_day n) (held-writable (pieces days) n (recursion_from_All HasWritableLegs (pieces days) h)))
+
+-- ---- flight by flight
+
+-- what holds of the days of each entry, and of a flight that has none, holds of each flight's
+of-each : (P : Days → Type 0) (table : Table) (g : FlightNumber) → Each (λ f. P f.periods.days) table → P (each_day (λ _. [])) → P (days_in table g)
+of-each P [] g each none = none
+of-each P (f ∷ table) g each none =
+    elim (nat_eq (place_of f.flight) (place_of g)) as (λ b. P (if b then f.periods.days else days_in table g)) [
+      | true ↦ each.0
+      | false ↦ of-each P table g each.1 none
+    ]
+
+entries-writable : (table : Table) (n : ℕ) → Each HasWritablePieces (plan_of table) → Each (λ f. CanBeWritten (on_day f.periods.days n)) table
+entries-writable [] n h = tt
+entries-writable (f ∷ table) n h = (day-writable f.periods.days n h.0, entries-writable table n h.1)
+
+abbrev HasAllDays : FlightPeriods → Type 0
+HasAllDays f = length f.periods.days ≡ day_count
+
+-- so what was written can be read back, where its legs are in order
+pub readable : (table : Table) (plan : List Planned) → plan ≡ plan_of table → All HasAllDays table → All HasWritablePieces plan → AreInOrder (days_in table) → CanReadBack (days_in table)
+readable table plan is days writable order =
+    let each = recursion_from_All HasWritablePieces (plan_of table) (subst (λ (ps : List Planned). All HasWritablePieces ps) is writable) in
+    record {
+      timetable = record {
+        each_day = λ g exists. of-each (λ ds. length ds ≡ day_count) table g (recursion_from_All HasAllDays table days) (length-each_day (λ _. []));
+        rising = order;
+      };
+      legs = λ g n exists within.
+          of-each (λ ds. CanBeWritten (on_day ds n)) table g (entries-writable table n each)
+          (subst CanBeWritten (sym (at-each_day (λ _. []) n within)) (All-nil IsWritable));
+    }
