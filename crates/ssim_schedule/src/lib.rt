@@ -20,8 +20,6 @@ mod base;
 mod building;
 mod columns;
 mod divided;
-#[cfg(test)]
-mod effect_tests;
 mod export;
 mod fault;
 mod finding;
@@ -37,22 +35,12 @@ mod new_legs;
 mod note;
 mod points;
 mod put;
-#[cfg(test)]
-mod random_tests;
 mod reading;
-#[cfg(test)]
-mod resolve_tests;
 mod resolved;
 mod resolving;
 mod schedule;
-#[cfg(test)]
-mod station_tests;
 mod stations;
 mod taken;
-#[cfg(test)]
-mod test_data;
-#[cfg(test)]
-mod tests;
 mod waiting;
 
 pub use base::{Base, BaseRead};

@@ -9,6 +9,8 @@ pub mod data;
 mod devices;
 mod memory_store;
 #[cfg(test)]
+mod schedule_tests;
+#[cfg(test)]
 mod tests;
 
 pub use devices::{FullWriter, NoStore, Pieces};

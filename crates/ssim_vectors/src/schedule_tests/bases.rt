@@ -3,12 +3,13 @@
 
 ghost use Rattle.std.specs.Prelude.{◌≤◌, None};
 
-use crate::test_data::{
-    CARRIER, LEG, TRAILER, export_base, export_of, exported, in_pieces, lines, no_stations,
-    numbered, place, push_line, read, refusal, six, with,
+use crate::data::{CARRIER, LEG, TRAILER};
+use crate::schedule_tests::data::{
+    export_base, export_of, exported, in_pieces, lines, no_stations, numbered, place, push_line,
+    read, refusal, six, with,
 };
-use crate::{Base, ExportFault, Note, Schedule, Stations};
 use ssim_records::{Bytes, DeviceFault, Sink};
+use ssim_schedule::{Base, ExportFault, Note, Schedule, Stations};
 use ssim_values::{Day, Flight};
 use std::alloc::Global;
 use std::test::Fail;

@@ -1,13 +1,10 @@
 //! Station tables: what their rows are, which row counts, and which line is refused.
 
-use crate::{StationFault, StationRow, Stations};
+use crate::data::STATIONS;
+use ssim_schedule::{StationFault, StationRow, Stations};
 use ssim_values::{Day, Station};
 use std::alloc::Global;
 use std::test::Fail;
-
-/// Two stations over a summer and a winter.
-const TABLE: &[u8] =
-    b"ZRH 30MAR25 25OCT25 +0200\nLHR 30MAR25 25OCT25 +0100\nZRH 26OCT25 28MAR26 +0100\nLHR 26OCT25 28MAR26 +0000\n";
 
 fn read(alloc: Global, text: &[u8]) -> Result<Stations, Fail> {
     Ok(Stations::read(alloc, text)?)
@@ -40,7 +37,7 @@ fn refusal(alloc: Global, text: &[u8]) -> Option<(u8, u64)> {
 
 #[test]
 fn rows_of_a_table(rt: HostRuntime) -> Result<(), Fail> {
-    let stations = read(rt.alloc(), TABLE)?;
+    let stations = read(rt.alloc(), STATIONS)?;
     let rows = stations.rows();
     assert_eq!(rt; rows.len(), 4);
     assert_eq!(rt;
@@ -123,7 +120,7 @@ fn refused_lines(rt: HostRuntime) -> Result<(), Fail> {
 
 #[test]
 fn first_row_that_covers(rt: HostRuntime) -> Result<(), Fail> {
-    let stations = read(rt.alloc(), TABLE)?;
+    let stations = read(rt.alloc(), STATIONS)?;
     assert_eq!(rt; variation(&stations, b"ZRH", b"29MAR25")?, *b"none ");
     assert_eq!(rt; variation(&stations, b"ZRH", b"30MAR25")?, *b"+0200");
     assert_eq!(rt; variation(&stations, b"ZRH", b"25OCT25")?, *b"+0200");

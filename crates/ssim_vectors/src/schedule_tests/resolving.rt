@@ -1,7 +1,8 @@
 //! Messages resolved against bases: years, open ends, and the refusals in their order.
 
-use crate::test_data::{CARRIER, lines, read, with};
-use crate::{Base, ResolveFault, ResolvedText, resolve};
+use crate::data::CARRIER;
+use crate::schedule_tests::data::{lines, read, with};
+use ssim_schedule::{Base, ResolveFault, ResolvedText, resolve};
 use ssim_text::{Message, decode};
 use ssim_values::Period;
 use std::alloc::Global;

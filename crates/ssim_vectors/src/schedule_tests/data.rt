@@ -2,25 +2,11 @@
 
 ghost use Rattle.std.specs.Prelude.{None};
 
-use crate::{Base, BaseFault, BaseRead, Schedule, Stations};
+use crate::data::{CARRIER, FILL, HEADER, LEG, TRAILER};
 use ssim_records::{Bytes, DeviceFault, Source};
+use ssim_schedule::{Base, BaseFault, BaseRead, Schedule, Stations};
 use std::alloc::Global;
 use std::test::Fail;
-
-// A data set of four records.
-pub(crate) const HEADER: &[u8; 200] =
-    b"1AIRLINE STANDARD SCHEDULE DATA SET     1                                                                                                                                                      001000001";
-
-pub(crate) const CARRIER: &[u8; 200] =
-    b"2ULX      S25 30MAR2525OCT2501FEB25SUMMER 2025                  01FEB25                                                                                                                       0900000002";
-
-pub(crate) const LEG: &[u8; 200] =
-    b"3 LX 05440101J30MAR2525OCT251234567 ZRH05450545+0200  LHR07000700+0100  320CY                                                                                               C12Y138             00000003";
-
-pub(crate) const TRAILER: &[u8; 200] =
-    b"5 LX 01FEB25                                                                                                                                                                               000003E000004";
-
-pub(crate) const FILL: &[u8; 200] = &[b'0'; 200];
 
 /// A record with other bytes from a column on.
 pub(crate) fn with(line: &[u8; 200], column: usize, other: &[u8]) -> [u8; 200] {

@@ -1,9 +1,9 @@
 //! Random sub-messages on a schedule and on a plain list of dates, one itinerary a date, must do the same.
 
-use crate::effect_tests::{STATIONS, act, base, counts};
-use crate::test_data::CARRIER;
-use crate::{Base, PlacedLeg, Schedule, Stations};
+use crate::data::{CARRIER, STATIONS};
+use crate::schedule_tests::effects::{act, base, counts};
 use ssim_records::Bytes;
+use ssim_schedule::{Base, PlacedLeg, Schedule, Stations};
 use ssim_values::{Day, Flight};
 use std::alloc::Global;
 use std::test::Fail;

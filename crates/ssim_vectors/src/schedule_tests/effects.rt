@@ -1,17 +1,13 @@
 //! What sub-messages make of a schedule: pieces, findings, and exports as the format wants them.
 
-use crate::test_data::{CARRIER, LEG, export_of, lines, with};
-use crate::{Base, Finding, Schedule, Stations, resolve};
+use crate::data::{CANCELLED_ON_TUESDAYS, CARRIER, LEG, STATIONS};
+use crate::schedule_tests::data::{export_of, lines, with};
 use ssim_records::Bytes;
+use ssim_schedule::{Base, Finding, Schedule, Stations, resolve};
 use ssim_text::decode;
 use ssim_values::Flight;
 use std::alloc::Global;
 use std::test::Fail;
-
-pub(crate) const STATIONS: &[u8] =
-    b"ZRH 30MAR25 25OCT25 +0200\nLHR 30MAR25 25OCT25 +0100\nZRH 26OCT25 28MAR26 +0100\nLHR 26OCT25 28MAR26 +0000\n";
-
-const CANCELS_A_TUESDAY: &[u8] = b"SSM\nUTC\n01JUN00001E001\nCNL\nLX544\n01JUL25 07JUL25 2\n";
 
 /// The base of a header, a carrier, these legs and segments, and the trailer.
 pub(crate) fn base(
@@ -100,7 +96,7 @@ fn one_date_cancelled(rt: HostRuntime) -> Result<(), Fail> {
         piece(LEG, b"01", b"30MAR2530JUN251234567"),
         piece(LEG, b"02", b"02JUL2525OCT251234567"),
     ];
-    let tuesday = [(CANCELS_A_TUESDAY, [1, 0, 0, 0, 0])];
+    let tuesday = [(CANCELLED_ON_TUESDAYS, [1, 0, 0, 0, 0])];
     assert!(rt; does(alloc, &season, CARRIER, &tuesday, b"12", &around)?);
     Ok(())
 }
@@ -280,7 +276,7 @@ fn cancelled_and_put_back(rt: HostRuntime) -> Result<(), Fail> {
     let back: &[u8] =
         b"SSM\n01JUN00005E001\nNEW\nLX544\n01JUL25 01JUL25 2\nJ 320 CY.C12Y138\nZRH0545 LHR0700\n";
     let both = [
-        (CANCELS_A_TUESDAY, [1, 0, 0, 0, 0]),
+        (CANCELLED_ON_TUESDAYS, [1, 0, 0, 0, 0]),
         (back, [1, 0, 0, 0, 0]),
     ];
     assert!(rt; does(alloc, &season, CARRIER, &both, b"L", &[])?);
@@ -314,9 +310,15 @@ fn single_date_message(rt: HostRuntime) -> Result<(), Fail> {
     let alloc = rt.alloc();
     let season = base(alloc, STATIONS, CARRIER, b"L", &[])?;
     let day: &[u8] = b"ASM\n01JUN00002E001\nNEW\nLX544/01JUL\nJ 320 CY.C12Y138\nZRH0545 LHR0700\n";
-    let after = [(CANCELS_A_TUESDAY, [1, 0, 0, 0, 0]), (day, [1, 0, 0, 0, 0])];
+    let after = [
+        (CANCELLED_ON_TUESDAYS, [1, 0, 0, 0, 0]),
+        (day, [1, 0, 0, 0, 0]),
+    ];
     assert!(rt; does(alloc, &season, CARRIER, &after, b"L", &[])?);
-    let before = [(day, [0, 0, 1, 0, 0]), (CANCELS_A_TUESDAY, [1, 0, 0, 0, 0])];
+    let before = [
+        (day, [0, 0, 1, 0, 0]),
+        (CANCELLED_ON_TUESDAYS, [1, 0, 0, 0, 0]),
+    ];
     let around = [
         piece(LEG, b"01", b"30MAR2530JUN251234567"),
         piece(LEG, b"02", b"02JUL2525OCT251234567"),

@@ -1,0 +1,8 @@
+//! What the public calls of `ssim_schedule` answer. They stand here, since a crate with tests of its own is proved twice.
+
+mod bases;
+mod data;
+mod effects;
+mod random;
+mod resolving;
+mod stations;
