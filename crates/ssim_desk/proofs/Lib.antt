@@ -1,0 +1,6 @@
+pub mod MapLemmas
+pub mod References
+pub mod Resolving
+pub mod Meanings
+pub mod Taking
+pub mod Reaching

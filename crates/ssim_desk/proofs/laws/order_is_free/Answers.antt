@@ -1,0 +1,5 @@
+use Rattle.ssim_desk.proofs.Reaching.{holds_what_reached, same_messages_same_desk}
+use Rattle.ssim_desk.proofs.laws.order_is_free.Goals as goal
+
+pub returns : goal.returns
+returns c = record { holds = holds_what_reached c.one_message.ensures; same = same_messages_same_desk c.one_message.ensures }

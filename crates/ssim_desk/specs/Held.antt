@@ -1,0 +1,41 @@
+-- What a desk is: a base, and messages by reference.
+use Rattle.std.specs.Prelude.{◌≡◌, ℕ, List, [], Some}
+use Rattle.std.specs.Cmp.Lexicographic.{slice_cmp}
+use Rattle.std.specs.FinMap.{FinMap, get, empty}
+use Rattle.std.specs.Ordering.{nat_cmp}
+use Rattle.std.specs.declared.cmp.Ordering.{Ordering}
+use Rattle.ssim_schedule.specs.BaseSeen.{BaseSeen}
+use Rattle.ssim_schedule.specs.Resolve.{ResolvesIn}
+use Rattle.ssim_schedule.specs.declared.resolving.ResolvedText.{ResolvedText}
+use Rattle.ssim_text.specs.Message.{MessageValue}
+use Rattle.ssim_text.specs.Reference.{reference_numbers}
+use Rattle.ssim_text.specs.Spelling.{SpellsMessage}
+use Rattle.ssim_text.specs.declared.reference.Reference.{Reference}
+
+-- references are compared by date, group serial, message serial, kind and originator
+abbrev pub reference_cmp : Reference → Reference → Ordering
+reference_cmp a b = slice_cmp nat_cmp (reference_numbers a) (reference_numbers b)
+
+-- messages by reference
+abbrev pub Held : Type 0
+Held = FinMap reference_cmp MessageValue
+
+-- a desk: the base that it began from, and what it holds
+pub record DeskState : Type 0 where
+  pub base : BaseSeen
+  pub held : Held
+
+-- the message is held under the reference
+abbrev pub Holds : DeskState → Reference → MessageValue → Type 0
+Holds desk reference message = get desk.held reference ≡ Some message
+
+-- the text spells the message, and the base gives it this reference
+pub record Says (base : BaseSeen) (text : List ℕ) (reference : Reference) (message : MessageValue) : Type 0 where
+  pub spelt : SpellsMessage message text
+  pub resolved : ResolvedText
+  pub resolves : ResolvesIn base.records message resolved
+  pub referred : resolved.reference ≡ reference
+
+-- what stands for a desk where there is none
+abbrev pub no_desk : DeskState
+no_desk = record { base = record { records = []; rows = [] }; held = empty }

@@ -1,0 +1,6 @@
+pub mod Fault
+pub mod Held
+pub mod Maps
+pub mod Meaning
+pub mod Steps
+pub mod Reach

@@ -1,0 +1,79 @@
+-- What each flight has on each date, by what a desk holds.
+use Rattle.std.specs.Prelude.{◌≡◌, ℕ, ◌&&◌, if◌then◌else◌, List, [], ◌∷◌}
+use Rattle.std.specs.FinMap.{values}
+use Rattle.ssim_periods.specs.Calendar.{holds}
+use Rattle.ssim_periods.specs.Days.{each_day}
+use Rattle.ssim_records.specs.declared.record.Record.{Record}
+use Rattle.ssim_schedule.specs.Acts.{after_on, finding_of}
+use Rattle.ssim_schedule.specs.Resolve.{ResolvesIn}
+use Rattle.ssim_schedule.specs.Stations.{Row}
+use Rattle.ssim_schedule.specs.Timetable.{Legs, itinerary, same_flight}
+use Rattle.ssim_schedule.specs.declared.finding.Finding.{Finding}
+use Rattle.ssim_schedule.specs.declared.resolved.ResolvedSub.{ResolvedSub}
+use Rattle.ssim_schedule.specs.declared.resolving.ResolvedText.{ResolvedText}
+use Rattle.ssim_text.specs.Message.{MessageValue}
+use Rattle.ssim_text.specs.declared.action.Action.{Action}
+use Rattle.ssim_text.specs.declared.action.Sub.{Sub}
+use Rattle.ssim_values.specs.Flight.{FlightNumber}
+use Rattle.ssim_desk.specs.Held.{DeskState}
+
+-- what each flight has on each date
+abbrev pub Timetable : Type 0
+Timetable = FlightNumber → ℕ → Legs
+
+-- after a sub-message: other legs on the dates of its period, for its flight, each date by itself
+abbrev pub after_one : List Row → Action → ResolvedSub → Timetable → Timetable
+after_one rows action sub before flight day =
+    if same_flight sub.flight flight && holds sub.period day then after_on rows action day (before flight day) else before flight day
+
+-- after the sub-messages of a text, in their order, each with its full dates
+abbrev pub after_subs : List Row → List Sub → List ResolvedSub → Timetable → Timetable
+after_subs rows [] dates before = before
+after_subs rows (sub ∷ subs) [] before = before
+after_subs rows (sub ∷ subs) (dated ∷ dates) before = after_subs rows subs dates (after_one rows sub.action dated before)
+
+-- after messages, in their order, each as it resolves
+abbrev pub after_messages : List Row → List MessageValue → List ResolvedText → Timetable → Timetable
+after_messages rows [] texts before = before
+after_messages rows (message ∷ messages) [] before = before
+after_messages rows (message ∷ messages) (text ∷ texts) before =
+    after_messages rows messages texts (after_subs rows message.subs text.subs.items before)
+
+-- what each sub-message of a text finds: how many of its dates get which reason
+abbrev pub subs_findings : List Row → List Sub → List ResolvedSub → Timetable → List Finding
+subs_findings rows [] dates before = []
+subs_findings rows (sub ∷ subs) [] before = []
+subs_findings rows (sub ∷ subs) (dated ∷ dates) before =
+    finding_of rows sub.action dated.period (each_day (before dated.flight))
+    ∷ subs_findings rows subs dates (after_one rows sub.action dated before)
+
+-- and those of messages, a list for each
+abbrev pub messages_findings : List Row → List MessageValue → List ResolvedText → Timetable → List (List Finding)
+messages_findings rows [] texts before = []
+messages_findings rows (message ∷ messages) [] before = []
+messages_findings rows (message ∷ messages) (text ∷ texts) before =
+    subs_findings rows message.subs text.subs.items before
+    ∷ messages_findings rows messages texts (after_subs rows message.subs text.subs.items before)
+
+-- each message as it resolves against the records of a base
+abbrev pub ResolveTo : List Record → List MessageValue → List ResolvedText → Type 0
+ResolveTo records [] [] = Unit {0}
+ResolveTo records [] (text ∷ texts) = ⊥
+ResolveTo records (message ∷ messages) [] = ⊥
+ResolveTo records (message ∷ messages) (text ∷ texts) = ResolvesIn records message text × ResolveTo records messages texts
+
+-- the meaning of a desk: what its messages, in order of reference, leave of its base's timetable
+pub record Means (desk : DeskState) (timetable : Timetable) : Type 0 where
+  pub texts : List ResolvedText
+  pub resolved : ResolveTo desk.base.records (values desk.held) texts
+  pub left : timetable ≡ after_messages desk.base.rows (values desk.held) texts (itinerary desk.base.records)
+
+-- what its messages, in order of reference, find
+pub record Finds (desk : DeskState) (findings : List (List Finding)) : Type 0 where
+  pub texts : List ResolvedText
+  pub resolved : ResolveTo desk.base.records (values desk.held) texts
+  pub found : findings ≡ messages_findings desk.base.rows (values desk.held) texts (itinerary desk.base.records)
+
+-- a desk has one meaning
+abbrev pub HasOneMeaning : Type 0
+HasOneMeaning = (desk : DeskState) (one other : Timetable) → Means desk one → Means desk other → one ≡ other

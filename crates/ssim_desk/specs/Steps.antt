@@ -1,0 +1,144 @@
+-- What texts and merges do to desks, and what they answer. Want of memory may be answered to any of them, and changes nothing.
+use Rattle.std.specs.Prelude.{◌≡◌, ◌≢◌, ℕ, ◌<◌, ◌==◌, Bool, true, false, List, [], ◌∷◌, None, slice_index_or, slice_set}
+use Rattle.std.specs.FinMap.{get, insert}
+use Rattle.ssim_schedule.specs.Resolve.{IsRefusedIn}
+use Rattle.ssim_schedule.specs.declared.resolving.ResolveFault.{ResolveFault}
+use Rattle.ssim_schedule.specs.declared.resolving.ResolveFault.TheVariants as resolve_fault
+use Rattle.ssim_text.specs.Decoding.{IsRefusal, NoMessage}
+use Rattle.ssim_text.specs.Message.{MessageValue}
+use Rattle.ssim_text.specs.Spelling.{SpellsMessage}
+use Rattle.ssim_text.specs.declared.fault.TextFault.{TextFault}
+use Rattle.ssim_text.specs.declared.fault.TextFault.TheVariants as text_fault
+use Rattle.ssim_text.specs.declared.reference.Reference.{Reference}
+use Rattle.ssim_desk.specs.Held.{DeskState, Held, Holds, Says, no_desk}
+use Rattle.ssim_desk.specs.Maps.{Agree, IsLeastConflict, union}
+use Rattle.ssim_desk.specs.declared.fault.DeskFault.{DeskFault}
+use Rattle.ssim_desk.specs.declared.fault.DeskFault.TheVariants.{Memory, Text, Resolve, Conflict, OtherBase, Read, File}
+use Rattle.ssim_desk.specs.declared.steps.Answer.{Answer}
+use Rattle.ssim_desk.specs.declared.steps.Answer.TheVariants.{Taken, Repeated, Merged, Refused}
+use Rattle.ssim_desk.specs.declared.steps.Step.{Step}
+use Rattle.ssim_desk.specs.declared.steps.Step.TheVariants.{Take, Merge}
+
+-- ---- a text
+
+-- the text spells no message, and this is why
+abbrev pub IsUnspelt : List ℕ → TextFault → Type 0
+IsUnspelt text text_fault.Memory = ⊥
+IsUnspelt text (text_fault.Refused fault line) = NoMessage text (text_fault.Refused fault line) × IsRefusal text (text_fault.Refused fault line)
+
+-- its message does not resolve, and this is why
+pub record IsUnresolved (desk : DeskState) (text : List ℕ) (fault : ResolveFault) : Type 0 where
+  pub message : MessageValue
+  pub spelt : SpellsMessage message text
+  pub refused : IsRefusedIn desk.base.records message fault
+  pub of_message : fault ≢ resolve_fault.Memory
+
+-- another message is held under its reference
+pub record IsInConflict (desk : DeskState) (text : List ℕ) (reference : Reference) : Type 0 where
+  pub message : MessageValue
+  pub says : Says desk.base text reference message
+  pub other : MessageValue
+  pub holds : Holds desk reference other
+  pub apart : other ≢ message
+
+-- its message is new, and is held afterwards
+pub record IsNew (desk : DeskState) (text : List ℕ) (held : Held) : Type 0 where
+  pub reference : Reference
+  pub message : MessageValue
+  pub says : Says desk.base text reference message
+  pub absent : get desk.held reference ≡ None
+  pub added : held ≡ insert desk.held reference message
+
+-- its message is held already
+pub record IsKnown (desk : DeskState) (text : List ℕ) : Type 0 where
+  pub reference : Reference
+  pub message : MessageValue
+  pub says : Says desk.base text reference message
+  pub holds : Holds desk reference message
+
+-- why a desk refuses a text
+abbrev pub RefusesText : DeskState → List ℕ → DeskFault → Type 0
+RefusesText desk text Memory = Unit {0}
+RefusesText desk text (Text fault) = IsUnspelt text fault
+RefusesText desk text (Resolve fault) = IsUnresolved desk text fault
+RefusesText desk text (Conflict reference) = IsInConflict desk text reference
+RefusesText desk text OtherBase = ⊥
+RefusesText desk text (Read fault) = ⊥
+RefusesText desk text (File offset) = ⊥
+
+-- what a desk answers to a text, and what it holds afterwards
+abbrev pub Takes : DeskState → List ℕ → Answer → Held → Type 0
+Takes desk text Taken held = IsNew desk text held
+Takes desk text Repeated held = IsKnown desk text × (held ≡ desk.held)
+Takes desk text Merged held = ⊥
+Takes desk text (Refused fault) held = RefusesText desk text fault × (held ≡ desk.held)
+
+-- ---- another desk
+
+-- why a desk is not merged with another
+abbrev pub RefusesDesk : DeskState → DeskState → DeskFault → Type 0
+RefusesDesk mine theirs Memory = Unit {0}
+RefusesDesk mine theirs (Text fault) = ⊥
+RefusesDesk mine theirs (Resolve fault) = ⊥
+RefusesDesk mine theirs (Conflict reference) = (mine.base ≡ theirs.base) × IsLeastConflict mine.held theirs.held reference
+RefusesDesk mine theirs OtherBase = mine.base ≢ theirs.base
+RefusesDesk mine theirs (Read fault) = ⊥
+RefusesDesk mine theirs (File offset) = ⊥
+
+-- over one base, where no reference has two messages, each desk's messages are held
+pub record IsUnion (mine theirs : DeskState) (held : Held) : Type 0 where
+  pub base : mine.base ≡ theirs.base
+  pub agree : Agree mine.held theirs.held
+  pub all : held ≡ union mine.held theirs.held
+
+-- what a desk answers to another, and what it holds afterwards
+abbrev pub Merges : DeskState → DeskState → Answer → Held → Type 0
+Merges mine theirs Taken held = ⊥
+Merges mine theirs Repeated held = ⊥
+Merges mine theirs Merged held = IsUnion mine theirs held
+Merges mine theirs (Refused fault) held = RefusesDesk mine theirs fault × (held ≡ mine.held)
+
+-- ---- steps
+
+-- the desk of a number
+abbrev pub desk_at : List DeskState → ℕ → DeskState
+desk_at desks i = slice_index_or desks i no_desk
+
+-- the desks, where that of a number holds this from now on
+abbrev pub with_held : List DeskState → ℕ → Held → List DeskState
+with_held desks i held = let desk = desk_at desks i in slice_set desks i (record desk { held = held })
+
+-- the numbers of a step are those of desks
+abbrev pub IsInRange : ℕ → Step → Type 0
+IsInRange count (Take i text) = i < count
+IsInRange count (Merge into from) = (into < count) × (from < count)
+
+-- a text is taken
+pub record TakesAt (desks : List DeskState) (i : ℕ) (text : List ℕ) (answer : Answer) (after : List DeskState) : Type 0 where
+  pub held : Held
+  pub takes : Takes (desk_at desks i) text answer held
+  pub put : after ≡ with_held desks i held
+
+-- two desks are merged
+pub record MergesAt (desks : List DeskState) (into from : ℕ) (answer : Answer) (after : List DeskState) : Type 0 where
+  pub held : Held
+  pub merges : Merges (desk_at desks into) (desk_at desks from) answer held
+  pub put : after ≡ with_held desks into held
+
+-- with itself a desk is merged and does not change
+abbrev pub MergesOne : Bool → List DeskState → ℕ → ℕ → Answer → List DeskState → Type 0
+MergesOne true desks into from answer after = (answer ≡ Merged) × (after ≡ desks)
+MergesOne false desks into from answer after = MergesAt desks into from answer after
+
+-- what a step answers, and the desks after it
+abbrev pub Acts : List DeskState → Step → Answer → List DeskState → Type 0
+Acts desks (Take i text) answer after = TakesAt desks i text.items answer after
+Acts desks (Merge into from) answer after = MergesOne (into == from) desks into from answer after
+
+-- what steps answer, and the desks after them all
+abbrev pub Runs : List DeskState → List Step → List Answer → List DeskState → Type 0
+Runs desks [] [] after = after ≡ desks
+Runs desks [] (answer ∷ answers) after = ⊥
+Runs desks (step ∷ steps) [] after = ⊥
+Runs desks (step ∷ steps) (answer ∷ answers) after =
+    (between : List DeskState) × Acts desks step answer between × Runs between steps answers after
