@@ -4,3 +4,4 @@ pub mod Resolving
 pub mod Meanings
 pub mod Taking
 pub mod Reaching
+pub mod Shown

@@ -4,3 +4,5 @@ pub mod Maps
 pub mod Meaning
 pub mod Steps
 pub mod Reach
+pub mod Kept
+pub mod Examples

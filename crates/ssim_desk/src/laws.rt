@@ -1,5 +1,6 @@
 //! What holds of any desks, over the definitions of what texts and merges do.
 
+ghost use Rattle.ssim_desk.specs.Examples;
 ghost use Rattle.ssim_desk.specs.Maps.{MergesAssociate, MergesCommute, MergesRepeat};
 ghost use Rattle.ssim_desk.specs.Meaning.{HasOneMeaning};
 ghost use Rattle.ssim_desk.specs.Reach.{HoldsWhatReached, SameMessagesSameDesk, SameDeskSameMeaning};

@@ -2,16 +2,21 @@
 //!
 //! - [`Step`]: a desk takes a text, or is merged with another. [`Answer`]: what it answers; [`DeskFault`]: why it refuses, by
 //!   number.
+//! - [`Held`]: a message that a desk holds, with its reference and its canonical text.
 //! - [`laws`]: a desk holds what it held and what has reached it, so two desks that began alike and that the same messages reached
 //!   are one, whatever the order, the grouping and the repeats; and merging is associative, commutative and idempotent.
 //!
 //! The definitions that the laws speak of are in `specs/`: `Held` (messages by reference), `Meaning` (what each flight has on each
-//! date), `Steps` (what texts and merges do), `Reach` (which messages reach which desks). The desk itself is to come.
+//! date), `Steps` (what texts and merges do), `Reach` (which messages reach which desks). The module `replay` lets a held message act on
+//! a schedule. The desk itself is to come.
 #![tactic(auto)]
 
 mod fault;
+mod held;
 pub mod laws;
+mod replay;
 mod steps;
 
 pub use fault::DeskFault;
+pub use held::Held;
 pub use steps::{Answer, Step};

@@ -1,0 +1,124 @@
+-- Small examples of order and meaning, checked by computation.
+use Rattle.std.specs.Prelude.{◌≡◌, ℕ, true, false, List, [], ◌∷◌, ◌++◌, replicate, codes, refl}
+use Rattle.std.specs.List.{concat}
+use Rattle.std.specs.declared.cmp.Ordering.TheVariants.{Less, Equal}
+use Rattle.ssim_schedule.specs.Columns.{new_columns, with_equipment}
+use Rattle.ssim_schedule.specs.Stations.{Row}
+use Rattle.ssim_schedule.specs.Timetable.{LegValue}
+use Rattle.ssim_schedule.specs.declared.resolved.ResolvedSub.{ResolvedSub}
+use Rattle.ssim_text.specs.Values.{EquipmentValue, no_originator}
+use Rattle.ssim_text.specs.declared.action.Action.{Action}
+use Rattle.ssim_text.specs.declared.action.Action.TheVariants.{New, Cnl, Eqt}
+use Rattle.ssim_text.specs.declared.action.NewLegs.{NewLegs}
+use Rattle.ssim_text.specs.declared.action.Sub.{Sub}
+use Rattle.ssim_text.specs.declared.dates.Dates.TheVariants.{Date}
+use Rattle.ssim_text.specs.declared.dates.GivenDate.TheVariants.{Full}
+use Rattle.ssim_text.specs.declared.kind.Kind.{Kind}
+use Rattle.ssim_text.specs.declared.kind.Kind.TheVariants.{Ssm, Asm}
+use Rattle.ssim_text.specs.declared.leg.LegEnd.{LegEnd}
+use Rattle.ssim_text.specs.declared.reference.Reference.{Reference}
+use Rattle.ssim_values.specs.Flight.{FlightNumber}
+use Rattle.ssim_desk.specs.Held.{reference_cmp}
+use Rattle.ssim_desk.specs.Meaning.{Timetable, after_subs}
+
+-- ---- the order of references
+
+abbrev reference : ℕ → ℕ → Kind → List ℕ → Reference
+reference date group kind originator = record { date = date; group = group; serial = 1; kind = kind; originator = originator }
+
+-- 01MAY25 comes before 01JUN25, whatever the serials
+by_date : reference_cmp (reference 9252 1 Ssm no_originator) (reference 9283 6 Ssm no_originator) ≡ Less
+by_date = refl
+
+-- with their years, 31DEC25 comes before 01JAN26
+by_year : reference_cmp (reference 9496 1 Ssm no_originator) (reference 9497 1 Ssm no_originator) ≡ Less
+by_year = refl
+
+-- the kind counts after the serials: an SSM comes first
+by_kind : reference_cmp (reference 9283 1 Ssm no_originator) (reference 9283 1 Asm no_originator) ≡ Less
+by_kind = refl
+
+-- and the originator last; no originator comes first
+by_originator : reference_cmp (reference 9283 1 Ssm no_originator) (reference 9283 1 Ssm (codes "AAAAAAA")) ≡ Less
+by_originator = refl
+
+itself : reference_cmp (reference 9283 1 Asm (codes "AAAAAAA")) (reference 9283 1 Asm (codes "AAAAAAA")) ≡ Equal
+itself = refl
+
+-- ---- meaning
+
+abbrev lx600 : FlightNumber
+lx600 = record { number = 600; suffix = 32 }
+
+-- a sub-message for LX600 on 01JUL25
+abbrev sub : Action → Sub
+sub action = record { designator = record { airline = codes "LX "; flight = lx600 }; dates = Date (Full 9313); action = action }
+
+abbrev dated : ResolvedSub
+dated = record { flight = lx600; period = record { first = 9313; last = 9313; days = true ∷ true ∷ true ∷ true ∷ true ∷ true ∷ true ∷ [] } }
+
+abbrev end_at : List ℕ → ℕ → LegEnd
+end_at station minutes = record { station = station; time = minutes; variation = 0; passenger = minutes }
+
+-- J 320 CY.C12Y138, ZRH0545 LHR0700
+abbrev new : NewLegs
+new = record { equipment = record { service = 74; aircraft = codes "320"; designators = codes "CY"; configuration = codes "C12Y138" }; legs = record { departure = end_at (codes "ZRH") 345; arrival = end_at (codes "LHR") 420 } ∷ []; segments = [] }
+
+-- J 319 CY and J 320 CY
+abbrev equipment : List ℕ → EquipmentValue
+equipment aircraft = record { service = 74; aircraft = aircraft; designators = codes "CY"; configuration = [] }
+
+abbrev row : List ℕ → ℕ → Row
+row station minutes = record { station = station; first = 9220; last = 9429; variation = record { negative = false; minutes = minutes } }
+
+abbrev rows : List Row
+rows = row (codes "ZRH") 120 ∷ row (codes "LHR") 60 ∷ []
+
+abbrev blanks : ℕ → List ℕ
+blanks n = replicate n 32
+
+-- a leg of this aircraft type and this configuration
+abbrev leg : List ℕ → List ℕ → LegValue
+leg aircraft configuration = record {
+  sequence = 1;
+  columns = concat (codes "JZRH05450545+0200" ∷ blanks 2 ∷ codes "LHR07000700+0100" ∷ blanks 2 ∷ aircraft ∷ codes "CY" ∷ blanks 94 ∷ configuration ∷ codes "00" ∷ []);
+  tails = [];
+}
+
+abbrev by_airbus : LegValue
+by_airbus = leg (codes "320") (codes "C12Y138" ++ blanks 13)
+
+-- no flight flies before
+abbrev nothing : Timetable
+nothing flight day = []
+
+-- what one sub-message leaves
+abbrev after : Action → Timetable → Timetable
+after action = after_subs rows (sub action ∷ []) (dated ∷ [])
+
+-- NEW of 01MAY25 and CNL of 01JUN25, in their order: the flight is cancelled
+late_message_comes_first : after Cnl (after (New new) nothing) lx600 9313 ≡ []
+late_message_comes_first = refl
+
+-- in the order in which they came it would fly
+arrival_does_not_count : after (New new) (after Cnl nothing) lx600 9313 ≡ by_airbus ∷ []
+unfolding new_columns
+arrival_does_not_count = refl
+
+-- the next day nobody has spoken of, nor of another flight
+other_date : after (New new) nothing lx600 9314 ≡ []
+unfolding new_columns
+other_date = refl
+
+other_flight : after (New new) nothing (record { number = 600; suffix = 65 }) 9313 ≡ []
+unfolding new_columns
+other_flight = refl
+
+-- of two equipment changes the later by reference stays
+year_of_a_reference : after (Eqt (equipment (codes "319"))) (after (Eqt (equipment (codes "320"))) (after (New new) nothing)) lx600 9313 ≡ leg (codes "319") (blanks 20) ∷ []
+unfolding new_columns with_equipment
+year_of_a_reference = refl
+
+-- a text's own sub-messages act in their order
+in_one_text : after_subs rows (sub (New new) ∷ sub Cnl ∷ []) (dated ∷ dated ∷ []) nothing lx600 9313 ≡ []
+in_one_text = refl

@@ -1,0 +1,51 @@
+//! Messages act on a schedule, sub-message by sub-message.
+
+ghost use Rattle.std.specs.Prelude.{◌≡◌, length, IfOk, OnOk};
+ghost use Rattle.ssim_periods.specs.Days.{each_day};
+ghost use Rattle.ssim_schedule.specs.Acts.{finding_of};
+ghost use Rattle.ssim_schedule.specs.ReadBack.{AreInOrder};
+ghost use Rattle.ssim_schedule.specs.Schedule.{days_in};
+ghost use Rattle.ssim_desk.specs.Kept.{Shows, after_entry};
+ghost use Rattle.ssim_desk.specs.Meaning.{Timetable, after_one, subs_findings};
+
+use crate::held::Held;
+use ssim_schedule::{Base, Finding, ResolvedSub, Schedule};
+use ssim_text::Sub;
+use ssim_values::Memory;
+use std::alloc::Global;
+
+// A sub-message acts on its dates.
+fn act_one(
+    base: &Base,
+    schedule: &mut Schedule,
+    sub: &Sub,
+    dated: ResolvedSub,
+) -> Result<Finding, Memory>
+    ensures shows { OnOk result ((before : Timetable) → Shows schedule.old before → Shows schedule.new (after_one base.now.rows sub.now.action dated before)) }
+    ensures found { IfOk result (λ found. (before : Timetable) → Shows schedule.old before → found ≡ finding_of base.now.rows sub.now.action dated.period (each_day (before dated.flight))) }
+    ensures in_order { OnOk result (AreInOrder (days_in schedule.old) → AreInOrder (days_in schedule.new)) }
+{
+    // No effect at run time. The proof reads from these uses that the flight is one.
+    let _ = dated.flight.number();
+    let _ = dated.flight.suffix();
+    schedule.apply_sub(base, &dated.with(&sub.action))
+}
+
+/// The sub-messages of a message act in their order. Answers what each found.
+pub(crate) fn act(
+    alloc: Global,
+    base: &Base,
+    schedule: &mut Schedule,
+    held: &Held,
+) -> Result<Vec<Finding>, Memory>
+    requires { length held.now.dates ≡ length held.now.message.subs }
+    ensures shows { OnOk result ((before : Timetable) → Shows schedule.old before → Shows schedule.new (after_entry base.now.rows held.now before)) }
+    ensures found { IfOk result (λ found. (before : Timetable) → Shows schedule.old before → found.items ≡ subs_findings base.now.rows held.now.message.subs held.now.dates before) }
+    ensures in_order { OnOk result (AreInOrder (days_in schedule.old) → AreInOrder (days_in schedule.new)) }
+{
+    let mut found = Vec::new(alloc);
+    for (place, sub) in held.message().subs().iter().enumerate() {
+        found.push(act_one(base, schedule, sub, held.dates()[place])?)?;
+    }
+    Ok(found)
+}
