@@ -74,6 +74,6 @@ pub record Finds (desk : DeskState) (findings : List (List Finding)) : Type 0 wh
   pub resolved : ResolveTo desk.base.records (values desk.held) texts
   pub found : findings ≡ messages_findings desk.base.rows (values desk.held) texts (itinerary desk.base.records)
 
--- a desk has one meaning
+-- a desk has at most one meaning
 abbrev pub HasOneMeaning : Type 0
 HasOneMeaning = (desk : DeskState) (one other : Timetable) → Means desk one → Means desk other → one ≡ other

@@ -16,7 +16,7 @@ pub fn order_is_free()
     one_message();
 }
 
-/// What a desk holds has one meaning, so desks that are one have the same itinerary of each flight on each date.
+/// What a desk holds has at most one meaning, so desks that are one have no two itineraries of a flight on a date.
 pub fn one_meaning()
     ensures only { HasOneMeaning }
     ensures same { SameDeskSameMeaning }
