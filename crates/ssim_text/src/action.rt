@@ -1,5 +1,5 @@
 //! Sub-messages and their actions.
-ghost use Rattle.std.specs.Prelude.{◌≡◌, IfSome, IfNone};
+ghost use Rattle.std.specs.Prelude.{◌≡◌, IfSome, IfNone, IfOk};
 ghost use Rattle.ssim_text.specs.Lines.{SpellsDatedFlight};
 ghost use Rattle.ssim_values.specs.Designator.{SpellsDesignator};
 
@@ -9,9 +9,10 @@ use crate::equipment::Equipment;
 use crate::leg::Legs;
 use crate::segment::Segments;
 use ssim_values::Designator;
+use std::alloc::AllocError;
 
 /// What `NEW` and `RPL` put on a date.
-#[derive(Drop)]
+#[derive(Clone, Drop)]
 pub struct NewLegs {
     pub equipment: Equipment,
     pub legs: Legs,
@@ -19,7 +20,7 @@ pub struct NewLegs {
 }
 
 /// What a sub-message does to each of its dates, by the action identifiers of SSIM.
-#[derive(Drop)]
+#[derive(Clone, Drop)]
 pub enum Action {
     /// A new flight.
     New(NewLegs),
@@ -33,12 +34,32 @@ pub enum Action {
     Tim(Legs),
 }
 
+impl Action {
+    fn copy(&self) -> Result<Action, AllocError>
+        ensures { IfOk result (λ copy. copy ≡ self.now) }
+    {
+        self.clone()
+    }
+}
+
 /// One action on one flight over its dates.
 #[derive(Drop)]
 pub struct Sub {
     pub designator: Designator,
     pub dates: Dates,
     pub action: Action,
+}
+
+impl Clone for Sub {
+    ghost is_clone = { λ sub copy. copy ≡ sub };
+
+    fn clone(&self) -> Result<Sub, AllocError> {
+        Ok(Sub {
+            designator: self.designator,
+            dates: self.dates,
+            action: self.action.copy()?,
+        })
+    }
 }
 
 pub(crate) fn flight(line: &[u8]) -> Option<Designator>

@@ -8,9 +8,8 @@ ghost use Rattle.ssim_text.specs.Canonical.{canonical};
 
 use crate::fault::{Fault, TextFault};
 use crate::lines::{Line, first_unprintable, lines_left, number_at};
-use crate::message::{Draft, Message, encode};
+use crate::message::{Draft, Message};
 use crate::state::{State, Stop};
-use ssim_values::Memory;
 use std::alloc::Global;
 
 /// Why lines are refused: for memory, or with a fault and the index of the line.
@@ -51,7 +50,7 @@ fn finished(alloc: Global, draft: Draft) -> Result<Message, TextFault>
     if text.len() > 65_536 {
         return Err(TextFault::Refused(Fault::TooMany, 1));
     }
-    Ok(Message::of(draft))
+    Ok(Message::of(draft, text))
 }
 
 /// The message that a text spells.
@@ -78,19 +77,6 @@ pub fn decode(alloc: Global, text: &[u8]) -> Result<Message, TextFault>
         Err(Refusal::NoMemory) => Err(TextFault::Memory),
         Err(Refusal::Misplaced(fault, index)) => {
             Err(TextFault::Refused(fault, number_at(&lines, index)))
-        }
-    }
-}
-
-impl Message {
-    /// An equal message, or the want of memory: what its canonical text is decoded to.
-    pub fn copy(&self, alloc: Global) -> Result<Message, Memory>
-        ensures { IfOk result (λ copy. copy ≡ self.now) }
-    {
-        let text = encode(alloc, self)?;
-        match decode(alloc, &text) {
-            Ok(message) => Ok(message),
-            Err(_) => Err(Memory),
         }
     }
 }

@@ -7,7 +7,7 @@ use arrayvec::ArrayVec;
 use std::marker::Model;
 
 /// The equipment line of a sub-message.
-#[derive(Drop)]
+#[derive(Clone, Drop)]
 pub struct Equipment {
     service: u8,
     aircraft: [u8; 3],

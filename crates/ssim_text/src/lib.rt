@@ -32,7 +32,6 @@ mod originator;
 mod reference;
 #[cfg(test)]
 mod replaced_tests;
-mod same;
 mod segment;
 mod state;
 #[cfg(test)]

@@ -49,7 +49,7 @@ pub enum GroupCode {
 }
 
 /// A reference as a message gives it.
-#[derive(Debug, Drop)]
+#[derive(Clone, Debug, Drop)]
 pub struct GivenReference {
     /// The date, without its year.
     pub date: DayMonth,
@@ -62,7 +62,7 @@ pub struct GivenReference {
 }
 
 /// The creator's own reference: 1 to 35 bytes from 32 to 126, the last of them no blank.
-#[derive(Debug, Drop)]
+#[derive(Clone, Debug, Drop)]
 pub struct CreatorReference {
     bytes: Vec<u8>,
 }

@@ -10,7 +10,7 @@ use std::alloc::{AllocError, Global};
 use std::marker::Model;
 
 /// Data for one pair of points of a flight.
-#[derive(Debug, Drop)]
+#[derive(Clone, Debug, Drop)]
 pub struct SegmentLine {
     pub board: Station,
     pub off: Station,
@@ -20,7 +20,7 @@ pub struct SegmentLine {
 }
 
 /// The data of a segment line: 1 to 155 bytes from 32 to 126, the last of them no blank.
-#[derive(Debug, Drop)]
+#[derive(Clone, Debug, Drop)]
 pub struct SegmentText {
     bytes: Vec<u8>,
 }
@@ -98,7 +98,7 @@ impl SegmentLine {
 }
 
 /// Up to 99 segment lines.
-#[derive(Debug, Drop)]
+#[derive(Clone, Debug, Drop)]
 pub struct Segments {
     lines: Vec<SegmentLine>,
 }
