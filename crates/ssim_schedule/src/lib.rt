@@ -39,6 +39,7 @@ mod reading;
 mod resolved;
 mod resolving;
 mod schedule;
+mod shared_periods;
 mod stations;
 mod taken;
 mod waiting;

@@ -10,6 +10,7 @@ ghost use Rattle.ssim_schedule.specs.Schedule.{unflown};
 
 use crate::itinerary::Itinerary;
 use crate::leg::PlacedLeg;
+use crate::shared_periods::SharedPeriods;
 use ssim_periods::{Change, Periods};
 use ssim_values::{Day, Flight, Memory, Period};
 use std::alloc::Global;
@@ -19,7 +20,7 @@ use std::marker::Model;
 #[derive(Drop)]
 pub struct FlightPeriods {
     pub(crate) flight: Flight,
-    pub(crate) periods: Periods<Itinerary>,
+    pub(crate) periods: SharedPeriods,
 }
 
 /// The itinerary of each flight on each date, kept flight by flight as cuts and week rows of shared itineraries.
@@ -70,7 +71,7 @@ impl Schedule {
         ensures { result.now ≡ slice_index_or (days_in self.now flight.now) day [] }
     {
         match self.search(*flight) {
-            Ok(place) => self.flights[place].periods.at(day).legs(),
+            Ok(place) => self.flights[place].periods.held().at(day).legs(),
             Err(_) => &[],
         }
     }
@@ -80,12 +81,13 @@ impl Schedule {
         ensures { result.now ≡ cuts_in self.now flight.now }
     {
         match self.search(*flight) {
-            Ok(place) => self.flights[place].periods.cuts(),
+            Ok(place) => self.flights[place].periods.held().cuts(),
             Err(_) => &[],
         }
     }
 
-    /// The same timetable with the same cuts; the itineraries are shared.
+    /// The same timetable with the same cuts. The copy and the original share the periods of each flight until one of the two
+    /// changes that flight, so a copy costs one pointer for each flight.
     pub fn copy(&self) -> Result<Schedule, Memory>
         ensures { IfOk result (λ copy. copy ≡ self.now) }
     {
@@ -109,7 +111,9 @@ impl Schedule {
         ensures err { OnErr result (self.new ≡ self.old) }
     {
         match self.search(flight) {
-            Ok(place) => self.flights[place].periods.apply(period, change),
+            Ok(place) => self.flights[place]
+                .periods
+                .apply(self.alloc, period, change),
             Err(place) => self.change_first(place, flight, period, change),
         }
     }
@@ -119,8 +123,8 @@ impl Schedule {
         ensures { self.new ≡ self.old }
     {
         if let Ok(place) = self.search(flight) {
-            let shared = self.flights[place].periods.shared()?;
-            self.flights[place].periods = shared;
+            let shared = self.flights[place].periods.held().shared()?;
+            self.flights[place].periods = SharedPeriods::of(self.alloc, shared)?;
         }
         Ok(())
     }
@@ -153,6 +157,7 @@ impl Schedule {
     {
         let mut periods = Periods::new(self.alloc);
         let counts = periods.apply(period, change)?;
+        let periods = SharedPeriods::of(self.alloc, periods)?;
         self.flights.insert(gap, FlightPeriods { flight, periods })?;
         Ok(counts)
     }
@@ -168,7 +173,7 @@ impl Schedule {
         ensures cuts { IfOk result (λ p. p.cuts ≡ cuts_in self.now flight) }
     {
         match self.search(flight) {
-            Ok(place) => self.flights[place].periods.copy(),
+            Ok(place) => self.flights[place].periods.held().copy(),
             Err(_) => Ok(Periods::new(self.alloc)),
         }
     }
@@ -179,6 +184,7 @@ impl Schedule {
         ensures cuts { OnOk result ((g : FlightNumber) → cuts_in self.new g ≡ (if nat_eq (place_of flight) (place_of g) then periods.cuts else cuts_in self.old g)) }
         ensures err { OnErr result (self.new ≡ self.old) }
     {
+        let periods = SharedPeriods::of(self.alloc, periods)?;
         match self.search(flight) {
             Ok(place) => {
                 self.flights[place] = FlightPeriods { flight, periods };
@@ -216,7 +222,7 @@ fn entries(alloc: Global, flights: &[Flight]) -> Result<Vec<FlightPeriods>, Memo
     for flight in flights {
         entries.push(FlightPeriods {
             flight: *flight,
-            periods: Periods::new(alloc),
+            periods: SharedPeriods::of(alloc, Periods::new(alloc))?,
         })?;
     }
     Ok(entries)

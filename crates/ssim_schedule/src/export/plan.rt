@@ -54,7 +54,7 @@ pub(crate) fn divide(alloc: Global, entries: &[FlightPeriods]) -> Result<Vec<Fli
         let _ = place(entry.flight);
         plan.push(FlightPieces {
             flight: entry.flight,
-            pieces: entry.periods.pieces()?,
+            pieces: entry.periods.held().pieces()?,
         })?;
     }
     Ok(plan)
