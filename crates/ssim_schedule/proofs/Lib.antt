@@ -26,6 +26,7 @@ pub mod ReadingBack
 pub mod ReadingLemmas
 pub mod FlightLists
 pub mod BaseFrame
+pub mod SavedBases
 pub mod Unflown
 pub mod ReadBackBy
 pub mod ResolveLemmas

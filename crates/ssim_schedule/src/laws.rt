@@ -1,6 +1,7 @@
 //! What holds of exports, for any frame and timetable.
 ghost use Rattle.ssim_schedule.specs.ReadBack.{BasesExport, BytesReadBack, BytesTell, ReadOnce, SameBytes, ReadsBack, ExportsAgain, ExportsTell, FlownSuffice, SameExport, Stands};
 ghost use Rattle.ssim_schedule.specs.Reading.{IsReadBack};
+ghost use Rattle.ssim_schedule.specs.SavedBase.{SavedCanBeRead, SavedIsOne, SavedIsRead};
 ghost use Rattle.ssim_schedule.specs.Examples;
 
 use ssim_records::{frames_are_one, written_records_read_back};
@@ -39,6 +40,17 @@ pub fn written_bases_are_read()
     ensures { IsReadBack }
 {
     frames_are_one();
+}
+
+/// The records of a base, each written and followed by LF, are read as the same records, unless the reader fails. Two bases whose
+/// records are written as the same bytes have the same records.
+pub fn saved_records_are_read()
+    ensures can_be_read { SavedCanBeRead }
+    ensures only { SavedIsRead }
+    ensures one { SavedIsOne }
+{
+    frames_are_one();
+    written_records_read_back();
 }
 
 /// A base that is read has a frame, and gives a timetable, that can be exported.
