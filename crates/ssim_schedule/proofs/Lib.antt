@@ -14,6 +14,7 @@ pub mod Planning
 pub mod Puts
 pub mod ReadOnce
 pub mod SameTails
+pub mod SameBytes
 pub mod Serials
 pub mod Stands
 pub mod StationLines

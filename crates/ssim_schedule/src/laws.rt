@@ -1,7 +1,8 @@
 //! What holds of exports, for any frame and timetable.
 ghost use Rattle.ssim_schedule.specs.ReadBack.{BasesExport, BytesReadBack, BytesTell, ReadOnce, SameBytes, ReadsBack, ExportsAgain, ExportsTell, FlownSuffice, SameExport, Stands};
-ghost use Rattle.ssim_schedule.specs.Reading.{IsReadBack};
+ghost use Rattle.ssim_schedule.specs.Reading.{IsReadBack, SameBytesSameBase};
 ghost use Rattle.ssim_schedule.specs.SavedBase.{SavedCanBeRead, SavedIsOne, SavedIsRead};
+ghost use Rattle.ssim_schedule.specs.Stations.{SameBytesSameRows};
 ghost use Rattle.ssim_schedule.specs.Examples;
 
 use ssim_records::{frames_are_one, written_records_read_back};
@@ -52,6 +53,18 @@ pub fn saved_records_are_read()
     frames_are_one();
     written_records_read_back();
 }
+
+/// The bytes of a data set are read as one base with one list of notes, whatever the limits are.
+pub fn same_bytes_same_base()
+    ensures { SameBytesSameBase }
+{
+    frames_are_one();
+}
+
+/// The bytes of a station table are read as one list of rows.
+pub fn same_bytes_same_rows()
+    ensures { SameBytesSameRows }
+{}
 
 /// A base that is read has a frame, and gives a timetable, that can be exported.
 pub fn bases_can_be_exported()
