@@ -34,11 +34,11 @@ use Rattle.ssim_schedule.proofs.Calendars.{length-each_day, at-each_day}
 
 -- ---- what is not refused
 
-refuse_if-none : (b : Bool) (x : BaseRefusal) → refuse_if b x ≡ None → b ≡ false
+pub refuse_if-none : (b : Bool) (x : BaseRefusal) → refuse_if b x ≡ None → b ≡ false
 refuse_if-none true x h = absurd cc
 refuse_if-none false x h = refl
 
-or_else-none : (a b : Option BaseRefusal) → or_else a b ≡ None → (a ≡ None) × (b ≡ None)
+pub or_else-none : (a b : Option BaseRefusal) → or_else a b ≡ None → (a ≡ None) × (b ≡ None)
 or_else-none (Some x) b h = absurd cc
 or_else-none None b h = (refl, h)
 
@@ -46,7 +46,7 @@ pub at_record-none : (n : ℕ) (a : Option BaseRefusal) (later : Option BaseFaul
 at_record-none n (Some x) later h = absurd cc
 at_record-none n None later h = (refl, h)
 
-stood : (ending : Ending) (e : List Record) (records : List (ℕ × Record)) → first_refusal ending e records ≡ None → StandsTo e (map (λ r. r.1) records) (λ d. missing d ≡ None)
+pub stood : (ending : Ending) (e : List Record) (records : List (ℕ × Record)) → first_refusal ending e records ≡ None → StandsTo e (map (λ r. r.1) records) (λ d. missing d ≡ None)
 stood (Done n) e [] h = (at_record-none n (missing e) None h).0
 stood (Broken x) e [] h = absurd cc
 stood ending e (r ∷ records) h =
@@ -343,7 +343,7 @@ from-ok None rs these notes noted h =
     let pair : with_notes rs notes ≡ with_notes these noted = cc in
     (refl, ap (λ p. p.0) pair)
 
-each-second : (records : List (ℕ × Record)) → Each (λ (r : ℕ × Record). IsRecord r.1) records → Each IsRecord (map (λ r. r.1) records)
+pub each-second : (records : List (ℕ × Record)) → Each (λ (r : ℕ × Record). IsRecord r.1) records → Each IsRecord (map (λ r. r.1) records)
 each-second [] h = tt
 each-second (r ∷ records) h = (h.0, each-second records h.1)
 

@@ -299,7 +299,7 @@ stands-flights a days low (suc k) P e is fit good free next =
 -- ---- the whole
 
 -- the first refusal, from what stands one after another
-not_refused : (number : ℕ) (e : List Record) (rs : List Record) (records : List (ℕ × Record)) → map (λ r. r.1) records ≡ rs
+pub not_refused : (number : ℕ) (e : List Record) (rs : List Record) (records : List (ℕ × Record)) → map (λ r. r.1) records ≡ rs
     → StandsTo e rs (λ d. missing d ≡ None) → first_refusal (Done number) e records ≡ None
 not_refused number e [] [] is h = rw h refl
 not_refused number e (r ∷ rs) [] is h = cc

@@ -18,6 +18,7 @@ pub mod Gathering
 pub mod Stations
 pub mod BaseSeen
 pub mod Reading
+pub mod SavedBase
 pub mod Examples
 pub mod Resolve
 pub mod Columns

@@ -116,3 +116,10 @@ abbrev pub IsReadBack : Type 0
 IsReadBack = (bytes : List ℕ) (count : ℕ) (records : List (ℕ × Record)) (base : List Record) (notes : List Note) (limit : ℕ) (outcome : Outcome)
     → AreRead bytes count records → data_set (Done (count + 1)) records ≡ Ok (base, notes) → length bytes ≤ limit → IsReadAs limit bytes outcome
     → (outcome ≡ Ok (base, notes)) ⊎ FailedReader outcome
+
+-- ---- the same bytes
+
+-- the same bytes are read as the same base with the same notes, whatever the limits
+abbrev pub SameBytesSameBase : Type 0
+SameBytesSameBase = (bytes : List ℕ) (limit other : ℕ) (base these : List Record) (notes noted : List Note)
+    → IsReadAs limit bytes (Ok (base, notes)) → IsReadAs other bytes (Ok (these, noted)) → (base ≡ these) × (notes ≡ noted)

@@ -8,6 +8,7 @@ ghost use Rattle.ssim_schedule.specs.Building.{IsClosed};
 ghost use Rattle.ssim_schedule.specs.Export.{Frame};
 ghost use Rattle.ssim_schedule.specs.ReadBack.{AreInOrder, CanExport, HasFrame};
 ghost use Rattle.ssim_schedule.specs.Reading.{Answers, FailsAs, IsReadOf};
+ghost use Rattle.ssim_schedule.specs.SavedBase.{IsBaseRecords};
 ghost use Rattle.ssim_schedule.specs.Timetable.{days_of};
 
 use crate::fault::BaseFault;
@@ -169,9 +170,11 @@ impl Base {
         }
     }
 
-    /// The records, in order, with serial 0. The end of no leg record is open, and no two of one flight and leg sequence hold one date.
+    /// The records, in order: a header, a carrier, legs and segments, and a trailer. Serials and the check reference are 0; rates and
+    /// overflows are blank. The end of each leg record is a date. Two leg records of one flight and leg sequence have no date in common.
     pub fn records(&self) -> &[Record]
         ensures value { result.now ≡ self.now.records }
+        ensures is_base { IsBaseRecords result.now }
         ensures closed { All IsClosed result.now }
         ensures in_order { AreInOrder (days_of result.now) }
     {

@@ -1,6 +1,8 @@
 //! What holds of exports, for any frame and timetable.
 ghost use Rattle.ssim_schedule.specs.ReadBack.{BasesExport, BytesReadBack, BytesTell, ReadOnce, SameBytes, ReadsBack, ExportsAgain, ExportsTell, FlownSuffice, SameExport, Stands};
-ghost use Rattle.ssim_schedule.specs.Reading.{IsReadBack};
+ghost use Rattle.ssim_schedule.specs.Reading.{IsReadBack, SameBytesSameBase};
+ghost use Rattle.ssim_schedule.specs.SavedBase.{SavedCanBeRead, SavedIsOne, SavedIsRead};
+ghost use Rattle.ssim_schedule.specs.Stations.{SameBytesSameRows};
 ghost use Rattle.ssim_schedule.specs.Examples;
 
 use ssim_records::{frames_are_one, written_records_read_back};
@@ -40,6 +42,29 @@ pub fn written_bases_are_read()
 {
     frames_are_one();
 }
+
+/// The records of a base, each written and followed by LF, are read as the same records, unless the reader fails. Two bases whose
+/// records are written as the same bytes have the same records.
+pub fn saved_records_are_read()
+    ensures can_be_read { SavedCanBeRead }
+    ensures only { SavedIsRead }
+    ensures one { SavedIsOne }
+{
+    frames_are_one();
+    written_records_read_back();
+}
+
+/// The bytes of a data set are read as one base with one list of notes, whatever the limits are.
+pub fn same_bytes_same_base()
+    ensures { SameBytesSameBase }
+{
+    frames_are_one();
+}
+
+/// The bytes of a station table are read as one list of rows.
+pub fn same_bytes_same_rows()
+    ensures { SameBytesSameRows }
+{}
 
 /// A base that is read has a frame, and gives a timetable, that can be exported.
 pub fn bases_can_be_exported()
