@@ -1,11 +1,13 @@
 //! Sub-messages and their actions.
 ghost use Rattle.std.specs.Prelude.{◌≡◌, IfSome, IfNone, IfOk};
+ghost use Rattle.ssim_text.specs.Grammar.{identifier_of};
 ghost use Rattle.ssim_text.specs.Lines.{SpellsDatedFlight};
 ghost use Rattle.ssim_values.specs.Designator.{SpellsDesignator};
 
 use crate::bytes::{cut, front};
 use crate::dates::{Dates, GivenDate, date};
 use crate::equipment::Equipment;
+use crate::kind::ActionIdentifier;
 use crate::leg::Legs;
 use crate::segment::Segments;
 use ssim_values::Designator;
@@ -35,6 +37,19 @@ pub enum Action {
 }
 
 impl Action {
+    /// The action identifier.
+    pub fn identifier(&self) -> ActionIdentifier
+        ensures { result ≡ identifier_of self.now }
+    {
+        match self {
+            Action::New(_) => ActionIdentifier::New,
+            Action::Cnl => ActionIdentifier::Cnl,
+            Action::Rpl(_) => ActionIdentifier::Rpl,
+            Action::Eqt(_) => ActionIdentifier::Eqt,
+            Action::Tim(_) => ActionIdentifier::Tim,
+        }
+    }
+
     fn copy(&self) -> Result<Action, AllocError>
         ensures { IfOk result (λ copy. copy ≡ self.now) }
     {

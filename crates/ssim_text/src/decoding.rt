@@ -48,7 +48,10 @@ fn finished(alloc: Global, draft: Draft) -> Result<Message, TextFault>
 {
     let text = draft.encode(alloc)?;
     if text.len() > 65_536 {
-        return Err(TextFault::Refused(Fault::TooMany, 1));
+        return Err(TextFault::Refused {
+            fault: Fault::TooMany,
+            line: 1,
+        });
     }
     Ok(Message::of(draft, text))
 }
@@ -66,17 +69,26 @@ pub fn decode(alloc: Global, text: &[u8]) -> Result<Message, TextFault>
     ensures place { IfErr result (λ fault. IsRefusal text.now fault) }
 {
     if text.len() > 65_536 {
-        return Err(TextFault::Refused(Fault::TooMany, 1));
+        return Err(TextFault::Refused {
+            fault: Fault::TooMany,
+            line: 1,
+        });
     }
     let lines = lines_left(alloc, text)?;
     if let Some(number) = first_unprintable(&lines) {
-        return Err(TextFault::Refused(Fault::NotAscii, number as usize));
+        return Err(TextFault::Refused {
+            fault: Fault::NotAscii,
+            line: number as usize,
+        });
     }
     match read_lines(alloc, &lines) {
         Ok(draft) => finished(alloc, draft),
         Err(Refusal::NoMemory) => Err(TextFault::Memory),
         Err(Refusal::Misplaced(fault, index)) => {
-            Err(TextFault::Refused(fault, number_at(&lines, index)))
+            Err(TextFault::Refused {
+                fault,
+                line: number_at(&lines, index),
+            })
         }
     }
 }
