@@ -3,7 +3,7 @@
 ghost use Rattle.std.specs.Prelude.{◌≡◌, IfErr, OnOk};
 ghost use Rattle.ssim_schedule.specs.Export.{chapter7};
 ghost use Rattle.ssim_schedule.specs.Plan.{ReadsBackBase, Refuses, RefusesBase, Writes, WritesBase, frame_from};
-ghost use Rattle.ssim_schedule.specs.ReadBack.{AreInOrder, CanReadBack};
+ghost use Rattle.ssim_schedule.specs.ReadBack.{CanReadBack, IsTimetable};
 ghost use Rattle.ssim_schedule.specs.Schedule.{days_in};
 
 mod block;
@@ -13,6 +13,7 @@ mod plan;
 use crate::base::Base;
 use crate::export::lines::put_export;
 use crate::export::plan::{divide, measure};
+use crate::flight_table::FlightTable;
 use crate::laws::export_bytes_read_back;
 use crate::schedule::Schedule;
 use ssim_records::{Carrier, Header, Sink, Trailer};
@@ -78,13 +79,12 @@ impl Schedule {
         ensures err { IfErr result (λ fault. RefusesBase W.taken W.failures base.now.records (days_in self.now) out.old out.new fault) }
         ensures device { W.device out.new ≡ W.device out.old }
 
-        // What was written reads back to the timetable, on each date, and is exported as itself, where the legs of each date are in
-        // order: `Schedule::of` makes them so, and `Schedule::apply_sub` keeps them so.
-        ensures reads_back { OnOk result (AreInOrder (days_in self.now) → ReadsBackBase W.taken base.now.records (days_in self.now) out.old out.new) }
+        // The bytes read back to the same itinerary on each date, and the export of what was read is the same bytes.
+        ensures reads_back { OnOk result (ReadsBackBase W.taken base.now.records (days_in self.now) out.old out.new) }
     {
         export_bytes_read_back();
         export_frame(
-            self,
+            &self.table,
             base.header(),
             base.carrier(),
             base.trailer(),
@@ -96,21 +96,21 @@ impl Schedule {
 
 /// Writes the canonical export of a timetable between a header, a carrier and a trailer.
 fn export_frame<W: Sink>(
-    schedule: &Schedule,
+    table: &FlightTable,
     header: &Header,
     carrier: &Carrier,
     trailer: &Trailer,
     alloc: Global,
     out: &mut W,
 ) -> Result<(), ExportFault>
-    ensures ok { OnOk result (Writes W.taken W.failures (chapter7 (frame_from header.now carrier.now trailer.now) (days_in schedule.now)) out.old out.new) }
-    ensures err { IfErr result (λ fault. Refuses W.taken W.failures (chapter7 (frame_from header.now carrier.now trailer.now) (days_in schedule.now)) out.old out.new fault) }
+    ensures ok { OnOk result (Writes W.taken W.failures (chapter7 (frame_from header.now carrier.now trailer.now) (days_in table.now)) out.old out.new) }
+    ensures err { IfErr result (λ fault. Refuses W.taken W.failures (chapter7 (frame_from header.now carrier.now trailer.now) (days_in table.now)) out.old out.new fault) }
     ensures device { W.device out.new ≡ W.device out.old }
 
-    // Each date has an itinerary, and what was written of it is what records may have.
-    ensures readable { OnOk result (AreInOrder (days_in schedule.now) → CanReadBack (days_in schedule.now)) }
+    // The legs that were written are legs that records may have.
+    ensures readable { OnOk result (IsTimetable (days_in table.now) → CanReadBack (days_in table.now)) }
 {
-    let plan = divide(alloc, schedule.entries())?;
+    let plan = divide(alloc, table.entries())?;
     measure(&plan)?;
     match put_export(out, header, carrier, trailer, &plan) {
         Ok(()) => Ok(()),

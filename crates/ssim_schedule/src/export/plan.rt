@@ -3,13 +3,12 @@
 ghost use Rattle.std.specs.Prelude.{◌≡◌, ◌≤◌, ◌<◌, ◌+◌, List, length, None, IfOk, IfErr, IfSome, IfNone, OnOk};
 ghost use Rattle.std.specs.List.{All};
 ghost use Rattle.ssim_values.specs.Flight.{IsFlight};
-ghost use Rattle.ssim_periods.specs.Calendar.{day_count};
 ghost use Rattle.ssim_schedule.specs.Plan.{IsRefusedAs, legs_count, pieces_count, plan_of, plan_refusal};
 
 use crate::export::ExportFault;
+use crate::flight_table::{FlightPeriods, place};
 use crate::itinerary::Itinerary;
 use crate::leg::PlacedLeg;
-use crate::schedule::{FlightPeriods, place};
 use ssim_values::{Flight, Memory, Period};
 use std::alloc::Global;
 use std::marker::Model;
@@ -47,7 +46,6 @@ impl FlightPieces {
 pub(crate) fn divide(alloc: Global, entries: &[FlightPeriods]) -> Result<Vec<FlightPieces>, Memory>
     ensures plan { IfOk result (λ plan. plan.items ≡ plan_of entries.now) }
     ensures flights { OnOk result (All (λ f. IsFlight f.flight) entries.now) }
-    ensures days { OnOk result (All (λ f. length f.periods.days ≡ day_count) entries.now) }
 {
     let mut plan = Vec::with_capacity(alloc, entries.len())?;
     for entry in entries {

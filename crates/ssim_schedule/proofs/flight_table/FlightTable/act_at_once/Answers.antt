@@ -9,7 +9,7 @@ use Rattle.ssim_schedule.specs.Timetable.{Days}
 use Rattle.ssim_schedule.proofs.Acts.{counts_made, days_made}
 use Rattle.ssim_schedule.proofs.Applied.{cuts_at_ends}
 use Rattle.ssim_schedule.proofs.ChangeLemmas.{if_ok, on_ok}
-use Rattle.ssim_schedule.proofs.schedule.Schedule.act_at_once.Goals as goal
+use Rattle.ssim_schedule.proofs.flight_table.FlightTable.act_at_once.Goals as goal
 
 pub returns-clause-days : goal.returns-clause-days
 returns-clause-days c =

@@ -6,7 +6,7 @@ use Rattle.ssim_schedule.specs.Schedule.{IsAt, Table, cuts_in, days_in, no_entry
 use Rattle.ssim_schedule.specs.Timetable.{Legs}
 use Rattle.ssim_schedule.proofs.ChangeLemmas.{cuts_at, days_at, if_ok, no_days}
 use Rattle.ssim_schedule.proofs.TableLemmas.{found_at, found_in_gap}
-use Rattle.ssim_schedule.proofs.schedule.Schedule.copy_of.Goals as goal
+use Rattle.ssim_schedule.proofs.flight_table.FlightTable.copy_of.Goals as goal
 
 pub returns-in-Ok-clause-days : goal.returns-in-Ok-clause-days
 returns-in-Ok-clause-days c =

@@ -2,9 +2,9 @@
 use Rattle.std.proofs.Common.{rules}
 use Rattle.std.proofs.lemmas.List.Sorted.{answers_always}
 use Rattle.ssim_schedule.specs.ReadBack.{place_of}
-use Rattle.ssim_schedule.specs.declared.schedule.FlightPeriods.{FlightPeriods}
+use Rattle.ssim_schedule.specs.declared.flight_table.FlightPeriods.{FlightPeriods}
 use Rattle.ssim_schedule.proofs.TableLemmas.{searched}
-use Rattle.ssim_schedule.proofs.schedule.Schedule.search.Goals as goal
+use Rattle.ssim_schedule.proofs.flight_table.FlightTable.search.Goals as goal
 
 pub returns : goal.returns
 returns c =

@@ -2,7 +2,7 @@
 use Rattle.std.proofs.Common.{ap, subst, ◌∙◌}
 use Rattle.ssim_schedule.specs.Acts.{AddsPoints, acted_on}
 use Rattle.ssim_schedule.proofs.Applied.{cuts_put, days_put}
-use Rattle.ssim_schedule.proofs.schedule.Schedule.act_by_parts.Goals as goal
+use Rattle.ssim_schedule.proofs.flight_table.FlightTable.act_by_parts.Goals as goal
 
 pub returns-clause-days : goal.returns-clause-days
 returns-clause-days c =

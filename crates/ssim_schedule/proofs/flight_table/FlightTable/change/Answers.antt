@@ -7,7 +7,7 @@ use Rattle.ssim_schedule.specs.ReadBack.{place_of}
 use Rattle.ssim_schedule.specs.Schedule.{AddsOnlyAt, IsAt, Table, cuts_in, days_in, no_entry}
 use Rattle.ssim_schedule.proofs.ChangeLemmas.{cuts-set, days-set, days_at, if_ok, no_days, on_ok, own}
 use Rattle.ssim_schedule.proofs.TableLemmas.{found_at, rising_set}
-use Rattle.ssim_schedule.proofs.schedule.Schedule.change.Goals as goal
+use Rattle.ssim_schedule.proofs.flight_table.FlightTable.change.Goals as goal
 
 pub invariant_of-self : goal.invariant_of-self
 invariant_of-self g c =

@@ -7,7 +7,7 @@ use Rattle.ssim_schedule.specs.Schedule.{AddsOnlyAt, AreRising, IsGapFor, Table,
 use Rattle.ssim_schedule.specs.Timetable.{Legs}
 use Rattle.ssim_schedule.proofs.ChangeLemmas.{cuts-insert, days-insert, days_at, no_days}
 use Rattle.ssim_schedule.proofs.TableLemmas.{found_in_gap, rising_insert}
-use Rattle.ssim_schedule.proofs.schedule.Schedule.change_first.Goals as goal
+use Rattle.ssim_schedule.proofs.flight_table.FlightTable.change_first.Goals as goal
 
 pub invariant_of-self : goal.invariant_of-self
 invariant_of-self g c = subst (λ (t : Table). AreRising t) (sym c.in_err-insert.ensures.items) c.self.invariant

@@ -4,8 +4,8 @@ use Rattle.std.proofs.lemmas.List.{set-get_or}
 use Rattle.ssim_periods.specs.Days.{Seen}
 use Rattle.ssim_schedule.specs.Schedule.{AreRising, Table}
 use Rattle.ssim_schedule.specs.Timetable.{Legs}
-use Rattle.ssim_schedule.specs.declared.schedule.FlightPeriods.{FlightPeriods}
-use Rattle.ssim_schedule.proofs.schedule.Schedule.share.Goals as goal
+use Rattle.ssim_schedule.specs.declared.flight_table.FlightPeriods.{FlightPeriods}
+use Rattle.ssim_schedule.proofs.flight_table.FlightTable.share.Goals as goal
 
 same-entry : (table : Table) (i : ℕ) (f d : FlightPeriods) (p : Seen Legs) → p ≡ f.periods → f ≡ get_or table i d → set table i (record { flight = f.flight; periods = p }) ≡ table
 same-entry table i f d p periods here =

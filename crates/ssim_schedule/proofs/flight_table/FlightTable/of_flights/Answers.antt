@@ -2,7 +2,7 @@
 use Rattle.std.proofs.Common.{ap, sym, subst, ◌∙◌}
 use Rattle.ssim_schedule.specs.Schedule.{AreRising, Table, cuts_in, days_in}
 use Rattle.ssim_schedule.proofs.Unflown.{unflown-cuts, unflown-days, unflown-rise}
-use Rattle.ssim_schedule.proofs.schedule.Schedule.of_flights.Goals as goal
+use Rattle.ssim_schedule.proofs.flight_table.FlightTable.of_flights.Goals as goal
 
 pub invariant_of-result : goal.invariant_of-result
 invariant_of-result c = subst (λ (t : Table). AreRising t) (sym c.in_ok-entries.ensures) (unflown-rise 0 c.args.flights.now c.requires)

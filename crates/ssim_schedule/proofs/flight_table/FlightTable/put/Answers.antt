@@ -4,10 +4,10 @@ use Rattle.ssim_periods.specs.Days.{Seen}
 use Rattle.ssim_schedule.specs.ReadBack.{place_of}
 use Rattle.ssim_schedule.specs.Schedule.{AreRising, IsAt, IsGapFor, Table, cuts_in, days_in}
 use Rattle.ssim_schedule.specs.Timetable.{Legs}
-use Rattle.ssim_schedule.specs.declared.schedule.FlightPeriods.{FlightPeriods}
+use Rattle.ssim_schedule.specs.declared.flight_table.FlightPeriods.{FlightPeriods}
 use Rattle.ssim_schedule.proofs.ChangeLemmas.{cuts_at, days_at, no_days}
 use Rattle.ssim_schedule.proofs.TableLemmas.{found_insert, found_set, rising_insert, rising_set}
-use Rattle.ssim_schedule.proofs.schedule.Schedule.put.Goals as goal
+use Rattle.ssim_schedule.proofs.flight_table.FlightTable.put.Goals as goal
 
 pub invariant_of-self : goal.invariant_of-self
 invariant_of-self c =
