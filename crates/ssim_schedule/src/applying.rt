@@ -1,4 +1,4 @@
-//! Sub-messages act on a schedule.
+//! The effect of sub-messages on a schedule.
 
 ghost use Rattle.std.specs.Prelude.{◌≡◌, ℕ, ◌<◌, true, IfOk, OnErr, OnOk};
 ghost use Rattle.ssim_values.specs.Flight.{FlightNumber, IsFlight};

@@ -1,4 +1,4 @@
-//! The timetable of records, made from the last record to the first: so each tail is met before its leg.
+//! The timetable of records, built from the last record to the first, so that each tail comes before its leg.
 
 ghost use Rattle.std.specs.Prelude.{◌≡◌, ◌∷◌, [], List, IfOk, OnOk, Some};
 ghost use Rattle.std.specs.List.{All};
@@ -21,10 +21,10 @@ use ssim_records::{LegRecord, Record, SegmentRecord};
 use ssim_values::{Flight, Memory, Period};
 use std::alloc::Global;
 
-// How many cuts a flight may have to be shared whenever another comes.
+// A flight with fewer cuts has its itineraries shared each time that the records go on to another flight.
 const FEW: usize = 256;
 
-/// What some records at the end of a base say: their timetable, and the tails whose leg record is not among them.
+/// The timetable of some records at the end of a base, and the tails whose leg record is not among them.
 #[derive(Drop)]
 pub(crate) struct Building {
     pub table: FlightTable,
@@ -35,7 +35,7 @@ pub(crate) struct Building {
 }
 
 impl Schedule {
-    /// The timetable of a base: on each date of origin the legs of the leg records whose period holds it.
+    /// The timetable of a base: on each date of origin, the legs of the leg records whose period holds the date.
     pub fn of(base: &Base) -> Result<Schedule, Memory>
         ensures days { IfOk result (λ s. (g : FlightNumber) → IsFlight g → days_in s g ≡ days_of base.now.records g) }
 
@@ -48,7 +48,7 @@ impl Schedule {
     }
 }
 
-/// The timetable of these records, whose flights these are.
+/// The timetable of records, given the flights of their leg records.
 fn timetable(alloc: Global, records: &[Record], flights: &[Flight]) -> Result<FlightTable, Memory>
     requires closed { All IsClosed records.now }
     requires rising { Rise 0 flights.now }
@@ -70,7 +70,7 @@ fn timetable(alloc: Global, records: &[Record], flights: &[Flight]) -> Result<Fl
 impl Building {
     ghost use Rattle.ssim_schedule.specs.Built.{IsBuilt, TakesLeg, TakesSegment};
 
-    /// What no record says, with the entries of the flights that are to come.
+    /// The timetable of no records. The table has the entries of the flights that are to come.
     pub(crate) fn new(alloc: Global, table: FlightTable) -> Building
         requires days { (g : FlightNumber) → days_in table g ≡ each_day (λ _. []) }
         requires cuts { (g : FlightNumber) → cuts_in table g ≡ [] }
@@ -84,7 +84,7 @@ impl Building {
         }
     }
 
-    /// What these records and one more before them say.
+    /// Adds a record before the others.
     pub(crate) fn put(&mut self, one: &Record) -> Result<(), Memory>
         requires { IsClosed one.now }
         ensures { OnOk result ((done : List Record) → IsBuilt self.old done → IsBuilt self.new (one.now ∷ done)) }
@@ -96,8 +96,8 @@ impl Building {
         }
     }
 
-    /// Where a record is a leg of another flight than the latest, the itineraries of that are shared, if it has few cuts: files go from
-    /// flight to flight, and a flight that comes again and again costs no more than its cuts each time.
+    /// If the record is a leg of another flight than the latest, shares the itineraries of the latest flight if it has few cuts. Files
+    /// go from flight to flight, so a flight is mostly shared once, and one that comes many times costs only its cuts each time.
     pub(crate) fn leave(&mut self, one: &Record) -> Result<(), Memory>
         ensures table { self.new.table ≡ self.old.table }
         ensures waiting { self.new.waiting ≡ self.old.waiting }
@@ -112,7 +112,7 @@ impl Building {
         Ok(())
     }
 
-    /// The itineraries of the flight of the latest leg record are shared, if it has few cuts.
+    /// Shares the itineraries of the flight of the latest leg record if it has few cuts.
     pub(crate) fn leave_latest(&mut self) -> Result<(), Memory>
         ensures table { self.new.table ≡ self.old.table }
         ensures waiting { self.new.waiting ≡ self.old.waiting }
