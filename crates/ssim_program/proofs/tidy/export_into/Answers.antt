@@ -12,7 +12,7 @@ pub returns-clause-err : goal.returns-clause-err
 returns-clause-err g c = leaves_if c.export_reads_back.ensures.told g.W.Sink.taken g.W.Sink.failures c.args.base.now.records (days_in c.in_ok-schedule.schedule) c.in_ok-schedule.ensures.days c.args.out.now c.export.new.out c.export.result c.export.ensures.err
 
 pub returns-clause-again : goal.returns-clause-again
-returns-clause-again g c = grows_if g.W.Sink.taken c.args.base.now.records (days_in c.in_ok-schedule.schedule) c.in_ok-schedule.ensures.in_order c.args.out.now c.export.new.out c.export.result c.export.ensures.reads_back
+returns-clause-again g c = grows_if g.W.Sink.taken c.args.base.now.records (days_in c.in_ok-schedule.schedule) c.args.out.now c.export.new.out c.export.result c.export.ensures.reads_back
 
 pub returns-clause-why : goal.returns-clause-why
 returns-clause-why g c = no_export_if c.export_reads_back.ensures.told g.W.Sink.taken g.W.Sink.failures c.args.base.now.records (days_in c.in_ok-schedule.schedule) c.in_ok-schedule.ensures.days c.args.out.now c.export.new.out c.export.result c.export.ensures.err

@@ -1,7 +1,6 @@
 -- A flight more is planned.
-use Rattle.std.proofs.Common.{◌≡◌, length, ap, subst, ◌∙◌}
+use Rattle.std.proofs.Common.{ap, ◌∙◌}
 use Rattle.ssim_values.specs.Flight.{IsFlight}
-use Rattle.ssim_periods.specs.Calendar.{day_count}
 use Rattle.ssim_periods.specs.Days.{Seen}
 use Rattle.ssim_schedule.specs.Export.{pieces}
 use Rattle.ssim_schedule.specs.Timetable.{Legs}
@@ -17,5 +16,4 @@ loop-entry-preserved c =
     record {
       plan = planned_more entries i entry c.loop-entry.plan.items c.push.new.self.items c.in_ok-pieces.field-0.items c.loop-entry-test.true c.entry-item.is c.loop-entry.invariant.plan (c.in_ok-pieces.ensures.pieces ∙ ap (λ (p : Seen Legs). pieces p.days) c.held.ensures) c.in_ok-push.ensures.items;
       flights = all_more (λ f. IsFlight f.flight) entries i entry c.loop-entry-test.true c.entry-item.is c.loop-entry.invariant.flights c.place.ensures.flight;
-      days = all_more (λ f. length f.periods.days ≡ day_count) entries i entry c.loop-entry-test.true c.entry-item.is c.loop-entry.invariant.days (subst (λ (p : Seen Legs). length p.days ≡ day_count) c.held.ensures c.in_ok-pieces.ensures.each_day);
     }
