@@ -31,6 +31,7 @@ pub mod SavedBases
 pub mod Unflown
 pub mod ReadBackBy
 pub mod ResolveLemmas
+pub mod ResolvedOnce
 pub mod LegTexts
 pub mod LegPairs
 pub mod Acts

@@ -1,6 +1,7 @@
 //! What holds of exports, for any frame and timetable.
 ghost use Rattle.ssim_schedule.specs.ReadBack.{BasesExport, BytesReadBack, BytesTell, ReadOnce, SameBytes, ReadsBack, ExportsAgain, ExportsTell, FlownSuffice, SameExport, Stands};
 ghost use Rattle.ssim_schedule.specs.Reading.{IsReadBack, SameBytesSameBase};
+ghost use Rattle.ssim_schedule.specs.Resolve.{HasOneOutcome};
 ghost use Rattle.ssim_schedule.specs.SavedBase.{SavedCanBeRead, SavedIsOne, SavedIsRead};
 ghost use Rattle.ssim_schedule.specs.Stations.{SameBytesSameRows};
 ghost use Rattle.ssim_schedule.specs.Examples;
@@ -64,6 +65,12 @@ pub fn same_bytes_same_base()
 /// The bytes of a station table are read as one list of rows.
 pub fn same_bytes_same_rows()
     ensures { SameBytesSameRows }
+{}
+
+/// A base and a message have at most one outcome: the message with full dates, or its first refusal. So what `resolve` returns is
+/// determined by them, unless it is out of memory.
+pub fn resolving_has_one_outcome()
+    ensures { HasOneOutcome }
 {}
 
 /// A base that is read has a frame, and gives a timetable, that can be exported.
