@@ -4,6 +4,7 @@ pub mod Request
 pub mod Files
 pub mod Refusal
 pub mod Printed
+pub mod Printing
 pub mod Made
 pub mod Again
-pub mod Told
+pub mod Reasons

@@ -17,6 +17,7 @@ use Rattle.ssim_schedule.specs.declared.note.Note.TheVariants as note
 use Rattle.ssim_program.specs.Files.{Files, file_of}
 use Rattle.ssim_program.specs.Line.{Line, Text, Check, Tidy}
 use Rattle.ssim_program.specs.Printed.{printed_text}
+use Rattle.ssim_program.specs.Printing.{CountsOne}
 use Rattle.ssim_program.specs.Refusal.{refusal_of_base, refusal_text}
 use Rattle.ssim_program.specs.declared.refusal.Refusal.{Refusal}
 use Rattle.ssim_program.specs.declared.refusal.Refusal.TheVariants as refused
@@ -77,14 +78,14 @@ Makes (Tidy name) files bytes = (base : List Record) × (notes : List Note) × R
 abbrev pub Exports : List Record → Option (List ℕ) → Option (List ℕ) → Type 0
 Exports base before after = (bytes : List ℕ) × IsExportOf base bytes × Appends before after bytes
 
--- it is as it was, or took a front of the export
-abbrev pub LeavesExport : List Record → Option (List ℕ) → Option (List ℕ) → Type 0
-LeavesExport base before after = Keeps before after ⊎ ((bytes : List ℕ) × IsExportOf base bytes × TakesFront bytes before after)
+-- it is as it was; or it failed, and took a prefix of the export
+abbrev pub LeavesExport : List Record → Option (List ℕ) → Option (List ℕ) → ℕ → ℕ → Type 0
+LeavesExport base before after old new = Keeps before after ⊎ ((bytes : List ℕ) × IsExportOf base bytes × TakesFront bytes before after × CountsOne old new)
 
 -- it has grown by exactly what the command makes
 abbrev pub Writes : Line → Option Files → Option (List ℕ) → Option (List ℕ) → Type 0
 Writes line files before after = (bytes : List ℕ) × Makes line files bytes × Appends before after bytes
 
--- it is as it was; or it failed, and took a front of what the command makes
-abbrev pub Leaves : Line → Option Files → Option (List ℕ) → Option (List ℕ) → Type 0
-Leaves line files before after = Keeps before after ⊎ ((bytes : List ℕ) × Makes line files bytes × TakesFront bytes before after)
+-- it is as it was; or it failed, and took a prefix of what the command makes
+abbrev pub Leaves : Line → Option Files → Option (List ℕ) → Option (List ℕ) → ℕ → ℕ → Type 0
+Leaves line files before after old new = Keeps before after ⊎ ((bytes : List ℕ) × Makes line files bytes × TakesFront bytes before after × CountsOne old new)
