@@ -21,6 +21,7 @@ pub mod Reading
 pub mod SavedBase
 pub mod Examples
 pub mod Resolve
+pub mod Fault
 pub mod Columns
 pub mod Effect
 pub mod Acts

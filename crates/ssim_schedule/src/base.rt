@@ -7,7 +7,7 @@ ghost use Rattle.ssim_schedule.specs.BaseSeen.{AreFlights};
 ghost use Rattle.ssim_schedule.specs.Building.{IsClosed};
 ghost use Rattle.ssim_schedule.specs.Export.{Frame};
 ghost use Rattle.ssim_schedule.specs.ReadBack.{AreInOrder, CanExport, HasFrame};
-ghost use Rattle.ssim_schedule.specs.Reading.{Answers, FailsAs, IsReadOf};
+ghost use Rattle.ssim_schedule.specs.Reading.{Answers, Came, FailsAs, IsReadOf, NeverEnds};
 ghost use Rattle.ssim_schedule.specs.SavedBase.{IsBaseRecords};
 ghost use Rattle.ssim_schedule.specs.Timetable.{days_of};
 
@@ -70,6 +70,7 @@ impl Base {
         ensures rows { IfOk result (λ read. read.base.rows ≡ stations) }
         ensures no_failure { IfOk result (λ _. R.failures reader.new ≡ R.failures reader.old) }
         ensures failure { IfErr result (λ e. FailsAs (R.failures reader.old) (R.failures reader.new) e) }
+        ensures never_ends { IfErr result (λ e. NeverEnds limit (Came (R.left reader.old) (R.left reader.new) (R.came reader.old) (R.came reader.new)) e) }
     {
         let (gathering, number) = gather(alloc, reader, limit)?;
         Base::finish(alloc, gathering, number, stations)
@@ -86,6 +87,7 @@ impl Base {
         ensures read { (limit : ℕ) (told : Option (List ℕ)) → HasRead limit told gathering number → Answers result (IsReadOf limit told) }
         ensures rows { IfOk result (λ read. read.base.rows ≡ stations) }
         ensures failure { (n : ℕ) → IfErr result (λ e. FailsAs n n e) }
+        ensures never_ends { (limit old new : ℕ) (left others : Option (List ℕ)) → IfErr result (λ e. NeverEnds limit (Came left others old new) e) }
     {
         let Gathering {
             mut kept,

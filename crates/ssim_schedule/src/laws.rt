@@ -4,7 +4,9 @@ ghost use Rattle.ssim_schedule.specs.Reading.{IsReadBack, SameBytesSameBase};
 ghost use Rattle.ssim_schedule.specs.Resolve.{HasOneOutcome};
 ghost use Rattle.ssim_schedule.specs.SavedBase.{SavedCanBeRead, SavedIsOne, SavedIsRead};
 ghost use Rattle.ssim_schedule.specs.Stations.{SameBytesSameRows};
+// The examples that are worked out by computing: a false one is an error of this file.
 ghost use Rattle.ssim_schedule.specs.Examples;
+ghost use Rattle.ssim_schedule.specs.EffectExamples;
 
 use ssim_records::{frames_are_one, written_records_read_back};
 

@@ -1,6 +1,7 @@
 //! Messages resolved against a base: references with their year, sub-messages with full dates.
 
-ghost use Rattle.std.specs.Prelude.{◌≡◌, ◌⊎◌, ℕ, IsOk, IfOk, IfErr, IfSome, IfNone};
+ghost use Rattle.std.specs.Prelude.{◌≡◌, ◌⊎◌, ℕ, IsOk, IfOk, IfErr, IfSome, IfNone, Some};
+ghost use Rattle.ssim_schedule.specs.Fault.{resolve_fault_name, resolve_fault_text};
 ghost use Rattle.ssim_schedule.specs.Resolve.{AreDates, AreFaulty, AreResolved, IsFirstRefused, IsRefused, IsRefusedIn, IsResolved, IsSubRefused, Means, MeansEnd, MeansNoEnd, MeansNone, Resolves, ResolvesIn, every_day, resolve_fault_number, same_mode};
 
 use crate::base::Base;
@@ -10,7 +11,8 @@ use ssim_records::Carrier;
 use ssim_text::{Dates, GivenDate, GivenEnd, GivenPeriod, Message, Reference, Sub};
 use ssim_values::{Day, DayMask, Period, next_on_or_after};
 use std::alloc::{AllocError, AllocFailed, Global};
-use thiserror::Error;
+use std::error::Error;
+use std::fmt;
 
 /// A message with full dates: its reference, and flight and dates of its sub-messages in order.
 #[derive(Drop)]
@@ -19,23 +21,19 @@ pub struct ResolvedText {
     pub subs: Vec<ResolvedSub>,
 }
 
-/// Why a message does not resolve. Sub-messages are numbered from 1.
-#[derive(Clone, Copy, Debug, PartialEq, Eq, Error)]
+/// Why a message does not resolve. Sub-messages are numbered from 1; the number 0 is the message as a whole.
+/// A fault is displayed as its name and the sub-message: `Airline sub 1`.
+#[derive(Clone, Copy, Debug, PartialEq, Eq)]
 pub enum ResolveFault {
-    /// 90.
-    #[error("Memory")]
+    /// 90: out of memory.
     Memory,
     /// 40: the message's time mode is not that of the data set.
-    #[error("TimeMode sub 0")]
     TimeMode,
     /// 41: the sub-message names another airline than the data set's.
-    #[error("Airline sub {0}")]
     Airline(usize),
-    /// 42: a date without a year has none up to 2099; 0 stands for that of the reference.
-    #[error("NoSuchDate sub {0}")]
+    /// 42: there is no such date up to 2099. The number 0 is the date of the reference.
     NoSuchDate(usize),
     /// 43: the period's last day is before its first.
-    #[error("Period sub {0}")]
     Period(usize),
 }
 
@@ -52,7 +50,36 @@ impl ResolveFault {
             ResolveFault::Period(_) => 43,
         }
     }
+
+    /// The name by which the fault is known.
+    pub fn name(self) -> &'static str
+        ensures { result.now ≡ resolve_fault_name self }
+    {
+        match self {
+            ResolveFault::Memory => "Memory",
+            ResolveFault::TimeMode => "TimeMode",
+            ResolveFault::Airline(_) => "Airline",
+            ResolveFault::NoSuchDate(_) => "NoSuchDate",
+            ResolveFault::Period(_) => "Period",
+        }
+    }
 }
+
+impl fmt::Display for ResolveFault {
+    ghost output = { λ fault. Some (resolve_fault_text fault) };
+
+    fn fmt<W: fmt::Write>(&self, f: &mut fmt::Formatter<W>) -> fmt::Result {
+        match self {
+            ResolveFault::Memory => write!(f, "Memory"),
+            ResolveFault::TimeMode => write!(f, "TimeMode sub 0"),
+            ResolveFault::Airline(sub) => write!(f, "Airline sub {sub}"),
+            ResolveFault::NoSuchDate(sub) => write!(f, "NoSuchDate sub {sub}"),
+            ResolveFault::Period(sub) => write!(f, "Period sub {sub}"),
+        }
+    }
+}
+
+impl Error for ResolveFault {}
 
 impl From<AllocError> for ResolveFault {
     ghost use Rattle.ssim_schedule.specs.declared.resolving.ResolveFault.TheVariants.{Memory};

@@ -1,6 +1,6 @@
 //! The UTC variations of stations, from a table of lines.
 
-ghost use Rattle.std.specs.Prelude.{◌≡◌, ◌≤◌, ◌++◌, List, [], IfOk, IfErr, IfSome, IfNone, IsTrue, ◌↔◌, Ok};
+ghost use Rattle.std.specs.Prelude.{◌≡◌, ◌≤◌, ◌++◌, List, [], IfOk, IfErr, IfSome, IfNone, IsTrue, ◌↔◌, Ok, Some};
 ghost use Rattle.ssim_text.specs.Left.{lines_left, numbered};
 ghost use Rattle.ssim_text.specs.Lines.{day_in, station_in};
 ghost use Rattle.ssim_schedule.specs.Stations.{Gives, NamesLine, Row, SpellsTable, StopsAs, covers, row_of, rows_of, variation_at, variation_in};
@@ -8,22 +8,22 @@ ghost use Rattle.ssim_schedule.specs.Stations.{Gives, NamesLine, Row, SpellsTabl
 use crate::line::{cut, first_word, without_end};
 use ssim_values::{Day, Memory, Station, Variation};
 use std::alloc::{AllocFailed, Global};
+use std::error::Error;
+use std::fmt;
 use std::marker::Model;
-use thiserror::Error;
 
-/// Why bytes are no station table.
-#[derive(Clone, Copy, Debug, PartialEq, Eq, Error)]
+/// Why bytes are not a station table. It is displayed as its name and the line: `Stations line 3`.
+#[derive(Clone, Copy, Debug, PartialEq, Eq)]
 pub enum StationFault {
-    /// 90: a growth was refused for want of memory.
-    #[error("Memory")]
+    /// 90: out of memory.
     Memory,
 
-    /// 39: the line with this number, from 1, is no row.
-    #[error("Stations line {0}")]
+    /// 39: the line with this number, from 1, is not a row.
     Stations(u64),
 }
 
 impl StationFault {
+    ghost use Rattle.ssim_schedule.specs.Fault.{station_fault_name};
     ghost use Rattle.ssim_schedule.specs.Stations.{station_fault_number};
 
     /// The number by which the fault is known.
@@ -35,7 +35,32 @@ impl StationFault {
             StationFault::Stations(_) => 39,
         }
     }
+
+    /// The name by which the fault is known.
+    pub fn name(self) -> &'static str
+        ensures { result.now ≡ station_fault_name self }
+    {
+        match self {
+            StationFault::Memory => "Memory",
+            StationFault::Stations(_) => "Stations",
+        }
+    }
 }
+
+impl fmt::Display for StationFault {
+    ghost use Rattle.ssim_schedule.specs.Fault.{station_fault_text};
+
+    ghost output = { λ fault. Some (station_fault_text fault) };
+
+    fn fmt<W: fmt::Write>(&self, f: &mut fmt::Formatter<W>) -> fmt::Result {
+        match self {
+            StationFault::Memory => write!(f, "Memory"),
+            StationFault::Stations(line) => write!(f, "Stations line {line}"),
+        }
+    }
+}
+
+impl Error for StationFault {}
 
 impl<T: Drop> From<AllocFailed<T>> for StationFault {
     ghost use Rattle.ssim_schedule.specs.declared.stations.StationFault.TheVariants.{Memory};
