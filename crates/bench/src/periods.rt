@@ -1,6 +1,4 @@
-//! Times of `Periods` over numbers: 365 single days, then 1,000 and 10,000 random periods on one, and the pieces of each.
-#![tactic(auto)]
-
+//! Times of `Periods` over numbers: changes on random periods, on single days, and the pieces of each.
 ghost use Rattle.std.specs.Prelude.{◌≡◌, ℕ, nat_eq};
 ghost use Rattle.std.proofs.Common.{eqb-true, eq-eqb};
 
@@ -8,6 +6,7 @@ use ssim_periods::{Change, Memory, Periods, Value};
 use ssim_values::{Day, DayMask, Period};
 use std::alloc::Global;
 use std::marker::Model;
+use std::rt::Clock;
 use std::time::Instant;
 
 #[derive(Drop)]
@@ -73,7 +72,7 @@ fn next(seed: &mut u32) -> u32 {
     *seed >> 8
 }
 
-// One period with a value, where the numbers make one.
+// Gives the days of a period a value, if the numbers are those of a period.
 fn put(
     periods: &mut Periods<Number>,
     first: u16,
@@ -102,21 +101,14 @@ fn put(
     Ok(())
 }
 
-fn single_days(alloc: Global) -> Result<Periods<Number>, Memory> {
-    let mut periods = Periods::new(alloc);
-    for day in 9000..9365u16 {
-        put(&mut periods, day, day, 127, 1 + day as u32 % 3)?;
-    }
-    Ok(periods)
-}
-
+// `count` random periods of at most `longest` days.
 fn random(alloc: Global, count: u32, longest: u32) -> Result<Periods<Number>, Memory> {
     let mut periods = Periods::new(alloc);
     let mut seed = 7;
     for _ in 0..count {
         let first = next(&mut seed) % 36525;
-        let length = next(&mut seed) % longest.max(1);
-        let last = first.saturating_add(length).min(36524);
+        let days = next(&mut seed) % longest.max(1);
+        let last = first.saturating_add(days).min(36524);
         let bits = next(&mut seed) % 127 + 1;
         let value = next(&mut seed) % 4;
         put(&mut periods, first as u16, last as u16, bits, value)?;
@@ -124,35 +116,17 @@ fn random(alloc: Global, count: u32, longest: u32) -> Result<Periods<Number>, Me
     Ok(periods)
 }
 
-fn main(rt: HostRuntime) -> anyhow::Result<()> {
-    let alloc = rt.alloc();
-    let start = Instant::now(&rt)?;
-    let periods = single_days(alloc)?;
-    let made = start.elapsed(&rt)?;
-    let start = Instant::now(&rt)?;
-    let pieces = periods.pieces()?;
-    let read = start.elapsed(&rt)?;
-    eprintln!(rt;
-        "single days 365: apply {} us, cuts {}, pieces {} in {} us",
-        made.as_micros(),
-        periods.cuts().len(),
-        pieces.len(),
-        read.as_micros()
-    )?;
-    for (count, longest) in [
-        (1000u32, 200u32),
-        (10000, 200),
-        (1000, 36525),
-        (10000, 36525),
-    ] {
-        let start = Instant::now(&rt)?;
+/// Times changes on `count` random periods of each length, and the pieces that they leave.
+pub fn time(alloc: Global, rt: &(impl Clock + Eprint), count: u32) -> anyhow::Result<()> {
+    for longest in [1, 200, 36_525u32] {
+        let start = Instant::now(rt)?;
         let periods = random(alloc, count, longest)?;
-        let made = start.elapsed(&rt)?;
-        let start = Instant::now(&rt)?;
+        let made = start.elapsed(rt)?;
+        let start = Instant::now(rt)?;
         let pieces = periods.pieces()?;
-        let read = start.elapsed(&rt)?;
+        let read = start.elapsed(rt)?;
         eprintln!(rt;
-            "random {count} up to {longest} days: apply {} us, cuts {}, pieces {} in {} us",
+            "{count} periods of up to {longest} days: apply {} us, cuts {}, pieces {} in {} us",
             made.as_micros(),
             periods.cuts().len(),
             pieces.len(),

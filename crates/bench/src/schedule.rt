@@ -1,14 +1,12 @@
-//! Times of `Schedule::apply_sub`: 10,000 sub-messages on the flights of `data.ssim` in the current folder, each on another week.
-//! Without such a file there is nothing to time.
-#![tactic(auto)]
-
+//! Times of `Schedule::apply_sub`: sub-messages on the flights of a data set in turn, each on another week.
 use ssim_schedule::{Base, Resolved, Schedule, Stations};
 use ssim_text::{Action, decode};
 use ssim_values::{Day, DayMask, Flight, Period};
-use std::fs;
+use std::alloc::Global;
+use std::rt::Clock;
 use std::time::Instant;
 
-/// No byte of a data set comes behind this many.
+/// No byte of a data set comes after this many.
 const LIMIT: u64 = 1_000_000_000;
 
 const SUMMER: u16 = 9_220;
@@ -27,10 +25,16 @@ fn week(number: u32) -> Option<Period> {
     Period::new(first, last, days).ok()
 }
 
-/// How many of the sub-messages found their flight flying.
-fn apply(schedule: &mut Schedule, base: &Base, action: &Action, flights: &[Flight]) -> u32 {
+/// Applies `count` sub-messages with the action. Returns the number of them that acted on some date.
+fn apply(
+    schedule: &mut Schedule,
+    base: &Base,
+    action: &Action,
+    flights: &[Flight],
+    count: u32,
+) -> u32 {
     let mut acted: u32 = 0;
-    for number in 0..10_000u32 {
+    for number in 0..count {
         if flights.is_empty() {
             return acted;
         }
@@ -52,35 +56,28 @@ fn apply(schedule: &mut Schedule, base: &Base, action: &Action, flights: &[Fligh
     acted
 }
 
-fn main(rt: HostRuntime) -> anyhow::Result<()> {
-    let alloc = rt.alloc();
-    let Ok(bytes) = fs::read(&rt, "data.ssim") else {
-        println!(rt; "no file data.ssim in the current folder")?;
-        return Ok(());
-    };
-    let mut slice = bytes.as_slice();
-    let Ok(stations) = Stations::read(alloc, b"") else {
-        return Ok(());
-    };
-    let Ok(read) = Base::read(alloc, &mut slice, stations, LIMIT) else {
-        println!(rt; "data.ssim is no data set")?;
-        return Ok(());
-    };
-    let Ok(mut schedule) = Schedule::of(&read.base) else {
-        return Ok(());
-    };
+/// Times `count` sub-messages with each action on the schedule of a data set.
+pub fn time(
+    alloc: Global,
+    rt: &(impl Clock + Eprint),
+    data_set: &[u8],
+    count: u32,
+) -> anyhow::Result<()> {
+    let mut left = data_set;
+    let stations = Stations::read(alloc, b"")?;
+    let read = Base::read(alloc, &mut left, stations, LIMIT)?;
+    let mut schedule = Schedule::of(&read.base)?;
     for text in TEXTS {
-        let Ok(message) = decode(alloc, text) else {
-            return Ok(());
-        };
+        let message = decode(alloc, text)?;
         let [sub] = message.subs() else {
             return Ok(());
         };
-        let start = Instant::now(&rt)?;
-        let acted = apply(&mut schedule, &read.base, &sub.action, read.base.flights());
-        let took = start.elapsed(&rt)?;
-        println!(rt;
-            "10000 sub-messages, {acted} acted, in {} us",
+        let start = Instant::now(rt)?;
+        let flights = read.base.flights();
+        let acted = apply(&mut schedule, &read.base, &sub.action, flights, count);
+        let took = start.elapsed(rt)?;
+        eprintln!(rt;
+            "{count} sub-messages, {acted} acted, in {} us",
             took.as_micros()
         )?;
     }

@@ -1,14 +1,13 @@
-//! Times of `decode` and `encode`, in nanoseconds a byte: a short text, one of nearly 65,536 bytes with twenty leg lines in each
+//! Times of `decode` and `encode`, in picoseconds a byte: a short text, one of nearly 65,536 bytes with twenty leg lines in each
 //! sub-message, and one with 99 segment lines of full length.
-#![tactic(auto)]
-
 use ssim_text::{decode, encode};
 use std::alloc::{AllocError, Global};
+use std::rt::Clock;
 use std::time::Instant;
 
 const CANCELLED: &[u8] = b"SSM\nUTC\n01JUN00001E001\nCNL\nLX544\n01JUL25 07JUL25 2\n";
 
-const FRONT: &[u8] = b"SSM\nUTC\n01JUN00001E001\n";
+const HEAD: &[u8] = b"SSM\nUTC\n01JUN00001E001\n";
 
 const RETIMED: &[u8] = b"TIM\nLX544\n01JUL25 07JUL25 2\n";
 
@@ -26,7 +25,7 @@ fn push_times(text: &mut Vec<u8>, count: usize, line: &[u8]) -> Result<(), Alloc
 
 /// Sub-messages with twenty leg lines each, as many as 65,000 bytes hold.
 fn many_legs(alloc: Global) -> Result<Vec<u8>, AllocError> {
-    let mut text = Vec::from_slice(alloc, FRONT)?;
+    let mut text = Vec::from_slice(alloc, HEAD)?;
     text.extend_from_slice(RETIMED)?;
     push_times(&mut text, 20, LEG)?;
     for _ in 0..100 {
@@ -41,7 +40,7 @@ fn many_legs(alloc: Global) -> Result<Vec<u8>, AllocError> {
 
 /// One sub-message with 99 segment lines of 155 characters.
 fn many_segments(alloc: Global) -> Result<Vec<u8>, AllocError> {
-    let mut text = Vec::from_slice(alloc, FRONT)?;
+    let mut text = Vec::from_slice(alloc, HEAD)?;
     text.extend_from_slice(NEW)?;
     for _ in 0..99 {
         text.extend_from_slice(b"ZRHLHR 999/")?;
@@ -51,30 +50,26 @@ fn many_segments(alloc: Global) -> Result<Vec<u8>, AllocError> {
     Ok(text)
 }
 
-fn main(rt: HostRuntime) -> anyhow::Result<()> {
-    let alloc = rt.alloc();
+/// Times decoding and encoding each text `runs` times.
+pub fn time(alloc: Global, rt: &(impl Clock + Eprint), runs: u32) -> anyhow::Result<()> {
     let texts = [
-        (
-            "one cancelled flight",
-            Vec::from_slice(alloc, CANCELLED)?,
-            200_000u64,
-        ),
-        ("twenty leg lines a sub-message", many_legs(alloc)?, 200),
-        ("99 segment lines", many_segments(alloc)?, 800),
+        ("one cancelled flight", Vec::from_slice(alloc, CANCELLED)?),
+        ("twenty leg lines a sub-message", many_legs(alloc)?),
+        ("99 segment lines", many_segments(alloc)?),
     ];
-    for (name, text, times) in &texts {
-        let start = Instant::now(&rt)?;
-        for _ in 0..*times {
+    for (name, text) in &texts {
+        let start = Instant::now(rt)?;
+        for _ in 0..runs {
             decode(alloc, text)?;
         }
-        let decoded = start.elapsed(&rt)?;
+        let decoded = start.elapsed(rt)?;
         let message = decode(alloc, text)?;
-        let start = Instant::now(&rt)?;
-        for _ in 0..*times {
+        let start = Instant::now(rt)?;
+        for _ in 0..runs {
             encode(alloc, &message)?;
         }
-        let encoded = start.elapsed(&rt)?;
-        let bytes = (text.len() as u128).saturating_mul(*times as u128).max(1);
+        let encoded = start.elapsed(rt)?;
+        let bytes = (text.len() as u128).saturating_mul(runs as u128).max(1);
         eprintln!(rt;
             "{name}: {} bytes, decode {} ps a byte, encode {} ps a byte",
             text.len(),
