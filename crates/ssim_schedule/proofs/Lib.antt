@@ -29,7 +29,6 @@ pub mod BaseFrame
 pub mod Unflown
 pub mod ReadBackBy
 pub mod ResolveLemmas
-pub mod LegTexts
 pub mod LegPairs
 pub mod Acts
 pub mod Applied
