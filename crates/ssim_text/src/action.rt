@@ -13,7 +13,7 @@ use crate::segment::Segments;
 use ssim_values::Designator;
 use std::alloc::AllocError;
 
-/// What `NEW` and `RPL` put on a date.
+/// The new equipment, legs and segment data of `NEW` and `RPL`.
 #[derive(Clone, Drop)]
 pub struct NewLegs {
     pub equipment: Equipment,

@@ -157,7 +157,7 @@ fn push_flight(designator: Designator, dates: Dates, out: &mut Vec<u8>) -> Resul
     }
 }
 
-/// A text with a byte before it, and nothing where it is empty.
+/// A text with a byte before it, and nothing if it is empty.
 fn push_unless_empty(out: &mut Vec<u8>, mark: u8, text: &[u8]) -> Result<(), AllocError>
     ensures { OnOk result (out.new.items ≡ out.old.items ++ unless_empty mark text.now) }
 {
@@ -322,7 +322,7 @@ impl Sub {
     }
 }
 
-/// The sub-messages after the first, each behind a divider.
+/// The sub-messages after the first, each after a divider.
 fn push_later(out: &mut Vec<u8>, subs: &[Sub]) -> Result<(), AllocError>
     ensures { OnOk result (out.new.items ≡ out.old.items ++ written (later_parts subs.now)) }
 {

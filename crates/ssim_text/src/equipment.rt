@@ -1,4 +1,4 @@
-//! What flies a flight.
+//! The equipment of a flight.
 ghost use Rattle.std.specs.Prelude.{◌≡◌, ◌≤◌, length, IfSome, IfNone};
 ghost use Rattle.ssim_text.specs.Lines.{service_of, aircraft_of, designators_of, configuration_of, equipment_of};
 

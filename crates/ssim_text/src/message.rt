@@ -46,7 +46,7 @@ impl FreeLine {
     }
 }
 
-/// As much of a message as has been read.
+/// The part of a message that has been read.
 #[derive(Clone, Drop)]
 pub(crate) struct Draft {
     originator: Originator,
@@ -225,7 +225,7 @@ impl Message {
         Ok(Message::of(content, text))
     }
 
-    /// The originator, seven blanks where the text does not say.
+    /// The originator, seven blanks if the text has none.
     pub fn originator(&self) -> Originator
         ensures { result ≡ self.now.originator }
     {
@@ -255,8 +255,8 @@ impl Message {
         self.content.reference()
     }
 
-    /// The sub-messages, in their order: 1 to 250, each with the dates that the kind wants, 1 to 20 leg lines where it
-    /// has any, and values in their bounds.
+    /// The sub-messages, in their order: 1 to 250, each with the dates of the message's kind, 1 to 20 leg lines if its
+    /// action has any, and values in their bounds.
     pub fn subs(&self) -> &[Sub]
         ensures value { result.now ≡ self.now.subs }
         ensures shape { IsShape self.now }

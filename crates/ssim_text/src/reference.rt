@@ -16,9 +16,10 @@ use std::cmp::Ordering;
 use std::fmt;
 use std::marker::Model;
 
-/// The reference of a message, with its year. References are compared field by field, from the first. A reference is
-/// displayed as kind, date, group serial and message serial, and the originator if it is not blank: `SSM 01JUN25 00001
-/// 001`.
+/// The reference of a message, with its year. References are compared field by field, from the first.
+///
+/// It is displayed as kind, date, group serial and message serial (`SSM 01JUN25 00001 001`), and the originator if it is
+/// not blank.
 #[derive(Clone, Copy, Debug, PartialEq, Eq, PartialOrd, Ord)]
 pub struct Reference {
     /// The date of the reference, with its year.
@@ -112,7 +113,7 @@ impl CreatorReference {
 
 // ---- reading
 
-/// So many digits, as a number.
+/// The number that the digits spell, if there are `low` to `high` of them.
 pub(crate) fn digits(low: usize, high: usize, text: &[u8]) -> Option<u32>
     requires { high < 6 }
     ensures some { IfSome result (λ n. digits_in low high text.now ≡ Some n) }
@@ -183,7 +184,7 @@ impl CreatorReference {
     }
 }
 
-/// The parts of a reference line that take no memory.
+/// The parts of a reference line that allocate nothing.
 #[derive(Clone, Copy)]
 struct SerialNumbers {
     date: DayMonth,

@@ -42,7 +42,7 @@ impl SegmentText {
     }
 }
 
-/// The board and the off point, where the word is not `QQQQQQ`.
+/// The board and the off point, if the word is not `QQQQQQ`.
 fn points(word: &[u8]) -> Option<(Station, Station)>
     ensures some { IfSome result (λ p. points_of word.now ≡ Some (p.0, p.1)) }
     ensures none { IfNone result (points_of word.now ≡ None) }
