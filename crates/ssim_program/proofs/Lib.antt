@@ -8,3 +8,4 @@ pub mod Faults
 pub mod Again
 pub mod ReasonLemmas
 pub mod PrintLemmas
+pub mod Within

@@ -1,6 +1,7 @@
 pub mod Line
 pub mod Commands
 pub mod Request
+pub mod Usage
 pub mod Files
 pub mod Refusal
 pub mod Printed

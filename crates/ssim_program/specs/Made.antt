@@ -3,6 +3,7 @@ use Rattle.std.specs.Prelude.{◌≡◌, ◌⊎◌, ℕ, ◌<◌, IfSome, List, 
 use Rattle.std.specs.List.{flat_map}
 use Rattle.std.specs.Io.KnownBytes.{Appends, Keeps}
 use Rattle.ssim_values.specs.Flight.{FlightNumber}
+use Rattle.ssim_records.specs.declared.fault.RecordFault.TheVariants as record_fault
 use Rattle.ssim_records.specs.declared.record.Record.{Record}
 use Rattle.ssim_schedule.specs.Base.{Outcome}
 use Rattle.ssim_schedule.specs.BaseSeen.{AreFlights}
@@ -12,6 +13,7 @@ use Rattle.ssim_schedule.specs.Reading.{IsReadAs}
 use Rattle.ssim_schedule.specs.Sinks.{TakesFront}
 use Rattle.ssim_schedule.specs.Timetable.{days_of}
 use Rattle.ssim_schedule.specs.declared.fault.BaseFault.{BaseFault}
+use Rattle.ssim_schedule.specs.declared.fault.BaseFault.TheVariants as base
 use Rattle.ssim_schedule.specs.declared.note.Note.{Note}
 use Rattle.ssim_schedule.specs.declared.note.Note.TheVariants as note
 use Rattle.ssim_program.specs.Files.{Files, file_of}
@@ -60,12 +62,18 @@ HasFile files name bytes = IfSome files (λ all. file_of all name ≡ Some bytes
 abbrev pub ReadsFile : Option Files → Text → Outcome → Type 0
 ReadsFile files name outcome = (bytes : List ℕ) × HasFile files name bytes × IsReadAs file_limit bytes outcome
 
--- Why no base is read of it: memory is wanted; or there is no such file within the limit; or the data set is refused.
+-- a fault of the bytes: not that the reader failed (13), nor that more came than the limit (14)
+abbrev pub IsOfBytes : BaseFault → Type 0
+IsOfBytes (base.Read (record_fault.ReadFault n)) = ⊥
+IsOfBytes (base.Read (record_fault.ReaderNeverEnds n)) = ⊥
+IsOfBytes _ = Unit {0}
+
+-- Why no base is read of it: memory ran out; or there is no such file within the limit; or the data set is refused.
 abbrev pub RefusesFile : Option Files → Text → Refusal → Type 0
 RefusesFile files name refusal =
     (refusal ≡ refused.Memory)
     ⊎ ((refusal_text refusal ≡ codes "refused 91 File " ++ name) × IfSome files (λ all. IfSome (file_of all name) (λ bytes. file_limit < length bytes)))
-    ⊎ ((fault : BaseFault) × (refusal ≡ refusal_of_base fault) × ReadsFile files name (Err fault))
+    ⊎ ((fault : BaseFault) × (refusal ≡ refusal_of_base fault) × IsOfBytes fault × ReadsFile files name (Err fault))
 
 -- these are the bytes that a command makes of the files
 abbrev pub Makes : Line → Option Files → List ℕ → Type 0

@@ -1,6 +1,6 @@
 //! The program, from its words to its status.
 
-ghost use Rattle.std.specs.Prelude.{◌≡◌, ◌≤◌, ℕ, IfErr, IfOk, OnErr, OnOk, map};
+ghost use Rattle.std.specs.Prelude.{◌≡◌, ◌≤◌, ◌⊎◌, ℕ, true, false, IfErr, IfOk, OnErr, OnOk, map};
 ghost use Rattle.std.specs.Io.KnownBytes.{Keeps};
 ghost use Rattle.ssim_schedule.specs.Export.{line};
 ghost use Rattle.ssim_program.specs.Again.{WritesItself};
@@ -9,6 +9,9 @@ ghost use Rattle.ssim_program.specs.Made.{Leaves, Writes};
 ghost use Rattle.ssim_program.specs.Reasons.{IsRefused, PrintsReason, PrintsRefusal, Refuses};
 ghost use Rattle.ssim_program.specs.Refusal.{refusal_text};
 ghost use Rattle.ssim_program.specs.Request.{line_of};
+ghost use Rattle.ssim_program.specs.Usage.{HasFault, IsCommand, IsNoCommand, is_help};
+ghost use Rattle.ssim_program.specs.declared.refusal.Refusal.TheVariants as refused;
+ghost use Rattle.clap.specs.Words.{kind_of};
 
 use crate::check::check;
 use crate::command_line::{LineFault, Request, parse};
@@ -30,6 +33,8 @@ pub fn run<S: Store, O: Write, E: Write>(
 ) -> u8
     ensures status { result ≤ 2 }
     ensures known { (line : Line) → Spells (map (λ w. w.now) words.now) line → result ≤ 1 }
+    ensures named { result ≡ 0 → IsCommand (map (λ w. w.now) words.now) ⊎ HasFault (map (λ w. w.now) words.now) true }
+    ensures wrong { result ≡ 2 → HasFault (map (λ w. w.now) words.now) false ⊎ IsNoCommand (map (λ w. w.now) words.now) }
     ensures done { (line : Line) → Spells (map (λ w. w.now) words.now) line → result ≡ 0 → Writes line (S.files store.old) (O.contents out.old) (O.contents out.new) }
     ensures quiet { (line : Line) → Spells (map (λ w. w.now) words.now) line → result ≡ 0 → Keeps (E.contents err.old) (E.contents err.new) }
     ensures again { (line : Line) → Spells (map (λ w. w.now) words.now) line → result ≡ 0 → WritesItself line (O.contents out.old) (O.contents out.new) }
@@ -62,6 +67,8 @@ fn run_to<S: Store, O: Write, E: Printer>(
 ) -> u8
     ensures status { result ≤ 2 }
     ensures known { (line : Line) → Spells (map (λ w. w.now) words.now) line → result ≤ 1 }
+    ensures named { result ≡ 0 → IsCommand (map (λ w. w.now) words.now) ⊎ HasFault (map (λ w. w.now) words.now) true }
+    ensures wrong { result ≡ 2 → HasFault (map (λ w. w.now) words.now) false ⊎ IsNoCommand (map (λ w. w.now) words.now) }
     ensures done { (line : Line) → Spells (map (λ w. w.now) words.now) line → result ≡ 0 → Writes line (S.files store.old) (O.contents out.old) (O.contents out.new) }
     ensures quiet { (line : Line) → Spells (map (λ w. w.now) words.now) line → result ≡ 0 → Keeps (E.taken err.old) (E.taken err.new) }
     ensures again { (line : Line) → Spells (map (λ w. w.now) words.now) line → result ≡ 0 → WritesItself line (O.contents out.old) (O.contents out.new) }
@@ -99,6 +106,11 @@ pub fn run_on<S: Store, O: Printer, E: Printer>(
 
     // The words of a command are no fault of the command line.
     ensures known { (line : Line) → Spells (map (λ w. w.now) words.now) line → result ≤ 1 }
+
+    // Status 0 is for a command, or if help is asked for; 1 also if memory ran out; 2 for words that are wrong.
+    ensures named { result ≡ 0 → IsCommand (map (λ w. w.now) words.now) ⊎ HasFault (map (λ w. w.now) words.now) true }
+    ensures memory { result ≡ 1 → IsCommand (map (λ w. w.now) words.now) ⊎ HasFault (map (λ w. w.now) words.now) true ⊎ PrintsRefusal refused.Memory (E.taken err.old) (E.taken err.new) (E.failures err.old) (E.failures err.new) }
+    ensures wrong { result ≡ 2 → HasFault (map (λ w. w.now) words.now) false ⊎ IsNoCommand (map (λ w. w.now) words.now) }
 
     // What was done: exactly what the command makes of the file was written, and nothing else.
     ensures done { (line : Line) → Spells (map (λ w. w.now) words.now) line → result ≡ 0 → Writes line (S.files store.old) (O.taken out.old) (O.taken out.new) }
@@ -173,6 +185,8 @@ fn line_of_refusal(alloc: Global, refusal: &Refusal<'_>) -> io::Result<Vec<u8>>
 /// Prints what `clap` has to say: help on `out`, with status 0, and all else on `err`, with 2.
 fn show<O: Printer, E: Printer>(alloc: Global, error: &clap::Error, out: &mut O, err: &mut E) -> u8
     ensures status { result ≤ 2 }
+    ensures help { result ≤ 1 → is_help (kind_of error.now) ≡ true }
+    ensures wrong { result ≡ 2 → is_help (kind_of error.now) ≡ false }
     ensures devices { (O.device out.new ≡ O.device out.old) × (E.device err.new ≡ E.device err.old) }
 {
     let mut text = Vec::new(alloc);
