@@ -4,5 +4,6 @@ pub mod Maps
 pub mod Meaning
 pub mod Steps
 pub mod Reach
+pub mod Agreement
 pub mod Kept
 pub mod Examples

@@ -32,7 +32,6 @@ pub mod Unflown
 pub mod ReadBackBy
 pub mod ResolveLemmas
 pub mod ResolvedOnce
-pub mod LegTexts
 pub mod LegPairs
 pub mod Acts
 pub mod Applied

@@ -4,8 +4,8 @@ use Rattle.ssim_values.specs.Calendar.{HasDayMonth}
 use Rattle.ssim_values.specs.DayMonth.{MonthDay}
 use Rattle.ssim_values.specs.Period.{DayRange}
 use Rattle.ssim_records.specs.Carrier.{CarrierFields}
-use Rattle.ssim_records.specs.declared.carrier.TimeMode.TheVariants as record_mode
-use Rattle.ssim_records.specs.declared.carrier.TimeMode.{TimeMode as RecordMode}
+use Rattle.ssim_records.specs.declared.time_mode.TimeMode.TheVariants as record_mode
+use Rattle.ssim_records.specs.declared.time_mode.TimeMode.{TimeMode as RecordMode}
 use Rattle.ssim_records.specs.declared.record.Record.{Record}
 use Rattle.ssim_text.specs.Message.{MessageValue}
 use Rattle.ssim_text.specs.declared.action.Sub.{Sub}
