@@ -1,4 +1,4 @@
-//! What the program answers where a case in plain text cannot say it: readers that fail, and the text of `clap`.
+//! Tests that cannot be cases in plain text: readers that fail, and command lines, whose text is that of `clap`.
 
 use crate::data::*;
 use crate::{MemoryStore, Pieces};
