@@ -5,3 +5,13 @@ pub mod Meanings
 pub mod Taking
 pub mod Reaching
 pub mod Shown
+pub mod Trails
+pub mod Entries
+pub mod Searching
+pub mod Changes
+pub mod Meant
+pub mod Merged
+pub mod Unions
+pub mod Exports
+pub mod Brought
+pub mod Lines

@@ -5,4 +5,8 @@ pub mod Meaning
 pub mod Steps
 pub mod Reach
 pub mod Kept
+pub mod Trail
+pub mod Lookup
+pub mod Union
+pub mod Desk
 pub mod Examples

@@ -1,6 +1,6 @@
-//! Messages that are held.
+//! Messages that a desk holds.
 
-ghost use Rattle.std.specs.Prelude.{◌≡◌, IfOk};
+ghost use Rattle.std.specs.Prelude.{◌≡◌, length, IfOk};
 ghost use Rattle.ssim_text.specs.Canonical.{canonical};
 
 use ssim_schedule::ResolvedSub;
@@ -8,10 +8,24 @@ use ssim_text::{Message, Reference, encode};
 use ssim_values::Memory;
 use std::alloc::Global;
 use std::marker::Model;
+use std::rc::Rc;
 
-/// A message that a desk holds: its reference with its year, and its canonical text.
+/// A message that a desk holds: its reference with its year, and its canonical text. Desks that hold the same message may share it.
 #[derive(Drop)]
 pub struct Held {
+    contents: Rc<Contents>,
+}
+
+impl Model for Held {
+    ghost use Rattle.ssim_desk.specs.Kept.{Entry};
+
+    ghost Value = { Entry };
+
+    ghost view = { λ h. h.contents.value };
+}
+
+#[derive(Drop)]
+struct Contents {
     reference: Reference,
     message: Message,
     text: Vec<u8>,
@@ -19,8 +33,8 @@ pub struct Held {
     dates: Vec<ResolvedSub>,
 }
 
-impl Model for Held {
-    ghost use Rattle.std.specs.Prelude.{◌≡◌};
+impl Model for Contents {
+    ghost use Rattle.std.specs.Prelude.{◌≡◌, length};
     ghost use Rattle.ssim_desk.specs.Kept.{Entry};
     ghost use Rattle.ssim_text.specs.Canonical.{canonical};
 
@@ -28,64 +42,94 @@ impl Model for Held {
 
     ghost view = { λ h. record { reference = h.reference; message = h.message; dates = h.dates.items } };
 
-    ghost invariant = { λ h. h.text.items ≡ canonical h.message };
+    ghost invariant = { λ h. (h.text.items ≡ canonical h.message) × (length h.dates.items ≡ length h.message.subs) };
+}
+
+impl Contents {
+    fn reference(&self) -> Reference
+        ensures { result ≡ self.now.reference }
+    {
+        self.reference
+    }
+
+    fn message(&self) -> &Message
+        ensures { result.now ≡ self.now.message }
+    {
+        &self.message
+    }
+
+    fn text(&self) -> &[u8]
+        ensures { result.now ≡ canonical self.now.message }
+    {
+        &self.text
+    }
+
+    fn dates(&self) -> &[ResolvedSub]
+        ensures value { result.now ≡ self.now.dates }
+        ensures each { length result.now ≡ length self.now.message.subs }
+    {
+        &self.dates
+    }
 }
 
 impl Held {
+    /// A message with its reference and the full dates of its sub-messages.
     pub(crate) fn of(
         alloc: Global,
         reference: Reference,
         message: Message,
         dates: Vec<ResolvedSub>,
     ) -> Result<Held, Memory>
+        requires { length dates.items ≡ length message.subs }
         ensures { IfOk result (λ held. held ≡ record { reference = reference; message = message; dates = dates.items }) }
     {
         let text = encode(alloc, &message)?;
-        Ok(Held {
+        let contents = Contents {
             reference,
             message,
             text,
             dates,
+        };
+        Ok(Held {
+            contents: Rc::new(alloc, contents)?,
         })
     }
 
-    /// An equal one.
-    pub(crate) fn copy(&self, alloc: Global) -> Result<Held, Memory>
+    /// An equal one, which shares its contents.
+    pub(crate) fn copy(&self) -> Result<Held, Memory>
         ensures { IfOk result (λ copy. copy ≡ self.now) }
     {
         Ok(Held {
-            reference: self.reference,
-            message: self.message.copy(alloc)?,
-            text: Vec::from_slice(alloc, &self.text)?,
-            dates: Vec::from_slice(alloc, &self.dates)?,
+            contents: self.contents.clone()?,
         })
     }
 
-    /// The reference under which it is held.
+    /// The reference under which the message is held.
     pub fn reference(&self) -> Reference
         ensures { result ≡ self.now.reference }
     {
-        self.reference
+        self.contents.reference()
     }
 
     /// The message.
     pub fn message(&self) -> &Message
         ensures { result.now ≡ self.now.message }
     {
-        &self.message
+        self.contents.message()
     }
 
-    /// Its canonical text.
+    /// The canonical text of the message.
     pub fn text(&self) -> &[u8]
         ensures { result.now ≡ canonical self.now.message }
     {
-        &self.text
+        self.contents.text()
     }
 
     /// Flight and full dates of each of its sub-messages, in their order.
     pub(crate) fn dates(&self) -> &[ResolvedSub]
-        ensures { result.now ≡ self.now.dates }
+        ensures value { result.now ≡ self.now.dates }
+        ensures each { length result.now ≡ length self.now.message.subs }
     {
-        &self.dates
+        self.contents.dates()
     }
 }

@@ -11,12 +11,20 @@
 //! a schedule. The desk itself is to come.
 #![tactic(auto)]
 
+mod desk;
 mod fault;
+mod finding_line;
 mod held;
 pub mod laws;
+mod lookup;
 mod replay;
 mod steps;
+mod tail;
+mod trail;
+mod union;
 
+pub use desk::{Desk, Took};
 pub use fault::DeskFault;
+pub use finding_line::FindingLine;
 pub use held::Held;
 pub use steps::{Answer, Step};
