@@ -1,9 +1,13 @@
 pub mod MapLemmas
+pub mod HeldEntries
 pub mod References
 pub mod Resolving
 pub mod Meanings
 pub mod Taking
 pub mod Reaching
+pub mod Moments
+pub mod SameBytes
+pub mod Agreeing
 pub mod Shown
 pub mod Trails
 pub mod Entries

@@ -1,25 +1,32 @@
--- Each desk holds what it held and what reached it: step by step, and so after any run.
-use Rattle.std.proofs.Common.{◌≡◌, ◌≢◌, ◌⊎◌, inl, inr, ℕ, ◌<◌, ◌↔◌, ◌==◌, Bool, true, false, List, [], ◌∷◌, length, Option, Some, None, All, refl, sym, ap, subst, ◌∙◌}
+-- Each desk holds what it held and what reached it, step by step.
+use Rattle.std.proofs.Common.{◌≡◌, ◌≢◌, ◌⊎◌, inl, inr, ℕ, ◌<◌, ◌↔◌, ◌==◌, Bool, true, false, List, length, Some, refl, sym, ap, subst, ◌∙◌}
 use Rattle.std.proofs.lemmas.Bool.{cases_eq}
 use Rattle.std.proofs.lemmas.Bool.Decides.{Decides-eqb}
 use Rattle.std.proofs.lemmas.List.{get_or-set_same, get_or-set_other, length-set}
-use Rattle.std.proofs.lemmas.List.Elements.{recursion_from_All}
-use Rattle.std.specs.List.{AllByRecursion}
-use Rattle.std.specs.FinMap.{get, same_map}
+use Rattle.std.specs.FinMap.{get}
 use Rattle.ssim_text.specs.Grammar.{OneMessage}
 use Rattle.ssim_text.specs.Message.{MessageValue}
 use Rattle.ssim_text.specs.declared.reference.Reference.{Reference}
-use Rattle.ssim_desk.specs.Held.{DeskState, Held, Holds, Says, no_desk}
-use Rattle.ssim_desk.specs.Meaning.{Means}
-use Rattle.ssim_desk.specs.Reach.{Brings, HoldsWhatReached, Reached, ReachedAfter, Reaching, SameDeskSameMeaning, SameMessagesSameDesk, is_accepted}
-use Rattle.ssim_desk.specs.Steps.{Acts, IsInRange, MergesOne, Runs, TakesAt, desk_at, with_held}
+use Rattle.ssim_desk.specs.Held.{DeskState, HeldMessages, Holds, Says, no_desk}
+use Rattle.ssim_desk.specs.Reach.{is_accepted}
+use Rattle.ssim_desk.specs.Steps.{Acts, IsInRange, MergesOne, TakesAt, desk_at, with_held}
 use Rattle.ssim_desk.specs.declared.steps.Answer.{Answer}
 use Rattle.ssim_desk.specs.declared.steps.Answer.TheVariants.{Merged}
 use Rattle.ssim_desk.specs.declared.steps.Step.{Step}
 use Rattle.ssim_desk.specs.declared.steps.Step.TheVariants.{Take, Merge}
-use Rattle.ssim_desk.proofs.Meanings.{has_one_meaning}
-use Rattle.ssim_desk.proofs.References.{reference_apart, reference_total}
 use Rattle.ssim_desk.proofs.Taking.{merge_holds, take_holds}
+
+-- which messages, each under its reference, have reached which desks
+abbrev pub Reaching : Type 1
+Reaching = ℕ → Reference → MessageValue → Type 0
+
+-- what a step with this answer adds to what has reached the desks
+abbrev pub Adds : List DeskState → Reaching → Step → Answer → Reaching
+Adds start so_far (Take i text) answer d reference message =
+    let desk = desk_at start i in
+    (d ≡ i) × ((is_accepted answer ≡ true) × Says desk.base text.items reference message)
+Adds start so_far (Merge into from) answer d reference message =
+    (d ≡ into) × ((answer ≡ Merged) × (Holds (desk_at start from) reference message ⊎ so_far from reference message))
 
 -- so far, each desk has its base, and holds what it held at the start and what reached it
 pub record SoFar (start now : List DeskState) (reached : Reaching) : Type 0 where
@@ -29,10 +36,10 @@ pub record SoFar (start now : List DeskState) (reached : Reaching) : Type 0 wher
 
 -- ---- one desk is written
 
-at_same : (now : List DeskState) (i : ℕ) (held : Held) → i < length now → (let x = desk_at (with_held now i held) i in x.held ≡ held)
+at_same : (now : List DeskState) (i : ℕ) (held : HeldMessages) → i < length now → (let x = desk_at (with_held now i held) i in x.held ≡ held)
 at_same now i held within = ap (λ (x : DeskState). x.held) (get_or-set_same now i _ no_desk within)
 
-base_same : (now : List DeskState) (i : ℕ) (held : Held) → i < length now → (d : ℕ) → (let x = desk_at (with_held now i held) d in let y = desk_at now d in x.base ≡ y.base)
+base_same : (now : List DeskState) (i : ℕ) (held : HeldMessages) → i < length now → (d : ℕ) → (let x = desk_at (with_held now i held) d in let y = desk_at now d in x.base ≡ y.base)
 base_same now i held within d = by (cases_eq d i)
   where
     by : ((d ≡ i) ⊎ (d ≢ i)) → (let x = desk_at (with_held now i held) d in let y = desk_at now d in x.base ≡ y.base)
@@ -40,7 +47,7 @@ base_same now i held within d = by (cases_eq d i)
     by (inr apart) = ap (λ (x : DeskState). x.base) (get_or-set_other now i d _ no_desk apart)
 
 -- a desk that holds what it held and what was brought
-put_holds : (start now : List DeskState) (reached : Reaching) (i : ℕ) (held : Held) (Q : Reference → MessageValue → Type 0) → i < length start → SoFar start now reached
+put_holds : (start now : List DeskState) (reached : Reaching) (i : ℕ) (held : HeldMessages) (Q : Reference → MessageValue → Type 0) → i < length start → SoFar start now reached
     → ((r : Reference) (m : MessageValue) → (get held r ≡ Some m) ↔ (Holds (desk_at now i) r m ⊎ Q r m))
     → SoFar start (with_held now i held) (λ d r m. reached d r m ⊎ ((d ≡ i) × Q r m))
 put_holds start now reached i held Q within far brought =
@@ -121,58 +128,28 @@ merge_keeps start now after reached into from answer to of false e is far =
     back r m (inl h) = inl h
     back r m (inr p) = inr (p.0, (far.holds from r m of).1 p.1)
 
-step_keeps : OneMessage → (start now after : List DeskState) (reached : Reaching) (step : Step) (answer : Answer) → IsInRange (length start) step → Acts now step answer after
-    → SoFar start now reached → SoFar start after (λ d r m. reached d r m ⊎ Brings start reached step answer d r m)
+pub step_keeps : OneMessage → (start now after : List DeskState) (reached : Reaching) (step : Step) (answer : Answer) → IsInRange (length start) step → Acts now step answer after
+    → SoFar start now reached → SoFar start after (λ d r m. reached d r m ⊎ Adds start reached step answer d r m)
 step_keeps one start now after reached (Take i text) answer within is far = take_keeps one start now after reached i text.items answer within is far
 step_keeps one start now after reached (Merge into from) answer within is far = merge_keeps start now after reached into from answer within.0 within.1 (into == from) refl is far
 
-run_keeps : OneMessage → (start now after : List DeskState) (reached : Reaching) (steps : List Step) (answers : List Answer) → AllByRecursion (IsInRange (length start)) steps → Runs now steps answers after
-    → SoFar start now reached → SoFar start after (ReachedAfter start reached steps answers)
-run_keeps one start now after reached [] [] within runs far = subst (λ x. SoFar start x reached) (sym runs) far
-run_keeps one start now after reached [] (answer ∷ answers) within runs far = absurd runs
-run_keeps one start now after reached (step ∷ steps) [] within runs far = absurd runs
-run_keeps one start now after reached (step ∷ steps) (answer ∷ answers) within (between, acts, runs) far =
-    run_keeps one start between after (λ d r m. reached d r m ⊎ Brings start reached step answer d r m) steps answers within.1 runs (step_keeps one start now between reached step answer within.0 acts far)
-
--- ---- runs
-
-at_start : (start : List DeskState) → SoFar start start (λ d r m. ⊥)
-at_start start = record { count = refl; base = λ d. refl; holds = λ d r m lt. (inl, λ s. only s) }
+-- at the start nothing has reached a desk
+pub at_start : (start : List DeskState) (reached : Reaching) → ((d : ℕ) (r : Reference) (m : MessageValue) → reached d r m → ⊥) → SoFar start start reached
+at_start start reached none = record { count = refl; base = λ d. refl; holds = λ d r m lt. (inl, λ s. only d r m s) }
   where
-    only : {A : Type 0} → A ⊎ ⊥ → A
-    only (inl a) = a
-    only (inr never) = absurd never
+    only : (d : ℕ) (r : Reference) (m : MessageValue) → Holds (desk_at start d) r m ⊎ reached d r m → Holds (desk_at start d) r m
+    only d r m (inl a) = a
+    only d r m (inr h) = absurd (none d r m h)
 
--- at the end of a run
-at_end : OneMessage → (start after : List DeskState) (steps : List Step) (answers : List Answer) → All (IsInRange (length start)) steps → Runs start steps answers after → SoFar start after (Reached start steps answers)
-at_end one start after steps answers within runs = run_keeps one start start after (λ d r m. ⊥) steps answers (recursion_from_All (IsInRange (length start)) steps within) runs (at_start start)
+one_side : {A B C : Type 0} → (B → C) → A ⊎ B → A ⊎ C
+one_side f (inl a) = inl a
+one_side f (inr b) = inr (f b)
 
-pub holds_what_reached : OneMessage → HoldsWhatReached
-holds_what_reached one start after steps answers within runs d r m lt = (at_end one start after steps answers within runs).holds d r m lt
-
-same_option : (a b : Option MessageValue) → ((m : MessageValue) → a ≡ Some m → b ≡ Some m) → ((m : MessageValue) → b ≡ Some m → a ≡ Some m) → a ≡ b
-same_option None None f g = refl
-same_option None (Some y) f g = g y refl
-same_option (Some x) b f g = sym (f x refl)
-
-same_desk : (v w : DeskState) → v.base ≡ w.base → ((r : Reference) (m : MessageValue) → Holds v r m → Holds w r m) → ((r : Reference) (m : MessageValue) → Holds w r m → Holds v r m) → v ≡ w
-same_desk v w base f g =
-    let held : v.held ≡ w.held = same_map reference_total reference_apart v.held w.held (λ q. same_option (get v.held q) (get w.held q) (f q) (g q)) in
-    λ i. record { base = base i; held = held i }
-
-one_side : {A B C D : Type 0} → (A → C) → (B → D) → A ⊎ B → C ⊎ D
-one_side f g (inl a) = inl (f a)
-one_side f g (inr b) = inr (g b)
-
-pub same_messages_same_desk : OneMessage → SameMessagesSameDesk
-same_messages_same_desk one here there d e took =
-    let mine = at_end one here.start here.after here.steps here.answers here.in_range here.runs in
-    let theirs = at_end one there.start there.after there.steps there.answers there.in_range there.runs in
-    same_desk (desk_at here.after d) (desk_at there.after e)
-    (mine.base d ∙ ap (λ (x : DeskState). x.base) took.began ∙ sym (theirs.base e))
-    (λ r m h. (theirs.holds e r m took.there).1 (one_side (λ k. ap (λ (x : DeskState). get x.held r) (sym took.began) ∙ k) (took.reached r m).0 ((mine.holds d r m took.here).0 h)))
-    (λ r m h. (mine.holds d r m took.here).1 (one_side (λ k. ap (λ (x : DeskState). get x.held r) took.began ∙ k) (took.reached r m).1 ((theirs.holds e r m took.there).0 h)))
-
-pub same_desk_same_meaning : OneMessage → SameDeskSameMeaning
-same_desk_same_meaning one run other d e here there took means_here means_there =
-    has_one_meaning (desk_at other.after e) here there (subst (λ x. Means x here) (same_messages_same_desk one run other d e took) means_here) means_there
+-- the same said of what has reached the desks in other words
+pub so_far_too : (start now : List DeskState) (reached others : Reaching) → ((d : ℕ) (r : Reference) (m : MessageValue) → reached d r m → others d r m)
+    → ((d : ℕ) (r : Reference) (m : MessageValue) → others d r m → reached d r m) → SoFar start now reached → SoFar start now others
+so_far_too start now reached others to of far = record {
+  count = far.count;
+  base = far.base;
+  holds = λ d r m lt. (λ h. one_side (to d r m) ((far.holds d r m lt).0 h), λ s. (far.holds d r m lt).1 (one_side (of d r m) s));
+}

@@ -10,7 +10,7 @@ use Rattle.ssim_schedule.specs.Resolve.{ResolvesIn}
 use Rattle.ssim_text.specs.Grammar.{OneMessage}
 use Rattle.ssim_text.specs.Message.{MessageValue}
 use Rattle.ssim_text.specs.declared.reference.Reference.{Reference}
-use Rattle.ssim_desk.specs.Held.{DeskState, Held, Says, reference_cmp}
+use Rattle.ssim_desk.specs.Held.{DeskState, HeldMessages, Says, reference_cmp}
 use Rattle.ssim_desk.specs.Reach.{is_accepted}
 use Rattle.ssim_desk.specs.Steps.{Merges, Takes}
 use Rattle.ssim_desk.specs.declared.steps.Answer.{Answer}
@@ -50,7 +50,7 @@ tied_self : (q r : Reference) → q ≡ r → eq_by_cmp reference_cmp q r ≡ tr
 tied_self q r e = ap (eq_by_cmp reference_cmp q) (sym e) ∙ (eq_by_cmp_equiv reference_total).refl q
 
 -- what a text adds
-pub take_holds : OneMessage → (desk : DeskState) (text : List ℕ) (answer : Answer) (held : Held) → Takes desk text answer held
+pub take_holds : OneMessage → (desk : DeskState) (text : List ℕ) (answer : Answer) (held : HeldMessages) → Takes desk text answer held
     → (r : Reference) (m : MessageValue) → (get held r ≡ Some m) ↔ ((get desk.held r ≡ Some m) ⊎ ((is_accepted answer ≡ true) × Says desk.base text r m))
 take_holds one desk text Taken held is r m =
     (λ h. there (eq_by_cmp reference_cmp r is.reference) refl (sym found ∙ h), λ s. found ∙ back (eq_by_cmp reference_cmp r is.reference) refl s)
@@ -86,7 +86,7 @@ take_holds one desk text (Refused fault) held is r m =
 -- ---- another desk
 
 -- what a merge adds
-pub merge_holds : (mine theirs : DeskState) (answer : Answer) (held : Held) → Merges mine theirs answer held
+pub merge_holds : (mine theirs : DeskState) (answer : Answer) (held : HeldMessages) → Merges mine theirs answer held
     → (r : Reference) (m : MessageValue) → (get held r ≡ Some m) ↔ ((get mine.held r ≡ Some m) ⊎ ((answer ≡ Merged) × (get theirs.held r ≡ Some m)))
 merge_holds mine theirs Taken held is r m = absurd is
 merge_holds mine theirs Repeated held is r m = absurd is

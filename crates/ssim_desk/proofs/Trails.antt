@@ -3,8 +3,7 @@ use Rattle.std.proofs.Common.{◌≡◌, ◌≢◌, ◌≤◌, ◌<◌, ◌+◌,
 use Rattle.std.proofs.lemmas.Grind.{common_steps}
 use Rattle.std.proofs.lemmas.List.{take-append-le, take_all, length-take, append-nil}
 use Rattle.ssim_schedule.specs.BaseSeen.{BaseSeen}
-use Rattle.ssim_schedule.specs.ReadBack.{AreInOrder}
-use Rattle.ssim_schedule.specs.Schedule.{Table, days_in}
+use Rattle.ssim_schedule.specs.Schedule.{Table}
 use Rattle.ssim_schedule.specs.Stations.{Row}
 use Rattle.ssim_schedule.specs.declared.finding.Finding.{Finding}
 use Rattle.ssim_desk.specs.Kept.{Entry, Shows, after_entries, after_entry, entries_findings}
@@ -85,8 +84,8 @@ module _ (base : BaseSeen) (before : List Entry) (e : Entry) where
   pub found_more : found_by base (before ++ e ∷ []) ≡ found_by base before ++ subs_findings base.rows e.message.subs e.dates (left_by base before) ∷ []
   found_more = findings-++ base.rows before (e ∷ []) _
 
-  pub after_more : (s : Table) → Shows s (after_entry base.rows e (left_by base before)) → AreInOrder (days_in s) → IsAfter base (before ++ e ∷ []) s
-  after_more s shows in_order = record { shows = subst (Shows s) (sym left_more) shows; in_order = in_order }
+  pub after_more : (s : Table) → Shows s (after_entry base.rows e (left_by base before)) → IsAfter base (before ++ e ∷ []) s
+  after_more s shows = record { shows = subst (Shows s) (sym left_more) shows }
 
   pub found_next : (from : ℕ) (found : List (List Finding)) (one : List Finding) → from ≤ length before → found_by base (take from before) ++ found ≡ found_by base before
       → one ≡ subs_findings base.rows e.message.subs e.dates (left_by base before)

@@ -13,7 +13,7 @@ use Rattle.ssim_schedule.specs.declared.resolving.ResolvedText.{ResolvedText}
 use Rattle.ssim_text.specs.Message.{MessageValue}
 use Rattle.ssim_text.specs.declared.reference.Reference.{Reference}
 use Rattle.ssim_values.specs.Flight.{FlightNumber, IsFlight}
-use Rattle.ssim_desk.specs.Held.{DeskState, Held, reference_cmp}
+use Rattle.ssim_desk.specs.Held.{DeskState, HeldMessages, reference_cmp}
 use Rattle.ssim_desk.specs.Meaning.{Timetable, after_subs, subs_findings}
 
 -- a message that is held, with its reference and the full dates of its sub-messages
@@ -34,7 +34,7 @@ keyed [] = []
 keyed (e ∷ entries) = (e.reference, e.message) ∷ keyed entries
 
 -- the map that entries in order of reference make
-abbrev pub map_of : List Entry → Held
+abbrev pub map_of : List Entry → HeldMessages
 map_of entries = from_sorted (keyed entries)
 
 -- a desk, as steps and laws speak of it

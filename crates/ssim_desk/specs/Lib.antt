@@ -4,6 +4,7 @@ pub mod Maps
 pub mod Meaning
 pub mod Steps
 pub mod Reach
+pub mod Agreement
 pub mod Kept
 pub mod Trail
 pub mod Lookup

@@ -1,10 +1,12 @@
 -- What each flight has on each date, by what a desk holds.
-use Rattle.std.specs.Prelude.{◌≡◌, ℕ, ◌&&◌, if◌then◌else◌, List, [], ◌∷◌}
+use Rattle.std.specs.Prelude.{◌≡◌, ℕ, ◌&&◌, if◌then◌else◌, List, [], ◌∷◌, Result}
 use Rattle.std.specs.FinMap.{values}
 use Rattle.ssim_periods.specs.Calendar.{holds}
 use Rattle.ssim_periods.specs.Days.{each_day}
 use Rattle.ssim_records.specs.declared.record.Record.{Record}
 use Rattle.ssim_schedule.specs.Acts.{after_on, finding_of}
+use Rattle.ssim_schedule.specs.Export.{ExportRefusal, Frame, chapter7}
+use Rattle.ssim_schedule.specs.ReadBack.{HasFrame}
 use Rattle.ssim_schedule.specs.Resolve.{ResolvesIn}
 use Rattle.ssim_schedule.specs.Stations.{Row}
 use Rattle.ssim_schedule.specs.Timetable.{Legs, itinerary, same_flight}
@@ -15,7 +17,7 @@ use Rattle.ssim_text.specs.Message.{MessageValue}
 use Rattle.ssim_text.specs.declared.action.Action.{Action}
 use Rattle.ssim_text.specs.declared.action.Sub.{Sub}
 use Rattle.ssim_values.specs.Flight.{FlightNumber}
-use Rattle.ssim_desk.specs.Held.{DeskState}
+use Rattle.ssim_desk.specs.Held.{DeskState, IsDesk}
 
 -- what each flight has on each date
 abbrev pub Timetable : Type 0
@@ -74,6 +76,28 @@ pub record Finds (desk : DeskState) (findings : List (List Finding)) : Type 0 wh
   pub resolved : ResolveTo desk.base.records (values desk.held) texts
   pub found : findings ≡ messages_findings desk.base.rows (values desk.held) texts (itinerary desk.base.records)
 
--- a desk has at most one meaning
+-- every desk has a meaning
+abbrev pub HasMeaning : Type 0
+HasMeaning = (desk : DeskState) → IsDesk desk → (timetable : Timetable) × Means desk timetable
+
+-- and only one
 abbrev pub HasOneMeaning : Type 0
 HasOneMeaning = (desk : DeskState) (one other : Timetable) → Means desk one → Means desk other → one ≡ other
+
+-- ---- the export of a desk
+
+-- the answer to an export: the chapter 7 bytes of the desk's meaning, or why it has none
+pub record Exports (desk : DeskState) (answer : Result (List ℕ) ExportRefusal) : Type 0 where
+  pub frame : Frame
+  pub has_frame : HasFrame frame desk.base.records
+  pub timetable : Timetable
+  pub means : Means desk timetable
+  pub exported : answer ≡ chapter7 frame (λ flight. each_day (timetable flight))
+
+-- every desk has an answer
+abbrev pub HasExport : Type 0
+HasExport = (desk : DeskState) → IsDesk desk → (answer : Result (List ℕ) ExportRefusal) × Exports desk answer
+
+-- and only one
+abbrev pub HasOneExport : Type 0
+HasOneExport = (desk : DeskState) (one other : Result (List ℕ) ExportRefusal) → Exports desk one → Exports desk other → one ≡ other

@@ -1,9 +1,11 @@
 -- Which messages reach which desks.
-use Rattle.std.specs.Prelude.{◌≡◌, ◌⊎◌, ◌<◌, ◌↔◌, ℕ, Bool, true, false, List, [], ◌∷◌, length, All}
+use Rattle.std.specs.Prelude.{◌≡◌, ◌⊎◌, ◌<◌, ◌↔◌, ℕ, Bool, true, false, List, length, All, Some}
+use Rattle.std.specs.List.{slice_get}
+use Rattle.std.specs.declared.alloc.Global.{Global}
+use Rattle.std.specs.declared.vec.Vec.{Vec}
 use Rattle.ssim_text.specs.Message.{MessageValue}
 use Rattle.ssim_text.specs.declared.reference.Reference.{Reference}
 use Rattle.ssim_desk.specs.Held.{DeskState, Holds, Says}
-use Rattle.ssim_desk.specs.Meaning.{Means, Timetable}
 use Rattle.ssim_desk.specs.Steps.{IsInRange, Runs, desk_at}
 use Rattle.ssim_desk.specs.declared.steps.Answer.{Answer}
 use Rattle.ssim_desk.specs.declared.steps.Answer.TheVariants.{Taken, Repeated, Merged, Refused}
@@ -17,29 +19,30 @@ is_accepted Repeated = true
 is_accepted Merged = false
 is_accepted (Refused fault) = false
 
--- which messages, each under its reference, have reached which desks
-abbrev pub Reaching : Type 1
-Reaching = ℕ → Reference → MessageValue → Type 0
+-- the step with this number, counted from 0, and its answer
+abbrev pub IsStep : List Step → List Answer → ℕ → Step → Answer → Type 0
+IsStep steps answers k step answer = (slice_get steps k ≡ Some step) × (slice_get answers k ≡ Some answer)
 
--- by a step that has this answer: the message of a text that is accepted; or, where desks are merged, whatever had reached the other or
--- was held there at the start
-abbrev pub Brings : List DeskState → Reaching → Step → Answer → Reaching
-Brings start so_far (Take i text) answer d reference message =
-    let desk = desk_at start i in
-    (d ≡ i) × ((is_accepted answer ≡ true) × Says desk.base text.items reference message)
-Brings start so_far (Merge into from) answer d reference message =
-    (d ≡ into) × ((answer ≡ Merged) × (Holds (desk_at start from) reference message ⊎ so_far from reference message))
+-- the text says the message to the desk with this number
+abbrev pub SaysTo : List DeskState → ℕ → List ℕ → Reference → MessageValue → Type 0
+SaysTo start d text reference message = let desk = desk_at start d in Says desk.base text reference message
 
--- after more steps, with their answers
-abbrev pub ReachedAfter : List DeskState → Reaching → List Step → List Answer → Reaching
-ReachedAfter start so_far [] answers = so_far
-ReachedAfter start so_far (step ∷ steps) [] = so_far
-ReachedAfter start so_far (step ∷ steps) (answer ∷ answers) =
-    ReachedAfter start (λ d reference message. so_far d reference message ⊎ Brings start so_far step answer d reference message) steps answers
+-- Step k brings desk d a message. Either the desk accepts a text that says it; or the desk is merged with one that held it at the start;
+-- or the desk is merged with one to which an earlier step brought it.
+pub data Brings (start : List DeskState) (steps : List Step) (answers : List Answer) : ℕ → ℕ → Reference → MessageValue → Type 0 where
+  by_text : {k d : ℕ} {reference : Reference} {message : MessageValue} (text : Vec ℕ Global) (answer : Answer)
+      → IsStep steps answers k (Take d text) answer → is_accepted answer ≡ true → SaysTo start d text.items reference message
+      → Brings start steps answers k d reference message
+  from_start : {k d : ℕ} {reference : Reference} {message : MessageValue} (from : ℕ)
+      → IsStep steps answers k (Merge d from) Merged → Holds (desk_at start from) reference message
+      → Brings start steps answers k d reference message
+  from_step : {k d : ℕ} {reference : Reference} {message : MessageValue} (from j : ℕ)
+      → IsStep steps answers k (Merge d from) Merged → j < k → Brings start steps answers j from reference message
+      → Brings start steps answers k d reference message
 
--- in a run
-abbrev pub Reached : List DeskState → List Step → List Answer → Reaching
-Reached start = ReachedAfter start (λ d reference message. ⊥)
+-- a message has reached a desk in a run: a step brings it
+abbrev pub Reached : List DeskState → List Step → List Answer → ℕ → Reference → MessageValue → Type 0
+Reached start steps answers d reference message = (k : ℕ) × Brings start steps answers k d reference message
 
 -- each desk holds what it held at the start and what reached it, and nothing else
 abbrev pub HoldsWhatReached : Type 0
@@ -48,30 +51,3 @@ HoldsWhatReached =
     → All (IsInRange (length start)) steps → Runs start steps answers after
     → (d : ℕ) (reference : Reference) (message : MessageValue) → d < length start
     → Holds (desk_at after d) reference message ↔ (Holds (desk_at start d) reference message ⊎ Reached start steps answers d reference message)
-
--- a run of steps over desks
-pub record Run : Type 0 where
-  pub start : List DeskState
-  pub steps : List Step
-  pub answers : List Answer
-  pub after : List DeskState
-  pub in_range : All (IsInRange (length start)) steps
-  pub runs : Runs start steps answers after
-
--- a desk at the end of a run and one at the end of another began alike, and the same messages reached them
-pub record TookTheSame (one other : Run) (d e : ℕ) : Type 0 where
-  pub here : d < length one.start
-  pub there : e < length other.start
-  pub began : desk_at one.start d ≡ desk_at other.start e
-  pub reached : (reference : Reference) (message : MessageValue)
-      → Reached one.start one.steps one.answers d reference message ↔ Reached other.start other.steps other.answers e reference message
-
--- such desks are one
-abbrev pub SameMessagesSameDesk : Type 0
-SameMessagesSameDesk = (one other : Run) (d e : ℕ) → TookTheSame one other d e → desk_at one.after d ≡ desk_at other.after e
-
--- so they have the same itinerary of each flight on each date
-abbrev pub SameDeskSameMeaning : Type 0
-SameDeskSameMeaning =
-    (one other : Run) (d e : ℕ) (here there : Timetable) → TookTheSame one other d e
-    → Means (desk_at one.after d) here → Means (desk_at other.after e) there → here ≡ there

@@ -10,7 +10,7 @@ use Rattle.ssim_text.specs.Spelling.{SpellsMessage}
 use Rattle.ssim_text.specs.declared.fault.TextFault.{TextFault}
 use Rattle.ssim_text.specs.declared.fault.TextFault.TheVariants as text_fault
 use Rattle.ssim_text.specs.declared.reference.Reference.{Reference}
-use Rattle.ssim_desk.specs.Held.{DeskState, Held, Holds, Says, no_desk}
+use Rattle.ssim_desk.specs.Held.{DeskState, HeldMessages, Holds, Says, no_desk}
 use Rattle.ssim_desk.specs.Maps.{Agree, IsLeastConflict, union}
 use Rattle.ssim_desk.specs.declared.fault.DeskFault.{DeskFault}
 use Rattle.ssim_desk.specs.declared.fault.DeskFault.TheVariants.{Memory, Text, Resolve, Conflict, OtherBase, Read, File}
@@ -42,7 +42,7 @@ pub record IsInConflict (desk : DeskState) (text : List ℕ) (reference : Refere
   pub apart : other ≢ message
 
 -- its message is new, and is held afterwards
-pub record IsNew (desk : DeskState) (text : List ℕ) (held : Held) : Type 0 where
+pub record IsNew (desk : DeskState) (text : List ℕ) (held : HeldMessages) : Type 0 where
   pub reference : Reference
   pub message : MessageValue
   pub says : Says desk.base text reference message
@@ -67,7 +67,7 @@ RefusesText desk text (Read fault) = ⊥
 RefusesText desk text (File offset) = ⊥
 
 -- what a desk answers to a text, and what it holds afterwards
-abbrev pub Takes : DeskState → List ℕ → Answer → Held → Type 0
+abbrev pub Takes : DeskState → List ℕ → Answer → HeldMessages → Type 0
 Takes desk text Taken held = IsNew desk text held
 Takes desk text Repeated held = IsKnown desk text × (held ≡ desk.held)
 Takes desk text Merged held = ⊥
@@ -86,13 +86,13 @@ RefusesDesk mine theirs (Read fault) = ⊥
 RefusesDesk mine theirs (File offset) = ⊥
 
 -- over one base, where no reference has two messages, each desk's messages are held
-pub record IsUnion (mine theirs : DeskState) (held : Held) : Type 0 where
+pub record IsUnion (mine theirs : DeskState) (held : HeldMessages) : Type 0 where
   pub base : mine.base ≡ theirs.base
   pub agree : Agree mine.held theirs.held
   pub all : held ≡ union mine.held theirs.held
 
 -- what a desk answers to another, and what it holds afterwards
-abbrev pub Merges : DeskState → DeskState → Answer → Held → Type 0
+abbrev pub Merges : DeskState → DeskState → Answer → HeldMessages → Type 0
 Merges mine theirs Taken held = ⊥
 Merges mine theirs Repeated held = ⊥
 Merges mine theirs Merged held = IsUnion mine theirs held
@@ -105,7 +105,7 @@ abbrev pub desk_at : List DeskState → ℕ → DeskState
 desk_at desks i = slice_index_or desks i no_desk
 
 -- the desks, where that of a number holds this from now on
-abbrev pub with_held : List DeskState → ℕ → Held → List DeskState
+abbrev pub with_held : List DeskState → ℕ → HeldMessages → List DeskState
 with_held desks i held = let desk = desk_at desks i in slice_set desks i (record desk { held = held })
 
 -- the numbers of a step are those of desks
@@ -115,13 +115,13 @@ IsInRange count (Merge into from) = (into < count) × (from < count)
 
 -- a text is taken
 pub record TakesAt (desks : List DeskState) (i : ℕ) (text : List ℕ) (answer : Answer) (after : List DeskState) : Type 0 where
-  pub held : Held
+  pub held : HeldMessages
   pub takes : Takes (desk_at desks i) text answer held
   pub put : after ≡ with_held desks i held
 
 -- two desks are merged
 pub record MergesAt (desks : List DeskState) (into from : ℕ) (answer : Answer) (after : List DeskState) : Type 0 where
-  pub held : Held
+  pub held : HeldMessages
   pub merges : Merges (desk_at desks into) (desk_at desks from) answer held
   pub put : after ≡ with_held desks into held
 

@@ -2,8 +2,7 @@
 use Rattle.std.specs.Prelude.{◌≡◌, ◌⊎◌, ℕ, ◌≤◌, ◌<◌, ◌+◌, ◌-◌, ◌*◌, ◌/◌, ◌%◌, ◌++◌, ◌∷◌, [], List, length, take, drop, Some, IfSome, slice_get}
 use Rattle.std.specs.FinMap.{get}
 use Rattle.ssim_schedule.specs.BaseSeen.{BaseSeen}
-use Rattle.ssim_schedule.specs.ReadBack.{AreInOrder}
-use Rattle.ssim_schedule.specs.Schedule.{Table, days_in}
+use Rattle.ssim_schedule.specs.Schedule.{Table}
 use Rattle.ssim_schedule.specs.Timetable.{itinerary}
 use Rattle.ssim_schedule.specs.declared.finding.Finding.{Finding}
 use Rattle.ssim_desk.specs.Kept.{DeskSeen, Entry, Shows, after_entries, entries_findings}
@@ -21,7 +20,6 @@ found_by base entries = entries_findings base.rows entries (itinerary base.recor
 -- the schedule is the base's after these messages
 pub record IsAfter (base : BaseSeen) (entries : List Entry) (schedule : Table) : Type 0 where
   pub shows : Shows schedule (left_by base entries)
-  pub in_order : AreInOrder (days_in schedule)
 
 -- the checkpoints from number `first` on: checkpoint k is the schedule after 32 * k messages
 pub record AreCheckpoints (base : BaseSeen) (entries : List Entry) (first : ℕ) (checkpoints : List Table) : Type 0 where

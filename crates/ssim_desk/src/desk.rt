@@ -1,6 +1,7 @@
 //! A desk: a base and messages by reference.
 
-ghost use Rattle.std.specs.Prelude.{◌≡◌, ◌⊎◌, ◌++◌, ◌≤◌, [], ◌∷◌, length, take, drop, Ok, IfOk, IfErr, OnErr, OnOk};
+ghost use Rattle.std.specs.Prelude.{◌≡◌, ◌⊎◌, ◌++◌, ◌≤◌, All, [], ◌∷◌, length, take, drop, Ok, IfOk, IfErr, OnErr, OnOk};
+ghost use Rattle.std.specs.List.Sorted.{IsStrictlyIncreasing};
 ghost use Rattle.ssim_schedule.specs.Plan.{ReadsBackBase, RefusesBase, WritesBase};
 ghost use Rattle.ssim_desk.specs.Desk.{IsReplayed, at_rest, days_of_desk, finding_lines, merge_answer, take_answer, timetable_of};
 ghost use Rattle.ssim_desk.specs.Kept.{AreEntries, AreRising, IsEntry, map_of, state_of};
@@ -144,7 +145,10 @@ impl Desk {
     }
 
     /// The rising days at which a stored range of the flight begins or ends; none for a flight that was never named.
-    pub fn cuts(&self, flight: &Flight) -> &[u32] {
+    pub fn cuts(&self, flight: &Flight) -> &[u32]
+        ensures rising { IsStrictlyIncreasing result.now }
+        ensures in_calendar { All (λ cut. cut ≤ 36525) result.now }
+    {
         self.trail.latest().cuts(flight)
     }
 

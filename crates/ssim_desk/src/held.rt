@@ -4,7 +4,7 @@ ghost use Rattle.std.specs.Prelude.{◌≡◌, length, IfOk};
 ghost use Rattle.ssim_text.specs.Canonical.{canonical};
 
 use ssim_schedule::ResolvedSub;
-use ssim_text::{Message, Reference, encode};
+use ssim_text::{Message, Reference};
 use ssim_values::Memory;
 use std::alloc::Global;
 use std::marker::Model;
@@ -28,7 +28,6 @@ impl Model for Held {
 struct Contents {
     reference: Reference,
     message: Message,
-    text: Vec<u8>,
     /// Flight and full dates of each sub-message.
     dates: Vec<ResolvedSub>,
 }
@@ -36,13 +35,12 @@ struct Contents {
 impl Model for Contents {
     ghost use Rattle.std.specs.Prelude.{◌≡◌, length};
     ghost use Rattle.ssim_desk.specs.Kept.{Entry};
-    ghost use Rattle.ssim_text.specs.Canonical.{canonical};
 
     ghost Value = { Entry };
 
     ghost view = { λ h. record { reference = h.reference; message = h.message; dates = h.dates.items } };
 
-    ghost invariant = { λ h. (h.text.items ≡ canonical h.message) × (length h.dates.items ≡ length h.message.subs) };
+    ghost invariant = { λ h. length h.dates.items ≡ length h.message.subs };
 }
 
 impl Contents {
@@ -61,7 +59,7 @@ impl Contents {
     fn text(&self) -> &[u8]
         ensures { result.now ≡ canonical self.now.message }
     {
-        &self.text
+        self.message.text()
     }
 
     fn dates(&self) -> &[ResolvedSub]
@@ -83,11 +81,9 @@ impl Held {
         requires { length dates.items ≡ length message.subs }
         ensures { IfOk result (λ held. held ≡ record { reference = reference; message = message; dates = dates.items }) }
     {
-        let text = encode(alloc, &message)?;
         let contents = Contents {
             reference,
             message,
-            text,
             dates,
         };
         Ok(Held {

@@ -1,14 +1,27 @@
 //! What holds of any desks, over the definitions of what texts and merges do.
 
+ghost use Rattle.ssim_desk.specs.Agreement.{AnyTwoDesksAgree, SameMessagesSameDesk};
 ghost use Rattle.ssim_desk.specs.Examples;
 ghost use Rattle.ssim_desk.specs.Maps.{MergesAssociate, MergesCommute, MergesRepeat};
-ghost use Rattle.ssim_desk.specs.Meaning.{HasOneMeaning};
-ghost use Rattle.ssim_desk.specs.Reach.{HoldsWhatReached, SameMessagesSameDesk, SameDeskSameMeaning};
+ghost use Rattle.ssim_desk.specs.Meaning.{HasExport, HasMeaning, HasOneExport, HasOneMeaning};
+ghost use Rattle.ssim_desk.specs.Reach.{HoldsWhatReached};
 
+use ssim_schedule::laws::{bases_can_be_exported, written_bases_are_read};
 use ssim_text::laws::one_message;
 
-/// After any steps a desk holds what it held at the start and the messages that reached it, and nothing else. So two desks that began
-/// alike and that the same messages reached are one, in whatever order, grouping and number of repeats the messages came.
+/// Any two desks agree if they began from the same bytes of a data set and of a station table, and the same messages reached them,
+/// whatever the order, the grouping and the repeats. They hold the same messages. Each flight has on each date the same itinerary, which
+/// the messages leave in order of reference. Both exports are the same chapter 7 bytes, or the same refusal, 50 or 51.
+pub fn any_two_desks_agree()
+    ensures { AnyTwoDesksAgree }
+{
+    one_message();
+    written_bases_are_read();
+    bases_can_be_exported();
+}
+
+/// After any steps a desk holds what it held at the start and the messages that reached it, and nothing else. Two desks that began
+/// alike and that the same messages reached are one desk, whatever the order, the grouping and the repeats of the messages.
 pub fn order_is_free()
     ensures holds { HoldsWhatReached }
     ensures same { SameMessagesSameDesk }
@@ -16,15 +29,17 @@ pub fn order_is_free()
     one_message();
 }
 
-/// What a desk holds has at most one meaning, so desks that are one have no two itineraries of a flight on a date.
+/// Every desk has exactly one meaning and exactly one export.
 pub fn one_meaning()
+    ensures some { HasMeaning }
     ensures only { HasOneMeaning }
-    ensures same { SameDeskSameMeaning }
+    ensures export { HasExport }
+    ensures only_export { HasOneExport }
 {
-    one_message();
+    bases_can_be_exported();
 }
 
-/// Merging is associative and idempotent, and commutative where no two different messages are held under one reference.
+/// Merging is associative and idempotent, and commutative if no two different messages are held under one reference.
 pub fn merging_is_free()
     ensures associative { MergesAssociate }
     ensures commutative { MergesCommute }

@@ -18,9 +18,12 @@ pub mod Gathering
 pub mod Stations
 pub mod BaseSeen
 pub mod Reading
+pub mod SavedBase
 pub mod Examples
 pub mod Resolve
+pub mod Fault
 pub mod Columns
 pub mod Effect
 pub mod Acts
 pub mod EffectExamples
+pub mod FlightOrder

@@ -60,6 +60,18 @@ fn open_ends(rt: HostRuntime) -> Result<(), Fail> {
 }
 
 #[test]
+fn the_whole_calendar(rt: HostRuntime) -> Result<(), Fail> {
+    let alloc = rt.alloc();
+    let carrier = with(CARRIER, 15, b"01JAN0031DEC99");
+    let leg = with(LEG, 15, b"01JAN0031DEC99");
+    let set = lines(alloc, b"H12T", &[carrier, leg])?;
+    let want = export_of(alloc, &carrier, b"1", &[leg])?;
+    assert_eq!(rt; want.len(), 4020);
+    assert!(rt; exported(alloc, &set)?.bytes() == want.as_slice());
+    Ok(())
+}
+
+#[test]
 fn record_refusals(rt: HostRuntime) -> Result<(), Fail> {
     let alloc = rt.alloc();
     // within the trailer, within the fill, and within the carrier
@@ -147,6 +159,29 @@ fn refusals_in_their_order(rt: HostRuntime) -> Result<(), Fail> {
             refusal(alloc, &lines(alloc, names, &others)?, 10_000)?,
             want
         );
+    }
+    Ok(())
+}
+
+#[test]
+fn faults_as_text(rt: HostRuntime) -> Result<(), Fail> {
+    let alloc = rt.alloc();
+    let others = [with(LEG, 15, b"26OCT2500XXX00"), with(LEG, 37, b"Z1H")];
+    let cases: [(&[u8], &str); 3] = [
+        (b"HC1T", "BadColumn record 3 column 22"),
+        (b"HC2T", "BadColumn record 3 column 37"),
+        (b"HCLLT", "Overlap record 4"),
+    ];
+    for (names, want) in cases {
+        let set = lines(alloc, names, &others)?;
+        let mut bytes = set.as_slice();
+        match Base::read(alloc, &mut bytes, no_stations(alloc)?, 10_000) {
+            Ok(_) => return Err("the data set is refused".into()),
+            Err(fault) => {
+                let text = format!(in alloc; "{fault}")?;
+                assert_eq!(rt; text.as_str(), want);
+            }
+        }
     }
     Ok(())
 }

@@ -1,4 +1,5 @@
-use Rattle.ssim_desk.proofs.Reaching.{holds_what_reached, same_messages_same_desk}
+use Rattle.ssim_desk.proofs.Agreeing.{same_messages_same_desk}
+use Rattle.ssim_desk.proofs.Moments.{holds_what_reached}
 use Rattle.ssim_desk.proofs.laws.order_is_free.Goals as goal
 
 pub returns : goal.returns

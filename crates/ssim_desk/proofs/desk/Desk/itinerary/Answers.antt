@@ -19,7 +19,7 @@ entries c = subst (λ (t : DeskSeen). AreEntries t.base.records t.held) c.self.v
 
 legs : (c : goal.After-itinerary) → c.itinerary.result.now ≡ timetable_of c.args.self.now c.args.flight.now c.args.day
 legs c =
-    c.itinerary.ensures
+    c.itinerary.ensures.value
     ∙ legs_after c.self.inside.trail.base c.self.inside.trail.held c.latest.result.now c.latest.ensures c.args.flight.now (exists c) c.args.day (subst (λ n. n < 36525) c.number-2.ensures.value c.number-2.ensures.bound)
     ∙ ap (λ (t : DeskSeen). timetable_of t c.args.flight.now c.args.day) c.self.view_is
 

@@ -11,7 +11,7 @@ pub returns-in_ok-push-2-clause-applied : goal.returns-in_ok-push-2-clause-appli
 returns-in_ok-push-2-clause-applied c before from tail =
     let base = c.args.base.now in let e = c.args.held.now in
     let acts = c.in_ok-findings.ensures in
-    let latest = after_more base before e c.act.new.schedule (acts.shows (left_by base before) tail.latest_is.shows) (acts.in_order tail.latest_is.in_order) in
+    let latest = after_more base before e c.act.new.schedule (acts.shows (left_by base before) tail.latest_is.shows) in
     let on : (length before + 1) % 32 ≡ 0 = omega (arith, tail.since_is, c.if-self-eq0.true) in
     record {
       within = omega (arith, tail.within, length-append before (e ∷ []));
@@ -31,7 +31,7 @@ returns-else-self-eq0-clause-applied c before from tail =
     let off : (length before + 1) % 32 ≢ 0 = λ z. c.if-self-eq0.false (omega (arith, tail.since_is, z)) in
     record {
       within = omega (arith, tail.within, length-append before (e ∷ []));
-      latest_is = after_more base before e c.act.new.schedule (acts.shows (left_by base before) tail.latest_is.shows) (acts.in_order tail.latest_is.in_order);
+      latest_is = after_more base before e c.act.new.schedule (acts.shows (left_by base before) tail.latest_is.shows);
       found_is = ap (λ (fs : List (List Finding)). found_by base (take from (before ++ e ∷ [])) ++ fs) c.in_ok-push.ensures.items
           ∙ found_next base before e from c.args.self.now.found.items c.in_ok-findings.findings.items tail.within tail.found_is (acts.found (left_by base before) tail.latest_is.shows);
       kept = kept_none base before e (from / 32 + 1) c.args.self.now.checkpoints.items off tail.kept;
