@@ -9,3 +9,13 @@ pub mod Moments
 pub mod SameBytes
 pub mod Agreeing
 pub mod Shown
+pub mod Trails
+pub mod Entries
+pub mod Searching
+pub mod Changes
+pub mod Meant
+pub mod Merged
+pub mod Unions
+pub mod Exports
+pub mod Brought
+pub mod Lines

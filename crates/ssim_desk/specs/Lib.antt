@@ -6,4 +6,8 @@ pub mod Steps
 pub mod Reach
 pub mod Agreement
 pub mod Kept
+pub mod Trail
+pub mod Lookup
+pub mod Union
+pub mod Desk
 pub mod Examples
