@@ -8,4 +8,7 @@ pub mod Reaching
 pub mod Moments
 pub mod SameBytes
 pub mod Agreeing
+pub mod Refusing
+pub mod Conflicts
+pub mod Merging
 pub mod Shown
