@@ -2,7 +2,7 @@
 use Rattle.std.specs.Prelude.{◌≡◌, ℕ, true, false, List, [], ◌∷◌, ◌++◌, replicate, codes, refl}
 use Rattle.std.specs.List.{concat}
 use Rattle.std.specs.declared.cmp.Ordering.TheVariants.{Less, Equal}
-use Rattle.ssim_schedule.specs.Columns.{new_columns, with_equipment}
+use Rattle.ssim_records.specs.LegParts.{new_leg, station_columns, with_equipment, with_times}
 use Rattle.ssim_schedule.specs.Stations.{Row}
 use Rattle.ssim_schedule.specs.Timetable.{LegValue}
 use Rattle.ssim_schedule.specs.declared.resolved.ResolvedSub.{ResolvedSub}
@@ -102,21 +102,21 @@ late_message_comes_first = refl
 
 -- in the order in which they came it would fly
 arrival_does_not_count : after (New new) (after Cnl nothing) lx600 9313 ≡ by_airbus ∷ []
-unfolding new_columns
+unfolding new_leg station_columns with_times with_equipment
 arrival_does_not_count = refl
 
 -- the next day nobody has spoken of, nor of another flight
 other_date : after (New new) nothing lx600 9314 ≡ []
-unfolding new_columns
+unfolding new_leg station_columns with_times with_equipment
 other_date = refl
 
 other_flight : after (New new) nothing (record { number = 600; suffix = 65 }) 9313 ≡ []
-unfolding new_columns
+unfolding new_leg station_columns with_times with_equipment
 other_flight = refl
 
 -- of two equipment changes the later by reference stays
 year_of_a_reference : after (Eqt (equipment (codes "319"))) (after (Eqt (equipment (codes "320"))) (after (New new) nothing)) lx600 9313 ≡ leg (codes "319") (blanks 20) ∷ []
-unfolding new_columns with_equipment
+unfolding new_leg station_columns with_times with_equipment
 year_of_a_reference = refl
 
 -- a text's own sub-messages act in their order

@@ -4,49 +4,37 @@ ghost use Rattle.std.specs.Prelude.{◌≡◌, IfOk};
 ghost use Rattle.ssim_text.specs.Canonical.{canonical};
 
 use ssim_schedule::ResolvedSub;
-use ssim_text::{Message, Reference, encode};
+use ssim_text::{Message, Reference};
 use ssim_values::Memory;
 use std::alloc::Global;
 use std::marker::Model;
 
-/// A message that a desk holds: its reference with its year, and its canonical text.
+/// A message that a desk holds, and its reference with its year.
 #[derive(Drop)]
 pub struct Held {
     reference: Reference,
     message: Message,
-    text: Vec<u8>,
     /// Flight and full dates of each sub-message.
     dates: Vec<ResolvedSub>,
 }
 
 impl Model for Held {
-    ghost use Rattle.std.specs.Prelude.{◌≡◌};
     ghost use Rattle.ssim_desk.specs.Kept.{Entry};
-    ghost use Rattle.ssim_text.specs.Canonical.{canonical};
 
     ghost Value = { Entry };
 
     ghost view = { λ h. record { reference = h.reference; message = h.message; dates = h.dates.items } };
-
-    ghost invariant = { λ h. h.text.items ≡ canonical h.message };
 }
 
 impl Held {
-    pub(crate) fn of(
-        alloc: Global,
-        reference: Reference,
-        message: Message,
-        dates: Vec<ResolvedSub>,
-    ) -> Result<Held, Memory>
-        ensures { IfOk result (λ held. held ≡ record { reference = reference; message = message; dates = dates.items }) }
+    pub(crate) fn of(reference: Reference, message: Message, dates: Vec<ResolvedSub>) -> Held
+        ensures { result ≡ record { reference = reference; message = message; dates = dates.items } }
     {
-        let text = encode(alloc, &message)?;
-        Ok(Held {
+        Held {
             reference,
             message,
-            text,
             dates,
-        })
+        }
     }
 
     /// An equal one.
@@ -56,7 +44,6 @@ impl Held {
         Ok(Held {
             reference: self.reference,
             message: self.message.copy(alloc)?,
-            text: Vec::from_slice(alloc, &self.text)?,
             dates: Vec::from_slice(alloc, &self.dates)?,
         })
     }
@@ -79,7 +66,7 @@ impl Held {
     pub fn text(&self) -> &[u8]
         ensures { result.now ≡ canonical self.now.message }
     {
-        &self.text
+        self.message.text()
     }
 
     /// Flight and full dates of each of its sub-messages, in their order.

@@ -3,8 +3,6 @@
 ghost use Rattle.std.specs.Prelude.{◌≡◌, length, IfOk, OnOk};
 ghost use Rattle.ssim_periods.specs.Days.{each_day};
 ghost use Rattle.ssim_schedule.specs.Acts.{finding_of};
-ghost use Rattle.ssim_schedule.specs.ReadBack.{AreInOrder};
-ghost use Rattle.ssim_schedule.specs.Schedule.{days_in};
 ghost use Rattle.ssim_desk.specs.Kept.{Shows, after_entry};
 ghost use Rattle.ssim_desk.specs.Meaning.{Timetable, after_one, subs_findings};
 
@@ -23,7 +21,6 @@ fn act_one(
 ) -> Result<Finding, Memory>
     ensures shows { OnOk result ((before : Timetable) → Shows schedule.old before → Shows schedule.new (after_one base.now.rows sub.now.action dated before)) }
     ensures found { IfOk result (λ found. (before : Timetable) → Shows schedule.old before → found ≡ finding_of base.now.rows sub.now.action dated.period (each_day (before dated.flight))) }
-    ensures in_order { OnOk result (AreInOrder (days_in schedule.old) → AreInOrder (days_in schedule.new)) }
 {
     // No effect at run time. The proof reads from these uses that the flight is one.
     let _ = dated.flight.number();
@@ -41,7 +38,6 @@ pub(crate) fn act(
     requires { length held.now.dates ≡ length held.now.message.subs }
     ensures shows { OnOk result ((before : Timetable) → Shows schedule.old before → Shows schedule.new (after_entry base.now.rows held.now before)) }
     ensures found { IfOk result (λ found. (before : Timetable) → Shows schedule.old before → found.items ≡ subs_findings base.now.rows held.now.message.subs held.now.dates before) }
-    ensures in_order { OnOk result (AreInOrder (days_in schedule.old) → AreInOrder (days_in schedule.new)) }
 {
     let mut found = Vec::new(alloc);
     for (place, sub) in held.message().subs().iter().enumerate() {

@@ -13,4 +13,4 @@ pub mod PieceOrder
 pub mod PiecesFound
 pub mod GatherLemmas
 pub mod NumberLemmas
-pub mod Examples
+pub mod WorkedLemmas

@@ -6,3 +6,4 @@ pub mod Count
 pub mod Cover
 pub mod Pieces
 pub mod Gather
+pub mod Worked

@@ -1,4 +1,4 @@
-//! What covers are made from.
+//! The parts of which covers are made.
 ghost use Rattle.std.specs.Prelude.{◌≡◌, ℕ, ◌+◌, ◌-◌, ◌<◌, ◌≤◌, false, true, slice_index_or};
 ghost use Rattle.ssim_values.specs.DayMask.{IsMask};
 ghost use Rattle.ssim_periods.specs.Calendar.{slot};
@@ -7,8 +7,8 @@ ghost use Rattle.ssim_periods.specs.Cover.{first_where, last_where, differ};
 use crate::Value;
 use ssim_values::{Day, DayMask, Period};
 
-// The first day of a stretch with one row that has the value although its weekday is not among the days, or the other way round; the
-// end of the stretch where there is none. Looks at seven days of it at most.
+// The first day of a range with one row that has the value although its weekday is not one of `days`, or the other way round. The end
+// of the range if there is none. Looks at no more than seven days.
 pub(crate) fn unlike_in_row<V: Value>(
     row: &[V; 7],
     value: &V,
@@ -31,7 +31,7 @@ pub(crate) fn unlike_in_row<V: Value>(
     to
 }
 
-// The last day of a stretch whose weekday is among the days, as its first day's is.
+// The last day of a range whose weekday is one of `days`; that of the first day is one.
 pub(crate) fn last_in(days: &[bool; 7], first: u32, after: u32) -> u32
     requires ordered { first < after }
     requires own { slice_index_or days.now (slot first) false ≡ true }

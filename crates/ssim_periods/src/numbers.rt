@@ -1,4 +1,4 @@
-//! Small numbers in place of values: whole values are compared while they get their numbers, and from then on numbers are.
+//! Small numbers in place of values: values are compared only to number them, and from then on the numbers are compared.
 ghost use Rattle.std.specs.Prelude.{◌≡◌, ℕ, [], ◌∷◌, false, Some, map, nat_eq, IsTrue, IfOk, OnOk, IfSome, IfNone};
 ghost use Rattle.std.specs.List.{list_any, flat_map};
 ghost use Rattle.std.proofs.Common.{eqb-true, eq-eqb};

@@ -12,8 +12,8 @@ use crate::{Change, Value};
 use ssim_values::Memory;
 use std::alloc::Global;
 
-// The new value for an old one: a copy of the latest, if that was made for an equal one, so that copies share what they hold.
-// One that cannot be copied is made anew: no copy is owed where no range is divided.
+// The new value for an old one: a copy of the latest new value, if that was made for an equal old one, so that the two share memory.
+// If it cannot be copied, it is made again: a copy that fails is no error unless a range is divided.
 fn new_value<V: Value, C: Change<V>>(
     alloc: Global,
     old: &V,
@@ -43,7 +43,7 @@ fn made_for<'a, V: Value>(alloc: Global, old: &'a V, new: &V) -> Option<(&'a V, 
     }
 }
 
-// The new values of a row's weekdays in the mask that have a day in a stretch.
+// The new values of a row on the weekdays of the mask that have a day in a range.
 fn new_row<V: Value, C: Change<V>>(
     alloc: Global,
     row: &[V; 7],

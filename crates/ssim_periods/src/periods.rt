@@ -15,12 +15,12 @@ use ssim_values::{Day, Memory, Period};
 use std::alloc::Global;
 use std::marker::Model;
 
-/// A value for each day, seen as the list of them and the rising cuts.
+/// A value for each day. Contracts see it as the list of the values and the rising cuts.
 #[derive(Drop)]
 pub struct Periods<V: Value> {
     /// The values by weekday up to the first cut.
     pub(crate) before: [V; 7],
-    /// The days at which a range begins, or the day after the calendar.
+    /// The days at which a range begins, rising; the last may be 36,525, the day after the calendar.
     pub(crate) cuts: Vec<u32>,
     /// For each cut the values by weekday from it to the next.
     pub(crate) rows: Vec<[V; 7]>,
@@ -39,7 +39,7 @@ impl<V: Value> Model for Periods<V> {
 }
 
 impl<V: Value> Periods<V> {
-    /// Each day has the empty value. Takes no memory.
+    /// The empty value on each day. Allocates nothing.
     pub fn new(alloc: Global) -> Self
         ensures days { result.days ≡ each_day (λ _. V.nothing) }
         ensures cuts { result.cuts ≡ [] }
@@ -60,7 +60,7 @@ impl<V: Value> Periods<V> {
         }
     }
 
-    /// The value of a day, found by halves over the cuts.
+    /// The value of a day, found by binary search in the cuts.
     pub fn at(&self, day: Day) -> &V
         ensures { slice_get self.now.days day ≡ Some result.now }
     {
@@ -74,11 +74,11 @@ impl<V: Value> Periods<V> {
         }
     }
 
-    /// Each day of the period gets what the change makes of its value, and each other day keeps its own. Answers how many days of the
-    /// period had an old value of each class.
+    /// Replaces the value of each day of the period by the outcome of the change, and keeps the value of each other day. Returns for each
+    /// class the number of days of the period whose old value is of that class.
     ///
-    /// All new values are made before the first is put in, so nothing has changed where one is refused its memory. The cost is that of the
-    /// ranges that the period touches and of moving up the ranges behind it.
+    /// All new values are computed, and all memory is reserved, before the first value is replaced: after an error nothing has changed.
+    /// The cost is that of the ranges that the period touches, and of moving the later ranges.
     pub fn apply<C: Change<V>>(&mut self, period: &Period, change: &C) -> Result<[u32; 5], Memory>
         ensures days { OnOk result (self.new.days ≡ changed_on (holds period.now) (C.outcome change.now) 0 self.old.days) }
         ensures counts { IfOk result (λ counts. counts ≡ counts_on (holds period.now) (C.class_of change.now) self.old.days) }
@@ -124,7 +124,7 @@ impl<V: Value> Periods<V> {
         Ok(counts)
     }
 
-    /// The same values with the same cuts.
+    /// A copy with the same values and cuts.
     pub fn copy(&self) -> Result<Periods<V>, Memory>
         ensures { IfOk result (λ copy. copy ≡ self.now) }
     {
@@ -140,13 +140,13 @@ impl<V: Value> Periods<V> {
         })
     }
 
-    /// The rising days at which a stored range begins or ends. 36,525 is one where a period ended with the calendar.
+    /// The rising days at which a stored range begins or ends. 36,525 is a cut if a period ended with the calendar.
     pub fn cuts(&self) -> &[u32]
         ensures cuts { result.now ≡ self.now.cuts }
         ensures rising { IsStrictlyIncreasing result.now }
         ensures in_calendar { All (λ cut. cut ≤ 36525) result.now }
 
-        // Two days of one weekday have the same value if no cut stands after the earlier and not after the later.
+        // Two days of one weekday have the same value if no cut is after the earlier and not after the later.
         ensures weekly { (m n : ℕ) → m ≤ n → n < 36525 → weekday m ≡ weekday n → ((cut : ℕ) → Contains result.now cut → m < cut → n < cut) → slice_get self.now.days m ≡ slice_get self.now.days n }
     {
         &self.cuts

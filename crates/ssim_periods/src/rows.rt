@@ -12,7 +12,7 @@ use std::alloc::Global;
 /// The number of days from 1 January 2000 to 31 December 2099.
 pub(crate) const DAYS: u32 = 36_525;
 
-// How many cuts are not after the day: the place of its row.
+// The number of cuts that are not after the day: the place of its row.
 pub(crate) fn place_of(cuts: &[u32], day: u32) -> usize
     requires { IsStrictlyIncreasing cuts.now }
     ensures place { result ≡ place cuts.now day }
@@ -59,7 +59,7 @@ pub(crate) fn range_end(cuts: &[u32], place: usize, end: u32) -> u32
     }
 }
 
-// How many days before a day have a weekday, from 0 for Monday.
+// The number of days before a day that have a weekday, from 0 for Monday.
 pub(crate) fn days_before(weekday: u32, day: u32) -> u32
     requires weekday { weekday < 7 }
     requires in_calendar { day ≤ 36525 }
@@ -68,7 +68,7 @@ pub(crate) fn days_before(weekday: u32, day: u32) -> u32
     (day + 6 - (weekday + 2) % 7) / 7
 }
 
-// Whether a weekday is in the mask and has a day in a stretch.
+// Whether a weekday is in the mask and has a day in a range.
 pub(crate) fn has_days(mask: &[bool; 7], weekday: u32, from: u32, to: u32) -> bool
     requires weekday { weekday < 7 }
     requires from { from ≤ 36525 }

@@ -1,5 +1,4 @@
-//! Copies whose equal values are copies of one, for values whose copies share what they hold.
-
+//! Copies in which equal values are copies of one value, for values whose copies share memory.
 ghost use Rattle.std.specs.Prelude.{◌≡◌, ◌<◌, slice_index_or, IfOk};
 
 use crate::{Periods, Value};
@@ -7,8 +6,8 @@ use ssim_values::Memory;
 use std::alloc::Global;
 
 impl<V: Value> Periods<V> {
-    /// The same values with the same cuts. Equal values of a range, and of a weekday in neighbouring ranges, are copies of one; so where
-    /// copies share what they hold, it is held once.
+    /// A copy with the same values and cuts. Equal values of a range, and equal values of one weekday in neighbouring ranges, are copies
+    /// of one value. If copies of a value share memory, that memory is used once.
     pub fn shared(&self) -> Result<Periods<V>, Memory>
         ensures { IfOk result (λ shared. shared ≡ self.now) }
     {
@@ -44,7 +43,7 @@ fn shared_rows<V: Value>(
     Ok(copies)
 }
 
-// A copy of a row behind another.
+// A copy of a row, given the copy of the row before.
 fn shared_row<V: Value>(alloc: Global, latest: &[V; 7], row: &[V; 7]) -> Result<[V; 7], Memory>
     ensures { IfOk result (λ copy. copy ≡ row.now) }
 {
@@ -60,7 +59,7 @@ fn shared_row<V: Value>(alloc: Global, latest: &[V; 7], row: &[V; 7]) -> Result<
     ])
 }
 
-// The value of a weekday, as the row before has it, or an earlier weekday, where they have the same.
+// The value of a weekday: that of the row before, or of an earlier weekday, if it is the same.
 fn source<'a, V: Value>(latest: &'a [V; 7], row: &'a [V; 7], weekday: usize) -> &'a V
     requires { weekday < 7 }
     ensures { result.now ≡ slice_index_or row.now weekday result.now }

@@ -3,15 +3,15 @@ ghost use Rattle.std.specs.Prelude.{◌≡◌, ℕ, ◌<◌, ◌↔◌, IsTrue, 
 use ssim_values::Memory;
 use std::alloc::Global;
 
-/// What a day may have.
+/// A value that a day may have.
 pub trait Value: Drop {
     /// The empty value.
     ghost nothing: { Self };
 
-    /// Whether two values are one.
+    /// Whether two values are the same.
     ghost alike: { Self → Self → Bool };
 
-    /// The value of a day that has none.
+    /// The empty value, which is that of a day without another one.
     fn empty() -> Self
         ensures { result ≡ nothing };
 
@@ -23,23 +23,23 @@ pub trait Value: Drop {
     fn same(&self, other: &Self) -> bool
         ensures { result ≡ alike self.now other.now };
 
-    /// An equal value, or the want of memory.
+    /// An equal value, or out of memory.
     fn copy(&self, alloc: Global) -> Result<Self, Memory>
         ensures { IfOk result (λ copy. copy ≡ self.now) };
 
-    /// Two values are alike exactly where they are equal.
+    /// Two values are alike if and only if they are equal.
     ghost exact: { (x y : Self) → IsTrue (alike x y) ↔ (x ≡ y) };
 }
 
-/// What becomes of a day's value. Both calls are made only with values that some day of the changed period has.
+/// A change of the value of each day of a period. Both calls are made only with values that some day of the period has.
 pub trait Change<V> {
-    /// The value afterwards.
+    /// The new value.
     ghost outcome: { Self → V → V };
 
     /// The class of the old value.
     ghost class_of: { Self → V → ℕ };
 
-    /// The value that a day gets in place of the old one, or the want of memory.
+    /// The new value in place of the old one, or out of memory.
     fn after(&self, alloc: Global, old: &V) -> Result<V, Memory>
         ensures { IfOk result (λ new. new ≡ outcome self.now old.now) };
 

@@ -9,7 +9,7 @@ use Rattle.ssim_records.specs.declared.record.Record.TheVariants.{Header, Carrie
 use Rattle.ssim_schedule.specs.Base.{Outcome}
 use Rattle.ssim_schedule.specs.Export.{ExportRefusal, Frame, chapter7}
 use Rattle.ssim_schedule.specs.Plan.{ReadsBackBase, frame_from}
-use Rattle.ssim_schedule.specs.ReadBack.{AreInOrder, HasFrame, ReadsBackFrom, kept_frame}
+use Rattle.ssim_schedule.specs.ReadBack.{HasFrame, ReadsBackFrom, kept_frame}
 use Rattle.ssim_schedule.specs.Reading.{FailedReader, IsReadAs, IsReadBack}
 use Rattle.ssim_schedule.specs.Timetable.{Days, days_of}
 use Rattle.ssim_schedule.specs.declared.export.ExportFault.{ExportFault}
@@ -92,7 +92,7 @@ reads_itself frame days bytes r = record {
   export = (kept_frame frame, r.frame_is, r.again);
 }
 
-module _ {W : Type 0} (taken : W → Option (List ℕ)) (base : List Record) (days : FlightNumber → Days) (order : AreInOrder days) (old new : W) where
-  pub grows_if : (r : Result (Unit {0}) ExportFault) → OnOk r (AreInOrder days → ReadsBackBase taken base days old new) → OnOk r (GrowsByItself (taken old) (taken new))
-  grows_if (Ok x) h = let back = h order in (back.2, reads_itself back.0 days back.2 back.4, back.3)
+module _ {W : Type 0} (taken : W → Option (List ℕ)) (base : List Record) (days : FlightNumber → Days) (old new : W) where
+  pub grows_if : (r : Result (Unit {0}) ExportFault) → OnOk r (ReadsBackBase taken base days old new) → OnOk r (GrowsByItself (taken old) (taken new))
+  grows_if (Ok x) back = (back.2, reads_itself back.0 days back.2 back.4, back.3)
   grows_if (Err e) h = tt

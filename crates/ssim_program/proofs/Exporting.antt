@@ -20,22 +20,26 @@ module _ (told : SameExport) {W : Type 0} (taken : W → Option (List ℕ)) (fai
   same_bytes : (frame : Frame) → chapter7 frame (days_of base) ≡ chapter7 frame days
   same_bytes frame = ap (result_map export_bytes) (sym (told frame days (days_of base) same))
 
-  kept : new ≡ old → LeavesExport base (taken old) (taken new)
+  kept : new ≡ old → LeavesExport base (taken old) (taken new) (failures old) (failures new)
   kept is = inl (subst (λ (x : W). Keeps (taken old) (taken x)) (sym is) (Keeps-refl (taken old)))
 
   pub exports : WritesBase taken failures base days old new → Exports base (taken old) (taken new)
   exports w = (w.2.0, (w.0, w.1, same_bytes w.0 ∙ w.2.1), w.2.2)
 
-  pub leaves : (fault : ExportFault) → RefusesBase taken failures base days old new fault → LeavesExport base (taken old) (taken new)
+  pub leaves : (fault : ExportFault) → RefusesBase taken failures base days old new fault → LeavesExport base (taken old) (taken new) (failures old) (failures new)
   leaves (Variations flight) h = kept h.2.1
   leaves Records h = kept h.2.1
   leaves Memory h = kept h.2
-  leaves WriteFault h = inr (h.2.0, (h.0, h.1, same_bytes h.0 ∙ h.2.1), h.2.2)
+  leaves WriteFault h = inr (h.2.0, (h.0, h.1, same_bytes h.0 ∙ h.2.1), h.2.2, h.2.3)
 
-  pub leaves_if : (r : Result (Unit {0}) ExportFault) → IfErr r (RefusesBase taken failures base days old new) → OnErr r (LeavesExport base (taken old) (taken new))
+  pub leaves_if : (r : Result (Unit {0}) ExportFault) → IfErr r (RefusesBase taken failures base days old new) → OnErr r (LeavesExport base (taken old) (taken new) (failures old) (failures new))
   leaves_if (Ok x) h = tt
   leaves_if (Err e) h = leaves e h
 
   pub exports_if : (r : Result (Unit {0}) ExportFault) → OnOk r (WritesBase taken failures base days old new) → OnOk r (Exports base (taken old) (taken new))
   exports_if (Ok x) h = exports h
   exports_if (Err e) h = tt
+
+  pub counted_if : (r : Result (Unit {0}) ExportFault) → OnOk r (WritesBase taken failures base days old new) → OnOk r (failures new ≡ failures old)
+  counted_if (Ok x) h = h.2.3
+  counted_if (Err e) h = tt

@@ -6,4 +6,6 @@ pub mod Exporting
 pub mod Leaving
 pub mod Faults
 pub mod Again
-pub mod Telling
+pub mod ReasonLemmas
+pub mod PrintLemmas
+pub mod Within

@@ -6,6 +6,7 @@ use Rattle.clap.specs.Walk.{Row, answers_to, nothing_held, rows_after, walk_from
 use Rattle.clap.specs.Simple.{Shape, label_of, names_of, subcommand_of}
 use Rattle.clap.specs.Takes.{takes, turn_passes}
 use Rattle.clap.specs.Matches.{subcommand_name_of}
+use Rattle.clap.specs.Faults.{fault_of, is_simple_and_free}
 use Rattle.clap.specs.Simple.{App, HasMatchesOf, is_simple, subcommand_rows, subcommand_rows_of}
 use Rattle.clap.specs.Values.{kind_of}
 use Rattle.clap.specs.declared.error.Error.{Error}
@@ -19,6 +20,7 @@ use Rattle.clap.proofs.WalkLemmas.{both}
 use Rattle.ssim_program.specs.Line.{Line, Spells, Text, is_plain, name_of, values_of, Check, Tidy}
 use Rattle.ssim_program.specs.Commands.{whole_program, leaf, one_value}
 use Rattle.ssim_program.specs.Request.{line_at, with_one}
+use Rattle.ssim_program.specs.Usage.{IsNoCommand, Names}
 use Rattle.ssim_program.proofs.Words.{Looks, looks}
 use Rattle.ssim_program.proofs.Levels.{enters, one_level, one_rows, ready, simple, takes_words, top_rules, whole}
 
@@ -30,21 +32,21 @@ pub record Answers (words : List Text) (line : Line) : Type 0 where
   pub made : line_at (name_of line) rows ≡ Some line
 
 -- the name is the subcommand s
-record Names (name : Text) (s : Shape) : Type 0 where
+record IsNamed (name : Text) (s : Shape) : Type 0 where
   met : walked top_rules (names_of whole) (walk_from nothing_held) name ≡ record (walk_from nothing_held) { stopped = Some (name, []) }
   fits : turn_passes whole.top (names_of whole) (walk_from nothing_held) name ≡ true
   found : find (λ x. answers_to name (label_of x)) whole.subs ≡ Some s
 
-check_is : Names (codes "check") (ready (leaf (codes "check") one_value))
+check_is : IsNamed (codes "check") (ready (leaf (codes "check") one_value))
 unfolding clap_on_literals
 check_is = record { met = refl; fits = refl; found = refl }
 
-tidy_is : Names (codes "tidy") (ready (leaf (codes "tidy") one_value))
+tidy_is : IsNamed (codes "tidy") (ready (leaf (codes "tidy") one_value))
 unfolding clap_on_literals
 tidy_is = record { met = refl; fits = refl; found = refl }
 
 -- a command with one value
-one_answers : (line : Line) (name a : Text) (make : Text → Line) → line ≡ make a → name_of line ≡ name → Names name (ready (leaf name one_value)) → Looks a
+one_answers : (line : Line) (name a : Text) (make : Text → Line) → line ≡ make a → name_of line ≡ name → IsNamed name (ready (leaf name one_value)) → Looks a
     → ((rows : List Row) → line_at name rows ≡ with_one make rows) → (program : Text) → Answers (program ∷ name ∷ a ∷ []) line
 one_answers line name a make is named n la reads program =
     let s = ready (leaf name one_value) in
@@ -99,3 +101,39 @@ none_read line e = true≢false (sym (ap is_some e))
 pub kind_read : (e : Error) (words : List Text) (app : App) (line : Line) → Spells words line → app ≡ whole_program
     → (takes app words ≡ true → kind_of e ≡ kind.OutOfMemory) → kind_of e ≡ kind.OutOfMemory
 kind_read e words app line spells is passes = passes (ap (λ (x : App). takes x words) is ∙ (line_answers words line spells).taken)
+
+-- ---- from any words to the command that they name
+
+pair_of : (o : Option (Text × List Row)) (name : Text) (rows : List Row) → Some name ≡ option_map (λ p. p.0) o → Some rows ≡ option_map (λ p. p.1) o → o ≡ Some (name, rows)
+pair_of None name rows n r = absurd (true≢false (ap is_some n))
+pair_of (Some p) name rows n r = ap₂ (λ (a : Text) (b : List Row). Some (a, b)) (sym (some_inj _ _ n)) (sym (some_inj _ _ r))
+
+free : is_simple_and_free whole_program ≡ true
+free = refl
+
+module _ (m : ArgMatches) (words : List Text) (app : App) (name : Text) (rows : List Row) (is : app ≡ whole_program) (matches : HasMatchesOf app words m)
+    (named : Some name ≡ subcommand_name_of m) (found : Some rows ≡ option_map (λ p. p.1) (subcommand_rows (out-ArgMatches m).subcommand)) where
+  entered_is : subcommand_of whole_program words ≡ Some (name, rows)
+  entered_is =
+      ap (λ (x : App). subcommand_of x words) (sym is)
+      ∙ (sym (matches (ap is_simple is ∙ simple)).1
+      ∙ pair_of (subcommand_rows_of m) name rows (named ∙ name_first (out-ArgMatches m).subcommand) found)
+
+  -- a parse that succeeds gives the command that the words name
+  pub names_read : (got : Line) → (is_simple_and_free app ≡ true → fault_of app words ≡ []) → Some got ≡ line_at name rows → Names words got
+  names_read got kinds read = record {
+    right = ap (λ (x : App). fault_of x words) (sym is) ∙ kinds (ap is_simple_and_free is ∙ free);
+    name = name;
+    rows = rows;
+    entered = entered_is;
+    read = sym read;
+  }
+
+  -- and where no command is read, they name none
+  pub names_none : (is_simple_and_free app ≡ true → fault_of app words ≡ []) → None ≡ line_at name rows → IsNoCommand words
+  names_none kinds read = (
+    ap (λ (x : App). fault_of x words) (sym is) ∙ kinds (ap is_simple_and_free is ∙ free),
+    λ (line : Line) (n : Names words line).
+        let same : (n.name, n.rows) ≡ (name, rows) = some_inj _ _ (sym n.entered ∙ entered_is) in
+        none_read line (read ∙ (sym (ap (λ (p : Text × List Row). line_at p.0 p.1) same) ∙ n.read)),
+  )

@@ -1,9 +1,11 @@
 pub mod Line
 pub mod Commands
 pub mod Request
+pub mod Usage
 pub mod Files
 pub mod Refusal
 pub mod Printed
+pub mod Printing
 pub mod Made
 pub mod Again
-pub mod Told
+pub mod Reasons

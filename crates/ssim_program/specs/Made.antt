@@ -3,6 +3,7 @@ use Rattle.std.specs.Prelude.{◌≡◌, ◌⊎◌, ℕ, ◌<◌, IfSome, List, 
 use Rattle.std.specs.List.{flat_map}
 use Rattle.std.specs.Io.KnownBytes.{Appends, Keeps}
 use Rattle.ssim_values.specs.Flight.{FlightNumber}
+use Rattle.ssim_records.specs.declared.fault.RecordFault.TheVariants as record_fault
 use Rattle.ssim_records.specs.declared.record.Record.{Record}
 use Rattle.ssim_schedule.specs.Base.{Outcome}
 use Rattle.ssim_schedule.specs.BaseSeen.{AreFlights}
@@ -12,11 +13,13 @@ use Rattle.ssim_schedule.specs.Reading.{IsReadAs}
 use Rattle.ssim_schedule.specs.Sinks.{TakesFront}
 use Rattle.ssim_schedule.specs.Timetable.{days_of}
 use Rattle.ssim_schedule.specs.declared.fault.BaseFault.{BaseFault}
+use Rattle.ssim_schedule.specs.declared.fault.BaseFault.TheVariants as base
 use Rattle.ssim_schedule.specs.declared.note.Note.{Note}
 use Rattle.ssim_schedule.specs.declared.note.Note.TheVariants as note
 use Rattle.ssim_program.specs.Files.{Files, file_of}
 use Rattle.ssim_program.specs.Line.{Line, Text, Check, Tidy}
 use Rattle.ssim_program.specs.Printed.{printed_text}
+use Rattle.ssim_program.specs.Printing.{CountsOne}
 use Rattle.ssim_program.specs.Refusal.{refusal_of_base, refusal_text}
 use Rattle.ssim_program.specs.declared.refusal.Refusal.{Refusal}
 use Rattle.ssim_program.specs.declared.refusal.Refusal.TheVariants as refused
@@ -59,12 +62,18 @@ HasFile files name bytes = IfSome files (λ all. file_of all name ≡ Some bytes
 abbrev pub ReadsFile : Option Files → Text → Outcome → Type 0
 ReadsFile files name outcome = (bytes : List ℕ) × HasFile files name bytes × IsReadAs file_limit bytes outcome
 
--- Why no base is read of it: memory is wanted; or there is no such file within the limit; or the data set is refused.
+-- a fault of the bytes: not that the reader failed (13), nor that more came than the limit (14)
+abbrev pub IsOfBytes : BaseFault → Type 0
+IsOfBytes (base.Read (record_fault.ReadFault n)) = ⊥
+IsOfBytes (base.Read (record_fault.ReaderNeverEnds n)) = ⊥
+IsOfBytes _ = Unit {0}
+
+-- Why no base is read of it: memory ran out; or there is no such file within the limit; or the data set is refused.
 abbrev pub RefusesFile : Option Files → Text → Refusal → Type 0
 RefusesFile files name refusal =
     (refusal ≡ refused.Memory)
     ⊎ ((refusal_text refusal ≡ codes "refused 91 File " ++ name) × IfSome files (λ all. IfSome (file_of all name) (λ bytes. file_limit < length bytes)))
-    ⊎ ((fault : BaseFault) × (refusal ≡ refusal_of_base fault) × ReadsFile files name (Err fault))
+    ⊎ ((fault : BaseFault) × (refusal ≡ refusal_of_base fault) × IsOfBytes fault × ReadsFile files name (Err fault))
 
 -- these are the bytes that a command makes of the files
 abbrev pub Makes : Line → Option Files → List ℕ → Type 0
@@ -77,14 +86,14 @@ Makes (Tidy name) files bytes = (base : List Record) × (notes : List Note) × R
 abbrev pub Exports : List Record → Option (List ℕ) → Option (List ℕ) → Type 0
 Exports base before after = (bytes : List ℕ) × IsExportOf base bytes × Appends before after bytes
 
--- it is as it was, or took a front of the export
-abbrev pub LeavesExport : List Record → Option (List ℕ) → Option (List ℕ) → Type 0
-LeavesExport base before after = Keeps before after ⊎ ((bytes : List ℕ) × IsExportOf base bytes × TakesFront bytes before after)
+-- it is as it was; or it failed, and took a prefix of the export
+abbrev pub LeavesExport : List Record → Option (List ℕ) → Option (List ℕ) → ℕ → ℕ → Type 0
+LeavesExport base before after old new = Keeps before after ⊎ ((bytes : List ℕ) × IsExportOf base bytes × TakesFront bytes before after × CountsOne old new)
 
 -- it has grown by exactly what the command makes
 abbrev pub Writes : Line → Option Files → Option (List ℕ) → Option (List ℕ) → Type 0
 Writes line files before after = (bytes : List ℕ) × Makes line files bytes × Appends before after bytes
 
--- it is as it was; or it failed, and took a front of what the command makes
-abbrev pub Leaves : Line → Option Files → Option (List ℕ) → Option (List ℕ) → Type 0
-Leaves line files before after = Keeps before after ⊎ ((bytes : List ℕ) × Makes line files bytes × TakesFront bytes before after)
+-- it is as it was; or it failed, and took a prefix of what the command makes
+abbrev pub Leaves : Line → Option Files → Option (List ℕ) → Option (List ℕ) → ℕ → ℕ → Type 0
+Leaves line files before after old new = Keeps before after ⊎ ((bytes : List ℕ) × Makes line files bytes × TakesFront bytes before after × CountsOne old new)

@@ -5,29 +5,30 @@ ghost use Rattle.ssim_schedule.specs.Export.{line};
 ghost use Rattle.ssim_program.specs.Line.{Check};
 ghost use Rattle.ssim_program.specs.Made.{AreLinesOn, Leaves, Writes, as_printed};
 ghost use Rattle.ssim_program.specs.Printed.{printed_text};
-ghost use Rattle.ssim_program.specs.Told.{Refuses};
+ghost use Rattle.ssim_program.specs.Reasons.{Refuses};
 
 use crate::data_set::load;
 use crate::printed::Printed;
+use crate::printer::{Printer, print_all};
 use crate::refusal::Refusal;
 use crate::store::Store;
-use crate::writing::print;
 use ssim_schedule::{BaseRead, Note};
 use ssim_values::Memory;
 use std::alloc::Global;
 use std::io::Write;
 
 /// Prints the notes on the data set in the file of this name, and a summary.
-pub(crate) fn check<'n, S: Store, O: Write>(
+pub(crate) fn check<'n, S: Store, O: Printer>(
     alloc: Global,
     name: &'n str,
     store: &mut S,
     out: &mut O,
 ) -> Result<(), Refusal<'n>>
-    ensures done { OnOk result (Writes (Check name.entry.now) (S.files store.old) (O.contents out.old) (O.contents out.new)) }
-    ensures refused { OnErr result (Leaves (Check name.entry.now) (S.files store.old) (O.contents out.old) (O.contents out.new)) }
-    ensures why { IfErr result (Refuses (Check name.entry.now) (S.files store.old)) }
+    ensures done { OnOk result (Writes (Check name.entry.now) (S.files store.old) (O.taken out.old) (O.taken out.new)) }
+    ensures refused { OnErr result (Leaves (Check name.entry.now) (S.files store.old) (O.taken out.old) (O.taken out.new) (O.failures out.old) (O.failures out.new)) }
+    ensures why { IfErr result (Refuses (Check name.entry.now) (S.files store.old) (O.failures out.old) (O.failures out.new)) }
     ensures same { S.files store.new ≡ S.files store.old }
+    ensures device { O.device out.new ≡ O.device out.old }
 {
     let read = match load(alloc, name, store) {
         Ok(read) => read,
@@ -36,7 +37,7 @@ pub(crate) fn check<'n, S: Store, O: Write>(
     let Ok(lines) = lines_on(alloc, &read) else {
         return Err(Refusal::Memory);
     };
-    match print(out, &lines) {
+    match print_all(out, &lines) {
         Ok(()) => Ok(()),
         Err(_) => Err(Refusal::WriteFault),
     }
@@ -68,7 +69,7 @@ fn printed_note(note: Note) -> Printed
     }
 }
 
-/// A printed line behind the others.
+/// Adds a printed line.
 fn add_line(lines: &mut Vec<u8>, printed: Printed) -> Result<(), Memory>
     ensures { OnOk result (lines.new.items ≡ lines.old.items ++ line (printed_text printed)) }
 {

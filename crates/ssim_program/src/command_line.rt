@@ -1,9 +1,10 @@
 //! The command that the words name.
-ghost use Rattle.std.specs.Prelude.{◌≡◌, IfOk, MatchResult, Option, codes, map, option_map};
+ghost use Rattle.std.specs.Prelude.{◌≡◌, IfErr, IfOk, MatchResult, Option, codes, map, option_map};
 ghost use Rattle.clap.specs.Words.{app_of, first_of, found_of, rows_of};
 ghost use Rattle.ssim_program.specs.Commands.{whole_program};
 ghost use Rattle.ssim_program.specs.Line.{Line, Spells};
 ghost use Rattle.ssim_program.specs.Request.{line_at, line_of};
+ghost use Rattle.ssim_program.specs.Usage.{IsFaultOf, Names};
 
 use crate::commands::command;
 use clap::error::ErrorKind;
@@ -19,7 +20,7 @@ pub enum Request<'a> {
     Tidy(&'a str),
 }
 
-/// Why the words gave no request.
+/// Why the words make no request.
 #[derive(Debug, Drop)]
 pub enum LineFault {
     /// Memory ran out.
@@ -50,11 +51,16 @@ fn read<'a>(name: &str, inner: &ArgMatches<'a>) -> Option<Request<'a>>
     None
 }
 
-/// The request that the words make, the first of which is the program's name. Where they name a command with as many
-/// plain values as it takes, it is that command with these values, and only memory can be missing.
+/// The request that the words make, the first of which is the program's name.
+///
+/// A command's name and as many plain values as it takes are that command with these values; only memory can be missing.
 pub fn parse<'a>(alloc: Global, words: &'a [&'a str]) -> Result<Request<'a>, LineFault>
-    ensures { (line : Line) → Spells (map (λ w. w.now) words.entry.now) line
+    ensures spelled { (line : Line) → Spells (map (λ w. w.now) words.entry.now) line
         → MatchResult result (λ r. line_of r ≡ line) (λ e. e ≡ LineFault.Memory) }
+
+    // Nothing is wrong with the words of a request, and a fault is one of the words.
+    ensures named { IfOk result (λ r. Names (map (λ w. w.now) words.entry.now) (line_of r)) }
+    ensures fault { IfErr result (IsFaultOf (map (λ w. w.now) words.entry.now)) }
 {
     let Ok(program) = command(alloc) else {
         return Err(LineFault::Memory);

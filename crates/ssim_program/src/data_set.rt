@@ -1,8 +1,8 @@
 //! The data set in a file.
 
-ghost use Rattle.std.specs.Prelude.{◌≡◌, IfErr, IfOk, Ok};
+ghost use Rattle.std.specs.Prelude.{◌≡◌, ◌≤◌, IfErr, IfOk, Ok, length};
 ghost use Rattle.ssim_schedule.specs.Reading.{Answers, IsReadAs};
-ghost use Rattle.ssim_program.specs.Made.{ReadsFile, RefusesFile, file_limit};
+ghost use Rattle.ssim_program.specs.Made.{IsOfBytes, ReadsFile, RefusesFile, file_limit};
 
 use crate::refusal::Refusal;
 use crate::store::{Store, StoreFault};
@@ -12,8 +12,7 @@ use std::alloc::Global;
 /// The most bytes that a file may have.
 const LIMIT: u64 = 268_435_456;
 
-/// Reads the data set in the file of this name, or on standard input, with an empty station table. The file's bytes are
-/// let go.
+/// Reads the data set in the file of this name, with an empty station table. The file's bytes are freed.
 pub(crate) fn load<'n, S: Store>(
     alloc: Global,
     name: &'n str,
@@ -35,7 +34,9 @@ pub(crate) fn load<'n, S: Store>(
 
 /// Reads a data set with an empty station table.
 fn read(alloc: Global, bytes: &[u8]) -> Result<BaseRead, BaseFault>
-    ensures { Answers result (IsReadAs file_limit bytes.now) }
+    requires { length bytes.now ≤ file_limit }
+    ensures read { Answers result (IsReadAs file_limit bytes.now) }
+    ensures whole { IfErr result IsOfBytes }
 {
     let Ok(stations) = Stations::read(alloc, b"") else {
         return Err(BaseFault::Memory);

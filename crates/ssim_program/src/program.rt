@@ -1,32 +1,101 @@
 //! The program, from its words to its status.
 
-ghost use Rattle.std.specs.Prelude.{◌≡◌, ◌≤◌, IfErr, IfOk, OnErr, OnOk, map};
+ghost use Rattle.std.specs.Prelude.{◌≡◌, ◌≤◌, ◌⊎◌, ℕ, true, false, IfErr, IfOk, OnErr, OnOk, map};
 ghost use Rattle.std.specs.Io.KnownBytes.{Keeps};
 ghost use Rattle.ssim_schedule.specs.Export.{line};
-ghost use Rattle.ssim_schedule.specs.Sinks.{TakesFront};
 ghost use Rattle.ssim_program.specs.Again.{WritesItself};
 ghost use Rattle.ssim_program.specs.Line.{Line, Spells};
 ghost use Rattle.ssim_program.specs.Made.{Leaves, Writes};
+ghost use Rattle.ssim_program.specs.Reasons.{IsRefused, PrintsReason, PrintsRefusal, Refuses};
 ghost use Rattle.ssim_program.specs.Refusal.{refusal_text};
 ghost use Rattle.ssim_program.specs.Request.{line_of};
-ghost use Rattle.ssim_program.specs.Told.{Refuses, Tells, TellsWhy};
+ghost use Rattle.ssim_program.specs.Usage.{HasFault, IsCommand, IsNoCommand, is_help};
+ghost use Rattle.ssim_program.specs.declared.refusal.Refusal.TheVariants as refused;
+ghost use Rattle.clap.specs.Words.{kind_of};
 
 use crate::check::check;
 use crate::command_line::{LineFault, Request, parse};
+use crate::printer::{CountedWriter, Printer, print_all, print_line};
 use crate::refusal::Refusal;
 use crate::store::Store;
 use crate::tidy::tidy;
-use crate::writing::print;
 use std::alloc::Global;
 use std::io;
 use std::io::Write;
 
-/// Runs the program on its words, the first of which is its own name, and answers its status: 0 where the command was
-/// done, or help was asked for; 1 where it was refused; 2 where the words name no command.
-///
-/// What a command prints goes to `out`, why it was refused to `err`, as a line. Where `out` fails, it has taken a front of
-/// what was to be printed. A failure of `err` changes no status.
+/// Runs the program over two writers of std: [`run_on`], with the failures of the two writers counted.
 pub fn run<S: Store, O: Write, E: Write>(
+    alloc: Global,
+    words: &[&str],
+    store: &mut S,
+    out: &mut O,
+    err: &mut E,
+) -> u8
+    ensures status { result ≤ 2 }
+    ensures known { (line : Line) → Spells (map (λ w. w.now) words.now) line → result ≤ 1 }
+    ensures named { result ≡ 0 → IsCommand (map (λ w. w.now) words.now) ⊎ HasFault (map (λ w. w.now) words.now) true }
+    ensures wrong { result ≡ 2 → HasFault (map (λ w. w.now) words.now) false ⊎ IsNoCommand (map (λ w. w.now) words.now) }
+    ensures done { (line : Line) → Spells (map (λ w. w.now) words.now) line → result ≡ 0 → Writes line (S.files store.old) (O.contents out.old) (O.contents out.new) }
+    ensures quiet { (line : Line) → Spells (map (λ w. w.now) words.now) line → result ≡ 0 → Keeps (E.contents err.old) (E.contents err.new) }
+    ensures again { (line : Line) → Spells (map (λ w. w.now) words.now) line → result ≡ 0 → WritesItself line (O.contents out.old) (O.contents out.new) }
+
+    // With the failures that were counted: a prefix on `out` only if `out` failed, and the whole line on `err` unless `err` failed.
+    ensures refused { (line : Line) → Spells (map (λ w. w.now) words.now) line → result ≡ 1 → (failures : ℕ) × IsRefused line (S.files store.old) (O.contents out.old) (O.contents out.new) (E.contents err.old) (E.contents err.new) 0 failures }
+    ensures files { S.files store.new ≡ S.files store.old }
+{
+    let mut reasons = CountedWriter {
+        writer: err,
+        failures: 0,
+    };
+    let status = run_to(alloc, words, store, out, &mut reasons);
+    let CountedWriter {
+        writer,
+        failures: _,
+    } = reasons;
+    // No effect at run time. The proof reads what `err` holds from this use of `writer`.
+    let _ = &*writer;
+    status
+}
+
+/// Runs the program over a writer of std and a printer.
+fn run_to<S: Store, O: Write, E: Printer>(
+    alloc: Global,
+    words: &[&str],
+    store: &mut S,
+    out: &mut O,
+    err: &mut E,
+) -> u8
+    ensures status { result ≤ 2 }
+    ensures known { (line : Line) → Spells (map (λ w. w.now) words.now) line → result ≤ 1 }
+    ensures named { result ≡ 0 → IsCommand (map (λ w. w.now) words.now) ⊎ HasFault (map (λ w. w.now) words.now) true }
+    ensures wrong { result ≡ 2 → HasFault (map (λ w. w.now) words.now) false ⊎ IsNoCommand (map (λ w. w.now) words.now) }
+    ensures done { (line : Line) → Spells (map (λ w. w.now) words.now) line → result ≡ 0 → Writes line (S.files store.old) (O.contents out.old) (O.contents out.new) }
+    ensures quiet { (line : Line) → Spells (map (λ w. w.now) words.now) line → result ≡ 0 → Keeps (E.taken err.old) (E.taken err.new) }
+    ensures again { (line : Line) → Spells (map (λ w. w.now) words.now) line → result ≡ 0 → WritesItself line (O.contents out.old) (O.contents out.new) }
+    ensures refused { (line : Line) → Spells (map (λ w. w.now) words.now) line → result ≡ 1 → IsRefused line (S.files store.old) (O.contents out.old) (O.contents out.new) (E.taken err.old) (E.taken err.new) (E.failures err.old) (E.failures err.new) }
+    ensures files { S.files store.new ≡ S.files store.old }
+    ensures device { E.device err.new ≡ E.device err.old }
+{
+    let mut printed = CountedWriter {
+        writer: out,
+        failures: 0,
+    };
+    let status = run_on(alloc, words, store, &mut printed, err);
+    let CountedWriter {
+        writer,
+        failures: _,
+    } = printed;
+    // No effect at run time. The proof reads what `out` holds from this use of `writer`.
+    let _ = &*writer;
+    status
+}
+
+/// Runs the program on its words, the first of which is its own name. Returns 0 if the command was done, or help was asked
+/// for; 1 if it was refused; 2 if the words name no command.
+///
+/// What a command prints goes to `out`, the line of a refusal to `err`. If `out` fails, it has taken a prefix of what was to
+/// be printed. A failure of `err` changes no status.
+pub fn run_on<S: Store, O: Printer, E: Printer>(
     alloc: Global,
     words: &[&str],
     store: &mut S,
@@ -38,19 +107,25 @@ pub fn run<S: Store, O: Write, E: Write>(
     // The words of a command are no fault of the command line.
     ensures known { (line : Line) → Spells (map (λ w. w.now) words.now) line → result ≤ 1 }
 
+    // Status 0 is for a command, or if help is asked for; 1 also if memory ran out; 2 for words that are wrong.
+    ensures named { result ≡ 0 → IsCommand (map (λ w. w.now) words.now) ⊎ HasFault (map (λ w. w.now) words.now) true }
+    ensures memory { result ≡ 1 → IsCommand (map (λ w. w.now) words.now) ⊎ HasFault (map (λ w. w.now) words.now) true ⊎ PrintsRefusal refused.Memory (E.taken err.old) (E.taken err.new) (E.failures err.old) (E.failures err.new) }
+    ensures wrong { result ≡ 2 → HasFault (map (λ w. w.now) words.now) false ⊎ IsNoCommand (map (λ w. w.now) words.now) }
+
     // What was done: exactly what the command makes of the file was written, and nothing else.
-    ensures done { (line : Line) → Spells (map (λ w. w.now) words.now) line → result ≡ 0 → Writes line (S.files store.old) (O.contents out.old) (O.contents out.new) }
-    ensures quiet { (line : Line) → Spells (map (λ w. w.now) words.now) line → result ≡ 0 → Keeps (E.contents err.old) (E.contents err.new) }
+    ensures done { (line : Line) → Spells (map (λ w. w.now) words.now) line → result ≡ 0 → Writes line (S.files store.old) (O.taken out.old) (O.taken out.new) }
+    ensures quiet { (line : Line) → Spells (map (λ w. w.now) words.now) line → result ≡ 0 → Keeps (E.taken err.old) (E.taken err.new) }
 
     // What `tidy` wrote is read as a base, with nothing noted, whose export it is: `laws::tidied_once`.
-    ensures again { (line : Line) → Spells (map (λ w. w.now) words.now) line → result ≡ 0 → WritesItself line (O.contents out.old) (O.contents out.new) }
+    ensures again { (line : Line) → Spells (map (λ w. w.now) words.now) line → result ≡ 0 → WritesItself line (O.taken out.old) (O.taken out.new) }
 
     // A refusal wrote nothing to `out`, unless `out` itself failed.
-    ensures refused { (line : Line) → Spells (map (λ w. w.now) words.now) line → result ≡ 1 → Leaves line (S.files store.old) (O.contents out.old) (O.contents out.new) }
+    ensures refused { (line : Line) → Spells (map (λ w. w.now) words.now) line → result ≡ 1 → Leaves line (S.files store.old) (O.taken out.old) (O.taken out.new) (O.failures out.old) (O.failures out.new) }
 
-    // It told why: `err` took the line of a refusal that has its reason, or a front of it where `err` failed.
-    ensures told { (line : Line) → Spells (map (λ w. w.now) words.now) line → result ≡ 1 → TellsWhy line (S.files store.old) (E.contents err.old) (E.contents err.new) }
+    // Its line was printed: `err` took the whole line of a refusal that has its reason, or failed and took a prefix.
+    ensures reason { (line : Line) → Spells (map (λ w. w.now) words.now) line → result ≡ 1 → PrintsReason line (S.files store.old) (O.failures out.old) (O.failures out.new) (E.taken err.old) (E.taken err.new) (E.failures err.old) (E.failures err.new) }
     ensures files { S.files store.new ≡ S.files store.old }
+    ensures devices { (O.device out.new ≡ O.device out.old) × (E.device err.new ≡ E.device err.old) }
 {
     match parse(alloc, words) {
         Ok(request) => match act(alloc, request, store, out) {
@@ -60,24 +135,25 @@ pub fn run<S: Store, O: Write, E: Write>(
         Err(LineFault::Memory) => refuse(alloc, &Refusal::Memory, err),
         Err(LineFault::Shown(error)) => show(alloc, &error, out, err),
         Err(LineFault::NoCommand) => {
-            let _ = writeln!(err, "error: the words name no command");
+            print_line(b"error: the words name no command\n", err);
             2
         }
     }
 }
 
 /// Does what a command asks.
-fn act<'n, S: Store, O: Write>(
+fn act<'n, S: Store, O: Printer>(
     alloc: Global,
     request: Request<'n>,
     store: &mut S,
     out: &mut O,
 ) -> Result<(), Refusal<'n>>
-    ensures done { OnOk result (Writes (line_of request.entry) (S.files store.old) (O.contents out.old) (O.contents out.new)) }
-    ensures again { OnOk result (WritesItself (line_of request.entry) (O.contents out.old) (O.contents out.new)) }
-    ensures refused { OnErr result (Leaves (line_of request.entry) (S.files store.old) (O.contents out.old) (O.contents out.new)) }
-    ensures why { IfErr result (Refuses (line_of request.entry) (S.files store.old)) }
+    ensures done { OnOk result (Writes (line_of request.entry) (S.files store.old) (O.taken out.old) (O.taken out.new)) }
+    ensures again { OnOk result (WritesItself (line_of request.entry) (O.taken out.old) (O.taken out.new)) }
+    ensures refused { OnErr result (Leaves (line_of request.entry) (S.files store.old) (O.taken out.old) (O.taken out.new) (O.failures out.old) (O.failures out.new)) }
+    ensures why { IfErr result (Refuses (line_of request.entry) (S.files store.old) (O.failures out.old) (O.failures out.new)) }
     ensures same { S.files store.new ≡ S.files store.old }
+    ensures device { O.device out.new ≡ O.device out.old }
 {
     match request {
         Request::Check(name) => check(alloc, name, store, out),
@@ -85,14 +161,15 @@ fn act<'n, S: Store, O: Write>(
     }
 }
 
-/// Prints why a command was refused; where no memory is left for the line, it is that of 90. A failure of `err` changes nothing.
-fn refuse<E: Write>(alloc: Global, refusal: &Refusal<'_>, err: &mut E) -> u8
+/// Prints the line of a refusal. If no memory is left for the line, it is that of 90.
+fn refuse<P: Printer>(alloc: Global, refusal: &Refusal<'_>, err: &mut P) -> u8
     ensures status { result ≡ 1 }
-    ensures told { Tells refusal.now (E.contents err.old) (E.contents err.new) }
+    ensures printed { PrintsRefusal refusal.now (P.taken err.old) (P.taken err.new) (P.failures err.old) (P.failures err.new) }
+    ensures device { P.device err.new ≡ P.device err.old }
 {
     match line_of_refusal(alloc, refusal) {
-        Ok(line) => tell(&line, err),
-        Err(_) => tell(b"refused 90 Memory\n", err),
+        Ok(line) => print_line(&line, err),
+        Err(_) => print_line(b"refused 90 Memory\n", err),
     }
     1
 }
@@ -105,23 +182,24 @@ fn line_of_refusal(alloc: Global, refusal: &Refusal<'_>) -> io::Result<Vec<u8>>
     Ok(bytes)
 }
 
-/// Prints a line; what a writer that fails has taken is a front of it.
-fn tell<E: Write>(line: &[u8], err: &mut E)
-    ensures { TakesFront line.now (E.contents err.old) (E.contents err.new) }
-{
-    let _ = print(err, line);
-}
-
 /// Prints what `clap` has to say: help on `out`, with status 0, and all else on `err`, with 2.
-fn show<O: Write, E: Write>(alloc: Global, error: &clap::Error, out: &mut O, err: &mut E) -> u8
-    ensures { result ≤ 2 }
+fn show<O: Printer, E: Printer>(alloc: Global, error: &clap::Error, out: &mut O, err: &mut E) -> u8
+    ensures status { result ≤ 2 }
+    ensures help { result ≤ 1 → is_help (kind_of error.now) ≡ true }
+    ensures wrong { result ≡ 2 → is_help (kind_of error.now) ≡ false }
+    ensures devices { (O.device out.new ≡ O.device out.old) × (E.device err.new ≡ E.device err.old) }
 {
+    let mut text = Vec::new(alloc);
+    let shown = write!(text, "{error}");
     if error.use_stderr() {
-        let _ = write!(err, "{error}");
+        print_line(&text, err);
         return 2;
     }
-    if write!(out, "{error}").is_err() || out.flush().is_err() {
-        return refuse(alloc, &Refusal::WriteFault, err);
+    if shown.is_err() {
+        return refuse(alloc, &Refusal::Memory, err);
     }
-    0
+    match print_all(out, &text) {
+        Ok(()) => 0,
+        Err(_) => refuse(alloc, &Refusal::WriteFault, err),
+    }
 }

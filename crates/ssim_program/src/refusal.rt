@@ -111,14 +111,14 @@ fn unread<'a>(fault: RecordFault) -> Refusal<'a>
     ensures { result ≡ refusal_of_record fault }
 {
     match fault {
-        RecordFault::Short(record) => Refusal::Short { record },
-        RecordFault::BadType(record) => Refusal::BadType { record },
-        RecordFault::BadColumn(record, column) => Refusal::BadColumn {
+        RecordFault::Short { record } => Refusal::Short { record },
+        RecordFault::BadType { record } => Refusal::BadType { record },
+        RecordFault::BadColumn { record, column } => Refusal::BadColumn {
             record,
             column: column as u64,
         },
-        RecordFault::ReadFault(record) => Refusal::ReadFault { record },
-        RecordFault::ReaderNeverEnds(record) => Refusal::ReaderNeverEnds { record },
+        RecordFault::ReadFault { record } => Refusal::ReadFault { record },
+        RecordFault::ReaderNeverEnds { record } => Refusal::ReaderNeverEnds { record },
     }
 }
 

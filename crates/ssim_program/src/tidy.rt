@@ -5,31 +5,32 @@ ghost use Rattle.ssim_program.specs.Made.{Exports, Leaves, LeavesExport, Writes}
 ghost use Rattle.ssim_program.specs.Again.{GrowsByItself};
 ghost use Rattle.ssim_program.specs.Line.{Tidy};
 ghost use Rattle.ssim_program.specs.Refusal.{refusal_of_export};
-ghost use Rattle.ssim_program.specs.Told.{HasNoExport, Refuses};
+ghost use Rattle.ssim_program.specs.Reasons.{HasNoExport, Refuses};
 
 use crate::data_set::load;
+use crate::printer::Printer;
 use crate::refusal::Refusal;
 use crate::store::Store;
-use crate::writing::Writing;
 use ssim_records::Sink;
 use ssim_schedule::laws::export_reads_back;
 use ssim_schedule::{Base, BaseRead, ExportFault, Schedule};
 use ssim_values::{Airline, Designator};
 use std::alloc::Global;
-use std::io::Write;
+use std::mem::forget;
 
 /// Writes the canonical export of the data set in the file of this name.
-pub(crate) fn tidy<'n, S: Store, O: Write>(
+pub(crate) fn tidy<'n, S: Store, O: Printer>(
     alloc: Global,
     name: &'n str,
     store: &mut S,
     out: &mut O,
 ) -> Result<(), Refusal<'n>>
-    ensures done { OnOk result (Writes (Tidy name.entry.now) (S.files store.old) (O.contents out.old) (O.contents out.new)) }
-    ensures again { OnOk result (GrowsByItself (O.contents out.old) (O.contents out.new)) }
-    ensures refused { OnErr result (Leaves (Tidy name.entry.now) (S.files store.old) (O.contents out.old) (O.contents out.new)) }
-    ensures why { IfErr result (Refuses (Tidy name.entry.now) (S.files store.old)) }
+    ensures done { OnOk result (Writes (Tidy name.entry.now) (S.files store.old) (O.taken out.old) (O.taken out.new)) }
+    ensures again { OnOk result (GrowsByItself (O.taken out.old) (O.taken out.new)) }
+    ensures refused { OnErr result (Leaves (Tidy name.entry.now) (S.files store.old) (O.taken out.old) (O.taken out.new) (O.failures out.old) (O.failures out.new)) }
+    ensures why { IfErr result (Refuses (Tidy name.entry.now) (S.files store.old) (O.failures out.old) (O.failures out.new)) }
     ensures same { S.files store.new ≡ S.files store.old }
+    ensures device { O.device out.new ≡ O.device out.old }
 {
     match load(alloc, name, store) {
         Ok(BaseRead { base, .. }) => match export(&base, out) {
@@ -40,52 +41,36 @@ pub(crate) fn tidy<'n, S: Store, O: Write>(
     }
 }
 
-/// Writes the canonical export of a base, and then wants it written on.
-fn export<O: Write>(base: &Base, out: &mut O) -> Result<(), ExportFault>
-    ensures ok { OnOk result (Exports base.now.records (O.contents out.old) (O.contents out.new)) }
-    ensures again { OnOk result (GrowsByItself (O.contents out.old) (O.contents out.new)) }
-    ensures why { IfErr result (HasNoExport base.now.records) }
-    ensures err { OnErr result (LeavesExport base.now.records (O.contents out.old) (O.contents out.new)) }
+/// Writes the canonical export of a base, and flushes `out`.
+fn export<O: Printer>(base: &Base, out: &mut O) -> Result<(), ExportFault>
+    ensures ok { OnOk result (Exports base.now.records (O.taken out.old) (O.taken out.new)) }
+    ensures again { OnOk result (GrowsByItself (O.taken out.old) (O.taken out.new)) }
+    ensures why { IfErr result (HasNoExport base.now.records (O.failures out.old) (O.failures out.new)) }
+    ensures err { OnErr result (LeavesExport base.now.records (O.taken out.old) (O.taken out.new) (O.failures out.old) (O.failures out.new)) }
+    ensures device { O.device out.new ≡ O.device out.old }
 {
-    put_export(base, out)?;
+    export_into(base, out)?;
     match out.flush() {
         Ok(()) => Ok(()),
         Err(_) => Err(ExportFault::WriteFault),
     }
 }
 
-/// Writes the canonical export of a base.
-fn put_export<O: Write>(base: &Base, out: &mut O) -> Result<(), ExportFault>
-    ensures ok { OnOk result (Exports base.now.records (O.contents out.old) (O.contents out.new)) }
-    ensures again { OnOk result (GrowsByItself (O.contents out.old) (O.contents out.new)) }
-    ensures why { IfErr result (HasNoExport base.now.records) }
-    ensures err { OnErr result (LeavesExport base.now.records (O.contents out.old) (O.contents out.new)) }
-{
-    let mut sink = Writing {
-        writer: out,
-        failures: 0,
-    };
-    let exported = export_into(base, &mut sink);
-    let Writing {
-        writer,
-        failures: _,
-    } = sink;
-    // No effect at run time. The proof reads what `out` holds from this use of `writer`.
-    let _ = &*writer;
-    exported
-}
-
-/// Makes the timetable of a base, and puts its canonical export.
+/// Makes the timetable of a base, and writes its canonical export.
 fn export_into<W: Sink>(base: &Base, out: &mut W) -> Result<(), ExportFault>
     ensures ok { OnOk result (Exports base.now.records (W.taken out.old) (W.taken out.new)) }
     ensures again { OnOk result (GrowsByItself (W.taken out.old) (W.taken out.new)) }
-    ensures why { IfErr result (HasNoExport base.now.records) }
-    ensures err { OnErr result (LeavesExport base.now.records (W.taken out.old) (W.taken out.new)) }
+    ensures why { IfErr result (HasNoExport base.now.records (W.failures out.old) (W.failures out.new)) }
+    ensures err { OnErr result (LeavesExport base.now.records (W.taken out.old) (W.taken out.new) (W.failures out.old) (W.failures out.new)) }
+    ensures count { OnOk result (W.failures out.new ≡ W.failures out.old) }
     ensures device { W.device out.new ≡ W.device out.old }
 {
     export_reads_back();
     let schedule = Schedule::of(base)?;
-    schedule.export(base, out)
+    let exported = schedule.export(base, out);
+    // The process ends soon: its memory need not be given back piece by piece.
+    forget(schedule);
+    exported
 }
 
 /// The refusal of an export of this airline's flights.

@@ -6,6 +6,10 @@ pub mod Numbers
 pub mod Places
 pub mod Rows
 pub mod OwnColumns
+pub mod Overwriting
+pub mod CarriedTexts
+pub mod LegChanges
+pub mod NewTails
 pub mod Names
 pub mod Days
 pub mod Headers

@@ -14,7 +14,7 @@ Placed n [] ps b = Unit {0}
 Placed n (w ∷ ws) [] b = Unit {0}
 Placed n (w ∷ ws) (p ∷ ps) b = (slice_range b n (n + w) ≡ p) × Placed (n + w) ws ps b
 
-part_at : (before p after : List ℕ) (n w : ℕ) → n ≡ length before → length p ≡ w → slice_range (before ++ (p ++ after)) n (n + w) ≡ p
+pub part_at : (before p after : List ℕ) (n w : ℕ) → n ≡ length before → length p ≡ w → slice_range (before ++ (p ++ after)) n (n + w) ≡ p
 part_at before p after n w at len =
     let k : (n + w) - n ≡ w = omega arith in
     rw (k, drop_at before (p ++ after) n (sym at)) (take_at p after w len)

@@ -4,8 +4,8 @@ use Rattle.std.specs.Prelude.{codes}
 use Rattle.std.specs.List.{AllZip}
 use Rattle.ssim_values.specs.Airline.{is_airline}
 use Rattle.ssim_records.specs.declared.field.Kind.TheVariants.{Carried, AirlineCode}
-use Rattle.ssim_records.specs.declared.trailer.EndCode.{EndCode}
-use Rattle.ssim_records.specs.declared.trailer.EndCode.TheVariants.{Continuation, End}
+use Rattle.ssim_records.specs.declared.end_code.EndCode.{EndCode}
+use Rattle.ssim_records.specs.declared.end_code.EndCode.TheVariants.{Continuation, End}
 use Rattle.ssim_records.specs.Numbers.{digits_of, digits}
 use Rattle.ssim_records.specs.Columns.{columns, fault_in, is_carried, end_code_of}
 use Rattle.ssim_records.specs.Trailer.{TrailerFields, IsTrailer, SpellsTrailer, trailer_texts, end_code_text, written_trailer}

@@ -1,5 +1,5 @@
 -- The fields of a record by their columns: what each kind of field may say, and the first column that cannot stand.
-use Rattle.std.specs.Prelude.{ℕ, ◌≡◌, ◌+◌, ◌-◌, ◌≤◌, ◌<◌, ◌==◌, Bool, true, not, ◌&&◌, nat_lt, nat_le, if◌then◌else◌, List, [], ◌∷◌, take, drop, slice_range, codes, Option, Some, None, is_some, option_map}
+use Rattle.std.specs.Prelude.{ℕ, zero, suc, ◌≡◌, ◌+◌, ◌-◌, ◌≤◌, ◌<◌, ◌==◌, Bool, true, not, ◌&&◌, nat_lt, nat_le, if◌then◌else◌, List, [], ◌∷◌, ◌++◌, length, take, drop, slice_range, codes, Option, Some, None, is_some, option_map}
 use Rattle.std.specs.List.{list_all}
 use Rattle.std.specs.Str.{bytes_eq}
 use Rattle.ssim_values.specs.Day.{day_of}
@@ -13,10 +13,10 @@ use Rattle.ssim_records.specs.Numbers.{is_blank, digits_of, number_of, sequence_
 use Rattle.ssim_records.specs.declared.field.Kind.{Kind}
 use Rattle.ssim_records.specs.declared.field.Kind.TheVariants.{Suffix, AirlineCode, Number, Sequence, Carried, Dates, Date, Days, StationCode, Time, PassengerTime, UtcVariation, Digits, Mode, Code, Title}
 use Rattle.ssim_records.specs.declared.field.Field.{Field}
-use Rattle.ssim_records.specs.declared.carrier.TimeMode.{TimeMode}
-use Rattle.ssim_records.specs.declared.carrier.TimeMode.TheVariants.{Utc, Local}
-use Rattle.ssim_records.specs.declared.trailer.EndCode.{EndCode}
-use Rattle.ssim_records.specs.declared.trailer.EndCode.TheVariants.{Continuation, End}
+use Rattle.ssim_records.specs.declared.time_mode.TimeMode.{TimeMode}
+use Rattle.ssim_records.specs.declared.time_mode.TimeMode.TheVariants.{Utc, Local}
+use Rattle.ssim_records.specs.declared.end_code.EndCode.{EndCode}
+use Rattle.ssim_records.specs.declared.end_code.EndCode.TheVariants.{Continuation, End}
 
 -- columns first to last of a record, counted from 1
 abbrev pub columns : ℕ → ℕ → List ℕ → List ℕ
@@ -25,6 +25,24 @@ columns first last bytes = slice_range bytes (first - 1) last
 -- any byte but 0 to 31 and 127
 abbrev pub is_carried : ℕ → Bool
 is_carried b = nat_le 32 b && not (b == 127)
+
+-- ---- what is written
+
+-- the byte, or a blank for a byte that no record carries
+abbrev pub carried : ℕ → ℕ
+carried b = if is_carried b then b else 32
+
+-- a text in n columns, with blanks after it
+abbrev pub filled : ℕ → List ℕ → List ℕ
+filled zero text = []
+filled (suc n) [] = 32 ∷ filled n []
+filled (suc n) (b ∷ text) = carried b ∷ filled n text
+
+-- a text over the bytes from a place on, counted from 0
+abbrev pub over : ℕ → List ℕ → List ℕ → List ℕ
+over at text d = take at d ++ (text ++ drop (at + length text) d)
+
+-- ---- what a field says
 
 -- the open end, or a day not before the start
 abbrev pub day_from : ℕ → Option ℕ → Option (Option ℕ)

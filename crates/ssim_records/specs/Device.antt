@@ -1,6 +1,7 @@
 -- What devices count, and what a buffer holds.
-use Rattle.std.specs.Prelude.{ℕ, ◌≡◌, ◌+◌, ◌%◌, ◌^◌, ◌==◌, ◌&&◌, nat_lt, if◌then◌else◌, List, length, Option, Some, None, Result, Ok, Err}
+use Rattle.std.specs.Prelude.{ℕ, ◌≡◌, ◌+◌, ◌%◌, ◌^◌, ◌==◌, ◌&&◌, nat_lt, if◌then◌else◌, List, length, codes, Option, Some, None, Result, Ok, Err}
 use Rattle.ssim_records.specs.declared.device.DeviceFault.{DeviceFault}
+use Rattle.ssim_records.specs.declared.device.DeviceFault.TheVariants.{Memory, Failed}
 
 -- Of a source that tells its bytes nothing is counted. Of one that does not, and never will, the bytes that came are, and
 -- the count wraps.
@@ -24,3 +25,7 @@ CountsPut old new (Ok n) bytes = new ≡ (if n == 0 && nat_lt 0 (length bytes) t
 pub record Buffer : Type 0 where
   pub bytes : List ℕ
   pub failures : ℕ
+
+abbrev pub device_fault_name : DeviceFault → List ℕ
+device_fault_name Memory = codes "Memory"
+device_fault_name Failed = codes "Failed"

@@ -6,7 +6,9 @@ pub mod Columns
 pub mod Header
 pub mod Carrier
 pub mod Leg
+pub mod LegParts
 pub mod Segment
 pub mod Trailer
 pub mod Record
 pub mod Reading
+pub mod Worked

@@ -4,7 +4,7 @@ use Rattle.std.specs.List.{concat, list_all}
 use Rattle.ssim_records.specs.declared.field.Kind.TheVariants.{Carried, Digits}
 use Rattle.ssim_records.specs.declared.field.Field.{Field}
 use Rattle.ssim_records.specs.Numbers.{digits_of, digits}
-use Rattle.ssim_records.specs.Columns.{columns, field, is_carried, EachStands}
+use Rattle.ssim_records.specs.Columns.{columns, field, filled, is_carried, EachStands}
 use Rattle.ssim_records.specs.Leg.{Name, name_table, SpellsName, name_texts, IsName}
 
 -- ---- the columns of a tail: 15 to 27 and 29 to 194
@@ -25,6 +25,12 @@ tail_columns first last d = columns first last (spread_tail d)
 pub record IsTail (d : List ℕ) : Type 0 where
   pub len : length d ≡ 179
   pub carried : IsTrue (list_all is_carried d)
+
+-- a new tail: columns 15 to 27 are blank; from column 29 on it has the letters of the board and off point, the data element
+-- identifier in three digits, the stations of the points, and the text with blanks after it
+unfoldable pub new_tail : List ℕ → ℕ → List ℕ → List ℕ → List ℕ → List ℕ
+new_tail points identifier board off text =
+    concat (replicate 13 32 ∷ filled 2 points ∷ digits 3 identifier ∷ board ∷ off ∷ filled 155 text ∷ [])
 
 -- ---- the record
 

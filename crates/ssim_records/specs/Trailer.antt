@@ -4,8 +4,8 @@ use Rattle.std.specs.List.{concat, list_all}
 use Rattle.ssim_values.specs.Airline.{is_airline}
 use Rattle.ssim_records.specs.declared.field.Kind.TheVariants.{AirlineCode, Carried, Digits, Code}
 use Rattle.ssim_records.specs.declared.field.Field.{Field}
-use Rattle.ssim_records.specs.declared.trailer.EndCode.{EndCode}
-use Rattle.ssim_records.specs.declared.trailer.EndCode.TheVariants.{Continuation, End}
+use Rattle.ssim_records.specs.declared.end_code.EndCode.{EndCode}
+use Rattle.ssim_records.specs.declared.end_code.EndCode.TheVariants.{Continuation, End}
 use Rattle.ssim_records.specs.Numbers.{digits_of, digits}
 use Rattle.ssim_records.specs.Columns.{columns, field, is_carried, end_code_of, EachStands}
 

@@ -17,7 +17,7 @@ pub enum Stop {
     ReaderNeverEnds,
 }
 
-/// How many bytes have to be held for a block: one more where the last came behind the limit.
+/// The number of bytes that must be held for a block: one more if the last came after the limit.
 fn needed(came: u128, limit: u64) -> usize
     requires { came ≤ limit + 1 }
     ensures block { 200 ≤ result }

@@ -9,12 +9,12 @@ use crate::device::{DeviceFault, Sink};
 use std::alloc::Global;
 use std::marker::Model;
 
-/// A buffer that grows, and holds in order the bytes that were put into it. It fails only for memory, and then
-/// takes nothing.
+/// A buffer that grows, and holds in order the bytes that were put into it. A put fails only if memory is out, and then
+/// takes no byte.
 #[derive(Drop)]
 pub struct Bytes {
     bytes: Vec<u8>,
-    /// How often it could not grow.
+    /// The number of times that it could not grow.
     failures: u64,
 }
 
@@ -27,7 +27,7 @@ impl Model for Bytes {
 }
 
 impl Bytes {
-    /// An empty buffer. It takes no memory.
+    /// An empty buffer. It does not allocate.
     pub fn new(alloc: Global) -> Bytes
         ensures { result ≡ record { bytes = []; failures = 0 } }
     {
@@ -55,7 +55,7 @@ impl Sink for Bytes {
         ensures bytes { WriteAppends (Some self.old.bytes) (Some self.new.bytes) result bytes.now }
         ensures failures { CountsPut self.old.failures self.new.failures result bytes.now }
 
-        // It takes all, or memory was refused.
+        // It takes all bytes, or is out of memory.
         ensures all { IfOk result (λ n. n ≡ length bytes.now) }
         ensures memory { IfErr result (λ fault. fault ≡ DeviceFault.Memory) }
     {

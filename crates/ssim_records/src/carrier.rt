@@ -5,26 +5,17 @@ ghost use Rattle.std.specs.List.{list_all};
 ghost use Rattle.ssim_values.specs.Calendar.{day_limit};
 ghost use Rattle.ssim_records.specs.declared.field.Kind.TheVariants.{Carried, Mode};
 ghost use Rattle.ssim_records.specs.Columns.{columns, fault_in, first_fault, is_carried, time_mode_of, EachStands};
-ghost use Rattle.ssim_records.specs.Leg.{end_text, IsEnd};
-ghost use Rattle.ssim_records.specs.Carrier.{CarrierFields, IsCarrier, SpellsCarrier, carrier_table, time_mode_text, written_carrier};
+ghost use Rattle.ssim_records.specs.Leg.{IsEnd};
+ghost use Rattle.ssim_records.specs.Carrier.{CarrierFields, IsCarrier, SpellsCarrier, carrier_table, written_carrier};
 
 use crate::columns::{
-    airline_at, created_at, details_at, digits_at, first_day_at, join, last_day_at,
+    airline_at, created_at, details_at, digits_at, end_text, first_day_at, join, last_day_at,
 };
-use crate::field::{Field, Kind, first_fault, three, time_mode_of};
-use crate::leg::end_text;
+use crate::field::{Field, Kind, first_fault, three};
 use crate::number::six_digits;
+use crate::time_mode::{TimeMode, time_mode_of, time_mode_text};
 use ssim_values::{Airline, Day};
 use std::marker::Model;
-
-/// Whether the times of a data set are UTC or local to their stations.
-#[derive(Clone, Copy, Debug, PartialEq, Eq)]
-pub enum TimeMode {
-    /// `U`.
-    Utc,
-    /// `L`.
-    Local,
-}
 
 const TABLE: [Field; 7] = [
     field!(2 2 Mode),
@@ -52,15 +43,6 @@ fn time_mode_at(bytes: &[u8; 200]) -> TimeMode
     }
 }
 
-fn time_mode_text(mode: TimeMode) -> [u8; 1]
-    ensures { result ≡ time_mode_text mode }
-{
-    match mode {
-        TimeMode::Utc => *b"U",
-        TimeMode::Local => *b"L",
-    }
-}
-
 #[tactic(auto, using(crate::proofs::Rows::all_carried))]
 fn season_at(bytes: &[u8; 200]) -> [u8; 9]
     requires { fault_in Carried (columns 6 14 bytes.now) ≡ None }
@@ -83,7 +65,7 @@ pub struct Carrier {
     season: [u8; 9],
     /// Columns 15 to 21: the first day of the validity.
     first: Day,
-    /// Columns 22 to 28: its last day, or none where it is open.
+    /// Columns 22 to 28: its last day, or none if it is open.
     last: Option<Day>,
     /// Columns 29 to 35: the day on which the data set was made.
     created: Day,
@@ -123,7 +105,7 @@ fn carrier_of(bytes: &[u8; 200]) -> Carrier
     }
 }
 
-/// The carrier that a record spells, or the first column that cannot stand.
+/// The carrier that a record spells, or the first column of the first invalid field.
 pub(crate) fn read_carrier(bytes: &[u8; 200]) -> Result<Carrier, usize>
     requires { columns 1 1 bytes.now ≡ 50 ∷ [] }
     ensures ok { IfOk result (λ r. SpellsCarrier r bytes.now) }
@@ -172,7 +154,7 @@ impl Carrier {
         self.first
     }
 
-    /// The last day of the validity, or none where it is open.
+    /// The last day of the validity, or none if it is open.
     pub fn last(&self) -> Option<Day>
         ensures value { result ≡ self.now.last }
         ensures is_end { IsEnd self.now.first result }

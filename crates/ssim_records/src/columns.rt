@@ -1,4 +1,4 @@
-//! The value in columns of a record that were found to stand, and the columns of a record that is written.
+//! The value in valid columns of a record, and the columns of a record that is written.
 
 ghost use Rattle.std.specs.Prelude.{◌≡◌, ◌≤◌, ◌<◌, ◌+◌, ◌-◌, ◌^◌, ◌∷◌, [], length, Some, None, IsTrue, IfSome};
 ghost use Rattle.std.specs.List.{flat_map, list_all};
@@ -9,8 +9,8 @@ ghost use Rattle.ssim_values.specs.Airline.{is_airline};
 ghost use Rattle.ssim_values.specs.Flight.{is_suffix};
 ghost use Rattle.ssim_records.specs.declared.field.Kind.TheVariants.{Suffix, AirlineCode, Carried, Days, Number, Sequence, Digits, Dates, Date};
 ghost use Rattle.ssim_records.specs.Numbers.{number_of, sequence_of, digits_of};
-ghost use Rattle.ssim_records.specs.Columns.{columns, is_carried, fault_in, end_from, AreColumns};
-ghost use Rattle.ssim_records.specs.Leg.{IsEnd};
+ghost use Rattle.ssim_records.specs.Columns.{columns, carried, filled, is_carried, fault_in, end_from, over, AreColumns};
+ghost use Rattle.ssim_records.specs.Leg.{IsEnd, end_text};
 
 use crate::field::{day_of, days_of, end_from, three};
 use crate::number::{digits_of, number_of, sequence_of};
@@ -25,6 +25,61 @@ pub fn join(out: &mut [u8], parts: &[&[u8]])
     for part in parts {
         out[at..at + part.len()].copy_from_slice(part);
         at += part.len();
+    }
+}
+
+/// Writes the text over the bytes from a place on.
+pub fn put(bytes: &mut [u8], at: usize, text: &[u8])
+    requires { at + length text.now ≤ length bytes.old }
+    ensures { bytes.new ≡ over at text.now bytes.old }
+{
+    bytes[at..at + text.len()].copy_from_slice(text);
+}
+
+/// Writes the text, and blanks after it, over `width` bytes from a place on.
+pub fn put_filled(bytes: &mut [u8], at: usize, width: usize, text: &[u8])
+    requires { at + width ≤ length bytes.old }
+    ensures { bytes.new ≡ over at (filled width text.now) bytes.old }
+{
+    fill(&mut bytes[at..at + width], text);
+}
+
+/// Writes the text, and blanks after it.
+fn fill(out: &mut [u8], text: &[u8])
+    ensures { out.new ≡ filled (length out.old) text.now }
+{
+    match out.split_first_mut() {
+        None => {}
+        Some((byte, rest)) => match text.split_first() {
+            None => {
+                *byte = b' ';
+                fill(rest, &[])
+            }
+            Some((first, more)) => {
+                *byte = carried(*first);
+                fill(rest, more)
+            }
+        },
+    }
+}
+
+fn carried(byte: u8) -> u8
+    ensures { result ≡ carried byte }
+{
+    if byte >= 32 && byte != 127 {
+        byte
+    } else {
+        b' '
+    }
+}
+
+/// The date of an end, or `00XXX00` for an open one.
+pub fn end_text(last: Option<Day>) -> [u8; 7]
+    ensures { result ≡ end_text last }
+{
+    match last {
+        None => *b"00XXX00",
+        Some(day) => day.write(),
     }
 }
 

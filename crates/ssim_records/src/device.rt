@@ -1,32 +1,48 @@
-//! Where bytes come from, and where they go.
+//! The devices that bytes come from and go to.
 
 ghost use Rattle.std.specs.Prelude.{◌≡◌, List, ℕ, Option, Some, Ok, length, min};
 ghost use Rattle.std.specs.Io.{ReadsAtMost, WritesAtMost};
 ghost use Rattle.std.specs.Io.KnownBytes.{ReadConsumes, WriteAppends};
-ghost use Rattle.ssim_records.specs.Device.{CountsBytes, CountsFailure, CountsPut};
+ghost use Rattle.ssim_records.specs.Device.{CountsBytes, CountsFailure, CountsPut, device_fault_name};
 
-/// Why a device gave or took nothing.
+use std::error::Error;
+use std::fmt;
+
+/// Why a device neither gave nor took bytes. A fault is displayed as its name.
 #[derive(Clone, Copy, Debug, PartialEq, Eq)]
 pub enum DeviceFault {
-    /// Memory was refused to a device that grows.
+    /// A device that grows is out of memory.
     Memory,
 
     /// The device itself failed.
     Failed,
 }
 
-/// Where bytes come from. A fetch of no byte into some room is the end.
+impl fmt::Display for DeviceFault {
+    ghost output = { λ f. Some (device_fault_name f) };
+
+    fn fmt<W: fmt::Write>(&self, f: &mut fmt::Formatter<W>) -> fmt::Result {
+        match self {
+            DeviceFault::Memory => write!(f, "Memory"),
+            DeviceFault::Failed => write!(f, "Failed"),
+        }
+    }
+}
+
+impl Error for DeviceFault {}
+
+/// A device that bytes come from. A fetch that returns 0 into a buffer with room is the end.
 pub trait Source {
-    /// The bytes that are left, where they are told.
+    /// The bytes that are left, if the contract knows them.
     ghost left: { Self → Option (List ℕ) };
 
-    /// How many bytes came, where they are not told. It wraps at 2^128.
+    /// The number of bytes that came, if the contract does not know them. It wraps at 2^128.
     ghost came: { Self → ℕ };
 
-    /// How many fetches failed. It wraps at 2^64.
+    /// The number of fetches that failed. It wraps at 2^64.
     ghost failures: { Self → ℕ };
 
-    /// Fills the front of `into` with the next bytes, and says how many they are.
+    /// Writes the next bytes to the beginning of `into`, and returns their number.
     fn fetch(&mut self, into: &mut [u8]) -> Result<usize, DeviceFault>
         ensures bound { ReadsAtMost result into.new }
         ensures bytes { ReadConsumes (left self.old) (left self.new) result into.new }
@@ -34,19 +50,19 @@ pub trait Source {
         ensures failures { CountsFailure (failures self.old) (failures self.new) result };
 }
 
-/// Where bytes go.
+/// A device that bytes go to.
 pub trait Sink {
-    /// The bytes that were taken, where they are told.
+    /// The bytes that were taken, if the contract knows them.
     ghost taken: { Self → Option (List ℕ) };
 
-    /// How many puts failed, or took no byte where there was one. It wraps at 2^64.
+    /// The number of puts that failed, or took no byte of a text that is not empty. It wraps at 2^64.
     ghost failures: { Self → ℕ };
 
-    /// Which device the bytes go to, by a number of its own, 0 where none is told. No put changes it. So a caller that
-    /// hands its sink to a function over any sink, and has it back, knows that it still writes to the same device.
+    /// The number of the device that the bytes go to, 0 if it has none. No put changes it. So a caller that lends its sink
+    /// to a function over any sink knows that it still writes to the same device afterwards.
     ghost device: { Self → ℕ } = { λ _. 0 };
 
-    /// Takes bytes from the front of `bytes`, and says how many.
+    /// Takes bytes from the beginning of `bytes`, and returns their number.
     fn put(&mut self, bytes: &[u8]) -> Result<usize, DeviceFault>
         ensures bound { WritesAtMost result bytes.now }
         ensures bytes { WriteAppends (taken self.old) (taken self.new) result bytes.now }
@@ -67,7 +83,7 @@ impl<'a> Source for &'a [u8] {
         ensures bytes { ReadConsumes (Some self.old.now) (Some self.new.now) result into.new }
         ensures failures { CountsFailure 0 0 result }
 
-        // It gives as many as there is room for.
+        // It gives all bytes that there is room for.
         ensures all { result ≡ Ok (min (length self.old.now) (length into.old)) }
     {
         let n = self.len().min(into.len());

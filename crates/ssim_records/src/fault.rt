@@ -1,59 +1,88 @@
 //! Why a record is refused.
 
-ghost use Rattle.std.specs.Prelude.{◌≡◌};
+ghost use Rattle.std.specs.Prelude.{◌≡◌, Some};
+ghost use Rattle.ssim_records.specs.Record.{fault_name, fault_number, fault_record, fault_text};
 
-use thiserror::Error;
+use std::error::Error;
+use std::fmt;
 
-/// Why a record is refused, with its record number: 0 where bytes were read that stand in no data set.
-#[derive(Clone, Copy, Debug, PartialEq, Eq, Error)]
+/// Why a record is refused, with its record number, counted from 1. The number is 0 if the bytes were read by themselves.
+/// A fault is displayed as its name and its place: `BadColumn record 3 column 37`.
+#[derive(Clone, Copy, Debug, PartialEq, Eq)]
 pub enum RecordFault {
     /// 10: the input ends within a record.
-    #[error("Short record {0}")]
-    Short(u64),
+    Short { record: u64 },
 
     /// 11: column 1 is none of `1` to `5`.
-    #[error("BadType record {0}")]
-    BadType(u64),
+    BadType { record: u64 },
 
-    /// 12: a field cannot stand; the column is its first.
-    #[error("BadColumn record {0} column {1}")]
-    BadColumn(u64, usize),
+    /// 12: a field is invalid; the column is its first.
+    BadColumn { record: u64, column: usize },
 
     /// 13: the reader failed.
-    #[error("ReadFault record {0}")]
-    ReadFault(u64),
+    ReadFault { record: u64 },
 
     /// 14: more bytes came than the limit allows.
-    #[error("ReaderNeverEnds record {0}")]
-    ReaderNeverEnds(u64),
+    ReaderNeverEnds { record: u64 },
 }
 
 impl RecordFault {
-    ghost use Rattle.ssim_records.specs.Record.{fault_number, fault_record};
-
     /// The number by which the fault is known.
     pub fn number(self) -> u8
         ensures { result ≡ fault_number self }
     {
         match self {
-            RecordFault::Short(_) => 10,
-            RecordFault::BadType(_) => 11,
-            RecordFault::BadColumn(_, _) => 12,
-            RecordFault::ReadFault(_) => 13,
-            RecordFault::ReaderNeverEnds(_) => 14,
+            RecordFault::Short { .. } => 10,
+            RecordFault::BadType { .. } => 11,
+            RecordFault::BadColumn { .. } => 12,
+            RecordFault::ReadFault { .. } => 13,
+            RecordFault::ReaderNeverEnds { .. } => 14,
         }
     }
 
-    /// The number of the record that cannot stand.
+    /// The name by which the fault is known.
+    pub fn name(self) -> &'static str
+        ensures { result.now ≡ fault_name self }
+    {
+        match self {
+            RecordFault::Short { .. } => "Short",
+            RecordFault::BadType { .. } => "BadType",
+            RecordFault::BadColumn { .. } => "BadColumn",
+            RecordFault::ReadFault { .. } => "ReadFault",
+            RecordFault::ReaderNeverEnds { .. } => "ReaderNeverEnds",
+        }
+    }
+
+    /// The number of the invalid record.
     pub fn record(self) -> u64
         ensures { result ≡ fault_record self }
     {
         match self {
-            RecordFault::Short(record)
-            | RecordFault::BadType(record)
-            | RecordFault::BadColumn(record, _)
-            | RecordFault::ReadFault(record)
-            | RecordFault::ReaderNeverEnds(record) => record,
+            RecordFault::Short { record }
+            | RecordFault::BadType { record }
+            | RecordFault::BadColumn { record, .. }
+            | RecordFault::ReadFault { record }
+            | RecordFault::ReaderNeverEnds { record } => record,
         }
     }
 }
+
+impl fmt::Display for RecordFault {
+    ghost output = { λ f. Some (fault_text f) };
+
+    fn fmt<W: fmt::Write>(&self, f: &mut fmt::Formatter<W>) -> fmt::Result {
+        match self {
+            RecordFault::Short { record } => write!(f, "Short record {record}"),
+            RecordFault::BadType { record } => write!(f, "BadType record {record}"),
+            RecordFault::BadColumn { record, column } => {
+                write!(f, "BadColumn record {record} column {column}")
+            }
+            RecordFault::ReadFault { record } => write!(f, "ReadFault record {record}"),
+            RecordFault::ReaderNeverEnds { record } => {
+                write!(f, "ReaderNeverEnds record {record}")
+            }
+        }
+    }
+}
+
+impl Error for RecordFault {}

@@ -1,4 +1,4 @@
-//! The fields of a record: their columns, what they may say, and the first column that cannot stand.
+//! The fields of a record: their columns, their valid texts, and the first column of the first invalid field.
 
 ghost use Rattle.std.specs.Prelude.{◌≡◌, ◌≤◌, ◌<◌, length, Some, None, IsTrue, IfSome, is_some};
 ghost use Rattle.std.specs.List.{list_all};
@@ -13,12 +13,12 @@ ghost use Rattle.ssim_values.specs.Calendar.{day_limit};
 ghost use Rattle.ssim_records.specs.Numbers.{is_blank};
 ghost use Rattle.ssim_records.specs.Columns.{is_carried, is_title, end_from, passenger_time_of, utc_variation_of, time_mode_of, end_code_of, unless, dates_fault, place_of_other, fault_in, fits_kind, first_fault, are_fields};
 
-use crate::carrier::TimeMode;
+use crate::end_code::end_code_of;
 use crate::number::{digits_of, number_of, sequence_of};
-use crate::trailer::EndCode;
+use crate::time_mode::time_mode_of;
 use ssim_values::{Airline, Clock, Day, DayMask, Station, Variation};
 
-/// What the columns of a field say.
+/// The kind of a field: the texts that are valid in its columns.
 #[derive(Clone, Copy, Debug, PartialEq, Eq)]
 pub enum Kind {
     Suffix,
@@ -278,32 +278,6 @@ pub fn end_from(start: Day, text: &[u8]) -> Option<Option<Day>>
     }
 }
 
-#[tactic(auto, unfolding(crate::specs::Columns::time_mode_of))]
-pub fn time_mode_of(text: &[u8]) -> Option<TimeMode>
-    ensures { result ≡ time_mode_of text.now }
-{
-    if text == b"U".as_slice() {
-        return Some(TimeMode::Utc);
-    }
-    if text == b"L".as_slice() {
-        return Some(TimeMode::Local);
-    }
-    None
-}
-
-#[tactic(auto, unfolding(crate::specs::Columns::end_code_of))]
-pub fn end_code_of(text: &[u8]) -> Option<EndCode>
-    ensures { result ≡ end_code_of text.now }
-{
-    if text == b"C".as_slice() {
-        return Some(EndCode::Continuation);
-    }
-    if text == b"E".as_slice() {
-        return Some(EndCode::End);
-    }
-    None
-}
-
 #[tactic(auto, unfolding(crate::specs::Columns::is_title))]
 fn is_title(text: &[u8]) -> bool
     ensures { result ≡ is_title text.now }
@@ -362,7 +336,7 @@ fn fault_in(kind: Kind, text: &[u8]) -> Option<usize>
     }
 }
 
-/// The first column of the first field that says nothing.
+/// The first column of the first invalid field.
 pub fn first_fault(fields: &[Field], bytes: &[u8; 200]) -> Option<usize>
     requires { IsTrue (are_fields fields.now) }
     ensures { result ≡ first_fault bytes.now fields.now }

@@ -54,7 +54,7 @@ fn header_of(bytes: &[u8; 200]) -> Header
     }
 }
 
-/// The header that a record spells, or the first column that cannot stand.
+/// The header that a record spells, or the first column of the first invalid field.
 pub(crate) fn read_header(bytes: &[u8; 200]) -> Result<Header, usize>
     requires { columns 1 1 bytes.now ≡ 49 ∷ [] }
     ensures ok { IfOk result (λ r. SpellsHeader r bytes.now) }

@@ -2,9 +2,9 @@
 
 ghost use Rattle.std.specs.Prelude.{◌≡◌, ◌≤◌, ◌<◌, ◌∷◌, [], None, Ok, IfOk, IfErr, Some};
 ghost use Rattle.ssim_records.specs.Columns.{columns, first_fault, EachStands};
-ghost use Rattle.ssim_records.specs.Leg.{LegFields, IsLeg, IsEnd, SpellsLeg, leg_columns, leg_table, end_text, written_leg};
+ghost use Rattle.ssim_records.specs.Leg.{LegFields, IsLeg, IsEnd, SpellsLeg, leg_columns, leg_table, written_leg};
 
-use crate::columns::{carried_at, days_at, digits_at, first_day_at, join, last_day_at};
+use crate::columns::{carried_at, days_at, digits_at, end_text, first_day_at, join, last_day_at};
 use crate::field::{Field, Kind, first_fault};
 use crate::leg_columns::{LegColumns, own_columns_at};
 use crate::leg_name::{LegName, name_at};
@@ -45,14 +45,14 @@ fn leg_fault(bytes: &[u8; 200]) -> Option<usize>
     first_fault(&TABLE, bytes)
 }
 
-/// A flight leg, as its record says: which leg, its period, and its own columns.
+/// A flight leg as its record has it: its name, its period, and its own columns.
 #[derive(Clone, Copy, Debug)]
 pub struct LegRecord {
     /// Columns 2 to 13.
     name: LegName,
     /// Columns 15 to 21: the first day of the period.
     first: Day,
-    /// Columns 22 to 28: its last day, or none where it is open.
+    /// Columns 22 to 28: its last day, or none if it is open.
     last: Option<Day>,
     /// Columns 29 to 35: the days of operation.
     days: DayMask,
@@ -96,7 +96,7 @@ fn leg_of(bytes: &[u8; 200]) -> LegRecord
     }
 }
 
-/// The flight leg that a record spells, or the first column that cannot stand.
+/// The flight leg that a record spells, or the first column of the first invalid field.
 pub(crate) fn read_leg(bytes: &[u8; 200]) -> Result<LegRecord, usize>
     requires { columns 1 1 bytes.now ≡ 51 ∷ [] }
     ensures ok { IfOk result (λ r. SpellsLeg r bytes.now) }
@@ -106,16 +106,6 @@ pub(crate) fn read_leg(bytes: &[u8; 200]) -> Result<LegRecord, usize>
     match leg_fault(bytes) {
         Some(column) => Err(column),
         None => Ok(leg_of(bytes)),
-    }
-}
-
-/// The date of an end, or `00XXX00` for an open one.
-pub(crate) fn end_text(last: Option<Day>) -> [u8; 7]
-    ensures { result ≡ end_text last }
-{
-    match last {
-        None => *b"00XXX00",
-        Some(day) => day.write(),
     }
 }
 
@@ -166,7 +156,7 @@ impl LegRecord {
         self.first
     }
 
-    /// The last day of the period, not before the first, or none where it is open.
+    /// The last day of the period, not before the first, or none if it is open.
     pub fn last(&self) -> Option<Day>
         ensures value { result ≡ self.now.last }
         ensures is_end { IsEnd self.now.first result }

@@ -6,11 +6,13 @@ ghost use Rattle.ssim_values.specs.Clock.{clock_of};
 ghost use Rattle.ssim_records.specs.declared.field.Kind.TheVariants.{StationCode, Time, PassengerTime, UtcVariation};
 ghost use Rattle.ssim_records.specs.Columns.{fault_in, is_carried, passenger_time_of, utc_variation_of, first_fault, EachStands};
 ghost use Rattle.ssim_records.specs.Leg.{AreLegColumns, leg_columns, leg_table, own_table, own_columns, spread};
+ghost use Rattle.ssim_records.specs.LegParts.{ChangesEquipment, ChangesTimes, equipment_fields, new_leg, with_equipment, with_times};
 
 use crate::columns::join;
 use crate::field::{
     Field, Kind, clock_of, first_fault, passenger_time_of, three, twenty, two, utc_variation_of,
 };
+use crate::leg_parts::{LegEquipment, LegStations, LegTimes};
 use ssim_values::{Clock, Station, Variation};
 use std::marker::Model;
 
@@ -29,9 +31,8 @@ const TABLE: [Field; 12] = [
     field!(129 194 Carried),
 ];
 
-/// The columns of a leg itself: the bytes of columns 14, 37 to 127 and 129 to 194 of its record, each of which may
-/// stand in its column. The readers say columns as the record counts them; times are local or UTC as the carrier
-/// record says.
+/// The columns of a leg itself: the bytes of columns 14, 37 to 127 and 129 to 194 of its record, all of them valid. The
+/// readers are named by the columns of the record. Times are local or UTC as the carrier record has it.
 #[derive(Clone, Copy, Debug, PartialEq, Eq, Hash)]
 pub struct LegColumns {
     bytes: [u8; 158],
@@ -160,7 +161,7 @@ fn variation_in(own: &[u8; 158], first: usize) -> Option<Variation>
 }
 
 impl LegColumns {
-    /// The columns, where each of them can stand.
+    /// The columns, if each of their fields is valid.
     pub fn of(bytes: &[u8; 158]) -> Option<LegColumns>
         ensures some { IsSome result ↔ AreLegColumns bytes.now }
         ensures value { IfSome result (λ columns. columns ≡ bytes.now) }
@@ -169,6 +170,36 @@ impl LegColumns {
             Some(_) => None,
             None => Some(LegColumns { bytes: *bytes }),
         }
+    }
+
+    /// The columns of a new leg with these stations, times and equipment, and blanks in all other columns.
+    pub fn new(stations: &LegStations, times: &LegTimes, equipment: &LegEquipment) -> LegColumns
+        ensures { result ≡ new_leg stations.now times.now (equipment_fields equipment.now) }
+    {
+        let mut bytes = stations.columns();
+        times.put(&mut bytes);
+        equipment.put(&mut bytes);
+        LegColumns { bytes }
+    }
+
+    /// The same columns with these times in columns 40 to 47, 58 to 65, 193 and 194.
+    pub fn with_times(self, times: &LegTimes) -> LegColumns
+        ensures value { result ≡ with_times times.now self }
+        ensures changes { ChangesTimes times.now self result }
+    {
+        let mut bytes = self.bytes;
+        times.put(&mut bytes);
+        LegColumns { bytes }
+    }
+
+    /// The same columns with this equipment in columns 14, 73 to 95 and 173 to 192.
+    pub fn with_equipment(self, equipment: &LegEquipment) -> LegColumns
+        ensures value { result ≡ with_equipment (equipment_fields equipment.now) self }
+        ensures changes { ChangesEquipment (equipment_fields equipment.now) self result }
+    {
+        let mut bytes = self.bytes;
+        equipment.put(&mut bytes);
+        LegColumns { bytes }
     }
 
     /// The bytes of columns 14, 37 to 127 and 129 to 194.
@@ -201,7 +232,7 @@ impl LegColumns {
         station_in(&self.bytes, 37)
     }
 
-    /// Columns 40 to 43: the passenger departure time, none where they are blank.
+    /// Columns 40 to 43: the passenger departure time, none if they are blank.
     pub fn passenger_departure_time(&self) -> Option<Clock>
         ensures { passenger_time_of (leg_columns 40 43 self.now) ≡ Some result }
     {
@@ -215,7 +246,7 @@ impl LegColumns {
         time_in(&self.bytes, 44)
     }
 
-    /// Columns 48 to 52: the UTC variation of the departure station, none where they are blank.
+    /// Columns 48 to 52: the UTC variation of the departure station, none if they are blank.
     pub fn departure_variation(&self) -> Option<Variation>
         ensures { utc_variation_of (leg_columns 48 52 self.now) ≡ Some result }
     {
@@ -243,14 +274,14 @@ impl LegColumns {
         time_in(&self.bytes, 58)
     }
 
-    /// Columns 62 to 65: the passenger arrival time, none where they are blank.
+    /// Columns 62 to 65: the passenger arrival time, none if they are blank.
     pub fn passenger_arrival_time(&self) -> Option<Clock>
         ensures { passenger_time_of (leg_columns 62 65 self.now) ≡ Some result }
     {
         passenger_time_in(&self.bytes, 62)
     }
 
-    /// Columns 66 to 70: the UTC variation of the arrival station, none where they are blank.
+    /// Columns 66 to 70: the UTC variation of the arrival station, none if they are blank.
     pub fn arrival_variation(&self) -> Option<Variation>
         ensures { utc_variation_of (leg_columns 66 70 self.now) ≡ Some result }
     {

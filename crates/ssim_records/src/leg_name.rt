@@ -1,4 +1,4 @@
-//! Which leg a record of type 3 or 4 speaks of.
+//! The name of a leg in a record of type 3 or 4.
 
 ghost use Rattle.std.specs.Prelude.{◌≡◌, ◌<◌, IsSome};
 ghost use Rattle.ssim_records.specs.Columns.{EachStands};
@@ -8,7 +8,7 @@ use crate::columns::{airline_at, number_at, sequence_at, suffix_at};
 use ssim_values::{Airline, Flight};
 use std::marker::Model;
 
-/// Which leg a record of type 3 or 4 speaks of: an airline's flight, the itinerary variation and the leg sequence, in
+/// The name of a leg in a record of type 3 or 4: an airline's flight, the itinerary variation and the leg sequence, in
 /// columns 2 to 13. Names are ordered by airline, flight, variation and sequence.
 #[derive(Clone, Copy, Debug, PartialEq, Eq, PartialOrd, Ord, Hash)]
 pub struct LegName {

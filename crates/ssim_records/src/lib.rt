@@ -2,17 +2,18 @@
 //! and the devices that they come from and go to.
 //!
 //! - [`Record`]: a [`Header`], [`Carrier`], [`LegRecord`], [`SegmentRecord`] or [`Trailer`], read by [`read_record`] and
-//!   written by [`write_record`]. [`LegName`] says which leg a record speaks of; [`LegColumns`] and [`SegmentTail`] are
-//!   the columns that a leg or a segment has of its own, with a reader for each field.
-//! - [`Records`]: the records of a stream, one after another, off any [`Source`].
-//! - [`Source`] and [`Sink`]: where bytes come from and go to. A `&[u8]`, and [`Bytes`], tell their bytes; [`Input`] and
-//!   [`Output`], over std's readers and writers, count them and their failures.
+//!   written by [`write_record`]. [`LegName`] identifies the leg of a record. [`LegColumns`] and [`SegmentTail`] are the
+//!   columns that a leg or a segment has of its own, with a reader for each field.
+//! - [`LegStations`], [`LegTimes`] and [`LegEquipment`]: the parts of a new leg's columns, and what messages change in them.
+//! - [`Records`]: the records of a stream, one after another, from any [`Source`].
+//! - [`Source`] and [`Sink`]: devices that bytes come from and go to. Contracts know the bytes of a `&[u8]` and of [`Bytes`].
+//!   [`Input`] and [`Output`], over std's readers and writers, count their bytes and failures.
 //! - [`RecordFault`]: refusals 10 to 14, with the record number.
 //!
-//! **Promise.** Records are read and written exactly: a record is read exactly where its bytes spell one, and that one,
-//! else the fault names the first column that cannot stand; what is written is read back as it was. A stream's records
-//! come in order, with their numbers, however its reader cuts the bytes; 13 comes only where the reader failed, 14 only
-//! where more bytes came than the limit. No call takes memory, but for the growing of [`Bytes`].
+//! **Promise.** Records are read and written exactly. If 200 bytes spell a record, that record is read; else the fault
+//! names the first column of the first invalid field. What is written is read back as it was. The records of a stream come
+//! in order, with their numbers, in whatever pieces its reader returns the bytes. 13 comes only if the reader failed, and 14
+//! only if more bytes came than the limit. Only [`Bytes`] allocates, when it grows.
 #![tactic(auto)]
 
 // A row of a table: the columns of a field, and its kind.
@@ -31,12 +32,15 @@ mod bytes;
 mod carrier;
 mod columns;
 mod device;
+mod end_code;
 mod fault;
 mod field;
 mod header;
+mod laws;
 mod leg;
 mod leg_columns;
 mod leg_name;
+mod leg_parts;
 mod number;
 mod record;
 mod records;
@@ -45,20 +49,25 @@ mod segment_tail;
 mod stream;
 #[cfg(test)]
 mod tests;
+mod time_mode;
 mod trailer;
 mod window;
 
 pub use bytes::Bytes;
-pub use carrier::{Carrier, TimeMode};
+pub use carrier::Carrier;
 pub use device::{DeviceFault, Sink, Source};
+pub use end_code::EndCode;
 pub use fault::RecordFault;
 pub use header::Header;
+pub use laws::{frames_are_one, worked_records, written_records_read_back};
 pub use leg::LegRecord;
 pub use leg_columns::LegColumns;
 pub use leg_name::LegName;
-pub use record::{Record, frames_are_one, read_record, write_record, written_records_read_back};
+pub use leg_parts::{LegEquipment, LegStations, LegTimes};
+pub use record::{Record, read_record, write_record};
 pub use records::Records;
 pub use segment::SegmentRecord;
 pub use segment_tail::SegmentTail;
 pub use stream::{Input, Output};
-pub use trailer::{EndCode, Trailer};
+pub use time_mode::TimeMode;
+pub use trailer::Trailer;

@@ -88,6 +88,12 @@ pub fn two_digits(number: u32) -> [u8; 2]
     [digit(number / 10), digit(number)]
 }
 
+pub fn three_digits(number: u32) -> [u8; 3]
+    ensures { result ≡ digits 3 number }
+{
+    [digit(number / 10 / 10), digit(number / 10), digit(number)]
+}
+
 pub fn four_digits(number: u32) -> [u8; 4]
     ensures { result ≡ digits 4 number }
 {

@@ -3,8 +3,7 @@
 ghost use Rattle.std.specs.Prelude.{◌≡◌, ◌<◌, ◌↔◌, ◌∷◌, [], Ok, Some, IfOk, IfErr, IsTrue};
 ghost use Rattle.ssim_records.specs.Columns.{columns};
 ghost use Rattle.ssim_records.specs.declared.record.Record.{Record};
-ghost use Rattle.ssim_records.specs.Frames.{FramesExist, FramesAreOne};
-ghost use Rattle.ssim_records.specs.Record.{Spells, IsRecord, written, fault_of, with_serial, serial_of, WrittenIsFramed, WrittenSpells};
+ghost use Rattle.ssim_records.specs.Record.{Spells, IsRecord, written, fault_of, with_serial, serial_of};
 
 use crate::carrier::{Carrier, read_carrier};
 use crate::fault::RecordFault;
@@ -42,7 +41,10 @@ fn header_record(bytes: &[u8; 200], number: u64) -> Result<Record, RecordFault>
 {
     match read_header(bytes) {
         Ok(header) => Ok(Record::Header(header)),
-        Err(column) => Err(RecordFault::BadColumn(number, column)),
+        Err(column) => Err(RecordFault::BadColumn {
+            record: number,
+            column,
+        }),
     }
 }
 
@@ -54,7 +56,10 @@ fn carrier_record(bytes: &[u8; 200], number: u64) -> Result<Record, RecordFault>
 {
     match read_carrier(bytes) {
         Ok(carrier) => Ok(Record::Carrier(carrier)),
-        Err(column) => Err(RecordFault::BadColumn(number, column)),
+        Err(column) => Err(RecordFault::BadColumn {
+            record: number,
+            column,
+        }),
     }
 }
 
@@ -66,7 +71,10 @@ fn leg_record(bytes: &[u8; 200], number: u64) -> Result<Record, RecordFault>
 {
     match read_leg(bytes) {
         Ok(leg) => Ok(Record::Leg(leg)),
-        Err(column) => Err(RecordFault::BadColumn(number, column)),
+        Err(column) => Err(RecordFault::BadColumn {
+            record: number,
+            column,
+        }),
     }
 }
 
@@ -78,7 +86,10 @@ fn segment_record(bytes: &[u8; 200], number: u64) -> Result<Record, RecordFault>
 {
     match read_segment(bytes) {
         Ok(segment) => Ok(Record::Segment(segment)),
-        Err(column) => Err(RecordFault::BadColumn(number, column)),
+        Err(column) => Err(RecordFault::BadColumn {
+            record: number,
+            column,
+        }),
     }
 }
 
@@ -90,7 +101,10 @@ fn trailer_record(bytes: &[u8; 200], number: u64) -> Result<Record, RecordFault>
 {
     match read_trailer(bytes) {
         Ok(trailer) => Ok(Record::Trailer(trailer)),
-        Err(column) => Err(RecordFault::BadColumn(number, column)),
+        Err(column) => Err(RecordFault::BadColumn {
+            record: number,
+            column,
+        }),
     }
 }
 
@@ -106,7 +120,7 @@ pub(crate) fn read_numbered(bytes: &[u8; 200], number: u64) -> Result<Record, Re
         b'3' => leg_record(bytes, number),
         b'4' => segment_record(bytes, number),
         b'5' => trailer_record(bytes, number),
-        _ => Err(RecordFault::BadType(number)),
+        _ => Err(RecordFault::BadType { record: number }),
     }
 }
 
@@ -133,20 +147,6 @@ pub fn write_record(value: &Record) -> [u8; 200]
         Record::Trailer(trailer) => trailer.written(),
     }
 }
-
-/// Any bytes have frames, and only one blocks and rest: what `Records::next` says of the frames of what is ahead, it
-/// says of some.
-pub fn frames_are_one()
-    ensures exist { FramesExist }
-    ensures one { FramesAreOne }
-{}
-
-/// Records that are written one after another, each with LF and with fill between them, are read back: by frames as
-/// these blocks, with their numbers, and each block spells its record.
-pub fn written_records_read_back()
-    ensures frames { WrittenIsFramed }
-    ensures spells { WrittenSpells }
-{}
 
 impl Record {
     /// Whether two records are the same: their written spellings are, and each spelling is of one record.

@@ -19,21 +19,21 @@ pub enum Ending {
 }
 
 /// A reading of the records of a stream: blocks of 200 bytes, each followed by any number of line ends, LF or CR LF.
-/// A block of 200 zero digits is fill: it is counted and passed over. The same reader is handed in at each call.
+/// A block of 200 zero digits is fill: it is counted and skipped. The same reader is passed at each call.
 ///
 /// A refusal is 10 `Short`, 11 `BadType`, 12 `BadColumn`, 13 `ReadFault` or 14 `ReaderNeverEnds`, with the record
 /// number from 1. At most one byte more than the limit is fetched.
 #[derive(Drop)]
 pub struct Records {
-    /// How many bytes may come.
+    /// The number of bytes that may come.
     limit: u64,
-    /// How many came, at most one more than the limit.
+    /// The number of bytes that came, at most one more than the limit.
     came: u128,
-    /// How many records were given or were fill.
+    /// The number of blocks so far: records that were returned, and fill.
     number: u64,
     /// The bytes that came and are not used.
     window: Window,
-    /// The answer that comes again.
+    /// How the reading ended; the same result is returned again.
     ended: Option<Ending>,
 }
 
@@ -49,7 +49,7 @@ impl Model for Records {
 }
 
 impl Records {
-    /// A reading that gives a reader up once more than `limit` bytes came.
+    /// A reading that refuses a reader once more than `limit` bytes came.
     pub fn new(limit: u64) -> Records
         ensures { result ≡ record { limit = limit; came = 0; number = 0; held = []; ended = None } }
     {
@@ -62,7 +62,7 @@ impl Records {
         }
     }
 
-    /// How many records were given or were fill.
+    /// The number of blocks so far: records that were returned, and fill.
     pub fn number(&self) -> u64
         ensures value { result ≡ self.now.number }
         ensures small { 200 * result ≤ self.now.limit + 1 }
@@ -91,25 +91,31 @@ impl Records {
                 Ok(record) => Ok(Some((self.number, record))),
                 Err(fault) => Err(fault),
             },
-            Err(Stop::Short) => Err(RecordFault::Short(self.number + 1)),
-            Err(Stop::ReadFault) => Err(RecordFault::ReadFault(self.number + 1)),
-            Err(Stop::ReaderNeverEnds) => Err(RecordFault::ReaderNeverEnds(self.number + 1)),
+            Err(Stop::Short) => Err(RecordFault::Short {
+                record: self.number + 1,
+            }),
+            Err(Stop::ReadFault) => Err(RecordFault::ReadFault {
+                record: self.number + 1,
+            }),
+            Err(Stop::ReaderNeverEnds) => Err(RecordFault::ReaderNeverEnds {
+                record: self.number + 1,
+            }),
         }
     }
 
-    /// The next record that is not fill, and its number. After the end, and after a refusal, the answer stays.
+    /// The next record that is not fill, and its number. After the end, and after a refusal, each call returns the same.
     pub fn next<R: Source>(&mut self, reader: &mut R) -> Result<Option<(u64, Record)>, RecordFault>
-        // An answer that ended the reading comes again, and nothing else happens.
+        // After an end the same result is returned, and nothing else happens.
         ensures again { IfSome self.old.ended (λ e. (result ≡ last_answer e) × (self.new ≡ self.old) × (reader.new ≡ reader.old)) }
         ensures ended { self.new.ended ≡ ending_of result }
         ensures limit { self.new.limit ≡ self.old.limit }
 
-        // Where the reader tells its bytes, the answer is the next record of what is ahead.
+        // If the contract knows the reader's bytes, the result is the next record of the bytes ahead.
         ensures record { IfNone self.old.ended (GivesNext self.old (R.left reader.old) self.new (R.left reader.new) result) }
         ensures number { IfNone self.old.ended (HasNumber self.new.number result) }
         ensures counts { IfNone self.old.ended (Counts self.old self.new result) }
 
-        // 13 comes where the reader failed, 14 behind the limit, and the bytes that came are those of the reader.
+        // 13 comes if the reader failed, 14 after the limit, and the bytes that came are those of the reader.
         ensures fault { IfNone self.old.ended (FailsAs (R.failures reader.old) (R.failures reader.new) result) }
         ensures never_ends { IfNone self.old.ended (NeverEnds self.new result) }
         ensures count { IfNone self.old.ended (CountsOn (R.left reader.old) (R.left reader.new) (R.came reader.old) (R.came reader.new) self.old.came self.new.came) }

@@ -31,7 +31,7 @@ fn segment_fault(bytes: &[u8; 200]) -> Option<usize>
     first_fault(&TABLE, bytes)
 }
 
-/// Data of a segment that begins with a leg, as its record says: which leg, and the tail.
+/// Data of a segment that begins with a leg, as its record has them: the name of the leg, and the tail.
 #[derive(Clone, Copy, Debug, PartialEq, Eq)]
 pub struct SegmentRecord {
     /// Columns 2 to 13.
@@ -72,7 +72,7 @@ fn segment_of(bytes: &[u8; 200]) -> SegmentRecord
     }
 }
 
-/// The segment data that a record spells, or the first column that cannot stand.
+/// The segment data that a record spells, or the first column of the first invalid field.
 pub(crate) fn read_segment(bytes: &[u8; 200]) -> Result<SegmentRecord, usize>
     requires { columns 1 1 bytes.now ≡ 52 ∷ [] }
     ensures ok { IfOk result (λ r. SpellsSegment r bytes.now) }

@@ -3,14 +3,19 @@
 ghost use Rattle.std.specs.Prelude.{◌≡◌, ◌≤◌, ◌+◌, ◌↔◌, length, IsSome, IfSome};
 ghost use Rattle.std.specs.Str.{bytes_eq};
 ghost use Rattle.ssim_records.specs.Columns.{EachStands};
-ghost use Rattle.ssim_records.specs.Segment.{IsTail, tail_of, tail_columns, segment_table};
+ghost use Rattle.ssim_records.specs.Segment.{IsTail, tail_of, tail_columns, new_tail, segment_table};
 
-use crate::columns::join;
+use crate::columns::{join, put, put_filled};
 use crate::field::{are_carried, three, two};
+use crate::number::three_digits;
+use ssim_values::Station;
 use std::marker::Model;
 
-/// The tail of a segment record: the bytes of its columns 15 to 27 and 29 to 194, all carried. The readers say columns
-/// as the record counts them.
+/// A column from 29 to 194 is this many bytes after its place in a tail.
+const FRONT: usize = 16;
+
+/// The tail of a segment record: the bytes of its columns 15 to 27 and 29 to 194, all carried. The readers are named by
+/// the columns of the record.
 #[derive(Clone, Copy, Debug, PartialEq, Eq, Hash)]
 pub struct SegmentTail {
     bytes: [u8; 179],
@@ -52,7 +57,28 @@ fn part(tail: &[u8; 179], first: usize, last: usize) -> &[u8]
 }
 
 impl SegmentTail {
-    /// The tail, where each of its bytes can be carried.
+    /// A tail with blanks in columns 15 to 27. Columns 29 and 30 have the letters of the board and off point, 31 to 33 the
+    /// last three digits of the data element identifier, 34 to 39 the stations of the two points, and 40 to 194 the text
+    /// with blanks after it. A longer text is cut, and a byte that a record cannot carry is written as a blank.
+    pub fn new(
+        points: [u8; 2],
+        identifier: u16,
+        board: Station,
+        off: Station,
+        text: &[u8],
+    ) -> SegmentTail
+        ensures { result ≡ new_tail points identifier board off text.now }
+    {
+        let mut bytes = [b' '; 179];
+        put_filled(&mut bytes, 29 - FRONT, 2, &points);
+        put(&mut bytes, 31 - FRONT, &three_digits(identifier as u32));
+        put(&mut bytes, 34 - FRONT, &board.write());
+        put(&mut bytes, 37 - FRONT, &off.write());
+        put_filled(&mut bytes, 40 - FRONT, 155, text);
+        SegmentTail { bytes }
+    }
+
+    /// The tail, if a record can carry each of its bytes.
     pub fn of(bytes: &[u8; 179]) -> Option<SegmentTail>
         ensures some { IsSome result ↔ IsTail bytes.now }
         ensures value { IfSome result (λ tail. tail ≡ bytes.now) }

@@ -1,4 +1,4 @@
-//! Std's readers and writers as devices. Their bytes are not told.
+//! Std's readers and writers as devices. Contracts do not know their bytes.
 
 ghost use Rattle.std.specs.Prelude.{◌≡◌, None};
 ghost use Rattle.std.specs.Io.{ReadsAtMost, WritesAtMost};
@@ -17,7 +17,7 @@ pub struct Input<R> {
 }
 
 impl<R: Read> Input<R> {
-    /// A source of what the reader gives, of which nothing came yet. It takes no memory.
+    /// A source of the reader's bytes, of which none came yet. It does not allocate.
     pub fn new(reader: R) -> Input<R>
         ensures reader { result.reader ≡ reader }
         ensures came { result.came ≡ 0 }
@@ -43,7 +43,7 @@ impl<R: Read> Source for Input<R> {
         ensures count { CountsBytes None None self.old.came self.new.came result }
         ensures failures { CountsFailure self.old.failures self.new.failures result }
 
-        // Where the reader tells its bytes, these are given.
+        // If the contract knows the reader's bytes, these are given.
         ensures reader { ReadConsumes (R.remaining self.old.reader) (R.remaining self.new.reader) result into.new }
     {
         match self.reader.read(into) {
@@ -67,7 +67,7 @@ pub struct Output<W> {
 }
 
 impl<W: Write> Output<W> {
-    /// A sink that hands its bytes to the writer. It takes no memory.
+    /// A sink that passes its bytes to the writer. It does not allocate.
     pub fn new(writer: W) -> Output<W>
         ensures writer { result.writer ≡ writer }
         ensures failures { result.failures ≡ 0 }
@@ -88,7 +88,7 @@ impl<W: Write> Sink for Output<W> {
         ensures bound { WritesAtMost result bytes.now }
         ensures failures { CountsPut self.old.failures self.new.failures result bytes.now }
 
-        // Where the writer tells its bytes, these are appended.
+        // If the contract knows the writer's bytes, these are appended.
         ensures writer { WriteAppends (W.contents self.old.writer) (W.contents self.new.writer) result bytes.now }
     {
         match self.writer.write(bytes) {

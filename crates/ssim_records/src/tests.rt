@@ -1,6 +1,6 @@
-//! What no clause says: that the tables of the definitions are those of the format, and that the framing answers as the
-//! format's examples do, off a slice, off std's reader and off a reader of one byte at a time. Expected values are those
-//! of the format.
+//! What no clause states: that the tables of the definitions are those of the format, and that the framing of the format's
+//! examples is right, from a slice, from std's reader and from a reader of one byte at a time. Expected values are those of
+//! the format.
 
 ghost use Rattle.std.specs.Prelude.{None};
 
@@ -8,6 +8,7 @@ mod bytes_of_fields;
 mod devices;
 mod fields;
 mod framing;
+mod leg_parts;
 mod spellings;
 
 use super::*;
@@ -30,8 +31,8 @@ const TRAILER: &[u8; 200] =
 const SEGMENT: &[u8; 200] =
     b"4 LX 05440101J              AB099ZRHLHROPERATED BY ANOTHER AIRLINE                                                                                                                                000004";
 
-/// A reader of at most so many bytes at a time. It fails at one of its calls, counted from 1, and begins with `again`
-/// where its bytes are out.
+/// A reader of at most `piece` bytes at a time. It fails at one of its calls, counted from 1. After its bytes it continues
+/// with `again`.
 #[derive(Drop)]
 struct Pieces<'a> {
     bytes: &'a [u8],
@@ -80,7 +81,7 @@ fn in_pieces(bytes: &[u8], piece: usize, fails_at: u64) -> Pieces<'_> {
     }
 }
 
-/// These bytes again and again, at most so many at a time.
+/// These bytes again and again, at most `piece` at a time.
 fn without_end(bytes: &[u8], piece: usize) -> Pieces<'_> {
     Pieces {
         bytes,
@@ -142,7 +143,7 @@ fn front(bytes: &[u8], len: usize) -> &[u8] {
     &bytes[..len.min(bytes.len())]
 }
 
-/// Reads the bytes off a slice, off a reader of one byte at a time, and off std's reader.
+/// Reads the bytes from a slice, from a reader of one byte at a time, and from std's reader.
 fn check(rt: &impl Abort, bytes: &[u8], limit: u64, want: (u64, Option<RecordFault>)) {
     let mut whole = bytes;
     assert_eq!(rt; outcome(&mut whole, limit), want);
@@ -152,8 +153,8 @@ fn check(rt: &impl Abort, bytes: &[u8], limit: u64, want: (u64, Option<RecordFau
     assert_eq!(rt; outcome(&mut input, limit), want);
 }
 
-/// Reads a record whose first column that cannot stand is this, or 0 where all stand; then what is written for it is
-/// read as the same record.
+/// Reads a record whose first invalid column is `want`, or 0 if all are valid. What is written for a valid record is read
+/// as the same record.
 fn check_record(rt: &impl Abort, bytes: &[u8; 200], want: usize, column: usize) {
     match read_record(bytes) {
         Ok(record) => {
@@ -164,6 +165,13 @@ fn check_record(rt: &impl Abort, bytes: &[u8; 200], want: usize, column: usize) 
                 "column {column}"
             );
         }
-        Err(fault) => assert_eq!(rt; fault, RecordFault::BadColumn(0, want), "column {column}"),
+        Err(fault) => assert_eq!(rt;
+            fault,
+            RecordFault::BadColumn {
+                record: 0,
+                column: want
+            },
+            "column {column}"
+        ),
     }
 }

@@ -4,22 +4,14 @@ ghost use Rattle.std.specs.Prelude.{◌≡◌, ◌<◌, ◌∷◌, [], None, Ok,
 ghost use Rattle.std.specs.List.{list_all};
 ghost use Rattle.ssim_records.specs.declared.field.Kind.TheVariants.{Carried, Code};
 ghost use Rattle.ssim_records.specs.Columns.{columns, fault_in, first_fault, is_carried, end_code_of, EachStands};
-ghost use Rattle.ssim_records.specs.Trailer.{TrailerFields, IsTrailer, SpellsTrailer, trailer_table, end_code_text, written_trailer};
+ghost use Rattle.ssim_records.specs.Trailer.{TrailerFields, IsTrailer, SpellsTrailer, trailer_table, written_trailer};
 
 use crate::columns::{airline_at, carried_at, digits_at, join};
-use crate::field::{Field, Kind, end_code_of, first_fault, seven};
+use crate::end_code::{EndCode, end_code_of, end_code_text};
+use crate::field::{Field, Kind, first_fault, seven};
 use crate::number::six_digits;
 use ssim_values::Airline;
 use std::marker::Model;
-
-/// Whether another carrier follows in the data set.
-#[derive(Clone, Copy, Debug, PartialEq, Eq)]
-pub enum EndCode {
-    /// `C`.
-    Continuation,
-    /// `E`.
-    End,
-}
 
 const TABLE: [Field; 6] = [
     field!(2 2 Carried),
@@ -54,15 +46,6 @@ fn code_at(bytes: &[u8; 200]) -> EndCode
     match end_code_of(&bytes[193..194]) {
         Some(code) => code,
         None => unreachable!(),
-    }
-}
-
-fn end_code_text(code: EndCode) -> [u8; 1]
-    ensures { result ≡ end_code_text code }
-{
-    match code {
-        EndCode::Continuation => *b"C",
-        EndCode::End => *b"E",
     }
 }
 
@@ -110,7 +93,7 @@ fn trailer_of(bytes: &[u8; 200]) -> Trailer
     }
 }
 
-/// The trailer that a record spells, or the first column that cannot stand.
+/// The trailer that a record spells, or the first column of the first invalid field.
 pub(crate) fn read_trailer(bytes: &[u8; 200]) -> Result<Trailer, usize>
     requires { columns 1 1 bytes.now ≡ 53 ∷ [] }
     ensures ok { IfOk result (λ r. SpellsTrailer r bytes.now) }
@@ -145,14 +128,14 @@ impl Trailer {
         seven(&self.release[0..7])
     }
 
-    /// Columns 6 to 187, carried: the release date and the columns behind it.
+    /// Columns 6 to 187, carried: the release date and the columns after it.
     pub fn columns_6_to_187(&self) -> [u8; 182]
         ensures { result ≡ self.now.release }
     {
         self.release
     }
 
-    /// The serial of the record before, as the trailer says it.
+    /// The serial of the record before, as the trailer has it.
     pub fn check(&self) -> u32
         ensures { result ≡ self.now.check }
     {

@@ -12,7 +12,7 @@ use std::marker::Model;
 /// How many bytes a window has room for: a fetch asks for this many, but for a rest below a block.
 const ROOM: usize = 16384;
 
-/// The bytes behind the line ends at the front.
+/// The bytes after the line ends at the beginning.
 fn after_line_ends(bytes: &[u8]) -> &[u8]
     ensures len { length result.now ≤ length bytes.now }
     ensures value { result.now ≡ drop_line_ends bytes.now }
@@ -27,7 +27,7 @@ fn after_line_ends(bytes: &[u8]) -> &[u8]
     }
 }
 
-/// Bytes that came and are not used yet, seen as their list. It stands inline, since reading takes no memory.
+/// Bytes that came and are not used yet, seen as their list. They are held inline, since reading does not allocate.
 #[derive(Drop)]
 pub struct Window {
     bytes: [u8; ROOM],
@@ -63,7 +63,7 @@ impl Window {
         self.end - self.start
     }
 
-    /// Passes over the line ends at the front.
+    /// Skips the line ends at the beginning.
     fn drop_line_ends(&mut self)
         ensures less { length self.new ≤ length self.old }
         ensures value { self.new ≡ drop_line_ends self.old }
@@ -72,7 +72,7 @@ impl Window {
         self.start = self.end - rest;
     }
 
-    /// Passes over the line ends at the front, if a block stands before them.
+    /// Skips the line ends at the beginning, if they follow a block.
     pub fn trim(&mut self, behind: bool)
         ensures less { length self.new ≤ length self.old }
         ensures value { self.new ≡ trim behind self.old }
@@ -82,7 +82,7 @@ impl Window {
         }
     }
 
-    /// Takes a block from the front.
+    /// Takes a block from the beginning.
     pub fn take(&mut self) -> [u8; 200]
         requires { 200 ≤ length self.old }
         ensures len { length result ≡ 200 }

@@ -9,7 +9,7 @@ use Rattle.ssim_schedule.specs.ReadBack.{place_of}
 use Rattle.ssim_schedule.specs.Schedule.{AddsOnlyAt, Table, cuts_in, days_in, found}
 use Rattle.ssim_schedule.specs.Stations.{Row}
 use Rattle.ssim_schedule.specs.Timetable.{Days}
-use Rattle.ssim_schedule.specs.declared.schedule.FlightPeriods.{FlightPeriods}
+use Rattle.ssim_schedule.specs.declared.flight_table.FlightPeriods.{FlightPeriods}
 use Rattle.ssim_schedule.proofs.Acts.{end_point, first_point}
 
 same_place : (q g : FlightNumber) → nat_eq (place_of q) (place_of g) ≡ true → place_of q ≡ place_of g

@@ -17,8 +17,8 @@ use Rattle.ssim_records.specs.Segment.{IsTail}
 use Rattle.ssim_records.specs.Trailer.{TrailerFields, IsTrailer}
 use Rattle.ssim_records.specs.declared.record.Record.{Record}
 use Rattle.ssim_records.specs.declared.record.Record.TheVariants.{Header, Carrier, Leg, Segment, Trailer}
-use Rattle.ssim_records.specs.declared.trailer.EndCode.{EndCode}
-use Rattle.ssim_records.specs.declared.trailer.EndCode.TheVariants.{Continuation, End}
+use Rattle.ssim_records.specs.declared.end_code.EndCode.{EndCode}
+use Rattle.ssim_records.specs.declared.end_code.EndCode.TheVariants.{Continuation, End}
 use Rattle.ssim_schedule.specs.Timetable.{LegValue, Legs, same_flight, same_name, tails_of, leg_of, period_of, is_on, placed, itinerary, Above}
 use Rattle.ssim_schedule.specs.Base as base
 use Rattle.ssim_schedule.specs.Base.{refuse_if, or_else, first_of, airline_of, carrier_end, closed, is_trailer, meet, overlaps, is_overflow, is_rate, is_continued, place_refusal, own_refusal, refusal_at, missing, kept, kept_all, Ending, Done, Broken, at_record, at_end, first_refusal, notes_of, data_set}
@@ -34,11 +34,11 @@ use Rattle.ssim_schedule.proofs.Calendars.{length-each_day, at-each_day}
 
 -- ---- what is not refused
 
-refuse_if-none : (b : Bool) (x : BaseRefusal) → refuse_if b x ≡ None → b ≡ false
+pub refuse_if-none : (b : Bool) (x : BaseRefusal) → refuse_if b x ≡ None → b ≡ false
 refuse_if-none true x h = absurd cc
 refuse_if-none false x h = refl
 
-or_else-none : (a b : Option BaseRefusal) → or_else a b ≡ None → (a ≡ None) × (b ≡ None)
+pub or_else-none : (a b : Option BaseRefusal) → or_else a b ≡ None → (a ≡ None) × (b ≡ None)
 or_else-none (Some x) b h = absurd cc
 or_else-none None b h = (refl, h)
 
@@ -46,7 +46,7 @@ pub at_record-none : (n : ℕ) (a : Option BaseRefusal) (later : Option BaseFaul
 at_record-none n (Some x) later h = absurd cc
 at_record-none n None later h = (refl, h)
 
-stood : (ending : Ending) (e : List Record) (records : List (ℕ × Record)) → first_refusal ending e records ≡ None → StandsTo e (map (λ r. r.1) records) (λ d. missing d ≡ None)
+pub stood : (ending : Ending) (e : List Record) (records : List (ℕ × Record)) → first_refusal ending e records ≡ None → StandsTo e (map (λ r. r.1) records) (λ d. missing d ≡ None)
 stood (Done n) e [] h = (at_record-none n (missing e) None h).0
 stood (Broken x) e [] h = absurd cc
 stood ending e (r ∷ records) h =
@@ -343,7 +343,7 @@ from-ok None rs these notes noted h =
     let pair : with_notes rs notes ≡ with_notes these noted = cc in
     (refl, ap (λ p. p.0) pair)
 
-each-second : (records : List (ℕ × Record)) → Each (λ (r : ℕ × Record). IsRecord r.1) records → Each IsRecord (map (λ r. r.1) records)
+pub each-second : (records : List (ℕ × Record)) → Each (λ (r : ℕ × Record). IsRecord r.1) records → Each IsRecord (map (λ r. r.1) records)
 each-second [] h = tt
 each-second (r ∷ records) h = (h.0, each-second records h.1)
 

@@ -96,7 +96,7 @@ or-true true b h = refl
 or-true false b h = h
 
 pub built-other : (b : Building) (r : Record) (done : List Record) → ((g : FlightNumber) (n : ℕ) → itinerary (r ∷ done) g n ≡ itinerary done g n) → ((n : Name) → tails_of n (r ∷ done) ≡ tails_of n done)
-    → ((g : FlightNumber) → IsFlight g → AreAtPoints (cuts_in b.schedule g) g (r ∷ done)) → IsBuilt b done → IsBuilt b (r ∷ done)
+    → ((g : FlightNumber) → IsFlight g → AreAtPoints (cuts_in b.table g) g (r ∷ done)) → IsBuilt b done → IsBuilt b (r ∷ done)
 built-other b r done days tails points h = record {
   days = λ g is. h.days g is ∙ sym (each_day-same (itinerary (r ∷ done) g) (itinerary done g) (λ n l. days g n));
   tails = λ n is. h.tails n is ∙ sym (tails n);
@@ -104,7 +104,7 @@ built-other b r done days tails points h = record {
 }
 
 -- the same timetable and the same tails
-pub built-same : (old new : Building) (done : List Record) → new.schedule ≡ old.schedule → new.waiting ≡ old.waiting → IsBuilt old done → IsBuilt new done
+pub built-same : (old new : Building) (done : List Record) → new.table ≡ old.table → new.waiting ≡ old.waiting → IsBuilt old done → IsBuilt new done
 built-same old new done schedule waiting h = record {
   days = λ g is. ap (λ s. days_in s g) schedule ∙ h.days g is;
   tails = λ n is. ap (λ w. waiting_at w (name_place n)) waiting ∙ h.tails n is;
@@ -144,7 +144,7 @@ built-leg old new r done t h = record {
         let flight : same_flight r.name.flight g ≡ true = same_flight-place r.name.flight g t.named.flight is ∙ ap (λ k. nat_eq k (place_of g)) same ∙ eq-self (place_of g) in
         rw (flight, at) refl
 
-    at_point : (g : FlightNumber) → IsFlight g → (cut : ℕ) → Contains (cuts_in old.schedule g) cut ⊎ ((place_of r.name.flight ≡ place_of g) × ((cut ≡ r.first) ⊎ (cut ≡ (period_of r).last + 1)))
+    at_point : (g : FlightNumber) → IsFlight g → (cut : ℕ) → Contains (cuts_in old.table g) cut ⊎ ((place_of r.name.flight ≡ place_of g) × ((cut ≡ r.first) ⊎ (cut ≡ (period_of r).last + 1)))
         → (is_point g cut (Leg r) || list_any (is_point g cut) done) ≡ true
     at_point g is cut (inl has) = or-true (is_point g cut (Leg r)) (list_any (is_point g cut) done) (h.cuts g is cut has)
     at_point g is cut (inr (same, inl at)) = point g is cut same (rw (ap (λ n. nat_eq n r.first) at ∙ eq-self r.first) refl)
@@ -166,11 +166,11 @@ built-leg old new r done t h = record {
         each_day-same (itinerary done g) (itinerary (Leg r ∷ done) g)
         (λ n l. ap (λ b. if b && holds (period_of r) n then placed (leg_of r done) (itinerary done g n) else itinerary done g n) (sym e))
 
-    one : (g : FlightNumber) → IsFlight g → days_in new.schedule g ≡ days_of (Leg r ∷ done) g
+    one : (g : FlightNumber) → IsFlight g → days_in new.table g ≡ days_of (Leg r ∷ done) g
     one g is =
         t.days g
-        ∙ ap (λ b. if b then changed_on (holds (period_of r)) (placed its) 0 (days_in old.schedule g) else days_in old.schedule g) (sym (same_flight-place r.name.flight g t.named.flight is))
-        ∙ ap (λ (l : LegValue). if same_flight r.name.flight g then changed_on (holds (period_of r)) (placed l) 0 (days_in old.schedule g) else days_in old.schedule g) is_leg
+        ∙ ap (λ b. if b then changed_on (holds (period_of r)) (placed its) 0 (days_in old.table g) else days_in old.table g) (sym (same_flight-place r.name.flight g t.named.flight is))
+        ∙ ap (λ (l : LegValue). if same_flight r.name.flight g then changed_on (holds (period_of r)) (placed l) 0 (days_in old.table g) else days_in old.table g) is_leg
         ∙ ap (λ (ds : List Legs). if same_flight r.name.flight g then changed_on (holds (period_of r)) (placed (leg_of r done)) 0 ds else ds) (h.days g is)
         ∙ choose (same_flight r.name.flight g) g refl
 

@@ -75,7 +75,7 @@ last-same (x ∷ xs) (y ∷ ys) a b h = last-same xs ys a b cc
 abbrev frame_from : HeaderFields → CarrierFields → TrailerFields → Frame
 frame_from h c t = record { header = h; carrier = c; trailer = t }
 
-same-frame : (frame other : Frame) (base these : List Record) → base ≡ these → HasFrame frame base → HasFrame other these → frame ≡ other
+pub same-frame : (frame other : Frame) (base these : List Record) → base ≡ these → HasFrame frame base → HasFrame other these → frame ≡ other
 same-frame frame other base these same f g =
     let all : Header frame.header ∷ Carrier frame.carrier ∷ (f.0 ++ Trailer frame.trailer ∷ []) ≡ Header other.header ∷ Carrier other.carrier ∷ (g.0 ++ Trailer other.trailer ∷ []) = sym f.1 ∙ same ∙ g.1 in
     let header : frame.header ≡ other.header = cc in

@@ -1,9 +1,15 @@
 -- Lists of one value per day: they are what their days say.
-use Rattle.std.proofs.Common.{◌≡◌, ℕ, zero, suc, ◌+◌, ◌<◌, [], ◌∷◌, map, length, refl, ap, ◌∙◌, arith}
+use Rattle.std.proofs.Common.{◌≡◌, ℕ, zero, suc, ◌+◌, ◌<◌, [], ◌∷◌, map, length, refl, ap, subst, ◌∙◌, arith}
 use Rattle.std.specs.List.{range_with_len}
+use Rattle.ssim_values.specs.Calendar.{day_limit}
 use Rattle.ssim_periods.specs.Calendar.{day_count}
 use Rattle.ssim_periods.specs.Days.{each_day}
 use Rattle.ssim_schedule.specs.Timetable.{Legs, Days, on_day}
+
+-- a number below the limit of days is a day of the calendar
+pub in_calendar : (number day : ℕ) → number ≡ day → number < day_limit → day < day_count
+unfolding day_count
+in_calendar number day same within = subst (λ (n : ℕ). n < day_limit) same within
 
 length-range : (g : ℕ → Legs) (low k : ℕ) → length (map g (range_with_len low k)) ≡ k
 length-range g low zero = refl

@@ -8,7 +8,7 @@ use Rattle.ssim_periods.specs.Days.{Seen, each_day, changed_on, AddsOnly}
 use Rattle.ssim_schedule.specs.Timetable.{Legs, Days}
 use Rattle.ssim_schedule.specs.ReadBack.{place_of}
 use Rattle.ssim_schedule.specs.Schedule.{Table, no_entry, AreRising, IsAt, IsGapFor, AddsOnlyAt, cuts_in, days_in}
-use Rattle.ssim_schedule.specs.declared.schedule.FlightPeriods.{FlightPeriods}
+use Rattle.ssim_schedule.specs.declared.flight_table.FlightPeriods.{FlightPeriods}
 use Rattle.ssim_schedule.proofs.TableLemmas.{found_at, found_in_gap, found_insert, found_set}
 
 abbrev pub days_at : FlightPeriods → Days

@@ -1,26 +1,33 @@
 -- A sub-message keeps the legs of each date in order: new legs are numbered from 1, and changed ones keep their sequence.
-use Rattle.std.proofs.Common.{◌≡◌, ◌≤◌, ◌<◌, ℕ, zero, suc, ◌+◌, Bool, true, false, nat_eq, if◌then◌else◌, List, [], ◌∷◌, length, map, Option, Some, None, IfSome, sym, subst, arith}
+use Rattle.std.proofs.Common.{◌≡◌, ◌≤◌, ◌<◌, ℕ, zero, suc, ◌+◌, Bool, true, false, ◌&&◌, nat_eq, if◌then◌else◌, List, [], ◌∷◌, length, map, Option, Some, None, IfSome, refl, sym, ap, subst, ◌∙◌, arith}
 use Rattle.ssim_values.specs.Flight.{FlightNumber, IsFlight}
 use Rattle.ssim_values.specs.Period.{DayRange}
 use Rattle.ssim_values.specs.Variation.{Offset}
-use Rattle.ssim_periods.specs.Calendar.{holds}
+use Rattle.ssim_periods.specs.Calendar.{day_count, holds}
 use Rattle.ssim_text.specs.Values.{EquipmentValue}
 use Rattle.ssim_text.specs.declared.leg.LegLine.{LegLine}
 use Rattle.ssim_text.specs.declared.action.NewLegs.{NewLegs}
 use Rattle.ssim_text.specs.declared.action.Action.{Action}
 use Rattle.ssim_text.specs.declared.action.Action.TheVariants.{New, Cnl, Rpl, Eqt, Tim}
-use Rattle.ssim_schedule.specs.Acts.{acted_on, after_on, after_sub, changed_by, lines_of}
+use Rattle.ssim_schedule.specs.Acts.{acted_on, after_on, after_sub, changed_by, itinerary_after, lines_of}
 use Rattle.ssim_schedule.specs.Effect.{Outcome, Variations, act_or, equipped, fits, have_legs, joined, leg_at, legs_from, outcome, retimed, variation_on, with_line, with_lines}
-use Rattle.ssim_schedule.specs.ReadBack.{AreInOrder, place_of}
+use Rattle.ssim_schedule.specs.ReadBack.{AreInOrder, IsTimetable, place_of}
 use Rattle.ssim_schedule.specs.Schedule.{Table, days_in}
 use Rattle.ssim_schedule.specs.Stations.{Row}
-use Rattle.ssim_schedule.specs.Timetable.{Above, Days, Legs, on_day}
+use Rattle.ssim_schedule.specs.Timetable.{Above, Days, Legs, on_day, same_flight}
 use Rattle.ssim_schedule.specs.declared.finding.Reason.{Reason}
 use Rattle.ssim_schedule.specs.declared.finding.Reason.TheVariants.{Acted, Leg, Station}
+use Rattle.ssim_schedule.proofs.BuildingLemmas.{same_flight-place}
 
 -- the same days are in order
-pub order-same : (days others : FlightNumber → Days) → ((g : FlightNumber) → IsFlight g → days g ≡ others g) → AreInOrder others → AreInOrder days
+order-same : (days others : FlightNumber → Days) → ((g : FlightNumber) → IsFlight g → days g ≡ others g) → AreInOrder others → AreInOrder days
 order-same days others same order = λ g n exists within. subst (λ (ds : Days). Above 0 (on_day ds n)) (sym (same g exists)) (order g n exists within)
+
+pub timetable-same : (days others : FlightNumber → Days) → ((g : FlightNumber) → IsFlight g → days g ≡ others g) → IsTimetable others → IsTimetable days
+timetable-same days others same is = record {
+  each_day = λ g exists. ap length (same g exists) ∙ is.each_day g exists;
+  rising = order-same days others same is.rising;
+}
 
 -- ---- new legs
 
@@ -87,10 +94,59 @@ days-above s after keeps first zero (old ∷ days) h =
     ]
 days-above s after keeps first (suc n) (old ∷ days) h = days-above s after keeps (first + 1) n days h
 
-pub order-kept : (rows : List Row) (action : Action) (flight : FlightNumber) (period : DayRange) (old new : Table) → length (lines_of action) ≤ 20
-    → ((g : FlightNumber) → days_in new g ≡ after_sub rows action flight period old g) → AreInOrder (days_in old) → AreInOrder (days_in new)
-order-kept rows action flight period old new few days order = order-same (days_in new) (after_sub rows action flight period old) (λ g exists. days g) (λ g n exists within.
+order-kept : (rows : List Row) (action : Action) (flight : FlightNumber) (period : DayRange) (old : Table) → length (lines_of action) ≤ 20
+    → AreInOrder (days_in old) → AreInOrder (after_sub rows action flight period old)
+order-kept rows action flight period old few order g n exists within =
     elim (nat_eq (place_of flight) (place_of g)) as (λ b. Above 0 (on_day (if b then acted_on rows action period (days_in old g) else days_in old g) n)) [
       | true ↦ days-above (holds period) (after_on rows action) (λ day legs h. effect-above (variation_on rows day) action legs few h) 0 n (days_in old g) (order g n exists within)
       | false ↦ order g n exists within
-    ])
+    ]
+
+-- no date is added or lost
+length-changed : (s : ℕ → Bool) (after : ℕ → Legs → Legs) (n : ℕ) (days : Days) → length (changed_by s after n days) ≡ length days
+length-changed s after n [] = refl
+length-changed s after n (old ∷ days) = ap suc (length-changed s after (n + 1) days)
+
+length-after : (rows : List Row) (action : Action) (flight : FlightNumber) (period : DayRange) (old : Table) (g : FlightNumber) → length (after_sub rows action flight period old g) ≡ length (days_in old g)
+length-after rows action flight period old g =
+    elim (nat_eq (place_of flight) (place_of g)) as (λ b. length (if b then acted_on rows action period (days_in old g) else days_in old g) ≡ length (days_in old g)) [
+      | true ↦ length-changed (holds period) (after_on rows action) 0 (days_in old g)
+      | false ↦ refl
+    ]
+
+pub timetable-kept : (rows : List Row) (action : Action) (flight : FlightNumber) (period : DayRange) (old new : Table) → length (lines_of action) ≤ 20
+    → ((g : FlightNumber) → days_in new g ≡ after_sub rows action flight period old g) → IsTimetable (days_in old) → IsTimetable (days_in new)
+timetable-kept rows action flight period old new few days was =
+    timetable-same (days_in new) (after_sub rows action flight period old) (λ g exists. days g) (record {
+      each_day = λ g exists. length-after rows action flight period old g ∙ was.each_day g exists;
+      rising = order-kept rows action flight period old few was.rising;
+    })
+
+-- ---- one date
+
+changed-at : (s : ℕ → Bool) (after : ℕ → Legs → Legs) (first n : ℕ) (days : Days) → n < length days
+    → on_day (changed_by s after first days) n ≡ (if s (first + n) then after (first + n) (on_day days n) else on_day days n)
+changed-at s after first n [] within = absurd (omega (arith, within))
+changed-at s after first zero (old ∷ days) within =
+    let same : first ≡ first + 0 = omega arith in
+    ap (λ d. if s d then after d old else old) same
+changed-at s after first (suc n) (old ∷ days) within =
+    let same : (first + 1) + n ≡ first + suc n = omega arith in
+    changed-at s after (first + 1) n days (omega (arith, within)) ∙ ap (λ d. if s d then after d (on_day days n) else on_day days n) same
+
+-- the itinerary of a date is the effect on it, if the sub-message names the flight and its period holds the date
+pub date_after : (rows : List Row) (action : Action) (flight : FlightNumber) (period : DayRange) (old new : Table) → IsFlight flight
+    → ((g : FlightNumber) → days_in new g ≡ after_sub rows action flight period old g) → IsTimetable (days_in old)
+    → (g : FlightNumber) (n : ℕ) → IsFlight g → n < day_count → on_day (days_in new g) n ≡ itinerary_after rows action flight period g n (on_day (days_in old g) n)
+date_after rows action flight period old new is days was g n exists within =
+    ap (λ ds. on_day ds n) (days g)
+    ∙ ap (λ b. on_day (if b then acted_on rows action period (days_in old g) else days_in old g) n) (sym (same_flight-place flight g is exists))
+    ∙ by (same_flight flight g)
+  where
+    by : (b : Bool) → on_day (if b then acted_on rows action period (days_in old g) else days_in old g) n
+        ≡ (if b && holds period n then after_on rows action n (on_day (days_in old g) n) else on_day (days_in old g) n)
+    by true =
+        let same : 0 + n ≡ n = omega arith in
+        subst (λ d. on_day (acted_on rows action period (days_in old g)) n ≡ (if holds period d then after_on rows action d (on_day (days_in old g) n) else on_day (days_in old g) n)) same
+        (changed-at (holds period) (after_on rows action) 0 n (days_in old g) (subst (λ (l : ℕ). n < l) (sym (was.each_day g exists)) within))
+    by false = refl

@@ -14,6 +14,7 @@ pub mod Planning
 pub mod Puts
 pub mod ReadOnce
 pub mod SameTails
+pub mod SameBytes
 pub mod Serials
 pub mod Stands
 pub mod StationLines
@@ -26,10 +27,11 @@ pub mod ReadingBack
 pub mod ReadingLemmas
 pub mod FlightLists
 pub mod BaseFrame
+pub mod SavedBases
 pub mod Unflown
 pub mod ReadBackBy
 pub mod ResolveLemmas
-pub mod LegTexts
+pub mod ResolvedOnce
 pub mod LegPairs
 pub mod Acts
 pub mod Applied

@@ -13,7 +13,7 @@ lines-append : (xs ys : List (Option Record)) → lines (xs ++ ys) ≡ lines xs 
 lines-append [] ys = refl
 lines-append (x ∷ xs) ys = ap (λ bytes. line (block_of x) ++ bytes) (lines-append xs ys) ∙ sym (append_assoc (line (block_of x)) (lines xs) (lines ys))
 
-lines-records : (rs : List Record) → lines (map (λ r. Some r) rs) ≡ flat_map (λ r. line (written r)) rs
+pub lines-records : (rs : List Record) → lines (map (λ r. Some r) rs) ≡ flat_map (λ r. line (written r)) rs
 lines-records [] = refl
 lines-records (r ∷ rs) = ap (λ bytes. line (written r) ++ bytes) (lines-records rs)
 
@@ -43,12 +43,12 @@ records_at n [] = []
 records_at n (None ∷ later) = records_at (n + 1) later
 records_at n (Some r ∷ later) = (n + 1, r) ∷ records_at (n + 1) later
 
-abbrev records_among : List (Option Record) → List Record
+abbrev pub records_among : List (Option Record) → List Record
 records_among [] = []
 records_among (None ∷ later) = records_among later
 records_among (Some r ∷ later) = r ∷ records_among later
 
-at-among : (n : ℕ) (items : List (Option Record)) → map (λ r. r.1) (records_at n items) ≡ records_among items
+pub at-among : (n : ℕ) (items : List (Option Record)) → map (λ r. r.1) (records_at n items) ≡ records_among items
 at-among n [] = refl
 at-among n (None ∷ later) = at-among (n + 1) later
 at-among n (Some r ∷ later) = ap (λ rs. r ∷ rs) (at-among (n + 1) later)
@@ -62,7 +62,7 @@ among-fill : (n : ℕ) → records_among (replicate n None) ≡ []
 among-fill zero = refl
 among-fill (suc n) = among-fill n
 
-among-records : (rs : List Record) → records_among (map (λ r. Some r) rs) ≡ rs
+pub among-records : (rs : List Record) → records_among (map (λ r. Some r) rs) ≡ rs
 among-records [] = refl
 among-records (r ∷ rs) = ap (λ xs. r ∷ xs) (among-records rs)
 

@@ -17,7 +17,7 @@ use Rattle.ssim_schedule.specs.ReadBack as law
 use Rattle.ssim_schedule.specs.ReadBack.{place_of}
 use Rattle.ssim_schedule.specs.declared.export.ExportFault.{ExportFault}
 use Rattle.ssim_schedule.specs.declared.export.ExportFault.TheVariants.{Variations, Records, WriteFault, Memory}
-use Rattle.ssim_schedule.specs.declared.schedule.FlightPeriods.{FlightPeriods}
+use Rattle.ssim_schedule.specs.declared.flight_table.FlightPeriods.{FlightPeriods}
 use Rattle.ssim_schedule.proofs.Calendars.{length-each_day, at-each_day}
 use Rattle.ssim_schedule.proofs.Flown.{flown_suffice, unflown}
 use Rattle.ssim_schedule.proofs.Places.{flight-place, same-self}

@@ -1,12 +1,13 @@
 -- From record to record: what was read so far, and what the blocks that are left still give.
-use Rattle.std.proofs.Common.{◌≡◌, ℕ, zero, suc, ◌+◌, ◌-◌, ◌<◌, false, not, nat_eq, List, [], ◌∷◌, ◌++◌, map, reverse, length, Option, Some, None, Ok, Err, inl, inr, refl, sym, ap, subst, ◌∙◌, append_assoc, arith}
+use Rattle.std.proofs.Common.{◌≡◌, ℕ, zero, suc, ◌+◌, ◌-◌, ◌<◌, ◌%◌, ◌^◌, false, not, nat_eq, List, [], ◌∷◌, ◌++◌, map, reverse, length, Option, Some, None, Ok, Err, inl, inr, refl, sym, ap, subst, ◌∙◌, append_assoc, arith}
 use Rattle.std.proofs.lemmas.List.{append-nil, reverse-append}
 use Rattle.std.proofs.lemmas.List.Elements.{All-append}
 use Rattle.std.specs.List.{All}
 use Rattle.std.specs.Prelude.{IfNone}
-use Rattle.ssim_records.specs.Blocks.{beyond}
+use Rattle.ssim_records.specs.Blocks.{CountsOn, beyond}
 use Rattle.ssim_records.specs.Frames.{Frames, FramesExist, others}
-use Rattle.ssim_records.specs.Reading.{Reading, GivesNext, HasNumber, IsAhead}
+use Rattle.ssim_records.specs.Reading as reading
+use Rattle.ssim_records.specs.Reading.{Answer, Reading, GivesNext, HasNumber, IsAhead}
 use Rattle.ssim_records.specs.Record.{IsRecord, fault_of, serial_of}
 use Rattle.ssim_records.specs.declared.fault.RecordFault.{RecordFault}
 use Rattle.ssim_records.specs.declared.fault.RecordFault.TheVariants.{Short, BadType, BadColumn, ReadFault, ReaderNeverEnds}
@@ -15,7 +16,7 @@ use Rattle.ssim_records.specs.declared.records.Ending as records
 use Rattle.ssim_schedule.specs.Base.{Ending, Done, Broken, Outcome, at_record, check_notes, data_set, first_refusal, kept, kept_all, missing, note_if, notes_of, refusal_at, unless_refused}
 use Rattle.ssim_schedule.specs.Gathering.{IsSoFar, notes_at}
 use Rattle.ssim_schedule.specs.Kept.{IsKept, IsRefused, Stood}
-use Rattle.ssim_schedule.specs.Reading.{AreBlocks, AreGiven, AreGivenOf, Begins, Gives, IsReadOf, Refuses, Stops}
+use Rattle.ssim_schedule.specs.Reading.{AreBlocks, AreGiven, AreGivenOf, Begins, Came, Gives, IsReadOf, NeverEnds, Refuses, Stops}
 use Rattle.ssim_schedule.specs.ReadBack.{EachSpells}
 use Rattle.ssim_schedule.specs.declared.fault.BaseFault.{BaseFault}
 use Rattle.ssim_schedule.specs.declared.fault.BaseFault.TheVariants as fault
@@ -273,6 +274,35 @@ step-refused limit told left left' r new g earlier done x fault.Memory so_far t 
 step-refused limit told left left' r new g earlier done x (Read f) so_far t given is = absurd is
 step-refused limit told left left' r new g earlier done x (Refused n refusal) so_far t given is =
     subst (λ k. IsReadOf limit told (Err (Refused k refusal))) (sym is.0) (told-refused limit told left left' r new g earlier done x refusal so_far t given is.1)
+
+-- ---- how many bytes came
+
+came-in : (limit : ℕ) (told left left' : Option (List ℕ)) (start now n : ℕ) (r new : Reading) (done : List Numbered) (a : Answer) → n ≡ new.came → Told limit told left r done
+    → GivesNext r left new left' a → CountsOn told left' start now 0 new.came → Came told left' start now n
+came-in limit None left None start now n r new done a is t given counts =
+    let wrapped : (now + 0) % 2 ^ 128 ≡ (start + new.came) % 2 ^ 128 = counts in
+    let same : now + 0 ≡ now = omega arith in
+    ap (λ k. k % 2 ^ 128) (sym same) ∙ wrapped ∙ ap (λ k. (start + k) % 2 ^ 128) (sym is)
+came-in limit None left (Some y) start now n r new done a is t given counts = counts
+came-in limit (Some all) None left' start now n r new done a is t given counts = absurd t
+came-in limit (Some all) (Some left) None start now n r new done a is t given counts = given
+came-in limit (Some all) (Some left) (Some left') start now n r new done a is t given counts = ap (λ k. k + length left') is ∙ given.0 ∙ t.came
+
+-- a reading that is refused as 14
+pub ended-beyond : (limit : ℕ) (told left left' : Option (List ℕ)) (start now : ℕ) (r new : Reading) (done : List Numbered) (f : RecordFault) → new.limit ≡ limit → Told limit told left r done
+    → GivesNext r left new left' (Err f) → CountsOn told left' start now 0 new.came → reading.NeverEnds new (Err f) → NeverEnds limit (Came told left' start now) (Read f)
+ended-beyond limit told left left' start now r new done (Short n) same t given counts over = tt
+ended-beyond limit told left left' start now r new done (BadType n) same t given counts over = tt
+ended-beyond limit told left left' start now r new done (BadColumn n column) same t given counts over = tt
+ended-beyond limit told left left' start now r new done (ReadFault n) same t given counts over = tt
+ended-beyond limit told left left' start now r new done (ReaderNeverEnds n) same t given counts over =
+    (new.came, subst (λ k. k < new.came) same over.0, came-in limit told left left' start now new.came r new done (Err (ReaderNeverEnds n)) refl t given counts)
+
+-- a record is never refused as 14
+pub never-refused : (limit : ℕ) (CameFrom : ℕ → Type 0) (n : ℕ) (earlier : List Record) (r : Record) (e : BaseFault) → IsRefused n earlier r e → NeverEnds limit CameFrom e
+never-refused limit CameFrom n earlier r fault.Memory is = tt
+never-refused limit CameFrom n earlier r (Read f) is = absurd is
+never-refused limit CameFrom n earlier r (Refused m refusal) is = tt
 
 -- ---- behind the last record
 

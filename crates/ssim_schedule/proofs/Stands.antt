@@ -12,7 +12,7 @@ use Rattle.ssim_records.specs.Segment.{SegmentFields}
 use Rattle.ssim_records.specs.Trailer.{TrailerFields}
 use Rattle.ssim_records.specs.declared.record.Record.{Record}
 use Rattle.ssim_records.specs.declared.record.Record.TheVariants.{Header, Carrier, Leg, Segment, Trailer}
-use Rattle.ssim_records.specs.declared.trailer.EndCode.TheVariants.{End}
+use Rattle.ssim_records.specs.declared.end_code.EndCode.TheVariants.{End}
 use Rattle.ssim_schedule.specs.Timetable.{Legs, Days, same_flight, is_on, period_of, on_day, Above}
 use Rattle.ssim_schedule.specs.Base.{airline_of, is_trailer, meet, overlaps, is_leg_named, refusal_at, missing, Done, at_record, first_refusal, kept}
 use Rattle.ssim_schedule.specs.Export.{Piece, same_itinerary, pieces, tail_record, leg_records, piece_records, pieces_records, flight_records, flights_records, flight_count, flight_at, all_flights, with_serial, numbered, sections, export_refusal}
@@ -299,7 +299,7 @@ stands-flights a days low (suc k) P e is fit good free next =
 -- ---- the whole
 
 -- the first refusal, from what stands one after another
-not_refused : (number : ℕ) (e : List Record) (rs : List Record) (records : List (ℕ × Record)) → map (λ r. r.1) records ≡ rs
+pub not_refused : (number : ℕ) (e : List Record) (rs : List Record) (records : List (ℕ × Record)) → map (λ r. r.1) records ≡ rs
     → StandsTo e rs (λ d. missing d ≡ None) → first_refusal (Done number) e records ≡ None
 not_refused number e [] [] is h = rw h refl
 not_refused number e (r ∷ rs) [] is h = cc

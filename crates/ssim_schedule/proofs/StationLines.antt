@@ -171,7 +171,7 @@ pub rows-spelled : (lines : List (ℕ × List ℕ)) (rows : List Row) → rows_o
 rows-spelled [] rows h = let same : [] ≡ rows = cc in subst (λ (all : List Row). AreRows all []) same tt
 rows-spelled (line ∷ lines) rows h = spelled_by line.0 line.1 (row_of line.1) lines (rows_of lines) rows refl refl (rows-spelled lines) h
 
-spelled-rows : (lines : List (ℕ × List ℕ)) (rows : List Row) → AreRows rows lines → rows_of lines ≡ Ok rows
+pub spelled-rows : (lines : List (ℕ × List ℕ)) (rows : List Row) → AreRows rows lines → rows_of lines ≡ Ok rows
 spelled-rows [] [] are = refl
 spelled-rows [] (row ∷ rows) are = absurd are
 spelled-rows (line ∷ lines) [] are = absurd are

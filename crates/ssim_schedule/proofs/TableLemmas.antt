@@ -13,7 +13,7 @@ use Rattle.ssim_periods.specs.Calendar.{day_count}
 use Rattle.ssim_periods.specs.Days.{each_day}
 use Rattle.ssim_schedule.specs.ReadBack.{place_of}
 use Rattle.ssim_schedule.specs.Schedule.{Table, found, no_entry, key_at, AreRising, IsAt, IsGapFor}
-use Rattle.ssim_schedule.specs.declared.schedule.FlightPeriods.{FlightPeriods}
+use Rattle.ssim_schedule.specs.declared.flight_table.FlightPeriods.{FlightPeriods}
 
 -- no entry before place i is the one with this key
 abbrev NoneBefore : Table → ℕ → ℕ → Type 0

@@ -261,7 +261,7 @@ items-append : (xs ys : List (Option Record)) → AreItems xs → AreItems ys �
 items-append [] ys a b = b
 items-append (x ∷ xs) ys a b = (a.0, items-append xs ys a.1 b)
 
-items-records : (rs : List Record) → Each IsRecord rs → AreItems (map (λ r. Some r) rs)
+pub items-records : (rs : List Record) → Each IsRecord rs → AreItems (map (λ r. Some r) rs)
 items-records [] h = tt
 items-records (r ∷ rs) h = (h.0, items-records rs h.1)
 

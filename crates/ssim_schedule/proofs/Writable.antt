@@ -1,18 +1,17 @@
 -- All legs of a timetable that was written can be: each day's itinerary is that of one of its pieces.
-use Rattle.std.proofs.Common.{◌≡◌, ℕ, true, false, nat_eq, if◌then◌else◌, List, [], ◌∷◌, length, sym, subst}
+use Rattle.std.proofs.Common.{◌≡◌, ℕ, true, false, nat_eq, if◌then◌else◌, List, [], ◌∷◌, sym, subst}
 use Rattle.std.specs.List.{All, AllByRecursion as Each}
 use Rattle.std.proofs.lemmas.List.Elements.{All-nil, recursion_from_All}
 use Rattle.ssim_values.specs.Flight.{FlightNumber}
-use Rattle.ssim_periods.specs.Calendar.{day_count, holds}
+use Rattle.ssim_periods.specs.Calendar.{holds}
 use Rattle.ssim_periods.specs.Days.{each_day}
 use Rattle.ssim_periods.specs.Pieces.{alone, held_on}
 use Rattle.ssim_schedule.specs.Timetable.{Days, Legs, on_day}
 use Rattle.ssim_schedule.specs.Export.{Piece, pieces, same_itinerary}
 use Rattle.ssim_schedule.specs.Plan.{HasWritableLegs, HasWritablePieces, Planned, plan_of}
-use Rattle.ssim_schedule.specs.ReadBack.{AreInOrder, CanReadBack, IsWritable, place_of}
+use Rattle.ssim_schedule.specs.ReadBack.{CanReadBack, IsTimetable, IsWritable, place_of}
 use Rattle.ssim_schedule.specs.Schedule.{Table, days_in}
-use Rattle.ssim_schedule.specs.declared.schedule.FlightPeriods.{FlightPeriods}
-use Rattle.ssim_schedule.proofs.Calendars.{at-each_day, length-each_day}
+use Rattle.ssim_schedule.proofs.Calendars.{at-each_day}
 use Rattle.ssim_schedule.proofs.Pieces.{itinerary_pieces}
 
 -- ---- day by day
@@ -52,18 +51,12 @@ entries-writable : (table : Table) (n : ℕ) → Each HasWritablePieces (plan_of
 entries-writable [] n h = tt
 entries-writable (f ∷ table) n h = (day-writable f.periods.days n h.0, entries-writable table n h.1)
 
-abbrev HasAllDays : FlightPeriods → Type 0
-HasAllDays f = length f.periods.days ≡ day_count
-
--- so what was written can be read back, where its legs are in order
-pub readable : (table : Table) (plan : List Planned) → plan ≡ plan_of table → All HasAllDays table → All HasWritablePieces plan → AreInOrder (days_in table) → CanReadBack (days_in table)
-readable table plan is days writable order =
+-- so what was written can be read back
+pub readable : (table : Table) (plan : List Planned) → plan ≡ plan_of table → All HasWritablePieces plan → IsTimetable (days_in table) → CanReadBack (days_in table)
+readable table plan is writable timetable =
     let each = recursion_from_All HasWritablePieces (plan_of table) (subst (λ (ps : List Planned). All HasWritablePieces ps) is writable) in
     record {
-      timetable = record {
-        each_day = λ g exists. of-each (λ ds. length ds ≡ day_count) table g (recursion_from_All HasAllDays table days) (length-each_day (λ _. []));
-        rising = order;
-      };
+      timetable = timetable;
       legs = λ g n exists within.
           of-each (λ ds. CanBeWritten (on_day ds n)) table g (entries-writable table n each)
           (subst CanBeWritten (sym (at-each_day (λ _. []) n within)) (All-nil IsWritable));

@@ -12,7 +12,7 @@ use Rattle.ssim_schedule.specs.Effect.{class_number, effect}
 use Rattle.ssim_schedule.specs.ReadBack.{place_of}
 use Rattle.ssim_schedule.specs.Schedule.{Table, days_in}
 use Rattle.ssim_schedule.specs.Stations.{Row}
-use Rattle.ssim_schedule.specs.Timetable.{Days, Legs}
+use Rattle.ssim_schedule.specs.Timetable.{Days, Legs, same_flight}
 use Rattle.ssim_schedule.specs.declared.finding.Finding.{Finding}
 
 -- a flight's days, the first of which is day n, after a change of the days of a set, each by itself
@@ -41,6 +41,11 @@ acted_on rows action period days = changed_by (holds period) (after_on rows acti
 abbrev pub after_sub : List Row → Action → FlightNumber → DayRange → Table → FlightNumber → Days
 after_sub rows action flight period table g =
     if nat_eq (place_of flight) (place_of g) then acted_on rows action period (days_in table g) else days_in table g
+
+-- what flight g has on a day after the sub-message: the effect if it names g and its period holds the day, else the old legs
+abbrev pub itinerary_after : List Row → Action → FlightNumber → DayRange → FlightNumber → ℕ → Legs → Legs
+itinerary_after rows action flight period g day old =
+    if same_flight flight g && holds period day then after_on rows action day old else old
 
 -- how many dates of the period get the reason of class k
 abbrev pub count_of : List Row → Action → DayRange → Days → ℕ → ℕ

@@ -16,22 +16,22 @@ use Rattle.ssim_schedule.specs.declared.building.Building.{Building}
 
 -- the timetable of these records, and the tails of theirs that wait
 pub record IsBuilt (b : Building) (done : List Record) : Type 0 where
-  pub days : (g : FlightNumber) → IsFlight g → days_in b.schedule g ≡ days_of done g
+  pub days : (g : FlightNumber) → IsFlight g → days_in b.table g ≡ days_of done g
   pub tails : (n : Name) → IsPlaced n → waiting_at b.waiting (name_place n) ≡ tails_of n done
-  pub cuts : (g : FlightNumber) → IsFlight g → AreAtPoints (cuts_in b.schedule g) g done
+  pub cuts : (g : FlightNumber) → IsFlight g → AreAtPoints (cuts_in b.table g) g done
 
 -- a tail more waits
 pub record TakesSegment (old new : Building) (r : SegmentFields) : Type 0 where
   pub named : IsPlaced r.name
-  pub days : new.schedule ≡ old.schedule
+  pub days : new.table ≡ old.table
   pub tails : (place : ℕ) → waiting_at new.waiting place ≡ (if nat_eq place (name_place r.name) then r.tail ∷ waiting_at old.waiting place else waiting_at old.waiting place)
 
 -- a leg is put with the tails that waited for it
 pub record TakesLeg (old new : Building) (r : LegFields) : Type 0 where
   pub named : IsPlaced r.name
-  pub days : (g : FlightNumber) → days_in new.schedule g
+  pub days : (g : FlightNumber) → days_in new.table g
       ≡ (if nat_eq (place_of r.name.flight) (place_of g)
-      then changed_on (holds (period_of r)) (placed (record { sequence = r.name.sequence; columns = r.columns; tails = waiting_at old.waiting (name_place r.name) })) 0 (days_in old.schedule g)
-      else days_in old.schedule g)
+      then changed_on (holds (period_of r)) (placed (record { sequence = r.name.sequence; columns = r.columns; tails = waiting_at old.waiting (name_place r.name) })) 0 (days_in old.table g)
+      else days_in old.table g)
   pub tails : (place : ℕ) → waiting_at new.waiting place ≡ (if nat_eq place (name_place r.name) then [] else waiting_at old.waiting place)
-  pub cuts : (g : FlightNumber) → AddsOnlyAt r.name.flight (period_of r) g (cuts_in old.schedule g) (cuts_in new.schedule g)
+  pub cuts : (g : FlightNumber) → AddsOnlyAt r.name.flight (period_of r) g (cuts_in old.table g) (cuts_in new.table g)

@@ -10,7 +10,8 @@ use Rattle.ssim_text.specs.declared.segment.SegmentLine.{SegmentLine}
 use Rattle.ssim_text.specs.declared.action.NewLegs.{NewLegs}
 use Rattle.ssim_text.specs.declared.action.Action.TheVariants.{New, Cnl, Rpl, Eqt, Tim}
 use Rattle.ssim_schedule.specs.Acts.{acted_on, counts_by}
-use Rattle.ssim_schedule.specs.Columns.{new_columns, segment_tail, with_equipment, with_times}
+use Rattle.ssim_records.specs.LegParts.{new_leg, station_columns, with_equipment, with_times}
+use Rattle.ssim_records.specs.Segment.{new_tail}
 use Rattle.ssim_schedule.specs.Effect.{effect, tails_for}
 use Rattle.ssim_schedule.specs.Stations.{Row}
 use Rattle.ssim_schedule.specs.Timetable.{LegValue}
@@ -74,28 +75,28 @@ winter = leg_of (codes "ZRH05450545+0100") (codes "LHR07000700+0000") (codes "32
 -- ---- NEW and RPL
 
 new_in_summer : effect rows (New new) 9313 [] ≡ (summer ∷ [], reason.Acted)
-unfolding new_columns
+unfolding new_leg station_columns with_times with_equipment
 new_in_summer = refl
 
 new_in_autumn : effect rows (New new) 9430 [] ≡ (winter ∷ [], reason.Acted)
-unfolding new_columns
+unfolding new_leg station_columns with_times with_equipment
 new_in_autumn = refl
 
 no_station : effect [] (New new) 9313 [] ≡ ([], reason.Station)
-unfolding new_columns
+unfolding new_leg station_columns with_times with_equipment
 no_station = refl
 
 already_there : effect rows (New new) 9313 (summer ∷ []) ≡ (summer ∷ [], reason.Present)
-unfolding new_columns
+unfolding new_leg station_columns with_times with_equipment
 already_there = refl
 
 replaced : effect rows (Rpl new) 9430 (summer ∷ []) ≡ (winter ∷ [], reason.Acted)
-unfolding new_columns
+unfolding new_leg station_columns with_times with_equipment
 replaced = refl
 
 -- the flight's absence counts before a station's
 not_replaced : effect [] (Rpl new) 9430 [] ≡ ([], reason.Absent)
-unfolding new_columns
+unfolding new_leg station_columns with_times with_equipment
 not_replaced = refl
 
 -- ---- CNL, EQT and TIM
@@ -136,11 +137,11 @@ abbrev segments : List SegmentLine
 segments = segment (codes "ZRH") (codes "LHR") 99 (codes "VIA TERMINAL 2") ∷ segment (codes "LHR") (codes "ZRH") 10 (codes "LX") ∷ segment (codes "ZRH") (codes "ZRH") 109 (codes "M") ∷ []
 
 first_tails : tails_for 0 out_and_back segments ≡ (blanks 13 ++ codes "AB099ZRHLHRVIA TERMINAL 2" ++ blanks 141) ∷ (blanks 13 ++ codes "AC109ZRHZRHM" ++ blanks 154) ∷ []
-unfolding segment_tail
+unfolding new_tail
 first_tails = refl
 
 second_tails : tails_for 1 out_and_back segments ≡ (blanks 13 ++ codes "BC010LHRZRHLX" ++ blanks 153) ∷ []
-unfolding segment_tail
+unfolding new_tail
 second_tails = refl
 
 -- ---- dates

@@ -3,8 +3,8 @@ use Rattle.std.specs.Prelude.{◌≡◌, ℕ, true, false, List, [], ◌∷◌, 
 use Rattle.ssim_values.specs.Flight.{FlightNumber}
 use Rattle.ssim_records.specs.declared.record.Record.{Record}
 use Rattle.ssim_records.specs.declared.record.Record.TheVariants.{Header, Carrier, Leg, Segment, Trailer}
-use Rattle.ssim_records.specs.declared.carrier.TimeMode.TheVariants.{Utc}
-use Rattle.ssim_records.specs.declared.trailer.EndCode.TheVariants as code
+use Rattle.ssim_records.specs.declared.time_mode.TimeMode.TheVariants.{Utc}
+use Rattle.ssim_records.specs.declared.end_code.EndCode.TheVariants as code
 use Rattle.ssim_schedule.specs.Timetable.{LegValue, itinerary}
 use Rattle.ssim_schedule.specs.Export.{flight_at}
 use Rattle.ssim_schedule.specs.ReadBack.{place_of, section_items}

@@ -18,8 +18,10 @@ pub mod Gathering
 pub mod Stations
 pub mod BaseSeen
 pub mod Reading
+pub mod SavedBase
 pub mod Examples
 pub mod Resolve
+pub mod Fault
 pub mod Columns
 pub mod Effect
 pub mod Acts

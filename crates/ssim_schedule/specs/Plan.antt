@@ -1,8 +1,8 @@
 -- What is to be exported, flight by flight: pieces instead of days.
-use Rattle.std.specs.Prelude.{◌≡◌, ℕ, ◌+◌, ◌%◌, ◌^◌, ◌&&◌, nat_lt, if◌then◌else◌, List, [], ◌∷◌, map, length, Option, Some, None, Result, Ok, Err}
+use Rattle.std.specs.Prelude.{◌≡◌, ℕ, ◌+◌, ◌%◌, ◌^◌, ◌&&◌, nat_lt, if◌then◌else◌, List, [], ◌∷◌, ◌++◌, map, length, Option, Some, None, Result, Ok, Err, codes}
 use Rattle.std.specs.List.{flat_map, All}
 use Rattle.std.specs.Io.KnownBytes.{Appends}
-use Rattle.ssim_values.specs.Flight.{FlightNumber}
+use Rattle.ssim_values.specs.Flight.{FlightNumber, flight_text}
 use Rattle.ssim_records.specs.Carrier.{CarrierFields}
 use Rattle.ssim_records.specs.Header.{HeaderFields}
 use Rattle.ssim_records.specs.Trailer.{TrailerFields}
@@ -104,6 +104,19 @@ export_fault_number (Variations flight) = 50
 export_fault_number Records = 51
 export_fault_number WriteFault = 52
 export_fault_number Memory = 90
+
+abbrev pub export_fault_name : ExportFault → List ℕ
+export_fault_name (Variations flight) = codes "Variations"
+export_fault_name Records = codes "Records"
+export_fault_name WriteFault = codes "WriteFault"
+export_fault_name Memory = codes "Memory"
+
+-- how a fault is displayed: its name, and the flight if it names one
+abbrev pub export_fault_text : ExportFault → List ℕ
+export_fault_text (Variations flight) = codes "Variations flight " ++ flight_text flight
+export_fault_text Records = codes "Records"
+export_fault_text WriteFault = codes "WriteFault"
+export_fault_text Memory = codes "Memory"
 
 -- the same for a base, whose header, carrier and trailer stand around it
 abbrev pub WritesBase : {W : Type 0} → (W → Option (List ℕ)) → (W → ℕ) → List Record → (FlightNumber → Days) → W → W → Type 0

@@ -99,6 +99,23 @@ FailsAs old new (fault.Read (ReadFault number)) = new ≡ (old + 1) % 2 ^ 64
 FailsAs old new (fault.Read (ReaderNeverEnds number)) = new ≡ old
 FailsAs old new (fault.Refused number refusal) = new ≡ old
 
+-- so many bytes came from a reader: so many fewer are left, or, if it does not report its bytes, so many more are counted
+abbrev pub Came : Option (List ℕ) → Option (List ℕ) → ℕ → ℕ → ℕ → Type 0
+Came (Some left) (Some left') old new n = n + length left' ≡ length left
+Came (Some left) None old new n = ⊥
+Came None (Some left') old new n = ⊥
+Came None None old new n = new % 2 ^ 128 ≡ (old + n) % 2 ^ 128
+
+-- 14 is returned only if more bytes came than the limit
+abbrev pub NeverEnds : ℕ → (ℕ → Type 0) → BaseFault → Type 0
+NeverEnds limit CameFrom fault.Memory = Unit {0}
+NeverEnds limit CameFrom (fault.Read (Short number)) = Unit {0}
+NeverEnds limit CameFrom (fault.Read (BadType number)) = Unit {0}
+NeverEnds limit CameFrom (fault.Read (BadColumn number column)) = Unit {0}
+NeverEnds limit CameFrom (fault.Read (ReadFault number)) = Unit {0}
+NeverEnds limit CameFrom (fault.Read (ReaderNeverEnds number)) = (n : ℕ) × (limit < n) × CameFrom n
+NeverEnds limit CameFrom (fault.Refused number refusal) = Unit {0}
+
 -- the refusal is that of the bytes
 abbrev pub Refuses : ℕ → Option (List ℕ) → BaseFault → Type 0
 Refuses limit told fault.Memory = Unit {0}
@@ -116,3 +133,10 @@ abbrev pub IsReadBack : Type 0
 IsReadBack = (bytes : List ℕ) (count : ℕ) (records : List (ℕ × Record)) (base : List Record) (notes : List Note) (limit : ℕ) (outcome : Outcome)
     → AreRead bytes count records → data_set (Done (count + 1)) records ≡ Ok (base, notes) → length bytes ≤ limit → IsReadAs limit bytes outcome
     → (outcome ≡ Ok (base, notes)) ⊎ FailedReader outcome
+
+-- ---- the same bytes
+
+-- the same bytes are read as the same base with the same notes, whatever the limits
+abbrev pub SameBytesSameBase : Type 0
+SameBytesSameBase = (bytes : List ℕ) (limit other : ℕ) (base these : List Record) (notes noted : List Note)
+    → IsReadAs limit bytes (Ok (base, notes)) → IsReadAs other bytes (Ok (these, noted)) → (base ≡ these) × (notes ≡ noted)

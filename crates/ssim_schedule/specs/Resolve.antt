@@ -1,11 +1,11 @@
 -- A message resolved against a base: its reference and its sub-messages with full dates, or why it cannot be.
-use Rattle.std.specs.Prelude.{◌≡◌, ◌≢◌, ◌⊎◌, ℕ, ◌+◌, ◌<◌, ◌≤◌, Bool, true, false, List, [], ◌∷◌}
+use Rattle.std.specs.Prelude.{◌≡◌, ◌≢◌, ◌⊎◌, ℕ, ◌+◌, ◌<◌, ◌≤◌, Bool, true, false, List, [], ◌∷◌, Result, Ok, Err}
 use Rattle.ssim_values.specs.Calendar.{HasDayMonth}
 use Rattle.ssim_values.specs.DayMonth.{MonthDay}
 use Rattle.ssim_values.specs.Period.{DayRange}
 use Rattle.ssim_records.specs.Carrier.{CarrierFields}
-use Rattle.ssim_records.specs.declared.carrier.TimeMode.TheVariants as record_mode
-use Rattle.ssim_records.specs.declared.carrier.TimeMode.{TimeMode as RecordMode}
+use Rattle.ssim_records.specs.declared.time_mode.TimeMode.TheVariants as record_mode
+use Rattle.ssim_records.specs.declared.time_mode.TimeMode.{TimeMode as RecordMode}
 use Rattle.ssim_records.specs.declared.record.Record.{Record}
 use Rattle.ssim_text.specs.Message.{MessageValue}
 use Rattle.ssim_text.specs.declared.action.Sub.{Sub}
@@ -132,17 +132,29 @@ pub record Resolves (carrier : CarrierFields) (message : MessageValue) (text : R
   pub originator : text.reference.originator ≡ message.originator
   pub subs : AreResolved carrier message.subs text.subs.items
 
--- the refusal of a message: 40, 42 of the reference, then that of the first sub-message that has one; want of memory says nothing
+-- the reference has a date
+abbrev pub HasReferenceDate : CarrierFields → MessageValue → Type 0
+HasReferenceDate carrier message = (day : ℕ) × IsNext carrier.created message.reference.date day
+
+-- the time modes are one, and the reference has no date
+pub record IsReferenceRefused (carrier : CarrierFields) (message : MessageValue) (number : ℕ) : Type 0 where
+  pub mode : same_mode carrier.time_mode message.mode ≡ true
+  pub is_zero : number ≡ 0
+  pub none : HasNone carrier.created message.reference.date
+
+-- the time modes are one, the reference has a date, and this is the refusal of the first sub-message that has one
+pub record IsRefusedBySub (carrier : CarrierFields) (message : MessageValue) (fault : ResolveFault) : Type 0 where
+  pub mode : same_mode carrier.time_mode message.mode ≡ true
+  pub date : HasReferenceDate carrier message
+  pub first : IsFirstRefused carrier 1 message.subs fault
+
+-- the first refusal of a message: 40, 42 of the reference, then that of the first sub-message that has one; Memory says nothing
 abbrev pub IsRefused : CarrierFields → MessageValue → ResolveFault → Type 0
 IsRefused carrier message fault.Memory = Unit {0}
 IsRefused carrier message fault.TimeMode = same_mode carrier.time_mode message.mode ≡ false
-IsRefused carrier message (fault.NoSuchDate number) =
-    (same_mode carrier.time_mode message.mode ≡ true)
-    × (((number ≡ 0) × HasNone carrier.created message.reference.date) ⊎ IsFirstRefused carrier 1 message.subs (fault.NoSuchDate number))
-IsRefused carrier message (fault.Airline number) =
-    (same_mode carrier.time_mode message.mode ≡ true) × IsFirstRefused carrier 1 message.subs (fault.Airline number)
-IsRefused carrier message (fault.Period number) =
-    (same_mode carrier.time_mode message.mode ≡ true) × IsFirstRefused carrier 1 message.subs (fault.Period number)
+IsRefused carrier message (fault.NoSuchDate number) = IsReferenceRefused carrier message number ⊎ IsRefusedBySub carrier message (fault.NoSuchDate number)
+IsRefused carrier message (fault.Airline number) = IsRefusedBySub carrier message (fault.Airline number)
+IsRefused carrier message (fault.Period number) = IsRefusedBySub carrier message (fault.Period number)
 
 -- the same against a base, whose carrier record counts
 abbrev pub ResolvesIn : List Record → MessageValue → ResolvedText → Type 0
@@ -150,6 +162,31 @@ ResolvesIn base message text = (frame : Frame) × HasFrame frame base × Resolve
 
 abbrev pub IsRefusedIn : List Record → MessageValue → ResolveFault → Type 0
 IsRefusedIn base message fault = (frame : Frame) × HasFrame frame base × IsRefused frame.carrier message fault
+
+-- ---- one outcome
+
+-- what a base and a message determine: the message with full dates, or a refusal that is not for memory
+abbrev pub IsOutcome : List Record → MessageValue → Result ResolvedText ResolveFault → Type 0
+IsOutcome base message (Ok text) = ResolvesIn base message text
+IsOutcome base message (Err fault.Memory) = ⊥
+IsOutcome base message (Err fault.TimeMode) = IsRefusedIn base message fault.TimeMode
+IsOutcome base message (Err (fault.Airline number)) = IsRefusedIn base message (fault.Airline number)
+IsOutcome base message (Err (fault.NoSuchDate number)) = IsRefusedIn base message (fault.NoSuchDate number)
+IsOutcome base message (Err (fault.Period number)) = IsRefusedIn base message (fault.Period number)
+
+-- the same reference and the same sub-messages, or the same refusal
+abbrev pub IsSameOutcome : Result ResolvedText ResolveFault → Result ResolvedText ResolveFault → Type 0
+IsSameOutcome (Ok text) (Ok other) = (text.reference ≡ other.reference) × (text.subs.items ≡ other.subs.items)
+IsSameOutcome (Ok text) (Err fault) = ⊥
+IsSameOutcome (Err fault) (Ok text) = ⊥
+IsSameOutcome (Err fault) (Err other) = fault ≡ other
+
+-- a base and a message have at most one outcome
+abbrev pub HasOneOutcome : Type 0
+HasOneOutcome = (base : List Record) (message : MessageValue) (outcome other : Result ResolvedText ResolveFault)
+    → IsOutcome base message outcome → IsOutcome base message other → IsSameOutcome outcome other
+
+-- ---- the numbers of refusals
 
 abbrev pub resolve_fault_number : ResolveFault → ℕ
 resolve_fault_number fault.Memory = 90

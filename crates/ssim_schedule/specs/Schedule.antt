@@ -5,7 +5,7 @@ use Rattle.ssim_values.specs.Period.{DayRange}
 use Rattle.ssim_periods.specs.Days.{each_day}
 use Rattle.ssim_schedule.specs.Timetable.{Days}
 use Rattle.ssim_schedule.specs.ReadBack.{place_of}
-use Rattle.ssim_schedule.specs.declared.schedule.FlightPeriods.{FlightPeriods}
+use Rattle.ssim_schedule.specs.declared.flight_table.FlightPeriods.{FlightPeriods}
 
 abbrev pub Table : Type 0
 Table = List FlightPeriods

@@ -40,6 +40,10 @@ AreRows (row ∷ rows) (line ∷ lines) = SpellsRow row line.1 × AreRows rows l
 abbrev pub SpellsTable : List Row → List ℕ → Type 0
 SpellsTable rows text = AreRows rows (lines_left text)
 
+-- the same bytes are a table of the same rows
+abbrev pub SameBytesSameRows : Type 0
+SameBytesSameRows = (text : List ℕ) (rows others : List Row) → SpellsTable rows text → SpellsTable others text → rows ≡ others
+
 -- the number is that of the first of these lines that spells no row
 abbrev pub IsFirstOther : List (ℕ × List ℕ) → ℕ → Type 0
 IsFirstOther [] n = ⊥

@@ -1,4 +1,4 @@
-//! What a sub-message makes of an itinerary.
+//! The effect of a sub-message on an itinerary.
 
 ghost use Rattle.std.specs.Prelude.{◌≡◌, IfOk, unwrap_or};
 ghost use Rattle.ssim_schedule.specs.Effect.{equip, equipped, fits, has_leg, have_legs, made_of, retime, retimed, variation_on, with_line, with_lines};
@@ -170,7 +170,7 @@ impl<'a> Acting<'a> {
         })
     }
 
-    // What becomes of the old legs where new ones were made.
+    // The new legs, or the old ones if none were made.
     fn made_or(&self, alloc: Global, old: &Itinerary) -> Result<Itinerary, Memory>
         ensures { IfOk result (λ new. new ≡ unwrap_or self.now.made old.now) }
     {
@@ -186,7 +186,7 @@ impl<'a> Acting<'a> {
     ghost use Rattle.ssim_schedule.specs.Effect.{act_or, effect};
     ghost use Rattle.ssim_schedule.specs.declared.finding.Reason.TheVariants.{Station};
 
-    // Why NEW or RPL acts or does not where nothing else hinders it.
+    // Why NEW or RPL acts or not, if nothing else hinders it.
     fn made_reason(&self) -> Reason
         ensures { result ≡ (act_or Station [] self.now.made).1 }
     {
@@ -197,7 +197,7 @@ impl<'a> Acting<'a> {
         }
     }
 
-    // Why it acts or does not where the flight does not fly.
+    // Why the sub-message acts or not, if the flight does not fly.
     fn reason_absent(&self) -> Reason
         ensures { result ≡ (effect self.now.rows.now self.now.action.now self.now.day []).1 }
     {
@@ -207,7 +207,7 @@ impl<'a> Acting<'a> {
         }
     }
 
-    // Why it acts or does not.
+    // Why the sub-message acts or not.
     fn reason(&self, old: &Itinerary) -> Reason
         ensures { result ≡ (effect self.now.rows.now self.now.action.now self.now.day old.now).1 }
     {

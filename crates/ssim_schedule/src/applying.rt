@@ -1,16 +1,17 @@
-//! Sub-messages act on a schedule.
+//! The effect of sub-messages on a schedule.
 
-ghost use Rattle.std.specs.Prelude.{◌≡◌, true, IfOk, OnErr, OnOk};
-ghost use Rattle.ssim_values.specs.Flight.{FlightNumber};
-ghost use Rattle.ssim_periods.specs.Calendar.{holds};
-ghost use Rattle.ssim_schedule.specs.Acts.{AddsPointsOf, IsUniform, after_sub, counts_by, finding_of};
-ghost use Rattle.ssim_schedule.specs.ReadBack.{AreInOrder};
+ghost use Rattle.std.specs.Prelude.{◌≡◌, ℕ, ◌<◌, true, IfOk, OnErr, OnOk};
+ghost use Rattle.ssim_values.specs.Flight.{FlightNumber, IsFlight};
+ghost use Rattle.ssim_periods.specs.Calendar.{day_count, holds};
+ghost use Rattle.ssim_schedule.specs.Acts.{AddsPointsOf, IsUniform, after_sub, counts_by, finding_of, itinerary_after};
 ghost use Rattle.ssim_schedule.specs.Schedule.{cuts_in, days_in};
+ghost use Rattle.ssim_schedule.specs.Timetable.{on_day};
 
 use crate::acting::Acting;
 use crate::base::Base;
 use crate::divided::act_on_parts;
 use crate::finding::Finding;
+use crate::flight_table::{FlightTable, place};
 use crate::points::{lines_of, next_point};
 use crate::resolved::Resolved;
 use crate::schedule::Schedule;
@@ -28,12 +29,12 @@ fn is_uniform(rows: &[StationRow], action: &Action, period: &Period) -> bool
 }
 
 impl Schedule {
-    /// A sub-message acts on each date of its period, by the rows of the base's station table, and its finding counts
-    /// the dates by what they got. No other flight or date changes.
+    /// Applies a sub-message to each date of its period, by the rows of the base's station table. The finding counts the dates by
+    /// their results. No other flight or date changes. If memory is out, nothing has changed.
     ///
-    /// The cost is that of the ranges of the flight that the period touches, and of finding the flight. The legs of
-    /// `NEW` and `RPL` are made once for each part of the period within which no row of their stations begins or ends; where
-    /// there are several, the flight's ranges are copied first. Where memory is refused nothing has changed.
+    /// The cost is that of finding the flight and of the ranges of the flight that the period touches. The new legs of `NEW` and
+    /// `RPL` are made once for each part of the period in which no row of their stations begins or ends. If there are several
+    /// such parts, the flight's periods are copied first; they are also copied if a copy of the schedule shares them.
     pub fn apply_sub(&mut self, base: &Base, sub: &Resolved) -> Result<Finding, Memory>
         ensures days { OnOk result ((g : FlightNumber) → days_in self.new g ≡ after_sub base.now.rows sub.now.action.now sub.now.flight sub.now.period self.old g) }
         ensures finding { IfOk result (λ finding. finding ≡ finding_of base.now.rows sub.now.action.now sub.now.period (days_in self.old sub.now.flight)) }
@@ -41,16 +42,22 @@ impl Schedule {
         // A new cut is the first day or the day after the last of the period, or of a row whose station the new legs have.
         ensures cuts { OnOk result ((g : FlightNumber) → AddsPointsOf sub.now.flight base.now.rows sub.now.action.now sub.now.period g (cuts_in self.old g) (cuts_in self.new g)) }
 
-        // So an export of what messages have made reads back.
-        ensures in_order { OnOk result (AreInOrder (days_in self.old) → AreInOrder (days_in self.new)) }
+        // The itinerary of a date afterwards is the action's effect if the sub-message names the flight and its period holds the
+        // date, else the itinerary before.
+        ensures each_date { OnOk result ((g : FlightNumber) (n : ℕ) → IsFlight g → n < day_count → on_day (days_in self.new g) n ≡ itinerary_after base.now.rows sub.now.action.now sub.now.flight sub.now.period g n (on_day (days_in self.old g) n)) }
         ensures err { OnErr result (self.new ≡ self.old) }
     {
-        // No effect at run time. The proof reads from this use that there are at most twenty new legs, so that their sequences fit.
+        // No effect at run time. The proof reads from these uses that there are at most twenty new legs, and that the flight is one.
         let _ = lines_of(sub.action);
-        let counts = self.act(base.rows(), sub.action, sub.flight, &sub.period)?;
+        let _ = place(sub.flight);
+        let counts = self
+            .table
+            .act(base.rows(), sub.action, sub.flight, &sub.period)?;
         Ok(Finding::of(&counts))
     }
+}
 
+impl FlightTable {
     fn act(
         &mut self,
         rows: &[StationRow],
@@ -70,7 +77,7 @@ impl Schedule {
         }
     }
 
-    // Where the effect is one on all days of the period.
+    // The effect is the same on all days of the period.
     fn act_at_once(
         &mut self,
         rows: &[StationRow],
@@ -88,7 +95,7 @@ impl Schedule {
         self.change(flight, period, &change)
     }
 
-    // On a copy of what the flight has, which is put in its place after the last part.
+    // Acts on a copy of the flight's periods, which replaces them after the last part.
     fn act_by_parts(
         &mut self,
         rows: &[StationRow],

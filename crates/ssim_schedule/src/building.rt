@@ -1,4 +1,4 @@
-//! The timetable of records, made from the last record to the first: so each tail is met before its leg.
+//! The timetable of records, built from the last record to the first, so that each tail comes before its leg.
 
 ghost use Rattle.std.specs.Prelude.{◌≡◌, ◌∷◌, [], List, IfOk, OnOk, Some};
 ghost use Rattle.std.specs.List.{All};
@@ -7,11 +7,12 @@ ghost use Rattle.ssim_records.specs.declared.record.Record.{Record};
 ghost use Rattle.ssim_schedule.specs.Building.{IsClosed};
 ghost use Rattle.ssim_periods.specs.Days.{each_day};
 ghost use Rattle.ssim_schedule.specs.Points.{AreAtPoints};
-ghost use Rattle.ssim_schedule.specs.ReadBack.{AreInOrder, Rise};
+ghost use Rattle.ssim_schedule.specs.ReadBack.{Rise};
 ghost use Rattle.ssim_schedule.specs.Schedule.{cuts_in, days_in};
 ghost use Rattle.ssim_schedule.specs.Timetable.{days_of};
 
 use crate::base::Base;
+use crate::flight_table::FlightTable;
 use crate::leg::PlacedLeg;
 use crate::put::Put;
 use crate::schedule::Schedule;
@@ -20,13 +21,13 @@ use ssim_records::{LegRecord, Record, SegmentRecord};
 use ssim_values::{Flight, Memory, Period};
 use std::alloc::Global;
 
-// How many cuts a flight may have to be shared whenever another comes.
+// A flight with fewer cuts has its itineraries shared each time that the records go on to another flight.
 const FEW: usize = 256;
 
-/// What some records at the end of a base say: their timetable, and the tails whose leg record is not among them.
+/// The timetable of some records at the end of a base, and the tails whose leg record is not among them.
 #[derive(Drop)]
 pub(crate) struct Building {
-    pub schedule: Schedule,
+    pub table: FlightTable,
     waiting: Waiting,
     /// The flight of the latest leg record.
     latest: Option<Flight>,
@@ -34,30 +35,27 @@ pub(crate) struct Building {
 }
 
 impl Schedule {
-    /// The timetable of a base: on each date of origin the legs of the leg records whose period holds it.
+    /// The timetable of a base: on each date of origin, the legs of the leg records whose period holds the date.
     pub fn of(base: &Base) -> Result<Schedule, Memory>
         ensures days { IfOk result (λ s. (g : FlightNumber) → IsFlight g → days_in s g ≡ days_of base.now.records g) }
 
         // A cut is the first day of a leg record of the flight, or the day after its last.
         ensures cuts { IfOk result (λ s. (g : FlightNumber) → IsFlight g → AreAtPoints (cuts_in s g) g base.now.records) }
-
-        // So an export of it reads back.
-        ensures in_order { IfOk result (λ s. AreInOrder (days_in s)) }
     {
-        let mut schedule = timetable(base.allocator(), base.records(), base.flights())?;
-        schedule.share_where(base.flights(), FEW)?;
-        Ok(schedule)
+        let mut table = timetable(base.allocator(), base.records(), base.flights())?;
+        table.share_where(base.flights(), FEW)?;
+        Ok(Schedule { table })
     }
 }
 
-/// The timetable of these records, whose flights these are.
-fn timetable(alloc: Global, records: &[Record], flights: &[Flight]) -> Result<Schedule, Memory>
+/// The timetable of records, given the flights of their leg records.
+fn timetable(alloc: Global, records: &[Record], flights: &[Flight]) -> Result<FlightTable, Memory>
     requires closed { All IsClosed records.now }
     requires rising { Rise 0 flights.now }
     ensures days { IfOk result (λ s. (g : FlightNumber) → IsFlight g → days_in s g ≡ days_of records.now g) }
     ensures cuts { IfOk result (λ s. (g : FlightNumber) → IsFlight g → AreAtPoints (cuts_in s g) g records.now) }
 {
-    let mut building = Building::new(alloc, Schedule::of_flights(alloc, flights)?);
+    let mut building = Building::new(alloc, FlightTable::of_flights(alloc, flights)?);
     let mut place = records.len();
     while place > 0 {
         place -= 1;
@@ -66,27 +64,27 @@ fn timetable(alloc: Global, records: &[Record], flights: &[Flight]) -> Result<Sc
         building.put(one)?;
     }
     building.leave_latest()?;
-    Ok(building.schedule)
+    Ok(building.table)
 }
 
 impl Building {
     ghost use Rattle.ssim_schedule.specs.Built.{IsBuilt, TakesLeg, TakesSegment};
 
-    /// What no record says, with the entries of the flights that are to come.
-    pub(crate) fn new(alloc: Global, schedule: Schedule) -> Building
-        requires days { (g : FlightNumber) → days_in schedule g ≡ each_day (λ _. []) }
-        requires cuts { (g : FlightNumber) → cuts_in schedule g ≡ [] }
+    /// The timetable of no records. The table has the entries of the flights that are to come.
+    pub(crate) fn new(alloc: Global, table: FlightTable) -> Building
+        requires days { (g : FlightNumber) → days_in table g ≡ each_day (λ _. []) }
+        requires cuts { (g : FlightNumber) → cuts_in table g ≡ [] }
         ensures { IsBuilt result [] }
     {
         Building {
-            schedule,
+            table,
             waiting: Waiting::new(alloc),
             latest: None,
             alloc,
         }
     }
 
-    /// What these records and one more before them say.
+    /// Adds a record before the others.
     pub(crate) fn put(&mut self, one: &Record) -> Result<(), Memory>
         requires { IsClosed one.now }
         ensures { OnOk result ((done : List Record) → IsBuilt self.old done → IsBuilt self.new (one.now ∷ done)) }
@@ -98,10 +96,10 @@ impl Building {
         }
     }
 
-    /// Where a record is a leg of another flight than the latest, the itineraries of that are shared, if it has few cuts: files go from
-    /// flight to flight, and a flight that comes again and again costs no more than its cuts each time.
+    /// If the record is a leg of another flight than the latest, shares the itineraries of the latest flight if it has few cuts. Files
+    /// go from flight to flight, so a flight is mostly shared once, and one that comes many times costs only its cuts each time.
     pub(crate) fn leave(&mut self, one: &Record) -> Result<(), Memory>
-        ensures schedule { self.new.schedule ≡ self.old.schedule }
+        ensures table { self.new.table ≡ self.old.table }
         ensures waiting { self.new.waiting ≡ self.old.waiting }
     {
         let Record::Leg(leg) = one else {
@@ -114,14 +112,14 @@ impl Building {
         Ok(())
     }
 
-    /// The itineraries of the flight of the latest leg record are shared, if it has few cuts.
+    /// Shares the itineraries of the flight of the latest leg record if it has few cuts.
     pub(crate) fn leave_latest(&mut self) -> Result<(), Memory>
-        ensures schedule { self.new.schedule ≡ self.old.schedule }
+        ensures table { self.new.table ≡ self.old.table }
         ensures waiting { self.new.waiting ≡ self.old.waiting }
     {
         if let Some(latest) = self.latest {
-            if self.schedule.cuts(&latest).len() < FEW {
-                self.schedule.share(latest)?;
+            if self.table.cuts(&latest).len() < FEW {
+                self.table.share(latest)?;
             }
         }
         Ok(())
@@ -147,7 +145,7 @@ impl Building {
         let tails = self.waiting.take(name);
         let placed = PlacedLeg::new(name.sequence(), leg.columns(), tails);
         let put = Put::new(self.alloc, placed)?;
-        self.schedule.change(name.flight(), &period, &put)?;
+        self.table.change(name.flight(), &period, &put)?;
         Ok(())
     }
 }

@@ -1,4 +1,4 @@
-//! What an action makes of a flight's days, part by part.
+//! The effect of an action on a flight's days, part by part.
 
 ghost use Rattle.std.specs.Prelude.{◌≡◌, ℕ, ◌<◌, ◌≤◌, ◌+◌, IfOk, OnOk, slice_index_or};
 ghost use Rattle.ssim_periods.specs.Calendar.{holds};
@@ -14,7 +14,7 @@ use ssim_text::Action;
 use ssim_values::{Day, Memory, Period};
 use std::alloc::Global;
 
-// What the action makes of the days of a part, where its effect is one on all of them.
+// Applies the action to the days of a part. Its effect is the same on all of them.
 fn act_on_part(
     alloc: Global,
     rows: &[StationRow],
@@ -31,7 +31,7 @@ fn act_on_part(
     periods.apply(part, &change)
 }
 
-// The days of a period from one to before another.
+// The days of a period from `at` to the day before `next`.
 fn part_of(period: &Period, at: u32, next: u32) -> Period
     requires from { period.now.first ≤ at }
     requires some { at < next }
@@ -70,8 +70,8 @@ fn sums(counts: &[u32; 5], more: &[u32; 5]) -> [u32; 5]
     ]
 }
 
-/// What an action makes of a flight's days in a period. It is divided where station rows begin and end, so that each
-/// station has one variation in a part.
+/// Applies an action to a flight's days in a period. The period is divided at the days at which station rows begin and end, so
+/// that each station has one UTC variation in a part.
 pub(crate) fn act_on_parts(
     alloc: Global,
     rows: &[StationRow],

@@ -1,9 +1,9 @@
 //! The canonical export of a timetable: planned and measured first, then written.
 
-ghost use Rattle.std.specs.Prelude.{◌≡◌, IfErr, OnOk};
+ghost use Rattle.std.specs.Prelude.{◌≡◌, IfErr, OnOk, Some};
 ghost use Rattle.ssim_schedule.specs.Export.{chapter7};
 ghost use Rattle.ssim_schedule.specs.Plan.{ReadsBackBase, Refuses, RefusesBase, Writes, WritesBase, frame_from};
-ghost use Rattle.ssim_schedule.specs.ReadBack.{AreInOrder, CanReadBack};
+ghost use Rattle.ssim_schedule.specs.ReadBack.{CanReadBack, IsTimetable};
 ghost use Rattle.ssim_schedule.specs.Schedule.{days_in};
 
 mod block;
@@ -13,37 +13,35 @@ mod plan;
 use crate::base::Base;
 use crate::export::lines::put_export;
 use crate::export::plan::{divide, measure};
+use crate::flight_table::FlightTable;
 use crate::laws::export_bytes_read_back;
 use crate::schedule::Schedule;
 use ssim_records::{Carrier, Header, Sink, Trailer};
 use ssim_values::{Flight, Memory};
 use std::alloc::Global;
-use thiserror::Error;
+use std::error::Error;
+use std::fmt;
 
-/// Why a timetable was not exported.
-#[derive(Clone, Copy, Debug, PartialEq, Eq, Error)]
+/// Why a timetable was not exported. It is displayed as its name, with the flight if it names one.
+#[derive(Clone, Copy, Debug, PartialEq, Eq)]
 pub enum ExportFault {
     /// 50: the flight needs more than 99 itinerary variations. Nothing was written.
-    #[error("Variations")]
     Variations(Flight),
 
     /// 51: there would be more than 999,999 records, fill not counted. Nothing was written.
-    #[error("Records")]
     Records,
 
-    /// 52: the sink failed, or took no byte. It has taken a front of the export.
-    #[error("WriteFault")]
+    /// 52: the sink failed, or took no byte. It has taken a prefix of the export.
     WriteFault,
 
-    /// 90: a growth was refused for want of memory. Nothing was written.
-    #[error("Memory")]
+    /// 90: out of memory. Nothing was written.
     Memory,
 }
 
 impl ExportFault {
-    ghost use Rattle.ssim_schedule.specs.Plan.{export_fault_number};
+    ghost use Rattle.ssim_schedule.specs.Plan.{export_fault_name, export_fault_number};
 
-    /// The number by which the fault is known.
+    /// The number of the fault: 50, 51, 52 or 90.
     pub fn number(self) -> u8
         ensures { result ≡ export_fault_number self }
     {
@@ -54,7 +52,40 @@ impl ExportFault {
             ExportFault::Memory => 90,
         }
     }
+
+    /// The name of the fault, as `Variations`.
+    pub fn name(self) -> &'static str
+        ensures { result.now ≡ export_fault_name self }
+    {
+        match self {
+            ExportFault::Variations(_) => "Variations",
+            ExportFault::Records => "Records",
+            ExportFault::WriteFault => "WriteFault",
+            ExportFault::Memory => "Memory",
+        }
+    }
 }
+
+impl fmt::Display for ExportFault {
+    ghost use Rattle.ssim_schedule.specs.Plan.{export_fault_text};
+
+    ghost output = { λ fault. Some (export_fault_text fault) };
+
+    fn fmt<W: fmt::Write>(&self, f: &mut fmt::Formatter<W>) -> fmt::Result {
+        match self {
+            ExportFault::Variations(flight) => {
+                let text = flight.write();
+                let text = str::from_utf8(text.as_slice()).map_err(|_| fmt::Error)?;
+                write!(f, "Variations flight {text}")
+            }
+            ExportFault::Records => write!(f, "Records"),
+            ExportFault::WriteFault => write!(f, "WriteFault"),
+            ExportFault::Memory => write!(f, "Memory"),
+        }
+    }
+}
+
+impl Error for ExportFault {}
 
 impl From<Memory> for ExportFault {
     ghost use Rattle.ssim_schedule.specs.declared.export.ExportFault.TheVariants.{Memory};
@@ -69,22 +100,21 @@ impl From<Memory> for ExportFault {
 impl Schedule {
     /// Writes the canonical export: the base's header and carrier, each flight by number and suffix with its pieces as itinerary
     /// variations 01, 02, .., each leg with its segment data, and the base's trailer. Serials and the check reference are counted
-    /// anew, each section is filled up to five records, and each record has LF behind it.
+    /// anew. Each section is filled up to a multiple of five records. LF follows each record.
     ///
-    /// Refuses as 50 the first flight with more than 99 pieces and as 51 more than 999,999 records; at one flight 50 comes first.
-    /// Neither writes a byte, nor does want of memory. 52 says that the sink failed or took no byte.
+    /// 50 names the first flight with more than 99 pieces, and 51 means more than 999,999 records; if one flight gives both, it is
+    /// 50. 50, 51 and 90 come before the first byte is written. 52 means that the sink failed or took no byte.
     pub fn export<W: Sink>(&self, base: &Base, out: &mut W) -> Result<(), ExportFault>
         ensures ok { OnOk result (WritesBase W.taken W.failures base.now.records (days_in self.now) out.old out.new) }
         ensures err { IfErr result (λ fault. RefusesBase W.taken W.failures base.now.records (days_in self.now) out.old out.new fault) }
         ensures device { W.device out.new ≡ W.device out.old }
 
-        // What was written reads back to the timetable, on each date, and is exported as itself, where the legs of each date are in
-        // order: `Schedule::of` makes them so, and `Schedule::apply_sub` keeps them so.
-        ensures reads_back { OnOk result (AreInOrder (days_in self.now) → ReadsBackBase W.taken base.now.records (days_in self.now) out.old out.new) }
+        // The bytes read back to the same itinerary on each date, and the export of what was read is the same bytes.
+        ensures reads_back { OnOk result (ReadsBackBase W.taken base.now.records (days_in self.now) out.old out.new) }
     {
         export_bytes_read_back();
         export_frame(
-            self,
+            &self.table,
             base.header(),
             base.carrier(),
             base.trailer(),
@@ -96,21 +126,21 @@ impl Schedule {
 
 /// Writes the canonical export of a timetable between a header, a carrier and a trailer.
 fn export_frame<W: Sink>(
-    schedule: &Schedule,
+    table: &FlightTable,
     header: &Header,
     carrier: &Carrier,
     trailer: &Trailer,
     alloc: Global,
     out: &mut W,
 ) -> Result<(), ExportFault>
-    ensures ok { OnOk result (Writes W.taken W.failures (chapter7 (frame_from header.now carrier.now trailer.now) (days_in schedule.now)) out.old out.new) }
-    ensures err { IfErr result (λ fault. Refuses W.taken W.failures (chapter7 (frame_from header.now carrier.now trailer.now) (days_in schedule.now)) out.old out.new fault) }
+    ensures ok { OnOk result (Writes W.taken W.failures (chapter7 (frame_from header.now carrier.now trailer.now) (days_in table.now)) out.old out.new) }
+    ensures err { IfErr result (λ fault. Refuses W.taken W.failures (chapter7 (frame_from header.now carrier.now trailer.now) (days_in table.now)) out.old out.new fault) }
     ensures device { W.device out.new ≡ W.device out.old }
 
-    // Each date has an itinerary, and what was written of it is what records may have.
-    ensures readable { OnOk result (AreInOrder (days_in schedule.now) → CanReadBack (days_in schedule.now)) }
+    // The legs that were written are legs that records may have.
+    ensures readable { OnOk result (IsTimetable (days_in table.now) → CanReadBack (days_in table.now)) }
 {
-    let plan = divide(alloc, schedule.entries())?;
+    let plan = divide(alloc, table.entries())?;
     measure(&plan)?;
     match put_export(out, header, carrier, trailer, &plan) {
         Ok(()) => Ok(()),

@@ -9,7 +9,7 @@ ghost use Rattle.ssim_schedule.specs.BaseSeen.{AreFlights, is_leg_of};
 ghost use Rattle.ssim_schedule.specs.Export.{flight_at};
 ghost use Rattle.ssim_schedule.specs.ReadBack.{place_of};
 
-use crate::schedule::place;
+use crate::flight_table::place;
 use ssim_records::Record;
 use ssim_values::{Flight, Memory};
 use std::alloc::Global;

@@ -1,14 +1,14 @@
 //! The base of a data set, its timetable, its canonical export, and what messages do to it.
 //!
 //! - [`Stations`]: which UTC variation a station has on a day, read from a table of [`StationRow`]s.
-//! - [`Base`]: a data set as it was read, record by record, with a station table; or a [`BaseFault`], the first record that cannot
-//!   stand. What is noted of it and not refused are [`Note`]s.
+//! - [`Base`]: a data set as it was read, record by record, with a station table; or a [`BaseFault`], which names the first invalid
+//!   record. What is unusual but not refused is a [`Note`].
 //! - [`Schedule`]: the itinerary of each flight on each date, which is its [`PlacedLeg`]s in order. `of` makes it from a base, `export`
 //!   writes it as chapter 7 in the one canonical division, or answers an [`ExportFault`].
-//! - [`resolve`]: a message against a base: its reference with its year, its sub-messages with full dates, or a [`ResolveFault`].
+//! - [`resolve`]: resolves a message against a base: its reference with its year, its sub-messages with full dates, or a [`ResolveFault`].
 //! - `Schedule::apply_sub`: a [`Resolved`] sub-message acts on each date of its period by itself; a [`Finding`] counts the dates by
 //!   what they got.
-//! - [`laws`]: what holds of exports as they are defined. An export reads back to its timetable, byte for byte.
+//! - [`laws`]: an export reads back to its timetable, byte for byte; saved records read back; a message has one outcome.
 //!
 //! The promise: a data set is read exactly, however its reader cuts the bytes; a schedule has on each date what the records, and then
 //! the sub-messages, say of that date alone; and its export is the chapter 7 of that timetable, which reads back to itself.
@@ -23,6 +23,7 @@ mod divided;
 mod export;
 mod fault;
 mod finding;
+mod flight_table;
 mod flights;
 mod gathering;
 mod itinerary;
@@ -39,6 +40,7 @@ mod reading;
 mod resolved;
 mod resolving;
 mod schedule;
+mod shared_periods;
 mod stations;
 mod taken;
 mod waiting;
@@ -47,10 +49,11 @@ pub use base::{Base, BaseRead};
 pub use export::ExportFault;
 pub use fault::{BaseFault, BaseRefusal};
 pub use finding::Finding;
+pub use flight_table::FlightPeriods;
 pub use itinerary::Itinerary;
 pub use leg::PlacedLeg;
 pub use note::Note;
 pub use resolved::{Resolved, ResolvedSub};
 pub use resolving::{ResolveFault, ResolvedText, resolve};
-pub use schedule::{FlightPeriods, Schedule};
+pub use schedule::Schedule;
 pub use stations::{StationFault, StationRow, Stations};

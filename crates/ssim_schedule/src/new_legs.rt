@@ -13,7 +13,7 @@ use ssim_text::{LegLine, NewLegs, SegmentLine, leg_pair};
 use ssim_values::{Day, Memory};
 use std::alloc::Global;
 
-// The tail of a segment line for a leg line, where its pair of points begins with that.
+// The tail of a segment line for a leg line, if the pair of points begins with that leg line.
 fn tail_for(place: usize, lines: &[LegLine], segment: &SegmentLine) -> Option<SegmentTail>
     requires { length lines.now ≤ 20 }
     ensures { result ≡ tail_for place lines.now segment.now }

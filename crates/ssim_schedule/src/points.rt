@@ -9,7 +9,7 @@ use crate::stations::StationRow;
 use ssim_text::{Action, LegLine};
 use ssim_values::Station;
 
-// The day, if it lies between the two; else the second.
+// The day if it is after `from` and before `next`, else `next`.
 fn earlier(day: u32, from: u32, next: u32) -> u32
     requires { from < next }
     ensures after { from < result }
@@ -20,7 +20,7 @@ fn earlier(day: u32, from: u32, next: u32) -> u32
     if from < day && day < next { day } else { next }
 }
 
-/// The leg lines by which new legs are made.
+/// The leg lines of the action from which new legs are made.
 pub(crate) fn lines_of(action: &Action) -> &[LegLine]
     ensures value { result.now ≡ lines_of action.now }
     ensures few { length (lines_of action.now) ≤ 20 }
@@ -49,14 +49,14 @@ fn any_at(lines: &[LegLine], station: Station) -> bool
     }
 }
 
-// Whether a leg line by which new legs are made names the station.
+// Whether one of these leg lines names the station.
 fn is_named(action: &Action, station: Station) -> bool
     ensures { result ≡ is_named action.now station }
 {
     any_at(lines_of(action), station)
 }
 
-// The earlier of a day and of the days at which a row begins or has ended, after the first day.
+// The earliest of `next` and of the days after `from` at which the row begins or has ended.
 fn before_row(row: &StationRow, from: u32, next: u32) -> u32
     requires { from < next }
     ensures after { from < result }
@@ -68,7 +68,7 @@ fn before_row(row: &StationRow, from: u32, next: u32) -> u32
     earlier(row.last().number() as u32 + 1, from, begun)
 }
 
-// The same, if the row is of a station that is named.
+// The same if the action names the row's station, else `next`.
 fn before_named(action: &Action, row: &StationRow, from: u32, next: u32) -> u32
     requires { from < next }
     ensures after { from < result }
@@ -83,8 +83,8 @@ fn before_named(action: &Action, row: &StationRow, from: u32, next: u32) -> u32
     }
 }
 
-/// The first day after one at which a row begins or has ended whose station the action's new legs have, up to a limit;
-/// the limit if there is none.
+/// The first day after `from` at which a row of a station of the action's new legs begins or has ended. It is `limit` if there
+/// is no such day before `limit`.
 pub(crate) fn next_point(rows: &[StationRow], action: &Action, from: u32, limit: u32) -> u32
     requires { from < limit }
     ensures after { from < result }

@@ -1,15 +1,15 @@
-//! The records of a reader on their way into a base.
+//! Reads the records of a data set, one after another.
 
 ghost use Rattle.std.specs.Prelude.{◌≡◌, IfOk, IfErr};
 ghost use Rattle.ssim_schedule.specs.Gathering.{HasRead};
-ghost use Rattle.ssim_schedule.specs.Reading.{FailsAs, Refuses};
+ghost use Rattle.ssim_schedule.specs.Reading.{Came, FailsAs, NeverEnds, Refuses};
 
 use crate::fault::BaseFault;
 use crate::gathering::Gathering;
 use ssim_records::{Records, Source, frames_are_one};
 use std::alloc::Global;
 
-/// What is gathered of the records of a reader, and the number behind the last of them.
+/// The records of a reader, and the number after the last of them.
 pub(crate) fn gather<R: Source>(
     alloc: Global,
     reader: &mut R,
@@ -19,6 +19,7 @@ pub(crate) fn gather<R: Source>(
     ensures err { IfErr result (λ e. Refuses limit (R.left reader.old) e) }
     ensures no_failure { IfOk result (λ _. R.failures reader.new ≡ R.failures reader.old) }
     ensures failure { IfErr result (λ e. FailsAs (R.failures reader.old) (R.failures reader.new) e) }
+    ensures never_ends { IfErr result (λ e. NeverEnds limit (Came (R.left reader.old) (R.left reader.new) (R.came reader.old) (R.came reader.new)) e) }
 {
     frames_are_one();
     let mut records = Records::new(limit);

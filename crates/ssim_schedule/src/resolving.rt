@@ -1,6 +1,7 @@
 //! Messages resolved against a base: references with their year, sub-messages with full dates.
 
-ghost use Rattle.std.specs.Prelude.{◌≡◌, ◌⊎◌, ℕ, IsOk, IfOk, IfErr, IfSome, IfNone};
+ghost use Rattle.std.specs.Prelude.{◌≡◌, ◌⊎◌, ℕ, IsOk, IfOk, IfErr, IfSome, IfNone, Some};
+ghost use Rattle.ssim_schedule.specs.Fault.{resolve_fault_name, resolve_fault_text};
 ghost use Rattle.ssim_schedule.specs.Resolve.{AreDates, AreFaulty, AreResolved, IsFirstRefused, IsRefused, IsRefusedIn, IsResolved, IsSubRefused, Means, MeansEnd, MeansNoEnd, MeansNone, Resolves, ResolvesIn, every_day, resolve_fault_number, same_mode};
 
 use crate::base::Base;
@@ -10,7 +11,8 @@ use ssim_records::Carrier;
 use ssim_text::{Dates, GivenDate, GivenEnd, GivenPeriod, Message, Reference, Sub};
 use ssim_values::{Day, DayMask, Period, next_on_or_after};
 use std::alloc::{AllocError, AllocFailed, Global};
-use thiserror::Error;
+use std::error::Error;
+use std::fmt;
 
 /// A message with full dates: its reference, and flight and dates of its sub-messages in order.
 #[derive(Drop)]
@@ -19,23 +21,19 @@ pub struct ResolvedText {
     pub subs: Vec<ResolvedSub>,
 }
 
-/// Why a message does not resolve. Sub-messages are numbered from 1.
-#[derive(Clone, Copy, Debug, PartialEq, Eq, Error)]
+/// Why a message does not resolve. Sub-messages are numbered from 1; the number 0 is the message as a whole.
+/// A fault is displayed as its name and the sub-message: `Airline sub 1`.
+#[derive(Clone, Copy, Debug, PartialEq, Eq)]
 pub enum ResolveFault {
-    /// 90.
-    #[error("Memory")]
+    /// 90: out of memory.
     Memory,
     /// 40: the message's time mode is not that of the data set.
-    #[error("TimeMode sub 0")]
     TimeMode,
     /// 41: the sub-message names another airline than the data set's.
-    #[error("Airline sub {0}")]
     Airline(usize),
-    /// 42: a date without a year has none up to 2099; 0 stands for that of the reference.
-    #[error("NoSuchDate sub {0}")]
+    /// 42: there is no such date up to 2099. The number 0 is the date of the reference.
     NoSuchDate(usize),
     /// 43: the period's last day is before its first.
-    #[error("Period sub {0}")]
     Period(usize),
 }
 
@@ -52,7 +50,36 @@ impl ResolveFault {
             ResolveFault::Period(_) => 43,
         }
     }
+
+    /// The name by which the fault is known.
+    pub fn name(self) -> &'static str
+        ensures { result.now ≡ resolve_fault_name self }
+    {
+        match self {
+            ResolveFault::Memory => "Memory",
+            ResolveFault::TimeMode => "TimeMode",
+            ResolveFault::Airline(_) => "Airline",
+            ResolveFault::NoSuchDate(_) => "NoSuchDate",
+            ResolveFault::Period(_) => "Period",
+        }
+    }
 }
+
+impl fmt::Display for ResolveFault {
+    ghost output = { λ fault. Some (resolve_fault_text fault) };
+
+    fn fmt<W: fmt::Write>(&self, f: &mut fmt::Formatter<W>) -> fmt::Result {
+        match self {
+            ResolveFault::Memory => write!(f, "Memory"),
+            ResolveFault::TimeMode => write!(f, "TimeMode sub 0"),
+            ResolveFault::Airline(sub) => write!(f, "Airline sub {sub}"),
+            ResolveFault::NoSuchDate(sub) => write!(f, "NoSuchDate sub {sub}"),
+            ResolveFault::Period(sub) => write!(f, "Period sub {sub}"),
+        }
+    }
+}
+
+impl Error for ResolveFault {}
 
 impl From<AllocError> for ResolveFault {
     ghost use Rattle.ssim_schedule.specs.declared.resolving.ResolveFault.TheVariants.{Memory};
@@ -74,7 +101,7 @@ impl<T: Drop> From<AllocFailed<T>> for ResolveFault {
     }
 }
 
-// The day that a date means: one without a year is the next on or after this day.
+// The day that a date means. A date without a year is the next on or after `from`.
 fn day_meant(from: Day, date: GivenDate) -> Option<Day>
     ensures some { IfSome result (λ day. Means from date day) }
     ensures none { IfNone result (MeansNone from date) }
@@ -172,7 +199,7 @@ fn resolve_sub(carrier: &Carrier, number: usize, sub: &Sub) -> Result<ResolvedSu
     }
 }
 
-// Whether the time modes of data set and message are one.
+// Whether data set and message have the same time mode.
 fn same_mode(carrier: ssim_records::TimeMode, message: ssim_text::TimeMode) -> bool
     ensures { result ≡ same_mode carrier message }
 {
@@ -184,7 +211,7 @@ fn same_mode(carrier: ssim_records::TimeMode, message: ssim_text::TimeMode) -> b
     }
 }
 
-// The sub-messages with full dates, or the first that has none.
+// The sub-messages with full dates, or the refusal of the first that has none.
 fn resolve_subs(
     alloc: Global,
     carrier: &Carrier,
@@ -201,11 +228,12 @@ fn resolve_subs(
 }
 
 /// Resolves a message against a base: its reference gets its year, and each sub-message its full dates. A date without a year is
-/// the next on or after the start of the carrier's validity, that of an end on or after the period's start, and that of a reference
-/// on or after the day on which the data set was made.
+/// the next such date. It is looked for from the start of the carrier's validity, the end of a period from the period's start, and
+/// the date of a reference from the day on which the data set was made.
 ///
-/// Refuses another time mode as 40 and a reference without such a date as 42, both with sub-message 0; then, by the first
-/// sub-message that has one, another airline as 41, a date that is never as 42, and a last day before the first as 43.
+/// The error is the first of these: 40 `TimeMode` for another time mode; 42 `NoSuchDate` with sub-message 0 if the reference has no
+/// date up to 2099; then that of the first invalid sub-message, which is 41 `Airline` for another airline, 42 for a date that does
+/// not exist up to 2099, or 43 `Period` for a last day before the first.
 pub fn resolve(base: &Base, message: &Message) -> Result<ResolvedText, ResolveFault>
     ensures ok { IfOk result (ResolvesIn base.now.records message.now) }
     ensures err { IfErr result (IsRefusedIn base.now.records message.now) }

@@ -1,6 +1,6 @@
 //! The UTC variations of stations, from a table of lines.
 
-ghost use Rattle.std.specs.Prelude.{◌≡◌, ◌≤◌, ◌++◌, List, [], IfOk, IfErr, IfSome, IfNone, IsTrue, ◌↔◌, Ok};
+ghost use Rattle.std.specs.Prelude.{◌≡◌, ◌≤◌, ◌++◌, List, [], IfOk, IfErr, IfSome, IfNone, IsTrue, ◌↔◌, Ok, Some};
 ghost use Rattle.ssim_text.specs.Left.{lines_left, numbered};
 ghost use Rattle.ssim_text.specs.Lines.{day_in, station_in};
 ghost use Rattle.ssim_schedule.specs.Stations.{Gives, NamesLine, Row, SpellsTable, StopsAs, covers, row_of, rows_of, variation_at, variation_in};
@@ -8,22 +8,22 @@ ghost use Rattle.ssim_schedule.specs.Stations.{Gives, NamesLine, Row, SpellsTabl
 use crate::line::{cut, first_word, without_end};
 use ssim_values::{Day, Memory, Station, Variation};
 use std::alloc::{AllocFailed, Global};
+use std::error::Error;
+use std::fmt;
 use std::marker::Model;
-use thiserror::Error;
 
-/// Why bytes are no station table.
-#[derive(Clone, Copy, Debug, PartialEq, Eq, Error)]
+/// Why bytes are not a station table. It is displayed as its name and the line: `Stations line 3`.
+#[derive(Clone, Copy, Debug, PartialEq, Eq)]
 pub enum StationFault {
-    /// 90: a growth was refused for want of memory.
-    #[error("Memory")]
+    /// 90: out of memory.
     Memory,
 
-    /// 39: the line with this number, from 1, is no row.
-    #[error("Stations line {0}")]
+    /// 39: the line with this number, from 1, is not a row.
     Stations(u64),
 }
 
 impl StationFault {
+    ghost use Rattle.ssim_schedule.specs.Fault.{station_fault_name};
     ghost use Rattle.ssim_schedule.specs.Stations.{station_fault_number};
 
     /// The number by which the fault is known.
@@ -35,7 +35,32 @@ impl StationFault {
             StationFault::Stations(_) => 39,
         }
     }
+
+    /// The name by which the fault is known.
+    pub fn name(self) -> &'static str
+        ensures { result.now ≡ station_fault_name self }
+    {
+        match self {
+            StationFault::Memory => "Memory",
+            StationFault::Stations(_) => "Stations",
+        }
+    }
 }
+
+impl fmt::Display for StationFault {
+    ghost use Rattle.ssim_schedule.specs.Fault.{station_fault_text};
+
+    ghost output = { λ fault. Some (station_fault_text fault) };
+
+    fn fmt<W: fmt::Write>(&self, f: &mut fmt::Formatter<W>) -> fmt::Result {
+        match self {
+            StationFault::Memory => write!(f, "Memory"),
+            StationFault::Stations(line) => write!(f, "Stations line {line}"),
+        }
+    }
+}
+
+impl Error for StationFault {}
 
 impl<T: Drop> From<AllocFailed<T>> for StationFault {
     ghost use Rattle.ssim_schedule.specs.declared.stations.StationFault.TheVariants.{Memory};
@@ -197,10 +222,10 @@ impl Model for Stations {
 }
 
 impl Stations {
-    /// Reads a table: each line that is left once CR bytes and blanks at line ends and then empty lines are dropped is a
-    /// station, a first day, a last day not before it and a variation, with one or more blanks between them.
+    /// Reads a table. CR bytes and blanks at line ends are dropped, and then empty lines. Each line that is left is a station,
+    /// a first day, a last day not before it and a variation, with one or more blanks between them.
     ///
-    /// Refuses as 39 the first line that is not so spelled, by its number among all lines, from 1.
+    /// The error 39 `Stations` names the first line that is not spelled so, by its number among all lines, from 1.
     pub fn read(alloc: Global, text: &[u8]) -> Result<Stations, StationFault>
         ensures ok { IfOk result (λ rows. SpellsTable rows text.now) }
         ensures only { (rows : List Row) → SpellsTable rows text.now → Gives rows result }
@@ -235,7 +260,7 @@ impl Stations {
         &self.rows
     }
 
-    /// The variation of a station on a day: that of the first row that covers both. Takes no memory.
+    /// The variation of a station on a day: that of the first row that covers both. Allocates nothing.
     pub fn at(&self, station: Station, day: Day) -> Option<Variation>
         ensures { result ≡ variation_at self.now station day }
     {
@@ -254,7 +279,7 @@ pub(crate) fn first_row(rows: &[StationRow], station: Station, day: Day) -> Opti
     None
 }
 
-// These rows, and that of a further line if it is not empty.
+// The rows, and the row of one more line if the line is not empty.
 fn with_row(
     rows: Vec<StationRow>,
     number: u64,

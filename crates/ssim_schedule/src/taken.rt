@@ -9,7 +9,7 @@ ghost use Rattle.ssim_periods.specs.Days.{changed_on, count_on, each_day};
 ghost use Rattle.ssim_schedule.specs.Taken.{class_of_use, exact_use, same_use, sequence_place, used_at};
 ghost use Rattle.ssim_schedule.specs.declared.taken.DateUse.TheVariants.{Free, Used};
 
-use crate::schedule::place;
+use crate::flight_table::place;
 use ssim_periods::{Change, Periods, Value};
 use ssim_values::{Flight, Memory, Period};
 use std::alloc::Global;

@@ -3,7 +3,7 @@
 ghost use Rattle.std.specs.Prelude.{◌≡◌, ℕ, ◌<◌, ◌∷◌, [], nat_eq, if◌then◌else◌, reverse, OnOk};
 ghost use Rattle.ssim_schedule.specs.Building.{IsPlaced, name_place};
 
-use crate::schedule::place as flight_place;
+use crate::flight_table::place as flight_place;
 use ssim_records::{LegName, SegmentTail};
 use ssim_values::Memory;
 use std::alloc::Global;

@@ -1,5 +1,5 @@
 -- What the lines that spell a message say of its values.
-use Rattle.std.proofs.Common.{Option, None, IfSome, drop, ◌≡◌, ◌≤◌, ◌<◌, ℕ, ◌&&◌, true, List, [], ◌∷◌, ◌++◌, length, map, sym, ap, subst, ◌∙◌, arith, Some, leb-true, eqb-true}
+use Rattle.std.proofs.Common.{Bool, Option, None, IfSome, drop, refl, ◌≡◌, ◌≤◌, ◌<◌, ℕ, ◌&&◌, true, List, [], ◌∷◌, ◌++◌, length, map, sym, ap, subst, ◌∙◌, arith, Some, leb-true, eqb-true}
 use Rattle.std.specs.Prelude.{◌==◌, nat_le}
 use Rattle.std.specs.List.{AllByRecursion, AllZip, list_all}
 use Rattle.std.proofs.lemmas.Bool.{and_parts}
@@ -86,28 +86,42 @@ segment_bounded s line h l =
     let last = subst IsLine d.same (line_from 47 (behind line) (line_after line l (some_text (behind line) some)) some) in
     record { identifier = omega (arith, small); some = d.some; few = d.few; printable = (and_parts (is_printable 47) (list_all is_printable s.text) last.printable).1 }
 
-configuration_all : (text configuration : List ℕ) → configuration_of text ≡ Some configuration → list_all is_alphanumeric configuration ≡ true
-configuration_all [] configuration h = ap (list_all is_alphanumeric) (sym (some_same [] configuration h))
-configuration_all (b ∷ text) configuration h =
-    let p = only_if ((b == 46) && is_text_of is_alphanumeric 1 20 text) (Some text) configuration h in
-    let q = and_parts (b == 46) (is_text_of is_alphanumeric 1 20 text) p.0 in
-    let r = and_parts (nat_le 1 (length text) && nat_le (length text) 20) (list_all is_alphanumeric text) q.1 in
-    ap (list_all is_alphanumeric) (sym (some_same text configuration p.1)) ∙ r.1
+-- up to twenty bytes, each of which passes
+record IsShort (test : ℕ → Bool) (text : List ℕ) : Type 0 where
+  few : length text ≤ 20
+  all : list_all test text ≡ true
 
-designators_all : (text designators : List ℕ) → designators_of text ≡ Some designators → list_all is_letter designators ≡ true
-designators_all text designators h =
+short_text : (test : ℕ → Bool) (low : ℕ) (text own : List ℕ) → is_text_of test low 20 text ≡ true → text ≡ own → IsShort test own
+short_text test low text own h e =
+    let p = and_parts (nat_le low (length text) && nat_le (length text) 20) (list_all test text) h in
+    let q = and_parts (nat_le low (length text)) (nat_le (length text) 20) p.0 in
+    subst (IsShort test) e (record { few = leb-true (length text) 20 q.1; all = p.1 })
+
+configuration_short : (text configuration : List ℕ) → configuration_of text ≡ Some configuration → IsShort is_alphanumeric configuration
+configuration_short [] configuration h = subst (IsShort is_alphanumeric) (some_same [] configuration h) (record { few = omega arith; all = refl })
+configuration_short (b ∷ text) configuration h =
+    let p = only_if ((b == 46) && is_text_of is_alphanumeric 1 20 text) (Some text) configuration h in
+    short_text is_alphanumeric 1 text configuration (and_parts (b == 46) (is_text_of is_alphanumeric 1 20 text) p.0).1 (some_same text configuration p.1)
+
+designators_short : (text designators : List ℕ) → designators_of text ≡ Some designators → IsShort is_letter designators
+designators_short text designators h =
     let p = only_if (is_text_of is_letter 0 20 text) (Some text) designators h in
-    let r = and_parts (nat_le 0 (length text) && nat_le (length text) 20) (list_all is_letter text) p.0 in
-    ap (list_all is_letter) (sym (some_same text designators p.1)) ∙ r.1
+    short_text is_letter 0 text designators p.0 (some_same text designators p.1)
 
 equipment_bounded : (e : EquipmentValue) (line : List ℕ) → equipment_of line ≡ Some e → IsEquipmentBounded e
 equipment_bounded e line h =
     let s = equipment_sound line e h in
+    let aircraft = aircraft_sound (word (behind line)) e.aircraft s.aircraft in
+    let designators = designators_short (before 46 (behind (behind line))) e.designators s.designators in
+    let configuration = configuration_short (from 46 (behind (behind line))) e.configuration s.configuration in
     record {
       service = (service_sound (word line) e.service s.service).letter;
-      aircraft = (aircraft_sound (word (behind line)) e.aircraft s.aircraft).all;
-      designators = designators_all (before 46 (behind (behind line))) e.designators s.designators;
-      configuration = configuration_all (from 46 (behind (behind line))) e.configuration s.configuration;
+      aircraft_three = aircraft.three;
+      aircraft = aircraft.all;
+      designators_few = designators.few;
+      designators = designators.all;
+      configuration_few = configuration.few;
+      configuration = configuration.all;
     }
 
 -- ---- each part

@@ -1,5 +1,5 @@
 -- From what was read of the lines to what decoding answers for the text.
-use Rattle.std.proofs.Common.{◌≡◌, ◌≤◌, ℕ, List, [], ◌∷◌, length, refl, sym, ap, subst, inl, inr, ◌∙◌, None, arith, map, Ok, Err}
+use Rattle.std.proofs.Common.{◌≡◌, ◌≤◌, ℕ, List, [], ◌∷◌, length, refl, sym, ap, subst, inr, ◌∙◌, None, arith, map, Ok, Err}
 use Rattle.std.specs.Prelude.{Result, IfOk, IfErr}
 use Rattle.ssim_text.specs.declared.fault.Fault.{Fault}
 use Rattle.ssim_text.specs.declared.fault.TextFault.{TextFault}
@@ -10,7 +10,7 @@ use Rattle.ssim_text.specs.Grammar.{SpellsText, NamesPlace}
 use Rattle.ssim_text.specs.Left.{lines_left, texts, numbers, place_number, first_unprintable}
 use Rattle.ssim_text.specs.Canonical.{canonical}
 use Rattle.ssim_text.specs.Spelling.{SpellsMessage}
-use Rattle.ssim_text.specs.Decoding.{IsFaultAt, IsRefusal, IsTooManyAtOne, NoMessage}
+use Rattle.ssim_text.specs.Decoding.{IsFaultAt, IsReadable, IsMisplaced, IsRefusal, IsTooManyAtOne, NoMessage}
 
 pub ok_then : {T E : Type 0} (r : Result T E) (P Q : T → Type 0) → ((x : T) → P x → Q x) → IfOk r P → IfOk r Q
 ok_then (Ok x) P Q f h = f x h
@@ -46,14 +46,19 @@ too_long_none text lines d (answer.Refused f n) e only h = λ m s.
     let short : length (canonical d) ≤ 65536 = subst (λ (x : MessageValue). length (canonical x) ≤ 65536) same s.canonical_short in
     omega (arith, short, h.2)
 
-pub too_long_place : (text : List ℕ) (lines : List (List ℕ)) (d : MessageValue) (f : TextFault) → lines ≡ texts (lines_left text) → SpellsText d lines → IsTooManyAtOne d f → IsRefusal text f
-too_long_place text lines d answer.Memory e s h = tt
-too_long_place text lines d (answer.Refused f n) e s h = inl (h.0, h.1, inr (d, subst (λ (x : List (List ℕ)). SpellsText d x) e s, h.2))
+pub too_long_place : (text : List ℕ) (lines : List (List ℕ)) (d : MessageValue) (f : TextFault) → IsReadable text → lines ≡ texts (lines_left text) → SpellsText d lines → IsTooManyAtOne d f → IsRefusal text f
+too_long_place text lines d answer.Memory r e s h = tt
+too_long_place text lines d (answer.Refused f n) r e s h =
+    inr (inr (inr (record { readable = r; message = d; spelled = subst (λ (x : List (List ℕ)). SpellsText d x) e s; long = h.2; fault = h.0; line = h.1 })))
 
 pub misplaced_none : (text : List ℕ) (lines : List (List ℕ)) (index : ℕ) → lines ≡ texts (lines_left text) → NamesPlace lines index → (m : MessageValue) → SpellsMessage m text → ⊥
 misplaced_none text lines index e h m s = h.no_text m (subst (λ (x : List (List ℕ)). SpellsText m x) (sym e) s.spelled)
 
-pub misplaced_place : (text : List ℕ) (lines : List (List ℕ)) (seen : List (ℕ × List ℕ)) (index n : ℕ) (f : Fault) → lines ≡ texts (lines_left text) → seen ≡ lines_left text → NamesPlace lines index → IsFaultAt lines index f → n ≡ place_number (numbers seen) index
-    → (i : ℕ) × NamesPlace (texts (lines_left text)) i × IsFaultAt (texts (lines_left text)) i f × (n ≡ place_number (numbers (lines_left text)) i)
-misplaced_place text lines seen index n f e g h w k =
-    (index, subst (λ (x : List (List ℕ)). NamesPlace x index) e h, subst (λ (x : List (List ℕ)). IsFaultAt x index f) e w, k ∙ ap (λ (x : List (ℕ × List ℕ)). place_number (numbers x) index) g)
+pub misplaced_place : (text : List ℕ) (lines : List (List ℕ)) (seen : List (ℕ × List ℕ)) (index n : ℕ) (f : Fault) → IsReadable text → lines ≡ texts (lines_left text) → seen ≡ lines_left text → NamesPlace lines index → IsFaultAt lines index f → n ≡ place_number (numbers seen) index → IsMisplaced text f n
+misplaced_place text lines seen index n f r e g h w k = record {
+  readable = r;
+  index = index;
+  names = subst (λ (x : List (List ℕ)). NamesPlace x index) e h;
+  fault = subst (λ (x : List (List ℕ)). IsFaultAt x index f) e w;
+  line = k ∙ ap (λ (x : List (ℕ × List ℕ)). place_number (numbers x) index) g;
+}

@@ -32,6 +32,7 @@ letter_solid b h = grind (arith, nat_tests)
 pub record IsAircraft (text aircraft : List ℕ) : Type 0 where
   pub same : text ≡ aircraft
   pub some : 1 ≤ length aircraft
+  pub three : length aircraft ≡ 3
   pub all : list_all is_alphanumeric aircraft ≡ true
 
 pub aircraft_sound : (text aircraft : List ℕ) → aircraft_of text ≡ Some aircraft → IsAircraft text aircraft
@@ -40,8 +41,8 @@ aircraft_sound text aircraft h =
     let q = and_parts (nat_le 3 (length text) && nat_le (length text) 3) (list_all is_alphanumeric text) p.0 in
     let r = and_parts (nat_le 3 (length text)) (nat_le (length text) 3) q.0 in
     let same = some_same text aircraft p.1 in
-    let long = leb-true 3 (length text) r.0 in
-    record { same = same; some = omega (arith, long, ap length same); all = ap (list_all is_alphanumeric) (sym same) ∙ q.1 }
+    let three : length aircraft ≡ 3 = omega (arith, leb-true 3 (length text) r.0, leb-true (length text) 3 r.1, ap length same) in
+    record { same = same; some = omega (arith, three); three = three; all = ap (list_all is_alphanumeric) (sym same) ∙ q.1 }
 
 unless_some : (mark : ℕ) (text : List ℕ) → 1 ≤ length text → unless_empty mark text ≡ mark ∷ text
 unless_some mark [] h = absurd (omega (arith, h))

@@ -13,6 +13,5 @@ pub mod FrontAgain
 pub mod DatesAgain
 pub mod EquipmentAgain
 pub mod LegsAgain
-pub mod SameLemmas
 pub mod WorkedLemmas
 pub mod BoundsLemmas

@@ -26,8 +26,11 @@ pub record IsSegmentBounded (s : SegmentLine) : Type 0 where
 -- a letter; three letters or digits; up to twenty letters; up to twenty letters or digits
 pub record IsEquipmentBounded (e : EquipmentValue) : Type 0 where
   pub service : is_letter e.service ≡ true
+  pub aircraft_three : length e.aircraft ≡ 3
   pub aircraft : list_all is_alphanumeric e.aircraft ≡ true
+  pub designators_few : length e.designators ≤ 20
   pub designators : list_all is_letter e.designators ≡ true
+  pub configuration_few : length e.configuration ≤ 20
   pub configuration : list_all is_alphanumeric e.configuration ≡ true
 
 pub record AreNewLegsBounded (new : NewLegs) : Type 0 where

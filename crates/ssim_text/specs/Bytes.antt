@@ -19,23 +19,23 @@ abbrev pub from : ℕ → List ℕ → List ℕ
 from b [] = []
 from b (x ∷ xs) = if x == b then x ∷ xs else from b xs
 
--- the bytes behind the blanks at the front
+-- the bytes after the blanks at the beginning
 abbrev pub drop_blanks : List ℕ → List ℕ
 drop_blanks [] = []
 drop_blanks (x ∷ xs) = if x == 32 then drop_blanks xs else x ∷ xs
 
--- the first word: a line's parts stand with one or more blanks between them
+-- the first word: one or more blanks divide the parts of a line
 abbrev pub word : List ℕ → List ℕ
 word = before 32
 
--- what stands behind the first word and the blanks that follow it
+-- the bytes after the first word and the blanks that follow it
 abbrev pub behind : List ℕ → List ℕ
 behind line = drop_blanks (from 32 line)
 
 abbrev pub is_alphanumeric : ℕ → Bool
 is_alphanumeric b = is_letter b || is_digit b
 
--- the bytes that may stand in a line
+-- the bytes that are allowed in a line
 abbrev pub is_printable : ℕ → Bool
 is_printable b = nat_le 32 b && nat_le b 126
 

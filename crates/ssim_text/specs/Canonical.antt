@@ -57,7 +57,7 @@ given_end_text Open = codes "00XXX00"
 abbrev pub period_text : GivenPeriod → List ℕ
 period_text p = given_date_text p.first ++ 32 ∷ given_end_text p.last ++ 32 ∷ digits_of p.days
 
--- a part that is left out where it is empty, with the byte before it
+-- a part with a byte before it, and nothing if it is empty
 abbrev pub unless_empty : ℕ → List ℕ → List ℕ
 unless_empty mark [] = []
 unless_empty mark (b ∷ text) = mark ∷ b ∷ text

@@ -1,5 +1,5 @@
--- What decoding answers.
-use Rattle.std.specs.Prelude.{◌≡◌, ℕ, ◌<◌, ◌⊎◌, Some, List, length, take, drop}
+-- What decoding returns.
+use Rattle.std.specs.Prelude.{◌≡◌, ℕ, ◌<◌, ◌≤◌, ◌⊎◌, Some, None, List, length, take, drop}
 use Rattle.ssim_text.specs.declared.fault.Fault.{Fault}
 use Rattle.ssim_text.specs.declared.fault.Fault.TheVariants as fault
 use Rattle.ssim_text.specs.declared.fault.TextFault.{TextFault}
@@ -25,19 +25,44 @@ abbrev pub IsPlace : List (List ℕ) → Refusal → Type 0
 IsPlace lines NoMemory = Unit {0}
 IsPlace lines (Misplaced f index) = NamesPlace lines index × IsFaultAt lines index f
 
--- the text is too long, or the canonical text of the one message that its lines spell
-abbrev pub IsTooLong : List ℕ → Type 0
-IsTooLong text = (65536 < length text) ⊎ ((m : MessageValue) × SpellsText m (texts (lines_left text)) × (65536 < length (canonical m)))
+-- first: the text is too long
+pub record IsTooLong (text : List ℕ) (f : Fault) (n : ℕ) : Type 0 where
+  pub long : 65536 < length text
+  pub fault : f ≡ fault.TooMany
+  pub line : n ≡ 1
 
--- the place of a refusal: line 1 where the text is too long, the first line with a byte outside 32 to 126, or the
--- number of the first line that cannot stand, or of the line that is wanted behind the last, with the fault of what was
--- wanted there
+-- the text is not too long, and each byte of its lines is from 32 to 126
+pub record IsReadable (text : List ℕ) : Type 0 where
+  pub short : length text ≤ 65536
+  pub printable : first_unprintable (lines_left text) ≡ None
+
+-- second: a line has a byte outside 32 to 126; it is the first such line
+pub record IsNotAscii (text : List ℕ) (f : Fault) (n : ℕ) : Type 0 where
+  pub short : length text ≤ 65536
+  pub fault : f ≡ fault.NotAscii
+  pub line : first_unprintable (lines_left text) ≡ Some n
+
+-- third: a line is not valid at its place, or the text ends too early
+pub record IsMisplaced (text : List ℕ) (f : Fault) (n : ℕ) : Type 0 where
+  pub readable : IsReadable text
+  pub index : ℕ
+  pub names : NamesPlace (texts (lines_left text)) index
+  pub fault : IsFaultAt (texts (lines_left text)) index f
+  pub line : n ≡ place_number (numbers (lines_left text)) index
+
+-- last: the lines spell a message whose canonical text is too long
+pub record IsWrittenTooLong (text : List ℕ) (f : Fault) (n : ℕ) : Type 0 where
+  pub readable : IsReadable text
+  pub message : MessageValue
+  pub spelled : SpellsText message (texts (lines_left text))
+  pub long : 65536 < length (canonical message)
+  pub fault : f ≡ fault.TooMany
+  pub line : n ≡ 1
+
+-- the fault and its line, each kind only if none before it applies
 abbrev pub IsRefusal : List ℕ → TextFault → Type 0
 IsRefusal text answer.Memory = Unit {0}
-IsRefusal text (answer.Refused f n) =
-    ((f ≡ fault.TooMany) × (n ≡ 1) × IsTooLong text)
-    ⊎ ((f ≡ fault.NotAscii) × (first_unprintable (lines_left text) ≡ Some n))
-    ⊎ ((index : ℕ) × NamesPlace (texts (lines_left text)) index × IsFaultAt (texts (lines_left text)) index f × (n ≡ place_number (numbers (lines_left text)) index))
+IsRefusal text (answer.Refused f n) = IsTooLong text f n ⊎ IsNotAscii text f n ⊎ IsMisplaced text f n ⊎ IsWrittenTooLong text f n
 
 -- what is refused, but for memory, spells no message
 abbrev pub NoMessage : List ℕ → TextFault → Type 0

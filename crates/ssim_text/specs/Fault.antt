@@ -1,5 +1,6 @@
--- The numbers of faults.
-use Rattle.std.specs.Prelude.{ℕ, Option, Some, None}
+-- The numbers, names and printed texts of faults.
+use Rattle.std.specs.Prelude.{ℕ, Option, Some, None, List, ◌++◌, codes}
+use Rattle.std.specs.Fmt.{decimal}
 use Rattle.ssim_text.specs.declared.fault.Fault.{Fault}
 use Rattle.ssim_text.specs.declared.fault.Fault.TheVariants.{BadKind, BadReference, BadAction, BadFlight, BadPeriod, BadEquipment, BadLeg, Extra, TooMany, NotAscii}
 use Rattle.ssim_text.specs.declared.fault.TextFault.{TextFault}
@@ -17,10 +18,31 @@ fault_number Extra = 27
 fault_number TooMany = 28
 fault_number NotAscii = 29
 
+abbrev pub fault_name : Fault → List ℕ
+fault_name BadKind = codes "BadKind"
+fault_name BadReference = codes "BadReference"
+fault_name BadAction = codes "BadAction"
+fault_name BadFlight = codes "BadFlight"
+fault_name BadPeriod = codes "BadPeriod"
+fault_name BadEquipment = codes "BadEquipment"
+fault_name BadLeg = codes "BadLeg"
+fault_name Extra = codes "Extra"
+fault_name TooMany = codes "TooMany"
+fault_name NotAscii = codes "NotAscii"
+
 abbrev pub text_fault_number : TextFault → ℕ
 text_fault_number Memory = 90
 text_fault_number (Refused fault line) = fault_number fault
 
+abbrev pub text_fault_name : TextFault → List ℕ
+text_fault_name Memory = codes "Memory"
+text_fault_name (Refused fault line) = fault_name fault
+
 abbrev pub text_fault_line : TextFault → Option ℕ
 text_fault_line Memory = None
 text_fault_line (Refused fault line) = Some line
+
+-- the name, and the line if there is one
+abbrev pub text_fault_text : TextFault → List ℕ
+text_fault_text Memory = codes "Memory"
+text_fault_text (Refused fault line) = fault_name fault ++ codes " line " ++ decimal line

@@ -74,7 +74,7 @@ identifier_of (action.Rpl new) = identifier.Rpl
 identifier_of (action.Eqt equipment) = identifier.Eqt
 identifier_of (action.Tim legs) = identifier.Tim
 
--- what stands behind flight and period
+-- the parts after flight and period
 abbrev pub body_parts : Action → List Part
 body_parts (action.New new) = new_parts new
 body_parts action.Cnl = []
@@ -98,7 +98,7 @@ abbrev pub free_parts : List (List ℕ) → List Part
 free_parts [] = []
 free_parts (line ∷ lines) = Divider ∷ map FreePart (line ∷ lines)
 
--- the line before all others, where there is an originator
+-- the line before all others, if there is an originator
 abbrev pub IsOriginatorPart : List ℕ → List Part → Type 0
 IsOriginatorPart originator parts = ((originator ≡ no_originator) × (parts ≡ [])) ⊎ (parts ≡ OriginatorPart originator ∷ [])
 
@@ -206,7 +206,7 @@ pub record Starts (lines : List (List ℕ)) : Type 0 where
   pub message : MessageValue
   pub spelled : SpellsText message (lines ++ completion)
 
--- the line with this index is the first that cannot stand, or no line is left where one is wanted
+-- the line with this index is the first after which no text is possible, or the lines end too early
 pub record NamesPlace (lines : List (List ℕ)) (index : ℕ) : Type 0 where
   pub starts : Starts (take index lines)
   pub within : index ≤ length lines

@@ -38,7 +38,7 @@ numbers lines = map (λ l. l.0) lines
 abbrev pub texts : List (ℕ × List ℕ) → List (List ℕ)
 texts lines = map (λ l. l.1) lines
 
--- the number of the line at an index, or one more than that of the last line, or 1 where there is none
+-- the number of the line at an index, or one more than that of the last line, or 1 without lines
 abbrev pub place_number : List ℕ → ℕ → ℕ
 place_number ns index = if nat_lt index (length ns) then slice_index ns index else slice_index ns (length ns - 1) + 1
 

@@ -2,7 +2,6 @@ pub mod Bytes
 pub mod Values
 pub mod Lines
 pub mod Message
-pub mod Same
 pub mod Grammar
 pub mod Fault
 pub mod Machine

@@ -58,7 +58,7 @@ abbrev pub mode_text : TimeMode → List ℕ
 mode_text Utc = codes "UTC"
 mode_text Local = codes "LT"
 
--- so many digits
+-- the number that low to high digits spell
 abbrev pub digits_in : ℕ → ℕ → List ℕ → Option ℕ
 digits_in low high text = if is_text_of is_digit low high text then Some (number_of text) else None
 
@@ -105,7 +105,7 @@ last_date_of text = if bytes_eq text (codes "00XXX00") then Some Open else optio
 abbrev pub compact_days_of : List ℕ → Option (List Bool)
 compact_days_of text = if list_all is_digit text then days_of text else None
 
--- the flight of an SSM is a designator; that of an ASM has a solidus and its date behind it
+-- the flight line of an SSM is a designator, that of an ASM a designator, a solidus and a date
 pub record SpellsDatedFlight (designator : Designator) (date : GivenDate) (line : List ℕ) : Type 0 where
   pub designator_spelled : SpellsDesignator designator (before 47 line)
   pub date_spelled : date_of (drop 1 (from 47 line)) ≡ Some date

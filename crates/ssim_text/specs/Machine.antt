@@ -34,7 +34,7 @@ use Rattle.ssim_text.specs.Grammar.{Part, OriginatorPart, KindPart, ModePart, Re
 abbrev pub sub_of : Designator → Dates → Action → Sub
 sub_of designator dates action = record { designator = designator; dates = dates; action = action }
 
--- an SSM wants a flight, an ASM a flight with its date
+-- next in an SSM is a flight, in an ASM a flight with its date
 abbrev pub flight_wanted : Kind → MessageValue → ActionIdentifier → State
 flight_wanted Ssm m a = AtFlight m a
 flight_wanted Asm m a = AtDatedFlight m a
@@ -42,7 +42,7 @@ flight_wanted Asm m a = AtDatedFlight m a
 abbrev pub no_legs : Designator → Dates → Change → Body
 no_legs designator dates change = record { designator = designator; dates = dates; change = change; legs = []; segments = [] }
 
--- behind flight and period
+-- after flight and period
 abbrev pub body_wanted : ActionIdentifier → MessageValue → Designator → Dates → State
 body_wanted identifier.New m designator dates = AtEquipment m equipped.New designator dates
 body_wanted identifier.Cnl m designator dates = AtEnd (with_sub m (sub_of designator dates action.Cnl))
@@ -50,7 +50,7 @@ body_wanted identifier.Rpl m designator dates = AtEquipment m equipped.Rpl desig
 body_wanted identifier.Eqt m designator dates = AtEquipment m equipped.Eqt designator dates
 body_wanted identifier.Tim m designator dates = AtLegs m (no_legs designator dates change.Tim)
 
--- behind the equipment line
+-- after the equipment line
 abbrev pub after_equipment : Equipped → MessageValue → Designator → Dates → EquipmentValue → State
 after_equipment equipped.New m designator dates equipment = AtLegs m (no_legs designator dates (change.New equipment))
 after_equipment equipped.Rpl m designator dates equipment = AtLegs m (no_legs designator dates (change.Rpl equipment))
@@ -66,7 +66,7 @@ with_leg b leg = record b { legs = b.legs ++ leg ∷ [] }
 abbrev pub with_segment : Body → SegmentLine → Body
 with_segment b segment = record b { segments = b.segments ++ segment ∷ [] }
 
--- a further leg line may stand
+-- a further leg line is allowed
 abbrev pub takes_leg : Body → Bool
 takes_leg b = is_none_yet b.segments && nat_lt (length b.legs) 20
 
@@ -75,7 +75,7 @@ has_segments change.Tim = false
 has_segments (change.New equipment) = true
 has_segments (change.Rpl equipment) = true
 
--- the segment line may stand, but for their number
+-- the segment line is allowed, their number aside
 abbrev pub fits_segment : Body → SegmentLine → Bool
 fits_segment b segment = has_segments b.change && flies b.legs segment
 
@@ -94,7 +94,7 @@ action_of (change.Rpl equipment) legs segments = action.Rpl (record { equipment 
 abbrev pub with_body : MessageValue → Body → MessageValue
 with_body m b = with_sub m (sub_of b.designator b.dates (action_of b.change b.legs b.segments))
 
--- what is read after this part, where it may stand
+-- the state after this part, if it is allowed here
 abbrev pub step : State → Part → Option State
 step AtStart (OriginatorPart originator) = Some (AtKind originator)
 step AtStart (KindPart kind) = Some (AtMode no_originator kind)
@@ -127,7 +127,7 @@ pub record Reads (s : State) (lines : List (List ℕ)) : Type 0 where
   pub spelled : AllZip Spells parts lines
   pub reached : run AtStart parts ≡ Some s
 
--- the message, where the text may end here
+-- the message, if the text may end here
 abbrev pub finish : State → Option MessageValue
 finish (AtLegs m b) = if is_whole b then Some (with_body m b) else None
 finish (AtEnd m) = Some m
@@ -158,14 +158,14 @@ abbrev pub fits_if_segment : Body → Option SegmentLine → Bool
 fits_if_segment b None = false
 fits_if_segment b (Some segment) = fits_segment b segment
 
--- the fault of a line that may not stand: one too many only where it would stand but for the number
+-- the fault of a line that is not allowed: TooMany only if it would be allowed but for the number
 abbrev pub fault_of : State → List ℕ → Fault
 fault_of (AtLegs m b) line =
     if (is_some (leg_of line) && is_none_yet b.segments) || fits_if_segment b (segment_of line) then fault.TooMany else fault.BadLeg
 fault_of (AtNext m) line = if is_action line then fault.TooMany else fault.BadAction
 fault_of s line = fault_at s
 
--- the fault of what is left, of which the first line may not stand, or of the end
+-- the fault of the first line left, which is not allowed, or of the end
 abbrev pub fault_before : State → List (List ℕ) → Fault
 fault_before s [] = fault_at s
 fault_before s (line ∷ lines) = fault_of s line
@@ -176,7 +176,7 @@ pub record Takes (s : State) (line : List ℕ) (next : State) : Type 0 where
   pub spelled : Spells part line
   pub step : step s part ≡ Some next
 
--- no part that may stand here is spelled so
+-- no part that is allowed here is spelled so
 abbrev pub Refuses : State → List ℕ → Type 0
 Refuses s line = (part : Part) → Spells part line → step s part ≡ None
 

@@ -1,14 +1,28 @@
--- The order of references.
-use Rattle.std.specs.Prelude.{ℕ, List, ◌∷◌}
+-- The order of references, and how they are printed.
+use Rattle.std.specs.Prelude.{ℕ, List, [], ◌∷◌, ◌++◌, if◌then◌else◌}
+use Rattle.std.specs.Str.{bytes_eq}
+use Rattle.ssim_values.specs.Day.{day_text}
 use Rattle.ssim_text.specs.declared.kind.Kind.{Kind}
 use Rattle.ssim_text.specs.declared.kind.Kind.TheVariants.{Ssm, Asm}
 use Rattle.ssim_text.specs.declared.reference.Reference.{Reference}
+use Rattle.ssim_text.specs.Canonical.{five_digits, three_digits}
+use Rattle.ssim_text.specs.Lines.{kind_text}
+use Rattle.ssim_text.specs.Values.{no_originator}
 
 -- an SSM comes before an ASM
 abbrev pub kind_number : Kind → ℕ
 kind_number Ssm = 0
 kind_number Asm = 1
 
--- references are compared as these lists, from the front
+-- references are compared as these lists, from the first number on
 abbrev pub reference_numbers : Reference → List ℕ
 reference_numbers r = r.date ∷ r.group ∷ r.serial ∷ kind_number r.kind ∷ r.originator
+
+-- nothing if the originator is blank
+abbrev pub printed_originator : List ℕ → List ℕ
+printed_originator originator = if bytes_eq originator no_originator then [] else 32 ∷ originator
+
+-- the kind, the date with its year, the group serial, the message serial and the originator: SSM 01JUN25 00001 001
+abbrev pub printed_reference : Reference → List ℕ
+printed_reference r =
+    kind_text r.kind ++ 32 ∷ day_text r.date ++ 32 ∷ five_digits r.group ++ 32 ∷ three_digits r.serial ++ printed_originator r.originator

@@ -20,6 +20,6 @@ IsSpelledWhereShort m = length (canonical m) ≤ 65536 → SpellsMessage m (cano
 abbrev pub CanonicalReadsBack : Type 0
 CanonicalReadsBack = (m : MessageValue) (text : List ℕ) → SpellsMessage m text → SpellsMessage m (canonical m)
 
--- two texts spell equal messages exactly where their canonical texts are equal
+-- two texts spell equal messages exactly if the canonical texts of the messages are equal
 abbrev pub EqualWhereWrittenEqual : Type 0
 EqualWhereWrittenEqual = (a b : MessageValue) (s t : List ℕ) → SpellsMessage a s → SpellsMessage b t → (a ≡ b) ↔ (canonical a ≡ canonical b)

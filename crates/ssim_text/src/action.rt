@@ -1,17 +1,20 @@
 //! Sub-messages and their actions.
-ghost use Rattle.std.specs.Prelude.{◌≡◌, IfSome, IfNone};
+ghost use Rattle.std.specs.Prelude.{◌≡◌, IfSome, IfNone, IfOk};
+ghost use Rattle.ssim_text.specs.Grammar.{identifier_of};
 ghost use Rattle.ssim_text.specs.Lines.{SpellsDatedFlight};
 ghost use Rattle.ssim_values.specs.Designator.{SpellsDesignator};
 
 use crate::bytes::{cut, front};
 use crate::dates::{Dates, GivenDate, date};
 use crate::equipment::Equipment;
+use crate::kind::ActionIdentifier;
 use crate::leg::Legs;
 use crate::segment::Segments;
 use ssim_values::Designator;
+use std::alloc::AllocError;
 
-/// What `NEW` and `RPL` put on a date.
-#[derive(Drop)]
+/// The new equipment, legs and segment data of `NEW` and `RPL`.
+#[derive(Clone, Drop)]
 pub struct NewLegs {
     pub equipment: Equipment,
     pub legs: Legs,
@@ -19,7 +22,7 @@ pub struct NewLegs {
 }
 
 /// What a sub-message does to each of its dates, by the action identifiers of SSIM.
-#[derive(Drop)]
+#[derive(Clone, Drop)]
 pub enum Action {
     /// A new flight.
     New(NewLegs),
@@ -33,12 +36,45 @@ pub enum Action {
     Tim(Legs),
 }
 
+impl Action {
+    /// The action identifier.
+    pub fn identifier(&self) -> ActionIdentifier
+        ensures { result ≡ identifier_of self.now }
+    {
+        match self {
+            Action::New(_) => ActionIdentifier::New,
+            Action::Cnl => ActionIdentifier::Cnl,
+            Action::Rpl(_) => ActionIdentifier::Rpl,
+            Action::Eqt(_) => ActionIdentifier::Eqt,
+            Action::Tim(_) => ActionIdentifier::Tim,
+        }
+    }
+
+    fn copy(&self) -> Result<Action, AllocError>
+        ensures { IfOk result (λ copy. copy ≡ self.now) }
+    {
+        self.clone()
+    }
+}
+
 /// One action on one flight over its dates.
 #[derive(Drop)]
 pub struct Sub {
     pub designator: Designator,
     pub dates: Dates,
     pub action: Action,
+}
+
+impl Clone for Sub {
+    ghost is_clone = { λ sub copy. copy ≡ sub };
+
+    fn clone(&self) -> Result<Sub, AllocError> {
+        Ok(Sub {
+            designator: self.designator,
+            dates: self.dates,
+            action: self.action.copy()?,
+        })
+    }
 }
 
 pub(crate) fn flight(line: &[u8]) -> Option<Designator>

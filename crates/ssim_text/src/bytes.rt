@@ -17,7 +17,7 @@ pub(crate) fn cut(text: &[u8], mark: u8) -> (&[u8], &[u8])
     text.split_at(text.len())
 }
 
-/// The bytes behind the blanks at the front.
+/// The bytes after the blanks at the beginning.
 pub(crate) fn skip_blanks(text: &[u8]) -> &[u8]
     ensures { result.now ≡ drop_blanks text.now }
 {
@@ -28,7 +28,7 @@ pub(crate) fn skip_blanks(text: &[u8]) -> &[u8]
     text
 }
 
-/// The first word, and what stands behind the blanks that follow it.
+/// The first word, and the bytes after the blanks that follow it.
 pub(crate) fn first_word(line: &[u8]) -> (&[u8], &[u8])
     ensures word { result.0.now ≡ word line.now }
     ensures behind { result.1.now ≡ behind line.now }

@@ -8,12 +8,11 @@ ghost use Rattle.ssim_text.specs.Canonical.{canonical};
 
 use crate::fault::{Fault, TextFault};
 use crate::lines::{Line, first_unprintable, lines_left, number_at};
-use crate::message::{Draft, Message, encode};
+use crate::message::{Draft, Message};
 use crate::state::{State, Stop};
-use ssim_values::Memory;
 use std::alloc::Global;
 
-/// Why lines are refused: for memory, or with a fault and the index of the line.
+/// Why lines are refused: out of memory, or a fault and the index of its line.
 #[derive(Drop)]
 pub(crate) enum Refusal {
     NoMemory,
@@ -49,17 +48,22 @@ fn finished(alloc: Global, draft: Draft) -> Result<Message, TextFault>
 {
     let text = draft.encode(alloc)?;
     if text.len() > 65_536 {
-        return Err(TextFault::Refused(Fault::TooMany, 1));
+        return Err(TextFault::Refused {
+            fault: Fault::TooMany,
+            line: 1,
+        });
     }
-    Ok(Message::of(draft))
+    Ok(Message::of(draft, text))
 }
 
 /// The message that a text spells.
 ///
-/// Refuses 28 at line 1 a text of more than 65,536 bytes; then 29 at the first line with a byte
-/// outside 32 to 126; then, by the code of what was wanted there, the first line that cannot stand
-/// where it is, or the line after the last where one is wanted; then 28 at line 1 a text whose
-/// canonical text alone is too long.
+/// A text that spells no message is refused, in this order:
+/// - 28 at line 1 if it has more than 65,536 bytes;
+/// - 29 at the first line with a byte outside 32 to 126, after the dropping;
+/// - the number of what was expected, 20 to 28, at the first line after which no valid message is possible, or at the
+///   line after the last if the text ends too early;
+/// - 28 at line 1 if only the canonical text has more than 65,536 bytes.
 pub fn decode(alloc: Global, text: &[u8]) -> Result<Message, TextFault>
     ensures found { IfOk result (λ m. SpellsMessage m text.now) }
     ensures only { IfOk result (λ m. (n : MessageValue) → SpellsMessage n text.now → n ≡ m) }
@@ -67,30 +71,27 @@ pub fn decode(alloc: Global, text: &[u8]) -> Result<Message, TextFault>
     ensures place { IfErr result (λ fault. IsRefusal text.now fault) }
 {
     if text.len() > 65_536 {
-        return Err(TextFault::Refused(Fault::TooMany, 1));
+        return Err(TextFault::Refused {
+            fault: Fault::TooMany,
+            line: 1,
+        });
     }
     let lines = lines_left(alloc, text)?;
-    if let Some(number) = first_unprintable(&lines) {
-        return Err(TextFault::Refused(Fault::NotAscii, number as usize));
+    let lines = lines.as_slice();
+    if let Some(number) = first_unprintable(lines) {
+        return Err(TextFault::Refused {
+            fault: Fault::NotAscii,
+            line: number as usize,
+        });
     }
-    match read_lines(alloc, &lines) {
+    match read_lines(alloc, lines) {
         Ok(draft) => finished(alloc, draft),
         Err(Refusal::NoMemory) => Err(TextFault::Memory),
         Err(Refusal::Misplaced(fault, index)) => {
-            Err(TextFault::Refused(fault, number_at(&lines, index)))
-        }
-    }
-}
-
-impl Message {
-    /// An equal message, or the want of memory: what its canonical text is decoded to.
-    pub fn copy(&self, alloc: Global) -> Result<Message, Memory>
-        ensures { IfOk result (λ copy. copy ≡ self.now) }
-    {
-        let text = encode(alloc, self)?;
-        match decode(alloc, &text) {
-            Ok(message) => Ok(message),
-            Err(_) => Err(Memory),
+            Err(TextFault::Refused {
+                fault,
+                line: number_at(lines, index),
+            })
         }
     }
 }

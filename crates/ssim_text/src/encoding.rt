@@ -37,15 +37,33 @@ pub(crate) fn push_line(out: &mut Vec<u8>, line: &[u8]) -> Result<(), AllocError
 fn push_short(out: &mut Vec<u8>, n: u16) -> Result<(), AllocError>
     ensures { OnOk result (out.new.items ≡ out.old.items ++ short_digits n) }
 {
-    let n = n as u32;
+    let [hundreds, tens, ones] = three_digits(n);
     if n < 10 {
-        out.push(digit(n))?;
-        return Ok(());
+        return out.extend_from_slice(&[ones]);
     }
     if n < 100 {
-        return out.extend_from_slice(&[digit(n / 10), digit(n)]);
+        return out.extend_from_slice(&[tens, ones]);
     }
-    out.extend_from_slice(&[digit(n / 100), digit(n / 10), digit(n)])
+    out.extend_from_slice(&[hundreds, tens, ones])
+}
+
+pub(crate) fn three_digits(n: u16) -> [u8; 3]
+    ensures { result ≡ three_digits n }
+{
+    let n = n as u32;
+    [digit(n / 100), digit(n / 10), digit(n)]
+}
+
+pub(crate) fn five_digits(n: u32) -> [u8; 5]
+    ensures { result ≡ five_digits n }
+{
+    [
+        digit(n / 10000),
+        digit(n / 1000),
+        digit(n / 100),
+        digit(n / 10),
+        digit(n),
+    ]
 }
 
 impl GroupCode {
@@ -63,18 +81,10 @@ impl GivenReference {
     pub(crate) fn push(&self, out: &mut Vec<u8>) -> Result<(), AllocError>
         ensures { OnOk result (out.new.items ≡ out.old.items ++ (reference_text self.now ++ 10 ∷ [])) }
     {
-        let n = self.group;
-        let s = self.serial as u32;
         out.extend_from_slice(&self.date.write())?;
-        out.extend_from_slice(&[
-            digit(n / 10000),
-            digit(n / 1000),
-            digit(n / 100),
-            digit(n / 10),
-            digit(n),
-        ])?;
+        out.extend_from_slice(&five_digits(self.group))?;
         out.push(self.code.letter())?;
-        out.extend_from_slice(&[digit(s / 100), digit(s / 10), digit(s)])?;
+        out.extend_from_slice(&three_digits(self.serial))?;
         self.push_creator(out)?;
         out.push(b'\n')?;
         Ok(())
@@ -147,7 +157,7 @@ fn push_flight(designator: Designator, dates: Dates, out: &mut Vec<u8>) -> Resul
     }
 }
 
-/// A text with a byte before it, and nothing where it is empty.
+/// A text with a byte before it, and nothing if it is empty.
 fn push_unless_empty(out: &mut Vec<u8>, mark: u8, text: &[u8]) -> Result<(), AllocError>
     ensures { OnOk result (out.new.items ≡ out.old.items ++ unless_empty mark text.now) }
 {
@@ -287,13 +297,7 @@ impl Action {
     fn push_identifier(&self, out: &mut Vec<u8>) -> Result<(), AllocError>
         ensures { OnOk result (out.new.items ≡ out.old.items ++ (identifier_text (identifier_of self.now) ++ 10 ∷ [])) }
     {
-        match self {
-            Action::New(_) => push_line(out, b"NEW"),
-            Action::Cnl => push_line(out, b"CNL"),
-            Action::Rpl(_) => push_line(out, b"RPL"),
-            Action::Eqt(_) => push_line(out, b"EQT"),
-            Action::Tim(_) => push_line(out, b"TIM"),
-        }
+        push_line(out, self.identifier().name().as_bytes())
     }
 
     fn push_body(&self, out: &mut Vec<u8>) -> Result<(), AllocError>
@@ -318,7 +322,7 @@ impl Sub {
     }
 }
 
-/// The sub-messages after the first, each behind a divider.
+/// The sub-messages after the first, each after a divider.
 fn push_later(out: &mut Vec<u8>, subs: &[Sub]) -> Result<(), AllocError>
     ensures { OnOk result (out.new.items ≡ out.old.items ++ written (later_parts subs.now)) }
 {
@@ -354,27 +358,17 @@ pub(crate) fn push_free(out: &mut Vec<u8>, lines: &[FreeLine]) -> Result<(), All
 pub(crate) fn push_originator(out: &mut Vec<u8>, originator: Originator) -> Result<(), AllocError>
     ensures { OnOk result (out.new.items ≡ out.old.items ++ written (originator_parts originator)) }
 {
-    let bytes = originator.bytes();
-    if is_blank(&bytes) {
+    if originator.is_none() {
         return Ok(());
     }
     out.push(b'.')?;
-    push_line(out, &bytes)
-}
-
-fn is_blank(bytes: &[u8]) -> bool
-    ensures { result ≡ bytes_eq bytes.now no_originator }
-{
-    bytes == b"       ".as_slice()
+    push_line(out, &originator.bytes())
 }
 
 pub(crate) fn push_kind(out: &mut Vec<u8>, kind: Kind) -> Result<(), AllocError>
     ensures { OnOk result (out.new.items ≡ out.old.items ++ (kind_text kind ++ 10 ∷ [])) }
 {
-    match kind {
-        Kind::Ssm => push_line(out, b"SSM"),
-        Kind::Asm => push_line(out, b"ASM"),
-    }
+    push_line(out, kind.name().as_bytes())
 }
 
 pub(crate) fn push_mode(out: &mut Vec<u8>, mode: TimeMode) -> Result<(), AllocError>

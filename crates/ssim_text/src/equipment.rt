@@ -1,4 +1,4 @@
-//! What flies a flight.
+//! The equipment of a flight.
 ghost use Rattle.std.specs.Prelude.{◌≡◌, ◌≤◌, length, IfSome, IfNone};
 ghost use Rattle.ssim_text.specs.Lines.{service_of, aircraft_of, designators_of, configuration_of, equipment_of};
 
@@ -7,7 +7,7 @@ use arrayvec::ArrayVec;
 use std::marker::Model;
 
 /// The equipment line of a sub-message.
-#[derive(Drop)]
+#[derive(Clone, Drop)]
 pub struct Equipment {
     service: u8,
     aircraft: [u8; 3],

@@ -1,48 +1,38 @@
 //! Why a text is refused.
-ghost use Rattle.std.specs.Prelude.{◌≡◌};
+ghost use Rattle.std.specs.Prelude.{◌≡◌, Some};
+ghost use Rattle.ssim_text.specs.Fault.{fault_name, fault_number, text_fault_line, text_fault_name, text_fault_number, text_fault_text};
 
 use std::alloc::AllocError;
-use thiserror::Error;
+use std::error::Error;
+use std::fmt;
 
-/// Why a line, or the end of a text, may not stand where it is. It is displayed as its name.
-#[derive(Clone, Copy, Debug, PartialEq, Eq, Error)]
+/// What is wrong with a line of a text, or missing at its end. It is displayed as its name.
+#[derive(Clone, Copy, Debug, PartialEq, Eq)]
 pub enum Fault {
-    /// 20: neither `SSM` nor `ASM`, nor an originator before them.
-    #[error("BadKind")]
+    /// 20: expected `SSM` or `ASM`, or an originator before them.
     BadKind,
-    /// 21: no reference.
-    #[error("BadReference")]
+    /// 21: expected a reference.
     BadReference,
-    /// 22: none of the five actions.
-    #[error("BadAction")]
+    /// 22: expected one of the five actions.
     BadAction,
-    /// 23: no flight, or in an ASM no flight with its date.
-    #[error("BadFlight")]
+    /// 23: expected a flight, in an ASM with its date.
     BadFlight,
-    /// 24: no period.
-    #[error("BadPeriod")]
+    /// 24: expected a period.
     BadPeriod,
-    /// 25: no equipment.
-    #[error("BadEquipment")]
+    /// 25: expected an equipment.
     BadEquipment,
-    /// 26: no leg line, or a line that may not follow leg lines.
-    #[error("BadLeg")]
+    /// 26: expected a leg line, or the line is not allowed after leg lines.
     BadLeg,
-    /// 27: a line behind a whole sub-message.
-    #[error("Extra")]
+    /// 27: a further line after a complete sub-message.
     Extra,
     /// 28: more than 65,536 bytes, 250 sub-messages, 20 leg lines or 99 segment lines.
-    #[error("TooMany")]
     TooMany,
     /// 29: a byte outside 32 to 126.
-    #[error("NotAscii")]
     NotAscii,
 }
 
 impl Fault {
-    ghost use Rattle.ssim_text.specs.Fault.{fault_number};
-
-    /// The number of the refusal.
+    /// The number of the fault, 20 to 29.
     pub fn number(self) -> u8
         ensures { result ≡ fault_number self }
     {
@@ -59,42 +49,90 @@ impl Fault {
             Fault::NotAscii => 29,
         }
     }
+
+    /// The name of the fault, as `BadLeg`.
+    pub fn name(self) -> &'static str
+        ensures { result.now ≡ fault_name self }
+    {
+        match self {
+            Fault::BadKind => "BadKind",
+            Fault::BadReference => "BadReference",
+            Fault::BadAction => "BadAction",
+            Fault::BadFlight => "BadFlight",
+            Fault::BadPeriod => "BadPeriod",
+            Fault::BadEquipment => "BadEquipment",
+            Fault::BadLeg => "BadLeg",
+            Fault::Extra => "Extra",
+            Fault::TooMany => "TooMany",
+            Fault::NotAscii => "NotAscii",
+        }
+    }
 }
 
-/// Why a text is refused, and at which line. It is displayed as the name and the line: `BadLeg line 8`.
-#[derive(Clone, Copy, Debug, PartialEq, Eq, Error)]
+impl fmt::Display for Fault {
+    ghost output = { λ fault. Some (fault_name fault) };
+
+    fn fmt<W: fmt::Write>(&self, f: &mut fmt::Formatter<W>) -> fmt::Result {
+        let name = self.name();
+        write!(f, "{name}")
+    }
+}
+
+impl Error for Fault {}
+
+/// Why a text is refused, and at which line. It is displayed as its name and the line: `BadLeg line 8`.
+#[derive(Clone, Copy, Debug, PartialEq, Eq)]
 pub enum TextFault {
-    /// 90: a growth was refused for want of memory.
-    #[error("Memory")]
+    /// 90: out of memory.
     Memory,
-    /// A fault, and the number of its line, from 1.
-    #[error("{0} line {1}")]
-    Refused(Fault, usize),
+    /// 20 to 29, at a line of the text, from 1.
+    Refused { fault: Fault, line: usize },
 }
 
 impl TextFault {
-    ghost use Rattle.ssim_text.specs.Fault.{text_fault_number, text_fault_line};
-
     /// The number of the refusal.
     pub fn number(self) -> u8
         ensures { result ≡ text_fault_number self }
     {
         match self {
             TextFault::Memory => 90,
-            TextFault::Refused(fault, _) => fault.number(),
+            TextFault::Refused { fault, line: _ } => fault.number(),
         }
     }
 
-    /// The number of the line, from 1; none for want of memory.
+    /// The name of the refusal, as `BadLeg`.
+    pub fn name(self) -> &'static str
+        ensures { result.now ≡ text_fault_name self }
+    {
+        match self {
+            TextFault::Memory => "Memory",
+            TextFault::Refused { fault, line: _ } => fault.name(),
+        }
+    }
+
+    /// The number of the line, from 1; none if memory ran out.
     pub fn line(self) -> Option<usize>
         ensures { result ≡ text_fault_line self }
     {
         match self {
             TextFault::Memory => None,
-            TextFault::Refused(_, line) => Some(line),
+            TextFault::Refused { fault: _, line } => Some(line),
         }
     }
 }
+
+impl fmt::Display for TextFault {
+    ghost output = { λ fault. Some (text_fault_text fault) };
+
+    fn fmt<W: fmt::Write>(&self, f: &mut fmt::Formatter<W>) -> fmt::Result {
+        match self {
+            TextFault::Memory => write!(f, "Memory"),
+            TextFault::Refused { fault, line } => write!(f, "{fault} line {line}"),
+        }
+    }
+}
+
+impl Error for TextFault {}
 
 impl From<AllocError> for TextFault {
     ghost use Rattle.ssim_text.specs.declared.fault.TextFault.TheVariants.{Memory};

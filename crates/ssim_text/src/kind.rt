@@ -1,7 +1,11 @@
-//! The words that a text is made of: its kind, its time mode, its actions.
-ghost use Rattle.std.specs.Prelude.{◌≡◌, IfSome, IfNone};
+//! The words of a text: its kind, its time mode, its actions.
+ghost use Rattle.std.specs.Prelude.{◌≡◌, IfSome, IfNone, Some};
+ghost use Rattle.ssim_text.specs.Lines.{kind_text, mode_text, identifier_text};
 
-/// Whether a message is a Standard Schedules Message (chapter 4) or an Ad hoc one (chapter 5).
+use std::fmt;
+
+/// Whether a message is a Standard Schedules Message (chapter 4) or an Ad hoc Schedules Message (chapter 5). It is
+/// displayed as its name.
 #[derive(Clone, Copy, Debug, PartialEq, Eq, PartialOrd, Ord)]
 pub enum Kind {
     Ssm,
@@ -9,7 +13,15 @@ pub enum Kind {
 }
 
 impl Kind {
-    ghost use Rattle.ssim_text.specs.Lines.{kind_text};
+    /// `SSM` or `ASM`.
+    pub fn name(self) -> &'static str
+        ensures { result.now ≡ kind_text self }
+    {
+        match self {
+            Kind::Ssm => "SSM",
+            Kind::Asm => "ASM",
+        }
+    }
 
     pub(crate) fn parse(line: &[u8]) -> Option<Kind>
         ensures some { IfSome result (λ kind. line.now ≡ kind_text kind) }
@@ -23,7 +35,16 @@ impl Kind {
     }
 }
 
-/// In which time a message gives its hours.
+impl fmt::Display for Kind {
+    ghost output = { λ kind. Some (kind_text kind) };
+
+    fn fmt<W: fmt::Write>(&self, f: &mut fmt::Formatter<W>) -> fmt::Result {
+        let name = self.name();
+        write!(f, "{name}")
+    }
+}
+
+/// The time mode of the hours in a message.
 #[derive(Clone, Copy, Debug, PartialEq, Eq)]
 pub enum TimeMode {
     Utc,
@@ -31,8 +52,6 @@ pub enum TimeMode {
 }
 
 impl TimeMode {
-    ghost use Rattle.ssim_text.specs.Lines.{mode_text};
-
     pub(crate) fn parse(line: &[u8]) -> Option<TimeMode>
         ensures some { IfSome result (λ mode. line.now ≡ mode_text mode) }
         ensures none { IfNone result ((mode : TimeMode) → ¬ (line.now ≡ mode_text mode)) }
@@ -45,7 +64,7 @@ impl TimeMode {
     }
 }
 
-/// The action of a sub-message by its action identifier.
+/// The action identifier of a sub-message. It is displayed as its name.
 #[derive(Clone, Copy, Debug, PartialEq, Eq)]
 pub enum ActionIdentifier {
     New,
@@ -56,7 +75,18 @@ pub enum ActionIdentifier {
 }
 
 impl ActionIdentifier {
-    ghost use Rattle.ssim_text.specs.Lines.{identifier_text};
+    /// `NEW`, `CNL`, `RPL`, `EQT` or `TIM`.
+    pub fn name(self) -> &'static str
+        ensures { result.now ≡ identifier_text self }
+    {
+        match self {
+            ActionIdentifier::New => "NEW",
+            ActionIdentifier::Cnl => "CNL",
+            ActionIdentifier::Rpl => "RPL",
+            ActionIdentifier::Eqt => "EQT",
+            ActionIdentifier::Tim => "TIM",
+        }
+    }
 
     pub(crate) fn parse(line: &[u8]) -> Option<ActionIdentifier>
         ensures some { IfSome result (λ identifier. line.now ≡ identifier_text identifier) }
@@ -70,5 +100,14 @@ impl ActionIdentifier {
             b"TIM" => Some(ActionIdentifier::Tim),
             _ => None,
         }
+    }
+}
+
+impl fmt::Display for ActionIdentifier {
+    ghost output = { λ identifier. Some (identifier_text identifier) };
+
+    fn fmt<W: fmt::Write>(&self, f: &mut fmt::Formatter<W>) -> fmt::Result {
+        let name = self.name();
+        write!(f, "{name}")
     }
 }

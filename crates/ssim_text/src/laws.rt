@@ -13,7 +13,7 @@ pub fn canonical_reads_back()
     ensures { CanonicalReadsBack }
 {}
 
-/// Texts spell equal messages exactly where their canonical texts are equal.
+/// Two texts spell equal messages exactly if the canonical texts of the messages are equal.
 pub fn equal_where_written_equal()
     ensures { EqualWhereWrittenEqual }
 {}

@@ -130,7 +130,7 @@ fn variations(time: Clock, text: &[u8]) -> Option<(u8, Clock)>
 }
 
 /// One to twenty leg lines.
-#[derive(Debug, Drop)]
+#[derive(Clone, Debug, Drop)]
 pub struct Legs {
     lines: Vec<LegLine>,
 }

@@ -89,7 +89,7 @@ pub(crate) fn first_unprintable(lines: &[Line]) -> Option<u32>
     None
 }
 
-/// The number of the line at an index, or one more than that of the last line, or 1 where there is none.
+/// The number of the line at an index, or one more than that of the last line, or 1 without lines.
 pub(crate) fn number_at(lines: &[Line], index: usize) -> usize
     ensures { result ≡ place_number (numbers (map (λ l. (l.number, l.bytes.now)) lines.now)) index }
 {

@@ -1,5 +1,5 @@
 //! Messages.
-ghost use Rattle.std.specs.Prelude.{◌≡◌, IfOk};
+ghost use Rattle.std.specs.Prelude.{◌≡◌, ◌↔◌, IfOk, IsTrue};
 ghost use Rattle.ssim_text.specs.Message.{begun, with_sub, with_free};
 ghost use Rattle.ssim_text.specs.Canonical.{canonical};
 ghost use Rattle.ssim_text.specs.Grammar.{IsShape};
@@ -16,7 +16,7 @@ use std::alloc::{AllocError, Global};
 use std::marker::Model;
 
 /// A line of free text: bytes from 32 to 126, the last of them no blank.
-#[derive(Debug, Drop)]
+#[derive(Clone, Debug, Drop)]
 pub struct FreeLine {
     bytes: Vec<u8>,
 }
@@ -46,8 +46,8 @@ impl FreeLine {
     }
 }
 
-/// As much of a message as has been read.
-#[derive(Drop)]
+/// The part of a message that has been read.
+#[derive(Clone, Drop)]
 pub(crate) struct Draft {
     originator: Originator,
     kind: Kind,
@@ -149,6 +149,12 @@ impl Draft {
 }
 
 impl Draft {
+    fn copy(&self) -> Result<Draft, AllocError>
+        ensures { IfOk result (λ copy. copy ≡ self.now) }
+    {
+        self.clone()
+    }
+
     /// The canonical text.
     pub(crate) fn encode(&self, alloc: Global) -> Result<Vec<u8>, AllocError>
         ensures { IfOk result (λ text. text.items ≡ canonical self.now) }
@@ -164,14 +170,16 @@ impl Draft {
     }
 }
 
-/// What a text says: a message of SSIM chapter 4 or 5. It keeps its dates as they were given, and has a
-/// canonical text.
+/// A message of SSIM chapter 4 or 5. It keeps its dates as they were given, and its canonical text.
 #[derive(Drop)]
 pub struct Message {
     content: Draft,
+    /// The canonical text.
+    text: Vec<u8>,
 }
 
 impl Model for Message {
+    ghost use Rattle.std.specs.Prelude.{◌≡◌};
     ghost use Rattle.ssim_text.specs.Message.{MessageValue};
     ghost use Rattle.ssim_text.specs.Canonical.{canonical};
     ghost use Rattle.ssim_text.specs.Spelling.{SpellsMessage};
@@ -180,18 +188,44 @@ impl Model for Message {
 
     ghost view = { λ m. m.content };
 
-    ghost invariant = { λ m. SpellsMessage m.content (canonical m.content) };
+    ghost invariant = { λ m. (m.text.items ≡ canonical m.content) × SpellsMessage m.content (canonical m.content) };
 }
 
 impl Message {
-    pub(crate) fn of(content: Draft) -> Message
-        requires { SpellsMessage content (canonical content) }
+    pub(crate) fn of(content: Draft, text: Vec<u8>) -> Message
+        requires text { text.items ≡ canonical content }
+        requires spells { SpellsMessage content (canonical content) }
         ensures { result ≡ content }
     {
-        Message { content }
+        Message { content, text }
     }
 
-    /// The originator, seven blanks where the text does not say.
+    /// The canonical text: one LF after each line, the mode line always, single blanks between parts, and each value in
+    /// its one written form. It spells the message, so decoding it gives an equal one.
+    pub fn text(&self) -> &[u8]
+        ensures written { result.now ≡ canonical self.now }
+        ensures spells { SpellsMessage self.now result.now }
+    {
+        &self.text
+    }
+
+    /// Whether two messages are equal, however their texts spelled them.
+    pub fn same(&self, other: &Message) -> bool
+        ensures { IsTrue result ↔ (self.now ≡ other.now) }
+    {
+        self.text.as_slice() == other.text.as_slice()
+    }
+
+    /// An equal message. The error says that memory ran out.
+    pub fn copy(&self, alloc: Global) -> Result<Message, Memory>
+        ensures { IfOk result (λ copy. copy ≡ self.now) }
+    {
+        let content = self.content.copy()?;
+        let text = Vec::from_slice(alloc, &self.text)?;
+        Ok(Message::of(content, text))
+    }
+
+    /// The originator, seven blanks if the text has none.
     pub fn originator(&self) -> Originator
         ensures { result ≡ self.now.originator }
     {
@@ -221,8 +255,8 @@ impl Message {
         self.content.reference()
     }
 
-    /// The sub-messages, in their order: 1 to 250, each with the dates that the kind wants, 1 to 20 leg lines where it
-    /// has any, and values in their bounds.
+    /// The sub-messages, in their order: 1 to 250, each with the dates of the message's kind, 1 to 20 leg lines if its
+    /// action has any, and values in their bounds.
     pub fn subs(&self) -> &[Sub]
         ensures value { result.now ≡ self.now.subs }
         ensures shape { IsShape self.now }
@@ -240,15 +274,10 @@ impl Message {
     }
 }
 
-/// The canonical text of a message: one LF after each line, the mode line always, single blanks
-/// between parts, and each value in its one written form. It spells the message, so that decoding it
-/// gives an equal one.
+/// A copy of the canonical text of a message.
 pub fn encode(alloc: Global, message: &Message) -> Result<Vec<u8>, Memory>
     ensures written { IfOk result (λ text. text.items ≡ canonical message.now) }
     ensures spells { IfOk result (λ text. SpellsMessage message.now text.items) }
 {
-    match message.content.encode(alloc) {
-        Ok(text) => Ok(text),
-        Err(_) => Err(Memory),
-    }
+    Ok(Vec::from_slice(alloc, &message.text)?)
 }

@@ -1,11 +1,14 @@
 //! Originators of texts.
-ghost use Rattle.std.specs.Prelude.{◌≡◌, IfSome, IfNone};
+ghost use Rattle.std.specs.Prelude.{◌≡◌, IfSome, IfNone, Some};
+ghost use Rattle.std.specs.Str.{bytes_eq};
 ghost use Rattle.ssim_text.specs.Lines.{originator_of, address_of, is_blank_or_none};
 
 use crate::bytes::{all_alphanumeric, front};
+use std::fmt;
 use std::marker::Model;
 
-/// The address of who sent a text: seven letters or digits, or seven blanks where the text does not say.
+/// The address of the sender of a text: seven letters or digits, or seven blanks if the text has none. It is displayed
+/// as these seven characters.
 #[derive(Clone, Copy, Debug, PartialEq, Eq, PartialOrd, Ord)]
 pub struct Originator {
     bytes: [u8; 7],
@@ -36,6 +39,22 @@ impl Originator {
         ensures { result ≡ no_originator }
     {
         Originator { bytes: *b"       " }
+    }
+
+    /// Whether these are seven blanks.
+    pub fn is_none(self) -> bool
+        ensures { result ≡ bytes_eq self no_originator }
+    {
+        self.bytes.as_slice() == b"       ".as_slice()
+    }
+}
+
+impl fmt::Display for Originator {
+    ghost output = { λ originator. Some originator };
+
+    fn fmt<W: fmt::Write>(&self, f: &mut fmt::Formatter<W>) -> fmt::Result {
+        let text = str::from_utf8(&self.bytes).map_err(|_| fmt::Error)?;
+        write!(f, "{text}")
     }
 }
 

@@ -1,5 +1,5 @@
 //! References of messages.
-ghost use Rattle.std.specs.Prelude.{◌≡◌, ◌<◌, ◌≤◌, ◌^◌, true, length, IfSome, IfNone, IfOk, option_map};
+ghost use Rattle.std.specs.Prelude.{◌≡◌, ◌<◌, ◌≤◌, ◌^◌, true, length, Some, IfSome, IfNone, IfOk, option_map};
 ghost use Rattle.ssim_text.specs.Lines.{reference_of, numbers_of, group_code_of, creator_of, digits_in};
 ghost use Rattle.ssim_values.specs.Flight.{number_of};
 ghost use Rattle.ssim_values.specs.Characters.{is_digit};
@@ -7,14 +7,19 @@ ghost use Rattle.std.specs.List.{list_all};
 
 use crate::bytes::{all_digits, front};
 use crate::dates::month_day;
+use crate::encoding::{five_digits, three_digits};
 use crate::kind::Kind;
 use crate::originator::Originator;
 use ssim_values::{Day, DayMonth};
 use std::alloc::{AllocError, Global};
 use std::cmp::Ordering;
+use std::fmt;
 use std::marker::Model;
 
-/// The reference under which a message is held; references are compared field by field, from the first.
+/// The reference of a message, with its year. References are compared field by field, from the first.
+///
+/// It is displayed as kind, date, group serial and message serial (`SSM 01JUN25 00001 001`), and the originator if it is
+/// not blank.
 #[derive(Clone, Copy, Debug, PartialEq, Eq, PartialOrd, Ord)]
 pub struct Reference {
     /// The date of the reference, with its year.
@@ -41,6 +46,28 @@ impl Reference {
     }
 }
 
+impl fmt::Display for Reference {
+    ghost use Rattle.ssim_text.specs.Reference.{printed_reference};
+
+    ghost output = { λ r. Some (printed_reference r) };
+
+    fn fmt<W: fmt::Write>(&self, f: &mut fmt::Formatter<W>) -> fmt::Result {
+        let kind = self.kind;
+        let date = self.date.write();
+        let date = str::from_utf8(&date).map_err(|_| fmt::Error)?;
+        let group = five_digits(self.group);
+        let group = str::from_utf8(&group).map_err(|_| fmt::Error)?;
+        let serial = three_digits(self.serial);
+        let serial = str::from_utf8(&serial).map_err(|_| fmt::Error)?;
+        let originator = self.originator;
+        if originator.is_none() {
+            write!(f, "{kind} {date} {group} {serial}")
+        } else {
+            write!(f, "{kind} {date} {group} {serial} {originator}")
+        }
+    }
+}
+
 /// Whether another message of the group follows (`C`) or none (`E`).
 #[derive(Clone, Copy, Debug, PartialEq, Eq)]
 pub enum GroupCode {
@@ -49,7 +76,7 @@ pub enum GroupCode {
 }
 
 /// A reference as a message gives it.
-#[derive(Debug, Drop)]
+#[derive(Clone, Debug, Drop)]
 pub struct GivenReference {
     /// The date, without its year.
     pub date: DayMonth,
@@ -62,7 +89,7 @@ pub struct GivenReference {
 }
 
 /// The creator's own reference: 1 to 35 bytes from 32 to 126, the last of them no blank.
-#[derive(Debug, Drop)]
+#[derive(Clone, Debug, Drop)]
 pub struct CreatorReference {
     bytes: Vec<u8>,
 }
@@ -86,7 +113,7 @@ impl CreatorReference {
 
 // ---- reading
 
-/// So many digits, as a number.
+/// The number that the digits spell, if there are `low` to `high` of them.
 pub(crate) fn digits(low: usize, high: usize, text: &[u8]) -> Option<u32>
     requires { high < 6 }
     ensures some { IfSome result (λ n. digits_in low high text.now ≡ Some n) }
@@ -157,7 +184,7 @@ impl CreatorReference {
     }
 }
 
-/// The parts of a reference line that take no memory.
+/// The parts of a reference line that allocate nothing.
 #[derive(Clone, Copy)]
 struct SerialNumbers {
     date: DayMonth,

@@ -10,7 +10,7 @@ use std::alloc::{AllocError, Global};
 use std::marker::Model;
 
 /// Data for one pair of points of a flight.
-#[derive(Debug, Drop)]
+#[derive(Clone, Debug, Drop)]
 pub struct SegmentLine {
     pub board: Station,
     pub off: Station,
@@ -20,7 +20,7 @@ pub struct SegmentLine {
 }
 
 /// The data of a segment line: 1 to 155 bytes from 32 to 126, the last of them no blank.
-#[derive(Debug, Drop)]
+#[derive(Clone, Debug, Drop)]
 pub struct SegmentText {
     bytes: Vec<u8>,
 }
@@ -42,7 +42,7 @@ impl SegmentText {
     }
 }
 
-/// The board and the off point, where the word is not `QQQQQQ`.
+/// The board and the off point, if the word is not `QQQQQQ`.
 fn points(word: &[u8]) -> Option<(Station, Station)>
     ensures some { IfSome result (λ p. points_of word.now ≡ Some (p.0, p.1)) }
     ensures none { IfNone result (points_of word.now ≡ None) }
@@ -98,7 +98,7 @@ impl SegmentLine {
 }
 
 /// Up to 99 segment lines.
-#[derive(Debug, Drop)]
+#[derive(Clone, Debug, Drop)]
 pub struct Segments {
     lines: Vec<SegmentLine>,
 }

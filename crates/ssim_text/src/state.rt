@@ -1,4 +1,4 @@
-//! What has been read of a text, and which line is wanted.
+//! The part of a text that has been read, and the line that is expected next.
 ghost use Rattle.std.specs.Prelude.{◌≡◌, ◌↔◌, ◌<◌, length, codes, IsTrue, IfOk, IfErr};
 ghost use Rattle.ssim_text.specs.Lines.{begins_free, leg_of};
 ghost use Rattle.ssim_text.specs.Machine.{Takes, StopsAt, Finishes, EndsShort, flight_wanted, body_wanted, after_equipment, no_legs, action_of, sub_of, with_body, with_leg, with_segment, is_none_yet, is_whole, fits_segment, has_segments, takes_leg};
@@ -142,7 +142,7 @@ impl Body {
     }
 }
 
-/// What has been read, and which line is wanted.
+/// The part that has been read, and the line that is expected next.
 #[derive(Drop)]
 pub(crate) enum State {
     AtStart,
@@ -160,7 +160,7 @@ pub(crate) enum State {
     AtFree(Draft),
 }
 
-/// An SSM wants a flight next, an ASM a flight with its date.
+/// After the action an SSM has a flight, an ASM a flight with its date.
 fn flight_wanted(message: Draft, action: ActionIdentifier) -> State
     ensures { result ≡ flight_wanted message.kind message action }
 {
@@ -170,7 +170,7 @@ fn flight_wanted(message: Draft, action: ActionIdentifier) -> State
     }
 }
 
-/// What an action wants behind flight and period.
+/// What is expected after flight and period.
 fn body_wanted(
     alloc: Global,
     action: ActionIdentifier,
@@ -199,7 +199,7 @@ fn body_wanted(
     }
 }
 
-/// What an action wants behind its equipment line.
+/// What is expected after the equipment line.
 fn after_equipment(
     alloc: Global,
     equipped: Equipped,
@@ -475,7 +475,7 @@ impl State {
         }
     }
 
-    /// The message, where the text may end here.
+    /// The message, if the text may end here.
     pub(crate) fn finish(self) -> Result<Draft, Stop>
         ensures ok { IfOk result (λ m. Finishes self m) }
         ensures err { IfErr result (λ stop. EndsShort self stop) }

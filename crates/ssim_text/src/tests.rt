@@ -1,5 +1,5 @@
 //! The worked rows of texts: what their canonical texts are, and why others are refused.
-use crate::{Action, Kind, Message, Reference, decode, encode, leg_pair};
+use crate::{Action, Message, Reference, decode, encode, leg_pair};
 use ssim_values::{Day, Station};
 use std::alloc::Global;
 use std::test::Fail;
@@ -417,15 +417,29 @@ fn references_in_order(rt: HostRuntime) -> Result<(), Fail> {
 }
 
 #[test]
-fn faults_are_displayed(rt: HostRuntime) -> Result<(), Fail> {
+fn displayed_texts(rt: HostRuntime) -> Result<(), Fail> {
     let message = decode(rt.alloc(), X2)?;
-    assert!(rt; message.kind() == Kind::Ssm);
-    match decode(rt.alloc(), b"SSM\nUTC\n01JUN00001E001\nCNL NEW\n") {
-        Ok(_) => assert!(rt; false),
-        Err(fault) => {
-            let text = format!(in rt.alloc(); "{fault}")?;
-            assert_eq!(rt; text.as_str(), "BadAction line 4");
-        }
+    let one = reference(&message, Day::parse(b"01JUN25")?);
+    assert_eq!(rt;
+        format!(in rt.alloc(); "{one}")?.as_str(),
+        "SSM 01JUN25 00001 001"
+    );
+    let named = b".ZRHRMLX\nASM\n23MAY00144E003\nTIM\nLX1/01JUL25\nZRH0000 LHR0000\n";
+    let message = decode(rt.alloc(), named)?;
+    let one = reference(&message, Day::parse(b"23MAY25")?);
+    assert_eq!(rt;
+        format!(in rt.alloc(); "{one}")?.as_str(),
+        "ASM 23MAY25 00144 003 ZRHRMLX"
+    );
+    for sub in message.subs() {
+        let action = sub.action.identifier();
+        assert_eq!(rt; format!(in rt.alloc(); "{action}")?.as_str(), "TIM");
+    }
+    if let Err(fault) = decode(rt.alloc(), b"SSM\nUTC\n01JUN00001E001\nCNL NEW\n") {
+        assert_eq!(rt;
+            format!(in rt.alloc(); "{fault}")?.as_str(),
+            "BadAction line 4"
+        );
     }
     Ok(())
 }

@@ -1,11 +1,12 @@
-ghost use Rattle.std.specs.Prelude.{◌≡◌, ◌↔◌, ◌||◌, List, ℕ, IsTrue, IsOk, IfOk, IfErr};
-ghost use Rattle.ssim_values.specs.Airline.{is_airline, is_pair};
+ghost use Rattle.std.specs.Prelude.{◌≡◌, ◌↔◌, ◌||◌, List, ℕ, IsTrue, IsOk, IfOk, IfErr, Some};
+ghost use Rattle.ssim_values.specs.Airline.{airline_text, is_airline, is_pair};
 
 use crate::Fault;
+use std::fmt;
 use std::marker::Model;
 
 /// An airline designator in the three columns of a record: two letters or digits, not both digits, and a blank, or
-/// three letters. A message leaves the blank out (`Designator`).
+/// three letters. It is displayed without the blank, as messages have it.
 #[derive(Clone, Copy, Debug, PartialEq, Eq, PartialOrd, Ord, Hash)]
 pub struct Airline {
     columns: [u8; 3],
@@ -25,7 +26,7 @@ impl Model for Airline {
 }
 
 impl Airline {
-    /// Reads the three columns, or refuses them as 6 `BadDesignator`.
+    /// Reads the three columns. Any other text is 6 `BadDesignator`.
     pub fn parse(text: &[u8; 3]) -> Result<Airline, Fault>
         ensures accepts { IsOk result ↔ IsTrue (is_airline text.now) }
         ensures value { IfOk result (λ a. a ≡ text.now) }
@@ -48,6 +49,19 @@ impl Airline {
         ensures columns { IsTrue (is_airline result) }
     {
         self.columns
+    }
+}
+
+impl fmt::Display for Airline {
+    ghost output = { λ a. Some (airline_text a) };
+
+    fn fmt<W: fmt::Write>(&self, f: &mut fmt::Formatter<W>) -> fmt::Result {
+        let text = match self.columns.as_slice() {
+            [pair @ .., b' '] => pair,
+            letters => letters,
+        };
+        let text = str::from_utf8(text).map_err(|_| fmt::Error)?;
+        write!(f, "{text}")
     }
 }
 

@@ -1,11 +1,12 @@
-ghost use Rattle.std.specs.Prelude.{◌≡◌, ◌↔◌, [], ◌∷◌, ◌++◌, ◌<◌, ◌≤◌, ◌+◌, ℕ, List, length, slice_index, true, IsTrue, IsOk, IfOk, IfErr, IfSome, IfNone};
+ghost use Rattle.std.specs.Prelude.{◌≡◌, ◌↔◌, [], ◌∷◌, ◌++◌, ◌<◌, ◌≤◌, ◌+◌, ℕ, List, length, slice_index, true, IsTrue, IsOk, IfOk, IfErr, IfSome, IfNone, Some};
 ghost use Rattle.ssim_values.specs.Airline.{is_airline, airline_text};
 ghost use Rattle.ssim_values.specs.Characters.{is_digit, is_letter};
 
 use crate::{Airline, Fault, Flight};
 use arrayvec::ArrayVec;
+use std::fmt;
 
-/// A flight designator: an airline's flight, as `LX544`.
+/// A flight designator: an airline's flight, as `LX544`. It is displayed as [`Designator::write`] writes it.
 #[derive(Clone, Copy, Debug, PartialEq, Eq, PartialOrd, Ord, Hash)]
 pub struct Designator {
     pub airline: Airline,
@@ -16,8 +17,8 @@ impl Designator {
     ghost use Rattle.ssim_values.specs.Designator.{SpellsDesignator, designator_text};
     ghost use Rattle.ssim_values.specs.declared.designator.Designator.{Designator};
 
-    /// Reads an airline, without the blank of its third column, and a flight, or refuses them as 6 `BadDesignator`.
-    /// The airline has three letters where the third byte is a letter, else two characters.
+    /// Reads an airline, without the blank of its third column, and a flight. Any other text is 6 `BadDesignator`.
+    /// The airline has three letters if the third byte is a letter, else two characters.
     pub fn parse(text: &[u8]) -> Result<Designator, Fault>
         ensures accepts { IsOk result ↔ ((d : Designator) × SpellsDesignator d text.now) }
         ensures value { IfOk result (λ d. SpellsDesignator d text.now) }
@@ -44,6 +45,18 @@ impl Designator {
         let mut text = characters(self.airline);
         push_all(&mut text, self.flight.write().as_slice());
         text
+    }
+}
+
+impl fmt::Display for Designator {
+    ghost use Rattle.ssim_values.specs.Designator.{designator_text};
+
+    ghost output = { λ d. Some (designator_text d) };
+
+    fn fmt<W: fmt::Write>(&self, f: &mut fmt::Formatter<W>) -> fmt::Result {
+        let text = self.write();
+        let text = str::from_utf8(text.as_slice()).map_err(|_| fmt::Error)?;
+        write!(f, "{text}")
     }
 }
 

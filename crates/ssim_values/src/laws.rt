@@ -1,4 +1,4 @@
-//! What holds of the spellings themselves, for the crates that prove over them.
+//! Laws of the spellings, for the proofs of other crates.
 ghost use Rattle.ssim_values.specs.Spellings.{DaysAreRead, DaysReadBack, DaysHaveOneText, DayMonthsAreRead, DayMonthsReadBack, DayMasksAreRead, DayMasksReadBack, ClocksAreRead, ClocksReadBack, VariationsAreRead, VariationsReadBack};
 
 /// A day, a day of a month, days of operation, a time and a variation are read from exactly the texts that spell them.

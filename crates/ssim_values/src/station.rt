@@ -1,10 +1,11 @@
-ghost use Rattle.std.specs.Prelude.{◌≡◌, ◌↔◌, List, ℕ, length, IsTrue, IsOk, IfOk, IfErr};
+ghost use Rattle.std.specs.Prelude.{◌≡◌, ◌↔◌, List, ℕ, length, IsTrue, IsOk, IfOk, IfErr, Some};
 ghost use Rattle.ssim_values.specs.Station.{is_station};
 
 use crate::Fault;
+use std::fmt;
 use std::marker::Model;
 
-/// A station: the three letters of an airport or a city, as `ZRH`.
+/// A station: the three letters of an airport or a city, as `ZRH`. It is displayed as these letters.
 #[derive(Clone, Copy, Debug, PartialEq, Eq, PartialOrd, Ord, Hash)]
 pub struct Station {
     letters: [u8; 3],
@@ -24,7 +25,7 @@ impl Model for Station {
 }
 
 impl Station {
-    /// Reads three letters, or refuses them as 3 `BadStation`.
+    /// Reads three letters. Any other text is 3 `BadStation`.
     pub fn parse(text: &[u8; 3]) -> Result<Station, Fault>
         ensures accepts { IsOk result ↔ IsTrue (is_station text.now) }
         ensures value { IfOk result (λ s. s ≡ text.now) }
@@ -44,5 +45,14 @@ impl Station {
         ensures letters { IsTrue (is_station result) }
     {
         self.letters
+    }
+}
+
+impl fmt::Display for Station {
+    ghost output = { λ s. Some s };
+
+    fn fmt<W: fmt::Write>(&self, f: &mut fmt::Formatter<W>) -> fmt::Result {
+        let text = str::from_utf8(&self.letters).map_err(|_| fmt::Error)?;
+        write!(f, "{text}")
     }
 }

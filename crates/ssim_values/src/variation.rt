@@ -5,7 +5,7 @@ use crate::Fault;
 use crate::clock::{read_clock, write_clock};
 use std::marker::Model;
 
-/// A UTC variation: what a station's local time is ahead of UTC, to the minute. The sign is kept as written, so
+/// A UTC variation: how far the local time of a station is ahead of UTC, in minutes. The sign is kept as written, so
 /// `-0000` and `+0000` differ.
 #[derive(Clone, Copy, Debug, PartialEq, Eq, Hash)]
 pub struct Variation {
@@ -27,7 +27,7 @@ impl Model for Variation {
 }
 
 impl Variation {
-    /// Reads a sign and `HHMM` up to 1500, or refuses them as 5 `BadVariation`.
+    /// Reads a sign and `HHMM` up to 1500. Any other text is 5 `BadVariation`.
     pub fn parse(text: &[u8; 5]) -> Result<Variation, Fault>
         ensures accepts { IsOk result ↔ ((v : Offset) × SpellsVariation v text.now) }
         ensures value { IfOk result (λ v. SpellsVariation v text.now) }

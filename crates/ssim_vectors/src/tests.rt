@@ -294,27 +294,62 @@ fn readers_that_fail(rt: HostRuntime) -> Result<(), Fail> {
 #[test]
 fn command_lines(rt: HostRuntime) -> Result<(), Fail> {
     let alloc = rt.alloc();
-    let cases: [(&[&str], u8); 11] = [
-        (&["ssimdesk", "--help"], 0),
-        (&["ssimdesk", "help", "tidy"], 0),
-        (&["ssimdesk", "check", "-h"], 0),
-        (&["ssimdesk", "tidy", "-"], 1),
-        (&["ssimdesk", "check", "absent"], 1),
-        (&["ssimdesk"], 2),
-        (&["ssimdesk", "tidy"], 2),
-        (&["ssimdesk", "tidy", "a", "b"], 2),
-        (&["ssimdesk", "tidy", "-x"], 2),
-        (&["ssimdesk", "merge", "a", "b", "c"], 2),
-        (&[], 2),
+    // the words, the status, and a part of what is printed: on standard output for 0, else on standard error
+    let cases: [(&[&str], u8, &str); 11] = [
+        (&["ssimdesk", "--help"], 0, "Usage: ssimdesk <COMMAND>\n"),
+        (
+            &["ssimdesk", "help", "tidy"],
+            0,
+            "Usage: ssimdesk tidy <DATASET>\n",
+        ),
+        (
+            &["ssimdesk", "check", "-h"],
+            0,
+            "Usage: ssimdesk check <DATASET>\n",
+        ),
+        (&["ssimdesk", "tidy", "-"], 1, "refused 91 File -\n"),
+        (
+            &["ssimdesk", "check", "absent"],
+            1,
+            "refused 91 File absent\n",
+        ),
+        (&["ssimdesk"], 2, "requires a subcommand"),
+        (
+            &["ssimdesk", "tidy"],
+            2,
+            "required arguments were not provided",
+        ),
+        (
+            &["ssimdesk", "tidy", "a", "b"],
+            2,
+            "unexpected argument 'b' found",
+        ),
+        (
+            &["ssimdesk", "tidy", "-x"],
+            2,
+            "unexpected argument '-x' found",
+        ),
+        (
+            &["ssimdesk", "merge", "a", "b", "c"],
+            2,
+            "unrecognized subcommand 'merge'",
+        ),
+        (&[], 2, "requires a subcommand"),
     ];
-    for (words, wanted) in cases {
+    for (words, wanted, part) in cases {
         let mut store = MemoryStore::new(alloc);
         let mut out = Vec::new(alloc);
         let mut err = Vec::new(alloc);
         let status = run(alloc, words, &mut store, &mut out, &mut err);
         assert_eq!(rt; status, wanted, "at {words:?}");
-        assert!(rt; wanted == 0 || !err.is_empty(), "at {words:?}");
-        assert!(rt; wanted != 0 || !out.is_empty(), "at {words:?}");
+        let (printed, other) = if wanted == 0 {
+            (&out, &err)
+        } else {
+            (&err, &out)
+        };
+        let text = str::from_utf8(printed.as_slice()).unwrap_or("");
+        assert!(rt; text.contains(part), "at {words:?}");
+        assert!(rt; other.is_empty(), "at {words:?}");
     }
     Ok(())
 }

@@ -3,6 +3,7 @@ ghost use Rattle.std.specs.Prelude.{◌≡◌, length, ℕ, ◌+◌, ◌-◌, �
 ghost use Rattle.ssim_periods.specs.Calendar.{day_count, slot};
 ghost use Rattle.ssim_periods.specs.Cover.{first_where, cover, weekdays_of, breaks, CoverLaw};
 ghost use Rattle.ssim_periods.specs.Pieces.{has_value, pieces_of, ArePieces};
+ghost use Rattle.ssim_periods.specs.Worked.{WorkedPieces};
 
 use crate::cover::{last_in, period_of, unlike_in_row};
 use crate::numbers::{ValueNumber, numbered_days};
@@ -13,11 +14,11 @@ use ssim_values::{Day, Memory, Period};
 const NO_DAYS: [bool; 7] = [false; 7];
 
 impl<V: Value> Periods<V> {
-    /// The covers of the days of each value other than the empty one, each period with its value, sorted by first day.
+    /// The cover of the days of each value other than the empty one, each period with its value, sorted by first day.
     ///
-    /// They are read from the rows. First each value of a row gets a number, mostly by one comparison with the same weekday's value in
-    /// the row before, else by comparisons with the distinct values; no value is compared later. Then the cost for each distinct value is
-    /// that of the ranges, by at most seven numbers of each.
+    /// Each value of a row first gets a number: mostly by one comparison, with the value of the same weekday in the row before, else by
+    /// comparisons with the distinct values. From then on only numbers are compared. Each distinct value costs one pass over the ranges,
+    /// with at most seven comparisons in each.
     pub fn pieces(&self) -> Result<Vec<(Period, V)>, Memory>
         ensures pieces { IfOk result (λ pieces. pieces.items ≡ pieces_of V.alike V.nothing self.now.days) }
         ensures each_day { OnOk result (length self.now.days ≡ day_count) }
@@ -32,7 +33,7 @@ impl<V: Value> Periods<V> {
         Ok(pieces)
     }
 
-    // Adds the cover of the days that have a value, each period with a label.
+    // Appends the cover of the days that have the value, each period with the label.
     fn push_cover<L: Value>(
         &self,
         value: &V,
@@ -44,7 +45,7 @@ impl<V: Value> Periods<V> {
         let mut first = self.first_unlike(value, &NO_DAYS, 0);
         while first < DAYS {
             let days = self.weekdays_from(value, first);
-            let after = self.first_unlike(value, &days, first);
+            let after = self.break_after(value, &days, first);
             let period = period_of(first, last_in(&days, first, after), days);
             pieces.push((period, label.copy(self.alloc)?))?;
             first = self.first_unlike(value, &NO_DAYS, after);
@@ -52,8 +53,8 @@ impl<V: Value> Periods<V> {
         Ok(())
     }
 
-    // The first day from a day on that has the value although its weekday is not among the days, or the other way round; 36,525
-    // where there is none.
+    // The first day from a day on that has the value although its weekday is not one of `days`, or does not have it although its
+    // weekday is one. 36,525 if there is none.
     fn first_unlike(&self, value: &V, days: &[bool; 7], from: u32) -> u32
         requires { from ≤ 36525 }
         ensures { result ≡ first_where (breaks (has_value V.alike self.now.days value.now) days.now) from (length self.now.days - from) }
@@ -73,7 +74,15 @@ impl<V: Value> Periods<V> {
         DAYS
     }
 
-    // Whether the first day with a weekday from a day on has the value.
+    // The day after the last day up to which the value is on exactly these weekdays, from a first day on.
+    fn break_after(&self, value: &V, days: &[bool; 7], first: u32) -> u32
+        requires { first ≤ 36525 }
+        ensures { result ≡ first_where (breaks (has_value V.alike self.now.days value.now) days.now) first (length self.now.days - first) }
+    {
+        self.first_unlike(value, days, first)
+    }
+
+    // Whether the value is on the first day with a weekday, from a day on.
     fn has_on(&self, value: &V, first: u32, weekday: u32) -> bool
         requires weekday { weekday < 7 }
         requires in_calendar { first < 36525 }
@@ -87,7 +96,7 @@ impl<V: Value> Periods<V> {
         }
     }
 
-    // The weekdays that the value has on the seven days from a day on.
+    // The weekdays of the value in the seven days from a day on.
     fn weekdays_from(&self, value: &V, first: u32) -> [bool; 7]
         requires in_calendar { first < 36525 }
         requires all_days { length self.now.days ≡ 36525 }
@@ -105,13 +114,18 @@ impl<V: Value> Periods<V> {
     }
 }
 
-/// The law of covers, which the contract states: each day of a set is in exactly one period of its cover, and no other day is in any.
+/// The law of covers: each day of a set is in exactly one period of its cover, and no other day is in any.
 pub fn covers_hold_each_day_once()
     ensures { CoverLaw }
 {}
 
-/// The law of pieces, which the contract states: on each day exactly one piece holds, the one with the day's value, or none where
-/// the value is empty; and each piece holds its own first day.
+/// The law of pieces: exactly one piece holds each day, the piece with the value of that day; if that value is empty, none does. Each
+/// piece holds its own first day.
 pub fn pieces_hold_each_day_once<V: Value>()
     ensures { (days : List V) → ArePieces V.alike V.nothing days (pieces_of V.alike V.nothing days) }
+{}
+
+/// Covers and pieces worked out by hand agree with the definitions.
+pub fn worked_pieces()
+    ensures { WorkedPieces }
 {}

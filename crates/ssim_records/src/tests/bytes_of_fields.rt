@@ -1,10 +1,10 @@
-//! A byte too low, DEL and two bytes above ASCII in each column of each type of record. Where the column is carried the
-//! first two cannot stand, and the fault names the column itself; where it is not, none can, and the fault names the
-//! first column of the field.
+//! A byte too low, DEL and two bytes above ASCII in each column of each type of record. In a carried column the first two are
+//! invalid, and the fault names the column itself. In another column all are, and the fault names the first column of the
+//! field.
 
 use super::*;
 
-// The fields behind column 1, from the format: first and last column, and whether they are carried.
+// The fields after column 1, from the format: first and last column, and whether they are carried.
 const HEADER_FIELDS: &[(usize, usize, bool)] = &[
     (2, 35, false),
     (36, 40, true),
@@ -85,7 +85,7 @@ const TRAILER_FIELDS: &[(usize, usize, bool)] = &[
     (195, 200, false),
 ];
 
-/// The column that a fault names where this byte stands in this column, or 0 where it is carried.
+/// The column that a fault names if this byte is in this column, or 0 if it is carried.
 fn wanted(column: usize, first: usize, carried: bool, byte: u8) -> usize {
     if !carried {
         first
@@ -102,7 +102,14 @@ fn check_byte(rt: &impl Abort, bytes: &[u8; 200], want: usize, column: usize) {
             assert_eq!(rt; 0, want, "column {column}");
             assert!(rt; write_record(&record) == *bytes, "column {column}");
         }
-        Err(fault) => assert_eq!(rt; fault, RecordFault::BadColumn(0, want), "column {column}"),
+        Err(fault) => assert_eq!(rt;
+            fault,
+            RecordFault::BadColumn {
+                record: 0,
+                column: want
+            },
+            "column {column}"
+        ),
     }
 }
 
@@ -144,9 +151,17 @@ fn bytes_of_the_type(rt: HostRuntime) {
     for byte in 0..=255u8 {
         let fault = read_record(&with(LEG, 1, &[byte])).err();
         if byte < b'1' || byte > b'5' {
-            assert_eq!(rt; fault, Some(RecordFault::BadType(0)), "byte {byte}");
+            assert_eq!(rt;
+                fault,
+                Some(RecordFault::BadType { record: 0 }),
+                "byte {byte}"
+            );
         } else {
-            assert_ne!(rt; fault, Some(RecordFault::BadType(0)), "byte {byte}");
+            assert_ne!(rt;
+                fault,
+                Some(RecordFault::BadType { record: 0 }),
+                "byte {byte}"
+            );
         }
     }
 }

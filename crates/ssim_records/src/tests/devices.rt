@@ -46,20 +46,25 @@ impl Write for Halting {
 #[test]
 fn devices_that_fail(rt: HostRuntime) {
     let a = data_set();
-    check(&rt, &a, 700, (3, Some(RecordFault::ReaderNeverEnds(4))));
+    check(
+        &rt,
+        &a,
+        700,
+        (3, Some(RecordFault::ReaderNeverEnds { record: 4 })),
+    );
     check(
         &rt,
         &[b'1'; 1000],
         100,
-        (0, Some(RecordFault::ReaderNeverEnds(1))),
+        (0, Some(RecordFault::ReaderNeverEnds { record: 1 })),
     );
     assert_eq!(rt;
         outcome(&mut in_pieces(&a, 300, 2), 1000),
-        (1, Some(RecordFault::ReadFault(2)))
+        (1, Some(RecordFault::ReadFault { record: 2 }))
     );
     assert_eq!(rt;
         outcome(&mut Input::new(Halting { calls: 1 }), 1000),
-        (0, Some(RecordFault::ReadFault(1)))
+        (0, Some(RecordFault::ReadFault { record: 1 }))
     );
 }
 
@@ -72,7 +77,12 @@ fn fails_at_each_call(rt: HostRuntime) {
         let complete = k / 201;
         assert_eq!(rt;
             outcome(&mut in_pieces(&a, 1, k), 1000),
-            (complete, Some(RecordFault::ReadFault(complete + 1))),
+            (
+                complete,
+                Some(RecordFault::ReadFault {
+                    record: complete + 1
+                })
+            ),
             "call {k}"
         );
     }
@@ -87,7 +97,12 @@ fn a_refusal_stays(rt: HostRuntime) {
     let mut records = Records::new(1000);
     assert!(rt; matches!(records.next(&mut reader), Ok(Some((1, Record::Header(_))))));
     for _ in 0..3 {
-        assert!(rt; matches!(records.next(&mut reader), Err(RecordFault::ReadFault(2))));
+        assert!(rt;
+            matches!(
+                records.next(&mut reader),
+                Err(RecordFault::ReadFault { record: 2 })
+            )
+        );
         assert_eq!(rt; reader.calls, 300);
     }
 }
@@ -98,7 +113,9 @@ fn check_endless(rt: &impl Abort, bytes: &[u8], limit: u64, complete: u64) {
             outcome(&mut without_end(bytes, piece), limit),
             (
                 complete,
-                Some(RecordFault::ReaderNeverEnds(complete.wrapping_add(1)))
+                Some(RecordFault::ReaderNeverEnds {
+                    record: complete.wrapping_add(1)
+                })
             ),
             "limit {limit}, {piece} bytes at a time"
         );

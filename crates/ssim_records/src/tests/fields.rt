@@ -1,5 +1,5 @@
-//! What may stand in each kind of field, and which column a fault names: a column, the bytes that are put there, and the
-//! first column that then cannot stand, or 0 where the record stands.
+//! Valid and invalid texts of each kind of field, and the column that a fault names: a column, the bytes that are put there,
+//! and the column of the fault, or 0 if the record is valid.
 
 use super::*;
 

@@ -7,8 +7,18 @@ fn record_refusals(rt: HostRuntime) {
     let a = data_set();
     check(&rt, &a, 804, (4, None));
     check(&rt, front(&a, 803), 1000, (4, None));
-    check(&rt, front(&a, 802), 1000, (3, Some(RecordFault::Short(4))));
-    check(&rt, front(&a, 199), 1000, (0, Some(RecordFault::Short(1))));
+    check(
+        &rt,
+        front(&a, 802),
+        1000,
+        (3, Some(RecordFault::Short { record: 4 })),
+    );
+    check(
+        &rt,
+        front(&a, 199),
+        1000,
+        (0, Some(RecordFault::Short { record: 1 })),
+    );
     check(&rt, b"", 1000, (0, None));
 }
 
@@ -19,13 +29,19 @@ fn base_refusals(rt: HostRuntime) {
         &rt,
         &data_set_with(third, b"6"),
         1000,
-        (2, Some(RecordFault::BadType(3))),
+        (2, Some(RecordFault::BadType { record: 3 })),
     );
     check(
         &rt,
         &data_set_with(third + 36, b"Z1H"),
         1000,
-        (2, Some(RecordFault::BadColumn(3, 37))),
+        (
+            2,
+            Some(RecordFault::BadColumn {
+                record: 3,
+                column: 37,
+            }),
+        ),
     );
 }
 
@@ -37,7 +53,9 @@ fn cut_at_each_byte(rt: HostRuntime) {
         let complete = (len as u64 + 1) / 201;
         let ending = match len % 201 {
             0 | 200 => None,
-            _ => Some(RecordFault::Short(complete + 1)),
+            _ => Some(RecordFault::Short {
+                record: complete + 1,
+            }),
         };
         check(&rt, front(&a, len), 1000, (complete, ending));
     }
@@ -52,19 +70,59 @@ fn line_ends_and_fill(rt: HostRuntime) {
     bytes[405..605].copy_from_slice(CARRIER.as_slice());
     bytes[605..608].copy_from_slice(b"\r\r\n");
     check(&rt, &bytes[..605], 2000, (2, None));
-    check(&rt, &bytes[..808], 2000, (2, Some(RecordFault::BadType(4))));
-    check(&rt, &bytes[..700], 2000, (2, Some(RecordFault::Short(4))));
-    check(&rt, &bytes[..606], 2000, (2, Some(RecordFault::Short(4))));
+    check(
+        &rt,
+        &bytes[..808],
+        2000,
+        (2, Some(RecordFault::BadType { record: 4 })),
+    );
+    check(
+        &rt,
+        &bytes[..700],
+        2000,
+        (2, Some(RecordFault::Short { record: 4 })),
+    );
+    check(
+        &rt,
+        &bytes[..606],
+        2000,
+        (2, Some(RecordFault::Short { record: 4 })),
+    );
 }
 
 // Line ends before the first record are its first bytes.
 #[test]
 fn line_ends_alone(rt: HostRuntime) {
-    check(&rt, b"\n", 1000, (0, Some(RecordFault::Short(1))));
-    check(&rt, b"\n\r\n\n", 1000, (0, Some(RecordFault::Short(1))));
-    check(&rt, &[b'\n'; 199], 1000, (0, Some(RecordFault::Short(1))));
-    check(&rt, &[b'\n'; 200], 1000, (0, Some(RecordFault::BadType(1))));
-    check(&rt, &[b'\r'; 201], 1000, (0, Some(RecordFault::BadType(1))));
+    check(
+        &rt,
+        b"\n",
+        1000,
+        (0, Some(RecordFault::Short { record: 1 })),
+    );
+    check(
+        &rt,
+        b"\n\r\n\n",
+        1000,
+        (0, Some(RecordFault::Short { record: 1 })),
+    );
+    check(
+        &rt,
+        &[b'\n'; 199],
+        1000,
+        (0, Some(RecordFault::Short { record: 1 })),
+    );
+    check(
+        &rt,
+        &[b'\n'; 200],
+        1000,
+        (0, Some(RecordFault::BadType { record: 1 })),
+    );
+    check(
+        &rt,
+        &[b'\r'; 201],
+        1000,
+        (0, Some(RecordFault::BadType { record: 1 })),
+    );
 }
 
 // Two carriage returns between records: the first is no line end, so it begins the next record.
@@ -73,8 +131,8 @@ fn a_return_alone_begins_the_next_record(rt: HostRuntime) {
     for (between, want) in [
         (b"\r\n".as_slice(), (2, None)),
         (b"\n\r\n\n", (2, None)),
-        (b"\r\r\n", (1, Some(RecordFault::BadType(2)))),
-        (b"\n\r", (1, Some(RecordFault::BadType(2)))),
+        (b"\r\r\n", (1, Some(RecordFault::BadType { record: 2 }))),
+        (b"\n\r", (1, Some(RecordFault::BadType { record: 2 }))),
     ] {
         let mut bytes = [b'\n'; 404];
         bytes[..200].copy_from_slice(HEADER.as_slice());

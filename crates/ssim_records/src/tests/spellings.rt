@@ -145,22 +145,30 @@ fn values_of_the_columns(rt: HostRuntime) {
 #[test]
 fn names_of_the_refusals(rt: HostRuntime) -> Result<(), Fail> {
     for (fault, number, text) in [
-        (RecordFault::Short(4), 10, "Short record 4"),
-        (RecordFault::BadType(3), 11, "BadType record 3"),
+        (RecordFault::Short { record: 4 }, 10, "Short record 4"),
+        (RecordFault::BadType { record: 3 }, 11, "BadType record 3"),
         (
-            RecordFault::BadColumn(3, 37),
+            RecordFault::BadColumn {
+                record: 3,
+                column: 37,
+            },
             12,
             "BadColumn record 3 column 37",
         ),
-        (RecordFault::ReadFault(2), 13, "ReadFault record 2"),
         (
-            RecordFault::ReaderNeverEnds(5),
+            RecordFault::ReadFault { record: 2 },
+            13,
+            "ReadFault record 2",
+        ),
+        (
+            RecordFault::ReaderNeverEnds { record: 5 },
             14,
             "ReaderNeverEnds record 5",
         ),
     ] {
         assert_eq!(rt; fault.number(), number);
         assert_eq!(rt; fault.to_string(rt.alloc())?.as_str(), text);
+        assert!(rt; text.starts_with(fault.name()));
     }
     Ok(())
 }

@@ -1,4 +1,4 @@
-//! Lines on their way to a sink, gathered into blocks.
+//! A buffer of lines for a sink.
 
 ghost use Rattle.std.specs.Prelude.{◌≡◌, ◌↔◌, ◌≤◌, ◌+◌, ◌++◌, [], length, replicate, IsTrue, OnOk, OnErr};
 ghost use Rattle.std.specs.List.{flat_map};
@@ -10,17 +10,17 @@ ghost use Rattle.ssim_schedule.specs.Sinks.{CountsFault, TakesFront, TakesUpTo};
 use ssim_records::Sink;
 use std::marker::Model;
 
-/// How many bytes a block has room for: forty lines.
+/// The size of a block: forty lines.
 const ROOM: usize = 8040;
 
-/// A record that says nothing.
+/// A record of fill.
 const FILL: [u8; 200] = [b'0'; 200];
 
-/// The sink failed, or took no byte where there was one.
+/// The sink failed, or took none of the bytes it was given.
 #[derive(Clone, Copy, Debug)]
 pub(crate) struct SinkFailed;
 
-/// Bytes that wait for their sink, seen as their list. They stand inline, since writing takes no memory.
+/// Bytes for a sink, seen as their list. The buffer is an array, so writing allocates nothing.
 #[derive(Drop)]
 pub(crate) struct Block {
     bytes: [u8; ROOM],
@@ -76,7 +76,7 @@ impl Block {
     }
 }
 
-/// Hands all of the bytes to the sink, however many it takes at a time.
+/// Puts all of the bytes into the sink, however many it takes at a time.
 fn put_all<W: Sink>(out: &mut W, bytes: &[u8]) -> Result<(), SinkFailed>
     ensures ok { OnOk result (Appends (W.taken out.old) (W.taken out.new) bytes.now) }
     ensures err { OnErr result (TakesFront bytes.now (W.taken out.old) (W.taken out.new)) }
@@ -93,7 +93,7 @@ fn put_all<W: Sink>(out: &mut W, bytes: &[u8]) -> Result<(), SinkFailed>
     Ok(())
 }
 
-/// Hands the bytes of the block to the sink.
+/// Puts the bytes of the block into the sink, and empties the block.
 pub(crate) fn flush<W: Sink>(out: &mut W, block: &mut Block) -> Result<(), SinkFailed>
     ensures ok { OnOk result (Appends (W.taken out.old) (W.taken out.new) block.old) }
     ensures empty { OnOk result (block.new ≡ []) }
@@ -106,7 +106,7 @@ pub(crate) fn flush<W: Sink>(out: &mut W, block: &mut Block) -> Result<(), SinkF
     Ok(())
 }
 
-/// Puts a record with its LF behind the bytes of the block, which go to the sink first where it is full.
+/// Appends a record and LF to the block. If the block has no room for them, its bytes are put into the sink first.
 pub(crate) fn put_line<W: Sink>(
     out: &mut W,
     block: &mut Block,
@@ -124,7 +124,7 @@ pub(crate) fn put_line<W: Sink>(
     Ok(())
 }
 
-/// Puts so many records of fill.
+/// Puts `count` records of fill.
 pub(crate) fn put_fill<W: Sink>(
     out: &mut W,
     block: &mut Block,

@@ -1,4 +1,4 @@
-//! The lines of an export, from what is planned.
+//! The lines of an export, written from a plan.
 
 ghost use Rattle.std.specs.Prelude.{◌≡◌, ◌≤◌, ◌<◌, ◌+◌, ◌++◌, [], ◌∷◌, List, length, map, slice_index, IfOk, OnOk, OnErr};
 ghost use Rattle.std.specs.List.{All, flat_map};
@@ -19,7 +19,7 @@ use ssim_records::{
 };
 use ssim_values::{Airline, Flight, Period};
 
-/// Puts the export of a plan, all of it.
+/// Puts the whole export of a plan.
 pub(crate) fn put_export<W: Sink>(
     out: &mut W,
     header: &Header,
@@ -47,7 +47,7 @@ pub(crate) fn put_export<W: Sink>(
     flush(out, &mut block)
 }
 
-// A record, and fill up to five.
+// Puts one record, and fill up to five records.
 fn put_alone<W: Sink>(out: &mut W, block: &mut Block, one: &Record) -> Result<(), SinkFailed>
     ensures ok { OnOk result (TakesUpTo (block.old ++ section_bytes (one.now ∷ [])) block.new (W.taken out.old) (W.taken out.new)) }
     ensures err { OnErr result (TakesFront (block.old ++ section_bytes (one.now ∷ [])) (W.taken out.old) (W.taken out.new)) }
@@ -58,7 +58,7 @@ fn put_alone<W: Sink>(out: &mut W, block: &mut Block, one: &Record) -> Result<()
     put_fill(out, block, 4)
 }
 
-// The flights, and fill up to a multiple of five. Answers the next serial.
+// Puts the flights, and fill up to a multiple of five records. Returns the next serial.
 fn put_body<W: Sink>(
     out: &mut W,
     block: &mut Block,
@@ -85,7 +85,7 @@ fn fill_count(count: usize) -> usize
     (5 - count % 5) % 5
 }
 
-// The flights with serials from `serial` on. Answers the next serial.
+// Puts the flights with serials from `serial` on. Returns the next serial.
 fn put_flights<W: Sink>(
     out: &mut W,
     block: &mut Block,
@@ -116,7 +116,7 @@ fn put_flights<W: Sink>(
     Ok(next)
 }
 
-// The pieces of a flight as variations 1, 2, ..
+// Puts the pieces of a flight as itinerary variations 1, 2, .. Returns the next serial.
 fn put_pieces<W: Sink>(
     out: &mut W,
     block: &mut Block,
@@ -153,7 +153,7 @@ fn put_pieces<W: Sink>(
     Ok(next)
 }
 
-// The legs of a piece, each followed by its tails.
+// Puts the legs of a piece, each followed by its tails. Returns the next serial.
 fn put_legs<W: Sink>(
     out: &mut W,
     block: &mut Block,
@@ -184,7 +184,7 @@ fn put_legs<W: Sink>(
     Ok(next)
 }
 
-// The tails of a leg.
+// Puts the tails of a leg. Returns the next serial.
 fn put_tails<W: Sink>(
     out: &mut W,
     block: &mut Block,

@@ -1,20 +1,19 @@
-//! What is to be exported, made and measured before a byte is written.
+//! The plan of an export, made and measured before the first byte is written.
 
 ghost use Rattle.std.specs.Prelude.{◌≡◌, ◌≤◌, ◌<◌, ◌+◌, List, length, None, IfOk, IfErr, IfSome, IfNone, OnOk};
 ghost use Rattle.std.specs.List.{All};
 ghost use Rattle.ssim_values.specs.Flight.{IsFlight};
-ghost use Rattle.ssim_periods.specs.Calendar.{day_count};
 ghost use Rattle.ssim_schedule.specs.Plan.{IsRefusedAs, legs_count, pieces_count, plan_of, plan_refusal};
 
 use crate::export::ExportFault;
+use crate::flight_table::{FlightPeriods, place};
 use crate::itinerary::Itinerary;
 use crate::leg::PlacedLeg;
-use crate::schedule::{FlightPeriods, place};
 use ssim_values::{Flight, Memory, Period};
 use std::alloc::Global;
 use std::marker::Model;
 
-/// A flight and its pieces.
+/// A flight and its pieces, in order of first day.
 #[derive(Drop)]
 pub(crate) struct FlightPieces {
     flight: Flight,
@@ -47,20 +46,19 @@ impl FlightPieces {
 pub(crate) fn divide(alloc: Global, entries: &[FlightPeriods]) -> Result<Vec<FlightPieces>, Memory>
     ensures plan { IfOk result (λ plan. plan.items ≡ plan_of entries.now) }
     ensures flights { OnOk result (All (λ f. IsFlight f.flight) entries.now) }
-    ensures days { OnOk result (All (λ f. length f.periods.days ≡ day_count) entries.now) }
 {
     let mut plan = Vec::with_capacity(alloc, entries.len())?;
     for entry in entries {
         let _ = place(entry.flight);
         plan.push(FlightPieces {
             flight: entry.flight,
-            pieces: entry.periods.pieces()?,
+            pieces: entry.periods.held().pieces()?,
         })?;
     }
     Ok(plan)
 }
 
-/// Refuses the first flight with more than 99 pieces, or with which there are more than 999,999 records.
+/// Refuses the first flight that has more than 99 pieces, or that makes the number of records more than 999,999.
 pub(crate) fn measure(plan: &[FlightPieces]) -> Result<(), ExportFault>
     ensures ok { OnOk result (plan_refusal 2 plan.now ≡ None) }
     ensures err { IfErr result (λ fault. IsRefusedAs (plan_refusal 2 plan.now) fault) }
@@ -78,7 +76,7 @@ pub(crate) fn measure(plan: &[FlightPieces]) -> Result<(), ExportFault>
     Ok(())
 }
 
-// How many records there are behind these pieces, where so many stand before them and a trailer is to follow.
+// The number of records after these pieces, given the number before them. `None` if no trailer could follow.
 fn count_pieces(before: u32, pieces: &[(Period, Itinerary)]) -> Option<u32>
     requires { before < 999999 }
     ensures some { IfSome result (λ count. (count ≡ before + pieces_count pieces.now) × (count < 999999)) }

@@ -60,6 +60,18 @@ fn open_ends(rt: HostRuntime) -> Result<(), Fail> {
 }
 
 #[test]
+fn the_whole_calendar(rt: HostRuntime) -> Result<(), Fail> {
+    let alloc = rt.alloc();
+    let carrier = with(CARRIER, 15, b"01JAN0031DEC99");
+    let leg = with(LEG, 15, b"01JAN0031DEC99");
+    let set = lines(alloc, b"H12T", &[carrier, leg])?;
+    let want = export_of(alloc, &carrier, b"1", &[leg])?;
+    assert_eq!(rt; want.len(), 4020);
+    assert!(rt; exported(alloc, &set)?.bytes() == want.as_slice());
+    Ok(())
+}
+
+#[test]
 fn record_refusals(rt: HostRuntime) -> Result<(), Fail> {
     let alloc = rt.alloc();
     // within the trailer, within the fill, and within the carrier

@@ -1,11 +1,11 @@
 //! What sub-messages make of a schedule: pieces, findings, and exports as the format wants them.
 
 use crate::data::{CANCELLED_ON_TUESDAYS, CARRIER, LEG, STATIONS};
-use crate::schedule_tests::data::{export_of, lines, with};
+use crate::schedule_tests::data::{export_of, lines, numbered, with};
 use ssim_records::Bytes;
-use ssim_schedule::{Base, Finding, Schedule, Stations, resolve};
+use ssim_schedule::{Base, ExportFault, Finding, Schedule, Stations, resolve};
 use ssim_text::decode;
-use ssim_values::Flight;
+use ssim_values::{Day, Flight};
 use std::alloc::Global;
 use std::test::Fail;
 
@@ -203,9 +203,61 @@ fn cuts_of_a_period(rt: HostRuntime) -> Result<(), Fail> {
     let mut schedule = Schedule::of(&season)?;
     act(alloc, &mut schedule, &season, MONDAYS)?;
     let flight = Flight::new(544, b' ').ok_or("a flight")?;
-    for cut in schedule.cuts(&flight) {
-        assert!(rt; [9220, 9313, 9344, 9430].contains(cut));
+    assert_eq!(rt; schedule.cuts(&flight), [9220, 9313, 9344, 9430].as_slice());
+    Ok(())
+}
+
+/// A text that cancels LX1 on this number of dates, eight days apart, the first of which is 8 January 2025.
+fn dates_cancelled(alloc: Global, count: u16) -> Result<Vec<u8>, Fail> {
+    let mut text = Vec::from_slice(alloc, b"SSM\n01JUN00001E001\n")?;
+    for date in 0..count {
+        if 0 < date {
+            text.extend_from_slice(b"//\n")?;
+        }
+        let number = date.wrapping_mul(8).wrapping_add(9139);
+        let day = Day::from_number(number).ok_or("a day is in the calendar")?;
+        text.extend_from_slice(b"CNL\nLX1\n")?;
+        text.extend_from_slice(&day.write())?;
+        text.push(b' ')?;
+        text.extend_from_slice(&day.write())?;
+        text.extend_from_slice(&[b' ', b'0'.wrapping_add(day.weekday()), b'\n'])?;
     }
+    Ok(text)
+}
+
+/// The schedule of the base after the sub-messages of a text, each of which acts on one date.
+fn schedule_after(alloc: Global, base: &Base, text: &[u8]) -> Result<Schedule, Fail> {
+    let mut schedule = Schedule::of(base)?;
+    let message = decode(alloc, text)?;
+    let resolved = resolve(base, &message)?;
+    for (sub, dates) in message.subs().iter().zip(resolved.subs.as_slice()) {
+        let finding = schedule.apply_sub(base, &dates.with(&sub.action))?;
+        if counts(&finding) != [1, 0, 0, 0, 0] {
+            return Err("each sub-message acts on one date".into());
+        }
+    }
+    Ok(schedule)
+}
+
+#[test]
+fn ninety_nine_pieces(rt: HostRuntime) -> Result<(), Fail> {
+    let alloc = rt.alloc();
+    let years = with(CARRIER, 15, b"01JAN2531DEC27");
+    let leg = with(&with(LEG, 15, b"01JAN2531DEC27"), 6, b"0001");
+    let season = base(alloc, b"", &years, b"1", &[leg])?;
+    let schedule = schedule_after(alloc, &season, &dates_cancelled(alloc, 98)?)?;
+    let bytes = exported(alloc, &schedule, &season)?;
+    // five lines, five, 99 legs and one of fill, five
+    assert_eq!(rt; bytes.bytes().len(), 115 * 201);
+    let first = numbered(&piece(&leg, b"01", b"01JAN2507JAN251234567"), 3);
+    let last = numbered(&piece(&leg, b"99", b"24FEB2731DEC271234567"), 101);
+    assert!(rt; bytes.bytes().get(201 * 10..201 * 10 + 200) == Some(first.as_slice()));
+    assert!(rt; bytes.bytes().get(201 * 108..201 * 108 + 200) == Some(last.as_slice()));
+    let schedule = schedule_after(alloc, &season, &dates_cancelled(alloc, 99)?)?;
+    let mut none = Bytes::new(alloc);
+    let refused = schedule.export(&season, &mut none).err();
+    assert_eq!(rt; refused, Flight::new(1, b' ').map(ExportFault::Variations));
+    assert_eq!(rt; none.bytes().len(), 0);
     Ok(())
 }
 

@@ -56,7 +56,7 @@ fn resolve_refusals(rt: HostRuntime) -> Result<(), Fail> {
     let to_the_end = with(CARRIER, 15, b"01MAR9731DEC99");
     let late = with(&to_the_end, 29, b"01MAR97");
     let local = with(CARRIER, 2, b"L");
-    let cases: [(&[u8; 200], &[u8], (u8, usize)); 9] = [
+    let cases: [(&[u8; 200], &[u8], (u8, usize)); 10] = [
         (
             CARRIER,
             b"SSM\nLT\n01JUN00001E001\nCNL\nLX544\n01JUL25 07JUL25 2\n",
@@ -85,6 +85,12 @@ fn resolve_refusals(rt: HostRuntime) -> Result<(), Fail> {
         (
             &late,
             b"SSM\n29FEB00001E001\nCNL\nLX544\n29FEB 31DEC99 1234567\n",
+            (42, 0),
+        ),
+        // the date of the reference before the sub-messages
+        (
+            &late,
+            b"SSM\n29FEB00001E001\nCNL\nBA544\n01MAR97 01MAR97 1234567\n",
             (42, 0),
         ),
         // the airline before the dates, and the first sub-message before the second

@@ -1,7 +1,6 @@
 -- What the sub-messages so far leave, from which those that are left lead to what all of them leave.
 use Rattle.std.proofs.Common.{◌≡◌, ℕ, List, ◌++◌, drop}
-use Rattle.ssim_schedule.specs.ReadBack.{AreInOrder}
-use Rattle.ssim_schedule.specs.Schedule.{Table, days_in}
+use Rattle.ssim_schedule.specs.Schedule.{Table}
 use Rattle.ssim_schedule.specs.Stations.{Row}
 use Rattle.ssim_schedule.specs.declared.finding.Finding.{Finding}
 use Rattle.ssim_desk.specs.Kept.{Entry, Shows}
@@ -14,9 +13,5 @@ pub record Left (rows : List Row) (e : Entry) (place : ℕ) (before : Timetable)
   pub leads : after_subs rows (drop place e.message.subs) (drop place e.dates) between ≡ after_subs rows e.message.subs e.dates before
   pub finds : found ++ subs_findings rows (drop place e.message.subs) (drop place e.dates) between ≡ subs_findings rows e.message.subs e.dates before
 
-pub record Goes (rows : List Row) (e : Entry) (place : ℕ) (old now : Table) (found : List Finding) : Type 0 where
-  pub left : (before : Timetable) → Shows old before → Left rows e place before now found
-  pub in_order : AreInOrder (days_in old) → AreInOrder (days_in now)
-
 abbrev pub invariant-loop-place : goal.invariant-loop-place
-invariant-loop-place l = Goes l.base.rows l.held l.place l.initial.schedule l.schedule l.found.items
+invariant-loop-place l = (before : Timetable) → Shows l.initial.schedule before → Left l.base.rows l.held l.place before l.schedule l.found.items

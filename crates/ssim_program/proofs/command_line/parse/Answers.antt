@@ -4,21 +4,31 @@ use denote.Enum.Bare.{sameb}
 use Rattle.clap.specs.contracts.error.kind.ErrorKind.{the_type}
 use Rattle.clap.specs.declared.error.kind.ErrorKind.{ErrorKind}
 use Rattle.clap.specs.declared.error.kind.ErrorKind.TheVariants as kind
-use Rattle.ssim_program.proofs.Lines.{kind_read, line_read, none_read, request_read}
+use Rattle.ssim_program.proofs.Lines.{kind_read, line_read, names_none, names_read, none_read, request_read}
 use Rattle.ssim_program.proofs.command_line.parse.Goals as goal
 
-pub returns-in-Err : goal.returns-in-Err
-returns-in-Err c line spells =
+pub returns-in-Err-clause-spelled : goal.returns-in-Err-clause-spelled
+returns-in-Err-clause-spelled c line spells =
     let is = kind_read c.in-Err.error _ _ line spells c.in-Ok.ensures c.in-Err.ensures.passes in
     let bad : true ≡ false = sym (c.eq.ensures ∙ ap (λ (k : ErrorKind). sameb the_type k kind.OutOfMemory) (c.kind.ensures ∙ is)) ∙ c.if-eq.false in
     absurd (true≢false bad)
 
-pub returns-in-Some-read : goal.returns-in-Some-read
-returns-in-Some-read c line spells =
+pub returns-in-Some-read-clause-spelled : goal.returns-in-Some-read-clause-spelled
+returns-in-Some-read-clause-spelled c line spells =
     let m = c.in-Ok-try_get_matches_from in
     request_read line _ (line_read m.matches _ _ line _ _ _ spells c.in-Ok.ensures m.ensures.matches c.in-Some.ensures.name c.in-Some.ensures.rows c.in-Some-read.ensures)
 
-pub returns : goal.returns
-returns c line spells =
+pub returns-clause-spelled : goal.returns-clause-spelled
+returns-clause-spelled c line spells =
     let m = c.in-Ok-try_get_matches_from in
     absurd (none_read line (line_read m.matches _ _ line _ _ _ spells c.in-Ok.ensures m.ensures.matches c.in-Some.ensures.name c.in-Some.ensures.rows c.in-None.ensures))
+
+pub returns-in-Some-read-clause-named : goal.returns-in-Some-read-clause-named
+returns-in-Some-read-clause-named c =
+    let m = c.in-Ok-try_get_matches_from in
+    names_read m.matches _ _ _ _ c.in-Ok.ensures m.ensures.matches c.in-Some.ensures.name c.in-Some.ensures.rows _ m.ensures.kinds c.in-Some-read.ensures
+
+pub returns-clause-fault : goal.returns-clause-fault
+returns-clause-fault c =
+    let m = c.in-Ok-try_get_matches_from in
+    names_none m.matches _ _ _ _ c.in-Ok.ensures m.ensures.matches c.in-Some.ensures.name c.in-Some.ensures.rows m.ensures.kinds c.in-None.ensures

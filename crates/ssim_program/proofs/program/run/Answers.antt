@@ -1,53 +1,16 @@
--- The words of a command are parsed as it, or memory is wanted; so what clap shows, and no command, are no answers to them.
-use Rattle.std.proofs.Common.{subst}
-use Rattle.ssim_program.specs.Again.{WritesItself}
-use Rattle.ssim_program.specs.Line.{Line}
-use Rattle.ssim_program.specs.Made.{Leaves, Writes}
-use Rattle.ssim_program.specs.Told.{Refuses}
-use Rattle.ssim_program.specs.declared.refusal.Refusal.TheVariants as refused
-use Rattle.ssim_program.proofs.Telling.{memory_refuses}
-use Rattle.ssim_program.proofs.Faults.{none_differs, shown_differs}
+-- What the printer took is what its writer holds.
+use Rattle.std.proofs.Common.{rules, ℕ, List, Option, subst}
+use Rattle.std.specs.Io.KnownBytes.{Keeps}
+use Rattle.ssim_program.specs.Reasons.{IsRefused}
 use Rattle.ssim_program.proofs.program.run.Goals as goal
 
-pub returns-in-Ok-act-clause-done : goal.returns-in-Ok-act-clause-done
-returns-in-Ok-act-clause-done g c line spells zero =
-    subst (λ (l : Line). Writes l (g.S.Store.files c.args.store.now) (g.O.Write.contents c.args.out.now) (g.O.Write.contents c.act.new.out)) (c.in-Ok.ensures line spells) c.in-Ok-act.ensures.done
+pub returns-clause-quiet : goal.returns-clause-quiet
+returns-clause-quiet g c line spells zero =
+    subst (λ (t : Option (List ℕ)). Keeps (g.E.Write.contents c.args.err.now) t) (search rules) (c.run_to-status.ensures.quiet line spells zero)
 
-pub returns-in-Err-clause-refused : goal.returns-in-Err-clause-refused
-returns-in-Err-clause-refused g c line spells one =
-    subst (λ (l : Line). Leaves l (g.S.Store.files c.args.store.now) (g.O.Write.contents c.args.out.now) (g.O.Write.contents c.act.new.out)) (c.in-Ok.ensures line spells) c.in-Err.ensures.refused
-
-pub returns-in-Err-Shown-clause-known : goal.returns-in-Err-Shown-clause-known
-returns-in-Err-Shown-clause-known g c line spells = absurd (shown_differs _ _ c.in-Err-Shown.field-0-is (c.in-Err-Shown.ensures line spells))
-
-pub returns-in-Err-Shown-clause-done : goal.returns-in-Err-Shown-clause-done
-returns-in-Err-Shown-clause-done g c line spells zero = absurd (shown_differs _ _ c.in-Err-Shown.field-0-is (c.in-Err-Shown.ensures line spells))
-
-pub returns-in-Err-Shown-clause-quiet : goal.returns-in-Err-Shown-clause-quiet
-returns-in-Err-Shown-clause-quiet g c line spells zero = absurd (shown_differs _ _ c.in-Err-Shown.field-0-is (c.in-Err-Shown.ensures line spells))
-
-pub returns-in-Err-Shown-clause-refused : goal.returns-in-Err-Shown-clause-refused
-returns-in-Err-Shown-clause-refused g c line spells one = absurd (shown_differs _ _ c.in-Err-Shown.field-0-is (c.in-Err-Shown.ensures line spells))
-
-pub returns-in-Err-NoCommand-clause-known : goal.returns-in-Err-NoCommand-clause-known
-returns-in-Err-NoCommand-clause-known g c line spells = absurd (none_differs _ c.in-Err-NoCommand.field-0-is (c.in-Err-NoCommand.ensures line spells))
-
-pub returns-in-Ok-act-clause-again : goal.returns-in-Ok-act-clause-again
-returns-in-Ok-act-clause-again g c line spells zero =
-    subst (λ (l : Line). WritesItself l (g.O.Write.contents c.args.out.now) (g.O.Write.contents c.act.new.out)) (c.in-Ok.ensures line spells) c.in-Ok-act.ensures.again
-
-pub returns-in-Err-Shown-clause-again : goal.returns-in-Err-Shown-clause-again
-returns-in-Err-Shown-clause-again g c line spells zero = absurd (shown_differs _ _ c.in-Err-Shown.field-0-is (c.in-Err-Shown.ensures line spells))
-
-pub returns-in-Err-clause-told : goal.returns-in-Err-clause-told
-returns-in-Err-clause-told g c line spells one = (
-  c.in-Err.refusal,
-  subst (λ (l : Line). Refuses l (g.S.Store.files c.args.store.now) c.in-Err.refusal) (c.in-Ok.ensures line spells) c.in-Err.ensures.why,
-  c.refuse.ensures.told,
+pub returns-clause-refused : goal.returns-clause-refused
+returns-clause-refused g c line spells one = (
+  c.run_to-status.new.err.failures,
+  subst (λ (t : Option (List ℕ)). IsRefused line (g.S.Store.files c.args.store.now) (g.O.Write.contents c.args.out.now) (g.O.Write.contents c.run_to-status.new.out) (g.E.Write.contents c.args.err.now) t 0 c.run_to-status.new.err.failures) (search rules)
+      (c.run_to-status.ensures.refused line spells one),
 )
-
-pub returns-in-Err-Memory-clause-told : goal.returns-in-Err-Memory-clause-told
-returns-in-Err-Memory-clause-told g c line spells one = (refused.Memory, memory_refuses line (g.S.Store.files c.args.store.now), c.refuse-in-Err-Memory.ensures.told)
-
-pub returns-in-Err-Shown-clause-told : goal.returns-in-Err-Shown-clause-told
-returns-in-Err-Shown-clause-told g c line spells one = absurd (shown_differs _ _ c.in-Err-Shown.field-0-is (c.in-Err-Shown.ensures line spells))

@@ -30,19 +30,19 @@ loop-place-preserved c =
     ∙ ap (λ (k : ℕ). c.index-records-place.result ∷ drop k records) back in (
       omega (arith, c.loop-place.invariant.0),
       subst (λ (done : List Record). IsBuilt c.put.new.self done) (sym step) (c.in_ok-put.ensures (drop place records)
-          (built-same c.loop-place.building c.leave.new.self (drop place records) c.leave.ensures.schedule c.leave.ensures.waiting c.loop-place.invariant.1)),
+          (built-same c.loop-place.building c.leave.new.self (drop place records) c.leave.ensures.table c.leave.ensures.waiting c.loop-place.invariant.1)),
     )
 
 pub returns-clause-days : goal.returns-clause-days
 returns-clause-days c = λ g is.
     let records = c.args.records.now in
     let none : c.loop-place.place ≡ 0 = omega arith in
-    let built = built-same c.loop-place.building c.leave_latest.new.self (drop c.loop-place.place records) c.leave_latest.ensures.schedule c.leave_latest.ensures.waiting c.loop-place.invariant.1 in
+    let built = built-same c.loop-place.building c.leave_latest.new.self (drop c.loop-place.place records) c.leave_latest.ensures.table c.leave_latest.ensures.waiting c.loop-place.invariant.1 in
     built.days g is ∙ ap (λ (k : ℕ). days_of (drop k records) g) none
 
 pub returns-clause-cuts : goal.returns-clause-cuts
 returns-clause-cuts c = λ g is.
     let records = c.args.records.now in
     let none : c.loop-place.place ≡ 0 = omega arith in
-    let built = built-same c.loop-place.building c.leave_latest.new.self (drop c.loop-place.place records) c.leave_latest.ensures.schedule c.leave_latest.ensures.waiting c.loop-place.invariant.1 in
-    subst (λ (k : ℕ). AreAtPoints (cuts_in c.leave_latest.new.self.schedule g) g (drop k records)) none (built.cuts g is)
+    let built = built-same c.loop-place.building c.leave_latest.new.self (drop c.loop-place.place records) c.leave_latest.ensures.table c.leave_latest.ensures.waiting c.loop-place.invariant.1 in
+    subst (λ (k : ℕ). AreAtPoints (cuts_in c.leave_latest.new.self.table g) g (drop k records)) none (built.cuts g is)

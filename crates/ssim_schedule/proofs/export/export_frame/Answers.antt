@@ -1,8 +1,7 @@
 -- The plan is that of the schedule's flights, so its export is the export.
-use Rattle.std.proofs.Common.{◌≡◌, List, length, None, Err, rules, sym, ap, subst, ◌∙◌, arith}
+use Rattle.std.proofs.Common.{◌≡◌, List, None, Err, rules, sym, ap, subst, ◌∙◌, arith}
 use Rattle.std.specs.List.{All}
 use Rattle.ssim_values.specs.Flight.{IsFlight}
-use Rattle.ssim_periods.specs.Calendar.{day_count}
 use Rattle.ssim_schedule.specs.Export.{chapter7}
 use Rattle.ssim_schedule.specs.Plan.{Planned, frame_from, plan_bytes, plan_of, plan_refusal}
 use Rattle.ssim_schedule.specs.Schedule.{Table, days_in}
@@ -12,7 +11,7 @@ use Rattle.ssim_schedule.proofs.export.export_frame.Goals as goal
 
 pub returns-in_err-measure-clause-err : goal.returns-in_err-measure-clause-err
 returns-in_err-measure-clause-err g c =
-    let table = c.args.schedule.now in
+    let table = c.args.table.now in
     let frame = frame_from c.args.header.now c.args.carrier.now c.args.trailer.now in
     let plan = c.deref.result.now in
     let is : plan ≡ plan_of table = c.deref.ensures.value ∙ c.in_ok-plan.ensures.plan ∙ ap plan_of c.entries.ensures.value in
@@ -34,7 +33,7 @@ put_export-requires-clause-room g c =
 
 pub returns-in-Ok-clause-ok : goal.returns-in-Ok-clause-ok
 returns-in-Ok-clause-ok g c =
-    let table = c.args.schedule.now in
+    let table = c.args.table.now in
     let frame = frame_from c.args.header.now c.args.carrier.now c.args.trailer.now in
     let plan = c.deref-2.result.now in
     let is : plan ≡ plan_of table = c.deref-2.ensures.value ∙ c.in_ok-plan.ensures.plan ∙ ap plan_of c.entries.ensures.value in
@@ -44,7 +43,7 @@ returns-in-Ok-clause-ok g c =
 
 pub returns-clause-err : goal.returns-clause-err
 returns-clause-err g c =
-    let table = c.args.schedule.now in
+    let table = c.args.table.now in
     let frame = frame_from c.args.header.now c.args.carrier.now c.args.trailer.now in
     let plan = c.deref-2.result.now in
     let is : plan ≡ plan_of table = c.deref-2.ensures.value ∙ c.in_ok-plan.ensures.plan ∙ ap plan_of c.entries.ensures.value in
@@ -54,8 +53,7 @@ returns-clause-err g c =
 
 pub returns-in-Ok-clause-readable : goal.returns-in-Ok-clause-readable
 returns-in-Ok-clause-readable g c =
-    let table = c.args.schedule.now in
+    let table = c.args.table.now in
     let plan = c.deref-2.result.now in
     let is : plan ≡ plan_of table = c.deref-2.ensures.value ∙ c.in_ok-plan.ensures.plan ∙ ap plan_of c.entries.ensures.value in
-    let days : All (λ f. length f.periods.days ≡ day_count) table = subst (λ (xs : Table). All (λ f. length f.periods.days ≡ day_count) xs) c.entries.ensures.value c.in_ok-plan.ensures.days in
-    readable table plan is days c.in-Ok.ensures.writable
+    readable table plan is c.in-Ok.ensures.writable

@@ -1,6 +1,7 @@
 -- The records so far are gathered, and the bytes that are left give the others.
 use Rattle.std.proofs.Common.{◌≡◌, ℕ, ◌+◌, ◌-◌, ◌*◌, ◌≤◌, List}
 use Rattle.std.specs.Prelude.{Option, None}
+use Rattle.ssim_records.specs.Blocks.{CountsOn}
 use Rattle.ssim_records.specs.Reading.{Reading}
 use Rattle.ssim_records.specs.declared.record.Record.{Record}
 use Rattle.ssim_schedule.specs.Gathering.{IsSoFar}
@@ -8,7 +9,7 @@ use Rattle.ssim_schedule.specs.declared.gathering.Gathering.{Gathering}
 use Rattle.ssim_schedule.proofs.ReadingLemmas.{Numbered, Told}
 use Rattle.ssim_schedule.proofs.reading.gather.Given as goal
 
-pub record Goes {R : Type 0} (left : R → Option (List ℕ)) (failures : R → ℕ) (limit : ℕ) (before reader : R) (r : Reading) (g : Gathering) : Type 0 where
+pub record Goes {R : Type 0} (left : R → Option (List ℕ)) (came_of failures : R → ℕ) (limit : ℕ) (before reader : R) (r : Reading) (g : Gathering) : Type 0 where
   pub limit_is : r.limit ≡ limit
   pub open' : r.ended ≡ None
   pub counted : 200 * r.number ≤ limit + 1
@@ -16,10 +17,11 @@ pub record Goes {R : Type 0} (left : R → Option (List ℕ)) (failures : R → 
   pub done : List Numbered
   pub so_far : IsSoFar g earlier done
   pub told : Told limit (left before) (left reader) r done
+  pub counts : CountsOn (left before) (left reader) (came_of before) (came_of reader) 0 r.came
   pub no_failure : failures reader ≡ failures before
 
 abbrev pub invariant-loop-number : goal.invariant-loop-number
-invariant-loop-number g l = Goes g.R.Source.left g.R.Source.failures l.limit l.initial.reader l.reader l.records l.gathering
+invariant-loop-number g l = Goes g.R.Source.left g.R.Source.came g.R.Source.failures l.limit l.initial.reader l.reader l.records l.gathering
 
 abbrev pub decreases-loop-number : goal.decreases-loop-number
 decreases-loop-number g l = l.limit + 1 - 200 * l.records.number

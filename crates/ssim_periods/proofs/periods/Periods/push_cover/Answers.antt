@@ -31,48 +31,48 @@ pub last_in-requires-clause-ordered : goal.last_in-requires-clause-ordered
 last_in-requires-clause-ordered g c =
     let days = c.args.self.now.days in let is_in = has_value g.V.Value.alike days c.args.value.now in let first = c.loop-first.first in
     let len : length days ≡ 36525 = sym (ap (λ s. length s.days) c.self.view_is) ∙ length-each_day _ in let test = c.loop-first-test.true in
-    (step is_in (length days) first c.weekdays_from-days.result c.first_unlike-after.result (omega arith) (c.loop-first.invariant.own test) c.weekdays_from-days.ensures c.first_unlike-after.ensures).gt
+    (step is_in (length days) first c.weekdays_from-days.result c.break_after-after.result (omega arith) (c.loop-first.invariant.own test) c.weekdays_from-days.ensures c.break_after-after.ensures).gt
 
 pub last_in-requires-clause-own : goal.last_in-requires-clause-own
 last_in-requires-clause-own g c =
     let days = c.args.self.now.days in let is_in = has_value g.V.Value.alike days c.args.value.now in let first = c.loop-first.first in
     let len : length days ≡ 36525 = sym (ap (λ s. length s.days) c.self.view_is) ∙ length-each_day _ in let test = c.loop-first-test.true in
-    (step is_in (length days) first c.weekdays_from-days.result c.first_unlike-after.result (omega arith) (c.loop-first.invariant.own test) c.weekdays_from-days.ensures c.first_unlike-after.ensures).own
+    (step is_in (length days) first c.weekdays_from-days.result c.break_after-after.result (omega arith) (c.loop-first.invariant.own test) c.weekdays_from-days.ensures c.break_after-after.ensures).own
 
 pub period_of-period-requires-clause-ordered : goal.period_of-period-requires-clause-ordered
 period_of-period-requires-clause-ordered g c =
     let days = c.args.self.now.days in let is_in = has_value g.V.Value.alike days c.args.value.now in let first = c.loop-first.first in
     let len : length days ≡ 36525 = sym (ap (λ s. length s.days) c.self.view_is) ∙ length-each_day _ in let test = c.loop-first-test.true in let own = c.loop-first.invariant.own test in
-    let s = step is_in (length days) first c.weekdays_from-days.result c.first_unlike-after.result (omega arith) own c.weekdays_from-days.ensures c.first_unlike-after.ensures in
-    (step-last is_in (length days) first c.weekdays_from-days.result c.first_unlike-after.result c.last_in.result s own c.last_in.ensures).1
+    let s = step is_in (length days) first c.weekdays_from-days.result c.break_after-after.result (omega arith) own c.weekdays_from-days.ensures c.break_after-after.ensures in
+    (step-last is_in (length days) first c.weekdays_from-days.result c.break_after-after.result c.last_in.result s own c.last_in.ensures).1
 
 pub period_of-period-requires-clause-in_calendar : goal.period_of-period-requires-clause-in_calendar
 period_of-period-requires-clause-in_calendar g c =
     let days = c.args.self.now.days in let is_in = has_value g.V.Value.alike days c.args.value.now in let first = c.loop-first.first in
     let len : length days ≡ 36525 = sym (ap (λ s. length s.days) c.self.view_is) ∙ length-each_day _ in let test = c.loop-first-test.true in let own = c.loop-first.invariant.own test in
-    let s = step is_in (length days) first c.weekdays_from-days.result c.first_unlike-after.result (omega arith) own c.weekdays_from-days.ensures c.first_unlike-after.ensures in
-    let lt = (step-last is_in (length days) first c.weekdays_from-days.result c.first_unlike-after.result c.last_in.result s own c.last_in.ensures).2 in let le = s.le in
+    let s = step is_in (length days) first c.weekdays_from-days.result c.break_after-after.result (omega arith) own c.weekdays_from-days.ensures c.break_after-after.ensures in
+    let lt = (step-last is_in (length days) first c.weekdays_from-days.result c.break_after-after.result c.last_in.result s own c.last_in.ensures).2 in let le = s.le in
     omega arith
 
 pub period_of-period-requires-clause-mask : goal.period_of-period-requires-clause-mask
 period_of-period-requires-clause-mask g c =
     let days = c.args.self.now.days in let is_in = has_value g.V.Value.alike days c.args.value.now in let first = c.loop-first.first in
     let len : length days ≡ 36525 = sym (ap (λ s. length s.days) c.self.view_is) ∙ length-each_day _ in let test = c.loop-first-test.true in let own = c.loop-first.invariant.own test in
-    let s = step is_in (length days) first c.weekdays_from-days.result c.first_unlike-after.result (omega arith) own c.weekdays_from-days.ensures c.first_unlike-after.ensures in
+    let s = step is_in (length days) first c.weekdays_from-days.result c.break_after-after.result (omega arith) own c.weekdays_from-days.ensures c.break_after-after.ensures in
     record { seven = ap length c.weekdays_from-days.ensures; some = some-digit c.weekdays_from-days.result (slot first) 49 s.own }
 
 pub first_unlike-first-requires-in-loop-first : goal.first_unlike-first-requires-in-loop-first
 first_unlike-first-requires-in-loop-first g c =
     let days = c.args.self.now.days in let is_in = has_value g.V.Value.alike days c.args.value.now in let first = c.loop-first.first in
     let len : length days ≡ 36525 = sym (ap (λ s. length s.days) c.self.view_is) ∙ length-each_day _ in let test = c.loop-first-test.true in let own = c.loop-first.invariant.own test in
-    let le = (step is_in (length days) first c.weekdays_from-days.result c.first_unlike-after.result (omega arith) own c.weekdays_from-days.ensures c.first_unlike-after.ensures).le in
+    let le = (step is_in (length days) first c.weekdays_from-days.result c.break_after-after.result (omega arith) own c.weekdays_from-days.ensures c.break_after-after.ensures).le in
     (search rules, omega arith)
 
 pub loop-first-smaller : goal.loop-first-smaller
 loop-first-smaller g c =
-    let days = c.args.self.now.days in let is_in = has_value g.V.Value.alike days c.args.value.now in let first = c.loop-first.first in let after = c.first_unlike-after.result in
+    let days = c.args.self.now.days in let is_in = has_value g.V.Value.alike days c.args.value.now in let first = c.loop-first.first in let after = c.break_after-after.result in
     let len : length days ≡ 36525 = sym (ap (λ s. length s.days) c.self.view_is) ∙ length-each_day _ in let test = c.loop-first-test.true in let own = c.loop-first.invariant.own test in
-    let s = step is_in (length days) first c.weekdays_from-days.result after (omega arith) own c.weekdays_from-days.ensures c.first_unlike-after.ensures in
+    let s = step is_in (length days) first c.weekdays_from-days.result after (omega arith) own c.weekdays_from-days.ensures c.break_after-after.ensures in
     let gt = s.gt in
     let found : c.first_unlike-first-in-loop-first.result ≡ first_where is_in after (length days - after) = c.first_unlike-first-in-loop-first.ensures ∙ first-in_none is_in after (length days - after) in
     let low = first_where-low is_in after (length days - after) in
@@ -80,10 +80,10 @@ loop-first-smaller g c =
 
 pub loop-first-preserved : goal.loop-first-preserved
 loop-first-preserved g c =
-    let days = c.args.self.now.days in let v = c.args.label.now in let is_in = has_value g.V.Value.alike days c.args.value.now in let first = c.loop-first.first in let after = c.first_unlike-after.result in
+    let days = c.args.self.now.days in let v = c.args.label.now in let is_in = has_value g.V.Value.alike days c.args.value.now in let first = c.loop-first.first in let after = c.break_after-after.result in
     let mask = c.weekdays_from-days.result in let last = c.last_in.result in let items = c.loop-first.pieces.items in
     let len : length days ≡ 36525 = sym (ap (λ s. length s.days) c.self.view_is) ∙ length-each_day _ in let test = c.loop-first-test.true in let own = c.loop-first.invariant.own test in
-    let s = step is_in (length days) first mask after (omega arith) own c.weekdays_from-days.ensures c.first_unlike-after.ensures in
+    let s = step is_in (length days) first mask after (omega arith) own c.weekdays_from-days.ensures c.break_after-after.ensures in
     let l = step-last is_in (length days) first mask after last s own c.last_in.ensures in
     let e = c.period_of-period.ensures in
     let period : c.period_of-period.result ≡ period_at is_in first (break_after is_in first (length days)) = step-period is_in (length days) first mask after last c.period_of-period.result s own c.weekdays_from-days.ensures l.0 e.first e.last e.days in

@@ -4,9 +4,14 @@ use Rattle.std.specs.List.{All}
 use Rattle.ssim_records.specs.declared.record.Record.{Record}
 use Rattle.ssim_schedule.specs.Building.{IsClosed}
 use Rattle.ssim_schedule.specs.ReadBack.{AreInOrder}
+use Rattle.ssim_schedule.specs.SavedBase.{IsBaseRecords}
 use Rattle.ssim_schedule.specs.Timetable.{days_of}
 use Rattle.ssim_schedule.proofs.BaseFrame.{closed-records, exportable}
+use Rattle.ssim_schedule.proofs.SavedBases.{base-records}
 use Rattle.ssim_schedule.proofs.base.Base.records.Goals as goal
+
+pub returns-clause-is_base : goal.returns-clause-is_base
+returns-clause-is_base c = subst IsBaseRecords (sym c.deref.ensures.value) (base-records c.self.inside.records.items c.self.invariant.0)
 
 pub returns-clause-closed : goal.returns-clause-closed
 returns-clause-closed c = subst (λ (rs : List Record). All IsClosed rs) (sym c.deref.ensures.value) (closed-records c.self.inside.records.items c.self.invariant.0)

@@ -28,6 +28,6 @@ returns c =
           put-days c.flight.result r.name.flight c.in-Ok.period (period_of r) (leg_in c.in_ok-put.put.alone) _ _ _ g (c.flight.ensures ∙ ap (λ (n : Name). n.flight) name) period leg (c.in_ok-change.ensures.days g);
       tails = λ place. rw (← c.name-name.ensures) (c.take-tails.ensures.others place);
       cuts = λ g.
-          subst (λ (f : FlightNumber). AddsOnlyAt f (period_of r) g (cuts_in c.args.self.now.schedule g) (cuts_in c.change.new.self g)) (c.flight.ensures ∙ ap (λ (n : Name). n.flight) name)
-          (subst (λ (p : DayRange). AddsOnlyAt c.flight.result p g (cuts_in c.args.self.now.schedule g) (cuts_in c.change.new.self g)) period (c.in_ok-change.ensures.cuts g));
+          subst (λ (f : FlightNumber). AddsOnlyAt f (period_of r) g (cuts_in c.args.self.now.table g) (cuts_in c.change.new.self g)) (c.flight.ensures ∙ ap (λ (n : Name). n.flight) name)
+          (subst (λ (p : DayRange). AddsOnlyAt c.flight.result p g (cuts_in c.args.self.now.table g) (cuts_in c.change.new.self g)) period (c.in_ok-change.ensures.cuts g));
     }

@@ -1,7 +1,9 @@
 -- A flight more is planned.
-use Rattle.std.proofs.Common.{◌≡◌, length}
+use Rattle.std.proofs.Common.{ap, ◌∙◌}
 use Rattle.ssim_values.specs.Flight.{IsFlight}
-use Rattle.ssim_periods.specs.Calendar.{day_count}
+use Rattle.ssim_periods.specs.Days.{Seen}
+use Rattle.ssim_schedule.specs.Export.{pieces}
+use Rattle.ssim_schedule.specs.Timetable.{Legs}
 use Rattle.ssim_schedule.proofs.Each.{all_more}
 use Rattle.ssim_schedule.proofs.Planning.{planned_more}
 use Rattle.ssim_schedule.proofs.export.plan.divide.Goals as goal
@@ -12,7 +14,6 @@ loop-entry-preserved c =
     let i = c.loop-entry.entry-index in
     let entry = c.entry-item.result in
     record {
-      plan = planned_more entries i entry c.loop-entry.plan.items c.push.new.self.items c.in_ok-pieces.field-0.items c.loop-entry-test.true c.entry-item.is c.loop-entry.invariant.plan c.in_ok-pieces.ensures.pieces c.in_ok-push.ensures.items;
+      plan = planned_more entries i entry c.loop-entry.plan.items c.push.new.self.items c.in_ok-pieces.field-0.items c.loop-entry-test.true c.entry-item.is c.loop-entry.invariant.plan (c.in_ok-pieces.ensures.pieces ∙ ap (λ (p : Seen Legs). pieces p.days) c.held.ensures) c.in_ok-push.ensures.items;
       flights = all_more (λ f. IsFlight f.flight) entries i entry c.loop-entry-test.true c.entry-item.is c.loop-entry.invariant.flights c.place.ensures.flight;
-      days = all_more (λ f. length f.periods.days ≡ day_count) entries i entry c.loop-entry-test.true c.entry-item.is c.loop-entry.invariant.days c.in_ok-pieces.ensures.each_day;
     }

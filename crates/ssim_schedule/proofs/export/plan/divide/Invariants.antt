@@ -1,8 +1,7 @@
--- The flights so far are planned, exist, and have an itinerary for each day.
-use Rattle.std.proofs.Common.{◌≡◌, length, take}
+-- The flights so far are planned, and exist.
+use Rattle.std.proofs.Common.{◌≡◌, take}
 use Rattle.std.specs.List.{All}
 use Rattle.ssim_values.specs.Flight.{IsFlight}
-use Rattle.ssim_periods.specs.Calendar.{day_count}
 use Rattle.ssim_schedule.specs.Plan.{plan_of}
 use Rattle.ssim_schedule.proofs.export.plan.divide.Given as goal
 
@@ -10,5 +9,4 @@ abbrev pub invariant-loop-entry : goal.invariant-loop-entry
 invariant-loop-entry l = record {
   plan : l.plan.items ≡ plan_of (take l.entry-index l.entries);
   flights : All (λ f. IsFlight f.flight) (take l.entry-index l.entries);
-  days : All (λ f. length f.periods.days ≡ day_count) (take l.entry-index l.entries);
 }

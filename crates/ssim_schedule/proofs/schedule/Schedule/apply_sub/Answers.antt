@@ -1,8 +1,21 @@
 -- An action has at most twenty leg lines, so its new legs are numbered in order.
-use Rattle.ssim_schedule.proofs.InOrder.{order-kept}
+use Rattle.std.proofs.Common.{List, ap, ◌∙◌}
+use Rattle.ssim_schedule.specs.Acts.{itinerary_after}
+use Rattle.ssim_schedule.specs.Schedule.{Table, days_in}
+use Rattle.ssim_schedule.specs.Stations.{Row}
+use Rattle.ssim_schedule.specs.Timetable.{on_day}
+use Rattle.ssim_schedule.proofs.InOrder.{date_after, timetable-kept}
 use Rattle.ssim_schedule.proofs.schedule.Schedule.apply_sub.Goals as goal
 
-pub returns-clause-in_order : goal.returns-clause-in_order
-returns-clause-in_order c =
+pub invariant_of-self-2 : goal.invariant_of-self-2
+invariant_of-self-2 c =
     let sub = c.args.sub.now in
-    order-kept c.rows.result.now sub.action.now sub.flight sub.period c.args.self.now c.act.new.self c.lines_of.ensures.few c.in_ok-counts.ensures.days
+    timetable-kept c.rows.result.now sub.action.now sub.flight sub.period c.self.inside.table c.act.new.self c.lines_of.ensures.few c.in_ok-counts.ensures.days c.self.invariant
+
+pub returns-clause-each_date : goal.returns-clause-each_date
+returns-clause-each_date c = λ g n exists within.
+    let sub = c.args.sub.now in
+    let table = c.self.inside.table in
+    date_after c.rows.result.now sub.action.now sub.flight sub.period table c.act.new.self c.place.ensures.flight c.in_ok-counts.ensures.days c.self.invariant g n exists within
+    ∙ ap (λ (rows : List Row). itinerary_after rows sub.action.now sub.flight sub.period g n (on_day (days_in table g) n)) c.rows.ensures
+    ∙ ap (λ (t : Table). itinerary_after c.args.base.now.rows sub.action.now sub.flight sub.period g n (on_day (days_in t g) n)) c.self.view_is

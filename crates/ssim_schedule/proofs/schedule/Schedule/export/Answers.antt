@@ -1,8 +1,8 @@
 -- The header, the carrier and the trailer are those of the base.
-use Rattle.std.proofs.Common.{Result, Ok, Err, IfErr, subst}
+use Rattle.std.proofs.Common.{Result, Ok, Err, IfErr, OnOk, subst}
 use Rattle.ssim_schedule.specs.Export.{Frame, chapter7}
-use Rattle.ssim_schedule.specs.Plan.{Refuses, Writes}
-use Rattle.ssim_schedule.specs.Schedule.{days_in}
+use Rattle.ssim_schedule.specs.Plan.{ReadsBackBase, Refuses, RefusesBase, Writes, WritesBase}
+use Rattle.ssim_schedule.specs.Schedule.{Table, days_in}
 use Rattle.ssim_schedule.proofs.ChangeLemmas.{on_ok}
 use Rattle.ssim_schedule.proofs.ReadingBack.{frame-is, written_reads_back}
 use Rattle.ssim_schedule.proofs.SinkLemmas.{if_both}
@@ -16,19 +16,22 @@ pub returns-clause-ok : goal.returns-clause-ok
 returns-clause-ok g c =
     let f = c.carrier.ensures.exists in
     let same = frame-is f.0 c.header.result.now c.carrier.result.now c.trailer.result.now (c.header.ensures f.0 f.1) (c.carrier.ensures.carrier f.0 f.1) (c.trailer.ensures f.0 f.1) in
-    on_ok c.export_frame.result
-    (λ written. (f.0, f.1, subst (λ (frame : Frame). Writes g.W.Sink.taken g.W.Sink.failures (chapter7 frame (days_in c.args.self.now)) c.args.out.now c.export_frame.new.out) same written))
-    c.export_frame.ensures.ok
+    subst (λ (t : Table). OnOk c.export_frame.result (WritesBase g.W.Sink.taken g.W.Sink.failures c.args.base.now.records (days_in t) c.args.out.now c.export_frame.new.out)) c.self.view_is
+    (on_ok c.export_frame.result
+    (λ written. (f.0, f.1, subst (λ (frame : Frame). Writes g.W.Sink.taken g.W.Sink.failures (chapter7 frame (days_in c.self.inside.table)) c.args.out.now c.export_frame.new.out) same written))
+    c.export_frame.ensures.ok)
 
 pub returns-clause-err : goal.returns-clause-err
 returns-clause-err g c =
     let f = c.carrier.ensures.exists in
     let same = frame-is f.0 c.header.result.now c.carrier.result.now c.trailer.result.now (c.header.ensures f.0 f.1) (c.carrier.ensures.carrier f.0 f.1) (c.trailer.ensures f.0 f.1) in
-    if_err c.export_frame.result _ _
-    (λ fault refused. (f.0, f.1, subst (λ (frame : Frame). Refuses g.W.Sink.taken g.W.Sink.failures (chapter7 frame (days_in c.args.self.now)) c.args.out.now c.export_frame.new.out fault) same refused))
-    c.export_frame.ensures.err
+    subst (λ (t : Table). IfErr c.export_frame.result (λ fault. RefusesBase g.W.Sink.taken g.W.Sink.failures c.args.base.now.records (days_in t) c.args.out.now c.export_frame.new.out fault)) c.self.view_is
+    (if_err c.export_frame.result _ _
+    (λ fault refused. (f.0, f.1, subst (λ (frame : Frame). Refuses g.W.Sink.taken g.W.Sink.failures (chapter7 frame (days_in c.self.inside.table)) c.args.out.now c.export_frame.new.out fault) same refused))
+    c.export_frame.ensures.err)
 
 pub returns-clause-reads_back : goal.returns-clause-reads_back
 returns-clause-reads_back g c =
-    if_both c.export_frame.result (λ wrote readable order. written_reads_back g.W.Sink.taken g.W.Sink.failures c.args.base.now.records (days_in c.args.self.now) c.args.out.now c.export_frame.new.out c.header.result.now c.carrier.result.now c.trailer.result.now
-    c.export_bytes_read_back.ensures.read c.carrier.ensures.exports c.header.ensures c.carrier.ensures.carrier c.trailer.ensures wrote (readable order)) c.export_frame.ensures.ok c.export_frame.ensures.readable
+    subst (λ (t : Table). OnOk c.export_frame.result (ReadsBackBase g.W.Sink.taken c.args.base.now.records (days_in t) c.args.out.now c.export_frame.new.out)) c.self.view_is
+    (if_both c.export_frame.result (λ wrote readable. written_reads_back g.W.Sink.taken g.W.Sink.failures c.args.base.now.records (days_in c.self.inside.table) c.args.out.now c.export_frame.new.out c.header.result.now c.carrier.result.now c.trailer.result.now
+    c.export_bytes_read_back.ensures.read c.carrier.ensures.exports c.header.ensures c.carrier.ensures.carrier c.trailer.ensures wrote (readable c.self.invariant)) c.export_frame.ensures.ok c.export_frame.ensures.readable)

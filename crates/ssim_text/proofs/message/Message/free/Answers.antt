@@ -9,4 +9,4 @@ use Rattle.ssim_text.proofs.message.Message.free.Goals as goal
 pub returns-clause-bounded : goal.returns-clause-bounded
 returns-clause-bounded c =
     let m = c.self.inside.content in
-    subst (λ (x : MessageValue). AreFreeLinesBounded x.free) c.self.view_is (spelled_free_bounded m (canonical m) c.self.invariant)
+    subst (λ (x : MessageValue). AreFreeLinesBounded x.free) c.self.view_is (spelled_free_bounded m (canonical m) c.self.invariant.1)

@@ -1,0 +1,33 @@
+-- Why a command is refused, from what it calls.
+use Rattle.std.proofs.Common.{◌≡◌, ◌∙◌, sym, ap, inl, refl, ℕ, List, Option, Result, Ok, Err, IfErr}
+use Rattle.ssim_values.specs.Flight.{FlightNumber}
+use Rattle.ssim_records.specs.declared.record.Record.{Record}
+use Rattle.ssim_schedule.specs.Export.{Frame, chapter7, export_bytes, result_map}
+use Rattle.ssim_schedule.specs.Plan.{RefusesBase}
+use Rattle.ssim_schedule.specs.ReadBack.{SameExport}
+use Rattle.ssim_schedule.specs.Timetable.{Days, days_of}
+use Rattle.ssim_schedule.specs.declared.export.ExportFault.{ExportFault}
+use Rattle.ssim_schedule.specs.declared.export.ExportFault.TheVariants.{Variations, Records, WriteFault, Memory}
+use Rattle.ssim_program.specs.Files.{Files}
+use Rattle.ssim_program.specs.Line.{Line, Check, Tidy}
+use Rattle.ssim_program.specs.Reasons.{HasNoExport, Refuses}
+use Rattle.ssim_program.specs.declared.refusal.Refusal.TheVariants as refused
+use Rattle.ssim_program.proofs.Exporting.{AreDaysOf}
+
+module _ (told : SameExport) {W : Type 0} (taken : W → Option (List ℕ)) (failures : W → ℕ) (base : List Record) (days : FlightNumber → Days) (same : AreDaysOf base days) (old new : W) where
+  same_bytes : (frame : Frame) → chapter7 frame (days_of base) ≡ chapter7 frame days
+  same_bytes frame = ap (result_map export_bytes) (sym (told frame days (days_of base) same))
+
+  no_export : (fault : ExportFault) → RefusesBase taken failures base days old new fault → HasNoExport base (failures old) (failures new) fault
+  no_export (Variations flight) h = (h.0, h.1, same_bytes h.0 ∙ h.2.0)
+  no_export Records h = (h.0, h.1, same_bytes h.0 ∙ h.2.0)
+  no_export Memory h = tt
+  no_export WriteFault h = h.2.3
+
+  pub no_export_if : (r : Result (Unit {0}) ExportFault) → IfErr r (RefusesBase taken failures base days old new) → IfErr r (HasNoExport base (failures old) (failures new))
+  no_export_if (Ok x) h = tt
+  no_export_if (Err e) h = no_export e h
+
+pub memory_refuses : (line : Line) (files : Option Files) (m n : ℕ) → Refuses line files m n refused.Memory
+memory_refuses (Check name) files m n = inl (inl refl)
+memory_refuses (Tidy name) files m n = inl (inl refl)

@@ -1,0 +1,38 @@
+//! The time mode of a data set, and its column.
+
+ghost use Rattle.std.specs.Prelude.{◌≡◌};
+ghost use Rattle.ssim_records.specs.Columns.{time_mode_of};
+ghost use Rattle.ssim_records.specs.Carrier.{time_mode_text};
+
+/// Whether the times of a data set are UTC or local to their stations.
+#[derive(Clone, Copy, Debug, PartialEq, Eq)]
+pub enum TimeMode {
+    /// `U`.
+    Utc,
+    /// `L`.
+    Local,
+}
+
+/// The mode in a column.
+#[tactic(auto, unfolding(crate::specs::Columns::time_mode_of))]
+pub fn time_mode_of(text: &[u8]) -> Option<TimeMode>
+    ensures { result ≡ time_mode_of text.now }
+{
+    if text == b"U".as_slice() {
+        return Some(TimeMode::Utc);
+    }
+    if text == b"L".as_slice() {
+        return Some(TimeMode::Local);
+    }
+    None
+}
+
+/// The column of a mode.
+pub fn time_mode_text(mode: TimeMode) -> [u8; 1]
+    ensures { result ≡ time_mode_text mode }
+{
+    match mode {
+        TimeMode::Utc => *b"U",
+        TimeMode::Local => *b"L",
+    }
+}

@@ -1,0 +1,258 @@
+//! The periods of each flight, in the order of the flights.
+
+ghost use Rattle.std.specs.Prelude.{◌≡◌, ℕ, ◌<◌, ◌≤◌, nat_eq, if◌then◌else◌, List, [], length, true, All, Contains, IfOk, IfErr, OnOk, OnErr, map, slice_index_or};
+ghost use Rattle.std.specs.List.Sorted.{IsStrictlyIncreasing};
+ghost use Rattle.ssim_values.specs.Calendar.{weekday};
+ghost use Rattle.ssim_values.specs.Flight.{FlightNumber, IsFlight};
+ghost use Rattle.ssim_periods.specs.Calendar.{holds};
+ghost use Rattle.ssim_periods.specs.Days.{AddsOnly, changed_on, counts_on, each_day};
+ghost use Rattle.ssim_schedule.specs.ReadBack.{Rise, place_of};
+ghost use Rattle.ssim_schedule.specs.Timetable.{on_day};
+ghost use Rattle.ssim_schedule.specs.Schedule.{unflown};
+
+use crate::itinerary::Itinerary;
+use crate::leg::PlacedLeg;
+use crate::shared_periods::SharedPeriods;
+use ssim_periods::{Change, Periods};
+use ssim_values::{Day, Flight, Memory, Period};
+use std::alloc::Global;
+use std::marker::Model;
+
+/// A flight, and its itinerary on each date.
+#[derive(Drop)]
+pub struct FlightPeriods {
+    pub(crate) flight: Flight,
+    pub(crate) periods: SharedPeriods,
+}
+
+/// The itineraries of the flights that were named, by number and suffix of the flight. Their legs need not rise by sequence, as
+/// those of a `Schedule` do.
+#[derive(Drop)]
+pub(crate) struct FlightTable {
+    flights: Vec<FlightPeriods>,
+    alloc: Global,
+}
+
+impl Model for FlightTable {
+    ghost use Rattle.ssim_schedule.specs.Schedule.{Table, AreRising};
+
+    ghost Value = { Table };
+
+    ghost view = { λ s. s.flights.items };
+
+    ghost invariant = { λ s. AreRising s.flights.items };
+}
+
+impl FlightTable {
+    ghost use Rattle.ssim_schedule.specs.Schedule.{AddsOnlyAt, AreRising, IsAt, IsGapFor, cuts_in, days_in};
+
+    /// No flight flies on any date.
+    pub(crate) fn new(alloc: Global) -> FlightTable
+        ensures { result ≡ [] }
+    {
+        FlightTable {
+            flights: Vec::new(alloc),
+            alloc,
+        }
+    }
+
+    /// Entries of these flights, none of which flies on any date. With the entries made beforehand, no later one is inserted between others.
+    pub(crate) fn of_flights(alloc: Global, flights: &[Flight]) -> Result<FlightTable, Memory>
+        requires { Rise 0 flights.now }
+        ensures days { IfOk result (λ s. (g : FlightNumber) → days_in s g ≡ each_day (λ _. [])) }
+        ensures cuts { IfOk result (λ s. (g : FlightNumber) → cuts_in s g ≡ []) }
+    {
+        Ok(FlightTable {
+            flights: entries(alloc, flights)?,
+            alloc,
+        })
+    }
+
+    /// The legs of a flight on a date of origin. The list is empty if the flight does not fly on the date.
+    pub(crate) fn itinerary(&self, flight: &Flight, day: Day) -> &[PlacedLeg]
+        ensures { result.now ≡ slice_index_or (days_in self.now flight.now) day [] }
+    {
+        match self.search(*flight) {
+            Ok(place) => self.flights[place].periods.held().at(day).legs(),
+            Err(_) => &[],
+        }
+    }
+
+    /// The rising days at which a stored range of the flight begins, or the day after its last; none for a flight that was never named.
+    pub(crate) fn cuts(&self, flight: &Flight) -> &[u32]
+        ensures cuts { result.now ≡ cuts_in self.now flight.now }
+        ensures rising { IsStrictlyIncreasing result.now }
+        ensures in_calendar { All (λ cut. cut ≤ 36525) result.now }
+        ensures weekly { (m n : ℕ) → m ≤ n → n < 36525 → weekday m ≡ weekday n → ((cut : ℕ) → Contains result.now cut → m < cut → n < cut) → on_day (days_in self.now flight.now) m ≡ on_day (days_in self.now flight.now) n }
+    {
+        match self.search(*flight) {
+            Ok(place) => self.flights[place].periods.held().cuts(),
+            Err(_) => &[],
+        }
+    }
+
+    /// The same entries. The copy and the original share the periods of each flight until one of the two changes that flight.
+    pub(crate) fn copy(&self) -> Result<FlightTable, Memory>
+        ensures { IfOk result (λ copy. copy ≡ self.now) }
+    {
+        Ok(FlightTable {
+            flights: copies(self.alloc, &self.flights)?,
+            alloc: self.alloc,
+        })
+    }
+
+    /// Applies a change to a flight's itinerary on each date of a period. Returns how many of the dates were of each class.
+    pub(crate) fn change<C: Change<Itinerary>>(
+        &mut self,
+        flight: Flight,
+        period: &Period,
+        change: &C,
+    ) -> Result<[u32; 5], Memory>
+        ensures days { OnOk result ((g : FlightNumber) → days_in self.new g ≡ (if nat_eq (place_of flight) (place_of g) then changed_on (holds period.now) (C.outcome change.now) 0 (days_in self.old g) else days_in self.old g)) }
+        ensures cuts { OnOk result ((g : FlightNumber) → AddsOnlyAt flight period.now g (cuts_in self.old g) (cuts_in self.new g)) }
+        ensures counts { IfOk result (λ counts. counts ≡ counts_on (holds period.now) (C.class_of change.now) (days_in self.old flight)) }
+        ensures err { OnErr result (self.new ≡ self.old) }
+    {
+        match self.search(flight) {
+            Ok(place) => self.flights[place]
+                .periods
+                .apply(self.alloc, period, change),
+            Err(place) => self.change_first(place, flight, period, change),
+        }
+    }
+
+    /// Makes the dates of a flight that have equal itineraries share one copy of them.
+    pub(crate) fn share(&mut self, flight: Flight) -> Result<(), Memory>
+        ensures { self.new ≡ self.old }
+    {
+        if let Ok(place) = self.search(flight) {
+            let shared = self.flights[place].periods.held().shared()?;
+            self.flights[place].periods = SharedPeriods::of(self.alloc, shared)?;
+        }
+        Ok(())
+    }
+
+    /// Does the same for those of these flights that have at least `least` cuts.
+    pub(crate) fn share_where(&mut self, flights: &[Flight], least: usize) -> Result<(), Memory>
+        ensures { self.new ≡ self.old }
+    {
+        for flight in flights {
+            if self.cuts(flight).len() >= least {
+                self.share(*flight)?;
+            }
+        }
+        Ok(())
+    }
+
+    // `change` for a flight that has no entry yet. Its entry is inserted at `gap`.
+    fn change_first<C: Change<Itinerary>>(
+        &mut self,
+        gap: usize,
+        flight: Flight,
+        period: &Period,
+        change: &C,
+    ) -> Result<[u32; 5], Memory>
+        requires { IsGapFor self.old flight gap }
+        ensures days { OnOk result ((g : FlightNumber) → days_in self.new g ≡ (if nat_eq (place_of flight) (place_of g) then changed_on (holds period.now) (C.outcome change.now) 0 (days_in self.old g) else days_in self.old g)) }
+        ensures cuts { OnOk result ((g : FlightNumber) → AddsOnlyAt flight period.now g (cuts_in self.old g) (cuts_in self.new g)) }
+        ensures counts { IfOk result (λ counts. counts ≡ counts_on (holds period.now) (C.class_of change.now) (days_in self.old flight)) }
+        ensures err { OnErr result (self.new ≡ self.old) }
+    {
+        let mut periods = Periods::new(self.alloc);
+        let counts = periods.apply(period, change)?;
+        let periods = SharedPeriods::of(self.alloc, periods)?;
+        self.flights.insert(gap, FlightPeriods { flight, periods })?;
+        Ok(counts)
+    }
+
+    /// The allocator of its entries.
+    pub(crate) fn allocator(&self) -> Global {
+        self.alloc
+    }
+
+    /// A copy of the periods of a flight. The copy shares the itineraries.
+    pub(crate) fn copy_of(&self, flight: Flight) -> Result<Periods<Itinerary>, Memory>
+        ensures days { IfOk result (λ p. p.days ≡ days_in self.now flight) }
+        ensures cuts { IfOk result (λ p. p.cuts ≡ cuts_in self.now flight) }
+    {
+        match self.search(flight) {
+            Ok(place) => self.flights[place].periods.held().copy(),
+            Err(_) => Ok(Periods::new(self.alloc)),
+        }
+    }
+
+    /// Replaces the periods of a flight.
+    pub(crate) fn put(&mut self, flight: Flight, periods: Periods<Itinerary>) -> Result<(), Memory>
+        ensures days { OnOk result ((g : FlightNumber) → days_in self.new g ≡ (if nat_eq (place_of flight) (place_of g) then periods.days else days_in self.old g)) }
+        ensures cuts { OnOk result ((g : FlightNumber) → cuts_in self.new g ≡ (if nat_eq (place_of flight) (place_of g) then periods.cuts else cuts_in self.old g)) }
+        ensures err { OnErr result (self.new ≡ self.old) }
+    {
+        let periods = SharedPeriods::of(self.alloc, periods)?;
+        match self.search(flight) {
+            Ok(place) => {
+                self.flights[place] = FlightPeriods { flight, periods };
+                Ok(())
+            }
+            Err(gap) => {
+                self.flights.insert(gap, FlightPeriods { flight, periods })?;
+                Ok(())
+            }
+        }
+    }
+
+    /// The entries, by number and suffix of their flights.
+    pub(crate) fn entries(&self) -> &[FlightPeriods]
+        ensures value { result.now ≡ self.now }
+        ensures rising { AreRising self.now }
+    {
+        &self.flights
+    }
+
+    // The index of the flight's entry, or the index at which it would be inserted.
+    fn search(&self, flight: Flight) -> Result<usize, usize>
+        ensures found { IfOk result (IsAt self.now flight) }
+        ensures absent { IfErr result (IsGapFor self.now flight) }
+    {
+        self.flights
+            .binary_search_by_key(&place(flight), |f| place(f.flight))
+    }
+}
+
+fn entries(alloc: Global, flights: &[Flight]) -> Result<Vec<FlightPeriods>, Memory>
+    ensures { IfOk result (λ entries. entries.items ≡ map unflown flights.now) }
+{
+    let mut entries = Vec::with_capacity(alloc, flights.len())?;
+    for flight in flights {
+        entries.push(FlightPeriods {
+            flight: *flight,
+            periods: SharedPeriods::of(alloc, Periods::new(alloc))?,
+        })?;
+    }
+    Ok(entries)
+}
+
+fn copies(alloc: Global, flights: &[FlightPeriods]) -> Result<Vec<FlightPeriods>, Memory>
+    ensures { IfOk result (λ copies. copies.items ≡ flights.now) }
+{
+    let mut copies = Vec::with_capacity(alloc, flights.len())?;
+    for entry in flights {
+        copies.push(FlightPeriods {
+            flight: entry.flight,
+            periods: entry.periods.copy()?,
+        })?;
+    }
+    Ok(copies)
+}
+
+// The index of a flight among all flights, by number and then by suffix, the blank first.
+pub(crate) fn place(flight: Flight) -> u32
+    ensures value { result ≡ place_of flight }
+    ensures small { result < 270000 }
+    ensures flight { IsFlight flight }
+{
+    let suffix = match flight.suffix() {
+        b' ' => 0,
+        letter => letter as u32 - 64,
+    };
+    27 * flight.number() as u32 + suffix
+}
