@@ -4,7 +4,7 @@ use Rattle.std.specs.List.{slice_get}
 use Rattle.std.specs.declared.alloc.Global.{Global}
 use Rattle.std.specs.declared.vec.Vec.{Vec}
 use Rattle.ssim_schedule.specs.BaseSeen.{BaseSeen}
-use Rattle.ssim_schedule.specs.Resolve.{IsRefusedIn}
+use Rattle.ssim_schedule.specs.Resolve.{HasOneOutcome, IsRefusedIn}
 use Rattle.ssim_text.specs.Grammar.{OneMessage}
 use Rattle.ssim_text.specs.Message.{MessageValue}
 use Rattle.ssim_text.specs.declared.fault.TextFault.{TextFault}
@@ -67,29 +67,29 @@ spells_none base text text_fault.Memory r m says un = un
 spells_none base text (text_fault.Refused fault line) r m says un = un.0 m says.spelt
 
 -- a text that says a message is accepted, unless it is in conflict or memory is refused
-taken_or_not : OneMessage → (desk : DeskState) (text : List ℕ) (answer : Answer) (held : HeldMessages) (r : Reference) (m : MessageValue) → Says desk.base text r m → Takes desk text answer held
+taken_or_not : OneMessage → HasOneOutcome → (desk : DeskState) (text : List ℕ) (answer : Answer) (held : HeldMessages) (r : Reference) (m : MessageValue) → Says desk.base text r m → Takes desk text answer held
     → answer ≢ Refused Memory → ((q : Reference) → answer ≡ Refused (Conflict q) → ⊥) → is_accepted answer ≡ true
-taken_or_not one desk text Taken held r m says takes memory clash = refl
-taken_or_not one desk text Repeated held r m says takes memory clash = refl
-taken_or_not one desk text Merged held r m says takes memory clash = absurd takes
-taken_or_not one desk text (Refused Memory) held r m says takes memory clash = absurd (memory refl)
-taken_or_not one desk text (Refused (Text fault)) held r m says takes memory clash = absurd (spells_none desk.base text fault r m says takes.0)
-taken_or_not one desk text (Refused (Resolve fault)) held r m says takes memory clash =
+taken_or_not one outcome desk text Taken held r m says takes memory clash = refl
+taken_or_not one outcome desk text Repeated held r m says takes memory clash = refl
+taken_or_not one outcome desk text Merged held r m says takes memory clash = absurd takes
+taken_or_not one outcome desk text (Refused Memory) held r m says takes memory clash = absurd (memory refl)
+taken_or_not one outcome desk text (Refused (Text fault)) held r m says takes memory clash = absurd (spells_none desk.base text fault r m says takes.0)
+taken_or_not one outcome desk text (Refused (Resolve fault)) held r m says takes memory clash =
     let un = takes.0 in
     let same : un.message ≡ m = one un.message m _ un.spelt.spelled says.spelt.spelled in
-    absurd (resolves_or_not desk.base.records m says.resolved fault says.resolves (subst (λ x. IsRefusedIn desk.base.records x fault) same un.refused) un.of_message)
-taken_or_not one desk text (Refused (Conflict q)) held r m says takes memory clash = absurd (clash q refl)
-taken_or_not one desk text (Refused OtherBase) held r m says takes memory clash = absurd takes.0
-taken_or_not one desk text (Refused (Read fault)) held r m says takes memory clash = absurd takes.0
-taken_or_not one desk text (Refused (File offset)) held r m says takes memory clash = absurd takes.0
+    absurd (resolves_or_not outcome desk.base.records m says.resolved fault says.resolves (subst (λ x. IsRefusedIn desk.base.records x fault) same un.refused) un.of_message)
+taken_or_not one outcome desk text (Refused (Conflict q)) held r m says takes memory clash = absurd (clash q refl)
+taken_or_not one outcome desk text (Refused OtherBase) held r m says takes memory clash = absurd takes.0
+taken_or_not one outcome desk text (Refused (Read fault)) held r m says takes memory clash = absurd takes.0
+taken_or_not one outcome desk text (Refused (File offset)) held r m says takes memory clash = absurd takes.0
 
-pub offered_is_reached : OneMessage → OfferedIsReached
-offered_is_reached one run apart k d text answer r m is memory says =
+pub offered_is_reached : OneMessage → HasOneOutcome → OfferedIsReached
+offered_is_reached one outcome run apart k d text answer r m is memory says =
     let moment = at_step one run.start run.after run.steps run.answers run.in_range run.runs k (Take d text) answer is in
     let said = subst (λ base. Says base text.items r m) (sym (moment.so_far.base d)) says in (
       k,
       by_text text answer is
-          (taken_or_not one (desk_at moment.now d) text.items answer moment.acts.held r m said moment.acts.takes memory
+          (taken_or_not one outcome (desk_at moment.now d) text.items answer moment.acts.held r m said moment.acts.takes memory
           (λ q e. no_conflict one run apart k (Take d text) q (is.0, is.1 ∙ ap Some e)))
           says,
     )

@@ -6,7 +6,6 @@ pub mod Meanings
 pub mod Taking
 pub mod Reaching
 pub mod Moments
-pub mod SameBytes
 pub mod Agreeing
 pub mod Refusing
 pub mod Conflicts

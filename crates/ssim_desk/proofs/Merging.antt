@@ -5,7 +5,7 @@ use Rattle.std.specs.Ordering.{ordering_reverse}
 use Rattle.std.specs.declared.cmp.Ordering.{Ordering}
 use Rattle.std.specs.declared.cmp.Ordering.TheVariants.{Less, Equal, Greater}
 use Rattle.ssim_schedule.specs.BaseSeen.{BaseSeen}
-use Rattle.ssim_schedule.specs.Resolve.{IsRefusedIn}
+use Rattle.ssim_schedule.specs.Resolve.{HasOneOutcome, IsRefusedIn}
 use Rattle.ssim_schedule.specs.declared.resolving.ResolveFault.{ResolveFault}
 use Rattle.ssim_text.specs.Grammar.{OneMessage}
 use Rattle.ssim_text.specs.Message.{MessageValue}
@@ -15,14 +15,14 @@ use Rattle.ssim_text.specs.declared.fault.TextFault.TheVariants as text_fault
 use Rattle.ssim_text.specs.declared.reference.Reference.{Reference}
 use Rattle.ssim_desk.specs.Held.{DeskState, HeldMessages, Holds, Says, reference_cmp}
 use Rattle.ssim_desk.specs.Maps.{Agree, DifferAt, IsLeastConflict, union}
-use Rattle.ssim_desk.specs.Merging.{AreAlike, IsMergedTo, MergesAreDetermined, TakesAreDetermined, ThreeDesksMerge, merged, no_message, same, unresolved}
+use Rattle.ssim_desk.specs.Merging.{AreAlike, IsMergedTo, MergesAreDetermined, TakesAreDetermined, ThreeDesksMerge, merged, no_message, same}
 use Rattle.ssim_desk.specs.Steps.{IsInConflict, IsKnown, IsNew, IsUnresolved, IsUnspelt, Merges, Takes}
 use Rattle.ssim_desk.specs.declared.fault.DeskFault.TheVariants.{Memory, Text, Resolve, Conflict, OtherBase, Read, File}
 use Rattle.ssim_desk.specs.declared.steps.Answer.{Answer}
 use Rattle.ssim_desk.specs.declared.steps.Answer.TheVariants.{Taken, Repeated, Merged, Refused}
 use Rattle.ssim_desk.proofs.MapLemmas.{get-union, or_else, union-assoc, union-comm, union-idem}
 use Rattle.ssim_desk.proofs.References.{reference_apart, reference_total}
-use Rattle.ssim_desk.proofs.Refusing.{resolves_or_not}
+use Rattle.ssim_desk.proofs.Refusing.{one_refusal, resolves_or_not}
 use Rattle.ssim_desk.proofs.Taking.{says_message, says_reference}
 
 -- ---- merges
@@ -138,7 +138,7 @@ three_desks_merge a b c are =
 
 -- ---- texts
 
-module _ (one : OneMessage) (desk : DeskState) (text : List ℕ) where
+module _ (one : OneMessage) (outcome : HasOneOutcome) (desk : DeskState) (text : List ℕ) where
   not_spelt : (m : MessageValue) (fault : TextFault) → SpellsMessage m text → IsUnspelt text fault → ⊥
   not_spelt m text_fault.Memory spelt un = un
   not_spelt m (text_fault.Refused fault line) spelt un = un.0 m spelt
@@ -146,7 +146,7 @@ module _ (one : OneMessage) (desk : DeskState) (text : List ℕ) where
   not_unresolved : (r : Reference) (m : MessageValue) (fault : ResolveFault) → Says desk.base text r m → IsUnresolved desk text fault → ⊥
   not_unresolved r m fault says un =
       let same_message : un.message ≡ m = one un.message m _ un.spelt.spelled says.spelt.spelled in
-      resolves_or_not desk.base.records m says.resolved fault says.resolves (subst (λ x. IsRefusedIn desk.base.records x fault) same_message un.refused) un.of_message
+      resolves_or_not outcome desk.base.records m says.resolved fault says.resolves (subst (λ x. IsRefusedIn desk.base.records x fault) same_message un.refused) un.of_message
 
   -- what a text says is held under the same reference
   held_there : (r q : Reference) (m n x : MessageValue) → Says desk.base text r m → Says desk.base text q n → Holds desk q x → Holds desk r x
@@ -220,13 +220,16 @@ module _ (one : OneMessage) (desk : DeskState) (text : List ℕ) where
   as_unspelt f (Refused (Read fault)) y un is memory = absurd is.0
   as_unspelt f (Refused (File offset)) y un is memory = absurd is.0
 
-  as_unresolved : (f : ResolveFault) (b : Answer) (y : HeldMessages) → IsUnresolved desk text f → Takes desk text b y → b ≢ Refused Memory → AreAlike (Refused (Resolve f)) b × (y ≡ desk.held)
+  as_unresolved : (f : ResolveFault) (b : Answer) (y : HeldMessages) → IsUnresolved desk text f → Takes desk text b y → b ≢ Refused Memory → (b ≡ Refused (Resolve f)) × (y ≡ desk.held)
   as_unresolved f Taken y un is memory = absurd (not_unresolved is.reference is.message f is.says un)
   as_unresolved f Repeated y un is memory = let known = is.0 in absurd (not_unresolved known.reference known.message f known.says un)
   as_unresolved f Merged y un is memory = absurd is
   as_unresolved f (Refused Memory) y un is memory = absurd (memory refl)
   as_unresolved f (Refused (Text g)) y un is memory = absurd (not_spelt un.message g un.spelt is.0)
-  as_unresolved f (Refused (Resolve g)) y un is memory = (unresolved f g, is.1)
+  as_unresolved f (Refused (Resolve g)) y un is memory =
+      let other = is.0 in
+      let same_message : other.message ≡ un.message = one other.message un.message _ other.spelt.spelled un.spelt.spelled in
+      (ap (λ k. Refused (Resolve k)) (one_refusal outcome desk.base.records un.message g f (subst (λ x. IsRefusedIn desk.base.records x g) same_message other.refused) other.of_message un.refused un.of_message), is.1)
   as_unresolved f (Refused (Conflict q)) y un is memory = let clash = is.0 in absurd (not_unresolved q clash.message f clash.says un)
   as_unresolved f (Refused OtherBase) y un is memory = absurd is.0
   as_unresolved f (Refused (Read fault)) y un is memory = absurd is.0
@@ -244,11 +247,11 @@ module _ (one : OneMessage) (desk : DeskState) (text : List ℕ) where
   determined Merged b x y is_a is_b memory_a memory_b = absurd is_a
   determined (Refused Memory) b x y is_a is_b memory_a memory_b = absurd (memory_a refl)
   determined (Refused (Text f)) b x y is_a is_b memory_a memory_b = alike (Refused (Text f)) b x y (as_unspelt f b y is_a.0 is_b memory_b) is_a.1
-  determined (Refused (Resolve f)) b x y is_a is_b memory_a memory_b = alike (Refused (Resolve f)) b x y (as_unresolved f b y is_a.0 is_b memory_b) is_a.1
+  determined (Refused (Resolve f)) b x y is_a is_b memory_a memory_b = equals (Refused (Resolve f)) b x y desk.held (as_unresolved f b y is_a.0 is_b memory_b) is_a.1
   determined (Refused (Conflict r)) b x y is_a is_b memory_a memory_b = equals (Refused (Conflict r)) b x y desk.held (as_conflict r b y is_a.0 is_b memory_b) is_a.1
   determined (Refused OtherBase) b x y is_a is_b memory_a memory_b = absurd is_a.0
   determined (Refused (Read fault)) b x y is_a is_b memory_a memory_b = absurd is_a.0
   determined (Refused (File offset)) b x y is_a is_b memory_a memory_b = absurd is_a.0
 
-pub takes_are_determined : OneMessage → TakesAreDetermined
-takes_are_determined one desk text a b x y is_a is_b memory_a memory_b = determined one desk text a b x y is_a is_b memory_a memory_b
+pub takes_are_determined : OneMessage → HasOneOutcome → TakesAreDetermined
+takes_are_determined one outcome desk text a b x y is_a is_b memory_a memory_b = determined one outcome desk text a b x y is_a is_b memory_a memory_b

@@ -30,11 +30,11 @@ one_next from date a b is_a is_b = by (cases_lt a b) (cases_lt b a)
     by (inr le) (inl lt) = absurd (is_a.least b is_b.from_on lt is_b.has)
     by (inr le) (inr ge) = omega arith
 
-pub one_date : (from : ℕ) (date : GivenDate) (a b : ℕ) → Means from date a → Means from date b → a ≡ b
+one_date : (from : ℕ) (date : GivenDate) (a b : ℕ) → Means from date a → Means from date b → a ≡ b
 one_date from (Full day) a b is_a is_b = is_a ∙ sym is_b
 one_date from (Yearless date) a b is_a is_b = one_next from date a b is_a is_b
 
-pub one_end : (carrier : CarrierFields) (first : ℕ) (end : GivenEnd) (a b : ℕ) → MeansEnd carrier first end a → MeansEnd carrier first end b → a ≡ b
+one_end : (carrier : CarrierFields) (first : ℕ) (end : GivenEnd) (a b : ℕ) → MeansEnd carrier first end a → MeansEnd carrier first end b → a ≡ b
 one_end carrier first (Until date) a b is_a is_b = one_date first date a b is_a is_b
 one_end carrier first Open a b is_a is_b = is_a ∙ sym is_b
 
@@ -78,7 +78,7 @@ carrier_in other (Leg r) = other
 carrier_in other (Segment r) = other
 carrier_in other (Trailer r) = other
 
-pub one_carrier : (base : List Record) (f g : Frame) → HasFrame f base → HasFrame g base → f.carrier ≡ g.carrier
+one_carrier : (base : List Record) (f g : Frame) → HasFrame f base → HasFrame g base → f.carrier ≡ g.carrier
 one_carrier base f g in_f in_g =
     ap (carrier_in f.carrier) (ap (λ records. slice_index_or records 1 (Header f.header)) (sym in_f.1 ∙ in_g.1))
 

@@ -1,11 +1,10 @@
 -- Laws of merging, and what determines an answer.
 use Rattle.std.specs.Prelude.{◌≡◌, ◌≢◌, List, ℕ}
-use Rattle.ssim_schedule.specs.declared.resolving.ResolveFault.{ResolveFault}
 use Rattle.ssim_text.specs.declared.fault.TextFault.{TextFault}
 use Rattle.ssim_desk.specs.Held.{DeskState, HeldMessages}
 use Rattle.ssim_desk.specs.Maps.{Agree, union}
 use Rattle.ssim_desk.specs.Steps.{Merges, Takes}
-use Rattle.ssim_desk.specs.declared.fault.DeskFault.TheVariants.{Memory, Text, Resolve}
+use Rattle.ssim_desk.specs.declared.fault.DeskFault.TheVariants.{Memory, Text}
 use Rattle.ssim_desk.specs.declared.steps.Answer.{Answer}
 use Rattle.ssim_desk.specs.declared.steps.Answer.TheVariants.{Merged, Refused}
 
@@ -56,11 +55,10 @@ ThreeDesksMerge = (a b c : DeskState) → AreMergeable a b c → MergeFreely a b
 
 -- ---- what determines an answer
 
--- the same answer; or both say that the text is no message, or both that the message does not resolve, and may name different faults
+-- the same answer; or both say that the text is no message, and may name different faults of it
 pub data AreAlike : Answer → Answer → Type 0 where
   same : {a b : Answer} → a ≡ b → AreAlike a b
   no_message : (f g : TextFault) → AreAlike (Refused (Text f)) (Refused (Text g))
-  unresolved : (f g : ResolveFault) → AreAlike (Refused (Resolve f)) (Refused (Resolve g))
 
 -- unless memory is refused, the desk and the text determine the answer and what is held afterwards
 abbrev pub TakesAreDetermined : Type 0

@@ -6,7 +6,9 @@ ghost use Rattle.ssim_desk.specs.Meaning.{HasExport, HasMeaning, HasOneExport, H
 ghost use Rattle.ssim_desk.specs.Merging.{MergesAreDetermined, MergesAssociate, MergesCommute, MergesRepeat, TakesAreDetermined, ThreeDesksMerge};
 ghost use Rattle.ssim_desk.specs.Reach.{HoldsWhatReached};
 
-use ssim_schedule::laws::{bases_can_be_exported, written_bases_are_read};
+use ssim_schedule::laws::{
+    bases_can_be_exported, resolving_has_one_outcome, same_bytes_same_base, same_bytes_same_rows,
+};
 use ssim_text::laws::one_message;
 
 /// Any two desks agree if they began from the same bytes of a data set and of a station table, and the same messages reached them,
@@ -16,7 +18,8 @@ pub fn any_two_desks_agree()
     ensures { AnyTwoDesksAgree }
 {
     one_message();
-    written_bases_are_read();
+    same_bytes_same_base();
+    same_bytes_same_rows();
     bases_can_be_exported();
 }
 
@@ -27,6 +30,7 @@ pub fn no_conflict()
     ensures reached { OfferedIsReached }
 {
     one_message();
+    resolving_has_one_outcome();
 }
 
 /// After any steps a desk holds what it held at the start and the messages that reached it, and nothing else. Two desks that began
@@ -58,10 +62,11 @@ pub fn merging_is_free()
 {}
 
 /// Unless memory is refused, the messages that are held and the text, or the other desk, determine the answer and what is held
-/// afterwards. Two refusals of one text may name different faults of it.
+/// afterwards. Two refusals of a text that is no message may name different faults of it.
 pub fn answers_are_determined()
     ensures takes { TakesAreDetermined }
     ensures merges { MergesAreDetermined }
 {
     one_message();
+    resolving_has_one_outcome();
 }
