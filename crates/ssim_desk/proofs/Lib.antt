@@ -6,8 +6,10 @@ pub mod Meanings
 pub mod Taking
 pub mod Reaching
 pub mod Moments
-pub mod SameBytes
 pub mod Agreeing
+pub mod Refusing
+pub mod Conflicts
+pub mod Merging
 pub mod Shown
 pub mod Trails
 pub mod Entries

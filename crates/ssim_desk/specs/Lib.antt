@@ -3,6 +3,7 @@ pub mod Held
 pub mod Maps
 pub mod Meaning
 pub mod Steps
+pub mod Merging
 pub mod Reach
 pub mod Agreement
 pub mod Kept
