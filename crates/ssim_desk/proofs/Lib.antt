@@ -11,3 +11,13 @@ pub mod Refusing
 pub mod Conflicts
 pub mod Merging
 pub mod Shown
+pub mod Trails
+pub mod Entries
+pub mod Searching
+pub mod Changes
+pub mod Meant
+pub mod Merged
+pub mod Unions
+pub mod Exports
+pub mod Brought
+pub mod Lines

@@ -7,4 +7,8 @@ pub mod Merging
 pub mod Reach
 pub mod Agreement
 pub mod Kept
+pub mod Trail
+pub mod Lookup
+pub mod Union
+pub mod Desk
 pub mod Examples

@@ -30,6 +30,7 @@ mod itinerary;
 mod kept;
 pub mod laws;
 mod leg;
+mod leg_key;
 mod leg_names;
 mod line;
 mod new_legs;
