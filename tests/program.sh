@@ -2,19 +2,18 @@
 # Runs the built program on a few command lines and compares its status, standard output and standard error with what is
 # expected: program.sh [PROGRAM]. Without PROGRAM it is proved and built first. The last line is 'N passed, M failed'.
 set -u
+program=${1:+$(realpath -m "$1")}
 cd "$(dirname "$0")/.." || exit 2
 
-program=${1:-}
 if [ -z "$program" ]; then
     (cd crates/ssimdesk && rt run -- tidy - < stdin > /dev/null)
-    program=crates/ssimdesk/out/ssimdesk
+    program=$(realpath -m crates/ssimdesk/out/ssimdesk)
 fi
 if [ ! -x "$program" ]; then
     echo "program: $program is not built"
     echo "0 passed, 1 failed"
     exit 1
 fi
-program=$(realpath "$program")
 tidied=$(realpath crates/ssimdesk/stdout)
 room=$(mktemp -d)
 trap 'rm -rf "$room"' EXIT

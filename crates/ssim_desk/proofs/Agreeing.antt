@@ -5,7 +5,8 @@ use Rattle.std.specs.FinMap.{get, same_map}
 use Rattle.ssim_schedule.specs.BaseSeen.{BaseSeen, WasRead}
 use Rattle.ssim_schedule.specs.Export.{ExportRefusal}
 use Rattle.ssim_schedule.specs.ReadBack.{BasesExport}
-use Rattle.ssim_schedule.specs.Reading.{IsReadBack}
+use Rattle.ssim_schedule.specs.Reading.{SameBytesSameBase}
+use Rattle.ssim_schedule.specs.Stations.{SameBytesSameRows}
 use Rattle.ssim_text.specs.Grammar.{OneMessage}
 use Rattle.ssim_text.specs.Message.{MessageValue}
 use Rattle.ssim_text.specs.declared.reference.Reference.{Reference}
@@ -19,7 +20,6 @@ use Rattle.ssim_desk.proofs.Meanings.{has_export, has_meaning, has_one_export, h
 use Rattle.ssim_desk.proofs.Moments.{at_end, at_step}
 use Rattle.ssim_desk.proofs.Reaching.{SoFar}
 use Rattle.ssim_desk.proofs.References.{reference_apart, reference_total}
-use Rattle.ssim_desk.proofs.SameBytes.{one_base, one_table}
 
 same_option : (a b : Option MessageValue) → ((m : MessageValue) → a ≡ Some m → b ≡ Some m) → ((m : MessageValue) → b ≡ Some m → a ≡ Some m) → a ≡ b
 same_option None None f g = refl
@@ -80,10 +80,10 @@ module _ (one : OneMessage) (run : Run) where
 
 -- ---- the headline
 
-one_beginning : IsReadBack → (data_set stations : List ℕ) (v w : DeskState) → BeganFrom data_set stations v → BeganFrom data_set stations w → v ≡ w
-one_beginning back data_set stations v w from_v from_w =
-    let records = one_base back data_set from_v.limit from_w.limit v.base.records w.base.records from_v.notes from_w.notes from_v.read from_w.read in
-    let rows = one_table v.base.rows w.base.rows stations from_v.rows from_w.rows in
+one_beginning : SameBytesSameBase → SameBytesSameRows → (data_set stations : List ℕ) (v w : DeskState) → BeganFrom data_set stations v → BeganFrom data_set stations w → v ≡ w
+one_beginning same_base same_rows data_set stations v w from_v from_w =
+    let records = (same_base data_set from_v.limit from_w.limit v.base.records w.base.records from_v.notes from_w.notes from_v.read from_w.read).0 in
+    let rows = same_rows stations v.base.rows w.base.rows from_v.rows from_w.rows in
     let held : v.held ≡ w.held = from_v.nothing ∙ sym from_w.nothing in
     λ i. record { base = record { records = records i; rows = rows i }; held = held i }
 
@@ -111,7 +111,7 @@ agreed export v w is same =
     exports a is_a given (inl h) = has_one_export v given a h is_a
     exports a is_a given (inr h) = has_one_export v given a (subst (λ x. Exports x given) (sym same) h) is_a
 
-pub any_two_desks_agree : OneMessage → IsReadBack → BasesExport → AnyTwoDesksAgree
-any_two_desks_agree one back export here there d e data_set stations took from_here from_there =
+pub any_two_desks_agree : OneMessage → SameBytesSameBase → SameBytesSameRows → BasesExport → AnyTwoDesksAgree
+any_two_desks_agree one same_base same_rows export here there d e data_set stations took from_here from_there =
     agreed export (desk_at here.after d) (desk_at there.after e) (desk_after one here d took.here)
-    (same_messages_same_desk one here there d e took (one_beginning back data_set stations (desk_at here.start d) (desk_at there.start e) from_here from_there))
+    (same_messages_same_desk one here there d e took (one_beginning same_base same_rows data_set stations (desk_at here.start d) (desk_at there.start e) from_here from_there))

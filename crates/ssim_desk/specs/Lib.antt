@@ -3,7 +3,12 @@ pub mod Held
 pub mod Maps
 pub mod Meaning
 pub mod Steps
+pub mod Merging
 pub mod Reach
 pub mod Agreement
 pub mod Kept
+pub mod Trail
+pub mod Lookup
+pub mod Union
+pub mod Desk
 pub mod Examples

@@ -3,7 +3,6 @@ use Rattle.std.specs.Prelude.{◌≡◌, ◌≢◌, ◌++◌, Some}
 use Rattle.std.specs.declared.cmp.Ordering.{Ordering}
 use Rattle.std.specs.declared.cmp.Ordering.TheVariants.{Less}
 use Rattle.std.specs.FinMap.{FinMap, get, entries, from_entries}
-use Rattle.ssim_desk.specs.Held.{HeldMessages}
 
 module _ {K X : Type 0} {R : K → K → Ordering} where
   -- what either map has, and under a key of both what the first has
@@ -26,17 +25,3 @@ module _ {K X : Type 0} {R : K → K → Ordering} where
   pub record IsLeastConflict (m n : FinMap R X) (q : K) : Type 0 where
     pub differ : DifferAt m n q
     pub least : (p : K) → DifferAt m n p → R p q ≢ Less
-
--- ---- laws of merging
-
--- (a with b) with c holds what a with (b with c) holds
-abbrev pub MergesAssociate : Type 0
-MergesAssociate = (a b c : HeldMessages) → union (union a b) c ≡ union a (union b c)
-
--- a with b holds what b with a holds, where the two agree
-abbrev pub MergesCommute : Type 0
-MergesCommute = (a b : HeldMessages) → Agree a b → union a b ≡ union b a
-
--- a with itself holds what it held
-abbrev pub MergesRepeat : Type 0
-MergesRepeat = (a : HeldMessages) → union a a ≡ a

@@ -5,23 +5,24 @@ ghost use Rattle.std.specs.Prelude.{◌≡◌};
 use ssim_records::RecordFault;
 use ssim_schedule::ResolveFault;
 use ssim_text::{Reference, TextFault};
+use std::alloc::{AllocError, AllocFailed};
 
-/// Why a desk refuses a text, another desk or a file. Refused, it is as it was.
+/// Why a desk refuses a text, another desk or a file. The desk is unchanged.
 #[derive(Clone, Copy, Debug, PartialEq, Eq)]
 pub enum DeskFault {
-    /// 90.
+    /// 90: out of memory.
     Memory,
-    /// 20 to 29: the text spells no message.
+    /// 20 to 29: the text is no message.
     Text(TextFault),
     /// 40 to 43: the message does not resolve against the base.
     Resolve(ResolveFault),
     /// 60: another message is held under the reference.
     Conflict(Reference),
-    /// 61: the other desk began from another base.
+    /// 61: the other desk has another base.
     OtherBase,
     /// 13 or 14, with record number 0: the file was not read.
     Read(RecordFault),
-    /// 62: the file is no desk file; so many bytes stand before its first element that cannot stand.
+    /// 62: the file is no desk file; the number is that of the bytes before its first invalid element.
     File(u64),
 }
 
@@ -40,6 +41,62 @@ impl DeskFault {
             DeskFault::OtherBase => 61,
             DeskFault::Read(fault) => fault.number(),
             DeskFault::File(_) => 62,
+        }
+    }
+}
+
+impl From<ssim_values::Memory> for DeskFault {
+    ghost use Rattle.ssim_desk.specs.declared.fault.DeskFault.TheVariants.{Memory};
+
+    ghost from_gives = { λ _ e. e ≡ Memory };
+
+    fn from(_refused: ssim_values::Memory) -> DeskFault {
+        DeskFault::Memory
+    }
+}
+
+impl From<AllocError> for DeskFault {
+    ghost use Rattle.ssim_desk.specs.declared.fault.DeskFault.TheVariants.{Memory};
+
+    ghost from_gives = { λ _ e. e ≡ Memory };
+
+    fn from(_refused: AllocError) -> DeskFault {
+        DeskFault::Memory
+    }
+}
+
+impl<T: Drop> From<AllocFailed<T>> for DeskFault {
+    ghost use Rattle.ssim_desk.specs.declared.fault.DeskFault.TheVariants.{Memory};
+
+    ghost from_gives = { λ _ e. e ≡ Memory };
+
+    fn from(_refused: AllocFailed<T>) -> DeskFault {
+        DeskFault::Memory
+    }
+}
+
+impl From<TextFault> for DeskFault {
+    ghost use Rattle.ssim_desk.specs.Fault.{text_refused};
+
+    ghost from_gives = { λ fault e. e ≡ text_refused fault };
+
+    fn from(fault: TextFault) -> DeskFault {
+        match fault {
+            TextFault::Memory => DeskFault::Memory,
+            TextFault::Refused(_, _) => DeskFault::Text(fault),
+        }
+    }
+}
+
+impl From<ResolveFault> for DeskFault {
+    ghost use Rattle.ssim_desk.specs.Fault.{message_refused};
+
+    ghost from_gives = { λ fault e. e ≡ message_refused fault };
+
+    fn from(fault: ResolveFault) -> DeskFault {
+        match fault {
+            ResolveFault::Memory => DeskFault::Memory,
+            _ => DeskFault::Resolve(fault),
         }
     }
 }

@@ -1,12 +1,14 @@
 //! What holds of any desks, over the definitions of what texts and merges do.
 
-ghost use Rattle.ssim_desk.specs.Agreement.{AnyTwoDesksAgree, SameMessagesSameDesk};
+ghost use Rattle.ssim_desk.specs.Agreement.{AnyTwoDesksAgree, NoConflict, OfferedIsReached, SameMessagesSameDesk};
 ghost use Rattle.ssim_desk.specs.Examples;
-ghost use Rattle.ssim_desk.specs.Maps.{MergesAssociate, MergesCommute, MergesRepeat};
 ghost use Rattle.ssim_desk.specs.Meaning.{HasExport, HasMeaning, HasOneExport, HasOneMeaning};
+ghost use Rattle.ssim_desk.specs.Merging.{MergesAreDetermined, MergesAssociate, MergesCommute, MergesRepeat, TakesAreDetermined, ThreeDesksMerge};
 ghost use Rattle.ssim_desk.specs.Reach.{HoldsWhatReached};
 
-use ssim_schedule::laws::{bases_can_be_exported, written_bases_are_read};
+use ssim_schedule::laws::{
+    bases_can_be_exported, resolving_has_one_outcome, same_bytes_same_base, same_bytes_same_rows,
+};
 use ssim_text::laws::one_message;
 
 /// Any two desks agree if they began from the same bytes of a data set and of a station table, and the same messages reached them,
@@ -16,8 +18,19 @@ pub fn any_two_desks_agree()
     ensures { AnyTwoDesksAgree }
 {
     one_message();
-    written_bases_are_read();
+    same_bytes_same_base();
+    same_bytes_same_rows();
     bases_can_be_exported();
+}
+
+/// If no two different messages with one reference are held at the start or offered, no step is refused as a conflict, 60. So each
+/// message that a text says to a desk reaches this desk, unless the step runs out of memory.
+pub fn no_conflict()
+    ensures none { NoConflict }
+    ensures reached { OfferedIsReached }
+{
+    one_message();
+    resolving_has_one_outcome();
 }
 
 /// After any steps a desk holds what it held at the start and the messages that reached it, and nothing else. Two desks that began
@@ -39,9 +52,21 @@ pub fn one_meaning()
     bases_can_be_exported();
 }
 
-/// Merging is associative and idempotent, and commutative if no two different messages are held under one reference.
+/// Merging is associative and idempotent, and commutative if no two different messages are held under one reference. Three desks over
+/// one base that agree so are merged in any order and grouping: no merge is refused, unless it is out of memory.
 pub fn merging_is_free()
     ensures associative { MergesAssociate }
     ensures commutative { MergesCommute }
     ensures idempotent { MergesRepeat }
+    ensures three { ThreeDesksMerge }
 {}
+
+/// Unless memory is refused, the messages that are held and the text, or the other desk, determine the answer and what is held
+/// afterwards. Two refusals of a text that is no message may name different faults of it.
+pub fn answers_are_determined()
+    ensures takes { TakesAreDetermined }
+    ensures merges { MergesAreDetermined }
+{
+    one_message();
+    resolving_has_one_outcome();
+}

@@ -1,6 +1,6 @@
 //! Messages act on a schedule, sub-message by sub-message.
 
-ghost use Rattle.std.specs.Prelude.{◌≡◌, length, IfOk, OnOk};
+ghost use Rattle.std.specs.Prelude.{◌≡◌, IfOk, OnOk};
 ghost use Rattle.ssim_periods.specs.Days.{each_day};
 ghost use Rattle.ssim_schedule.specs.Acts.{finding_of};
 ghost use Rattle.ssim_desk.specs.Kept.{Shows, after_entry};
@@ -35,7 +35,6 @@ pub(crate) fn act(
     schedule: &mut Schedule,
     held: &Held,
 ) -> Result<Vec<Finding>, Memory>
-    requires { length held.now.dates ≡ length held.now.message.subs }
     ensures shows { OnOk result ((before : Timetable) → Shows schedule.old before → Shows schedule.new (after_entry base.now.rows held.now before)) }
     ensures found { IfOk result (λ found. (before : Timetable) → Shows schedule.old before → found.items ≡ subs_findings base.now.rows held.now.message.subs held.now.dates before) }
 {

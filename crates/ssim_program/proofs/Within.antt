@@ -1,10 +1,10 @@
 -- A data set within the limit is never refused for its length: that refusal needs bytes after the limit.
-use Rattle.std.proofs.Common.{◌≡◌, ◌≤◌, ◌<◌, ◌+◌, ◌-◌, ◌++◌, ℕ, List, [], ◌∷◌, length, Option, Some, None, Result, Ok, Err, IfErr, sym, subst, inl, inr, arith}
+use Rattle.std.proofs.Common.{◌≡◌, ◌≤◌, ◌<◌, ◌-◌, ◌++◌, ℕ, List, [], ◌∷◌, length, Option, Some, None, Result, Ok, Err, IfErr, subst, inl, inr, arith}
 use Rattle.ssim_records.specs.Frames.{others}
 use Rattle.ssim_records.specs.declared.fault.RecordFault.{RecordFault}
 use Rattle.ssim_records.specs.declared.fault.RecordFault.TheVariants.{Short, BadType, BadColumn, ReadFault, ReaderNeverEnds}
 use Rattle.ssim_records.specs.declared.record.Record.{Record}
-use Rattle.ssim_schedule.specs.Base.{Ending, Done, Broken, Outcome, at_end, at_record, first_refusal, kept, missing, refusal_at, unless_refused}
+use Rattle.ssim_schedule.specs.Base.{Ending, Done, Broken, at_record, first_refusal, kept, missing, refusal_at, unless_refused}
 use Rattle.ssim_schedule.specs.Reading.{Answers, FailsAs, Gives, IsReadAs}
 use Rattle.ssim_schedule.specs.declared.base.BaseRead.{BaseRead}
 use Rattle.ssim_schedule.specs.declared.fault.BaseFault.{BaseFault}

@@ -8,7 +8,7 @@ use Rattle.ssim_program.specs.Files.{Files, file_of}
 use Rattle.ssim_program.specs.Line.{Line, Text, Check, Tidy}
 use Rattle.ssim_program.specs.Made.{IsExportOf, Makes, file_limit}
 
--- the bytes are read as records, none of which is refused and of which nothing is noted, and they are the export of their base
+-- the bytes are read as the records of a base, without a refusal or a note, and are the export of that base
 pub record ReadsAsItself (bytes : List ℕ) : Type 0 where
   pub count : ℕ
   pub records : List (ℕ × Record)
@@ -21,12 +21,12 @@ pub record ReadsAsItself (bytes : List ℕ) : Type 0 where
 abbrev pub GrowsByItself : Option (List ℕ) → Option (List ℕ) → Type 0
 GrowsByItself before after = (bytes : List ℕ) × ReadsAsItself bytes × Appends before after bytes
 
--- what a command that was done wrote, where it is `tidy`
+-- what `tidy` wrote; nothing is said of other commands
 abbrev pub WritesItself : Line → Option (List ℕ) → Option (List ℕ) → Type 0
 WritesItself (Check name) before after = Unit {0}
 WritesItself (Tidy name) before after = GrowsByItself before after
 
--- of a file of such bytes, `tidy` makes the same bytes
+-- from a file of such bytes `tidy` makes the same bytes
 abbrev pub TidiesOnce : Type 0
 TidiesOnce = (all : Files) (name : Text) (bytes again : List ℕ) → ReadsAsItself bytes
     → file_of all name ≡ Some bytes → length bytes ≤ file_limit → Makes (Tidy name) (Some all) again → again ≡ bytes

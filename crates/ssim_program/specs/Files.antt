@@ -11,13 +11,13 @@ Files = List (List ℕ × List ℕ)
 abbrev pub file_of : Files → List ℕ → Option (List ℕ)
 file_of all name = option_map (λ f. f.1) (find (λ f. bytes_eq f.0 name) all)
 
--- a load gives the file, and is a fault only where there is none within the limit
+-- a load gives the file, and fails only if there is none within the limit
 abbrev pub LoadsFile : {A : Type 0} → Files → List ℕ → ℕ → Result (Vec ℕ A) StoreFault → Type 0
 LoadsFile all name limit (Ok v) = file_of all name ≡ Some v.items
 LoadsFile all name limit (Err fault.Memory) = ⊤
 LoadsFile all name limit (Err fault.Fault) = IfSome (file_of all name) (λ bytes. limit < length bytes)
 
--- a file that is kept comes first, and one that is not leaves all as it was
+-- a file that is kept comes first; after a fault the files are as they were
 abbrev pub KeepsFile : Option Files → Option Files → List ℕ → List ℕ → Result ⊤ StoreFault → Type 0
 KeepsFile old new name bytes (Ok x) = new ≡ option_map (λ all. (name, bytes) ∷ all) old
 KeepsFile old new name bytes (Err e) = new ≡ old

@@ -1,4 +1,4 @@
--- What the commands make of a data set, and what `out` holds then.
+-- What the commands make from a data set, and what `out` holds afterwards.
 use Rattle.std.specs.Prelude.{◌≡◌, ◌⊎◌, ℕ, ◌<◌, IfSome, List, ◌++◌, codes, length, Option, Some, Ok, Err}
 use Rattle.std.specs.List.{flat_map}
 use Rattle.std.specs.Io.KnownBytes.{Appends, Keeps}
@@ -26,7 +26,7 @@ use Rattle.ssim_program.specs.declared.refusal.Refusal.TheVariants as refused
 use Rattle.ssim_program.specs.declared.printed.Printed.{Printed}
 use Rattle.ssim_program.specs.declared.printed.Printed.TheVariants as printed
 
--- ---- what is made of a base
+-- ---- from a base
 
 -- the bytes are the canonical export of these records
 abbrev pub IsExportOf : List Record → List ℕ → Type 0
@@ -48,13 +48,13 @@ checked_lines base flights notes =
 abbrev pub AreLinesOn : List Record → List Note → List ℕ → Type 0
 AreLinesOn base notes bytes = (flights : List FlightNumber) × AreFlights base flights × (bytes ≡ checked_lines base flights notes)
 
--- ---- what is made of a file
+-- ---- from a file
 
 -- the most bytes that a file may have
 abbrev pub file_limit : ℕ
 file_limit = 268435456
 
--- the file of this name has these bytes, where the files are known
+-- the file of this name has these bytes, if the contract can see the files
 abbrev pub HasFile : Option Files → Text → List ℕ → Type 0
 HasFile files name bytes = IfSome files (λ all. file_of all name ≡ Some bytes)
 
@@ -75,7 +75,7 @@ RefusesFile files name refusal =
     ⊎ ((refusal_text refusal ≡ codes "refused 91 File " ++ name) × IfSome files (λ all. IfSome (file_of all name) (λ bytes. file_limit < length bytes)))
     ⊎ ((fault : BaseFault) × (refusal ≡ refusal_of_base fault) × IsOfBytes fault × ReadsFile files name (Err fault))
 
--- these are the bytes that a command makes of the files
+-- these are the bytes that a command makes from the files
 abbrev pub Makes : Line → Option Files → List ℕ → Type 0
 Makes (Check name) files bytes = (base : List Record) × (notes : List Note) × ReadsFile files name (Ok (base, notes)) × AreLinesOn base notes bytes
 Makes (Tidy name) files bytes = (base : List Record) × (notes : List Note) × ReadsFile files name (Ok (base, notes)) × IsExportOf base bytes

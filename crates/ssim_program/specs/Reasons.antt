@@ -1,4 +1,4 @@
--- Why a command is refused, and what `err` holds then.
+-- Why a command is refused, and what `err` holds afterwards.
 use Rattle.std.specs.Prelude.{◌≡◌, ◌⊎◌, ℕ, List, ⊤, Option, Ok, Err}
 use Rattle.ssim_records.specs.declared.record.Record.{Record}
 use Rattle.ssim_schedule.specs.Base.{airline_of}
@@ -17,7 +17,7 @@ use Rattle.ssim_program.specs.Refusal.{refusal_of_export, refusal_text}
 use Rattle.ssim_program.specs.declared.refusal.Refusal.{Refusal}
 use Rattle.ssim_program.specs.declared.refusal.Refusal.TheVariants as refused
 
--- ---- why, where `out` counted `old` failures before and `new` after
+-- ---- why; `out` counted `old` failures before and `new` after
 
 -- these records have no export, for a flight or for the number of records; or `out` failed; or memory ran out
 abbrev pub HasNoExport : List Record → ℕ → ℕ → ExportFault → Type 0

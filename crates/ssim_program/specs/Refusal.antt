@@ -49,7 +49,7 @@ refusal_of_record (fault.BadColumn n column) = refusal.BadColumn n column
 refusal_of_record (fault.ReadFault n) = refusal.ReadFault n
 refusal_of_record (fault.ReaderNeverEnds n) = refusal.ReaderNeverEnds n
 
--- the record cannot stand where it does
+-- the record is not allowed at its place
 abbrev pub refusal_at : ℕ → BaseRefusal → Refusal
 refusal_at n refused.BadType = refusal.BadType n
 refusal_at n refused.OpenEnd = refusal.BadColumn n 22

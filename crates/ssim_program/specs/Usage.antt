@@ -1,5 +1,5 @@
 -- Which words are a command, and which are wrong: by what `clap` finds in them.
-use Rattle.std.specs.Prelude.{◌≡◌, ◌⊎◌, Bool, true, false, List, [], Option, Some, ⊤}
+use Rattle.std.specs.Prelude.{◌≡◌, Bool, true, false, List, [], Some, ⊤}
 use Rattle.clap.specs.Faults.{fault_of}
 use Rattle.clap.specs.Kinds.{IsAmong}
 use Rattle.clap.specs.Simple.{subcommand_of}

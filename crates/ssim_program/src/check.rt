@@ -1,6 +1,6 @@
 //! The command `check`: notes on a data set, and a summary.
 
-ghost use Rattle.std.specs.Prelude.{◌≡◌, ◌++◌, IfErr, IfOk, OnErr, OnOk, length};
+ghost use Rattle.std.specs.Prelude.{◌≡◌, ◌++◌, true, IfErr, IfOk, OnErr, OnOk, length};
 ghost use Rattle.ssim_schedule.specs.Export.{line};
 ghost use Rattle.ssim_program.specs.Line.{Check};
 ghost use Rattle.ssim_program.specs.Made.{AreLinesOn, Leaves, Writes, as_printed};
@@ -29,6 +29,7 @@ pub(crate) fn check<'n, S: Store, O: Printer>(
     ensures why { IfErr result (Refuses (Check name.entry.now) (S.files store.old) (O.failures out.old) (O.failures out.new)) }
     ensures same { S.files store.new ≡ S.files store.old }
     ensures device { O.device out.new ≡ O.device out.old }
+    ensures flushed { OnOk result (O.flushed out.new ≡ true) }
 {
     let read = match load(alloc, name, store) {
         Ok(read) => read,

@@ -1,4 +1,4 @@
-//! What `clap` is told of the commands.
+//! The commands as `clap` sees them.
 ghost use Rattle.std.specs.Prelude.{◌≡◌, IfOk, false};
 ghost use Rattle.clap.specs.Words.{app_of, rule_of};
 ghost use Rattle.ssim_program.specs.Commands.{IsLeaf, add_all, leaf, needed, on_data_sets, one_value, whole_program};
@@ -22,7 +22,7 @@ out of order, and print a summary";
 const CHECK_EXAMPLE: &str = "\
 Example:
   ssimdesk check summer.ssim
-prints 'ok records 4 flights 1 notes 0' where nothing is wrong.";
+prints 'ok records 4 flights 1 notes 0' if nothing is wrong.";
 
 const TIDY: &str = "\
 Read a chapter 7 data set, and print it with the periods of each flight divided anew, in

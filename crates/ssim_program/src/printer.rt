@@ -1,6 +1,6 @@
-//! Where lines are printed: a sink that can be flushed, and a writer of std as one.
+//! Printers: sinks that can be flushed, and std writers as such.
 
-ghost use Rattle.std.specs.Prelude.{◌≡◌, OnErr, OnOk};
+ghost use Rattle.std.specs.Prelude.{◌≡◌, Bool, true, OnErr, OnOk};
 ghost use Rattle.std.specs.Io.KnownBytes.{Appends, Keeps};
 ghost use Rattle.ssim_schedule.specs.Sinks.{CountsFault, TakesFront};
 ghost use Rattle.ssim_program.specs.Printing.{PrintsOrFails};
@@ -10,8 +10,12 @@ use std::io::Write;
 
 /// A sink that can be flushed.
 pub trait Printer: Sink {
+    /// Whether the latest call was a flush that did not fail. Nothing is said of it after a put.
+    ghost flushed: { Self → Bool };
+
     /// Writes on what the sink took and still holds.
     fn flush(&mut self) -> Result<(), DeviceFault>
+        ensures flushed { OnOk result (flushed self.new ≡ true) }
         ensures bytes { Keeps (Self.taken self.old) (Self.taken self.new) }
         ensures failures { CountsFault (Self.failures self.old) (Self.failures self.new) result }
         ensures device { Self.device self.new ≡ Self.device self.old };
@@ -22,6 +26,8 @@ pub struct CountedWriter<'w, W> {
     pub writer: &'w mut W,
     /// How many calls failed, or took no byte of some. It wraps at 2^64.
     pub failures: u64,
+    /// Whether the latest call was a flush that did not fail.
+    pub flushed: bool,
 }
 
 impl<W: Write> Sink for CountedWriter<'_, W> {
@@ -32,6 +38,7 @@ impl<W: Write> Sink for CountedWriter<'_, W> {
     ghost device = { λ s. s.writer.ghost_name };
 
     fn put(&mut self, bytes: &[u8]) -> Result<usize, DeviceFault> {
+        self.flushed = false;
         match self.writer.write(bytes) {
             Ok(n) => {
                 if n == 0 && !bytes.is_empty() {
@@ -48,10 +55,16 @@ impl<W: Write> Sink for CountedWriter<'_, W> {
 }
 
 impl<W: Write> Printer for CountedWriter<'_, W> {
+    ghost flushed = { λ s. s.flushed };
+
     fn flush(&mut self) -> Result<(), DeviceFault> {
         match self.writer.flush() {
-            Ok(()) => Ok(()),
+            Ok(()) => {
+                self.flushed = true;
+                Ok(())
+            }
             Err(_) => {
+                self.flushed = false;
                 self.failures = self.failures.wrapping_add(1);
                 Err(DeviceFault::Failed)
             }
@@ -66,6 +79,7 @@ pub(crate) struct PrintFailed;
 /// Prints all of the bytes, however many the printer takes at a time, and flushes it.
 pub(crate) fn print_all<P: Printer>(out: &mut P, bytes: &[u8]) -> Result<(), PrintFailed>
     ensures ok { OnOk result (Appends (P.taken out.old) (P.taken out.new) bytes.now) }
+    ensures flushed { OnOk result (P.flushed out.new ≡ true) }
     ensures err { OnErr result (TakesFront bytes.now (P.taken out.old) (P.taken out.new)) }
     ensures failures { CountsFault (P.failures out.old) (P.failures out.new) result }
     ensures device { P.device out.new ≡ P.device out.old }

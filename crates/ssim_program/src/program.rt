@@ -46,11 +46,13 @@ pub fn run<S: Store, O: Write, E: Write>(
     let mut reasons = CountedWriter {
         writer: err,
         failures: 0,
+        flushed: false,
     };
     let status = run_to(alloc, words, store, out, &mut reasons);
     let CountedWriter {
         writer,
         failures: _,
+        flushed: _,
     } = reasons;
     // No effect at run time. The proof reads what `err` holds from this use of `writer`.
     let _ = &*writer;
@@ -79,11 +81,13 @@ fn run_to<S: Store, O: Write, E: Printer>(
     let mut printed = CountedWriter {
         writer: out,
         failures: 0,
+        flushed: false,
     };
     let status = run_on(alloc, words, store, &mut printed, err);
     let CountedWriter {
         writer,
         failures: _,
+        flushed: _,
     } = printed;
     // No effect at run time. The proof reads what `out` holds from this use of `writer`.
     let _ = &*writer;
@@ -116,7 +120,10 @@ pub fn run_on<S: Store, O: Printer, E: Printer>(
     ensures done { (line : Line) → Spells (map (λ w. w.now) words.now) line → result ≡ 0 → Writes line (S.files store.old) (O.taken out.old) (O.taken out.new) }
     ensures quiet { (line : Line) → Spells (map (λ w. w.now) words.now) line → result ≡ 0 → Keeps (E.taken err.old) (E.taken err.new) }
 
-    // What `tidy` wrote is read as a base, with nothing noted, whose export it is: `laws::tidied_once`.
+    // It was flushed after the last byte.
+    ensures flushed { result ≡ 0 → O.flushed out.new ≡ true }
+
+    // What `tidy` wrote is read as a base, without a note, and is the export of that base: `laws::tidied_once`.
     ensures again { (line : Line) → Spells (map (λ w. w.now) words.now) line → result ≡ 0 → WritesItself line (O.taken out.old) (O.taken out.new) }
 
     // A refusal wrote nothing to `out`, unless `out` itself failed.
@@ -154,6 +161,7 @@ fn act<'n, S: Store, O: Printer>(
     ensures why { IfErr result (Refuses (line_of request.entry) (S.files store.old) (O.failures out.old) (O.failures out.new)) }
     ensures same { S.files store.new ≡ S.files store.old }
     ensures device { O.device out.new ≡ O.device out.old }
+    ensures flushed { OnOk result (O.flushed out.new ≡ true) }
 {
     match request {
         Request::Check(name) => check(alloc, name, store, out),
@@ -186,6 +194,7 @@ fn line_of_refusal(alloc: Global, refusal: &Refusal<'_>) -> io::Result<Vec<u8>>
 fn show<O: Printer, E: Printer>(alloc: Global, error: &clap::Error, out: &mut O, err: &mut E) -> u8
     ensures status { result ≤ 2 }
     ensures help { result ≤ 1 → is_help (kind_of error.now) ≡ true }
+    ensures flushed { result ≡ 0 → O.flushed out.new ≡ true }
     ensures wrong { result ≡ 2 → is_help (kind_of error.now) ≡ false }
     ensures devices { (O.device out.new ≡ O.device out.old) × (E.device err.new ≡ E.device err.old) }
 {

@@ -13,9 +13,9 @@ use std::fmt;
 pub enum Refusal<'a> {
     /// 10: the input ends within the record.
     Short { record: u64 },
-    /// 11: the record's type cannot stand there.
+    /// 11: the record's type is unknown, or not allowed there.
     BadType { record: u64 },
-    /// 12: the field that begins at the column cannot stand.
+    /// 12: the field that begins at the column is invalid.
     BadColumn { record: u64, column: u64 },
     /// 13: the reader failed.
     ReadFault { record: u64 },
@@ -31,15 +31,15 @@ pub enum Refusal<'a> {
     OtherAirline { record: u64 },
     /// 34: an earlier leg record gives the same flight and leg sequence on one date.
     Overlap { record: u64 },
-    /// 35: no earlier leg record has the segment record's flight, variation and leg sequence.
+    /// 35: no earlier leg record has the flight, itinerary variation and leg sequence of the segment record.
     Segment { record: u64 },
-    /// 36: itinerary variations overflow.
+    /// 36: the itinerary variation overflows.
     Overflow { record: u64 },
     /// 37: the frequency rate is not weekly.
     Frequency { record: u64 },
-    /// 38: the data set goes on in another one.
+    /// 38: the trailer announces another carrier.
     Continuation { record: u64 },
-    /// 39: the line of the station table cannot stand.
+    /// 39: the line of the station table is invalid.
     Stations { line: u64 },
     /// 50: the flight has more than 99 itinerary variations.
     Variations { flight: Designator },
@@ -122,7 +122,7 @@ fn unread<'a>(fault: RecordFault) -> Refusal<'a>
     }
 }
 
-// The record cannot stand where it does.
+// The record is not allowed at its place.
 fn refused_at<'a>(number: u64, why: BaseRefusal) -> Refusal<'a>
     ensures { result ≡ refusal_at number why }
 {

@@ -1,6 +1,6 @@
 //! The command `tidy`: the canonical export of a data set.
 
-ghost use Rattle.std.specs.Prelude.{◌≡◌, IfErr, OnErr, OnOk};
+ghost use Rattle.std.specs.Prelude.{◌≡◌, true, IfErr, OnErr, OnOk};
 ghost use Rattle.ssim_program.specs.Made.{Exports, Leaves, LeavesExport, Writes};
 ghost use Rattle.ssim_program.specs.Again.{GrowsByItself};
 ghost use Rattle.ssim_program.specs.Line.{Tidy};
@@ -31,6 +31,7 @@ pub(crate) fn tidy<'n, S: Store, O: Printer>(
     ensures why { IfErr result (Refuses (Tidy name.entry.now) (S.files store.old) (O.failures out.old) (O.failures out.new)) }
     ensures same { S.files store.new ≡ S.files store.old }
     ensures device { O.device out.new ≡ O.device out.old }
+    ensures flushed { OnOk result (O.flushed out.new ≡ true) }
 {
     match load(alloc, name, store) {
         Ok(BaseRead { base, .. }) => match export(&base, out) {
@@ -48,6 +49,7 @@ fn export<O: Printer>(base: &Base, out: &mut O) -> Result<(), ExportFault>
     ensures why { IfErr result (HasNoExport base.now.records (O.failures out.old) (O.failures out.new)) }
     ensures err { OnErr result (LeavesExport base.now.records (O.taken out.old) (O.taken out.new) (O.failures out.old) (O.failures out.new)) }
     ensures device { O.device out.new ≡ O.device out.old }
+    ensures flushed { OnOk result (O.flushed out.new ≡ true) }
 {
     export_into(base, out)?;
     match out.flush() {

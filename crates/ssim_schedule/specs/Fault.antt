@@ -1,10 +1,52 @@
 -- The names of faults, and the texts as which they are displayed.
-use Rattle.std.specs.Prelude.{ℕ, List, ◌++◌, codes}
+use Rattle.std.specs.Prelude.{ℕ, List, ◌++◌, Option, Some, None, codes}
 use Rattle.std.specs.Fmt.{decimal}
+use Rattle.ssim_records.specs.declared.fault.RecordFault.{RecordFault}
+use Rattle.ssim_records.specs.declared.fault.RecordFault.TheVariants as record_fault
+use Rattle.ssim_schedule.specs.declared.fault.BaseFault.{BaseFault}
+use Rattle.ssim_schedule.specs.declared.fault.BaseFault.TheVariants as base
+use Rattle.ssim_schedule.specs.declared.fault.BaseRefusal.{BaseRefusal}
+use Rattle.ssim_schedule.specs.declared.fault.BaseRefusal.TheVariants as refused
 use Rattle.ssim_schedule.specs.declared.resolving.ResolveFault.{ResolveFault}
 use Rattle.ssim_schedule.specs.declared.resolving.ResolveFault.TheVariants as resolve
 use Rattle.ssim_schedule.specs.declared.stations.StationFault.{StationFault}
 use Rattle.ssim_schedule.specs.declared.stations.StationFault.TheVariants as stations
+
+abbrev pub refusal_name : BaseRefusal → List ℕ
+refusal_name refused.BadType = codes "BadType"
+refusal_name refused.OpenEnd = codes "BadColumn"
+refusal_name refused.NoHeader = codes "NoHeader"
+refusal_name refused.NoCarrier = codes "NoCarrier"
+refusal_name refused.NoTrailer = codes "NoTrailer"
+refusal_name refused.OtherAirline = codes "OtherAirline"
+refusal_name refused.Overlap = codes "Overlap"
+refusal_name refused.Segment = codes "Segment"
+refusal_name refused.Overflow = codes "Overflow"
+refusal_name refused.Frequency = codes "Frequency"
+refusal_name refused.Continuation = codes "Continuation"
+
+-- name and record, and the column of an open end
+abbrev pub refusal_text : ℕ → BaseRefusal → List ℕ
+refusal_text n refused.OpenEnd = codes "BadColumn record " ++ decimal n ++ codes " column 22"
+refusal_text n refusal = refusal_name refusal ++ codes " record " ++ decimal n
+
+abbrev pub record_fault_name : RecordFault → List ℕ
+record_fault_name (record_fault.Short n) = codes "Short"
+record_fault_name (record_fault.BadType n) = codes "BadType"
+record_fault_name (record_fault.BadColumn n column) = codes "BadColumn"
+record_fault_name (record_fault.ReadFault n) = codes "ReadFault"
+record_fault_name (record_fault.ReaderNeverEnds n) = codes "ReaderNeverEnds"
+
+abbrev pub base_fault_name : BaseFault → List ℕ
+base_fault_name base.Memory = codes "Memory"
+base_fault_name (base.Read fault) = record_fault_name fault
+base_fault_name (base.Refused n refusal) = refusal_name refusal
+
+-- the text of a fault; that of a record that cannot be read is the record fault's own
+abbrev pub base_fault_text : BaseFault → Option (List ℕ)
+base_fault_text base.Memory = Some (codes "Memory")
+base_fault_text (base.Read fault) = None
+base_fault_text (base.Refused n refusal) = Some (refusal_text n refusal)
 
 abbrev pub station_fault_name : StationFault → List ℕ
 station_fault_name stations.Memory = codes "Memory"

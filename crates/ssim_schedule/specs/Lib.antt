@@ -26,3 +26,4 @@ pub mod Columns
 pub mod Effect
 pub mod Acts
 pub mod EffectExamples
+pub mod FlightOrder

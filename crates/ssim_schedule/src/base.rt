@@ -1,4 +1,4 @@
-//! A data set as it is kept.
+//! The base: the records of a data set and its station table.
 
 ghost use Rattle.std.specs.Prelude.{◌≡◌, ◌↔◌, ℕ, List, Option, IsTrue, IfOk, IfErr};
 ghost use Rattle.std.specs.List.{All};
@@ -24,7 +24,7 @@ use std::marker::Model;
 
 /// A data set as it was read: its records other than fill, in order, without serials, and the rows of a station table.
 ///
-/// Rate and overflow of its legs are blank, and no leg's end is open; the carrier's may be.
+/// The rate and the overflow of its legs are blank. The end of each leg is a date; that of the carrier may be open.
 #[derive(Drop)]
 pub struct Base {
     records: Vec<Record>,
@@ -44,11 +44,11 @@ impl Model for Base {
     ghost invariant = { λ b. WasRead b.records.items × AreFlights b.records.items b.flights.items };
 }
 
-/// A base, and what was noted of its data set.
+/// A base, and the notes on its data set.
 #[derive(Drop)]
 pub struct BaseRead {
     pub base: Base,
-    /// In the order of their records; at one record the serial first.
+    /// In the order of their records. At one record the note on the serial is first.
     pub notes: Vec<Note>,
 }
 
@@ -57,9 +57,10 @@ impl Base {
 
     /// Reads a data set, record by record, and keeps the station table with it. At most `limit` bytes and one more are fetched.
     ///
-    /// Refuses the first record that cannot stand, with its number from 1, fill counted. At one record the order is 13, 14, 10, 11,
-    /// 12; its place (30, 31, else 11); 33, 36, 37, 12 at column 22 for an open end before the start, 34, 35, 38. A record that is
-    /// missing at the end has the number after the last.
+    /// The error names the first invalid record by its number, counted from 1 with fill. For one record the order is 13 `ReadFault`,
+    /// 14 `ReaderNeverEnds`, 10 `Short`, 11 `BadType`, 12 `BadColumn`; 30 `NoHeader`, 31 `NoCarrier` or 11 for its place; then
+    /// 33 `OtherAirline`, 36 `Overflow`, 37 `Frequency`, 12 at column 22 for an open end before the start, 34 `Overlap`, 35 `Segment`,
+    /// 38 `Continuation`. If a record is missing at the end, 30, 31 or 32 `NoTrailer` has the number after the last.
     pub fn read<R: Source>(
         alloc: Global,
         reader: &mut R,
@@ -76,7 +77,7 @@ impl Base {
         Base::finish(alloc, gathering, number, stations)
     }
 
-    // The base of the records that were gathered, where none is missing behind them.
+    // The base of the records that were gathered, if none is missing after them.
     fn finish(
         alloc: Global,
         gathering: Gathering,
@@ -97,7 +98,7 @@ impl Base {
         if let Some(refusal) = kept.missing() {
             return Err(BaseFault::Refused(number, refusal));
         }
-        // A list that grew may have as much room to spare as it holds.
+        // A list that grew may have as much unused room as it has records.
         kept.records.shrink_to_fit();
         let flights = flights_of(alloc, &kept.records)?;
         let base = Base {
@@ -135,7 +136,7 @@ impl Base {
         self.carrier().airline()
     }
 
-    /// From where the memory of what is made of it comes.
+    /// The allocator of the schedules that are made from it.
     pub(crate) fn allocator(&self) -> Global {
         self.alloc
     }

@@ -1,47 +1,38 @@
 //! Why a data set is refused.
 
-ghost use Rattle.std.specs.Prelude.{◌≡◌};
+ghost use Rattle.std.specs.Prelude.{◌≡◌, Some};
+ghost use Rattle.ssim_schedule.specs.Fault.{base_fault_name, base_fault_text, record_fault_name, refusal_name};
 
 use ssim_records::RecordFault;
 use ssim_values::Memory;
 use std::alloc::AllocFailed;
-use thiserror::Error;
+use std::error::Error;
+use std::fmt;
 
-/// Why a record cannot stand in a data set, where it can be read.
-#[derive(Clone, Copy, Debug, PartialEq, Eq, Error)]
+/// Why a record that can be read is not allowed at its place in a data set. It is displayed as its name.
+#[derive(Clone, Copy, Debug, PartialEq, Eq)]
 pub enum BaseRefusal {
-    /// 11: its type cannot stand at its place.
-    #[error("BadType")]
+    /// 11: its type is not allowed there.
     BadType,
-    /// 12 at column 22: an open end that falls before the start.
-    #[error("BadColumn")]
+    /// 12 at column 22: an open end before the start.
     OpenEnd,
-    /// 30.
-    #[error("NoHeader")]
+    /// 30: the first record is not a header.
     NoHeader,
-    /// 31.
-    #[error("NoCarrier")]
+    /// 31: the second record is not a carrier.
     NoCarrier,
-    /// 32.
-    #[error("NoTrailer")]
+    /// 32: the last record is not a trailer.
     NoTrailer,
     /// 33: another airline than the carrier's.
-    #[error("OtherAirline")]
     OtherAirline,
     /// 34: a flight and leg sequence twice on one date.
-    #[error("Overlap")]
     Overlap,
-    /// 35: segment data without its leg.
-    #[error("Segment")]
+    /// 35: no earlier leg record has the flight, itinerary variation and leg sequence of the segment data.
     Segment,
     /// 36: an overflow of the itinerary variation.
-    #[error("Overflow")]
     Overflow,
-    /// 37: a frequency rate.
-    #[error("Frequency")]
+    /// 37: a frequency rate other than weekly.
     Frequency,
-    /// 38: another carrier is to follow.
-    #[error("Continuation")]
+    /// 38: the trailer announces another carrier.
     Continuation,
 }
 
@@ -66,19 +57,47 @@ impl BaseRefusal {
             BaseRefusal::Continuation => 38,
         }
     }
+
+    /// The name by which the refusal is known. That of an open end is `BadColumn`.
+    pub fn name(self) -> &'static str
+        ensures { result.now ≡ refusal_name self }
+    {
+        match self {
+            BaseRefusal::BadType => "BadType",
+            BaseRefusal::OpenEnd => "BadColumn",
+            BaseRefusal::NoHeader => "NoHeader",
+            BaseRefusal::NoCarrier => "NoCarrier",
+            BaseRefusal::NoTrailer => "NoTrailer",
+            BaseRefusal::OtherAirline => "OtherAirline",
+            BaseRefusal::Overlap => "Overlap",
+            BaseRefusal::Segment => "Segment",
+            BaseRefusal::Overflow => "Overflow",
+            BaseRefusal::Frequency => "Frequency",
+            BaseRefusal::Continuation => "Continuation",
+        }
+    }
 }
 
-/// Why a data set has no base: want of memory, or the first record that cannot stand.
-#[derive(Clone, Copy, Debug, PartialEq, Eq, Error)]
+impl fmt::Display for BaseRefusal {
+    ghost output = { λ refusal. Some (refusal_name refusal) };
+
+    fn fmt<W: fmt::Write>(&self, f: &mut fmt::Formatter<W>) -> fmt::Result {
+        let name = self.name();
+        write!(f, "{name}")
+    }
+}
+
+impl Error for BaseRefusal {}
+
+/// Why bytes are not a data set: the first record that cannot be read, or is not allowed at its place.
+/// It is displayed as its name, the record and its column: `Overlap record 4`, `BadColumn record 3 column 22`.
+#[derive(Clone, Copy, Debug, PartialEq, Eq)]
 pub enum BaseFault {
-    /// 90.
-    #[error("Memory")]
+    /// 90: out of memory.
     Memory,
-    /// 10 to 14: the record with this number cannot be read.
-    #[error("{0}")]
+    /// 10 to 14: the record cannot be read.
     Read(RecordFault),
-    /// 11, 12 at column 22, or 30 to 38: the record with this number cannot stand where it does.
-    #[error("{1} record {0}")]
+    /// 11, 12 at column 22, or 30 to 38: the record with this number is not allowed there.
     Refused(u64, BaseRefusal),
 }
 
@@ -95,7 +114,48 @@ impl BaseFault {
             BaseFault::Refused(_, refusal) => refusal.number(),
         }
     }
+
+    /// The name by which the fault is known.
+    pub fn name(self) -> &'static str
+        ensures { result.now ≡ base_fault_name self }
+    {
+        match self {
+            BaseFault::Memory => "Memory",
+            BaseFault::Read(fault) => read_fault_name(fault),
+            BaseFault::Refused(_, refusal) => refusal.name(),
+        }
+    }
 }
+
+// The name of the fault of a record that cannot be read.
+fn read_fault_name(fault: RecordFault) -> &'static str
+    ensures { result.now ≡ record_fault_name fault }
+{
+    match fault.number() {
+        10 => "Short",
+        11 => "BadType",
+        12 => "BadColumn",
+        13 => "ReadFault",
+        _ => "ReaderNeverEnds",
+    }
+}
+
+impl fmt::Display for BaseFault {
+    ghost output = { λ fault. base_fault_text fault };
+
+    fn fmt<W: fmt::Write>(&self, f: &mut fmt::Formatter<W>) -> fmt::Result {
+        match self {
+            BaseFault::Memory => write!(f, "Memory"),
+            BaseFault::Read(fault) => write!(f, "{fault}"),
+            BaseFault::Refused(record, BaseRefusal::OpenEnd) => {
+                write!(f, "BadColumn record {record} column 22")
+            }
+            BaseFault::Refused(record, refusal) => write!(f, "{refusal} record {record}"),
+        }
+    }
+}
+
+impl Error for BaseFault {}
 
 impl From<Memory> for BaseFault {
     ghost use Rattle.ssim_schedule.specs.declared.fault.BaseFault.TheVariants.{Memory};

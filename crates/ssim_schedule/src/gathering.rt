@@ -1,4 +1,4 @@
-//! Records on their way into a base, with what is noted of them.
+//! The records accepted so far, with the notes on them.
 
 ghost use Rattle.std.specs.Prelude.{◌≡◌, ◌++◌, [], List, IfErr, OnOk};
 ghost use Rattle.ssim_records.specs.Record.{IsRecord, serial_of};
@@ -11,7 +11,7 @@ use ssim_records::Record;
 use ssim_values::Memory;
 use std::alloc::Global;
 
-/// The records so far as a base keeps them, and what is noted of them.
+/// The records accepted so far, and the notes on them.
 #[derive(Drop)]
 pub(crate) struct Gathering {
     pub kept: Kept,
@@ -37,7 +37,7 @@ impl Gathering {
         }
     }
 
-    /// One record more, with its number, or its refusal.
+    /// Accepts one more record, with its number, or refuses it.
     pub(crate) fn take(&mut self, number: u64, one: &Record) -> Result<(), BaseFault>
         ensures stood { OnOk result ((earlier : List Record) → IsKept self.old.kept earlier → Stood self.new.kept earlier one.now) }
         ensures noted { OnOk result (self.new.notes.items ≡ self.old.notes.items ++ notes_at number self.old.previous one.now) }
@@ -50,7 +50,7 @@ impl Gathering {
         Ok(())
     }
 
-    // What is noted of a record.
+    // Adds the notes on a record.
     fn note(&mut self, number: u64, one: &Record) -> Result<(), Memory>
         ensures noted { OnOk result (self.new.notes.items ≡ self.old.notes.items ++ notes_at number self.old.previous one.now) }
         ensures previous { OnOk result (self.new.previous ≡ serial_of one.now) }

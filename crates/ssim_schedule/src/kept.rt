@@ -1,4 +1,4 @@
-//! The records that a base keeps, and where each next one can stand.
+//! The records accepted so far, and whether the next one is allowed after them.
 
 ghost use Rattle.std.specs.Prelude.{◌≡◌, ◌++◌, ◌∷◌, [], List, IfErr, IfOk, OnOk};
 ghost use Rattle.std.specs.Str.{bytes_eq};
@@ -14,16 +14,16 @@ use ssim_records::{Carrier, EndCode, LegRecord, Record, SegmentRecord, Trailer};
 use ssim_values::{Airline, Day, Memory, Period};
 use std::alloc::Global;
 
-/// What the carrier record says of those that follow.
+/// What the carrier record says about the records after it.
 #[derive(Clone, Copy, Debug, PartialEq, Eq)]
 pub(crate) struct Heading {
-    /// Whose flights they are.
+    /// The airline of the flights.
     airline: Airline,
-    /// The day that an open end stands for.
+    /// The day that replaces an open end.
     end: Day,
 }
 
-/// What may come next.
+/// Which record is expected next.
 #[derive(Clone, Copy, Debug, PartialEq, Eq)]
 pub(crate) enum Place {
     /// A header.
@@ -36,7 +36,7 @@ pub(crate) enum Place {
     End,
 }
 
-/// The records so far as a base keeps them, and what those that follow are held against.
+/// The records accepted so far, and the state for checking the next one.
 #[derive(Drop)]
 pub(crate) struct Kept {
     pub records: Vec<Record>,
@@ -58,7 +58,7 @@ impl Kept {
         }
     }
 
-    /// One record more, with its number, or its refusal.
+    /// Accepts one more record, with its number, or refuses it.
     pub(crate) fn put(&mut self, number: u64, one: &Record) -> Result<(), BaseFault>
         ensures stood { OnOk result ((earlier : List Record) → IsKept self.old earlier → Stood self.new earlier one.now) }
         ensures err { IfErr result (λ e. (earlier : List Record) → IsKept self.old earlier → IsRefused number earlier one.now e) }
@@ -78,7 +78,7 @@ impl Kept {
         }
     }
 
-    /// What is missing where no record follows.
+    /// What is missing if no record follows.
     pub(crate) fn missing(&self) -> Option<BaseRefusal>
         ensures { (earlier : List Record) → IsKept self.now earlier → result ≡ missing earlier }
     {
@@ -90,7 +90,7 @@ impl Kept {
         }
     }
 
-    // Keeps a record, behind which the place is another.
+    // Keeps a record, after which another place is expected.
     fn push(&mut self, place: Place, one: Record) -> Result<(), Memory>
         ensures records { OnOk result (self.new.records.items ≡ self.old.records.items ++ one ∷ []) }
         ensures place { OnOk result (self.new.place ≡ place) }
@@ -200,7 +200,7 @@ impl Kept {
     }
 }
 
-// The period of a leg record whose airline, overflow, rate and end can stand.
+// The period of a leg record, if its airline, overflow, rate and end are valid.
 fn leg_period(number: u64, heading: Heading, leg: &LegRecord) -> Result<Period, BaseFault>
     ensures ok { IfOk result (LegStands heading leg.now) }
     ensures err { IfErr result (λ e. (earlier : List Record) → IsPlace (place.Legs heading) earlier → IsRefused number earlier (Record.Leg leg.now) e) }
@@ -221,28 +221,28 @@ fn leg_period(number: u64, heading: Heading, leg: &LegRecord) -> Result<Period, 
     }
 }
 
-// Whether an overflow of the itinerary variation is meant.
+// Whether the byte means an overflow of the itinerary variation.
 fn is_overflow(byte: u8) -> bool
     ensures { result ≡ is_overflow byte }
 {
     !(byte == b' ' || byte == b'0')
 }
 
-// Whether a frequency rate says that the leg operates in each week.
+// Whether the frequency rate means that the leg operates each week.
 fn is_rate(byte: u8) -> bool
     ensures { result ≡ is_rate byte }
 {
     byte == b' ' || byte == b'1'
 }
 
-// Whether two airlines are one.
+// Whether two airlines are the same.
 fn same_airline(one: Airline, other: Airline) -> bool
     ensures { result ≡ bytes_eq one other }
 {
     one.write().as_slice() == other.write().as_slice()
 }
 
-// The end of the carrier's validity: where it is open, 730 days after the start, within the calendar.
+// The end of the carrier's validity. An open end is 730 days after the start, within the calendar.
 pub(crate) fn end_of(carrier: &Carrier) -> Day
     ensures { result ≡ end_of carrier.now }
 {

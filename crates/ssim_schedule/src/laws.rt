@@ -1,4 +1,4 @@
-//! What holds of exports, for any frame and timetable.
+//! Laws of exports, of bases, and of messages resolved against bases.
 ghost use Rattle.ssim_schedule.specs.ReadBack.{BasesExport, BytesReadBack, BytesTell, ReadOnce, SameBytes, ReadsBack, ExportsAgain, ExportsTell, FlownSuffice, SameExport, Stands};
 ghost use Rattle.ssim_schedule.specs.Reading.{IsReadBack, SameBytesSameBase};
 ghost use Rattle.ssim_schedule.specs.Resolve.{HasOneOutcome};
@@ -10,8 +10,8 @@ ghost use Rattle.ssim_schedule.specs.EffectExamples;
 
 use ssim_records::{frames_are_one, written_records_read_back};
 
-/// An export reads back to the timetable that was exported, no record of it is refused, and the export of what was read
-/// is the same records. So equal exports are of equal timetables, and the other way round.
+/// An export reads back to the timetable that was exported. No record of it is refused, and exporting what was read gives
+/// the same records. So two exports in one frame are equal exactly if their timetables are.
 pub fn export_reads_back()
     ensures stands { Stands }
     ensures same { ReadsBack }
@@ -25,9 +25,9 @@ pub fn flown_flights_suffice()
     ensures { FlownSuffice }
 {}
 
-/// The bytes of an export are read as records, none of which is refused and of which nothing is noted. The base has the frame
-/// and, on each date, the itineraries that were exported, and its export is the same bytes. Bytes are read in one way,
-/// so equal bytes are of equal timetables, and the other way round.
+/// The bytes of an export are read as records. None is refused, and there are no notes. The base has the frame and, on each
+/// date, the itineraries that were exported, and its export is the same bytes. Bytes are read in only one way. So the bytes of
+/// two exports are equal exactly if their timetables are equal and a base keeps their frames alike.
 pub fn export_bytes_read_back()
     ensures read { BytesReadBack }
     ensures once { ReadOnce }
@@ -39,7 +39,7 @@ pub fn export_bytes_read_back()
 }
 
 /// Bytes that spell the records of a base, and nothing else, are read as this base with its notes, unless the reader fails. So the
-/// bytes of an export are read as the base of `export_bytes_read_back`, with nothing noted.
+/// bytes of an export are read as the base of `export_bytes_read_back`, without notes.
 pub fn written_bases_are_read()
     ensures { IsReadBack }
 {
@@ -75,7 +75,7 @@ pub fn resolving_has_one_outcome()
     ensures { HasOneOutcome }
 {}
 
-/// A base that is read has a frame, and gives a timetable, that can be exported.
+/// A base that is read has a frame and a timetable that can be exported.
 pub fn bases_can_be_exported()
     ensures { BasesExport }
 {}

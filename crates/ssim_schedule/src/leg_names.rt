@@ -6,7 +6,7 @@ ghost use Rattle.std.specs.BTreeSet.{contains};
 ghost use Rattle.std.specs.Ordering.{nat_cmp};
 ghost use Rattle.ssim_schedule.specs.Building.{IsPlaced, name_place};
 
-use crate::waiting::name_place;
+use crate::leg_key::LegKey;
 use ssim_records::LegName;
 use ssim_values::Memory;
 use std::alloc::Global;
@@ -15,10 +15,9 @@ use std::collections::BTreeSet;
 /// The names of the leg records so far: flight, itinerary variation and leg sequence.
 #[derive(Drop)]
 pub(crate) struct LegNames {
-    /// By their places.
-    places: BTreeSet<u64>,
-    /// The place of the latest: segment data mostly follow their leg.
-    latest: Option<u64>,
+    places: BTreeSet<LegKey>,
+    /// The key of the latest: segment data mostly follow their leg.
+    latest: Option<LegKey>,
     ghost latest_is: { ForSome latest (λ place. contains nat_cmp places place ≡ true) },
 }
 
@@ -38,9 +37,9 @@ impl LegNames {
         ensures ok { OnOk result ((place : ℕ) → contains nat_cmp self.new.places place ≡ (nat_eq place (name_place name) || contains nat_cmp self.old.places place)) }
         ensures named { IsPlaced name }
     {
-        let place = name_place(name);
-        self.places.insert(place)?;
-        self.latest = Some(place);
+        let key = LegKey::of(name);
+        self.places.insert(key)?;
+        self.latest = Some(key);
         Ok(())
     }
 
@@ -49,7 +48,7 @@ impl LegNames {
         ensures value { result ≡ contains nat_cmp self.now.places (name_place name) }
         ensures named { IsPlaced name }
     {
-        let place = name_place(name);
-        self.latest == Some(place) || self.places.contains(&place)
+        let key = LegKey::of(name);
+        self.latest == Some(key) || self.places.contains(&key)
     }
 }

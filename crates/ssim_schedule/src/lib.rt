@@ -1,14 +1,14 @@
 //! The base of a data set, its timetable, its canonical export, and what messages do to it.
 //!
 //! - [`Stations`]: which UTC variation a station has on a day, read from a table of [`StationRow`]s.
-//! - [`Base`]: a data set as it was read, record by record, with a station table; or a [`BaseFault`], the first record that cannot
-//!   stand. What is noted of it and not refused are [`Note`]s.
+//! - [`Base`]: a data set as it was read, record by record, with a station table; or a [`BaseFault`], which names the first invalid
+//!   record. What is unusual but not refused is a [`Note`].
 //! - [`Schedule`]: the itinerary of each flight on each date, which is its [`PlacedLeg`]s in order. `of` makes it from a base, `export`
 //!   writes it as chapter 7 in the one canonical division, or answers an [`ExportFault`].
-//! - [`resolve`]: a message against a base: its reference with its year, its sub-messages with full dates, or a [`ResolveFault`].
+//! - [`resolve`]: resolves a message against a base: its reference with its year, its sub-messages with full dates, or a [`ResolveFault`].
 //! - `Schedule::apply_sub`: a [`Resolved`] sub-message acts on each date of its period by itself; a [`Finding`] counts the dates by
 //!   what they got.
-//! - [`laws`]: what holds of exports as they are defined. An export reads back to its timetable, byte for byte.
+//! - [`laws`]: an export reads back to its timetable, byte for byte; saved records read back; a message has one outcome.
 //!
 //! The promise: a data set is read exactly, however its reader cuts the bytes; a schedule has on each date what the records, and then
 //! the sub-messages, say of that date alone; and its export is the chapter 7 of that timetable, which reads back to itself.
@@ -30,6 +30,7 @@ mod itinerary;
 mod kept;
 pub mod laws;
 mod leg;
+mod leg_key;
 mod leg_names;
 mod line;
 mod new_legs;

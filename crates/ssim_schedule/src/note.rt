@@ -1,6 +1,6 @@
-//! What is noted of a data set and not refused.
+//! Notes: what is unusual in a data set but not refused.
 
-/// What is noted of a data set and not refused, with the record number from 1, fill counted.
+/// Something unusual in a data set that is not refused, with the record number, counted from 1 with fill.
 #[derive(Clone, Copy, Debug, PartialEq, Eq)]
 pub enum Note {
     /// The record's serial is not one more than that of the record before, fill aside; the first's is not 000001.

@@ -1,4 +1,4 @@
-//! The records of a reader on their way into a base.
+//! Reads the records of a data set, one after another.
 
 ghost use Rattle.std.specs.Prelude.{◌≡◌, IfOk, IfErr};
 ghost use Rattle.ssim_schedule.specs.Gathering.{HasRead};
@@ -9,7 +9,7 @@ use crate::gathering::Gathering;
 use ssim_records::{Records, Source, frames_are_one};
 use std::alloc::Global;
 
-/// What is gathered of the records of a reader, and the number behind the last of them.
+/// The records of a reader, and the number after the last of them.
 pub(crate) fn gather<R: Source>(
     alloc: Global,
     reader: &mut R,

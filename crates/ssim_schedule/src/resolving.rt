@@ -101,7 +101,7 @@ impl<T: Drop> From<AllocFailed<T>> for ResolveFault {
     }
 }
 
-// The day that a date means: one without a year is the next on or after this day.
+// The day that a date means. A date without a year is the next on or after `from`.
 fn day_meant(from: Day, date: GivenDate) -> Option<Day>
     ensures some { IfSome result (λ day. Means from date day) }
     ensures none { IfNone result (MeansNone from date) }
@@ -199,7 +199,7 @@ fn resolve_sub(carrier: &Carrier, number: usize, sub: &Sub) -> Result<ResolvedSu
     }
 }
 
-// Whether the time modes of data set and message are one.
+// Whether data set and message have the same time mode.
 fn same_mode(carrier: ssim_records::TimeMode, message: ssim_text::TimeMode) -> bool
     ensures { result ≡ same_mode carrier message }
 {
@@ -211,7 +211,7 @@ fn same_mode(carrier: ssim_records::TimeMode, message: ssim_text::TimeMode) -> b
     }
 }
 
-// The sub-messages with full dates, or the first that has none.
+// The sub-messages with full dates, or the refusal of the first that has none.
 fn resolve_subs(
     alloc: Global,
     carrier: &Carrier,
@@ -228,11 +228,12 @@ fn resolve_subs(
 }
 
 /// Resolves a message against a base: its reference gets its year, and each sub-message its full dates. A date without a year is
-/// the next on or after the start of the carrier's validity, that of an end on or after the period's start, and that of a reference
-/// on or after the day on which the data set was made.
+/// the next such date. It is looked for from the start of the carrier's validity, the end of a period from the period's start, and
+/// the date of a reference from the day on which the data set was made.
 ///
-/// Refuses another time mode as 40 and a reference without such a date as 42, both with sub-message 0; then, by the first
-/// sub-message that has one, another airline as 41, a date that is never as 42, and a last day before the first as 43.
+/// The error is the first of these: 40 `TimeMode` for another time mode; 42 `NoSuchDate` with sub-message 0 if the reference has no
+/// date up to 2099; then that of the first invalid sub-message, which is 41 `Airline` for another airline, 42 for a date that does
+/// not exist up to 2099, or 43 `Period` for a last day before the first.
 pub fn resolve(base: &Base, message: &Message) -> Result<ResolvedText, ResolveFault>
     ensures ok { IfOk result (ResolvesIn base.now.records message.now) }
     ensures err { IfErr result (IsRefusedIn base.now.records message.now) }

@@ -222,10 +222,10 @@ impl Model for Stations {
 }
 
 impl Stations {
-    /// Reads a table: each line that is left once CR bytes and blanks at line ends and then empty lines are dropped is a
-    /// station, a first day, a last day not before it and a variation, with one or more blanks between them.
+    /// Reads a table. CR bytes and blanks at line ends are dropped, and then empty lines. Each line that is left is a station,
+    /// a first day, a last day not before it and a variation, with one or more blanks between them.
     ///
-    /// Refuses as 39 the first line that is not so spelled, by its number among all lines, from 1.
+    /// The error 39 `Stations` names the first line that is not spelled so, by its number among all lines, from 1.
     pub fn read(alloc: Global, text: &[u8]) -> Result<Stations, StationFault>
         ensures ok { IfOk result (λ rows. SpellsTable rows text.now) }
         ensures only { (rows : List Row) → SpellsTable rows text.now → Gives rows result }
@@ -260,7 +260,7 @@ impl Stations {
         &self.rows
     }
 
-    /// The variation of a station on a day: that of the first row that covers both. Takes no memory.
+    /// The variation of a station on a day: that of the first row that covers both. Allocates nothing.
     pub fn at(&self, station: Station, day: Day) -> Option<Variation>
         ensures { result ≡ variation_at self.now station day }
     {
@@ -279,7 +279,7 @@ pub(crate) fn first_row(rows: &[StationRow], station: Station, day: Day) -> Opti
     None
 }
 
-// These rows, and that of a further line if it is not empty.
+// The rows, and the row of one more line if the line is not empty.
 fn with_row(
     rows: Vec<StationRow>,
     number: u64,

@@ -9,7 +9,7 @@ ghost use Rattle.ssim_periods.specs.Days.{changed_on, count_on, each_day};
 ghost use Rattle.ssim_schedule.specs.Taken.{class_of_use, exact_use, same_use, sequence_place, used_at};
 ghost use Rattle.ssim_schedule.specs.declared.taken.DateUse.TheVariants.{Free, Used};
 
-use crate::flight_table::place;
+use crate::leg_key::SequenceKey;
 use ssim_periods::{Change, Periods, Value};
 use ssim_values::{Flight, Memory, Period};
 use std::alloc::Global;
@@ -76,8 +76,7 @@ impl Change<DateUse> for Use {
 /// The dates that the leg records so far have, by flight and leg sequence.
 #[derive(Drop)]
 pub(crate) struct Taken {
-    /// By the place of flight and leg sequence.
-    legs: BTreeMap<u64, Periods<DateUse>>,
+    legs: BTreeMap<SequenceKey, Periods<DateUse>>,
     alloc: Global,
 }
 
@@ -103,33 +102,25 @@ impl Taken {
         ensures met { IfOk result (λ met. met ≡ nat_lt 0 (count_on (holds period.now) class_of_use 1 0 (used_at self.old (sequence_place flight sequence)))) }
         ensures flight { IsFlight flight }
     {
-        let place = sequence_place(flight, sequence);
-        match self.legs.get_mut(&place) {
+        let key = SequenceKey::of(flight, sequence);
+        match self.legs.get_mut(&key) {
             Some(dates) => {
                 let counts = dates.apply(period, &Use)?;
                 Ok(counts[1] > 0)
             }
-            None => self.take_first(place, period),
+            None => self.take_first(key, period),
         }
     }
 
-    // The same where there is no entry at this place yet.
-    fn take_first(&mut self, place: u64, period: &Period) -> Result<bool, Memory>
-        requires { get nat_cmp self.old.legs place ≡ None }
-        ensures days { OnOk result ((k : ℕ) → used_at self.new k ≡ (if nat_eq k place then changed_on (holds period.now) (λ _. Used) 0 (used_at self.old k) else used_at self.old k)) }
-        ensures met { IfOk result (λ met. met ≡ nat_lt 0 (count_on (holds period.now) class_of_use 1 0 (used_at self.old place))) }
+    // The same for a key that has no entry yet.
+    fn take_first(&mut self, key: SequenceKey, period: &Period) -> Result<bool, Memory>
+        requires { get nat_cmp self.old.legs key ≡ None }
+        ensures days { OnOk result ((k : ℕ) → used_at self.new k ≡ (if nat_eq k key then changed_on (holds period.now) (λ _. Used) 0 (used_at self.old k) else used_at self.old k)) }
+        ensures met { IfOk result (λ met. met ≡ nat_lt 0 (count_on (holds period.now) class_of_use 1 0 (used_at self.old key))) }
     {
         let mut dates = Periods::new(self.alloc);
         let counts = dates.apply(period, &Use)?;
-        self.legs.insert(place, dates)?;
+        self.legs.insert(key, dates)?;
         Ok(counts[1] > 0)
     }
-}
-
-// The place of a flight and leg sequence among all of them.
-fn sequence_place(flight: Flight, sequence: u8) -> u64
-    ensures value { result ≡ sequence_place flight sequence }
-    ensures flight { IsFlight flight }
-{
-    place(flight) as u64 * 100 + sequence as u64
 }

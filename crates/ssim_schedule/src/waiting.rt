@@ -3,7 +3,7 @@
 ghost use Rattle.std.specs.Prelude.{◌≡◌, ℕ, ◌<◌, ◌∷◌, [], nat_eq, if◌then◌else◌, reverse, OnOk};
 ghost use Rattle.ssim_schedule.specs.Building.{IsPlaced, name_place};
 
-use crate::flight_table::place as flight_place;
+use crate::leg_key::LegKey;
 use ssim_records::{LegName, SegmentTail};
 use ssim_values::Memory;
 use std::alloc::Global;
@@ -12,8 +12,7 @@ use std::collections::BTreeMap;
 /// For each leg the tails of the segment records that were met and whose leg record was not, the last of them first.
 #[derive(Drop)]
 pub(crate) struct Waiting {
-    /// By the place of the leg's name.
-    tails: BTreeMap<u64, Vec<SegmentTail>>,
+    tails: BTreeMap<LegKey, Vec<SegmentTail>>,
     alloc: Global,
 }
 
@@ -35,13 +34,13 @@ impl Waiting {
         ensures ok { OnOk result ((place : ℕ) → waiting_at self.new place ≡ (if nat_eq place (name_place name) then tail ∷ waiting_at self.old place else waiting_at self.old place)) }
         ensures named { IsPlaced name }
     {
-        let place = name_place(name);
-        let mut tails = match self.tails.remove(&place) {
+        let key = LegKey::of(name);
+        let mut tails = match self.tails.remove(&key) {
             Some(tails) => tails,
             None => Vec::new(self.alloc),
         };
         tails.push(tail)?;
-        self.tails.insert(place, tails)?;
+        self.tails.insert(key, tails)?;
         Ok(())
     }
 
@@ -51,20 +50,11 @@ impl Waiting {
         ensures named { IsPlaced name }
         ensures others { (place : ℕ) → waiting_at self.new place ≡ (if nat_eq place (name_place name) then [] else waiting_at self.old place) }
     {
-        let mut tails = match self.tails.remove(&name_place(name)) {
+        let mut tails = match self.tails.remove(&LegKey::of(name)) {
             Some(tails) => tails,
             None => Vec::new(self.alloc),
         };
         tails.reverse();
         tails
     }
-}
-
-// The place of a leg among all legs of all flights' itinerary variations.
-pub(crate) fn name_place(name: LegName) -> u64
-    ensures value { result ≡ name_place name }
-    ensures named { IsPlaced name }
-{
-    (flight_place(name.flight()) as u64 * 100 + name.variation() as u64) * 100
-        + name.sequence() as u64
 }

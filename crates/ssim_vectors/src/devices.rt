@@ -8,7 +8,7 @@ use std::alloc::Global;
 use std::io;
 use std::io::Write;
 
-/// A writer that keeps so many bytes and then fails. Where it is never written on, it fails at each flush.
+/// A writer that keeps `room` bytes and then fails. Each flush fails unless `flushes`.
 #[derive(Debug, Drop)]
 pub struct FullWriter {
     pub taken: Vec<u8>,
@@ -45,7 +45,7 @@ impl Write for FullWriter {
     }
 }
 
-/// A store that gives nothing and keeps nothing, for the fault that it has.
+/// A store whose calls all fail with its fault.
 #[derive(Clone, Copy, Debug)]
 pub struct NoStore {
     pub fault: StoreFault,
@@ -61,7 +61,7 @@ impl Store for NoStore {
     }
 }
 
-/// A reader of some bytes, and then of ever the same one where there is one, else it fails.
+/// A reader of some bytes. After them it gives one byte for ever, or fails if there is none.
 #[derive(Debug, Drop)]
 pub struct Pieces<'a> {
     bytes: &'a [u8],

@@ -1,7 +1,7 @@
-//! Worked examples of the whole program, and what they run on.
+//! Worked examples of the whole program, and the devices and stores that they run on.
 //!
 //! - [`data`]: data sets, a station table and messages.
-//! - [`MemoryStore`]: files in memory, which the program's contract speaks of; [`NoStore`]: a store that gives nothing.
+//! - [`MemoryStore`]: files in memory, which the program's contract can see; [`NoStore`]: a store that fails.
 //! - [`FullWriter`]: a writer that fails after some bytes; [`Pieces`]: a reader that fails after some bytes, or never ends.
 #![tactic(auto)]
 

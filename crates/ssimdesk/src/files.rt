@@ -28,8 +28,7 @@ fn fault_of(error: &Error) -> StoreFault {
     }
 }
 
-/// All that the reader has, where that is no more than `limit` bytes. Room for `expected` bytes is made at once, and more
-/// where more come.
+/// All bytes of the reader, if they are at most `limit`. Memory for `expected` bytes is allocated at once.
 fn read_within<R: Read + Drop>(
     alloc: Global,
     reader: R,

@@ -10,7 +10,7 @@ use std::env;
 use std::io::BufWriter;
 use std::process::ExitCode;
 
-/// How many bytes wait for the standard output.
+/// The size of the buffer of the standard output.
 const ROOM: usize = 65_536;
 
 /// The words as texts.

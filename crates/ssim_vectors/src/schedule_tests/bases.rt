@@ -164,6 +164,29 @@ fn refusals_in_their_order(rt: HostRuntime) -> Result<(), Fail> {
 }
 
 #[test]
+fn faults_as_text(rt: HostRuntime) -> Result<(), Fail> {
+    let alloc = rt.alloc();
+    let others = [with(LEG, 15, b"26OCT2500XXX00"), with(LEG, 37, b"Z1H")];
+    let cases: [(&[u8], &str); 3] = [
+        (b"HC1T", "BadColumn record 3 column 22"),
+        (b"HC2T", "BadColumn record 3 column 37"),
+        (b"HCLLT", "Overlap record 4"),
+    ];
+    for (names, want) in cases {
+        let set = lines(alloc, names, &others)?;
+        let mut bytes = set.as_slice();
+        match Base::read(alloc, &mut bytes, no_stations(alloc)?, 10_000) {
+            Ok(_) => return Err("the data set is refused".into()),
+            Err(fault) => {
+                let text = format!(in alloc; "{fault}")?;
+                assert_eq!(rt; text.as_str(), want);
+            }
+        }
+    }
+    Ok(())
+}
+
+#[test]
 fn legs_that_meet(rt: HostRuntime) -> Result<(), Fail> {
     let alloc = rt.alloc();
     let from_june = with(LEG, 15, b"30JUN2525OCT25");

@@ -16,9 +16,9 @@ pub loop-place-preserved : goal.loop-place-preserved
 loop-place-preserved c =
     let held = c.args.held.now in let rows = c.args.base.now.rows in let place = c.loop-place.place in
     let are : c.subs-sub-items.result.now ≡ held.message.subs = c.subs-sub-items.ensures.value ∙ ap (λ (m : MessageValue). m.subs) c.message.ensures in
-    let within : place < length c.dates.result.now = subst (λ n. place < n) (ap length are ∙ sym c.requires ∙ sym (ap length c.dates.ensures)) c.loop-place-test.true in
+    let within : place < length c.dates.result.now = subst (λ n. place < n) (ap length are ∙ sym c.dates.ensures.each) c.loop-place-test.true in
     let subs = splits c.subs-sub-items.result.now held.message.subs place c.sub-item.result are c.loop-place-test.true c.sub-item.is in
-    let dates = splits c.dates.result.now held.dates place c.index-dates-place.result c.dates.ensures within c.index-dates-place.is in
+    let dates = splits c.dates.result.now held.dates place c.index-dates-place.result c.dates.ensures.value within c.index-dates-place.is in
     λ before shows.
     let l = c.loop-place.invariant before shows in
     let next = after_one rows c.sub-item.result.action c.index-dates-place.result l.between in

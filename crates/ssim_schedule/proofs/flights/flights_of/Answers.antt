@@ -1,27 +1,30 @@
--- The flights at the places, which rise.
-use Rattle.std.proofs.Common.{◌≡◌, ℕ, ◌<◌, ◌++◌, ◌∷◌, [], List, map, sym, ap, subst, ◌∙◌, append_assoc}
+-- The flights of the set, in its order.
+use Rattle.std.proofs.Common.{◌≡◌, ◌++◌, ◌∷◌, [], List, sym, ap, subst, ◌∙◌, append_assoc}
 use Rattle.std.proofs.lemmas.List.{append-nil}
-use Rattle.std.specs.List.{All}
-use Rattle.ssim_values.specs.Flight.{FlightNumber}
-use Rattle.ssim_schedule.specs.Export.{flight_at}
-use Rattle.ssim_schedule.proofs.FlightLists.{all-behind, are-flights, no-keys}
+use Rattle.std.specs.BTreeMap.{is_at}
+use Rattle.std.specs.List.{AllByRecursion as Each, list_any}
+use Rattle.std.specs.List.Sorted.{IsStrictlySortedBy}
+use Rattle.ssim_values.specs.Flight.{FlightNumber, IsFlight}
+use Rattle.ssim_schedule.specs.BaseSeen.{is_leg_of}
+use Rattle.ssim_schedule.specs.FlightOrder.{flight_cmp}
+use Rattle.ssim_schedule.proofs.FlightLists.{are-flights, each-more, no-keys}
 use Rattle.ssim_schedule.proofs.flights.flights_of.Goals as goal
 
-pub loop-place-preserved : goal.loop-place-preserved
-loop-place-preserved c =
-    let left = c.pop_first.new.self.keys in
-    let removal = c.in-Some.ensures.removal in (
-      ap (λ (fs : List FlightNumber). fs ++ map flight_at left) c.in_ok-push.ensures.items
-          ∙ append_assoc c.loop-place.flights.items (c.flight_at.result ∷ []) (map flight_at left)
-          ∙ ap (λ (f : FlightNumber). c.loop-place.flights.items ++ f ∷ map flight_at left) c.flight_at.ensures
-          ∙ ap (λ (ks : List ℕ). c.loop-place.flights.items ++ map flight_at ks) (sym removal)
-          ∙ c.loop-place.invariant.0,
-      all-behind c.in-Some.place 270000 left (subst (λ (ks : List ℕ). All (λ k. k < 270000) ks) removal c.loop-place.invariant.1),
+pub loop-flight-preserved : goal.loop-flight-preserved
+loop-flight-preserved c =
+    let left = c.pop_first.new.self.keys in (
+      ap (λ (fs : List FlightNumber). fs ++ left) c.in_ok-push.ensures.items
+          ∙ append_assoc c.loop-flight.flights.items (c.in-Some.flight ∷ []) left
+          ∙ ap (λ (fs : List FlightNumber). c.loop-flight.flights.items ++ fs) (sym c.in-Some.ensures.removal)
+          ∙ c.loop-flight.invariant.0,
+      subst (λ (fs : List FlightNumber). Each IsFlight fs) (sym c.in_ok-push.ensures.items) (each-more c.loop-flight.flights.items c.in-Some.flight c.loop-flight.invariant.1 c.place.ensures.flight),
     )
 
 pub returns : goal.returns
 returns c =
-    let none : c.loop-place.places.keys ≡ [] = no-keys c.loop-place.places.keys c.in_default.ensures.variant.1 in
-    are-flights c.args.records.now c.loop-place.flights.items c.in_ok-places.places.keys
-    (sym (append-nil c.loop-place.flights.items) ∙ ap (λ (ks : List ℕ). c.loop-place.flights.items ++ map flight_at ks) (sym none) ∙ c.loop-place.invariant.0)
-    c.len.ensures.ordered c.in_ok-places.ensures.small c.in_ok-places.ensures.flights
+    let none : c.loop-flight.named.keys ≡ [] = no-keys c.loop-flight.named.keys c.in_default.ensures.variant.1 in
+    let all : c.in_ok-named.named.keys ≡ c.loop-flight.flights.items =
+    sym (sym (append-nil c.loop-flight.flights.items) ∙ ap (λ (fs : List FlightNumber). c.loop-flight.flights.items ++ fs) (sym none) ∙ c.loop-flight.invariant.0) in
+    are-flights c.args.records.now c.loop-flight.flights.items
+    (subst (λ (fs : List FlightNumber). IsStrictlySortedBy flight_cmp fs) all c.len.ensures.ordered) c.loop-flight.invariant.1
+    (subst (λ (fs : List FlightNumber). (f : FlightNumber) → list_any (is_at (flight_cmp f)) fs ≡ list_any (is_leg_of f) c.args.records.now) all c.in_ok-named.ensures)

@@ -1,11 +1,11 @@
--- The flights so far, with those of the places that are left, are all.
-use Rattle.std.proofs.Common.{◌≡◌, ◌<◌, ◌++◌, map, length}
-use Rattle.std.specs.List.{All}
-use Rattle.ssim_schedule.specs.Export.{flight_at}
+-- The flights so far and those that are left are all, and those so far are in range.
+use Rattle.std.proofs.Common.{◌≡◌, ◌++◌, length}
+use Rattle.std.specs.List.{AllByRecursion as Each}
+use Rattle.ssim_values.specs.Flight.{IsFlight}
 use Rattle.ssim_schedule.proofs.flights.flights_of.Given as goal
 
-abbrev pub invariant-loop-place : goal.invariant-loop-place
-invariant-loop-place l = (l.flights.items ++ map flight_at l.places.keys ≡ map flight_at l.initial.places.keys) × All (λ k. k < 270000) l.places.keys
+abbrev pub invariant-loop-flight : goal.invariant-loop-flight
+invariant-loop-flight l = (l.flights.items ++ l.named.keys ≡ l.initial.named.keys) × Each IsFlight l.flights.items
 
-abbrev pub decreases-loop-place : goal.decreases-loop-place
-decreases-loop-place l = length l.places.keys
+abbrev pub decreases-loop-flight : goal.decreases-loop-flight
+decreases-loop-flight l = length l.named.keys

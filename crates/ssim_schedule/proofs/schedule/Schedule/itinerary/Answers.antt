@@ -1,7 +1,5 @@
 -- The legs of each date rise, by what always holds of a schedule.
-use Rattle.std.proofs.Common.{◌<◌, sym, subst, ap, ◌∙◌, slice_index_or, [], arith}
-use Rattle.ssim_periods.specs.Calendar.{day_count}
-use Rattle.ssim_schedule.specs.Schedule.{Table, days_in}
+use Rattle.std.proofs.Common.{sym, subst}
 use Rattle.ssim_schedule.specs.Timetable.{Above, Legs}
 use Rattle.ssim_schedule.proofs.Calendars.{in_calendar}
 use Rattle.ssim_schedule.proofs.schedule.Schedule.itinerary.Goals as goal

@@ -1,5 +1,5 @@
 -- The cuts before the change are those of what was held.
-use Rattle.std.proofs.Common.{◌≡◌, ◌+◌, List, ℕ, OnOk, ap, sym, subst, ◌∙◌}
+use Rattle.std.proofs.Common.{◌≡◌, ◌+◌, OnOk, sym, subst, ◌∙◌}
 use Rattle.ssim_periods.specs.Days.{AddsOnly, Seen}
 use Rattle.ssim_schedule.specs.Timetable.{Legs}
 use Rattle.ssim_schedule.proofs.shared_periods.SharedPeriods.apply.Goals as goal

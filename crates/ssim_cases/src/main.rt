@@ -1,0 +1,48 @@
+//! Runs the program on the cases of its standard input, and prints what each run wrote.
+//!
+//! A line of the cases begins with a word:
+//!
+//! - `#`: a remark; `case TITLE`: a new case, with no file and no bytes. The line is printed.
+//! - `let NAME TEXT`: the name of a line. It lasts to the end of the input.
+//! - `| TEXT`, `= NAME`: a line is added to the bytes, shown or named; `^ COLUMN TEXT` writes over the last one from a column on.
+//! - `cut COUNT`: the last bytes go; `out`: what the last run printed is added to the bytes.
+//! - `file NAME`: the bytes become a file.
+//! - `fails out COUNT`: in the next run the standard output takes this many bytes and then fails; `fails err COUNT`: so does the
+//!   standard error; `fails flush always`: no flush of the standard output works; `fails store memory`, `fails store always`: the
+//!   store is out of memory, or gives no file.
+//! - `run WORD ..`: the program runs on its name and these words.
+//!
+//! In a text `<17>` is seventeen blanks, `<200*0>` two hundred zeros, `<x3C>` a byte by its hexadecimal digits. The transcript
+//! shows bytes in the same way, a line of them after `| `; `<>` at the end of a line says that no LF follows.
+#![tactic(auto)]
+
+mod case;
+mod shown;
+
+use case::Case;
+use std::alloc::Global;
+use std::io;
+use std::io::{BufWriter, Write};
+use std::process::ExitCode;
+
+/// Runs all of the cases, and stops at the first line that begins with no word of the list.
+fn run_all<W: Write>(alloc: Global, cases: &str, out: &mut W) -> io::Result<()> {
+    let mut case = Case::new(alloc);
+    for line in cases.lines() {
+        if let Err(error) = case.follow(line, out) {
+            writeln!(out, "not understood: {line}")?;
+            return Err(error);
+        }
+    }
+    out.flush()
+}
+
+fn main(rt: HostRuntime) -> io::Result<ExitCode> {
+    let alloc = rt.alloc();
+    let cases = io::read_to_string(alloc, rt.reader())?;
+    let mut out = BufWriter::new(alloc, rt.stdout())?;
+    Ok(match run_all(alloc, cases.as_str(), &mut out) {
+        Ok(()) => ExitCode::from(0),
+        Err(_) => ExitCode::from(1),
+    })
+}

@@ -1,0 +1,108 @@
+-- What a text and a merge make of a desk.
+use Rattle.std.proofs.Common.{◌≡◌, ◌≢◌, ◌≤◌, ◌<◌, ◌+◌, ℕ, zero, suc, List, [], ◌∷◌, ◌++◌, length, take, drop, Some, None, slice_get, All, refl, sym, ap, subst, ◌∙◌, arith, length-append, length-drop}
+use Rattle.std.proofs.lemmas.List.{length-take, take-append-le, take_all}
+use Rattle.std.proofs.lemmas.List.Elements.{All-append, All-cons, All-drop, All-take}
+use Rattle.std.specs.FinMap.{get}
+use Rattle.ssim_records.specs.Carrier.{CarrierFields}
+use Rattle.ssim_records.specs.declared.record.Record.{Record}
+use Rattle.ssim_schedule.specs.Resolve.{AreResolved, IsRefusedIn, ResolvesIn}
+use Rattle.ssim_schedule.specs.declared.resolved.ResolvedSub.{ResolvedSub}
+use Rattle.ssim_schedule.specs.declared.resolving.ResolveFault.{ResolveFault}
+use Rattle.ssim_schedule.specs.declared.resolving.ResolveFault.TheVariants as resolve_fault
+use Rattle.ssim_schedule.specs.declared.resolving.ResolvedText.{ResolvedText}
+use Rattle.ssim_text.specs.Decoding.{IsRefusal, NoMessage}
+use Rattle.ssim_text.specs.Message.{MessageValue}
+use Rattle.ssim_text.specs.Spelling.{SpellsMessage}
+use Rattle.ssim_text.specs.declared.action.Sub.{Sub}
+use Rattle.ssim_text.specs.declared.fault.TextFault.{TextFault}
+use Rattle.ssim_text.specs.declared.fault.TextFault.TheVariants as text_fault
+use Rattle.ssim_desk.specs.Desk.{IsReplayed}
+use Rattle.ssim_desk.specs.Fault.{message_refused, text_refused}
+use Rattle.ssim_desk.specs.Held.{DeskState, Says}
+use Rattle.ssim_desk.specs.Kept.{AreEntries, AreRising, DeskSeen, Entry, IsEntry, map_of, state_of}
+use Rattle.ssim_desk.specs.Lookup.{IsFound, IsGap}
+use Rattle.ssim_desk.specs.Steps.{IsNew, RefusesText, Takes}
+use Rattle.ssim_desk.specs.Trail.{IsReplaced}
+use Rattle.ssim_desk.specs.declared.fault.DeskFault.TheVariants.{Conflict}
+use Rattle.ssim_desk.specs.declared.lookup.Found.TheVariants.{Other}
+use Rattle.ssim_desk.specs.declared.steps.Answer.TheVariants.{Repeated, Refused}
+use Rattle.ssim_desk.proofs.Entries.{map_of_with, not_held, rising_with}
+
+-- ---- messages that are replaced
+
+pub replaced_entries : (old new : DeskSeen) (at : ℕ) (rest : List Entry) → IsReplaced old at rest new → AreEntries old.base.records (take at old.held ++ rest) → AreEntries new.base.records new.held
+replaced_entries old new at rest r h =
+    subst (λ b. let records = b.records in AreEntries records new.held) (sym r.base) (subst (AreEntries old.base.records) (sym r.held) h)
+
+pub inserted_entries : (records : List Record) (es : List Entry) (at : ℕ) (new : Entry) → AreEntries records es → IsGap es new.reference at → IsEntry records new
+    → AreEntries records (take at es ++ (new ∷ drop at es))
+inserted_entries records es at new h gap entry = record {
+  rising = rising_with es at new h.rising gap;
+  each = All-append (IsEntry records) (take at es) (new ∷ drop at es) (All-take (IsEntry records) at es h.each) (All-cons (IsEntry records) new (drop at es) entry (All-drop (IsEntry records) at es h.each));
+}
+
+at_seam : {X : Type 0} (xs ys : List X) (x : X) → slice_get (xs ++ x ∷ ys) (length xs) ≡ Some x
+at_seam [] ys x = refl
+at_seam (y ∷ xs) ys x = at_seam xs ys x
+
+pub replayed : (old new : DeskSeen) (at : ℕ) (first : Entry) (others : List Entry) → at ≤ length old.held → IsReplaced old at (first ∷ others) new → get (map_of old.held) first.reference ≡ None
+    → IsReplayed old new
+replayed old new at first others place r absent =
+    let front : length (take at old.held) ≡ at = omega (arith, length-take at old.held) in
+    record {
+      at = at;
+      n = length others;
+      first = first;
+      is_there = ap (λ es. slice_get es at) r.held ∙ ap (slice_get (take at old.held ++ first ∷ others)) (sym front) ∙ at_seam (take at old.held) others first;
+      is_new = absent;
+      before = ap (take at) r.held ∙ take-append-le at (take at old.held) (first ∷ others) (omega (arith, front)) ∙ take_all at (take at old.held) (omega (arith, front));
+      after = omega (arith, front, ap length r.held, length-append (take at old.held) (first ∷ others));
+      at_least = omega (arith, r.at_least);
+      at_most = omega (arith, r.at_most);
+    }
+
+-- ---- a text
+
+pub length-resolved : (carrier : CarrierFields) (subs : List Sub) (dates : List ResolvedSub) → AreResolved carrier subs dates → length dates ≡ length subs
+length-resolved carrier [] [] h = refl
+length-resolved carrier [] (d ∷ dates) h = absurd h
+length-resolved carrier (s ∷ subs) [] h = absurd h
+length-resolved carrier (s ∷ subs) (d ∷ dates) h = ap suc (length-resolved carrier subs dates h.1)
+
+pub each_dated : (records : List Record) (m : MessageValue) (text : ResolvedText) → ResolvesIn records m text → length text.subs.items ≡ length m.subs
+each_dated records m text (frame, in_frame, is) = length-resolved frame.carrier m.subs text.subs.items is.subs
+
+pub no_text : (desk : DeskState) (text : List ℕ) (fault : TextFault) → NoMessage text fault → IsRefusal text fault → RefusesText desk text (text_refused fault)
+no_text desk text text_fault.Memory none place = tt
+no_text desk text (text_fault.Refused fault line) none place = (none, place)
+
+pub no_dates : (desk : DeskState) (text : List ℕ) (m : MessageValue) (fault : ResolveFault) → SpellsMessage m text → IsRefusedIn desk.base.records m fault → RefusesText desk text (message_refused fault)
+no_dates desk text m resolve_fault.Memory spelt refused = tt
+no_dates desk text m resolve_fault.TimeMode spelt refused = record { message = m; spelt = spelt; refused = refused; of_message = λ e. cc }
+no_dates desk text m (resolve_fault.Airline sub) spelt refused = record { message = m; spelt = spelt; refused = refused; of_message = λ e. cc }
+no_dates desk text m (resolve_fault.NoSuchDate sub) spelt refused = record { message = m; spelt = spelt; refused = refused; of_message = λ e. cc }
+no_dates desk text m (resolve_fault.Period sub) spelt refused = record { message = m; spelt = spelt; refused = refused; of_message = λ e. cc }
+
+module _ (desk : DeskSeen) (text : List ℕ) (m : MessageValue) (resolved : ResolvedText) (spelt : SpellsMessage m text) (resolves : ResolvesIn desk.base.records m resolved) where
+  says : Says desk.base text resolved.reference m
+  says = record { spelt = spelt; resolved = resolved; resolves = resolves; referred = refl }
+
+  pub is_entry : IsEntry desk.base.records (record { reference = resolved.reference; message = m; dates = resolved.subs.items })
+  is_entry = record { text = resolved; resolves = resolves; referred = refl; dated = refl }
+
+  pub takes_same : get (map_of desk.held) resolved.reference ≡ Some m → Takes (state_of desk) text Repeated (map_of desk.held)
+  takes_same holds = (record { reference = resolved.reference; message = m; says = says; holds = holds }, refl)
+
+  pub takes_other : IsFound desk.held resolved.reference m Other → Takes (state_of desk) text (Refused (Conflict resolved.reference)) (map_of desk.held)
+  takes_other (other, holds, apart) = (record { message = m; says = says; other = other; holds = holds; apart = apart }, refl)
+
+  pub takes_new : (at : ℕ) (new : DeskSeen) → AreRising desk.held → IsGap desk.held resolved.reference at
+      → IsReplaced desk at (record { reference = resolved.reference; message = m; dates = resolved.subs.items } ∷ drop at desk.held) new
+      → IsNew (state_of desk) text (map_of new.held)
+  takes_new at new rising gap r = record {
+    reference = resolved.reference;
+    message = m;
+    says = says;
+    absent = not_held desk.held at resolved.reference rising gap;
+    added = ap map_of r.held ∙ map_of_with desk.held at (record { reference = resolved.reference; message = m; dates = resolved.subs.items }) rising gap;
+  }

@@ -1,0 +1,35 @@
+use Rattle.std.proofs.Common.{◌≡◌, OnOk, IfErr, Result, Ok, Err, subst}
+use Rattle.ssim_schedule.specs.BaseSeen.{BaseSeen}
+use Rattle.ssim_schedule.specs.Plan.{RefusesBase, WritesBase}
+use Rattle.ssim_schedule.specs.Schedule.{days_in}
+use Rattle.ssim_schedule.specs.declared.export.ExportFault.{ExportFault}
+use Rattle.ssim_desk.specs.Desk.{days_of_desk}
+use Rattle.ssim_desk.specs.Kept.{DeskSeen}
+use Rattle.ssim_desk.proofs.Exports.{refuses, writes}
+use Rattle.ssim_desk.proofs.desk.Desk.export.Goals as goal
+
+on_ok : {T E A B : Type 0} (r : Result T E) → (A → B) → OnOk r A → OnOk r B
+on_ok (Ok x) f a = f a
+on_ok (Err e) f a = a
+
+if_err : {T E : Type 0} {P Q : E → Type 0} (r : Result T E) → ((e : E) → P e → Q e) → IfErr r P → IfErr r Q
+if_err (Ok x) f p = p
+if_err (Err e) f p = f e p
+
+pub returns-clause-ok : goal.returns-clause-ok
+returns-clause-ok g c =
+    let t = c.self.inside.trail in let days = days_in c.latest.result.now in
+    on_ok c.export.result
+    (λ w. subst (λ (d : DeskSeen). WritesBase g.W.Sink.taken g.W.Sink.failures d.base.records (days_of_desk d) c.args.out.now c.export.new.out) c.self.view_is
+    (writes days (days_of_desk t) c.latest.ensures.shows g.W.Sink.taken g.W.Sink.failures t.base.records c.args.out.now c.export.new.out
+    (subst (λ (b : BaseSeen). let records = b.records in WritesBase g.W.Sink.taken g.W.Sink.failures records days c.args.out.now c.export.new.out) c.base.ensures w)))
+    c.export.ensures.ok
+
+pub returns-clause-err : goal.returns-clause-err
+returns-clause-err g c =
+    let t = c.self.inside.trail in let days = days_in c.latest.result.now in
+    if_err c.export.result
+    (λ fault r. subst (λ (d : DeskSeen). RefusesBase g.W.Sink.taken g.W.Sink.failures d.base.records (days_of_desk d) c.args.out.now c.export.new.out fault) c.self.view_is
+    (refuses days (days_of_desk t) c.latest.ensures.shows g.W.Sink.taken g.W.Sink.failures t.base.records c.args.out.now c.export.new.out fault
+    (subst (λ (b : BaseSeen). let records = b.records in RefusesBase g.W.Sink.taken g.W.Sink.failures records days c.args.out.now c.export.new.out fault) c.base.ensures r)))
+    c.export.ensures.err

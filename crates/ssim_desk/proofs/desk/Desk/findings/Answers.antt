@@ -1,0 +1,11 @@
+use Rattle.std.proofs.Common.{List, ◌∙◌, length, sym, ap}
+use Rattle.ssim_schedule.specs.declared.finding.Finding.{Finding}
+use Rattle.ssim_schedule.specs.Timetable.{itinerary}
+use Rattle.ssim_desk.specs.Kept.{Entry}
+use Rattle.ssim_desk.proofs.Trails.{length-findings}
+use Rattle.ssim_desk.proofs.desk.Desk.findings.Goals as goal
+
+pub push_lines-requires : goal.push_lines-requires
+push_lines-requires c =
+    let t = c.self.inside.trail in
+    ap (λ (es : List Entry). length es) c.held.ensures ∙ sym (length-findings t.base.rows t.held (itinerary t.base.records)) ∙ sym (ap (λ (fs : List (List Finding)). length fs) c.found.ensures)

@@ -1,0 +1,20 @@
+use Rattle.std.proofs.Common.{◌≡◌, ◌≤◌, IfSome, slice_get, arith}
+use Rattle.ssim_desk.proofs.Searching.{no_more}
+use Rattle.ssim_desk.proofs.lookup.search.Goals as goal
+
+pub loop-low-init : goal.loop-low-init
+loop-low-init c = record {
+  order = omega arith;
+  within = omega arith;
+  before = λ j lt. absurd (omega (arith, lt));
+  after = λ j le. no_more c.args.held.now j _ le;
+}
+
+pub returns-clause-absent : goal.returns-clause-absent
+returns-clause-absent c =
+    let n = c.loop-low.invariant in
+    record {
+      within = omega (arith, n.order, n.within);
+      before = n.before;
+      here = n.after c.loop-low.low c.loop-low-test.false;
+    }

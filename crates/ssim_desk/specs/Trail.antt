@@ -1,0 +1,61 @@
+-- What a trail keeps: the schedule after every 32 messages, the latest one, and what each message found.
+use Rattle.std.specs.Prelude.{◌≡◌, ◌⊎◌, ℕ, ◌≤◌, ◌<◌, ◌+◌, ◌-◌, ◌*◌, ◌/◌, ◌%◌, ◌++◌, ◌∷◌, [], List, length, take, drop, Some, IfSome, slice_get}
+use Rattle.std.specs.FinMap.{get}
+use Rattle.ssim_schedule.specs.BaseSeen.{BaseSeen}
+use Rattle.ssim_schedule.specs.Schedule.{Table}
+use Rattle.ssim_schedule.specs.Timetable.{itinerary}
+use Rattle.ssim_schedule.specs.declared.finding.Finding.{Finding}
+use Rattle.ssim_desk.specs.Kept.{DeskSeen, Entry, Shows, after_entries, entries_findings}
+use Rattle.ssim_desk.specs.Meaning.{Timetable}
+use Rattle.ssim_desk.specs.declared.tail.Tail.{Tail}
+
+-- what these messages, in this order, leave of a base's timetable
+abbrev pub left_by : BaseSeen → List Entry → Timetable
+left_by base entries = after_entries base.rows entries (itinerary base.records)
+
+-- what each of them found
+abbrev pub found_by : BaseSeen → List Entry → List (List Finding)
+found_by base entries = entries_findings base.rows entries (itinerary base.records)
+
+-- the schedule is the base's after these messages
+pub record IsAfter (base : BaseSeen) (entries : List Entry) (schedule : Table) : Type 0 where
+  pub shows : Shows schedule (left_by base entries)
+
+-- the checkpoints from number `first` on: checkpoint k is the schedule after 32 * k messages
+pub record AreCheckpoints (base : BaseSeen) (entries : List Entry) (first : ℕ) (checkpoints : List Table) : Type 0 where
+  pub count : first + length checkpoints ≡ length entries / 32 + 1
+  pub each : (k : ℕ) → IfSome (slice_get checkpoints k) (IsAfter base (take (32 * (first + k)) entries))
+
+-- what a trail keeps of a base and messages
+pub record IsTrail (base : BaseSeen) (entries : List Entry) (checkpoints : List Table) (latest : Table) (found : List (List Finding)) : Type 0 where
+  pub latest_is : IsAfter base entries latest
+  pub found_is : found ≡ found_by base entries
+  pub kept : AreCheckpoints base entries 0 checkpoints
+
+-- what follows the first `from` messages: the checkpoints, the findings, and how many messages were applied
+pub record IsTail (base : BaseSeen) (entries : List Entry) (from : ℕ) (tail : Tail) : Type 0 where
+  pub within : from ≤ length entries
+  pub latest_is : IsAfter base entries tail.latest
+  pub found_is : found_by base (take from entries) ++ tail.found.items ≡ found_by base entries
+  pub kept : AreCheckpoints base entries (from / 32 + 1) tail.checkpoints.items
+  pub counted : tail.applied + from ≡ length entries
+  pub since_is : tail.since ≡ length entries % 32
+
+-- a tail counts the messages that were applied, and how many the last multiple of 32 leaves
+pub record IsCounted (tail : Tail) : Type 0 where
+  pub each : tail.applied ≡ length tail.found.items
+  pub few : tail.since < 32
+
+-- The first `from` of so many messages need not be applied again if those from a position on are replaced: these are all, or there is a
+-- checkpoint after them, fewer than 32 before the position.
+pub record IsStart (count at from : ℕ) : Type 0 where
+  pub low : from ≤ at
+  pub near : at ≤ from + 31
+  pub kept : (from ≡ count) ⊎ (from ≡ 32 * (from / 32))
+
+-- The messages from a position on are replaced. Those put there were applied, and fewer than 32 before them.
+pub record IsReplaced (old : DeskSeen) (at : ℕ) (rest : List Entry) (new : DeskSeen) : Type 0 where
+  pub base : new.base ≡ old.base
+  pub held : new.held ≡ take at old.held ++ rest
+  pub at_least : length rest ≤ new.applied
+  pub at_most : new.applied ≤ length rest + 31

@@ -1,0 +1,234 @@
+//! A desk: a base and messages by reference.
+
+ghost use Rattle.std.specs.Prelude.{◌≡◌, ◌⊎◌, ◌++◌, ◌≤◌, All, [], ◌∷◌, length, take, drop, Ok, IfOk, IfErr, OnErr, OnOk};
+ghost use Rattle.std.specs.List.Sorted.{IsStrictlyIncreasing};
+ghost use Rattle.ssim_schedule.specs.Plan.{ReadsBackBase, RefusesBase, WritesBase};
+ghost use Rattle.ssim_desk.specs.Desk.{IsReplayed, at_rest, days_of_desk, finding_lines, merge_answer, take_answer, timetable_of};
+ghost use Rattle.ssim_desk.specs.Kept.{AreEntries, AreRising, IsEntry, map_of, state_of};
+ghost use Rattle.ssim_desk.specs.Lookup.{IsGap};
+ghost use Rattle.ssim_desk.specs.Meaning.{Means, Timetable};
+ghost use Rattle.ssim_desk.specs.Steps.{IsUnion, Merges, Takes};
+ghost use Rattle.ssim_desk.specs.Trail.{IsReplaced};
+ghost use Rattle.ssim_desk.specs.Union.{HeldAlike};
+
+use crate::fault::DeskFault;
+use crate::finding_line::{FindingLine, push_lines};
+use crate::held::Held;
+use crate::lookup::{Found, look};
+use crate::trail::Trail;
+use crate::union::{first_conflict, first_new, merged};
+use ssim_records::Sink;
+use ssim_schedule::{Base, ExportFault, PlacedLeg, resolve};
+use ssim_text::decode;
+use ssim_values::{Day, Flight, Memory};
+use std::alloc::Global;
+use std::marker::Model;
+
+/// What a desk did with a text that it accepts.
+#[derive(Clone, Copy, Debug, PartialEq, Eq)]
+pub enum Took {
+    /// The message was new, and is held.
+    Taken,
+    /// The message was held already. Nothing has changed.
+    Repeated,
+}
+
+/// A desk: a base, and the messages that it holds in order of reference.
+///
+/// Its timetable is what these messages, in order of reference, leave of the base's timetable, in whatever order they came. It keeps the
+/// schedule after every 32 messages, so that a late message is applied from there on.
+#[derive(Drop)]
+pub struct Desk {
+    trail: Trail,
+}
+
+impl Model for Desk {
+    ghost use Rattle.ssim_desk.specs.Kept.{AreEntries, DeskSeen};
+
+    ghost Value = { DeskSeen };
+
+    ghost view = { λ d. d.trail };
+
+    ghost invariant = { λ d. let t = d.trail in AreEntries t.base.records t.held };
+}
+
+impl Desk {
+    /// A desk that holds nothing. The base is freed if there is no memory.
+    pub fn start(alloc: Global, base: Base) -> Result<Desk, Memory>
+        ensures { IfOk result (λ desk. desk ≡ record { base = base; held = []; applied = 0 }) }
+    {
+        Ok(Desk {
+            trail: Trail::new(alloc, base)?,
+        })
+    }
+
+    /// The base from which the desk began. No call changes it.
+    pub fn base(&self) -> &Base
+        ensures { result.now ≡ self.now.base }
+    {
+        self.trail.base()
+    }
+
+    /// The messages that are held, in order of reference.
+    pub fn held(&self) -> &[Held]
+        ensures value { result.now ≡ self.now.held }
+        ensures kept { AreEntries self.now.base.records self.now.held }
+        ensures rising { AreRising result.now }
+    {
+        self.trail.held()
+    }
+
+    /// How many messages the latest `take` that returned `Taken`, or the latest successful `merge`, applied to a schedule; 0 at the
+    /// start.
+    pub fn applied(&self) -> u64
+        ensures { result ≡ self.now.applied }
+    {
+        self.trail.applied()
+    }
+
+    /// Takes a text: holds its message if it is new.
+    ///
+    /// Returns the first of: 20 to 29 if the text is no message, 40 to 43 if the message does not resolve, 60 if another message is held
+    /// under its reference. The desk changes only if the message was new.
+    pub fn take(&mut self, text: &[u8]) -> Result<Took, DeskFault>
+        ensures takes { Takes (state_of self.old) text.now (take_answer result) (map_of self.new.held) }
+        ensures base { self.new.base ≡ self.old.base }
+        ensures taken { result ≡ Ok Took.Taken → IsReplayed self.old self.new }
+        ensures repeated { result ≡ Ok Took.Repeated → self.new ≡ self.old }
+        ensures err { OnErr result (self.new ≡ self.old) }
+    {
+        let alloc = self.trail.allocator();
+        let message = decode(alloc, text)?;
+        let resolved = resolve(self.base(), &message)?;
+        match look(self.held(), &resolved.reference, &message) {
+            Found::Same => Ok(Took::Repeated),
+            Found::Other => Err(DeskFault::Conflict(resolved.reference)),
+            Found::Absent(at) => {
+                let new = Held::of(alloc, resolved.reference, message, resolved.subs)?;
+                self.insert(at, new)?;
+                Ok(Took::Taken)
+            }
+        }
+    }
+
+    /// Holds what the other desk holds, too.
+    ///
+    /// Returns 61 if it has another base, else 60 with the first reference under which the two hold different messages. The desk changes
+    /// only if the other holds a message that is new.
+    pub fn merge(&mut self, other: &Desk) -> Result<(), DeskFault>
+        ensures merges { Merges (state_of self.old) (state_of other.now) (merge_answer result) (map_of self.new.held) }
+        ensures base { self.new.base ≡ self.old.base }
+        ensures replayed { OnOk result (IsReplayed self.old self.new ⊎ (self.new ≡ at_rest self.old)) }
+        ensures err { OnErr result (self.new ≡ self.old) }
+    {
+        if !self.base().same(other.base()) {
+            return Err(DeskFault::OtherBase);
+        }
+        if let Some(reference) = first_conflict(self.held(), other.held()) {
+            return Err(DeskFault::Conflict(reference));
+        }
+        self.bring(other)?;
+        Ok(())
+    }
+
+    /// The legs of a flight on a date of origin, by leg sequence; none if it does not fly.
+    pub fn itinerary(&self, flight: &Flight, day: Day) -> &[PlacedLeg]
+        ensures value { result.now ≡ timetable_of self.now flight.now day }
+        ensures means { Means (state_of self.now) (timetable_of self.now) }
+        ensures only { (timetable : Timetable) → Means (state_of self.now) timetable → result.now ≡ timetable flight.now day }
+    {
+        // No effect at run time. The proof reads from these uses that the flight and the day exist.
+        let _ = flight.number();
+        let _ = flight.suffix();
+        let _ = day.number();
+        self.trail.latest().itinerary(flight, day)
+    }
+
+    /// The rising days at which a stored range of the flight begins or ends; none for a flight that was never named.
+    pub fn cuts(&self, flight: &Flight) -> &[u32]
+        ensures rising { IsStrictlyIncreasing result.now }
+        ensures in_calendar { All (λ cut. cut ≤ 36525) result.now }
+    {
+        self.trail.latest().cuts(flight)
+    }
+
+    /// A line for each sub-message that is held, in order: what it found on the dates of its period.
+    pub fn findings(&self) -> Result<Vec<FindingLine>, Memory>
+        ensures { IfOk result (λ lines. lines.items ≡ finding_lines self.now) }
+    {
+        let mut lines = Vec::new(self.trail.allocator());
+        push_lines(&mut lines, self.trail.held(), self.trail.found())?;
+        Ok(lines)
+    }
+
+    /// Writes the desk's timetable as an SSIM chapter 7 data set in the one canonical division: the base's header and carrier, each
+    /// flight with its pieces as itinerary variations, and the base's trailer.
+    ///
+    /// Returns 50 for the first flight with more than 99 pieces, 51 for more than 999,999 records, and 90 if there is no memory. None of
+    /// them writes a byte. 52: the sink failed; it has taken a prefix of the export.
+    pub fn export<W: Sink>(&self, out: &mut W) -> Result<(), ExportFault>
+        ensures ok { OnOk result (WritesBase W.taken W.failures self.now.base.records (days_of_desk self.now) out.old out.new) }
+        ensures err { IfErr result (λ fault. RefusesBase W.taken W.failures self.now.base.records (days_of_desk self.now) out.old out.new fault) }
+        ensures device { W.device out.new ≡ W.device out.old }
+        ensures reads_back { OnOk result (ReadsBackBase W.taken self.now.base.records (days_of_desk self.now) out.old out.new) }
+    {
+        self.trail.latest().export(self.trail.base(), out)
+    }
+
+    // Holds what another desk over the same base holds, too.
+    fn bring(&mut self, other: &Desk) -> Result<(), Memory>
+        requires base { self.old.base ≡ other.now.base }
+        requires alike { HeldAlike self.old.held other.now.held }
+        ensures union { OnOk result (IsUnion (state_of self.old) (state_of other.now) (map_of self.new.held)) }
+        ensures base { self.new.base ≡ self.old.base }
+        ensures replayed { OnOk result (IsReplayed self.old self.new ⊎ (self.new ≡ at_rest self.old)) }
+        ensures err { OnErr result (self.new ≡ self.old) }
+    {
+        match first_new(self.held(), other.held()) {
+            None => {
+                self.trail.rest();
+                Ok(())
+            }
+            Some((place, at)) => {
+                let alloc = self.trail.allocator();
+                let rest = merged(alloc, &self.held()[at..], &other.held()[place..])?;
+                self.replace_from(at, rest)?;
+                Ok(())
+            }
+        }
+    }
+
+    // Puts a new message where it belongs.
+    fn insert(&mut self, at: usize, new: Held) -> Result<(), Memory>
+        requires gap { IsGap self.old.held new.reference at }
+        requires entry { IsEntry self.old.base.records new }
+        ensures ok { OnOk result (IsReplaced self.old at (new ∷ drop at self.old.held) self.new) }
+        ensures err { OnErr result (self.new ≡ self.old) }
+    {
+        let rest = with_all(self.trail.allocator(), new, &self.held()[at..])?;
+        self.replace_from(at, rest)
+    }
+
+    // Replaces the messages from position `at` on.
+    fn replace_from(&mut self, at: usize, rest: Vec<Held>) -> Result<(), Memory>
+        requires place { at ≤ length self.old.held }
+        requires entries { AreEntries self.old.base.records (take at self.old.held ++ rest.items) }
+        ensures ok { OnOk result (IsReplaced self.old at rest.items self.new) }
+        ensures err { OnErr result (self.new ≡ self.old) }
+    {
+        self.trail.replace_from(at, rest)?;
+        Ok(())
+    }
+}
+
+// A message, and others after it.
+fn with_all(alloc: Global, first: Held, others: &[Held]) -> Result<Vec<Held>, Memory>
+    ensures { IfOk result (λ all. all.items ≡ first ∷ others.now) }
+{
+    let mut all = Vec::with_capacity(alloc, others.len() + 1)?;
+    all.push(first)?;
+    for held in others {
+        all.push(held.copy()?)?;
+    }
+    Ok(all)
+}

@@ -1,0 +1,104 @@
+//! Schedule, findings and checkpoints of the messages from a checkpoint on.
+
+ghost use Rattle.std.specs.Prelude.{◌≡◌, ◌<◌, ◌%◌, ◌++◌, ◌∷◌, [], ℕ, List, length, IfOk, OnOk};
+ghost use Rattle.ssim_schedule.specs.BaseSeen.{BaseSeen};
+ghost use Rattle.ssim_desk.specs.Kept.{Entry};
+ghost use Rattle.ssim_desk.specs.Trail.{IsAfter, IsCounted, IsTail};
+
+use crate::held::Held;
+use crate::replay::act;
+use ssim_schedule::{Base, Finding, Schedule};
+use ssim_values::Memory;
+use std::alloc::Global;
+use std::marker::Model;
+
+/// How many messages lie between two checkpoints.
+pub(crate) const STEP: usize = 32;
+
+/// What each sub-message of a message found.
+#[derive(Drop)]
+pub(crate) struct Found {
+    findings: Vec<Finding>,
+}
+
+impl Model for Found {
+    ghost use Rattle.std.specs.Prelude.{List};
+    ghost use Rattle.ssim_schedule.specs.declared.finding.Finding.{Finding};
+
+    ghost Value = { List Finding };
+
+    ghost view = { λ f. f.findings.items };
+}
+
+impl Found {
+    /// In the order of the sub-messages.
+    pub(crate) fn findings(&self) -> &[Finding]
+        ensures { result.now ≡ self.now }
+    {
+        &self.findings
+    }
+}
+
+/// What follows some messages: the schedule after all that were applied since, their findings, and the checkpoints among them.
+#[derive(Drop)]
+pub(crate) struct Tail {
+    pub latest: Schedule,
+    /// Of each message that was applied.
+    pub found: Vec<Found>,
+    /// The schedule after every 32 messages, counted from the first message of all.
+    pub checkpoints: Vec<Schedule>,
+    /// How many messages were applied.
+    pub applied: u64,
+    /// How many messages the last multiple of 32 leaves.
+    pub since: usize,
+}
+
+impl Tail {
+    /// Nothing follows yet, after a schedule of messages that leave so many after the last multiple of 32.
+    pub(crate) fn after(alloc: Global, schedule: &Schedule, since: usize) -> Result<Tail, Memory>
+        requires { since < 32 }
+        ensures counted { IfOk result IsCounted }
+        ensures nothing { IfOk result (λ tail. (base : BaseSeen) (entries : List Entry) (from : ℕ) → from ≡ length entries → since ≡ from % 32 → IsAfter base entries schedule.now → IsTail base entries from tail) }
+    {
+        Ok(Tail {
+            latest: schedule.copy()?,
+            found: Vec::new(alloc),
+            checkpoints: Vec::new(alloc),
+            applied: 0,
+            since,
+        })
+    }
+
+    /// One more message is applied.
+    pub(crate) fn apply(&mut self, alloc: Global, base: &Base, held: &Held) -> Result<(), Memory>
+        requires { IsCounted self.old }
+        ensures counted { IsCounted self.new }
+        ensures applied { OnOk result ((before : List Entry) (from : ℕ) → IsTail base.now before from self.old → IsTail base.now (before ++ held.now ∷ []) from self.new) }
+    {
+        let findings = act(alloc, base, &mut self.latest, held)?;
+        self.found.push(Found { findings })?;
+        self.applied += 1;
+        self.since = (self.since + 1) % STEP;
+        if self.since == 0 {
+            self.checkpoints.push(self.latest.copy()?)?;
+        }
+        Ok(())
+    }
+}
+
+/// More messages are applied.
+pub(crate) fn apply_all(
+    alloc: Global,
+    base: &Base,
+    tail: &mut Tail,
+    messages: &[Held],
+) -> Result<(), Memory>
+    requires { IsCounted tail.old }
+    ensures counted { IsCounted tail.new }
+    ensures applied { OnOk result ((before : List Entry) (from : ℕ) → IsTail base.now before from tail.old → IsTail base.now (before ++ messages.now) from tail.new) }
+{
+    for held in messages {
+        tail.apply(alloc, base, held)?;
+    }
+    Ok(())
+}
