@@ -83,7 +83,7 @@ impl From<TextFault> for DeskFault {
     fn from(fault: TextFault) -> DeskFault {
         match fault {
             TextFault::Memory => DeskFault::Memory,
-            TextFault::Refused(_, _) => DeskFault::Text(fault),
+            TextFault::Refused { .. } => DeskFault::Text(fault),
         }
     }
 }

@@ -1,5 +1,5 @@
 -- Texts of bytes that a record carries, and the texts of values in their columns.
-use Rattle.std.proofs.Common.{◌≡◌, ℕ, zero, suc, ◌+◌, ◌-◌, ◌≤◌, ◌<◌, Bool, true, false, ◌&&◌, List, [], ◌∷◌, ◌++◌, length, take, drop, Option, Some, None, refl, sym, ap, ◌∙◌, arith, lit≤, IsTrue}
+use Rattle.std.proofs.Common.{◌≡◌, ℕ, zero, suc, ◌+◌, ◌-◌, ◌≤◌, ◌<◌, Bool, true, false, ◌&&◌, List, [], ◌∷◌, ◌++◌, length, take, drop, Some, None, refl, arith, IsTrue}
 use Rattle.std.specs.Prelude.{slice_range, is_some, option_map, if◌then◌else◌, ◌==◌, ◌%◌, ◌/◌, nat_le}
 use Rattle.std.specs.List.{concat, list_all, AllZip}
 use Rattle.std.proofs.lemmas.Bool.Decides.{nat_tests}

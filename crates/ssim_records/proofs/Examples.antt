@@ -1,12 +1,11 @@
 -- The worked data set, by computing.
-use Rattle.std.proofs.Common.{◌≡◌, List, ℕ, refl, arith}
+use Rattle.std.proofs.Common.{◌≡◌, refl, arith}
 use Rattle.std.specs.Prelude.{take, drop}
 use Rattle.ssim_values.specs.Calendar.{day_number, leap_years, months_length, year_of, month_of, day_of_month}
 use Rattle.ssim_values.specs.Day.{day_of, day_text}
 use Rattle.ssim_values.specs.DayMask.{days_of}
 use Rattle.ssim_values.specs.Clock.{clock_of}
 use Rattle.ssim_values.specs.Variation.{variation_of}
-use Rattle.ssim_records.specs.declared.record.Record.TheVariants.{Header, Carrier, Leg, Trailer}
 use Rattle.ssim_records.specs.Columns.{end_from, passenger_time_of, utc_variation_of, time_mode_of, end_code_of, is_title, dates_fault}
 use Rattle.ssim_records.specs.Frames.{is_fill}
 use Rattle.ssim_records.specs.Header.{SpellsHeader, written_header}

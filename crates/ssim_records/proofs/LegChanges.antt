@@ -1,7 +1,7 @@
 -- Times and equipment land in their columns of a leg, the other columns stay, and the result is valid.
-use Rattle.std.proofs.Common.{◌≡◌, ◌≤◌, ◌<◌, ◌+◌, ◌-◌, ℕ, List, [], ◌∷◌, ◌++◌, length, None, refl, sym, subst, ap, ◌∙◌, arith, lit<, lit≤, IsTrue}
+use Rattle.std.proofs.Common.{◌≡◌, ◌≤◌, ◌<◌, ◌+◌, ◌-◌, ℕ, List, [], ◌∷◌, length, None, refl, sym, subst, ap, ◌∙◌, lit<, lit≤, IsTrue}
 use Rattle.std.specs.Prelude.{slice_range, replicate}
-use Rattle.std.specs.List.{concat, list_all, AllZip}
+use Rattle.std.specs.List.{list_all, AllZip}
 use Rattle.ssim_values.specs.Station.{is_station}
 use Rattle.ssim_values.specs.Clock.{clock_text}
 use Rattle.ssim_values.specs.Variation.{variation_text}
@@ -11,7 +11,7 @@ use Rattle.ssim_records.specs.declared.leg_parts.LegTimes.{LegTimes}
 use Rattle.ssim_records.specs.Columns.{columns, fault_in, filled, is_carried}
 use Rattle.ssim_records.specs.Leg.{AreLegColumns, leg_columns, spread}
 use Rattle.ssim_records.specs.LegParts.{AreTimes, ChangesEquipment, ChangesTimes, EquipmentFields, date_variations, station_columns, with_equipment, with_times}
-use Rattle.ssim_records.proofs.CarriedTexts.{IsCarried, carried_append, carried_within, filled_carried, length_station, passenger_stands, station_stands, time_stands, two_carried, variation_stands}
+use Rattle.ssim_records.proofs.CarriedTexts.{carried_append, carried_within, filled_carried, length_station, passenger_stands, station_stands, time_stands, two_carried, variation_stands}
 use Rattle.ssim_records.proofs.Overwriting.{Fit, Write, all_lie, glued, length_written, slice_cut, stays, written}
 use Rattle.ssim_records.proofs.OwnColumns.{own_middle, own_service, own_tail}
 use Rattle.ssim_records.proofs.Places.{Placed, all_placed, length_concat}

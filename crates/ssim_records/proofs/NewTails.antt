@@ -1,10 +1,10 @@
 -- The parts of a new tail are written one after another over blanks, and each can be carried.
-use Rattle.std.proofs.Common.{◌≡◌, ℕ, List, [], ◌∷◌, length, refl, lit≤, IsTrue}
+use Rattle.std.proofs.Common.{◌≡◌, ℕ, List, [], ◌∷◌, refl, lit≤, IsTrue}
 use Rattle.std.specs.Prelude.{replicate}
-use Rattle.std.specs.List.{AllZip, list_all}
+use Rattle.std.specs.List.{AllZip}
 use Rattle.ssim_values.specs.Station.{is_station}
 use Rattle.ssim_records.specs.Numbers.{digits}
-use Rattle.ssim_records.specs.Columns.{filled, is_carried}
+use Rattle.ssim_records.specs.Columns.{filled}
 use Rattle.ssim_records.specs.Segment.{IsTail, new_tail}
 use Rattle.ssim_records.proofs.CarriedTexts.{IsCarried, digits_carried, filled_carried, joined_carried, joined_long, length_station, station_carried}
 use Rattle.ssim_records.proofs.Overwriting.{Fit, Write, all_lie, glued, length_written, stays, written}

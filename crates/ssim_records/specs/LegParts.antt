@@ -1,5 +1,5 @@
 -- The columns of a new leg, and of a leg that gets other times or other equipment.
-use Rattle.std.specs.Prelude.{◌≡◌, ◌≤◌, ℕ, zero, suc, ◌+◌, if◌then◌else◌, List, [], ◌∷◌, ◌++◌, length, take, drop, replicate}
+use Rattle.std.specs.Prelude.{◌≡◌, ◌≤◌, ℕ, List, [], ◌∷◌, ◌++◌, replicate}
 use Rattle.std.specs.List.{concat}
 use Rattle.ssim_values.specs.Clock.{clock_text}
 use Rattle.ssim_values.specs.Variation.{variation_text}

@@ -1,8 +1,7 @@
 -- The names of faults, and the texts as which they are displayed.
-use Rattle.std.specs.Prelude.{ℕ, List, ◌++◌, Option, Some, None, codes}
+use Rattle.std.specs.Prelude.{ℕ, List, ◌++◌, codes}
 use Rattle.std.specs.Fmt.{decimal}
-use Rattle.ssim_records.specs.declared.fault.RecordFault.{RecordFault}
-use Rattle.ssim_records.specs.declared.fault.RecordFault.TheVariants as record_fault
+use Rattle.ssim_records.specs.Record.{fault_name, fault_text}
 use Rattle.ssim_schedule.specs.declared.fault.BaseFault.{BaseFault}
 use Rattle.ssim_schedule.specs.declared.fault.BaseFault.TheVariants as base
 use Rattle.ssim_schedule.specs.declared.fault.BaseRefusal.{BaseRefusal}
@@ -30,23 +29,15 @@ abbrev pub refusal_text : ℕ → BaseRefusal → List ℕ
 refusal_text n refused.OpenEnd = codes "BadColumn record " ++ decimal n ++ codes " column 22"
 refusal_text n refusal = refusal_name refusal ++ codes " record " ++ decimal n
 
-abbrev pub record_fault_name : RecordFault → List ℕ
-record_fault_name (record_fault.Short n) = codes "Short"
-record_fault_name (record_fault.BadType n) = codes "BadType"
-record_fault_name (record_fault.BadColumn n column) = codes "BadColumn"
-record_fault_name (record_fault.ReadFault n) = codes "ReadFault"
-record_fault_name (record_fault.ReaderNeverEnds n) = codes "ReaderNeverEnds"
-
 abbrev pub base_fault_name : BaseFault → List ℕ
 base_fault_name base.Memory = codes "Memory"
-base_fault_name (base.Read fault) = record_fault_name fault
+base_fault_name (base.Read fault) = fault_name fault
 base_fault_name (base.Refused n refusal) = refusal_name refusal
 
--- the text of a fault; that of a record that cannot be read is the record fault's own
-abbrev pub base_fault_text : BaseFault → Option (List ℕ)
-base_fault_text base.Memory = Some (codes "Memory")
-base_fault_text (base.Read fault) = None
-base_fault_text (base.Refused n refusal) = Some (refusal_text n refusal)
+abbrev pub base_fault_text : BaseFault → List ℕ
+base_fault_text base.Memory = codes "Memory"
+base_fault_text (base.Read fault) = fault_text fault
+base_fault_text (base.Refused n refusal) = refusal_text n refusal
 
 abbrev pub station_fault_name : StationFault → List ℕ
 station_fault_name stations.Memory = codes "Memory"

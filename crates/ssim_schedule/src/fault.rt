@@ -1,7 +1,7 @@
 //! Why a data set is refused.
 
 ghost use Rattle.std.specs.Prelude.{◌≡◌, Some};
-ghost use Rattle.ssim_schedule.specs.Fault.{base_fault_name, base_fault_text, record_fault_name, refusal_name};
+ghost use Rattle.ssim_schedule.specs.Fault.{base_fault_name, base_fault_text, refusal_name};
 
 use ssim_records::RecordFault;
 use ssim_values::Memory;
@@ -121,27 +121,14 @@ impl BaseFault {
     {
         match self {
             BaseFault::Memory => "Memory",
-            BaseFault::Read(fault) => read_fault_name(fault),
+            BaseFault::Read(fault) => fault.name(),
             BaseFault::Refused(_, refusal) => refusal.name(),
         }
     }
 }
 
-// The name of the fault of a record that cannot be read.
-fn read_fault_name(fault: RecordFault) -> &'static str
-    ensures { result.now ≡ record_fault_name fault }
-{
-    match fault.number() {
-        10 => "Short",
-        11 => "BadType",
-        12 => "BadColumn",
-        13 => "ReadFault",
-        _ => "ReaderNeverEnds",
-    }
-}
-
 impl fmt::Display for BaseFault {
-    ghost output = { λ fault. base_fault_text fault };
+    ghost output = { λ fault. Some (base_fault_text fault) };
 
     fn fmt<W: fmt::Write>(&self, f: &mut fmt::Formatter<W>) -> fmt::Result {
         match self {

@@ -15,7 +15,7 @@ fn columns_with(changes: &[(usize, &[u8])]) -> Option<LegColumns> {
     for (column, text) in changes {
         bytes = with(&bytes, *column, text);
     }
-    match read_record(&bytes) {
+    match &read_record(&bytes) {
         Ok(Record::Leg(leg)) => Some(leg.columns()),
         _ => None,
     }
@@ -85,7 +85,7 @@ fn tail_of_a_new_segment(rt: HostRuntime) -> Result<(), Fail> {
     let board = Station::parse(b"ZRH").ok().ok_or("board")?;
     let off = Station::parse(b"LHR").ok().ok_or("off")?;
     let tail = SegmentTail::new(*b"AB", 99, board, off, b"OPERATED BY ANOTHER AIRLINE");
-    match read_record(SEGMENT) {
+    match &read_record(SEGMENT) {
         Ok(Record::Segment(segment)) => assert!(rt; segment.tail().same(&tail)),
         _ => assert!(rt; false, "another record"),
     }

@@ -1,7 +1,7 @@
 -- Stations, then times, then equipment: the columns are valid once all three are written.
-use Rattle.std.proofs.Common.{◌≡◌, ◌∙◌, ap, subst, sym, List, ℕ}
+use Rattle.std.proofs.Common.{◌∙◌, ap}
 use Rattle.ssim_records.specs.Leg.{AreLegColumns}
-use Rattle.ssim_records.specs.LegParts.{equipment_fields, new_leg, station_columns, with_equipment, with_times}
+use Rattle.ssim_records.specs.LegParts.{equipment_fields, new_leg, with_equipment, with_times}
 use Rattle.ssim_records.proofs.LegChanges.{AreBesideTimes, equipment_stands, stations_stand, times_stand}
 use Rattle.ssim_records.proofs.leg_columns.LegColumns.new.Goals as goal
 

@@ -1,6 +1,5 @@
 -- Valid columns with other equipment are valid.
-use Rattle.std.proofs.Common.{sym, subst}
-use Rattle.ssim_records.specs.LegParts.{ChangesEquipment, equipment_fields}
+use Rattle.ssim_records.specs.LegParts.{equipment_fields}
 use Rattle.ssim_records.proofs.LegChanges.{equipment_stands}
 use Rattle.ssim_records.proofs.leg_columns.LegColumns.with_equipment.Goals as goal
 

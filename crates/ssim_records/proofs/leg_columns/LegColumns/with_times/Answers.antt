@@ -1,6 +1,4 @@
 -- Valid columns with valid times are valid.
-use Rattle.std.proofs.Common.{sym, subst}
-use Rattle.ssim_records.specs.LegParts.{ChangesTimes}
 use Rattle.ssim_records.proofs.LegChanges.{beside_times, times_stand}
 use Rattle.ssim_records.proofs.leg_columns.LegColumns.with_times.Goals as goal
 
