@@ -10,6 +10,7 @@ pub mod Agreeing
 pub mod Refusing
 pub mod Conflicts
 pub mod Merging
+pub mod StepLemmas
 pub mod Shown
 pub mod Trails
 pub mod Entries

@@ -113,6 +113,11 @@ abbrev pub IsInRange : ℕ → Step → Type 0
 IsInRange count (Take i text) = i < count
 IsInRange count (Merge into from) = (into < count) × (from < count)
 
+-- a desk is merged with itself
+abbrev pub IsOwnMerge : Step → Type 0
+IsOwnMerge (Take i text) = ⊥
+IsOwnMerge (Merge into from) = into ≡ from
+
 -- a text is taken
 pub record TakesAt (desks : List DeskState) (i : ℕ) (text : List ℕ) (answer : Answer) (after : List DeskState) : Type 0 where
   pub held : HeldMessages

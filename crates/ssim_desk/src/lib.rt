@@ -4,7 +4,7 @@
 //!   `itinerary`, `cuts`, `findings` and `export` read the schedule that the messages leave. [`Took`] and [`DeskFault`]: the results.
 //! - [`Held`]: a message that a desk holds, with its reference and its canonical text.
 //! - [`FindingLine`]: what a sub-message found on the dates of its period.
-//! - [`Step`] and [`Answer`]: a desk takes a text, or is merged with another, and what it returns.
+//! - [`run_steps`]: tries [`Step`]s on several desks, each a text or a merge, and returns an [`Answer`] for each.
 //! - [`laws`]: any two desks that began from the same bytes and that the same messages reached agree, whatever the order, the grouping
 //!   and the repeats; and merging is associative, commutative and idempotent.
 //!
@@ -29,4 +29,4 @@ pub use desk::{Desk, Took};
 pub use fault::DeskFault;
 pub use finding_line::FindingLine;
 pub use held::Held;
-pub use steps::{Answer, Step};
+pub use steps::{Answer, Step, run_steps};

@@ -1,6 +1,13 @@
 //! Steps over several desks, which are numbered from 0.
 
+ghost use Rattle.std.specs.Prelude.{◌≡◌, ◌≢◌, ◌<◌, length, map, All, IfOk, OnErr};
+ghost use Rattle.ssim_desk.specs.Kept.{map_of, state_of};
+ghost use Rattle.ssim_desk.specs.Steps.{Acts, IsInRange, IsOwnMerge, Merges, MergesAt, Runs, Takes};
+
+use crate::desk::{Desk, Took};
 use crate::fault::DeskFault;
+use ssim_values::Memory;
+use std::alloc::Global;
 
 /// What is tried on desks.
 #[derive(Drop)]
@@ -11,7 +18,7 @@ pub enum Step {
     Merge(usize, usize),
 }
 
-/// What a step is answered.
+/// The result of a step.
 #[derive(Clone, Copy, Debug, PartialEq, Eq)]
 pub enum Answer {
     /// The message of the text was new, and is held.
@@ -22,4 +29,81 @@ pub enum Answer {
     Merged,
     /// Nothing has changed.
     Refused(DeskFault),
+}
+
+// The desk takes the text.
+fn take_step(desk: &mut Desk, text: &[u8]) -> Answer
+    ensures takes { Takes (state_of desk.old) text.now result (map_of desk.new.held) }
+    ensures base { desk.new.base ≡ desk.old.base }
+{
+    match desk.take(text) {
+        Ok(Took::Taken) => Answer::Taken,
+        Ok(Took::Repeated) => Answer::Repeated,
+        Err(fault) => Answer::Refused(fault),
+    }
+}
+
+// The desk takes over what the other holds.
+fn merge_step(desk: &mut Desk, other: &Desk) -> Answer
+    ensures merges { Merges (state_of desk.old) (state_of other.now) result (map_of desk.new.held) }
+    ensures base { desk.new.base ≡ desk.old.base }
+{
+    match desk.merge(other) {
+        Ok(()) => Answer::Merged,
+        Err(fault) => Answer::Refused(fault),
+    }
+}
+
+// One desk takes over what another holds.
+fn merge_at(desks: &mut [Desk], into: usize, from: usize) -> Answer
+    requires into { into < length desks.old }
+    requires from { from < length desks.old }
+    requires two { into ≢ from }
+    ensures { MergesAt (map state_of desks.old) into from result (map state_of desks.new) }
+{
+    if into < from {
+        let (front, back) = desks.split_at_mut(from);
+        merge_step(&mut front[into], &back[0])
+    } else {
+        let (front, back) = desks.split_at_mut(into);
+        merge_step(&mut back[0], &front[from])
+    }
+}
+
+fn run_step(desks: &mut [Desk], step: &Step) -> Answer
+    requires { IsInRange (length desks.old) step.now }
+    ensures acts { Acts (map state_of desks.old) step.now result (map state_of desks.new) }
+    ensures own { IsOwnMerge step.now → desks.new ≡ desks.old }
+{
+    match step {
+        Step::Take(desk, text) => take_step(&mut desks[*desk], text),
+        Step::Merge(into, from) => {
+            if into == from {
+                Answer::Merged
+            } else {
+                merge_at(desks, *into, *from)
+            }
+        }
+    }
+}
+
+/// Tries each step in order, whatever the earlier ones returned. Returns one answer a step.
+///
+/// Out of memory is an error only if the list of answers itself cannot be allocated; then no step is tried. A step that runs out of
+/// memory is refused with 90 and changes nothing.
+pub fn run_steps(alloc: Global, desks: &mut [Desk], steps: &[Step]) -> Result<Vec<Answer>, Memory>
+    requires { All (IsInRange (length desks.old)) steps.now }
+    ensures count { IfOk result (λ answers. length answers.items ≡ length steps.now) }
+    ensures runs { IfOk result (λ answers. Runs (map state_of desks.old) steps.now answers.items (map state_of desks.new)) }
+    ensures own { All IsOwnMerge steps.now → desks.new ≡ desks.old }
+    ensures err { OnErr result (desks.new ≡ desks.old) }
+{
+    let mut answers = Vec::with_capacity(alloc, steps.len())?;
+    for next in steps {
+        // No effect at run time. The borrow checker learns from this use which type the answers contain.
+        let _fault: Option<DeskFault> = None;
+        let answer = run_step(desks, next);
+        answers.push(answer).unwrap();
+    }
+    Ok(answers)
 }

@@ -1,0 +1,92 @@
+-- A run and one step more; and what a step does to desks, by what it does to one of them.
+use Rattle.std.proofs.Common.{◌≡◌, ℕ, zero, ◌+◌, ◌-◌, ◌<◌, ◌≤◌, ◌==◌, Bool, true, false, List, [], ◌∷◌, ◌++◌, length, length-append, map, get_or, set, refl, sym, ap, subst, ◌∙◌, arith, eq-eqb}
+use Rattle.std.proofs.lemmas.Bool.Decides.{Decides-eqb}
+use Rattle.std.proofs.lemmas.List.{get_or-map, get_or_append_left, get_or-append_right, get_or_default, map-set, set-append_left, set-append_right}
+use Rattle.ssim_desk.specs.Held.{DeskState, no_desk}
+use Rattle.ssim_desk.specs.Kept.{DeskSeen, map_of, state_of}
+use Rattle.ssim_desk.specs.Steps.{Acts, Merges, MergesAt, MergesOne, Runs, Takes, TakesAt, desk_at, with_held}
+use Rattle.ssim_desk.specs.declared.steps.Answer.{Answer}
+use Rattle.ssim_desk.specs.declared.steps.Answer.TheVariants.{Merged}
+use Rattle.ssim_desk.specs.declared.steps.Step.{Step}
+
+-- a run and one step more
+pub one_more : (start now next : List DeskState) (xs : List Step) (us : List Answer) (s : Step) (a : Answer) → Runs start xs us now → Acts now s a next
+    → Runs start (xs ++ s ∷ []) (us ++ a ∷ []) next
+one_more start now next [] [] s a runs acts = (next, subst (λ x. Acts x s a next) runs acts, refl)
+one_more start now next [] (u ∷ us) s a runs acts = absurd runs
+one_more start now next (x ∷ xs) [] s a runs acts = absurd runs
+one_more start now next (x ∷ xs) (u ∷ us) s a (between, first, runs) acts = (between, first, one_more between now next xs us s a runs acts)
+
+-- ---- one desk is written
+
+state_at : (desks : List DeskSeen) (i : ℕ) (old d : DeskSeen) → i < length desks → old ≡ get_or desks i d → desk_at (map state_of desks) i ≡ state_of old
+state_at desks i old d within is = get_or-map state_of desks i d no_desk within ∙ sym (ap state_of is)
+
+state_put : (desks : List DeskSeen) (i : ℕ) (old new d : DeskSeen) → i < length desks → old ≡ get_or desks i d → new.base ≡ old.base
+    → map state_of (set desks i new) ≡ with_held (map state_of desks) i (map_of new.held)
+state_put desks i old new d within is base =
+    let at = state_at desks i old d within is in
+    let same : new.base ≡ (let x = desk_at (map state_of desks) i in x.base) = base ∙ sym (ap (λ (x : DeskState). x.base) at) in
+    map-set state_of desks i new ∙ ap (set (map state_of desks) i) (λ j. record { base = same j; held = map_of new.held })
+
+pub take_at : (desks : List DeskSeen) (i : ℕ) (text : List ℕ) (answer : Answer) (old new d : DeskSeen) → i < length desks → old ≡ get_or desks i d → new.base ≡ old.base
+    → Takes (state_of old) text answer (map_of new.held) → TakesAt (map state_of desks) i text answer (map state_of (set desks i new))
+take_at desks i text answer old new d within is base takes = record {
+  held = map_of new.held;
+  takes = subst (λ x. Takes x text answer (map_of new.held)) (sym (state_at desks i old d within is)) takes;
+  put = state_put desks i old new d within is base;
+}
+
+merge_into : (desks : List DeskSeen) (into from : ℕ) (answer : Answer) (old other new d e : DeskSeen) → into < length desks → from < length desks
+    → old ≡ get_or desks into d → other ≡ get_or desks from e → new.base ≡ old.base → Merges (state_of old) (state_of other) answer (map_of new.held)
+    → MergesAt (map state_of desks) into from answer (map state_of (set desks into new))
+merge_into desks into from answer old other new d e to of old_is other_is base merges = record {
+  held = map_of new.held;
+  merges = subst (λ x. Merges x (desk_at (map state_of desks) from) answer (map_of new.held)) (sym (state_at desks into old d to old_is))
+      (subst (λ y. Merges (state_of old) y answer (map_of new.held)) (sym (state_at desks from other e of other_is)) merges);
+  put = state_put desks into old new d to old_is base;
+}
+
+-- ---- two parts of the desks
+
+in_front : (all front back : List DeskSeen) (i : ℕ) (d : DeskSeen) → all ≡ front ++ back → i < length front → get_or front i d ≡ get_or all i d
+in_front all front back i d is within = sym (ap (λ xs. get_or xs i d) is ∙ get_or_append_left front back d i within)
+
+at_seam : (all front back : List DeskSeen) (j : ℕ) (e : DeskSeen) → all ≡ front ++ back → length front ≡ j → get_or back 0 e ≡ get_or all j e
+at_seam all front back j e is front_is =
+    let zero_is : j - j ≡ 0 = omega arith in
+    sym (ap (λ xs. get_or xs j e) is ∙ get_or-append_right front back j j e front_is (omega arith) ∙ ap (λ k. get_or back k e) zero_is)
+
+pub merge_front : (all front back : List DeskSeen) (into from : ℕ) (answer : Answer) (old other new d e : DeskSeen) → all ≡ front ++ back → length front ≡ from → into < from → from < length all
+    → old ≡ get_or front into d → other ≡ get_or back 0 e → new.base ≡ old.base → Merges (state_of old) (state_of other) answer (map_of new.held)
+    → MergesAt (map state_of all) into from answer (map state_of (set front into new ++ back))
+merge_front all front back into from answer old other new d e is front_is before within old_is other_is base merges =
+    let inside : into < length front = omega (arith, front_is, before) in
+    let written : set all into new ≡ set front into new ++ back = ap (λ xs. set xs into new) is ∙ set-append_left front back into new inside in
+    subst (λ xs. MergesAt (map state_of all) into from answer (map state_of xs)) written
+    (merge_into all into from answer old other new d e (omega (arith, before, within)) within
+    (old_is ∙ in_front all front back into d is inside) (other_is ∙ at_seam all front back from e is front_is) base merges)
+
+pub merge_back : (all front back : List DeskSeen) (into from : ℕ) (answer : Answer) (old other new d e : DeskSeen) → all ≡ front ++ back → length front ≡ into → from < into → into < length all
+    → old ≡ get_or back 0 d → other ≡ get_or front from e → new.base ≡ old.base → Merges (state_of old) (state_of other) answer (map_of new.held)
+    → MergesAt (map state_of all) into from answer (map state_of (front ++ set back 0 new))
+merge_back all front back into from answer old other new d e is front_is before within old_is other_is base merges =
+    let inside : from < length front = omega (arith, front_is, before) in
+    let zero_is : into - into ≡ 0 = omega arith in
+    let written : set all into new ≡ front ++ set back 0 new =
+    ap (λ xs. set xs into new) is ∙ set-append_right front back into into new front_is (omega arith) ∙ ap (λ k. front ++ set back k new) zero_is in
+    subst (λ xs. MergesAt (map state_of all) into from answer (map state_of xs)) written
+    (merge_into all into from answer old other new d e within (omega (arith, before, within))
+    (old_is ∙ at_seam all front back into d is front_is) (other_is ∙ in_front all front back from e is inside) base merges)
+
+-- ---- a merge with itself, and one of two desks
+
+pub own_merge : (states : List DeskState) (into from : ℕ) → into ≡ from → MergesOne (into == from) states into from Merged states
+own_merge states into from same = subst (λ b. MergesOne b states into from Merged states) (sym (eq-eqb into from same)) (refl, refl)
+
+pub two_merge : (states after : List DeskState) (into from : ℕ) (answer : Answer) → (into ≡ from → ⊥) → MergesAt states into from answer after → MergesOne (into == from) states into from answer after
+two_merge states after into from answer apart merges = by (into == from) refl
+  where
+    by : (b : Bool) → (into == from) ≡ b → MergesOne b states into from answer after
+    by true e = absurd (apart ((Decides-eqb into from).0 e))
+    by false e = merges
