@@ -232,7 +232,11 @@ pub fn run_is_plain(alloc: Global, base: &Base, seed: &mut u32) -> anyhow::Resul
     for _ in 0..DESKS {
         desks.push(Desk::start(alloc, base.copy()?)?)?;
     }
-    let first = if below(seed, 2) == 0 { below(seed, 90) as usize } else { 0 };
+    let first = if below(seed, 2) == 0 {
+        below(seed, 90) as usize
+    } else {
+        0
+    };
     for number in 0..first {
         let trial = take_trial(alloc, &pool, &mut plain, 0, number, 0, true)?;
         if !runs(&mut desks, &trial) {

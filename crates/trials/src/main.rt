@@ -30,7 +30,13 @@ fn main(rt: HostRuntime) -> anyhow::Result<()> {
     let mut data = Vec::new(alloc);
     rt.reader().read_to_end(&mut data)?;
     let mut bytes = data.as_slice();
-    let base = Base::read(alloc, &mut bytes, Stations::read(alloc, STATIONS)?, 1_000_000)?.base;
+    let base = Base::read(
+        alloc,
+        &mut bytes,
+        Stations::read(alloc, STATIONS)?,
+        1_000_000,
+    )?
+    .base;
     let mut seed = 11;
     let mut differ: u32 = 0;
     for run in 0..RUNS {

@@ -17,7 +17,11 @@ pub fn random_pool(seed: &mut u32) -> Pool {
     for (number, pair) in pool.iter_mut().enumerate() {
         for sub in pair.iter_mut() {
             let any = Sub::random(seed);
-            *sub = if is_asm(number) { any.on_one_date() } else { any };
+            *sub = if is_asm(number) {
+                any.on_one_date()
+            } else {
+                any
+            };
         }
     }
     pool
@@ -37,7 +41,11 @@ fn push_reference(text: &mut Vec<u8>, number: usize) -> Result<(), AllocError> {
     text.extend_from_slice(b"000")?;
     text.push(b'0' + (serial / 10 % 10) as u8)?;
     text.push(b'0' + (serial % 10) as u8)?;
-    text.extend_from_slice(if number % 4 == 0 { b"E001\n" } else { b"E002\n" })?;
+    text.extend_from_slice(if number % 4 == 0 {
+        b"E001\n"
+    } else {
+        b"E002\n"
+    })?;
     Ok(())
 }
 
@@ -117,7 +125,10 @@ pub fn refused(seed: &mut u32) -> (&'static [u8], u8) {
         0 => (b"SSN\n", 20),
         1 => (b"SSM\n01JUN00001E001\nCNL NEW\n", 22),
         2 => (b"SSM\n01JUN00001E001\nCNL\nLX544\n30FEB 25OCT25 1\n", 24),
-        3 => (b"SSM\nLT\n01JUN00001E001\nCNL\nLX544\n01JUL25 07JUL25 2\n", 40),
+        3 => (
+            b"SSM\nLT\n01JUN00001E001\nCNL\nLX544\n01JUL25 07JUL25 2\n",
+            40,
+        ),
         4 => (b"SSM\n01JUN00001E001\nCNL\nBA544\n01JUL25 07JUL25 2\n", 41),
         _ => (b"SSM\n01JUN00001E001\nCNL\nLX544\n02JUL25 01JUL25 2\n", 43),
     }

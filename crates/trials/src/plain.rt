@@ -36,29 +36,38 @@ const SUMMER: Line = Line {
 /// The leg lines of sub-messages. The station table has no row for the arrival station of the last.
 const LINES: [[Option<Line>; 2]; 4] = [
     [Some(SUMMER), None],
-    [Some(Line {
-        from: *b"ZRH",
-        departs: *b"0600",
-        to: *b"LHR",
-        arrives: *b"0715",
-    }), None],
-    [Some(Line {
-        from: *b"ZRH",
-        departs: *b"0800",
-        to: *b"LHR",
-        arrives: *b"0930",
-    }), Some(Line {
-        from: *b"LHR",
-        departs: *b"1030",
-        to: *b"ZRH",
-        arrives: *b"1245",
-    })],
-    [Some(Line {
-        from: *b"ZRH",
-        departs: *b"0545",
-        to: *b"JFK",
-        arrives: *b"1200",
-    }), None],
+    [
+        Some(Line {
+            from: *b"ZRH",
+            departs: *b"0600",
+            to: *b"LHR",
+            arrives: *b"0715",
+        }),
+        None,
+    ],
+    [
+        Some(Line {
+            from: *b"ZRH",
+            departs: *b"0800",
+            to: *b"LHR",
+            arrives: *b"0930",
+        }),
+        Some(Line {
+            from: *b"LHR",
+            departs: *b"1030",
+            to: *b"ZRH",
+            arrives: *b"1245",
+        }),
+    ],
+    [
+        Some(Line {
+            from: *b"ZRH",
+            departs: *b"0545",
+            to: *b"JFK",
+            arrives: *b"1200",
+        }),
+        None,
+    ],
 ];
 
 /// A leg on a date: its line, its aircraft type, and the UTC variations of its stations.
