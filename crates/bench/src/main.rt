@@ -1,7 +1,8 @@
-//! Times of the calls of the lower crates: `bench [NAME SIZE]`, where NAME is `records`, `periods`, `texts` or `schedule`. Without
-//! arguments all four run in turn, with small sizes. README.md says what each does.
+//! Times of the calls of the crates: `bench [NAME SIZE]`, where NAME is `records`, `periods`, `texts`, `schedule` or `desk`.
+//! Without arguments all five run in turn, with small sizes. README.md says what each does.
 #![tactic(auto)]
 
+mod desk;
 mod periods;
 mod records;
 mod schedule;
@@ -24,11 +25,12 @@ const ONE_FLIGHT: &[u8] = b"\
 ";
 
 /// The names and a small size of each.
-const SMALL: [(&str, u32); 4] = [
+const SMALL: [(&str, u32); 5] = [
     ("records", 3),
     ("periods", 1_000),
     ("texts", 20),
     ("schedule", 1_000),
+    ("desk", 100),
 ];
 
 /// Runs the bench of this name on the data set.
@@ -44,7 +46,8 @@ fn time(
         "periods" => periods::time(alloc, rt, size),
         "texts" => texts::time(alloc, rt, size),
         "schedule" => schedule::time(alloc, rt, data_set, size),
-        _ => bail!("the names are records, periods, texts and schedule"),
+        "desk" => desk::time(alloc, rt, data_set, size),
+        _ => bail!("the names are records, periods, texts, schedule and desk"),
     }
 }
 
