@@ -3,6 +3,5 @@
 mod bases;
 mod data;
 mod effects;
-mod random;
 mod resolving;
 mod stations;
