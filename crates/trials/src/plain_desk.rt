@@ -81,8 +81,12 @@ impl PlainDesk {
         for (pair, held) in pool.iter().zip(self.held.iter()) {
             let Some(which) = *held else { continue };
             let Some(sub) = pair.get(which) else { continue };
-            let dates = if sub.known { &mut known } else { &mut other };
-            counts.push(act_on(dates, *sub))?;
+            let of_sub = if sub.known {
+                act_on(&mut known, *sub)
+            } else {
+                act_on(&mut other, *sub)
+            };
+            counts.push(of_sub)?;
         }
         Ok(PlainMeaning {
             known,
