@@ -9,8 +9,8 @@ use ssim_values::{Airline, Flight};
 use std::marker::Model;
 
 /// The name of a leg in a record of type 3 or 4: an airline's flight, the itinerary variation and the leg sequence, in
-/// columns 2 to 13. Names are ordered by airline, flight, variation and sequence.
-#[derive(Clone, Copy, Debug, PartialEq, Eq, PartialOrd, Ord, Hash)]
+/// columns 2 to 13.
+#[derive(Clone, Copy, Debug, PartialEq, Eq, Hash)]
 pub struct LegName {
     airline: Airline,
     flight: Flight,
