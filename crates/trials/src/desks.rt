@@ -1,8 +1,8 @@
 //! Random runs of steps over three desks, beside three plain desks.
 
 use crate::offer::{Pool, REFERENCES, random_pool, refused, text_of};
-use crate::plain::{Dates, FIRST, below, is_date};
-use crate::plain_desk::{Expected, PlainDesk, PlainMeaning};
+use crate::plain::{Dates, FIRST, NO_DATES, below, is_date, summer};
+use crate::plain_desk::{Expected, PlainDesk};
 use ssim_desk::{Answer, Desk, DeskFault, Step, Took};
 use ssim_records::Bytes;
 use ssim_schedule::{Base, Finding, Schedule, Stations};
@@ -172,25 +172,25 @@ fn shows(schedule: &Schedule, number: u16, dates: &Dates) -> anyhow::Result<bool
     Ok(true)
 }
 
-fn has_findings(desk: &Desk, meaning: &PlainMeaning) -> anyhow::Result<bool> {
+fn has_findings(desk: &Desk, expected: &[[u32; 5]]) -> anyhow::Result<bool> {
     let lines = desk.findings()?;
-    if lines.len() != meaning.counts.len() {
+    if lines.len() != expected.len() {
         return Ok(false);
     }
-    for (line, expected) in lines.iter().zip(meaning.counts.iter()) {
-        if counts(&line.finding) != *expected {
+    for (line, counted) in lines.iter().zip(expected.iter()) {
+        if counts(&line.finding) != *counted {
             return Ok(false);
         }
     }
     Ok(true)
 }
 
-/// Whether the export of a desk, read again, has the dates of its meaning.
-fn exports(alloc: Global, export: &[u8], meaning: &PlainMeaning) -> anyhow::Result<bool> {
+/// Whether the export of a desk, read again, has these dates.
+fn exports(alloc: Global, export: &[u8], known: &Dates, other: &Dates) -> anyhow::Result<bool> {
     let mut bytes = export;
     let read = Base::read(alloc, &mut bytes, Stations::read(alloc, b"")?, 1_000_000)?;
     let schedule = Schedule::of(&read.base)?;
-    Ok(shows(&schedule, 544, &meaning.known)? && shows(&schedule, 600, &meaning.other)?)
+    Ok(shows(&schedule, 544, known)? && shows(&schedule, 600, other)?)
 }
 
 /// Whether a desk is the plain one, by its count of messages, its dates, its findings and its export, which is returned.
@@ -200,14 +200,16 @@ fn is_plain(
     desk: &Desk,
     plain: &PlainDesk,
 ) -> anyhow::Result<Option<Bytes>> {
-    let meaning = plain.meaning(alloc, pool)?;
+    let mut known = summer();
+    let mut other = NO_DATES;
+    let findings = plain.act_on(alloc, pool, &mut known, &mut other)?;
     let mut export = Bytes::new(alloc);
     desk.export(&mut export)?;
     let same = desk.held().len() == plain.count()
-        && has_dates(desk, 544, &meaning.known)?
-        && has_dates(desk, 600, &meaning.other)?
-        && has_findings(desk, &meaning)?
-        && exports(alloc, export.bytes(), &meaning)?;
+        && has_dates(desk, 544, &known)?
+        && has_dates(desk, 600, &other)?
+        && has_findings(desk, &findings)?
+        && exports(alloc, export.bytes(), &known, &other)?;
     Ok(if same { Some(export) } else { None })
 }
 

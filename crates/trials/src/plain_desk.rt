@@ -1,7 +1,7 @@
 //! A plain desk: which of the two messages of each reference it holds, if any.
 
 use crate::offer::{Pool, REFERENCES};
-use crate::plain::{Dates, NO_DATES, act_on, summer};
+use crate::plain::{Dates, act_on};
 use std::alloc::{AllocError, Global};
 
 /// What a call is expected to return.
@@ -19,16 +19,6 @@ pub enum Expected {
 pub struct PlainDesk {
     /// Of each reference, which of its messages is held.
     held: [Option<usize>; REFERENCES],
-}
-
-/// What a plain desk means: both flights on all dates, and the counts of each message held.
-#[derive(Drop)]
-pub struct PlainMeaning {
-    /// LX544, the flight of the data set.
-    pub known: Dates,
-    /// LX600.
-    pub other: Dates,
-    pub counts: Vec<[u32; 5]>,
 }
 
 impl PlainDesk {
@@ -73,25 +63,24 @@ impl PlainDesk {
         Expected::Merged
     }
 
-    /// The base's dates changed by each message held, in order of reference.
-    pub fn meaning(&self, alloc: Global, pool: &Pool) -> Result<PlainMeaning, AllocError> {
-        let mut known = summer();
-        let mut other = NO_DATES;
+    /// Changes the dates of LX544 and of LX600 by each message held, in order of reference. Returns the counts of each.
+    pub fn act_on(
+        &self,
+        alloc: Global,
+        pool: &Pool,
+        known: &mut Dates,
+        other: &mut Dates,
+    ) -> Result<Vec<[u32; 5]>, AllocError> {
         let mut counts = Vec::new(alloc);
         for (pair, held) in pool.iter().zip(self.held.iter()) {
             let Some(which) = *held else { continue };
             let Some(sub) = pair.get(which) else { continue };
-            let of_sub = if sub.known {
-                act_on(&mut known, *sub)
+            if sub.known {
+                counts.push(act_on(known, *sub))?;
             } else {
-                act_on(&mut other, *sub)
-            };
-            counts.push(of_sub)?;
+                counts.push(act_on(other, *sub))?;
+            }
         }
-        Ok(PlainMeaning {
-            known,
-            other,
-            counts,
-        })
+        Ok(counts)
     }
 }
