@@ -1,5 +1,6 @@
 //! The state of a case.
 
+use crate::desks::{Desks, add_cancels};
 use crate::shown::{add_shown, bad, number, show};
 use ssim_program::{Store, StoreFault, run};
 use ssim_vectors::{FullWriter, MemoryStore, NoStore};
@@ -19,6 +20,7 @@ pub struct Case<'t> {
     /// What the last run printed.
     printed: Vec<u8>,
     devices: Devices,
+    desks: Desks,
 }
 
 /// What fails in the next run.
@@ -55,6 +57,7 @@ impl<'t> Case<'t> {
             last_line: 0,
             printed: Vec::new(alloc),
             devices: Devices::new(),
+            desks: Desks::new(alloc),
         }
     }
 
@@ -86,7 +89,12 @@ impl<'t> Case<'t> {
                 writeln!(out, "{line}")?;
                 self.run(rest, out)
             }
-            _ => Err(bad()),
+            "cancels" => add_cancels(&mut self.bytes, rest),
+            "desks" | "more" => self.start_desks(word, rest),
+            _ => {
+                writeln!(out, "{line}")?;
+                self.ask_desks(word, rest, out)
+            }
         }
     }
 
@@ -95,6 +103,40 @@ impl<'t> Case<'t> {
         self.bytes.clear();
         self.printed.clear();
         self.devices = Devices::new();
+        self.desks = Desks::new(self.alloc);
+    }
+
+    /// Puts desks over the base of two files, a data set and a station table, or adds them to those there are.
+    fn start_desks(&mut self, word: &str, rest: &str) -> io::Result<()> {
+        let (count, names) = rest.split_once(' ').ok_or(bad())?;
+        let (data_set, table) = names.split_once(' ').ok_or(bad())?;
+        let data_set = self.load(data_set)?;
+        let table = self.load(table)?;
+        match word {
+            "desks" => self.desks.start(number(count)?, &data_set, &table),
+            _ => self.desks.add(number(count)?, &data_set, &table),
+        }
+    }
+
+    fn load(&mut self, name: &str) -> io::Result<Vec<u8>> {
+        match self.store.load(self.alloc, name, 1_000_000) {
+            Ok(bytes) => Ok(bytes),
+            Err(_) => Err(bad()),
+        }
+    }
+
+    /// Does what a line asks of the desks.
+    fn ask_desks<W: Write>(&mut self, word: &str, rest: &str, out: &mut W) -> io::Result<()> {
+        let (desk, name) = rest.split_once(' ').unwrap_or((rest, ""));
+        match word {
+            "take" => {
+                let text = self.load(name)?;
+                self.desks.take(desk, &text, out)
+            }
+            "merge" => self.desks.merge(desk, name, out),
+            "same" => self.desks.compare(out),
+            _ => self.desks.show(word, rest, out),
+        }
     }
 
     /// Lets a device of the next run fail.

@@ -10,6 +10,12 @@
 //! - `fails out COUNT`: in the next run the standard output takes this many bytes and then fails; `fails err COUNT`: so does the
 //!   standard error; `fails flush always`: no flush of the standard output works; `fails store memory`, `fails store always`: the
 //!   store is out of memory, or gives no file.
+//! - `desks COUNT DATASET STATIONS`: new desks over the base of two files, numbered from 1; `more` adds desks over another base.
+//! - `take DESK FILE`, `merge DESK DESK`: what it returns is printed. `same`: whether all desks have equal exports.
+//! - `held DESK`, `findings DESK`, `export DESK` (the number of bytes); `pieces DESK FLIGHT`, `tails DESK FLIGHT`, with the flight as
+//!   columns 3-9 have it: columns 15-35, 40-43, 48-52, 58-61, 66-70 and 73-75 of its leg records, 12-13 and 29-53 of its segment records.
+//! - `cuts DESK FLIGHT DAY ..`: its cuts that are not listed; `applied DESK LEAST MOST`: whether the count is within.
+//! - `cancels FLIGHT DAY STEP COUNT`: sub-messages are added to the bytes, which each cancel the flight on one date.
 //! - `run WORD ..`: the program runs on its name and these words.
 //!
 //! In a text `<17>` is seventeen blanks, `<200*0>` two hundred zeros, `<x3C>` a byte by its hexadecimal digits. The transcript
@@ -17,6 +23,7 @@
 #![tactic(auto)]
 
 mod case;
+mod desks;
 mod shown;
 
 use case::Case;

@@ -1,0 +1,288 @@
+//! The desks of a case.
+
+use crate::shown::{bad, number};
+use ssim_desk::{Desk, DeskFault, Took};
+use ssim_records::Bytes;
+use ssim_schedule::{Base, ExportFault, Stations};
+use ssim_values::{Day, Designator};
+use std::alloc::Global;
+use std::io;
+use std::io::Write;
+
+/// The desks of a case, numbered from 1.
+#[derive(Drop)]
+pub struct Desks {
+    alloc: Global,
+    /// A desk is absent only while it is merged.
+    desks: Vec<Option<Desk>>,
+}
+
+impl Desks {
+    pub fn new(alloc: Global) -> Desks {
+        Desks {
+            alloc,
+            desks: Vec::new(alloc),
+        }
+    }
+
+    /// Puts new desks over one base in place of the old ones.
+    pub fn start(&mut self, count: usize, data_set: &[u8], table: &[u8]) -> io::Result<()> {
+        self.desks.clear();
+        self.add(count, data_set, table)
+    }
+
+    /// Adds new desks over one base.
+    pub fn add(&mut self, count: usize, data_set: &[u8], table: &[u8]) -> io::Result<()> {
+        for _ in 0..count {
+            let base = base_of(self.alloc, data_set, table)?;
+            let Ok(desk) = Desk::start(self.alloc, base) else {
+                return Err(bad());
+            };
+            self.desks.push(Some(desk))?;
+        }
+        Ok(())
+    }
+
+    fn desk(&self, text: &str) -> io::Result<&Desk> {
+        let place = number(text)?.checked_sub(1).ok_or(bad())?;
+        match self.desks.get(place) {
+            Some(Some(desk)) => Ok(desk),
+            _ => Err(bad()),
+        }
+    }
+
+    /// Takes a text, and prints the result.
+    pub fn take<W: Write>(&mut self, place: &str, text: &[u8], out: &mut W) -> io::Result<()> {
+        let place = number(place)?.checked_sub(1).ok_or(bad())?;
+        match self.desks.get_mut(place) {
+            Some(Some(desk)) => match desk.take(text) {
+                Ok(Took::Taken) => writeln!(out, "taken"),
+                Ok(Took::Repeated) => writeln!(out, "repeated"),
+                Err(fault) => print_fault(out, &fault),
+            },
+            _ => Err(bad()),
+        }
+    }
+
+    /// Merges a desk into another, and prints the result.
+    pub fn merge<W: Write>(&mut self, into: &str, from: &str, out: &mut W) -> io::Result<()> {
+        let place = number(into)?.checked_sub(1).ok_or(bad())?;
+        let taken = match self.desks.get_mut(place) {
+            Some(slot) => slot.take(),
+            None => None,
+        };
+        let mut desk = taken.ok_or(bad())?;
+        match desk.merge(self.desk(from)?) {
+            Ok(()) => writeln!(out, "merged")?,
+            Err(fault) => print_fault(out, &fault)?,
+        }
+        if let Some(slot) = self.desks.get_mut(place) {
+            *slot = Some(desk);
+        }
+        Ok(())
+    }
+
+    /// Prints what a desk shows for a word.
+    pub fn show<W: Write>(&self, word: &str, rest: &str, out: &mut W) -> io::Result<()> {
+        let (place, rest) = rest.split_once(' ').unwrap_or((rest, ""));
+        let desk = self.desk(place)?;
+        match word {
+            "held" => print_held(desk, out),
+            "findings" => print_findings(desk, out),
+            "export" => self.print_export(desk, out),
+            "pieces" => self.print_pieces(desk, rest, out),
+            "tails" => self.print_tails(desk, rest, out),
+            "cuts" => print_cuts(desk, rest, out),
+            "applied" => print_applied(desk, rest, out),
+            _ => Err(bad()),
+        }
+    }
+
+    /// Prints whether all desks have equal exports.
+    pub fn compare<W: Write>(&self, out: &mut W) -> io::Result<()> {
+        let first = self.desk("1")?;
+        let mut expected = Bytes::new(self.alloc);
+        let refused = first.export(&mut expected);
+        let mut same = true;
+        for desk in self.desks.iter().flatten() {
+            let mut bytes = Bytes::new(self.alloc);
+            let result = desk.export(&mut bytes);
+            same = same && result == refused && bytes.bytes() == expected.bytes();
+        }
+        writeln!(out, "{}", if same { "same" } else { "different" })
+    }
+
+    fn print_export<W: Write>(&self, desk: &Desk, out: &mut W) -> io::Result<()> {
+        let mut bytes = Bytes::new(self.alloc);
+        match desk.export(&mut bytes) {
+            Ok(()) => writeln!(out, "bytes {}", bytes.bytes().len()),
+            Err(fault) => print_export_fault(desk, &fault, out),
+        }
+    }
+
+    // The period, the times, the UTC variations and the aircraft type of each leg record of a flight, given as columns 3-9 have it.
+    fn print_pieces<W: Write>(&self, desk: &Desk, flight: &str, out: &mut W) -> io::Result<()> {
+        let mut bytes = Bytes::new(self.alloc);
+        if let Err(fault) = desk.export(&mut bytes) {
+            return print_export_fault(desk, &fault, out);
+        }
+        for record in bytes.bytes().split(|byte| *byte == b'\n') {
+            if record.starts_with(b"3") && record.get(2..9) == Some(flight.as_bytes()) {
+                for columns in [
+                    14..21,
+                    21..28,
+                    28..35,
+                    39..43,
+                    47..52,
+                    57..61,
+                    65..70,
+                    72..75,
+                ] {
+                    out.write_all(b" ")?;
+                    out.write_all(record.get(columns).unwrap_or(b""))?;
+                }
+                writeln!(out, "")?;
+            }
+        }
+        Ok(())
+    }
+
+    // The leg sequence and the first columns from 29 on of each segment record of a flight.
+    fn print_tails<W: Write>(&self, desk: &Desk, flight: &str, out: &mut W) -> io::Result<()> {
+        let mut bytes = Bytes::new(self.alloc);
+        if let Err(fault) = desk.export(&mut bytes) {
+            return print_export_fault(desk, &fault, out);
+        }
+        for record in bytes.bytes().split(|byte| *byte == b'\n') {
+            if record.starts_with(b"4") && record.get(2..9) == Some(flight.as_bytes()) {
+                for columns in [11..13, 28..39, 39..53] {
+                    out.write_all(b" ")?;
+                    out.write_all(record.get(columns).unwrap_or(b""))?;
+                }
+                writeln!(out, "")?;
+            }
+        }
+        Ok(())
+    }
+}
+
+fn base_of(alloc: Global, data_set: &[u8], table: &[u8]) -> io::Result<Base> {
+    let Ok(stations) = Stations::read(alloc, table) else {
+        return Err(bad());
+    };
+    let mut left = data_set;
+    match Base::read(alloc, &mut left, stations, 1_000_000) {
+        Ok(read) => Ok(read.base),
+        Err(_) => Err(bad()),
+    }
+}
+
+fn print_fault<W: Write>(out: &mut W, fault: &DeskFault) -> io::Result<()> {
+    let number = fault.number();
+    match fault {
+        DeskFault::Text(text) => writeln!(out, "refused {number} {text}"),
+        DeskFault::Resolve(resolve) => writeln!(out, "refused {number} {resolve}"),
+        DeskFault::Conflict(reference) => writeln!(out, "refused {number} Conflict {reference}"),
+        DeskFault::OtherBase => writeln!(out, "refused {number} OtherBase"),
+        _ => writeln!(out, "refused {number}"),
+    }
+}
+
+// A flight is printed with the airline of the desk's base.
+fn print_export_fault<W: Write>(desk: &Desk, fault: &ExportFault, out: &mut W) -> io::Result<()> {
+    let number = fault.number();
+    let name = fault.name();
+    match fault {
+        ExportFault::Variations(flight) => {
+            let designator = Designator {
+                airline: desk.base().airline(),
+                flight: *flight,
+            };
+            writeln!(out, "refused {number} {name} flight {designator}")
+        }
+        _ => writeln!(out, "refused {number} {name}"),
+    }
+}
+
+fn print_held<W: Write>(desk: &Desk, out: &mut W) -> io::Result<()> {
+    for held in desk.held() {
+        writeln!(out, "{}", held.reference())?;
+    }
+    Ok(())
+}
+
+fn print_findings<W: Write>(desk: &Desk, out: &mut W) -> io::Result<()> {
+    let Ok(lines) = desk.findings() else {
+        return Err(bad());
+    };
+    for line in &lines {
+        let found = line.finding;
+        write!(
+            out,
+            "{} {} {} {}",
+            line.reference, line.sub, line.action, line.designator
+        )?;
+        write!(out, " acted {} absent {}", found.acted, found.absent)?;
+        writeln!(
+            out,
+            " present {} leg {} station {}",
+            found.present, found.leg, found.station
+        )?;
+    }
+    Ok(())
+}
+
+// Whether the cuts of a flight are among days that are listed by number.
+fn print_cuts<W: Write>(desk: &Desk, rest: &str, out: &mut W) -> io::Result<()> {
+    let (flight, days) = rest.split_once(' ').ok_or(bad())?;
+    let Ok(designator) = Designator::parse(flight.as_bytes()) else {
+        return Err(bad());
+    };
+    for cut in desk.cuts(&designator.flight) {
+        let mut listed = false;
+        for day in days.split_whitespace() {
+            listed = listed || number(day)? == *cut as usize;
+        }
+        if !listed {
+            writeln!(out, "cut {cut}")?;
+        }
+    }
+    writeln!(out, "no other cuts")
+}
+
+// Whether the count of messages that were applied is between two numbers.
+fn print_applied<W: Write>(desk: &Desk, rest: &str, out: &mut W) -> io::Result<()> {
+    let (least, most) = rest.split_once(' ').ok_or(bad())?;
+    let applied = desk.applied();
+    if number(least)? as u64 <= applied && applied <= number(most)? as u64 {
+        writeln!(out, "within")
+    } else {
+        writeln!(out, "applied {applied}")
+    }
+}
+
+/// Adds sub-messages that each cancel a flight on one date, every so many days from the first on.
+pub fn add_cancels(bytes: &mut Vec<u8>, rest: &str) -> io::Result<()> {
+    let (flight, rest) = rest.split_once(' ').ok_or(bad())?;
+    let (first, rest) = rest.split_once(' ').ok_or(bad())?;
+    let (step, count) = rest.split_once(' ').ok_or(bad())?;
+    let mut day = number(first)?;
+    let mut between: &[u8] = b"";
+    for _ in 0..number(count)? {
+        let Ok(short) = u16::try_from(day) else {
+            return Err(bad());
+        };
+        let date = Day::from_number(short).ok_or(bad())?.write();
+        bytes.extend_from_slice(between)?;
+        bytes.extend_from_slice(b"CNL\n")?;
+        bytes.extend_from_slice(flight.as_bytes())?;
+        bytes.push(b'\n')?;
+        bytes.extend_from_slice(&date)?;
+        bytes.push(b' ')?;
+        bytes.extend_from_slice(&date)?;
+        bytes.extend_from_slice(b" 1234567\n")?;
+        between = b"//\n";
+        day = day.saturating_add(number(step)?);
+    }
+    Ok(())
+}
