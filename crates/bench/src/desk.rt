@@ -30,17 +30,27 @@ fn texts_on(alloc: Global, base: &Base, count: u32) -> anyhow::Result<Vec<String
     Ok(texts)
 }
 
+fn take(desk: &mut Desk, text: &String) -> anyhow::Result<()> {
+    if desk.take(text.as_bytes()).is_err() {
+        bail!("a text is refused");
+    }
+    Ok(())
+}
+
 /// The desk takes the texts. Returns the time in microseconds.
-fn take_all<'t>(
-    rt: &impl Clock,
-    desk: &mut Desk,
-    texts: impl Iterator<Item = &'t String>,
-) -> anyhow::Result<u128> {
+fn take_all(rt: &impl Clock, desk: &mut Desk, texts: &[String]) -> anyhow::Result<u128> {
     let start = Instant::now(rt)?;
     for text in texts {
-        if desk.take(text.as_bytes()).is_err() {
-            bail!("a text is refused");
-        }
+        take(desk, text)?;
+    }
+    Ok(start.elapsed(rt)?.as_micros())
+}
+
+/// The desk takes the texts, the last one first. Returns the time in microseconds.
+fn take_reversed(rt: &impl Clock, desk: &mut Desk, texts: &[String]) -> anyhow::Result<u128> {
+    let start = Instant::now(rt)?;
+    for text in texts.iter().rev() {
+        take(desk, text)?;
     }
     Ok(start.elapsed(rt)?.as_micros())
 }
@@ -56,16 +66,16 @@ pub fn time(
     let base = Base::read(alloc, &mut left, Stations::read(alloc, b"")?, LIMIT)?.base;
     let texts = texts_on(alloc, &base, count)?;
     let mut in_order = Desk::start(alloc, base.copy()?)?;
-    let took = take_all(rt, &mut in_order, texts.iter())?;
+    let took = take_all(rt, &mut in_order, &texts)?;
     eprintln!(rt; "{count} texts in order in {took} us")?;
     let mut reversed = Desk::start(alloc, base.copy()?)?;
-    let took = take_all(rt, &mut reversed, texts.iter().rev())?;
+    let took = take_reversed(rt, &mut reversed, &texts)?;
     eprintln!(rt; "{count} texts in reverse order in {took} us")?;
-    let half = texts.len() / 2;
+    let (first, second) = texts.split_at(texts.len() / 2);
     let mut lower = Desk::start(alloc, base.copy()?)?;
     let mut upper = Desk::start(alloc, base)?;
-    take_all(rt, &mut lower, texts.iter().take(half))?;
-    take_all(rt, &mut upper, texts.iter().skip(half))?;
+    take_all(rt, &mut lower, first)?;
+    take_all(rt, &mut upper, second)?;
     let start = Instant::now(rt)?;
     if upper.merge(&lower).is_err() {
         bail!("a merge is refused");
