@@ -76,25 +76,53 @@ impl<'t> Case<'t> {
                 let text = self.line_named(rest).ok_or(bad())?;
                 self.add(text)
             }
-            "^" => self.write_over(rest),
+            "file" => self.keep(rest),
+            "fails" => self.let_fail(rest),
+            "cancels" => add_cancels(&mut self.bytes, rest),
+            "desks" | "more" => self.start_desks(word, rest),
+            "^" | "at" | "cut" | "out" | "load" => self.change_bytes(word, rest),
+            _ => {
+                writeln!(out, "{line}")?;
+                self.answer(word, rest, out)
+            }
+        }
+    }
+
+    /// Changes the bytes that no file has yet.
+    fn change_bytes(&mut self, word: &str, rest: &str) -> io::Result<()> {
+        match word {
+            "^" => {
+                let (column, text) = rest.split_once(' ').ok_or(bad())?;
+                let start = self
+                    .last_line
+                    .saturating_add(number(column)?)
+                    .saturating_sub(1);
+                self.write_over(start, text)
+            }
+            "at" => {
+                let (offset, text) = rest.split_once(' ').ok_or(bad())?;
+                self.write_over(number(offset)?, text)
+            }
             "cut" => {
                 let count = number(rest)?;
                 self.bytes.truncate(self.bytes.len().saturating_sub(count));
                 Ok(())
             }
-            "out" => Ok(self.bytes.extend_from_slice(&self.printed)?),
-            "file" => self.keep(rest),
-            "fails" => self.let_fail(rest),
-            "run" => {
-                writeln!(out, "{line}")?;
-                self.run(rest, out)
+            "load" => {
+                let bytes = self.load(rest)?;
+                Ok(self.bytes.extend_from_slice(&bytes)?)
             }
-            "cancels" => add_cancels(&mut self.bytes, rest),
-            "desks" | "more" => self.start_desks(word, rest),
-            _ => {
-                writeln!(out, "{line}")?;
-                self.ask_desks(word, rest, out)
-            }
+            _ => Ok(self.bytes.extend_from_slice(&self.printed)?),
+        }
+    }
+
+    /// Prints what a line asks for.
+    fn answer<W: Write>(&mut self, word: &str, rest: &str, out: &mut W) -> io::Result<()> {
+        match word {
+            "run" => self.run(rest, out),
+            "prefixes" => self.run_on_prefixes(rest, out),
+            "show" | "size" | "equal" => self.show_file(word, rest, out),
+            _ => self.ask_desks(word, rest, out),
         }
     }
 
@@ -134,6 +162,15 @@ impl<'t> Case<'t> {
                 self.desks.take(desk, &text, out)
             }
             "merge" => self.desks.merge(desk, name, out),
+            "copy" => self.desks.copy(desk),
+            "save" => {
+                let file = self.desks.file_of(desk)?;
+                self.keep_bytes(name, file.bytes())
+            }
+            "open" => {
+                let file = self.load(desk)?;
+                self.desks.open(&file, number(name)? as u64, out)
+            }
             "same" => self.desks.compare(out),
             _ => self.desks.show(word, rest, out),
         }
@@ -175,12 +212,7 @@ impl<'t> Case<'t> {
         Ok(self.bytes.push(b'\n')?)
     }
 
-    fn write_over(&mut self, rest: &str) -> io::Result<()> {
-        let (column, text) = rest.split_once(' ').ok_or(bad())?;
-        let start = self
-            .last_line
-            .saturating_add(number(column)?)
-            .saturating_sub(1);
+    fn write_over(&mut self, start: usize, text: &str) -> io::Result<()> {
         let mut shown = Vec::new(self.alloc);
         add_shown(&mut shown, text)?;
         for (old, new) in self.bytes.iter_mut().skip(start).zip(&shown) {
@@ -197,25 +229,108 @@ impl<'t> Case<'t> {
         Ok(())
     }
 
-    /// Runs the program, and prints its status and what it wrote.
+    fn keep_bytes(&mut self, name: &str, bytes: &[u8]) -> io::Result<()> {
+        match self.store.keep(name, bytes) {
+            Ok(()) => Ok(()),
+            Err(_) => Err(io::Error::from(io::ErrorKind::OutOfMemory)),
+        }
+    }
+
+    /// Prints the bytes of a file or their number, or whether two files have the same bytes.
+    fn show_file<W: Write>(&mut self, word: &str, rest: &str, out: &mut W) -> io::Result<()> {
+        let (name, other) = rest.split_once(' ').unwrap_or((rest, ""));
+        let Ok(bytes) = self.load(name) else {
+            return writeln!(out, "no file");
+        };
+        match word {
+            "show" => show(out, "bytes", &bytes),
+            "size" => writeln!(out, "bytes {}", bytes.len()),
+            _ => {
+                let others = self.load(other)?;
+                let equal = bytes.as_slice() == others.as_slice();
+                writeln!(out, "{}", if equal { "equal" } else { "different" })
+            }
+        }
+    }
+
+    /// Runs the program, and prints its answer.
     fn run<W: Write>(&mut self, rest: &str, out: &mut W) -> io::Result<()> {
         let words = words_of(self.alloc, rest)?;
+        let answer = self.answer_of(&words);
+        answer.print(out)?;
+        self.printed.clear();
+        Ok(self.printed.extend_from_slice(&answer.out)?)
+    }
+
+    /// Runs the program on each prefix of a file, which then has the name `prefix`, and prints the answers. Lengths that follow
+    /// one another and have one answer are printed together.
+    fn run_on_prefixes<W: Write>(&mut self, rest: &str, out: &mut W) -> io::Result<()> {
+        let (name, rest) = rest.split_once(' ').ok_or(bad())?;
+        let words = words_of(self.alloc, rest)?;
+        let whole = self.load(name)?;
+        let mut first = 0;
+        let mut last = self.answer_at(&words, &whole, 0)?;
+        for length in 1..=whole.len() {
+            let next = self.answer_at(&words, &whole, length)?;
+            if !next.same(&last) {
+                writeln!(out, "lengths {first} to {}", length - 1)?;
+                last.print(out)?;
+                first = length;
+                last = next;
+            }
+        }
+        writeln!(out, "lengths {first} to {}", whole.len())?;
+        last.print(out)
+    }
+
+    fn answer_at(&mut self, words: &[&str], whole: &[u8], length: usize) -> io::Result<Answer> {
+        let prefix = whole.get(..length).ok_or(bad())?;
+        self.bytes.clear();
+        self.bytes.extend_from_slice(prefix)?;
+        self.keep("prefix")?;
+        Ok(self.answer_of(words))
+    }
+
+    /// Runs the program with the devices of the next run.
+    fn answer_of(&mut self, words: &[&str]) -> Answer {
         let devices = self.devices;
         self.devices = Devices::new();
         let mut taken = FullWriter::new(self.alloc, devices.room, devices.flushes);
         let mut errors = FullWriter::new(self.alloc, devices.err_room, true);
         let status = match devices.store {
-            None => run(self.alloc, &words, &mut self.store, &mut taken, &mut errors),
+            None => run(self.alloc, words, &mut self.store, &mut taken, &mut errors),
             Some(fault) => {
                 let mut store = NoStore { fault };
-                run(self.alloc, &words, &mut store, &mut taken, &mut errors)
+                run(self.alloc, words, &mut store, &mut taken, &mut errors)
             }
         };
-        writeln!(out, "status {status}")?;
-        show(out, "out", &taken.taken)?;
-        show(out, "err", &errors.taken)?;
-        self.printed.clear();
-        Ok(self.printed.extend_from_slice(&taken.taken)?)
+        Answer {
+            status,
+            out: taken.taken,
+            err: errors.taken,
+        }
+    }
+}
+
+/// What a run of the program returned and wrote.
+#[derive(Drop)]
+struct Answer {
+    status: u8,
+    out: Vec<u8>,
+    err: Vec<u8>,
+}
+
+impl Answer {
+    fn print<W: Write>(&self, out: &mut W) -> io::Result<()> {
+        writeln!(out, "status {}", self.status)?;
+        show(out, "out", &self.out)?;
+        show(out, "err", &self.err)
+    }
+
+    fn same(&self, other: &Answer) -> bool {
+        self.status == other.status
+            && self.out.as_slice() == other.out.as_slice()
+            && self.err.as_slice() == other.err.as_slice()
     }
 }
 

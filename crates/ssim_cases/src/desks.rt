@@ -43,6 +43,17 @@ impl Desks {
         Ok(())
     }
 
+    /// Adds a desk over a copy of the base of another.
+    pub fn copy(&mut self, place: &str) -> io::Result<()> {
+        let Ok(base) = self.desk(place)?.base().copy() else {
+            return Err(bad());
+        };
+        let Ok(desk) = Desk::start(self.alloc, base) else {
+            return Err(bad());
+        };
+        Ok(self.desks.push(Some(desk))?)
+    }
+
     fn desk(&self, text: &str) -> io::Result<&Desk> {
         let place = number(text)?.checked_sub(1).ok_or(bad())?;
         match self.desks.get(place) {
@@ -82,6 +93,27 @@ impl Desks {
         Ok(())
     }
 
+    /// The bytes of a desk's file.
+    pub fn file_of(&self, place: &str) -> io::Result<Bytes> {
+        let mut file = Bytes::new(self.alloc);
+        match self.desk(place)?.save(&mut file) {
+            Ok(()) => Ok(file),
+            Err(_) => Err(bad()),
+        }
+    }
+
+    /// Adds the desk of a file, and prints the result.
+    pub fn open<W: Write>(&mut self, file: &[u8], limit: u64, out: &mut W) -> io::Result<()> {
+        let mut left = file;
+        match Desk::open(self.alloc, &mut left, limit) {
+            Ok(desk) => {
+                self.desks.push(Some(desk))?;
+                writeln!(out, "opened")
+            }
+            Err(fault) => print_fault(out, &fault),
+        }
+    }
+
     /// Prints what a desk shows for a word.
     pub fn show<W: Write>(&self, word: &str, rest: &str, out: &mut W) -> io::Result<()> {
         let (place, rest) = rest.split_once(' ').unwrap_or((rest, ""));
@@ -90,6 +122,7 @@ impl Desks {
             "held" => print_held(desk, out),
             "findings" => print_findings(desk, out),
             "export" => self.print_export(desk, out),
+            "again" => self.print_again(desk, out),
             "pieces" => self.print_pieces(desk, rest, out),
             "tails" => self.print_tails(desk, rest, out),
             "cuts" => print_cuts(desk, rest, out),
@@ -118,6 +151,21 @@ impl Desks {
             Ok(()) => writeln!(out, "bytes {}", bytes.bytes().len()),
             Err(fault) => print_export_fault(desk, &fault, out),
         }
+    }
+
+    // Whether the export, read as a data set, is exported as the same bytes.
+    fn print_again<W: Write>(&self, desk: &Desk, out: &mut W) -> io::Result<()> {
+        let mut bytes = Bytes::new(self.alloc);
+        if let Err(fault) = desk.export(&mut bytes) {
+            return print_export_fault(desk, &fault, out);
+        }
+        let base = base_of(self.alloc, bytes.bytes(), b"")?;
+        let Ok(read) = Desk::start(self.alloc, base) else {
+            return Err(bad());
+        };
+        let mut again = Bytes::new(self.alloc);
+        let same = read.export(&mut again).is_ok() && again.bytes() == bytes.bytes();
+        writeln!(out, "{}", if same { "same" } else { "different" })
     }
 
     // The period, the times, the UTC variations and the aircraft type of each leg record of a flight, given as columns 3-9 have it.
@@ -178,14 +226,7 @@ fn base_of(alloc: Global, data_set: &[u8], table: &[u8]) -> io::Result<Base> {
 }
 
 fn print_fault<W: Write>(out: &mut W, fault: &DeskFault) -> io::Result<()> {
-    let number = fault.number();
-    match fault {
-        DeskFault::Text(text) => writeln!(out, "refused {number} {text}"),
-        DeskFault::Resolve(resolve) => writeln!(out, "refused {number} {resolve}"),
-        DeskFault::Conflict(reference) => writeln!(out, "refused {number} Conflict {reference}"),
-        DeskFault::OtherBase => writeln!(out, "refused {number} OtherBase"),
-        _ => writeln!(out, "refused {number}"),
-    }
+    writeln!(out, "refused {} {fault}", fault.number())
 }
 
 // A flight is printed with the airline of the desk's base.

@@ -10,7 +10,7 @@ use Rattle.ssim_schedule.specs.Stations.{SameBytesSameRows}
 use Rattle.ssim_text.specs.Grammar.{OneMessage}
 use Rattle.ssim_text.specs.Message.{MessageValue}
 use Rattle.ssim_text.specs.declared.reference.Reference.{Reference}
-use Rattle.ssim_desk.specs.Agreement.{AnyTwoDesksAgree, AreAgreed, BeganFrom, Run, SameMessagesSameDesk}
+use Rattle.ssim_desk.specs.Agreement.{AnyTwoDesksAgree, AreAgreed, BeganAlike, BeganFrom, Run, SameMessagesSameDesk}
 use Rattle.ssim_desk.specs.Held.{DeskState, HasReference, Holds, IsDesk, no_desk}
 use Rattle.ssim_desk.specs.Meaning.{Exports, Means, Timetable}
 use Rattle.ssim_desk.specs.Reach.{Brings, by_text, from_start, from_step}
@@ -112,6 +112,9 @@ agreed export v w is same =
     exports a is_a given (inr h) = has_one_export v given a (subst (λ x. Exports x given) (sym same) h) is_a
 
 pub any_two_desks_agree : OneMessage → SameBytesSameBase → SameBytesSameRows → BasesExport → AnyTwoDesksAgree
-any_two_desks_agree one same_base same_rows export here there d e data_set stations took from_here from_there =
-    agreed export (desk_at here.after d) (desk_at there.after e) (desk_after one here d took.here)
-    (same_messages_same_desk one here there d e took (one_beginning same_base same_rows data_set stations (desk_at here.start d) (desk_at there.start e) from_here from_there))
+any_two_desks_agree one same_base same_rows export here there d e took began =
+    agreed export (desk_at here.after d) (desk_at there.after e) (desk_after one here d took.here) (same_messages_same_desk one here there d e took (start began))
+  where
+    start : BeganAlike (desk_at here.start d) (desk_at there.start e) → desk_at here.start d ≡ desk_at there.start e
+    start (inl (data_set, stations, from_here, from_there)) = one_beginning same_base same_rows data_set stations (desk_at here.start d) (desk_at there.start e) from_here from_there
+    start (inr same) = same

@@ -10,14 +10,15 @@ use Rattle.ssim_schedule.specs.BaseSeen.{BaseSeen}
 use Rattle.ssim_schedule.specs.Schedule.{Table, days_in}
 use Rattle.ssim_schedule.specs.Stations.{Row}
 use Rattle.ssim_schedule.specs.Timetable.{Legs, itinerary}
+use Rattle.ssim_schedule.specs.declared.finding.Finding.{Finding}
 use Rattle.ssim_schedule.specs.declared.resolved.ResolvedSub.{ResolvedSub}
 use Rattle.ssim_schedule.specs.declared.resolving.ResolvedText.{ResolvedText}
 use Rattle.ssim_text.specs.Message.{MessageValue}
 use Rattle.ssim_values.specs.Flight.{FlightNumber, IsFlight}
 use Rattle.ssim_desk.specs.Desk.{timetable_of}
-use Rattle.ssim_desk.specs.Kept.{AreEntries, DeskSeen, Entry, IsEntry, after_entries, state_of}
-use Rattle.ssim_desk.specs.Meaning.{Means, ResolveTo, Timetable, after_messages, after_subs}
-use Rattle.ssim_desk.specs.Trail.{IsAfter, left_by}
+use Rattle.ssim_desk.specs.Kept.{AreEntries, DeskSeen, Entry, IsEntry, after_entries, entries_findings, state_of}
+use Rattle.ssim_desk.specs.Meaning.{Finds, Means, ResolveTo, Timetable, after_messages, after_subs, messages_findings, subs_findings}
+use Rattle.ssim_desk.specs.Trail.{IsAfter, found_by, left_by}
 use Rattle.ssim_desk.proofs.Entries.{values-map_of}
 use Rattle.ssim_desk.proofs.Meanings.{has_one_meaning}
 
@@ -26,9 +27,10 @@ record AreMeant (records : List Record) (rows : List Row) (entries : List Entry)
   texts : List ResolvedText
   resolved : ResolveTo records (map (λ (e : Entry). e.message) entries) texts
   left : (before : Timetable) → after_messages rows (map (λ (e : Entry). e.message) entries) texts before ≡ after_entries rows entries before
+  finds : (before : Timetable) → messages_findings rows (map (λ (e : Entry). e.message) entries) texts before ≡ entries_findings rows entries before
 
 meant : (records : List Record) (rows : List Row) (es : List Entry) → All (IsEntry records) es → AreMeant records rows es
-meant records rows [] h = record { texts = []; resolved = tt; left = λ before. refl }
+meant records rows [] h = record { texts = []; resolved = tt; left = λ before. refl; finds = λ before. refl }
 meant records rows (e ∷ es) h =
     let one = All-head (IsEntry records) e es h in
     let rest = meant records rows es (All-tail (IsEntry records) e es h) in
@@ -38,6 +40,9 @@ meant records rows (e ∷ es) h =
       left = λ before.
           rest.left (after_subs rows e.message.subs one.text.subs.items before)
           ∙ ap (λ (dates : List ResolvedSub). after_entries rows es (after_subs rows e.message.subs dates before)) one.dated;
+      finds = λ before.
+          ap (λ (dates : List ResolvedSub). subs_findings rows e.message.subs dates before ∷ messages_findings rows (map (λ (x : Entry). x.message) es) rest.texts (after_subs rows e.message.subs dates before)) one.dated
+          ∙ ap (λ (fs : List (List Finding)). subs_findings rows e.message.subs e.dates before ∷ fs) (rest.finds (after_subs rows e.message.subs e.dates before));
     }
 
 -- a desk has a meaning
@@ -49,6 +54,17 @@ has_meaning desk h =
       texts = m.texts;
       resolved = subst (λ (ms : List MessageValue). ResolveTo desk.base.records ms m.texts) same m.resolved;
       left = sym (m.left (itinerary desk.base.records)) ∙ ap (λ (ms : List MessageValue). after_messages desk.base.rows ms m.texts (itinerary desk.base.records)) same;
+    }
+
+-- and its messages find what it lists
+pub has_findings : (desk : DeskSeen) → AreEntries desk.base.records desk.held → Finds (state_of desk) (found_by desk.base desk.held)
+has_findings desk h =
+    let m = meant desk.base.records desk.base.rows desk.held h.each in
+    let same = sym (values-map_of desk.held h.rising) in
+    record {
+      texts = m.texts;
+      resolved = subst (λ (ms : List MessageValue). ResolveTo desk.base.records ms m.texts) same m.resolved;
+      found = sym (m.finds (itinerary desk.base.records)) ∙ ap (λ (ms : List MessageValue). messages_findings desk.base.rows ms m.texts (itinerary desk.base.records)) same;
     }
 
 pub only_meaning : (desk : DeskSeen) → AreEntries desk.base.records desk.held → (timetable : Timetable) → Means (state_of desk) timetable → timetable_of desk ≡ timetable

@@ -7,6 +7,7 @@ use Rattle.std.specs.declared.cmp.Ordering.TheVariants.{Less, Equal, Greater}
 use Rattle.ssim_schedule.specs.BaseSeen.{BaseSeen}
 use Rattle.ssim_schedule.specs.Resolve.{HasOneOutcome, IsRefusedIn}
 use Rattle.ssim_schedule.specs.declared.resolving.ResolveFault.{ResolveFault}
+use Rattle.ssim_text.specs.Decoding.{OneRefusal}
 use Rattle.ssim_text.specs.Grammar.{OneMessage}
 use Rattle.ssim_text.specs.Message.{MessageValue}
 use Rattle.ssim_text.specs.Spelling.{SpellsMessage}
@@ -15,7 +16,7 @@ use Rattle.ssim_text.specs.declared.fault.TextFault.TheVariants as text_fault
 use Rattle.ssim_text.specs.declared.reference.Reference.{Reference}
 use Rattle.ssim_desk.specs.Held.{DeskState, HeldMessages, Holds, Says, reference_cmp}
 use Rattle.ssim_desk.specs.Maps.{Agree, DifferAt, IsLeastConflict, union}
-use Rattle.ssim_desk.specs.Merging.{AreAlike, IsMergedTo, MergesAreDetermined, TakesAreDetermined, ThreeDesksMerge, merged, no_message, same}
+use Rattle.ssim_desk.specs.Merging.{IsMergedTo, MergesAreDetermined, TakesAreDetermined, ThreeDesksMerge, merged}
 use Rattle.ssim_desk.specs.Steps.{IsInConflict, IsKnown, IsNew, IsUnresolved, IsUnspelt, Merges, Takes}
 use Rattle.ssim_desk.specs.declared.fault.DeskFault.TheVariants.{Memory, Text, Resolve, Conflict, OtherBase, Read, File}
 use Rattle.ssim_desk.specs.declared.steps.Answer.{Answer}
@@ -138,7 +139,7 @@ three_desks_merge a b c are =
 
 -- ---- texts
 
-module _ (one : OneMessage) (outcome : HasOneOutcome) (desk : DeskState) (text : List ℕ) where
+module _ (one : OneMessage) (refusals : OneRefusal) (outcome : HasOneOutcome) (desk : DeskState) (text : List ℕ) where
   not_spelt : (m : MessageValue) (fault : TextFault) → SpellsMessage m text → IsUnspelt text fault → ⊥
   not_spelt m text_fault.Memory spelt un = un
   not_spelt m (text_fault.Refused fault line) spelt un = un.0 m spelt
@@ -208,12 +209,19 @@ module _ (one : OneMessage) (outcome : HasOneOutcome) (desk : DeskState) (text :
   as_conflict r (Refused (Read fault)) y clash is memory = absurd is.0
   as_conflict r (Refused (File offset)) y clash is memory = absurd is.0
 
-  as_unspelt : (f : TextFault) (b : Answer) (y : HeldMessages) → IsUnspelt text f → Takes desk text b y → b ≢ Refused Memory → AreAlike (Refused (Text f)) b × (y ≡ desk.held)
+  same_fault : (f g : TextFault) → IsUnspelt text f → IsUnspelt text g → f ≡ g
+  same_fault text_fault.Memory g un other = absurd un
+  same_fault (text_fault.Refused f m) text_fault.Memory un other = absurd other
+  same_fault (text_fault.Refused f m) (text_fault.Refused g n) un other =
+      let both = refusals text f g m n un.1 other.1 in
+      λ i. text_fault.Refused (both.0 i) (both.1 i)
+
+  as_unspelt : (f : TextFault) (b : Answer) (y : HeldMessages) → IsUnspelt text f → Takes desk text b y → b ≢ Refused Memory → (b ≡ Refused (Text f)) × (y ≡ desk.held)
   as_unspelt f Taken y un is memory = absurd (not_spelt is.message f is.says.spelt un)
   as_unspelt f Repeated y un is memory = let known = is.0 in absurd (not_spelt known.message f known.says.spelt un)
   as_unspelt f Merged y un is memory = absurd is
   as_unspelt f (Refused Memory) y un is memory = absurd (memory refl)
-  as_unspelt f (Refused (Text g)) y un is memory = (no_message f g, is.1)
+  as_unspelt f (Refused (Text g)) y un is memory = (ap (λ k. Refused (Text k)) (same_fault g f is.0 un), is.1)
   as_unspelt f (Refused (Resolve g)) y un is memory = let other = is.0 in absurd (not_spelt other.message f other.spelt un)
   as_unspelt f (Refused (Conflict q)) y un is memory = let clash = is.0 in absurd (not_spelt clash.message f clash.says.spelt un)
   as_unspelt f (Refused OtherBase) y un is memory = absurd is.0
@@ -235,23 +243,20 @@ module _ (one : OneMessage) (outcome : HasOneOutcome) (desk : DeskState) (text :
   as_unresolved f (Refused (Read fault)) y un is memory = absurd is.0
   as_unresolved f (Refused (File offset)) y un is memory = absurd is.0
 
-  equals : (a b : Answer) (x y z : HeldMessages) → (b ≡ a) × (y ≡ z) → x ≡ z → AreAlike a b × (x ≡ y)
-  equals a b x y z of held = (same (sym of.0), held ∙ sym of.1)
+  equals : (a b : Answer) (x y z : HeldMessages) → (b ≡ a) × (y ≡ z) → x ≡ z → (a ≡ b) × (x ≡ y)
+  equals a b x y z of held = (sym of.0, held ∙ sym of.1)
 
-  alike : (a b : Answer) (x y : HeldMessages) → AreAlike a b × (y ≡ desk.held) → x ≡ desk.held → AreAlike a b × (x ≡ y)
-  alike a b x y of held = (of.0, held ∙ sym of.1)
-
-  determined : (a b : Answer) (x y : HeldMessages) → Takes desk text a x → Takes desk text b y → a ≢ Refused Memory → b ≢ Refused Memory → AreAlike a b × (x ≡ y)
+  determined : (a b : Answer) (x y : HeldMessages) → Takes desk text a x → Takes desk text b y → a ≢ Refused Memory → b ≢ Refused Memory → (a ≡ b) × (x ≡ y)
   determined Taken b x y is_a is_b memory_a memory_b = equals Taken b x y x (as_new b x y is_a is_b memory_b) refl
   determined Repeated b x y is_a is_b memory_a memory_b = equals Repeated b x y desk.held (as_known b y is_a.0 is_b memory_b) is_a.1
   determined Merged b x y is_a is_b memory_a memory_b = absurd is_a
   determined (Refused Memory) b x y is_a is_b memory_a memory_b = absurd (memory_a refl)
-  determined (Refused (Text f)) b x y is_a is_b memory_a memory_b = alike (Refused (Text f)) b x y (as_unspelt f b y is_a.0 is_b memory_b) is_a.1
+  determined (Refused (Text f)) b x y is_a is_b memory_a memory_b = equals (Refused (Text f)) b x y desk.held (as_unspelt f b y is_a.0 is_b memory_b) is_a.1
   determined (Refused (Resolve f)) b x y is_a is_b memory_a memory_b = equals (Refused (Resolve f)) b x y desk.held (as_unresolved f b y is_a.0 is_b memory_b) is_a.1
   determined (Refused (Conflict r)) b x y is_a is_b memory_a memory_b = equals (Refused (Conflict r)) b x y desk.held (as_conflict r b y is_a.0 is_b memory_b) is_a.1
   determined (Refused OtherBase) b x y is_a is_b memory_a memory_b = absurd is_a.0
   determined (Refused (Read fault)) b x y is_a is_b memory_a memory_b = absurd is_a.0
   determined (Refused (File offset)) b x y is_a is_b memory_a memory_b = absurd is_a.0
 
-pub takes_are_determined : OneMessage → HasOneOutcome → TakesAreDetermined
-takes_are_determined one outcome desk text a b x y is_a is_b memory_a memory_b = determined one outcome desk text a b x y is_a is_b memory_a memory_b
+pub takes_are_determined : OneMessage → OneRefusal → HasOneOutcome → TakesAreDetermined
+takes_are_determined one refusals outcome desk text a b x y is_a is_b memory_a memory_b = determined one refusals outcome desk text a b x y is_a is_b memory_a memory_b

@@ -1,14 +1,16 @@
 -- One more message, one more checkpoint after each 32, and the checkpoints before a position with those after it.
-use Rattle.std.proofs.Common.{◌≡◌, ◌≢◌, ◌≤◌, ◌<◌, ◌+◌, ◌-◌, ◌*◌, ◌/◌, ◌%◌, ℕ, zero, suc, List, [], ◌∷◌, ◌++◌, length, take, drop, Some, None, IfSome, slice_get, ◌⊎◌, inl, inr, refl, sym, ap, subst, ◌∙◌, arith, length-append, length-drop, append_assoc}
-use Rattle.std.proofs.lemmas.Grind.{common_steps}
+use Rattle.std.proofs.Common.{◌≡◌, ◌≢◌, ◌≤◌, ◌<◌, ◌+◌, ◌-◌, ◌*◌, ◌/◌, ◌%◌, ℕ, zero, suc, List, [], ◌∷◌, ◌++◌, length, take, drop, Some, IfSome, slice_get, refl, sym, ap, subst, ◌∙◌, arith, length-append, append_assoc}
 use Rattle.std.proofs.lemmas.List.{take-append-le, take_all, length-take, append-nil}
 use Rattle.ssim_schedule.specs.BaseSeen.{BaseSeen}
-use Rattle.ssim_schedule.specs.Schedule.{Table}
+use Rattle.ssim_schedule.specs.Schedule.{Table, cuts_in}
 use Rattle.ssim_schedule.specs.Stations.{Row}
 use Rattle.ssim_schedule.specs.declared.finding.Finding.{Finding}
+use Rattle.ssim_values.specs.Flight.{FlightNumber, IsFlight}
 use Rattle.ssim_desk.specs.Kept.{Entry, Shows, after_entries, after_entry, entries_findings}
 use Rattle.ssim_desk.specs.Meaning.{Timetable, subs_findings}
-use Rattle.ssim_desk.specs.Trail.{AreCheckpoints, IsAfter, IsStart, found_by, left_by}
+use Rattle.ssim_desk.specs.Points.{AddsSubPoints}
+use Rattle.ssim_desk.specs.Trail.{AreCheckpoints, IsAfter, IsTrail, found_by, left_by}
+use Rattle.ssim_desk.proofs.Points.{more_at}
 
 -- ---- messages in two parts
 
@@ -84,8 +86,12 @@ module _ (base : BaseSeen) (before : List Entry) (e : Entry) where
   pub found_more : found_by base (before ++ e ∷ []) ≡ found_by base before ++ subs_findings base.rows e.message.subs e.dates (left_by base before) ∷ []
   found_more = findings-++ base.rows before (e ∷ []) _
 
-  pub after_more : (s : Table) → Shows s (after_entry base.rows e (left_by base before)) → IsAfter base (before ++ e ∷ []) s
-  after_more s shows = record { shows = subst (Shows s) (sym left_more) shows }
+  pub after_more : (old s : Table) → IsAfter base before old → Shows s (after_entry base.rows e (left_by base before))
+      → ((g : FlightNumber) → IsFlight g → AddsSubPoints base.rows e.dates g (cuts_in old g) (cuts_in s g)) → IsAfter base (before ++ e ∷ []) s
+  after_more old s after shows adds = record {
+    shows = subst (Shows s) (sym left_more) shows;
+    cuts = λ g is. more_at base g before e (cuts_in old g) (cuts_in s g) (adds g is) (after.cuts g is);
+  }
 
   pub found_next : (from : ℕ) (found : List (List Finding)) (one : List Finding) → from ≤ length before → found_by base (take from before) ++ found ≡ found_by base before
       → one ≡ subs_findings base.rows e.message.subs e.dates (left_by base before)
@@ -122,6 +128,18 @@ nothing_found base entries from is = append-nil (found_by base (take from entrie
 pub nothing_kept : (base : BaseSeen) (entries : List Entry) (from : ℕ) → from ≡ length entries → AreCheckpoints base entries (from / 32 + 1) []
 nothing_kept base entries from is = record { count = omega arith; each = λ k. tt }
 
+-- a desk begins with one checkpoint, the base's schedule
+begun_each : (base : BaseSeen) (schedule : Table) → IsAfter base [] schedule → (k : ℕ) → IfSome (slice_get (schedule ∷ []) k) (IsAfter base (take (32 * (0 + k)) []))
+begun_each base schedule after zero = after
+begun_each base schedule after (suc k) = tt
+
+pub begun_trail : (base : BaseSeen) (schedule : Table) → IsAfter base [] schedule → IsTrail base [] (schedule ∷ []) schedule []
+begun_trail base schedule after = record {
+  latest_is = after;
+  found_is = refl;
+  kept = record { count = omega arith; each = begun_each base schedule after };
+}
+
 module _ (base : BaseSeen) (held : List Entry) (from : ℕ) where
   pub start_latest : (latest : Table) → from ≡ length held → IsAfter base held latest → IsAfter base (take from held) latest
   start_latest latest is after = after_at base _ _ latest (sym (take_all from held (omega arith))) after
@@ -155,3 +173,7 @@ module _ (base : BaseSeen) (held rest : List Entry) (from at : ℕ) (low : from 
     where
       front : length (take (from / 32 + 1) cps) ≡ from / 32 + 1
       front = omega (arith, old.count, length-take (from / 32 + 1) cps)
+
+-- if all messages are replaced, those put there are the ones that were applied
+pub all_applied : {X : Type 0} (old rest : List X) (from at applied : ℕ) → from ≤ at → applied + from ≡ length (take at old ++ rest) → at ≡ 0 → applied ≡ length rest
+all_applied old rest from at applied low counted none = omega (arith, low, counted, none, length-append (take at old) rest, length-take at old)

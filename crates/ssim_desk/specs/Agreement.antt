@@ -66,12 +66,23 @@ pub record AreAgreed (one other : DeskState) : Type 0 where
   pub exports_other : Exports other answer
   pub no_other_answer : (given : Result (List ℕ) ExportRefusal) → Exports one given ⊎ Exports other given → given ≡ answer
 
--- any two desks that began from the same bytes, and that the same messages reached in whatever order, grouping and number of repeats
+-- two desks began alike: from the same bytes, holding nothing; or with the same messages over the same base
+abbrev pub BeganAlike : DeskState → DeskState → Type 0
+BeganAlike one other =
+    ((data_set : List ℕ) × (stations : List ℕ) × BeganFrom data_set stations one × BeganFrom data_set stations other) ⊎ (one ≡ other)
+
+-- any two desks that began alike, and that the same messages reached in whatever order, grouping and number of repeats
 abbrev pub AnyTwoDesksAgree : Type 0
 AnyTwoDesksAgree =
-    (one other : Run) (d e : ℕ) (data_set stations : List ℕ) → TookTheSame one other d e
-    → BeganFrom data_set stations (desk_at one.start d) → BeganFrom data_set stations (desk_at other.start e)
+    (one other : Run) (d e : ℕ) → TookTheSame one other d e → BeganAlike (desk_at one.start d) (desk_at other.start e)
     → AreAgreed (desk_at one.after d) (desk_at other.after e)
+
+-- the same of any two desks of one run
+abbrev pub DesksAgree : List DeskState → List Step → List Answer → List DeskState → Type 0
+DesksAgree start steps answers after =
+    (d e : ℕ) → d < length start → e < length start → BeganAlike (desk_at start d) (desk_at start e)
+    → ((reference : Reference) (message : MessageValue) → Reached start steps answers d reference message ↔ Reached start steps answers e reference message)
+    → AreAgreed (desk_at after d) (desk_at after e)
 
 -- ---- references that are kept apart
 

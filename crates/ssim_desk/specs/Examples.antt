@@ -1,11 +1,13 @@
 -- Small examples of order and meaning, checked by computation.
-use Rattle.std.specs.Prelude.{◌≡◌, ℕ, true, false, List, [], ◌∷◌, ◌++◌, replicate, codes, refl}
+use Rattle.std.specs.Prelude.{◌≡◌, ℕ, true, false, None, List, [], ◌∷◌, ◌++◌, replicate, codes, refl}
 use Rattle.std.specs.List.{concat}
 use Rattle.std.specs.declared.cmp.Ordering.TheVariants.{Less, Equal}
 use Rattle.ssim_records.specs.LegParts.{new_leg, station_columns, with_equipment, with_times}
+use Rattle.ssim_schedule.specs.BaseSeen.{BaseSeen}
 use Rattle.ssim_schedule.specs.Stations.{Row}
 use Rattle.ssim_schedule.specs.Timetable.{LegValue}
 use Rattle.ssim_schedule.specs.declared.resolved.ResolvedSub.{ResolvedSub}
+use Rattle.ssim_text.specs.Message.{begun}
 use Rattle.ssim_text.specs.Values.{EquipmentValue, no_originator}
 use Rattle.ssim_text.specs.declared.action.Action.{Action}
 use Rattle.ssim_text.specs.declared.action.Action.TheVariants.{New, Cnl, Eqt}
@@ -15,11 +17,15 @@ use Rattle.ssim_text.specs.declared.dates.Dates.TheVariants.{Date}
 use Rattle.ssim_text.specs.declared.dates.GivenDate.TheVariants.{Full}
 use Rattle.ssim_text.specs.declared.kind.Kind.{Kind}
 use Rattle.ssim_text.specs.declared.kind.Kind.TheVariants.{Ssm, Asm}
+use Rattle.ssim_values.specs.declared.time_mode.TimeMode.TheVariants.{Utc}
 use Rattle.ssim_text.specs.declared.leg.LegEnd.{LegEnd}
+use Rattle.ssim_text.specs.declared.reference.GroupCode.TheVariants.{End}
 use Rattle.ssim_text.specs.declared.reference.Reference.{Reference}
 use Rattle.ssim_values.specs.Flight.{FlightNumber}
 use Rattle.ssim_desk.specs.Held.{reference_cmp}
+use Rattle.ssim_desk.specs.Kept.{Entry}
 use Rattle.ssim_desk.specs.Meaning.{Timetable, after_subs}
+use Rattle.ssim_desk.specs.Points.{is_desk_point, point_bound}
 
 -- ---- the order of references
 
@@ -122,3 +128,36 @@ year_of_a_reference = refl
 -- a text's own sub-messages act in their order
 in_one_text : after_subs rows (sub (New new) ∷ sub Cnl ∷ []) (dated ∷ dated ∷ []) nothing lx600 9313 ≡ []
 in_one_text = refl
+
+-- ---- cuts
+
+-- a desk over this base that holds the one message that names LX600 on 01JUL25
+abbrev over : BaseSeen
+over = record { records = []; rows = row (codes "ZRH") 120 ∷ [] }
+
+abbrev holding : List Entry
+holding = record {
+  reference = reference 9252 1 Ssm no_originator;
+  message = begun no_originator Ssm Utc (record { date = record { month = 5; day = 1 }; group = 1; code = End; serial = 1; creator = None });
+  dates = dated ∷ [];
+} ∷ []
+
+-- the date, the day after it, and the ends of the station row 30MAR25 25OCT25 are points, and no other day of that time
+first_day : is_desk_point over holding lx600 9313 ≡ true
+first_day = refl
+
+day_after : is_desk_point over holding lx600 9314 ≡ true
+day_after = refl
+
+day_before : is_desk_point over holding lx600 9312 ≡ false
+day_before = refl
+
+row_ends : is_desk_point over holding lx600 9430 ≡ true
+row_ends = refl
+
+-- so there are at most four cuts; of another flight at most two
+of_the_flight : point_bound over holding lx600 ≡ 4
+of_the_flight = refl
+
+of_another_flight : point_bound over holding (record { number = 600; suffix = 65 }) ≡ 2
+of_another_flight = refl

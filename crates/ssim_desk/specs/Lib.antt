@@ -7,8 +7,11 @@ pub mod Merging
 pub mod Reach
 pub mod Agreement
 pub mod Kept
+pub mod Points
 pub mod Trail
 pub mod Lookup
 pub mod Union
 pub mod Desk
+pub mod File
+pub mod Opening
 pub mod Examples

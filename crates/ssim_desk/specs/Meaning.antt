@@ -70,7 +70,7 @@ pub record Means (desk : DeskState) (timetable : Timetable) : Type 0 where
   pub resolved : ResolveTo desk.base.records (values desk.held) texts
   pub left : timetable ≡ after_messages desk.base.rows (values desk.held) texts (itinerary desk.base.records)
 
--- what its messages, in order of reference, find
+-- what its messages, in order of reference, find: a list for each message, in the order of its sub-messages
 pub record Finds (desk : DeskState) (findings : List (List Finding)) : Type 0 where
   pub texts : List ResolvedText
   pub resolved : ResolveTo desk.base.records (values desk.held) texts

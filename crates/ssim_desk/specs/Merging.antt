@@ -1,10 +1,9 @@
 -- Laws of merging, and what determines an answer.
 use Rattle.std.specs.Prelude.{◌≡◌, ◌≢◌, List, ℕ}
-use Rattle.ssim_text.specs.declared.fault.TextFault.{TextFault}
 use Rattle.ssim_desk.specs.Held.{DeskState, HeldMessages}
 use Rattle.ssim_desk.specs.Maps.{Agree, union}
 use Rattle.ssim_desk.specs.Steps.{Merges, Takes}
-use Rattle.ssim_desk.specs.declared.fault.DeskFault.TheVariants.{Memory, Text}
+use Rattle.ssim_desk.specs.declared.fault.DeskFault.TheVariants.{Memory}
 use Rattle.ssim_desk.specs.declared.steps.Answer.{Answer}
 use Rattle.ssim_desk.specs.declared.steps.Answer.TheVariants.{Merged, Refused}
 
@@ -55,16 +54,11 @@ ThreeDesksMerge = (a b c : DeskState) → AreMergeable a b c → MergeFreely a b
 
 -- ---- what determines an answer
 
--- the same answer; or both say that the text is no message, and may name different faults of it
-pub data AreAlike : Answer → Answer → Type 0 where
-  same : {a b : Answer} → a ≡ b → AreAlike a b
-  no_message : (f g : TextFault) → AreAlike (Refused (Text f)) (Refused (Text g))
-
 -- unless memory is refused, the desk and the text determine the answer and what is held afterwards
 abbrev pub TakesAreDetermined : Type 0
 TakesAreDetermined =
     (desk : DeskState) (text : List ℕ) (answer other : Answer) (held others : HeldMessages) → Takes desk text answer held → Takes desk text other others
-    → answer ≢ Refused Memory → other ≢ Refused Memory → AreAlike answer other × (held ≡ others)
+    → answer ≢ Refused Memory → other ≢ Refused Memory → (answer ≡ other) × (held ≡ others)
 
 -- and so do two desks that are merged
 abbrev pub MergesAreDetermined : Type 0

@@ -1,12 +1,13 @@
 -- What a trail keeps: the schedule after every 32 messages, the latest one, and what each message found.
-use Rattle.std.specs.Prelude.{◌≡◌, ◌⊎◌, ℕ, ◌≤◌, ◌<◌, ◌+◌, ◌-◌, ◌*◌, ◌/◌, ◌%◌, ◌++◌, ◌∷◌, [], List, length, take, drop, Some, IfSome, slice_get}
-use Rattle.std.specs.FinMap.{get}
+use Rattle.std.specs.Prelude.{◌≡◌, ◌⊎◌, ℕ, ◌≤◌, ◌<◌, ◌+◌, ◌*◌, ◌/◌, ◌%◌, ◌++◌, List, length, take, IfSome, slice_get}
 use Rattle.ssim_schedule.specs.BaseSeen.{BaseSeen}
-use Rattle.ssim_schedule.specs.Schedule.{Table}
+use Rattle.ssim_schedule.specs.Schedule.{Table, cuts_in}
 use Rattle.ssim_schedule.specs.Timetable.{itinerary}
 use Rattle.ssim_schedule.specs.declared.finding.Finding.{Finding}
+use Rattle.ssim_values.specs.Flight.{FlightNumber, IsFlight}
 use Rattle.ssim_desk.specs.Kept.{DeskSeen, Entry, Shows, after_entries, entries_findings}
 use Rattle.ssim_desk.specs.Meaning.{Timetable}
+use Rattle.ssim_desk.specs.Points.{AreDeskPoints}
 use Rattle.ssim_desk.specs.declared.tail.Tail.{Tail}
 
 -- what these messages, in this order, leave of a base's timetable
@@ -20,6 +21,7 @@ found_by base entries = entries_findings base.rows entries (itinerary base.recor
 -- the schedule is the base's after these messages
 pub record IsAfter (base : BaseSeen) (entries : List Entry) (schedule : Table) : Type 0 where
   pub shows : Shows schedule (left_by base entries)
+  pub cuts : (flight : FlightNumber) → IsFlight flight → AreDeskPoints base entries flight (cuts_in schedule flight)
 
 -- the checkpoints from number `first` on: checkpoint k is the schedule after 32 * k messages
 pub record AreCheckpoints (base : BaseSeen) (entries : List Entry) (first : ℕ) (checkpoints : List Table) : Type 0 where
@@ -53,9 +55,10 @@ pub record IsStart (count at from : ℕ) : Type 0 where
   pub near : at ≤ from + 31
   pub kept : (from ≡ count) ⊎ (from ≡ 32 * (from / 32))
 
--- The messages from a position on are replaced. Those put there were applied, and fewer than 32 before them.
+-- The messages from a position on are replaced. Those put there were applied, and fewer than 32 before them, none of them if all are replaced.
 pub record IsReplaced (old : DeskSeen) (at : ℕ) (rest : List Entry) (new : DeskSeen) : Type 0 where
   pub base : new.base ≡ old.base
   pub held : new.held ≡ take at old.held ++ rest
   pub at_least : length rest ≤ new.applied
   pub at_most : new.applied ≤ length rest + 31
+  pub whole : at ≡ 0 → new.applied ≡ length rest

@@ -1,24 +1,34 @@
 //! A desk: a base and messages by reference.
 
-ghost use Rattle.std.specs.Prelude.{◌≡◌, ◌⊎◌, ◌++◌, ◌≤◌, All, [], ◌∷◌, length, take, drop, Ok, IfOk, IfErr, OnErr, OnOk};
+ghost use Rattle.std.specs.Prelude.{◌≡◌, ◌⊎◌, ◌++◌, ◌<◌, ◌≤◌, ℕ, All, Contains, [], ◌∷◌, length, take, drop, Ok, IfOk, IfErr, OnErr, OnOk};
+ghost use Rattle.std.specs.Io.KnownBytes.{Appends};
 ghost use Rattle.std.specs.List.Sorted.{IsStrictlyIncreasing};
+ghost use Rattle.ssim_values.specs.Calendar.{weekday};
+ghost use Rattle.ssim_schedule.specs.Reading.{Came};
 ghost use Rattle.ssim_schedule.specs.Plan.{ReadsBackBase, RefusesBase, WritesBase};
+ghost use Rattle.ssim_schedule.specs.Sinks.{CountsFault, TakesFront};
 ghost use Rattle.ssim_desk.specs.Desk.{IsReplayed, at_rest, days_of_desk, finding_lines, merge_answer, take_answer, timetable_of};
+ghost use Rattle.ssim_desk.specs.File.{CanBeSaved, desk_file};
+ghost use Rattle.ssim_desk.specs.Fault.{FailsAs, NeverEnds};
+ghost use Rattle.ssim_desk.specs.Opening.{Opens, RefusesFile};
 ghost use Rattle.ssim_desk.specs.Kept.{AreEntries, AreRising, IsEntry, map_of, state_of};
 ghost use Rattle.ssim_desk.specs.Lookup.{IsGap};
-ghost use Rattle.ssim_desk.specs.Meaning.{Means, Timetable};
+ghost use Rattle.ssim_desk.specs.Meaning.{Finds, Means, Timetable};
+ghost use Rattle.ssim_desk.specs.Points.{AreDeskPoints, point_bound};
 ghost use Rattle.ssim_desk.specs.Steps.{IsUnion, Merges, Takes};
-ghost use Rattle.ssim_desk.specs.Trail.{IsReplaced};
+ghost use Rattle.ssim_desk.specs.Trail.{IsReplaced, found_by};
 ghost use Rattle.ssim_desk.specs.Union.{HeldAlike};
 
 use crate::fault::DeskFault;
 use crate::finding_line::{FindingLine, push_lines};
 use crate::held::Held;
 use crate::lookup::{Found, look};
+use crate::opening::read_desk;
+use crate::saving::put_desk;
 use crate::trail::Trail;
 use crate::union::{first_conflict, first_new, merged};
-use ssim_records::Sink;
-use ssim_schedule::{Base, ExportFault, PlacedLeg, resolve};
+use ssim_records::{Sink, Source};
+use ssim_schedule::{Base, ExportFault, PlacedLeg, WriteFault, resolve};
 use ssim_text::decode;
 use ssim_values::{Day, Flight, Memory};
 use std::alloc::Global;
@@ -43,6 +53,7 @@ pub struct Desk {
 }
 
 impl Model for Desk {
+    ghost use Rattle.ssim_desk.specs.File.{CanBeSaved, desk_file};
     ghost use Rattle.ssim_desk.specs.Kept.{AreEntries, DeskSeen};
 
     ghost Value = { DeskSeen };
@@ -60,6 +71,25 @@ impl Desk {
         Ok(Desk {
             trail: Trail::new(alloc, base)?,
         })
+    }
+
+    /// Opens a desk file: reads all bytes of the reader, at most `limit`, and then the desk whose file they are, of version 2, or of
+    /// version 1 without originators. `applied` is then the number of messages.
+    ///
+    /// The errors are 90, 13 `ReadFault` if the reader failed, 14 `ReaderNeverEnds` if more bytes came than the limit, both with record
+    /// number 0, and 62 if the bytes are no desk file, with the number of bytes before the first invalid element.
+    pub fn open<R: Source>(alloc: Global, reader: &mut R, limit: u64) -> Result<Desk, DeskFault>
+        ensures ok { IfOk result (λ desk. Opens limit (R.left reader.old) desk.base desk.held) }
+        ensures applied { IfOk result (λ desk. desk.applied ≡ length desk.held) }
+        ensures err { IfErr result (RefusesFile limit (R.left reader.old)) }
+        ensures no_failure { IfOk result (λ _. R.failures reader.new ≡ R.failures reader.old) }
+        ensures failure { IfErr result (λ e. FailsAs (R.failures reader.old) (R.failures reader.new) e) }
+        ensures never_ends { IfErr result (λ e. NeverEnds limit (Came (R.left reader.old) (R.left reader.new) (R.came reader.old) (R.came reader.new)) e) }
+    {
+        let (base, held) = read_desk(alloc, reader, limit)?;
+        let mut trail = Trail::new(alloc, base)?;
+        trail.replace_from(0, held)?;
+        Ok(Desk { trail })
     }
 
     /// The base from which the desk began. No call changes it.
@@ -148,13 +178,24 @@ impl Desk {
     pub fn cuts(&self, flight: &Flight) -> &[u32]
         ensures rising { IsStrictlyIncreasing result.now }
         ensures in_calendar { All (λ cut. cut ≤ 36525) result.now }
+
+        // Each is the first day or the day after the last of a leg record of the flight, a sub-message that names it, or a station row.
+        ensures points { AreDeskPoints self.now.base self.now.held flight.now result.now }
+        ensures bound { length result.now ≤ point_bound self.now.base self.now.held flight.now }
+
+        // Two days of one weekday have the same itinerary if no cut is after the earlier and not after the later.
+        ensures weekly { (m n : ℕ) → m ≤ n → n < 36525 → weekday m ≡ weekday n → ((cut : ℕ) → Contains result.now cut → m < cut → n < cut) → timetable_of self.now flight.now m ≡ timetable_of self.now flight.now n }
     {
+        // No effect at run time. The proof reads from these uses that the flight exists.
+        let _ = flight.number();
+        let _ = flight.suffix();
         self.trail.latest().cuts(flight)
     }
 
     /// A line for each sub-message that is held, in order: what it found on the dates of its period.
     pub fn findings(&self) -> Result<Vec<FindingLine>, Memory>
-        ensures { IfOk result (λ lines. lines.items ≡ finding_lines self.now) }
+        ensures lines { IfOk result (λ lines. lines.items ≡ finding_lines self.now) }
+        ensures finds { IfOk result (λ lines. Finds (state_of self.now) (found_by self.now.base self.now.held)) }
     {
         let mut lines = Vec::new(self.trail.allocator());
         push_lines(&mut lines, self.trail.held(), self.trail.found())?;
@@ -173,6 +214,19 @@ impl Desk {
         ensures reads_back { OnOk result (ReadsBackBase W.taken self.now.base.records (days_of_desk self.now) out.old out.new) }
     {
         self.trail.latest().export(self.trail.base(), out)
+    }
+
+    /// Writes the desk file: the base and the messages that are held, in version 2 of the format. Allocates nothing.
+    ///
+    /// Fails only if the sink fails, with 52. The sink has then taken a prefix of the file.
+    pub fn save<W: Sink>(&self, out: &mut W) -> Result<(), WriteFault>
+        ensures ok { OnOk result (Appends (W.taken out.old) (W.taken out.new) (desk_file self.now.base self.now.held)) }
+        ensures can_be_saved { OnOk result (CanBeSaved self.now.base self.now.held) }
+        ensures err { OnErr result (TakesFront (desk_file self.now.base self.now.held) (W.taken out.old) (W.taken out.new)) }
+        ensures failures { CountsFault (W.failures out.old) (W.failures out.new) result }
+        ensures device { W.device out.new ≡ W.device out.old }
+    {
+        put_desk(out, self.base(), self.held())
     }
 
     // Holds what another desk over the same base holds, too.

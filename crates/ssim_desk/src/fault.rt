@@ -1,13 +1,18 @@
 //! Why a desk refuses.
 
-ghost use Rattle.std.specs.Prelude.{◌≡◌};
+ghost use Rattle.std.specs.Prelude.{◌≡◌, Some};
 
 use ssim_records::RecordFault;
 use ssim_schedule::ResolveFault;
 use ssim_text::{Reference, TextFault};
 use std::alloc::{AllocError, AllocFailed};
+use std::error::Error;
+use std::fmt;
 
 /// Why a desk refuses a text, another desk or a file. The desk is unchanged.
+///
+/// It is displayed as its name and its place: `BadLeg line 8`, `Airline sub 1`, `Conflict SSM 01JUN25 00001 001`, `OtherBase`,
+/// `DeskFile offset 844`.
 #[derive(Clone, Copy, Debug, PartialEq, Eq)]
 pub enum DeskFault {
     /// 90: out of memory.
@@ -27,7 +32,7 @@ pub enum DeskFault {
 }
 
 impl DeskFault {
-    ghost use Rattle.ssim_desk.specs.Fault.{desk_fault_number};
+    ghost use Rattle.ssim_desk.specs.Fault.{desk_fault_name, desk_fault_number};
 
     /// The number by which the fault is known.
     pub fn number(self) -> u8
@@ -43,7 +48,42 @@ impl DeskFault {
             DeskFault::File(_) => 62,
         }
     }
+
+    /// The name by which the fault is known. That of 62 is `DeskFile`.
+    pub fn name(self) -> &'static str
+        ensures { result.now ≡ desk_fault_name self }
+    {
+        match self {
+            DeskFault::Memory => "Memory",
+            DeskFault::Text(fault) => fault.name(),
+            DeskFault::Resolve(fault) => fault.name(),
+            DeskFault::Conflict(_) => "Conflict",
+            DeskFault::OtherBase => "OtherBase",
+            DeskFault::Read(fault) => fault.name(),
+            DeskFault::File(_) => "DeskFile",
+        }
+    }
 }
+
+impl fmt::Display for DeskFault {
+    ghost use Rattle.ssim_desk.specs.Fault.{desk_fault_text};
+
+    ghost output = { λ fault. Some (desk_fault_text fault) };
+
+    fn fmt<W: fmt::Write>(&self, f: &mut fmt::Formatter<W>) -> fmt::Result {
+        match self {
+            DeskFault::Memory => write!(f, "Memory"),
+            DeskFault::Text(fault) => write!(f, "{fault}"),
+            DeskFault::Resolve(fault) => write!(f, "{fault}"),
+            DeskFault::Conflict(reference) => write!(f, "Conflict {reference}"),
+            DeskFault::OtherBase => write!(f, "OtherBase"),
+            DeskFault::Read(fault) => write!(f, "{fault}"),
+            DeskFault::File(offset) => write!(f, "DeskFile offset {offset}"),
+        }
+    }
+}
+
+impl Error for DeskFault {}
 
 impl From<ssim_values::Memory> for DeskFault {
     ghost use Rattle.ssim_desk.specs.declared.fault.DeskFault.TheVariants.{Memory};

@@ -5,12 +5,13 @@
 //! - [`Held`]: a message that a desk holds, with its reference and its canonical text.
 //! - [`FindingLine`]: what a sub-message found on the dates of its period.
 //! - [`run_steps`]: tries [`Step`]s on several desks, each a text or a merge, and returns an [`Answer`] for each.
+//! - `Desk::save`: writes the desk file, which has the base and the messages that are held; or [`WriteFault`], 52.
 //! - [`laws`]: any two desks that began from the same bytes and that the same messages reached agree, whatever the order, the grouping
 //!   and the repeats; and merging is associative, commutative and idempotent.
 //!
 //! The definitions that the contracts cite are in `specs/`: `Held` (messages by reference), `Meaning` (what each flight has on each
-//! date), `Steps` (what texts and merges do), `Reach` (which messages reach which desks), `Desk` (what the calls of a desk return) and
-//! `Trail` (the schedule after every 32 messages).
+//! date), `Steps` (what texts and merges do), `Reach` (which messages reach which desks), `Desk` (what the calls of a desk return),
+//! `File` (the bytes of a desk file) and `Trail` (the schedule after every 32 messages).
 #![tactic(auto)]
 
 mod desk;
@@ -19,7 +20,10 @@ mod finding_line;
 mod held;
 pub mod laws;
 mod lookup;
+mod opening;
 mod replay;
+mod row_line;
+mod saving;
 mod steps;
 mod tail;
 mod trail;
@@ -29,4 +33,5 @@ pub use desk::{Desk, Took};
 pub use fault::DeskFault;
 pub use finding_line::FindingLine;
 pub use held::Held;
+pub use ssim_schedule::WriteFault;
 pub use steps::{Answer, Step, run_steps};

@@ -87,7 +87,8 @@ fn halve(
     }
 }
 
-fn compare(held: &Held, reference: &Reference) -> Ordering
+/// The order of a message's reference and another one.
+pub(crate) fn compare(held: &Held, reference: &Reference) -> Ordering
     ensures { result ≡ reference_cmp held.now.reference reference.now }
 {
     held.reference().order(reference)

@@ -1,10 +1,13 @@
 //! Messages act on a schedule, sub-message by sub-message.
 
-ghost use Rattle.std.specs.Prelude.{◌≡◌, IfOk, OnOk};
+ghost use Rattle.std.specs.Prelude.{◌≡◌, ◌∷◌, [], IfOk, OnOk};
 ghost use Rattle.ssim_periods.specs.Days.{each_day};
 ghost use Rattle.ssim_schedule.specs.Acts.{finding_of};
+ghost use Rattle.ssim_schedule.specs.Schedule.{cuts_in};
+ghost use Rattle.ssim_values.specs.Flight.{FlightNumber, IsFlight};
 ghost use Rattle.ssim_desk.specs.Kept.{Shows, after_entry};
 ghost use Rattle.ssim_desk.specs.Meaning.{Timetable, after_one, subs_findings};
+ghost use Rattle.ssim_desk.specs.Points.{AddsSubPoints};
 
 use crate::held::Held;
 use ssim_schedule::{Base, Finding, ResolvedSub, Schedule};
@@ -21,6 +24,7 @@ fn act_one(
 ) -> Result<Finding, Memory>
     ensures shows { OnOk result ((before : Timetable) → Shows schedule.old before → Shows schedule.new (after_one base.now.rows sub.now.action dated before)) }
     ensures found { IfOk result (λ found. (before : Timetable) → Shows schedule.old before → found ≡ finding_of base.now.rows sub.now.action dated.period (each_day (before dated.flight))) }
+    ensures cuts { OnOk result ((g : FlightNumber) → IsFlight g → AddsSubPoints base.now.rows (dated ∷ []) g (cuts_in schedule.old g) (cuts_in schedule.new g)) }
 {
     // No effect at run time. The proof reads from these uses that the flight is one.
     let _ = dated.flight.number();
@@ -28,7 +32,7 @@ fn act_one(
     schedule.apply_sub(base, &dated.with(&sub.action))
 }
 
-/// The sub-messages of a message act in their order. Answers what each found.
+/// The sub-messages of a message act in their order. Returns what each found.
 pub(crate) fn act(
     alloc: Global,
     base: &Base,
@@ -37,6 +41,7 @@ pub(crate) fn act(
 ) -> Result<Vec<Finding>, Memory>
     ensures shows { OnOk result ((before : Timetable) → Shows schedule.old before → Shows schedule.new (after_entry base.now.rows held.now before)) }
     ensures found { IfOk result (λ found. (before : Timetable) → Shows schedule.old before → found.items ≡ subs_findings base.now.rows held.now.message.subs held.now.dates before) }
+    ensures cuts { OnOk result ((g : FlightNumber) → IsFlight g → AddsSubPoints base.now.rows held.now.dates g (cuts_in schedule.old g) (cuts_in schedule.new g)) }
 {
     let mut found = Vec::new(alloc);
     for (place, sub) in held.message().subs().iter().enumerate() {

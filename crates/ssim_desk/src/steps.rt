@@ -1,11 +1,14 @@
 //! Steps over several desks, which are numbered from 0.
 
 ghost use Rattle.std.specs.Prelude.{◌≡◌, ◌≢◌, ◌<◌, length, map, All, IfOk, OnErr};
+ghost use Rattle.ssim_desk.specs.Agreement.{DesksAgree};
+ghost use Rattle.ssim_desk.specs.Held.{IsDesk};
 ghost use Rattle.ssim_desk.specs.Kept.{map_of, state_of};
 ghost use Rattle.ssim_desk.specs.Steps.{Acts, IsInRange, IsOwnMerge, Merges, MergesAt, Runs, Takes};
 
 use crate::desk::{Desk, Took};
 use crate::fault::DeskFault;
+use crate::laws::any_two_desks_agree;
 use ssim_values::Memory;
 use std::alloc::Global;
 
@@ -87,6 +90,17 @@ fn run_step(desks: &mut [Desk], step: &Step) -> Answer
     }
 }
 
+// Each desk has a base that was read, and holds messages that resolve in it.
+fn each_is_desk(desks: &[Desk])
+    ensures { All IsDesk (map state_of desks.now) }
+{
+    for desk in desks {
+        // No effect at run time. The proof reads from these uses what is always true of a base and of the messages of a desk.
+        let _ = desk.base().records();
+        let _ = desk.held();
+    }
+}
+
 /// Tries each step in order, whatever the earlier ones returned. Returns one answer a step.
 ///
 /// Out of memory is an error only if the list of answers itself cannot be allocated; then no step is tried. A step that runs out of
@@ -96,8 +110,18 @@ pub fn run_steps(alloc: Global, desks: &mut [Desk], steps: &[Step]) -> Result<Ve
     ensures count { IfOk result (λ answers. length answers.items ≡ length steps.now) }
     ensures runs { IfOk result (λ answers. Runs (map state_of desks.old) steps.now answers.items (map state_of desks.new)) }
     ensures own { All IsOwnMerge steps.now → desks.new ≡ desks.old }
+
+    // Any two of these desks that began alike, and that the same messages reached, have afterwards the same base, messages,
+    // itineraries and export.
+    ensures agree { IfOk result (λ answers. DesksAgree (map state_of desks.old) steps.now answers.items (map state_of desks.new)) }
+
+    // With `runs` this makes a run, so `any_two_desks_agree` speaks of the desks of two calls.
+    ensures desks { All IsDesk (map state_of desks.old) }
     ensures err { OnErr result (desks.new ≡ desks.old) }
 {
+    // No effect at run time. The proof cites what these calls ensure.
+    each_is_desk(desks);
+    any_two_desks_agree();
     let mut answers = Vec::with_capacity(alloc, steps.len())?;
     for next in steps {
         // No effect at run time. The borrow checker learns from this use which type the answers contain.

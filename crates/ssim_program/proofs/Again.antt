@@ -72,7 +72,7 @@ as_itself base notes again bytes own export (inl e) =
 as_itself base notes again bytes own export (inr f) = absurd (true≢false (ap is_read f.1))
 
 pub tidied_once : IsReadBack → TidiesOnce
-tidied_once law all name bytes again own is fits made =
+tidied_once law all name bytes again kept own is fits made =
     let base = made.0 in
     let notes = made.1 in
     let dataset = made.2.0 in

@@ -10,6 +10,9 @@ use Rattle.ssim_schedule.specs.ReadBack.{SameExport}
 use Rattle.ssim_schedule.specs.Timetable.{Days, days_of}
 use Rattle.ssim_schedule.specs.declared.export.ExportFault.{ExportFault}
 use Rattle.ssim_schedule.specs.declared.export.ExportFault.TheVariants.{Variations, Records, WriteFault, Memory}
+use Rattle.ssim_desk.specs.Desk.{days_of_desk}
+use Rattle.ssim_desk.specs.Kept.{DeskSeen}
+use Rattle.ssim_program.specs.Desks.{ExportsDesk, LeavesDeskExport}
 use Rattle.ssim_program.specs.Made.{Exports, LeavesExport}
 
 -- the days of a timetable are those of the base
@@ -43,3 +46,24 @@ module _ (told : SameExport) {W : Type 0} (taken : W → Option (List ℕ)) (fai
   pub counted_if : (r : Result (Unit {0}) ExportFault) → OnOk r (WritesBase taken failures base days old new) → OnOk r (failures new ≡ failures old)
   counted_if (Ok x) h = h.2.3
   counted_if (Err e) h = tt
+
+-- the same of a desk, whose days are not those of its base
+module _ {W : Type 0} (taken : W → Option (List ℕ)) (failures : W → ℕ) (desk : DeskSeen) (old new : W) where
+  kept_desk : new ≡ old → LeavesDeskExport desk (taken old) (taken new) (failures old) (failures new)
+  kept_desk is = inl (subst (λ (x : W). Keeps (taken old) (taken x)) (sym is) (Keeps-refl (taken old)))
+
+  leaves_desk : (fault : ExportFault) → RefusesBase taken failures desk.base.records (days_of_desk desk) old new fault → LeavesDeskExport desk (taken old) (taken new) (failures old) (failures new)
+  leaves_desk (Variations flight) h = kept_desk h.2.1
+  leaves_desk Records h = kept_desk h.2.1
+  leaves_desk Memory h = kept_desk h.2
+  leaves_desk WriteFault h = inr (h.2.0, (h.0, h.1, h.2.1), h.2.2, h.2.3)
+
+  pub leaves_desk_if : (r : Result (Unit {0}) ExportFault) → IfErr r (RefusesBase taken failures desk.base.records (days_of_desk desk) old new) → OnErr r (LeavesDeskExport desk (taken old) (taken new) (failures old) (failures new))
+  leaves_desk_if (Ok x) h = tt
+  leaves_desk_if (Err e) h = leaves_desk e h
+
+  pub exports_desk : WritesBase taken failures desk.base.records (days_of_desk desk) old new → ExportsDesk desk (taken old) (taken new)
+  exports_desk w = (w.2.0, (w.0, w.1, w.2.1), w.2.2)
+
+  pub counted_desk : WritesBase taken failures desk.base.records (days_of_desk desk) old new → failures new ≡ failures old
+  counted_desk w = w.2.3

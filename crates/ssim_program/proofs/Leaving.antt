@@ -1,20 +1,38 @@
 -- What is left of an export, or of lines, is left of what the command makes of the file.
-use Rattle.std.proofs.Common.{◌≡◌, ℕ, List, Option, Ok, subst, sym, inl, inr}
+use Rattle.std.proofs.Common.{◌≡◌, ℕ, List, Option, None, Ok, refl, subst, sym, inl, inr}
 use Rattle.ssim_records.specs.declared.record.Record.{Record}
 use Rattle.ssim_schedule.specs.Sinks.{TakesFront}
 use Rattle.ssim_schedule.specs.declared.note.Note.{Note}
+use Rattle.ssim_desk.specs.Kept.{DeskSeen}
+use Rattle.ssim_program.specs.Desks.{LeavesDeskExport, ReadsDesk}
+use Rattle.ssim_program.specs.Effects.{Leaves, Writes}
 use Rattle.ssim_program.specs.Files.{Files}
-use Rattle.ssim_program.specs.Line.{Text, Check, Tidy}
-use Rattle.ssim_program.specs.Made.{AreLinesOn, Leaves, LeavesExport, ReadsFile}
+use Rattle.ssim_program.specs.Line.{Text, Check, Tidy, Export, Rehearse}
+use Rattle.ssim_program.specs.Made.{AreLinesOn, LeavesExport, ReadsFile}
 use Rattle.ssim_program.specs.Printing.{CountsOne}
+use Rattle.ssim_program.specs.Rehearsal.{LeavesRehearsal, WritesRehearsal}
 
-pub leaves_tidy : (files : Option Files) (name : Text) (base : List Record) (notes : List Note) (before after : Option (List ℕ)) (old new : ℕ)
-    → ReadsFile files name (Ok (base, notes)) → LeavesExport base before after old new → Leaves (Tidy name) files before after old new
-leaves_tidy files name base notes before after old new r (inl kept) = inl kept
-leaves_tidy files name base notes before after old new r (inr h) = inr (h.0, (base, notes, r, h.1), h.2, h.3)
+pub leaves_tidy : (files new : Option Files) (name : Text) (base : List Record) (notes : List Note) (before after : Option (List ℕ)) (failed fails : ℕ)
+    → new ≡ files → ReadsFile files name (Ok (base, notes)) → LeavesExport base before after failed fails → Leaves (Tidy name) files new before after failed fails
+leaves_tidy files new name base notes before after failed fails same r (inl kept) = inl (same, kept)
+leaves_tidy files new name base notes before after failed fails same r (inr h) = inr (h.0, None, (base, notes, r, h.1, refl), h.2, h.3, same)
 
-pub leaves_check : (files : Option Files) (name : Text) (base : List Record) (notes : List Note) (bytes lines : List ℕ) (before after : Option (List ℕ)) (old new : ℕ)
-    → ReadsFile files name (Ok (base, notes)) → AreLinesOn base notes lines → bytes ≡ lines → TakesFront bytes before after → CountsOne old new
-    → Leaves (Check name) files before after old new
-leaves_check files name base notes bytes lines before after old new r l e front counted =
-    inr (bytes, (base, notes, r, subst (AreLinesOn base notes) (sym e) l), front, counted)
+pub leaves_check : (files new : Option Files) (name : Text) (base : List Record) (notes : List Note) (bytes lines : List ℕ) (before after : Option (List ℕ)) (failed fails : ℕ)
+    → new ≡ files → ReadsFile files name (Ok (base, notes)) → AreLinesOn base notes lines → bytes ≡ lines → TakesFront bytes before after → CountsOne failed fails
+    → Leaves (Check name) files new before after failed fails
+leaves_check files new name base notes bytes lines before after failed fails same r l e front counted =
+    inr (bytes, None, (base, notes, r, subst (AreLinesOn base notes) (sym e) l, refl), front, counted, same)
+
+pub leaves_export : (files new : Option Files) (name : Text) (desk : DeskSeen) (before after : Option (List ℕ)) (failed fails : ℕ)
+    → new ≡ files → ReadsDesk files name desk → LeavesDeskExport desk before after failed fails → Leaves (Export name) files new before after failed fails
+leaves_export files new name desk before after failed fails same r (inl kept) = inl (same, kept)
+leaves_export files new name desk before after failed fails same r (inr h) = inr (h.0, None, (desk, r, h.1, refl), h.2, h.3, same)
+
+pub leaves_rehearsal : (files new : Option Files) (dataset stations script : Text) (before after : Option (List ℕ)) (failed fails : ℕ)
+    → new ≡ files → LeavesRehearsal files dataset stations script before after failed fails → Leaves (Rehearse dataset stations script) files new before after failed fails
+leaves_rehearsal files new dataset stations script before after failed fails same (inl kept) = inl (same, kept)
+leaves_rehearsal files new dataset stations script before after failed fails same (inr h) = inr (h.0, None, (h.1, refl), h.2, h.3, same)
+
+pub writes_rehearsal : (files new : Option Files) (dataset stations script : Text) (before after : Option (List ℕ))
+    → new ≡ files → WritesRehearsal files dataset stations script before after → Writes (Rehearse dataset stations script) files new before after
+writes_rehearsal files new dataset stations script before after same h = (h.0, None, (h.1, refl), h.2, same)

@@ -8,4 +8,11 @@ pub mod Faults
 pub mod Again
 pub mod ReasonLemmas
 pub mod PrintLemmas
+pub mod Joining
+pub mod Texts
+pub mod Opening
 pub mod Within
+pub mod RefusalTexts
+pub mod Rehearsing
+pub mod Outcomes
+pub mod Scripted

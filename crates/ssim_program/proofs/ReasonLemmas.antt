@@ -9,7 +9,7 @@ use Rattle.ssim_schedule.specs.Timetable.{Days, days_of}
 use Rattle.ssim_schedule.specs.declared.export.ExportFault.{ExportFault}
 use Rattle.ssim_schedule.specs.declared.export.ExportFault.TheVariants.{Variations, Records, WriteFault, Memory}
 use Rattle.ssim_program.specs.Files.{Files}
-use Rattle.ssim_program.specs.Line.{Line, Check, Tidy}
+use Rattle.ssim_program.specs.Line.{Line, Check, Tidy, Start, Take, Merge, Show, Findings, Export, Rehearse}
 use Rattle.ssim_program.specs.Reasons.{HasNoExport, Refuses}
 use Rattle.ssim_program.specs.declared.refusal.Refusal.TheVariants as refused
 use Rattle.ssim_program.proofs.Exporting.{AreDaysOf}
@@ -18,16 +18,35 @@ module _ (told : SameExport) {W : Type 0} (taken : W → Option (List ℕ)) (fai
   same_bytes : (frame : Frame) → chapter7 frame (days_of base) ≡ chapter7 frame days
   same_bytes frame = ap (result_map export_bytes) (sym (told frame days (days_of base) same))
 
-  no_export : (fault : ExportFault) → RefusesBase taken failures base days old new fault → HasNoExport base (failures old) (failures new) fault
+  no_export : (fault : ExportFault) → RefusesBase taken failures base days old new fault → HasNoExport base (days_of base) (failures old) (failures new) fault
   no_export (Variations flight) h = (h.0, h.1, same_bytes h.0 ∙ h.2.0)
   no_export Records h = (h.0, h.1, same_bytes h.0 ∙ h.2.0)
   no_export Memory h = tt
   no_export WriteFault h = h.2.3
 
-  pub no_export_if : (r : Result (Unit {0}) ExportFault) → IfErr r (RefusesBase taken failures base days old new) → IfErr r (HasNoExport base (failures old) (failures new))
+  pub no_export_if : (r : Result (Unit {0}) ExportFault) → IfErr r (RefusesBase taken failures base days old new) → IfErr r (HasNoExport base (days_of base) (failures old) (failures new))
   no_export_if (Ok x) h = tt
   no_export_if (Err e) h = no_export e h
 
+-- the same of days that are not those of the base
+module _ {W : Type 0} (taken : W → Option (List ℕ)) (failures : W → ℕ) (base : List Record) (days : FlightNumber → Days) (old new : W) where
+  none_of_days : (fault : ExportFault) → RefusesBase taken failures base days old new fault → HasNoExport base days (failures old) (failures new) fault
+  none_of_days (Variations flight) h = (h.0, h.1, h.2.0)
+  none_of_days Records h = (h.0, h.1, h.2.0)
+  none_of_days Memory h = tt
+  none_of_days WriteFault h = h.2.3
+
+  pub none_of_days_if : (r : Result (Unit {0}) ExportFault) → IfErr r (RefusesBase taken failures base days old new) → IfErr r (HasNoExport base days (failures old) (failures new))
+  none_of_days_if (Ok x) h = tt
+  none_of_days_if (Err e) h = none_of_days e h
+
 pub memory_refuses : (line : Line) (files : Option Files) (m n : ℕ) → Refuses line files m n refused.Memory
-memory_refuses (Check name) files m n = inl (inl refl)
-memory_refuses (Tidy name) files m n = inl (inl refl)
+memory_refuses (Check name) files m n = inl (inl (inl refl))
+memory_refuses (Tidy name) files m n = inl (inl (inl refl))
+memory_refuses (Start dataset stations out) files m n = inl (inl (inl refl))
+memory_refuses (Take file out names) files m n = inl (inl (inl refl))
+memory_refuses (Merge file other out) files m n = inl (inl (inl refl))
+memory_refuses (Show file flight date) files m n = inl (inl (inl refl))
+memory_refuses (Findings file) files m n = inl (inl (inl refl))
+memory_refuses (Export file) files m n = inl (inl (inl refl))
+memory_refuses (Rehearse dataset stations script) files m n = inl (inl refl)

@@ -4,9 +4,10 @@ use Rattle.std.specs.Io.KnownBytes.{Appends}
 use Rattle.ssim_records.specs.declared.record.Record.{Record}
 use Rattle.ssim_schedule.specs.Base.{Done, data_set}
 use Rattle.ssim_schedule.specs.ReadBack.{AreRead}
-use Rattle.ssim_program.specs.Files.{Files, file_of}
-use Rattle.ssim_program.specs.Line.{Line, Text, Check, Tidy}
-use Rattle.ssim_program.specs.Made.{IsExportOf, Makes, file_limit}
+use Rattle.ssim_program.specs.Effects.{Makes}
+use Rattle.ssim_program.specs.Files.{Files, Kept, file_of}
+use Rattle.ssim_program.specs.Line.{Line, Text, Tidy}
+use Rattle.ssim_program.specs.Made.{IsExportOf, file_limit}
 
 -- the bytes are read as the records of a base, without a refusal or a note, and are the export of that base
 pub record ReadsAsItself (bytes : List ℕ) : Type 0 where
@@ -23,10 +24,10 @@ GrowsByItself before after = (bytes : List ℕ) × ReadsAsItself bytes × Append
 
 -- what `tidy` wrote; nothing is said of other commands
 abbrev pub WritesItself : Line → Option (List ℕ) → Option (List ℕ) → Type 0
-WritesItself (Check name) before after = Unit {0}
 WritesItself (Tidy name) before after = GrowsByItself before after
+WritesItself _ before after = Unit {0}
 
 -- from a file of such bytes `tidy` makes the same bytes
 abbrev pub TidiesOnce : Type 0
-TidiesOnce = (all : Files) (name : Text) (bytes again : List ℕ) → ReadsAsItself bytes
-    → file_of all name ≡ Some bytes → length bytes ≤ file_limit → Makes (Tidy name) (Some all) again → again ≡ bytes
+TidiesOnce = (all : Files) (name : Text) (bytes again : List ℕ) (kept : Kept) → ReadsAsItself bytes
+    → file_of all name ≡ Some bytes → length bytes ≤ file_limit → Makes (Tidy name) (Some all) again kept → again ≡ bytes

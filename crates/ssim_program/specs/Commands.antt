@@ -1,7 +1,8 @@
 -- What `clap` reads of the program's commands.
-use Rattle.std.specs.Prelude.{◌≡◌, ℕ, true, false, List, [], ◌∷◌, codes}
+use Rattle.std.specs.Prelude.{◌≡◌, ℕ, true, false, List, [], ◌∷◌, Some, codes}
 use Rattle.clap.specs.Words.{App, Rule, Shape, new_rule, shape_of, with_subcommand}
 use Rattle.clap.specs.Simple.{new_shape}
+use Rattle.clap.specs.declared.builder.action.ArgAction.TheVariants.{Append}
 use Rattle.clap.specs.declared.builder.command.Command.{Command}
 use Rattle.clap.specs.declared.builder.command.Command.TheViews.{out-Command}
 
@@ -9,8 +10,18 @@ use Rattle.clap.specs.declared.builder.command.Command.TheViews.{out-Command}
 abbrev pub needed : List ℕ → Rule
 needed id = record (new_rule id) { value_names = 1; required = true }
 
+-- one or more texts
+abbrev pub several_texts : Rule
+several_texts = record (needed (codes "texts")) { action = Some Append }
+
 abbrev pub one_value : List Rule
 one_value = needed (codes "first") ∷ []
+
+abbrev pub three_values : List Rule
+three_values = needed (codes "first") ∷ needed (codes "second") ∷ needed (codes "third") ∷ []
+
+abbrev pub two_values_and_texts : List Rule
+two_values_and_texts = needed (codes "first") ∷ needed (codes "second") ∷ several_texts ∷ []
 
 -- a command with these values and no subcommand
 abbrev pub leaf : List ℕ → List Rule → Shape
@@ -22,7 +33,7 @@ IsLeaf s c = (shape_of c ≡ s) × ((out-Command c).has_globals ≡ false)
 
 abbrev pub bare_program : App
 bare_program = record {
-  top = record (new_shape (codes "ssimdesk")) { subcommand_required = true };
+  top = record (new_shape (codes "ssimdesk")) { subcommand_required = true; has_version = true };
   subs = [];
 }
 
@@ -32,7 +43,18 @@ add_all a (s ∷ rest) = add_all (with_subcommand a s) rest
 
 -- the commands on a data set
 abbrev pub on_data_sets : List Shape
-on_data_sets = leaf (codes "check") one_value ∷ leaf (codes "tidy") one_value ∷ []
+on_data_sets = leaf (codes "check") one_value ∷ leaf (codes "tidy") one_value ∷ leaf (codes "start") three_values ∷ []
+
+-- the commands that change a desk
+abbrev pub on_desks : List Shape
+on_desks = leaf (codes "take") two_values_and_texts ∷ leaf (codes "merge") three_values ∷ []
+
+-- the commands that print what a desk has
+abbrev pub of_desks : List Shape
+of_desks = leaf (codes "show") three_values ∷ leaf (codes "findings") one_value ∷ leaf (codes "export") one_value ∷ []
+
+abbrev pub rehearsals : List Shape
+rehearsals = leaf (codes "rehearse") three_values ∷ []
 
 abbrev pub whole_program : App
-whole_program = add_all bare_program on_data_sets
+whole_program = add_all (add_all (add_all (add_all bare_program on_data_sets) on_desks) of_desks) rehearsals

@@ -1,5 +1,5 @@
 -- Named files.
-use Rattle.std.specs.Prelude.{Vec, ◌≡◌, ◌<◌, ℕ, IfSome, List, ◌∷◌, ⊤, Option, Some, Result, Ok, Err, find, length, option_map}
+use Rattle.std.specs.Prelude.{Vec, ◌≡◌, ◌<◌, ℕ, IfSome, List, ◌∷◌, ⊤, Option, Some, None, Result, Ok, Err, find, length, option_map}
 use Rattle.std.specs.Str.{bytes_eq}
 use Rattle.ssim_program.specs.declared.store.StoreFault.{StoreFault}
 use Rattle.ssim_program.specs.declared.store.StoreFault.TheVariants as fault
@@ -21,3 +21,12 @@ LoadsFile all name limit (Err fault.Fault) = IfSome (file_of all name) (λ bytes
 abbrev pub KeepsFile : Option Files → Option Files → List ℕ → List ℕ → Result ⊤ StoreFault → Type 0
 KeepsFile old new name bytes (Ok x) = new ≡ option_map (λ all. (name, bytes) ∷ all) old
 KeepsFile old new name bytes (Err e) = new ≡ old
+
+-- the name and the bytes of a file that is kept, if one is
+abbrev pub Kept : Type 0
+Kept = Option (List ℕ × List ℕ)
+
+-- the files after it was kept
+abbrev pub with_kept : Kept → Option Files → Option Files
+with_kept None files = files
+with_kept (Some file) files = option_map (λ all. file ∷ all) files

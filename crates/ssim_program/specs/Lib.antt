@@ -5,7 +5,13 @@ pub mod Usage
 pub mod Files
 pub mod Refusal
 pub mod Printed
+pub mod Shown
 pub mod Printing
 pub mod Made
+pub mod Desks
+pub mod Effects
 pub mod Again
 pub mod Reasons
+pub mod Script
+pub mod Rehearsal
+pub mod Examples

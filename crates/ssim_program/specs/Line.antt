@@ -9,14 +9,40 @@ Text = List ℕ
 pub data Line : Type 0 where
   Check : Text → Line
   Tidy : Text → Line
+  Start : Text → Text → Text → Line
+  Take : Text → Text → List Text → Line
+  Merge : Text → Text → Text → Line
+  Show : Text → Text → Text → Line
+  Findings : Text → Line
+  Export : Text → Line
+  Rehearse : Text → Text → Text → Line
 
 abbrev pub name_of : Line → Text
 name_of (Check dataset) = codes "check"
 name_of (Tidy dataset) = codes "tidy"
+name_of (Start dataset stations out) = codes "start"
+name_of (Take desk out texts) = codes "take"
+name_of (Merge desk other out) = codes "merge"
+name_of (Show desk flight date) = codes "show"
+name_of (Findings desk) = codes "findings"
+name_of (Export desk) = codes "export"
+name_of (Rehearse dataset stations script) = codes "rehearse"
 
 abbrev pub values_of : Line → List Text
 values_of (Check dataset) = dataset ∷ []
 values_of (Tidy dataset) = dataset ∷ []
+values_of (Start dataset stations out) = dataset ∷ stations ∷ out ∷ []
+values_of (Take desk out texts) = desk ∷ out ∷ texts
+values_of (Merge desk other out) = desk ∷ other ∷ out ∷ []
+values_of (Show desk flight date) = desk ∷ flight ∷ date ∷ []
+values_of (Findings desk) = desk ∷ []
+values_of (Export desk) = desk ∷ []
+values_of (Rehearse dataset stations script) = dataset ∷ stations ∷ script ∷ []
+
+-- `take` has one text or more
+abbrev pub is_whole : Line → Bool
+is_whole (Take desk out []) = false
+is_whole _ = true
 
 -- the word is not empty and begins with no hyphen (45), or is the hyphen alone
 abbrev pub is_plain : Text → Bool
@@ -28,4 +54,5 @@ is_plain (x ∷ y ∷ rest) = not (x == 45)
 pub record Spells (words : List Text) (line : Line) : Type 0 where
   pub program : Text
   pub words_are : words ≡ program ∷ name_of line ∷ values_of line
+  pub whole : is_whole line ≡ true
   pub plain : list_all is_plain (values_of line) ≡ true

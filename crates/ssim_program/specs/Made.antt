@@ -1,26 +1,29 @@
 -- What the commands make from a data set, and what `out` holds afterwards.
-use Rattle.std.specs.Prelude.{◌≡◌, ◌⊎◌, ℕ, ◌<◌, IfSome, List, ◌++◌, codes, length, Option, Some, Ok, Err}
+use Rattle.std.specs.Prelude.{◌≡◌, ◌⊎◌, ℕ, ◌<◌, IfSome, List, ◌++◌, length, Option, Some, Ok, Err}
 use Rattle.std.specs.List.{flat_map}
 use Rattle.std.specs.Io.KnownBytes.{Appends, Keeps}
 use Rattle.ssim_values.specs.Flight.{FlightNumber}
 use Rattle.ssim_records.specs.declared.fault.RecordFault.TheVariants as record_fault
 use Rattle.ssim_records.specs.declared.record.Record.{Record}
 use Rattle.ssim_schedule.specs.Base.{Outcome}
-use Rattle.ssim_schedule.specs.BaseSeen.{AreFlights}
+use Rattle.ssim_schedule.specs.BaseSeen.{AreFlights, BaseSeen}
 use Rattle.ssim_schedule.specs.Export.{Frame, chapter7, line}
 use Rattle.ssim_schedule.specs.ReadBack.{HasFrame}
 use Rattle.ssim_schedule.specs.Reading.{IsReadAs}
 use Rattle.ssim_schedule.specs.Sinks.{TakesFront}
+use Rattle.ssim_schedule.specs.Stations.{NamesLine, Row, SpellsTable}
 use Rattle.ssim_schedule.specs.Timetable.{days_of}
 use Rattle.ssim_schedule.specs.declared.fault.BaseFault.{BaseFault}
 use Rattle.ssim_schedule.specs.declared.fault.BaseFault.TheVariants as base
 use Rattle.ssim_schedule.specs.declared.note.Note.{Note}
 use Rattle.ssim_schedule.specs.declared.note.Note.TheVariants as note
+use Rattle.ssim_schedule.specs.declared.stations.StationFault.{StationFault}
+use Rattle.ssim_text.specs.Left.{lines_left}
 use Rattle.ssim_program.specs.Files.{Files, file_of}
-use Rattle.ssim_program.specs.Line.{Line, Text, Check, Tidy}
+use Rattle.ssim_program.specs.Line.{Text}
 use Rattle.ssim_program.specs.Printed.{printed_text}
 use Rattle.ssim_program.specs.Printing.{CountsOne}
-use Rattle.ssim_program.specs.Refusal.{refusal_of_base, refusal_text}
+use Rattle.ssim_program.specs.Refusal.{IsOfFile, refusal_of_base, refusal_of_stations}
 use Rattle.ssim_program.specs.declared.refusal.Refusal.{Refusal}
 use Rattle.ssim_program.specs.declared.refusal.Refusal.TheVariants as refused
 use Rattle.ssim_program.specs.declared.printed.Printed.{Printed}
@@ -68,17 +71,37 @@ IsOfBytes (base.Read (record_fault.ReadFault n)) = ⊥
 IsOfBytes (base.Read (record_fault.ReaderNeverEnds n)) = ⊥
 IsOfBytes _ = Unit {0}
 
--- Why no base is read of it: memory ran out; or there is no such file within the limit; or the data set is refused.
+-- there is no file of this name within the limit, if the contract can see the files
+abbrev pub IsMissing : Option Files → Text → Type 0
+IsMissing files name = IfSome files (λ all. IfSome (file_of all name) (λ bytes. file_limit < length bytes))
+
+-- why a file is not loaded: memory ran out, or there is no such file within the limit
+abbrev pub RefusesLoad : Option Files → Text → Refusal → Type 0
+RefusesLoad files name refusal = (refusal ≡ refused.Memory) ⊎ (IsOfFile name refusal × IsMissing files name)
+
+-- why no base is read of it: the file is not loaded, or the data set is refused
 abbrev pub RefusesFile : Option Files → Text → Refusal → Type 0
 RefusesFile files name refusal =
-    (refusal ≡ refused.Memory)
-    ⊎ ((refusal_text refusal ≡ codes "refused 91 File " ++ name) × IfSome files (λ all. IfSome (file_of all name) (λ bytes. file_limit < length bytes)))
+    RefusesLoad files name refusal
     ⊎ ((fault : BaseFault) × (refusal ≡ refusal_of_base fault) × IsOfBytes fault × ReadsFile files name (Err fault))
 
--- these are the bytes that a command makes from the files
-abbrev pub Makes : Line → Option Files → List ℕ → Type 0
-Makes (Check name) files bytes = (base : List Record) × (notes : List Note) × ReadsFile files name (Ok (base, notes)) × AreLinesOn base notes bytes
-Makes (Tidy name) files bytes = (base : List Record) × (notes : List Note) × ReadsFile files name (Ok (base, notes)) × IsExportOf base bytes
+-- the file of this name is a station table of these rows
+abbrev pub ReadsTable : Option Files → Text → List Row → Type 0
+ReadsTable files name rows = (bytes : List ℕ) × HasFile files name bytes × SpellsTable rows bytes
+
+-- a base: the data set in one file, the station table in another
+abbrev pub ReadsBase : Option Files → Text → Text → BaseSeen → List Note → Type 0
+ReadsBase files dataset stations base notes = ReadsFile files dataset (Ok (base.records, notes)) × ReadsTable files stations base.rows
+
+-- Why no base is read of two files: the data set is not loaded; or the station table is not; or its lines are refused; or the data set is.
+abbrev pub RefusesBase : Option Files → Text → Text → Refusal → Type 0
+RefusesBase files dataset stations refusal =
+    RefusesLoad files dataset refusal
+    ⊎ (((bytes : List ℕ) × HasFile files dataset bytes) × RefusesLoad files stations refusal)
+    ⊎ (((bytes : List ℕ) × HasFile files dataset bytes) × (table : List ℕ) × HasFile files stations table
+    × (fault : StationFault) × (refusal ≡ refusal_of_stations fault) × NamesLine (lines_left table) fault)
+    ⊎ (((rows : List Row) × ReadsTable files stations rows)
+    × (fault : BaseFault) × (refusal ≡ refusal_of_base fault) × IsOfBytes fault × ReadsFile files dataset (Err fault))
 
 -- ---- what `out` holds
 
@@ -89,11 +112,3 @@ Exports base before after = (bytes : List ℕ) × IsExportOf base bytes × Appen
 -- it is as it was; or it failed, and took a prefix of the export
 abbrev pub LeavesExport : List Record → Option (List ℕ) → Option (List ℕ) → ℕ → ℕ → Type 0
 LeavesExport base before after old new = Keeps before after ⊎ ((bytes : List ℕ) × IsExportOf base bytes × TakesFront bytes before after × CountsOne old new)
-
--- it has grown by exactly what the command makes
-abbrev pub Writes : Line → Option Files → Option (List ℕ) → Option (List ℕ) → Type 0
-Writes line files before after = (bytes : List ℕ) × Makes line files bytes × Appends before after bytes
-
--- it is as it was; or it failed, and took a prefix of what the command makes
-abbrev pub Leaves : Line → Option Files → Option (List ℕ) → Option (List ℕ) → ℕ → ℕ → Type 0
-Leaves line files before after old new = Keeps before after ⊎ ((bytes : List ℕ) × Makes line files bytes × TakesFront bytes before after × CountsOne old new)

@@ -1,76 +1,91 @@
--- The lines that refusals print, without their line ends.
-use Rattle.std.specs.Prelude.{ℕ, List, ◌++◌, codes}
+-- The line that a refusal prints, without its line end, and which refusal a fault becomes.
+use Rattle.std.specs.Prelude.{◌≡◌, ◌⊎◌, ℕ, List, ◌∷◌, ◌++◌, codes, string_bytes}
 use Rattle.std.specs.Fmt.{decimal}
 use Rattle.ssim_values.specs.Designator.{designator_text}
-use Rattle.ssim_records.specs.declared.fault.RecordFault.{RecordFault}
-use Rattle.ssim_records.specs.declared.fault.RecordFault.TheVariants as fault
-use Rattle.ssim_schedule.specs.declared.fault.BaseFault.{BaseFault}
-use Rattle.ssim_schedule.specs.declared.fault.BaseFault.TheVariants as base
-use Rattle.ssim_schedule.specs.declared.fault.BaseRefusal.{BaseRefusal}
-use Rattle.ssim_schedule.specs.declared.fault.BaseRefusal.TheVariants as refused
+use Rattle.ssim_values.specs.Fault.{fault_name, fault_number, memory_name}
+use Rattle.ssim_values.specs.declared.fault.Fault.{Fault}
+use Rattle.ssim_schedule.specs.Base.{base_fault_number}
+use Rattle.ssim_schedule.specs.Fault.{base_fault_text, station_fault_text}
+use Rattle.ssim_schedule.specs.Plan.{export_fault_name, export_fault_number, export_fault_text}
+use Rattle.ssim_schedule.specs.Stations.{station_fault_number}
 use Rattle.ssim_schedule.specs.declared.export.ExportFault.{ExportFault}
 use Rattle.ssim_schedule.specs.declared.export.ExportFault.TheVariants as export
+use Rattle.ssim_schedule.specs.declared.fault.BaseFault.{BaseFault}
+use Rattle.ssim_schedule.specs.declared.fault.BaseFault.TheVariants as base
+use Rattle.ssim_schedule.specs.declared.stations.StationFault.{StationFault}
+use Rattle.ssim_schedule.specs.declared.stations.StationFault.TheVariants as stations
+use Rattle.ssim_desk.specs.Fault.{desk_fault_number, desk_fault_text}
+use Rattle.ssim_desk.specs.declared.fault.DeskFault.{DeskFault}
+use Rattle.ssim_desk.specs.declared.fault.DeskFault.TheVariants as desk
 use Rattle.ssim_program.specs.declared.refusal.Refusal.{Refusal}
 use Rattle.ssim_program.specs.declared.refusal.Refusal.TheVariants as refusal
 
--- number and name, and the record
-abbrev pub at_record : List ℕ → ℕ → List ℕ
-at_record name n = codes "refused " ++ name ++ codes " record " ++ decimal n
+-- the number is that of the fault
+abbrev pub refusal_number : Refusal → ℕ
+refusal_number (refusal.Value fault) = fault_number fault
+refusal_number (refusal.DataSet fault) = base_fault_number fault
+refusal_number (refusal.Stations fault) = station_fault_number fault
+refusal_number (refusal.Desk fault) = desk_fault_number fault
+refusal_number (refusal.Export airline fault) = export_fault_number fault
+refusal_number refusal.WriteFault = export_fault_number export.WriteFault
+refusal_number (refusal.Script line) = 63
+refusal_number refusal.Memory = 90
+refusal_number (refusal.File name) = 91
 
+-- as an export fault is displayed, with the flight as a designator
+abbrev pub designated_text : List ℕ → ExportFault → List ℕ
+designated_text airline (export.Variations flight) =
+    export_fault_name (export.Variations flight) ++ codes " flight " ++ designator_text (record { airline = airline; flight = flight })
+designated_text airline export.Records = export_fault_text export.Records
+designated_text airline export.WriteFault = export_fault_text export.WriteFault
+designated_text airline export.Memory = export_fault_text export.Memory
+
+-- the name and the place, as the fault is displayed
+abbrev pub name_and_place : Refusal → List ℕ
+name_and_place (refusal.Value fault) = fault_name fault
+name_and_place (refusal.DataSet fault) = base_fault_text fault
+name_and_place (refusal.Stations fault) = station_fault_text fault
+name_and_place (refusal.Desk fault) = desk_fault_text fault
+name_and_place (refusal.Export airline fault) = designated_text airline fault
+name_and_place refusal.WriteFault = export_fault_text export.WriteFault
+name_and_place (refusal.Script line) = codes "Script line " ++ decimal line
+name_and_place refusal.Memory = memory_name
+name_and_place (refusal.File name) = codes "File " ++ string_bytes name
+
+-- refused, the number, the name and the place
 abbrev pub refusal_text : Refusal → List ℕ
-refusal_text (refusal.Short n) = at_record (codes "10 Short") n
-refusal_text (refusal.BadType n) = at_record (codes "11 BadType") n
-refusal_text (refusal.BadColumn n column) = at_record (codes "12 BadColumn") n ++ codes " column " ++ decimal column
-refusal_text (refusal.ReadFault n) = at_record (codes "13 ReadFault") n
-refusal_text (refusal.ReaderNeverEnds n) = at_record (codes "14 ReaderNeverEnds") n
-refusal_text (refusal.NoHeader n) = at_record (codes "30 NoHeader") n
-refusal_text (refusal.NoCarrier n) = at_record (codes "31 NoCarrier") n
-refusal_text (refusal.NoTrailer n) = at_record (codes "32 NoTrailer") n
-refusal_text (refusal.OtherAirline n) = at_record (codes "33 OtherAirline") n
-refusal_text (refusal.Overlap n) = at_record (codes "34 Overlap") n
-refusal_text (refusal.Segment n) = at_record (codes "35 Segment") n
-refusal_text (refusal.Overflow n) = at_record (codes "36 Overflow") n
-refusal_text (refusal.Frequency n) = at_record (codes "37 Frequency") n
-refusal_text (refusal.Continuation n) = at_record (codes "38 Continuation") n
-refusal_text (refusal.Stations n) = codes "refused 39 Stations line " ++ decimal n
-refusal_text (refusal.Variations flight) = codes "refused 50 Variations flight " ++ designator_text flight
-refusal_text refusal.Records = codes "refused 51 Records"
-refusal_text refusal.WriteFault = codes "refused 52 WriteFault"
-refusal_text refusal.Memory = codes "refused 90 Memory"
-refusal_text (refusal.File name) = codes "refused 91 File " ++ name.now
+refusal_text r = codes "refused " ++ decimal (refusal_number r) ++ 32 ∷ name_and_place r
 
--- ---- the refusals of a data set and of its export
+-- ---- the refusal of a fault; that of each fault for want of memory is one
 
--- the record cannot be read
-abbrev pub refusal_of_record : RecordFault → Refusal
-refusal_of_record (fault.Short n) = refusal.Short n
-refusal_of_record (fault.BadType n) = refusal.BadType n
-refusal_of_record (fault.BadColumn n column) = refusal.BadColumn n column
-refusal_of_record (fault.ReadFault n) = refusal.ReadFault n
-refusal_of_record (fault.ReaderNeverEnds n) = refusal.ReaderNeverEnds n
-
--- the record is not allowed at its place
-abbrev pub refusal_at : ℕ → BaseRefusal → Refusal
-refusal_at n refused.BadType = refusal.BadType n
-refusal_at n refused.OpenEnd = refusal.BadColumn n 22
-refusal_at n refused.NoHeader = refusal.NoHeader n
-refusal_at n refused.NoCarrier = refusal.NoCarrier n
-refusal_at n refused.NoTrailer = refusal.NoTrailer n
-refusal_at n refused.OtherAirline = refusal.OtherAirline n
-refusal_at n refused.Overlap = refusal.Overlap n
-refusal_at n refused.Segment = refusal.Segment n
-refusal_at n refused.Overflow = refusal.Overflow n
-refusal_at n refused.Frequency = refusal.Frequency n
-refusal_at n refused.Continuation = refusal.Continuation n
+abbrev pub refusal_of_value : Fault → Refusal
+refusal_of_value fault = refusal.Value fault
 
 abbrev pub refusal_of_base : BaseFault → Refusal
 refusal_of_base base.Memory = refusal.Memory
-refusal_of_base (base.Read f) = refusal_of_record f
-refusal_of_base (base.Refused n why) = refusal_at n why
+refusal_of_base (base.Read fault) = refusal.DataSet (base.Read fault)
+refusal_of_base (base.Refused number why) = refusal.DataSet (base.Refused number why)
 
--- the flight is named by its designator
+abbrev pub refusal_of_stations : StationFault → Refusal
+refusal_of_stations stations.Memory = refusal.Memory
+refusal_of_stations (stations.Stations line) = refusal.Stations (stations.Stations line)
+
+abbrev pub refusal_of_desk : DeskFault → Refusal
+refusal_of_desk desk.Memory = refusal.Memory
+refusal_of_desk (desk.Text fault) = refusal.Desk (desk.Text fault)
+refusal_of_desk (desk.Resolve fault) = refusal.Desk (desk.Resolve fault)
+refusal_of_desk (desk.Conflict reference) = refusal.Desk (desk.Conflict reference)
+refusal_of_desk desk.OtherBase = refusal.Desk desk.OtherBase
+refusal_of_desk (desk.Read fault) = refusal.Desk (desk.Read fault)
+refusal_of_desk (desk.File offset) = refusal.Desk (desk.File offset)
+
+-- the flight is named by the designator of the airline
 abbrev pub refusal_of_export : List ℕ → ExportFault → Refusal
-refusal_of_export airline (export.Variations flight) = refusal.Variations (record { airline = airline; flight = flight })
-refusal_of_export airline export.Records = refusal.Records
+refusal_of_export airline (export.Variations flight) = refusal.Export airline (export.Variations flight)
+refusal_of_export airline export.Records = refusal.Export airline export.Records
 refusal_of_export airline export.WriteFault = refusal.WriteFault
 refusal_of_export airline export.Memory = refusal.Memory
+
+-- 91 with this name, or memory ran out
+abbrev pub IsOfFile : List ℕ → Refusal → Type 0
+IsOfFile name r = (r ≡ refusal.Memory) ⊎ (refusal_text r ≡ codes "refused 91 File " ++ name)

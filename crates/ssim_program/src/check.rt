@@ -1,14 +1,13 @@
 //! The command `check`: notes on a data set, and a summary.
 
-ghost use Rattle.std.specs.Prelude.{◌≡◌, ◌++◌, true, IfErr, IfOk, OnErr, OnOk, length};
-ghost use Rattle.ssim_schedule.specs.Export.{line};
+ghost use Rattle.std.specs.Prelude.{◌≡◌, true, IfErr, IfOk, OnErr, OnOk};
 ghost use Rattle.ssim_program.specs.Line.{Check};
-ghost use Rattle.ssim_program.specs.Made.{AreLinesOn, Leaves, Writes, as_printed};
-ghost use Rattle.ssim_program.specs.Printed.{printed_text};
+ghost use Rattle.ssim_program.specs.Effects.{Leaves, Writes};
+ghost use Rattle.ssim_program.specs.Made.{AreLinesOn, as_printed};
 ghost use Rattle.ssim_program.specs.Reasons.{Refuses};
 
 use crate::data_set::load;
-use crate::printed::Printed;
+use crate::printed::{Printed, add_line};
 use crate::printer::{Printer, print_all};
 use crate::refusal::Refusal;
 use crate::store::Store;
@@ -18,15 +17,15 @@ use std::alloc::Global;
 use std::io::Write;
 
 /// Prints the notes on the data set in the file of this name, and a summary.
-pub(crate) fn check<'n, S: Store, O: Printer>(
+pub(crate) fn check<S: Store, O: Printer>(
     alloc: Global,
-    name: &'n str,
+    name: &str,
     store: &mut S,
     out: &mut O,
-) -> Result<(), Refusal<'n>>
-    ensures done { OnOk result (Writes (Check name.entry.now) (S.files store.old) (O.taken out.old) (O.taken out.new)) }
-    ensures refused { OnErr result (Leaves (Check name.entry.now) (S.files store.old) (O.taken out.old) (O.taken out.new) (O.failures out.old) (O.failures out.new)) }
-    ensures why { IfErr result (Refuses (Check name.entry.now) (S.files store.old) (O.failures out.old) (O.failures out.new)) }
+) -> Result<(), Refusal>
+    ensures done { OnOk result (Writes (Check name.now) (S.files store.old) (S.files store.new) (O.taken out.old) (O.taken out.new)) }
+    ensures refused { OnErr result (Leaves (Check name.now) (S.files store.old) (S.files store.new) (O.taken out.old) (O.taken out.new) (O.failures out.old) (O.failures out.new)) }
+    ensures why { IfErr result (Refuses (Check name.now) (S.files store.old) (O.failures out.old) (O.failures out.new)) }
     ensures same { S.files store.new ≡ S.files store.old }
     ensures device { O.device out.new ≡ O.device out.old }
     ensures flushed { OnOk result (O.flushed out.new ≡ true) }
@@ -40,7 +39,7 @@ pub(crate) fn check<'n, S: Store, O: Printer>(
     };
     match print_all(out, &lines) {
         Ok(()) => Ok(()),
-        Err(_) => Err(Refusal::WriteFault),
+        Err(failed) => Err(Refusal::from(failed)),
     }
 }
 
@@ -67,15 +66,5 @@ fn printed_note(note: Note) -> Printed
     match note {
         Note::Serial(number) => Printed::SerialNote { record: number },
         Note::CheckReference(number) => Printed::CheckReferenceNote { record: number },
-    }
-}
-
-/// Adds a printed line.
-fn add_line(lines: &mut Vec<u8>, printed: Printed) -> Result<(), Memory>
-    ensures { OnOk result (lines.new.items ≡ lines.old.items ++ line (printed_text printed)) }
-{
-    match writeln!(lines, "{printed}") {
-        Ok(()) => Ok(()),
-        Err(_) => Err(Memory),
     }
 }

@@ -1,71 +1,133 @@
 //! The commands as `clap` sees them.
-ghost use Rattle.std.specs.Prelude.{◌≡◌, IfOk, false};
+ghost use Rattle.std.specs.Prelude.{◌≡◌, IfOk, codes, false};
 ghost use Rattle.clap.specs.Words.{app_of, rule_of};
-ghost use Rattle.ssim_program.specs.Commands.{IsLeaf, add_all, leaf, needed, on_data_sets, one_value, whole_program};
+ghost use Rattle.ssim_program.specs.Commands.{IsLeaf, add_all, leaf, needed, of_desks, on_data_sets, on_desks, one_value, rehearsals, several_texts, three_values, two_values_and_texts, whole_program};
 
-use clap::{Arg, Command};
+use crate::help;
+use clap::{Arg, ArgAction, Command};
 use std::alloc::{AllocError, Global};
 
-const ABOUT: &str = "A schedule desk for airline schedules in SSIM chapter 7";
-
-const EXAMPLES: &str = "\
-Examples:
-  ssimdesk check summer.ssim
-  ssimdesk tidy summer.ssim > tidy.ssim
-A refused command prints 'refused', the number, the name and the place on standard
-error, and ends with status 1. 'ssimdesk COMMAND --help' says more of a command.";
-
-const CHECK: &str = "\
-Read a chapter 7 data set, print a note on each record serial and check reference that is
-out of order, and print a summary";
-
-const CHECK_EXAMPLE: &str = "\
-Example:
-  ssimdesk check summer.ssim
-prints 'ok records 4 flights 1 notes 0' if nothing is wrong.";
-
-const TIDY: &str = "\
-Read a chapter 7 data set, and print it with the periods of each flight divided anew, in
-the one canonical form";
-
-const TIDY_EXAMPLE: &str = "\
-Example:
-  ssimdesk tidy summer.ssim > tidy.ssim
-writes the same flights on the same dates, with serials from 000001 on.";
-
-const DATASET: &str = "The data set's file, 200 bytes a record; - is standard input";
+/// The version that `--version` prints.
+const VERSION: &str = "1.0.0";
 
 /// A value that has to be there. `clap` knows it by `id`, and help shows it as `shown`.
-fn value<'a>(alloc: Global, id: &'a str, shown: &'a str, help: &'a str) -> Arg<'a>
+fn value<'a>(alloc: Global, id: &'a str, shown: &'a str) -> Arg<'a>
     ensures rule { rule_of result ≡ needed id.entry.now }
     ensures local { result.global ≡ false }
 {
     Arg::new(alloc, id)
         .value_name(shown)
-        .help(help)
+        .help(help::about_value(shown))
         .required(true)
 }
 
-/// A command on a data set.
-fn on_data_set<'a>(
+/// One or more texts.
+fn texts<'a>(alloc: Global) -> Arg<'a>
+    ensures rule { rule_of result ≡ several_texts }
+    ensures local { result.global ≡ false }
+{
+    Arg::new(alloc, "texts")
+        .value_name("TEXT")
+        .help(help::about_value("TEXT"))
+        .required(true)
+        .action(ArgAction::Append)
+}
+
+/// A command with one value.
+fn with_one<'a>(
     alloc: Global,
     name: &'a str,
     about: &'a str,
     example: &'a str,
+    first: &'a str,
 ) -> Result<Command<'a>, AllocError>
     ensures { IfOk result (IsLeaf (leaf name.entry.now one_value)) }
 {
     let command = Command::new(alloc, name).about(about).after_help(example);
-    command.arg(value(alloc, "first", "DATASET", DATASET))
+    command.arg(value(alloc, "first", first))
+}
+
+/// A command with three values.
+fn with_three<'a>(
+    alloc: Global,
+    name: &'a str,
+    about: &'a str,
+    example: &'a str,
+    shown: [&'a str; 3],
+) -> Result<Command<'a>, AllocError>
+    ensures { IfOk result (IsLeaf (leaf name.entry.now three_values)) }
+{
+    let [first, second, third] = shown;
+    let command = Command::new(alloc, name).about(about).after_help(example);
+    let command = command.arg(value(alloc, "first", first))?;
+    let command = command.arg(value(alloc, "second", second))?;
+    command.arg(value(alloc, "third", third))
+}
+
+/// The command `take`, with two values and one or more texts.
+fn take<'a>(alloc: Global) -> Result<Command<'a>, AllocError>
+    ensures { IfOk result (IsLeaf (leaf (codes "take") two_values_and_texts)) }
+{
+    let command = Command::new(alloc, "take")
+        .about(help::TAKE)
+        .after_help(help::TAKE_EXAMPLE);
+    let command = command.arg(value(alloc, "first", "DESK"))?;
+    let command = command.arg(value(alloc, "second", "OUT"))?;
+    command.arg(texts(alloc))
 }
 
 /// The commands on data sets.
 fn with_data_sets<'a>(alloc: Global, program: Command<'a>) -> Result<Command<'a>, AllocError>
     ensures { IfOk result (λ c. app_of c ≡ add_all (app_of program.entry) on_data_sets) }
 {
-    let check = on_data_set(alloc, "check", CHECK, CHECK_EXAMPLE)?;
-    let tidy = on_data_set(alloc, "tidy", TIDY, TIDY_EXAMPLE)?;
-    program.subcommand(check)?.subcommand(tidy)
+    let check = with_one(alloc, "check", help::CHECK, help::CHECK_EXAMPLE, "DATASET")?;
+    let tidy = with_one(alloc, "tidy", help::TIDY, help::TIDY_EXAMPLE, "DATASET")?;
+    let shown = ["DATASET", "STATIONS", "OUT"];
+    let start = with_three(alloc, "start", help::START, help::START_EXAMPLE, shown)?;
+    program
+        .subcommand(check)?
+        .subcommand(tidy)?
+        .subcommand(start)
+}
+
+/// The commands that change a desk.
+fn with_desks<'a>(alloc: Global, program: Command<'a>) -> Result<Command<'a>, AllocError>
+    ensures { IfOk result (λ c. app_of c ≡ add_all (app_of program.entry) on_desks) }
+{
+    let take = take(alloc)?;
+    let shown = ["DESK", "OTHER", "OUT"];
+    let merge = with_three(alloc, "merge", help::MERGE, help::MERGE_EXAMPLE, shown)?;
+    program.subcommand(take)?.subcommand(merge)
+}
+
+/// The commands that print what a desk has.
+fn with_prints<'a>(alloc: Global, program: Command<'a>) -> Result<Command<'a>, AllocError>
+    ensures { IfOk result (λ c. app_of c ≡ add_all (app_of program.entry) of_desks) }
+{
+    let shown = ["DESK", "FLIGHT", "DATE"];
+    let show = with_three(alloc, "show", help::SHOW, help::SHOW_EXAMPLE, shown)?;
+    let findings = with_one(
+        alloc,
+        "findings",
+        help::FINDINGS,
+        help::FINDINGS_EXAMPLE,
+        "DESK",
+    )?;
+    let export = with_one(alloc, "export", help::EXPORT, help::EXPORT_EXAMPLE, "DESK")?;
+    program
+        .subcommand(show)?
+        .subcommand(findings)?
+        .subcommand(export)
+}
+
+/// The rehearsal.
+fn with_rehearsal<'a>(alloc: Global, program: Command<'a>) -> Result<Command<'a>, AllocError>
+    ensures { IfOk result (λ c. app_of c ≡ add_all (app_of program.entry) rehearsals) }
+{
+    let shown = ["DATASET", "STATIONS", "SCRIPT"];
+    let about = help::REHEARSE;
+    let rehearse = with_three(alloc, "rehearse", about, help::REHEARSE_EXAMPLE, shown)?;
+    program.subcommand(rehearse)
 }
 
 /// The program with its commands.
@@ -73,8 +135,12 @@ pub fn command<'a>(alloc: Global) -> Result<Command<'a>, AllocError>
     ensures { IfOk result (λ c. app_of c ≡ whole_program) }
 {
     let program = Command::new(alloc, "ssimdesk")
-        .about(ABOUT)
-        .after_help(EXAMPLES)
+        .version(VERSION)
+        .about(help::ABOUT)
+        .after_help(help::EXAMPLES)
         .subcommand_required(true);
-    with_data_sets(alloc, program)
+    let program = with_data_sets(alloc, program)?;
+    let program = with_desks(alloc, program)?;
+    let program = with_prints(alloc, program)?;
+    with_rehearsal(alloc, program)
 }

@@ -1,8 +1,9 @@
-//! The data set in a file.
+//! Files of the store: any file, the data set in a file, and a base from a data set and a station table.
 
 ghost use Rattle.std.specs.Prelude.{◌≡◌, ◌≤◌, IfErr, IfOk, Ok, length};
 ghost use Rattle.ssim_schedule.specs.Reading.{Answers, IsReadAs};
-ghost use Rattle.ssim_program.specs.Made.{IsOfBytes, ReadsFile, RefusesFile, file_limit};
+ghost use Rattle.ssim_schedule.specs.Stations.{Row};
+ghost use Rattle.ssim_program.specs.Made.{HasFile, IsOfBytes, ReadsBase, ReadsFile, RefusesBase, RefusesFile, RefusesLoad, file_limit};
 
 use crate::refusal::Refusal;
 use crate::store::{Store, StoreFault};
@@ -10,25 +11,38 @@ use ssim_schedule::{Base, BaseFault, BaseRead, Stations};
 use std::alloc::Global;
 
 /// The most bytes that a file may have.
-const LIMIT: u64 = 268_435_456;
+pub(crate) const LIMIT: u64 = 268_435_456;
 
-/// Reads the data set in the file of this name, with an empty station table. The file's bytes are freed.
-pub(crate) fn load<'n, S: Store>(
+/// Loads the file of this name. Returns 91 if there is no such file within the limit.
+pub(crate) fn load_file<S: Store>(
     alloc: Global,
-    name: &'n str,
+    name: &str,
     store: &mut S,
-) -> Result<BaseRead, Refusal<'n>>
-    ensures read { IfOk result (λ read. ReadsFile (S.files store.old) name.entry.now (Ok (read.base.records, read.notes.items))) }
-    ensures refused { IfErr result (RefusesFile (S.files store.old) name.entry.now) }
+) -> Result<Vec<u8>, Refusal>
+    ensures bytes { IfOk result (λ v. HasFile (S.files store.old) name.now v.items) }
+    ensures within { IfOk result (λ v. length v.items ≤ file_limit) }
+    ensures refused { IfErr result (RefusesLoad (S.files store.old) name.now) }
     ensures same { S.files store.new ≡ S.files store.old }
 {
     match store.load(alloc, name, LIMIT) {
+        Ok(bytes) => Ok(bytes),
+        Err(StoreFault::Memory) => Err(Refusal::Memory),
+        Err(StoreFault::Fault) => Err(Refusal::of_file(alloc, name)),
+    }
+}
+
+/// Reads the data set in the file of this name, with an empty station table. The file's bytes are freed.
+pub(crate) fn load<S: Store>(alloc: Global, name: &str, store: &mut S) -> Result<BaseRead, Refusal>
+    ensures read { IfOk result (λ read. ReadsFile (S.files store.old) name.now (Ok (read.base.records, read.notes.items))) }
+    ensures refused { IfErr result (RefusesFile (S.files store.old) name.now) }
+    ensures same { S.files store.new ≡ S.files store.old }
+{
+    match load_file(alloc, name, store) {
         Ok(bytes) => match read(alloc, &bytes) {
             Ok(read) => Ok(read),
             Err(fault) => Err(Refusal::from(fault)),
         },
-        Err(StoreFault::Memory) => Err(Refusal::Memory),
-        Err(StoreFault::Fault) => Err(Refusal::File { name }),
+        Err(refusal) => Err(refusal),
     }
 }
 
@@ -41,6 +55,35 @@ fn read(alloc: Global, bytes: &[u8]) -> Result<BaseRead, BaseFault>
     let Ok(stations) = Stations::read(alloc, b"") else {
         return Err(BaseFault::Memory);
     };
+    read_with(alloc, bytes, stations)
+}
+
+/// Reads a data set with a station table.
+fn read_with(alloc: Global, bytes: &[u8], stations: Stations) -> Result<BaseRead, BaseFault>
+    requires { length bytes.now ≤ file_limit }
+    ensures read { Answers result (IsReadAs file_limit bytes.now) }
+    ensures rows { IfOk result (λ read. read.base.rows ≡ stations) }
+    ensures whole { IfErr result IsOfBytes }
+{
     let mut left = bytes;
     Base::read(alloc, &mut left, stations, LIMIT)
+}
+
+/// Reads the data set in one file, with the station table in another. Both files are loaded first, the data set's before the
+/// table's; then the table is read, and then the data set.
+pub(crate) fn load_base<S: Store>(
+    alloc: Global,
+    dataset: &str,
+    stations: &str,
+    store: &mut S,
+) -> Result<BaseRead, Refusal>
+    ensures read { IfOk result (λ read. ReadsBase (S.files store.old) dataset.now stations.now read.base read.notes.items) }
+    ensures refused { IfErr result (RefusesBase (S.files store.old) dataset.now stations.now) }
+    ensures same { S.files store.new ≡ S.files store.old }
+{
+    let bytes = load_file(alloc, dataset, store)?;
+    let table = load_file(alloc, stations, store)?;
+    let stations = Stations::read(alloc, &table)?;
+    let read = read_with(alloc, &bytes, stations)?;
+    Ok(read)
 }

@@ -1,10 +1,14 @@
-//! The lines that `check` prints.
-ghost use Rattle.std.specs.Prelude.{Some};
+//! The lines that commands print.
+ghost use Rattle.std.specs.Prelude.{◌≡◌, ◌++◌, OnOk, Some};
+ghost use Rattle.ssim_schedule.specs.Export.{line};
 ghost use Rattle.ssim_program.specs.Printed.{printed_text};
 
+use ssim_text::Reference;
+use ssim_values::Memory;
 use std::fmt;
+use std::io::Write;
 
-/// A line that `check` prints.
+/// A line that a command prints. It is displayed without its line end.
 #[derive(Clone, Copy, Debug, PartialEq, Eq)]
 pub enum Printed {
     /// The record's serial does not follow that of the record before.
@@ -20,6 +24,18 @@ pub enum Printed {
         records: usize,
         flights: usize,
         notes: usize,
+    },
+    /// The message of a text was new, and is held.
+    Taken {
+        reference: Reference,
+    },
+    /// The message of a text was held already.
+    Repeated {
+        reference: Reference,
+    },
+    /// How many messages a desk holds.
+    Held {
+        messages: usize,
     },
 }
 
@@ -37,6 +53,19 @@ impl fmt::Display for Printed {
                 flights,
                 notes,
             } => write!(f, "ok records {records} flights {flights} notes {notes}"),
+            Printed::Taken { reference } => write!(f, "taken {reference}"),
+            Printed::Repeated { reference } => write!(f, "repeated {reference}"),
+            Printed::Held { messages } => write!(f, "held {messages}"),
         }
+    }
+}
+
+/// Adds a printed line.
+pub(crate) fn add_line(lines: &mut Vec<u8>, printed: Printed) -> Result<(), Memory>
+    ensures { OnOk result (lines.new.items ≡ lines.old.items ++ line (printed_text printed)) }
+{
+    match writeln!(lines, "{printed}") {
+        Ok(()) => Ok(()),
+        Err(_) => Err(Memory),
     }
 }

@@ -104,3 +104,16 @@ pub(crate) fn print_line<P: Printer>(line: &[u8], err: &mut P)
 {
     let _ = print_all(err, line);
 }
+
+/// Flushes the printer.
+pub(crate) fn flush_all<P: Printer>(printer: &mut P) -> Result<(), PrintFailed>
+    ensures flushed { OnOk result (P.flushed printer.new ≡ true) }
+    ensures bytes { Keeps (P.taken printer.old) (P.taken printer.new) }
+    ensures failures { CountsFault (P.failures printer.old) (P.failures printer.new) result }
+    ensures device { P.device printer.new ≡ P.device printer.old }
+{
+    match printer.flush() {
+        Ok(()) => Ok(()),
+        Err(_) => Err(PrintFailed),
+    }
+}

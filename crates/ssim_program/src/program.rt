@@ -4,8 +4,8 @@ ghost use Rattle.std.specs.Prelude.{◌≡◌, ◌≤◌, ◌⊎◌, ℕ, true, 
 ghost use Rattle.std.specs.Io.KnownBytes.{Keeps};
 ghost use Rattle.ssim_schedule.specs.Export.{line};
 ghost use Rattle.ssim_program.specs.Again.{WritesItself};
-ghost use Rattle.ssim_program.specs.Line.{Line, Spells};
-ghost use Rattle.ssim_program.specs.Made.{Leaves, Writes};
+ghost use Rattle.ssim_program.specs.Line.{Line, Rehearse, Spells};
+ghost use Rattle.ssim_program.specs.Effects.{Leaves, Writes};
 ghost use Rattle.ssim_program.specs.Reasons.{IsRefused, PrintsReason, PrintsRefusal, Refuses};
 ghost use Rattle.ssim_program.specs.Refusal.{refusal_text};
 ghost use Rattle.ssim_program.specs.Request.{line_of};
@@ -15,9 +15,16 @@ ghost use Rattle.clap.specs.Words.{kind_of};
 
 use crate::check::check;
 use crate::command_line::{LineFault, Request, parse};
+use crate::export::export;
+use crate::findings::findings;
+use crate::merge::merge;
 use crate::printer::{CountedWriter, Printer, print_all, print_line};
 use crate::refusal::Refusal;
+use crate::rehearse::rehearse;
+use crate::show::show_flight;
+use crate::start::start;
 use crate::store::Store;
+use crate::take::take;
 use crate::tidy::tidy;
 use std::alloc::Global;
 use std::io;
@@ -35,13 +42,13 @@ pub fn run<S: Store, O: Write, E: Write>(
     ensures known { (line : Line) → Spells (map (λ w. w.now) words.now) line → result ≤ 1 }
     ensures named { result ≡ 0 → IsCommand (map (λ w. w.now) words.now) ⊎ HasFault (map (λ w. w.now) words.now) true }
     ensures wrong { result ≡ 2 → HasFault (map (λ w. w.now) words.now) false ⊎ IsNoCommand (map (λ w. w.now) words.now) }
-    ensures done { (line : Line) → Spells (map (λ w. w.now) words.now) line → result ≡ 0 → Writes line (S.files store.old) (O.contents out.old) (O.contents out.new) }
+    ensures done { (line : Line) → Spells (map (λ w. w.now) words.now) line → result ≡ 0 → Writes line (S.files store.old) (S.files store.new) (O.contents out.old) (O.contents out.new) }
     ensures quiet { (line : Line) → Spells (map (λ w. w.now) words.now) line → result ≡ 0 → Keeps (E.contents err.old) (E.contents err.new) }
     ensures again { (line : Line) → Spells (map (λ w. w.now) words.now) line → result ≡ 0 → WritesItself line (O.contents out.old) (O.contents out.new) }
 
     // With the failures that were counted: a prefix on `out` only if `out` failed, and the whole line on `err` unless `err` failed.
-    ensures refused { (line : Line) → Spells (map (λ w. w.now) words.now) line → result ≡ 1 → (failures : ℕ) × IsRefused line (S.files store.old) (O.contents out.old) (O.contents out.new) (E.contents err.old) (E.contents err.new) 0 failures }
-    ensures files { S.files store.new ≡ S.files store.old }
+    ensures refused { (line : Line) → Spells (map (λ w. w.now) words.now) line → result ≡ 1 → (failures : ℕ) × IsRefused line (S.files store.old) (S.files store.new) (O.contents out.old) (O.contents out.new) (E.contents err.old) (E.contents err.new) 0 failures }
+    ensures files { (S.files store.new ≡ S.files store.old) ⊎ IsCommand (map (λ w. w.now) words.now) }
 {
     let mut reasons = CountedWriter {
         writer: err,
@@ -71,11 +78,11 @@ fn run_to<S: Store, O: Write, E: Printer>(
     ensures known { (line : Line) → Spells (map (λ w. w.now) words.now) line → result ≤ 1 }
     ensures named { result ≡ 0 → IsCommand (map (λ w. w.now) words.now) ⊎ HasFault (map (λ w. w.now) words.now) true }
     ensures wrong { result ≡ 2 → HasFault (map (λ w. w.now) words.now) false ⊎ IsNoCommand (map (λ w. w.now) words.now) }
-    ensures done { (line : Line) → Spells (map (λ w. w.now) words.now) line → result ≡ 0 → Writes line (S.files store.old) (O.contents out.old) (O.contents out.new) }
+    ensures done { (line : Line) → Spells (map (λ w. w.now) words.now) line → result ≡ 0 → Writes line (S.files store.old) (S.files store.new) (O.contents out.old) (O.contents out.new) }
     ensures quiet { (line : Line) → Spells (map (λ w. w.now) words.now) line → result ≡ 0 → Keeps (E.taken err.old) (E.taken err.new) }
     ensures again { (line : Line) → Spells (map (λ w. w.now) words.now) line → result ≡ 0 → WritesItself line (O.contents out.old) (O.contents out.new) }
-    ensures refused { (line : Line) → Spells (map (λ w. w.now) words.now) line → result ≡ 1 → IsRefused line (S.files store.old) (O.contents out.old) (O.contents out.new) (E.taken err.old) (E.taken err.new) (E.failures err.old) (E.failures err.new) }
-    ensures files { S.files store.new ≡ S.files store.old }
+    ensures refused { (line : Line) → Spells (map (λ w. w.now) words.now) line → result ≡ 1 → IsRefused line (S.files store.old) (S.files store.new) (O.contents out.old) (O.contents out.new) (E.taken err.old) (E.taken err.new) (E.failures err.old) (E.failures err.new) }
+    ensures files { (S.files store.new ≡ S.files store.old) ⊎ IsCommand (map (λ w. w.now) words.now) }
     ensures device { E.device err.new ≡ E.device err.old }
 {
     let mut printed = CountedWriter {
@@ -117,7 +124,7 @@ pub fn run_on<S: Store, O: Printer, E: Printer>(
     ensures wrong { result ≡ 2 → HasFault (map (λ w. w.now) words.now) false ⊎ IsNoCommand (map (λ w. w.now) words.now) }
 
     // What was done: exactly what the command makes of the file was written, and nothing else.
-    ensures done { (line : Line) → Spells (map (λ w. w.now) words.now) line → result ≡ 0 → Writes line (S.files store.old) (O.taken out.old) (O.taken out.new) }
+    ensures done { (line : Line) → Spells (map (λ w. w.now) words.now) line → result ≡ 0 → Writes line (S.files store.old) (S.files store.new) (O.taken out.old) (O.taken out.new) }
     ensures quiet { (line : Line) → Spells (map (λ w. w.now) words.now) line → result ≡ 0 → Keeps (E.taken err.old) (E.taken err.new) }
 
     // It was flushed after the last byte.
@@ -127,18 +134,15 @@ pub fn run_on<S: Store, O: Printer, E: Printer>(
     ensures again { (line : Line) → Spells (map (λ w. w.now) words.now) line → result ≡ 0 → WritesItself line (O.taken out.old) (O.taken out.new) }
 
     // A refusal wrote nothing to `out`, unless `out` itself failed.
-    ensures refused { (line : Line) → Spells (map (λ w. w.now) words.now) line → result ≡ 1 → Leaves line (S.files store.old) (O.taken out.old) (O.taken out.new) (O.failures out.old) (O.failures out.new) }
+    ensures refused { (line : Line) → Spells (map (λ w. w.now) words.now) line → result ≡ 1 → Leaves line (S.files store.old) (S.files store.new) (O.taken out.old) (O.taken out.new) (O.failures out.old) (O.failures out.new) }
 
     // Its line was printed: `err` took the whole line of a refusal that has its reason, or failed and took a prefix.
     ensures reason { (line : Line) → Spells (map (λ w. w.now) words.now) line → result ≡ 1 → PrintsReason line (S.files store.old) (O.failures out.old) (O.failures out.new) (E.taken err.old) (E.taken err.new) (E.failures err.old) (E.failures err.new) }
-    ensures files { S.files store.new ≡ S.files store.old }
+    ensures files { (S.files store.new ≡ S.files store.old) ⊎ IsCommand (map (λ w. w.now) words.now) }
     ensures devices { (O.device out.new ≡ O.device out.old) × (E.device err.new ≡ E.device err.old) }
 {
     match parse(alloc, words) {
-        Ok(request) => match act(alloc, request, store, out) {
-            Ok(()) => 0,
-            Err(refusal) => refuse(alloc, &refusal, err),
-        },
+        Ok(request) => obey(alloc, &request, store, out, err),
         Err(LineFault::Memory) => refuse(alloc, &Refusal::Memory, err),
         Err(LineFault::Shown(error)) => show(alloc, &error, out, err),
         Err(LineFault::NoCommand) => {
@@ -148,29 +152,80 @@ pub fn run_on<S: Store, O: Printer, E: Printer>(
     }
 }
 
-/// Does what a command asks.
-fn act<'n, S: Store, O: Printer>(
+/// Does what a command asks, and prints the line of a refusal.
+fn obey<S: Store, O: Printer, E: Printer>(
     alloc: Global,
-    request: Request<'n>,
+    request: &Request<'_>,
     store: &mut S,
     out: &mut O,
-) -> Result<(), Refusal<'n>>
-    ensures done { OnOk result (Writes (line_of request.entry) (S.files store.old) (O.taken out.old) (O.taken out.new)) }
-    ensures again { OnOk result (WritesItself (line_of request.entry) (O.taken out.old) (O.taken out.new)) }
-    ensures refused { OnErr result (Leaves (line_of request.entry) (S.files store.old) (O.taken out.old) (O.taken out.new) (O.failures out.old) (O.failures out.new)) }
-    ensures why { IfErr result (Refuses (line_of request.entry) (S.files store.old) (O.failures out.old) (O.failures out.new)) }
-    ensures same { S.files store.new ≡ S.files store.old }
+    err: &mut E,
+) -> u8
+    ensures status { result ≤ 1 }
+    ensures done { result ≡ 0 → Writes (line_of request.now) (S.files store.old) (S.files store.new) (O.taken out.old) (O.taken out.new) }
+    ensures quiet { result ≡ 0 → Keeps (E.taken err.old) (E.taken err.new) }
+    ensures flushed { result ≡ 0 → O.flushed out.new ≡ true }
+    ensures again { result ≡ 0 → WritesItself (line_of request.now) (O.taken out.old) (O.taken out.new) }
+    ensures refused { result ≡ 1 → Leaves (line_of request.now) (S.files store.old) (S.files store.new) (O.taken out.old) (O.taken out.new) (O.failures out.old) (O.failures out.new) }
+    ensures reason { result ≡ 1 → PrintsReason (line_of request.now) (S.files store.old) (O.failures out.old) (O.failures out.new) (E.taken err.old) (E.taken err.new) (E.failures err.old) (E.failures err.new) }
+    ensures devices { (O.device out.new ≡ O.device out.old) × (E.device err.new ≡ E.device err.old) }
+{
+    match act(alloc, request, store, out) {
+        Ok(()) => 0,
+        Err(refusal) => refuse(alloc, &refusal, err),
+    }
+}
+
+/// Does what a command asks.
+fn act<S: Store, O: Printer>(
+    alloc: Global,
+    request: &Request<'_>,
+    store: &mut S,
+    out: &mut O,
+) -> Result<(), Refusal>
+    ensures done { OnOk result (Writes (line_of request.now) (S.files store.old) (S.files store.new) (O.taken out.old) (O.taken out.new)) }
+    ensures again { OnOk result (WritesItself (line_of request.now) (O.taken out.old) (O.taken out.new)) }
+    ensures refused { OnErr result (Leaves (line_of request.now) (S.files store.old) (S.files store.new) (O.taken out.old) (O.taken out.new) (O.failures out.old) (O.failures out.new)) }
+    ensures why { IfErr result (Refuses (line_of request.now) (S.files store.old) (O.failures out.old) (O.failures out.new)) }
     ensures device { O.device out.new ≡ O.device out.old }
     ensures flushed { OnOk result (O.flushed out.new ≡ true) }
 {
     match request {
         Request::Check(name) => check(alloc, name, store, out),
         Request::Tidy(name) => tidy(alloc, name, store, out),
+        Request::Start(dataset, stations, name) => {
+            start(alloc, dataset, stations, name, store, out)
+        }
+        Request::Take(desk, name, texts) => take(alloc, desk, name, texts, store, out),
+        Request::Merge(desk, other, name) => merge(alloc, desk, other, name, store, out),
+        Request::Show(desk, flight, date) => show_flight(alloc, desk, flight, date, store, out),
+        Request::Findings(desk) => findings(alloc, desk, store, out),
+        Request::Export(desk) => export(alloc, desk, store, out),
+        Request::Rehearse(dataset, stations, script) => {
+            run_script(alloc, dataset, stations, script, store, out)
+        }
     }
 }
 
+/// Does what `rehearse` asks.
+fn run_script<S: Store, O: Printer>(
+    alloc: Global,
+    dataset: &str,
+    stations: &str,
+    script: &str,
+    store: &mut S,
+    out: &mut O,
+) -> Result<(), Refusal>
+    ensures done { OnOk result (Writes (Rehearse dataset.now stations.now script.now) (S.files store.old) (S.files store.new) (O.taken out.old) (O.taken out.new)) }
+    ensures refused { OnErr result (Leaves (Rehearse dataset.now stations.now script.now) (S.files store.old) (S.files store.new) (O.taken out.old) (O.taken out.new) (O.failures out.old) (O.failures out.new)) }
+    ensures why { IfErr result (Refuses (Rehearse dataset.now stations.now script.now) (S.files store.old) (O.failures out.old) (O.failures out.new)) }
+    ensures device { O.device out.new ≡ O.device out.old }
+    ensures flushed { OnOk result (O.flushed out.new ≡ true) }
+{
+    rehearse(alloc, dataset, stations, script, store, out)
+}
+
 /// Prints the line of a refusal. If no memory is left for the line, it is that of 90.
-fn refuse<P: Printer>(alloc: Global, refusal: &Refusal<'_>, err: &mut P) -> u8
+fn refuse<P: Printer>(alloc: Global, refusal: &Refusal, err: &mut P) -> u8
     ensures status { result ≡ 1 }
     ensures printed { PrintsRefusal refusal.now (P.taken err.old) (P.taken err.new) (P.failures err.old) (P.failures err.new) }
     ensures device { P.device err.new ≡ P.device err.old }
@@ -182,7 +237,7 @@ fn refuse<P: Printer>(alloc: Global, refusal: &Refusal<'_>, err: &mut P) -> u8
     1
 }
 
-fn line_of_refusal(alloc: Global, refusal: &Refusal<'_>) -> io::Result<Vec<u8>>
+fn line_of_refusal(alloc: Global, refusal: &Refusal) -> io::Result<Vec<u8>>
     ensures { IfOk result (λ bytes. bytes.items ≡ line (refusal_text refusal.now)) }
 {
     let mut bytes = Vec::new(alloc);

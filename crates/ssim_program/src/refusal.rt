@@ -1,145 +1,201 @@
 //! Why a command was refused, as it is printed.
 ghost use Rattle.std.specs.Prelude.{◌≡◌, Some};
-ghost use Rattle.ssim_program.specs.Refusal.{refusal_at, refusal_of_base, refusal_of_record, refusal_text};
+ghost use Rattle.ssim_program.specs.Refusal.{IsOfFile, refusal_number, refusal_of_base, refusal_of_desk, refusal_of_export, refusal_of_stations, refusal_of_value, refusal_text};
 
-use ssim_records::RecordFault;
-use ssim_schedule::{BaseFault, BaseRefusal};
-use ssim_values::Designator;
+use crate::printer::PrintFailed;
+use ssim_desk::DeskFault;
+use ssim_schedule::{BaseFault, ExportFault, StationFault};
+use ssim_values::{Airline, Designator, Fault, Memory};
+use std::alloc::{AllocError, AllocFailed, Global};
+use std::error::Error;
 use std::fmt;
 
-/// Why a command was refused. It is displayed as its line on standard error: `refused`, the number, the name, and the
-/// place.
-#[derive(Clone, Copy, Debug, PartialEq, Eq)]
-pub enum Refusal<'a> {
-    /// 10: the input ends within the record.
-    Short { record: u64 },
-    /// 11: the record's type is unknown, or not allowed there.
-    BadType { record: u64 },
-    /// 12: the field that begins at the column is invalid.
-    BadColumn { record: u64, column: u64 },
-    /// 13: the reader failed.
-    ReadFault { record: u64 },
-    /// 14: more bytes came than the limit allows.
-    ReaderNeverEnds { record: u64 },
-    /// 30: the first record is no header.
-    NoHeader { record: u64 },
-    /// 31: the second record is no carrier.
-    NoCarrier { record: u64 },
-    /// 32: the trailer is missing.
-    NoTrailer { record: u64 },
-    /// 33: the airline is not the carrier's.
-    OtherAirline { record: u64 },
-    /// 34: an earlier leg record gives the same flight and leg sequence on one date.
-    Overlap { record: u64 },
-    /// 35: no earlier leg record has the flight, itinerary variation and leg sequence of the segment record.
-    Segment { record: u64 },
-    /// 36: the itinerary variation overflows.
-    Overflow { record: u64 },
-    /// 37: the frequency rate is not weekly.
-    Frequency { record: u64 },
-    /// 38: the trailer announces another carrier.
-    Continuation { record: u64 },
-    /// 39: the line of the station table is invalid.
-    Stations { line: u64 },
-    /// 50: the flight has more than 99 itinerary variations.
-    Variations { flight: Designator },
-    /// 51: the export has more than 999,999 records.
-    Records,
+/// Why a command was refused: a fault of one of the crates below, or one of the program's own. It is displayed as its line on
+/// standard error: `refused`, the number, the name, and the place.
+#[derive(Debug, Drop)]
+pub enum Refusal {
+    /// 1 to 7: a word of the command line is no value of the kind.
+    Value(Fault),
+    /// 10 to 14, or 30 to 38: the data set is invalid at a record.
+    DataSet(BaseFault),
+    /// 39: the station table is invalid at a line.
+    Stations(StationFault),
+    /// 13, 14, 20 to 29, 40 to 43, or 60 to 62: a text, a message, another desk or a desk file is refused.
+    Desk(DeskFault),
+    /// 50 or 51: the flights of the airline have no export. The flight of 50 is printed as a designator.
+    Export {
+        airline: Airline,
+        fault: ExportFault,
+    },
     /// 52: what is printed could not be written.
     WriteFault,
+    /// 63: the line of the desk script is invalid.
+    Script {
+        line: u64,
+    },
     /// 90: memory ran out.
     Memory,
     /// 91: the file was not read within the limit, or not written.
-    File { name: &'a str },
+    File {
+        name: String,
+    },
 }
 
-impl fmt::Display for Refusal<'_> {
-    ghost output = { λ r. Some (refusal_text r) };
-
-    fn fmt<W: fmt::Write>(&self, f: &mut fmt::Formatter<W>) -> fmt::Result {
+impl Refusal {
+    /// The number by which the refusal is known, 1 to 91.
+    pub fn number(&self) -> u8
+        ensures { result ≡ refusal_number self.now }
+    {
         match self {
-            Refusal::Short { record } => write!(f, "refused 10 Short record {record}"),
-            Refusal::BadType { record } => write!(f, "refused 11 BadType record {record}"),
-            Refusal::BadColumn { record, column } => {
-                write!(f, "refused 12 BadColumn record {record} column {column}")
-            }
-            Refusal::ReadFault { record } => write!(f, "refused 13 ReadFault record {record}"),
-            Refusal::ReaderNeverEnds { record } => {
-                write!(f, "refused 14 ReaderNeverEnds record {record}")
-            }
-            Refusal::NoHeader { record } => write!(f, "refused 30 NoHeader record {record}"),
-            Refusal::NoCarrier { record } => write!(f, "refused 31 NoCarrier record {record}"),
-            Refusal::NoTrailer { record } => write!(f, "refused 32 NoTrailer record {record}"),
-            Refusal::OtherAirline { record } => {
-                write!(f, "refused 33 OtherAirline record {record}")
-            }
-            Refusal::Overlap { record } => write!(f, "refused 34 Overlap record {record}"),
-            Refusal::Segment { record } => write!(f, "refused 35 Segment record {record}"),
-            Refusal::Overflow { record } => write!(f, "refused 36 Overflow record {record}"),
-            Refusal::Frequency { record } => write!(f, "refused 37 Frequency record {record}"),
-            Refusal::Continuation { record } => {
-                write!(f, "refused 38 Continuation record {record}")
-            }
-            Refusal::Stations { line } => write!(f, "refused 39 Stations line {line}"),
-            Refusal::Variations { flight } => {
-                let text = flight.write();
-                let text = str::from_utf8(text.as_slice()).map_err(|_| fmt::Error)?;
-                write!(f, "refused 50 Variations flight {text}")
-            }
-            Refusal::Records => write!(f, "refused 51 Records"),
-            Refusal::WriteFault => write!(f, "refused 52 WriteFault"),
-            Refusal::Memory => write!(f, "refused 90 Memory"),
-            Refusal::File { name } => write!(f, "refused 91 File {name}"),
+            Refusal::Value(fault) => fault.number(),
+            Refusal::DataSet(fault) => fault.number(),
+            Refusal::Stations(fault) => fault.number(),
+            Refusal::Desk(fault) => fault.number(),
+            Refusal::Export { airline: _, fault } => fault.number(),
+            Refusal::WriteFault => ExportFault::WriteFault.number(),
+            Refusal::Script { .. } => 63,
+            Refusal::Memory => Memory.number(),
+            Refusal::File { .. } => 91,
         }
     }
 }
 
-impl From<BaseFault> for Refusal<'_> {
+impl fmt::Display for Refusal {
+    ghost output = { λ r. Some (refusal_text r) };
+
+    fn fmt<W: fmt::Write>(&self, f: &mut fmt::Formatter<W>) -> fmt::Result {
+        let number = self.number();
+        match self {
+            Refusal::Value(fault) => write!(f, "refused {number} {fault}"),
+            Refusal::DataSet(fault) => write!(f, "refused {number} {fault}"),
+            Refusal::Stations(fault) => write!(f, "refused {number} {fault}"),
+            Refusal::Desk(fault) => write!(f, "refused {number} {fault}"),
+            Refusal::Export { airline, fault } => match fault {
+                ExportFault::Variations(flight) => {
+                    let name = fault.name();
+                    let airline = *airline;
+                    let flight = *flight;
+                    let flight = Designator { airline, flight };
+                    write!(f, "refused {number} {name} flight {flight}")
+                }
+                _ => write!(f, "refused {number} {fault}"),
+            },
+            Refusal::WriteFault => {
+                let fault = ExportFault::WriteFault;
+                write!(f, "refused {number} {fault}")
+            }
+            Refusal::Script { line } => write!(f, "refused {number} Script line {line}"),
+            Refusal::Memory => {
+                let fault = Memory;
+                write!(f, "refused {number} {fault}")
+            }
+            Refusal::File { name } => write!(f, "refused {number} File {name}"),
+        }
+    }
+}
+
+impl Error for Refusal {}
+
+impl Refusal {
+    /// 91 with the name of the file, or 90 if there is no memory for the name.
+    pub(crate) fn of_file(alloc: Global, name: &str) -> Refusal
+        ensures { IsOfFile name.now result }
+    {
+        match String::from_str(alloc, name) {
+            Ok(name) => Refusal::File { name },
+            Err(_) => Refusal::Memory,
+        }
+    }
+
+    /// The refusal of an export of this airline's flights.
+    pub(crate) fn of_export(airline: Airline, fault: ExportFault) -> Refusal
+        ensures { result ≡ refusal_of_export airline fault }
+    {
+        match fault {
+            ExportFault::WriteFault => Refusal::WriteFault,
+            ExportFault::Memory => Refusal::Memory,
+            _ => Refusal::Export { airline, fault },
+        }
+    }
+}
+
+impl From<Fault> for Refusal {
+    ghost from_gives = { λ fault refusal. refusal ≡ refusal_of_value fault };
+
+    fn from(fault: Fault) -> Self {
+        Refusal::Value(fault)
+    }
+}
+
+impl From<BaseFault> for Refusal {
     ghost from_gives = { λ fault refusal. refusal ≡ refusal_of_base fault };
 
     fn from(fault: BaseFault) -> Self {
         match fault {
             BaseFault::Memory => Refusal::Memory,
-            BaseFault::Read(fault) => unread(fault),
-            BaseFault::Refused(record, why) => refused_at(record, why),
+            _ => Refusal::DataSet(fault),
         }
     }
 }
 
-// The record cannot be read.
-fn unread<'a>(fault: RecordFault) -> Refusal<'a>
-    ensures { result ≡ refusal_of_record fault }
-{
-    match fault {
-        RecordFault::Short { record } => Refusal::Short { record },
-        RecordFault::BadType { record } => Refusal::BadType { record },
-        RecordFault::BadColumn { record, column } => Refusal::BadColumn {
-            record,
-            column: column as u64,
-        },
-        RecordFault::ReadFault { record } => Refusal::ReadFault { record },
-        RecordFault::ReaderNeverEnds { record } => Refusal::ReaderNeverEnds { record },
+impl From<StationFault> for Refusal {
+    ghost from_gives = { λ fault refusal. refusal ≡ refusal_of_stations fault };
+
+    fn from(fault: StationFault) -> Self {
+        match fault {
+            StationFault::Memory => Refusal::Memory,
+            StationFault::Stations(_) => Refusal::Stations(fault),
+        }
     }
 }
 
-// The record is not allowed at its place.
-fn refused_at<'a>(number: u64, why: BaseRefusal) -> Refusal<'a>
-    ensures { result ≡ refusal_at number why }
-{
-    match why {
-        BaseRefusal::BadType => Refusal::BadType { record: number },
-        BaseRefusal::OpenEnd => Refusal::BadColumn {
-            record: number,
-            column: 22,
-        },
-        BaseRefusal::NoHeader => Refusal::NoHeader { record: number },
-        BaseRefusal::NoCarrier => Refusal::NoCarrier { record: number },
-        BaseRefusal::NoTrailer => Refusal::NoTrailer { record: number },
-        BaseRefusal::OtherAirline => Refusal::OtherAirline { record: number },
-        BaseRefusal::Overlap => Refusal::Overlap { record: number },
-        BaseRefusal::Segment => Refusal::Segment { record: number },
-        BaseRefusal::Overflow => Refusal::Overflow { record: number },
-        BaseRefusal::Frequency => Refusal::Frequency { record: number },
-        BaseRefusal::Continuation => Refusal::Continuation { record: number },
+impl From<DeskFault> for Refusal {
+    ghost from_gives = { λ fault refusal. refusal ≡ refusal_of_desk fault };
+
+    fn from(fault: DeskFault) -> Self {
+        match fault {
+            DeskFault::Memory => Refusal::Memory,
+            _ => Refusal::Desk(fault),
+        }
+    }
+}
+
+impl From<Memory> for Refusal {
+    ghost use Rattle.ssim_program.specs.declared.refusal.Refusal.TheVariants.{Memory};
+
+    ghost from_gives = { λ _ refusal. refusal ≡ Memory };
+
+    fn from(_refused: Memory) -> Self {
+        Refusal::Memory
+    }
+}
+
+impl From<AllocError> for Refusal {
+    ghost use Rattle.ssim_program.specs.declared.refusal.Refusal.TheVariants.{Memory};
+
+    ghost from_gives = { λ _ refusal. refusal ≡ Memory };
+
+    fn from(_refused: AllocError) -> Self {
+        Refusal::Memory
+    }
+}
+
+impl<T: Drop> From<AllocFailed<T>> for Refusal {
+    ghost use Rattle.ssim_program.specs.declared.refusal.Refusal.TheVariants.{Memory};
+
+    ghost from_gives = { λ _ refusal. refusal ≡ Memory };
+
+    fn from(_refused: AllocFailed<T>) -> Self {
+        Refusal::Memory
+    }
+}
+
+impl From<PrintFailed> for Refusal {
+    ghost use Rattle.ssim_program.specs.declared.refusal.Refusal.TheVariants.{WriteFault};
+
+    ghost from_gives = { λ _ refusal. refusal ≡ WriteFault };
+
+    fn from(_failed: PrintFailed) -> Self {
+        Refusal::WriteFault
     }
 }

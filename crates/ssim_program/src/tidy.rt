@@ -1,10 +1,11 @@
 //! The command `tidy`: the canonical export of a data set.
 
 ghost use Rattle.std.specs.Prelude.{◌≡◌, true, IfErr, OnErr, OnOk};
-ghost use Rattle.ssim_program.specs.Made.{Exports, Leaves, LeavesExport, Writes};
+ghost use Rattle.ssim_program.specs.Effects.{Leaves, Writes};
+ghost use Rattle.ssim_program.specs.Made.{Exports, LeavesExport};
 ghost use Rattle.ssim_program.specs.Again.{GrowsByItself};
+ghost use Rattle.ssim_schedule.specs.Timetable.{days_of};
 ghost use Rattle.ssim_program.specs.Line.{Tidy};
-ghost use Rattle.ssim_program.specs.Refusal.{refusal_of_export};
 ghost use Rattle.ssim_program.specs.Reasons.{HasNoExport, Refuses};
 
 use crate::data_set::load;
@@ -14,21 +15,20 @@ use crate::store::Store;
 use ssim_records::Sink;
 use ssim_schedule::laws::export_reads_back;
 use ssim_schedule::{Base, BaseRead, ExportFault, Schedule};
-use ssim_values::{Airline, Designator};
 use std::alloc::Global;
 use std::mem::forget;
 
 /// Writes the canonical export of the data set in the file of this name.
-pub(crate) fn tidy<'n, S: Store, O: Printer>(
+pub(crate) fn tidy<S: Store, O: Printer>(
     alloc: Global,
-    name: &'n str,
+    name: &str,
     store: &mut S,
     out: &mut O,
-) -> Result<(), Refusal<'n>>
-    ensures done { OnOk result (Writes (Tidy name.entry.now) (S.files store.old) (O.taken out.old) (O.taken out.new)) }
+) -> Result<(), Refusal>
+    ensures done { OnOk result (Writes (Tidy name.now) (S.files store.old) (S.files store.new) (O.taken out.old) (O.taken out.new)) }
     ensures again { OnOk result (GrowsByItself (O.taken out.old) (O.taken out.new)) }
-    ensures refused { OnErr result (Leaves (Tidy name.entry.now) (S.files store.old) (O.taken out.old) (O.taken out.new) (O.failures out.old) (O.failures out.new)) }
-    ensures why { IfErr result (Refuses (Tidy name.entry.now) (S.files store.old) (O.failures out.old) (O.failures out.new)) }
+    ensures refused { OnErr result (Leaves (Tidy name.now) (S.files store.old) (S.files store.new) (O.taken out.old) (O.taken out.new) (O.failures out.old) (O.failures out.new)) }
+    ensures why { IfErr result (Refuses (Tidy name.now) (S.files store.old) (O.failures out.old) (O.failures out.new)) }
     ensures same { S.files store.new ≡ S.files store.old }
     ensures device { O.device out.new ≡ O.device out.old }
     ensures flushed { OnOk result (O.flushed out.new ≡ true) }
@@ -36,7 +36,7 @@ pub(crate) fn tidy<'n, S: Store, O: Printer>(
     match load(alloc, name, store) {
         Ok(BaseRead { base, .. }) => match export(&base, out) {
             Ok(()) => Ok(()),
-            Err(fault) => Err(refusal_of(fault, base.airline())),
+            Err(fault) => Err(Refusal::of_export(base.airline(), fault)),
         },
         Err(refusal) => Err(refusal),
     }
@@ -46,7 +46,7 @@ pub(crate) fn tidy<'n, S: Store, O: Printer>(
 fn export<O: Printer>(base: &Base, out: &mut O) -> Result<(), ExportFault>
     ensures ok { OnOk result (Exports base.now.records (O.taken out.old) (O.taken out.new)) }
     ensures again { OnOk result (GrowsByItself (O.taken out.old) (O.taken out.new)) }
-    ensures why { IfErr result (HasNoExport base.now.records (O.failures out.old) (O.failures out.new)) }
+    ensures why { IfErr result (HasNoExport base.now.records (days_of base.now.records) (O.failures out.old) (O.failures out.new)) }
     ensures err { OnErr result (LeavesExport base.now.records (O.taken out.old) (O.taken out.new) (O.failures out.old) (O.failures out.new)) }
     ensures device { O.device out.new ≡ O.device out.old }
     ensures flushed { OnOk result (O.flushed out.new ≡ true) }
@@ -62,7 +62,7 @@ fn export<O: Printer>(base: &Base, out: &mut O) -> Result<(), ExportFault>
 fn export_into<W: Sink>(base: &Base, out: &mut W) -> Result<(), ExportFault>
     ensures ok { OnOk result (Exports base.now.records (W.taken out.old) (W.taken out.new)) }
     ensures again { OnOk result (GrowsByItself (W.taken out.old) (W.taken out.new)) }
-    ensures why { IfErr result (HasNoExport base.now.records (W.failures out.old) (W.failures out.new)) }
+    ensures why { IfErr result (HasNoExport base.now.records (days_of base.now.records) (W.failures out.old) (W.failures out.new)) }
     ensures err { OnErr result (LeavesExport base.now.records (W.taken out.old) (W.taken out.new) (W.failures out.old) (W.failures out.new)) }
     ensures count { OnOk result (W.failures out.new ≡ W.failures out.old) }
     ensures device { W.device out.new ≡ W.device out.old }
@@ -73,18 +73,4 @@ fn export_into<W: Sink>(base: &Base, out: &mut W) -> Result<(), ExportFault>
     // The process ends soon: its memory need not be given back piece by piece.
     forget(schedule);
     exported
-}
-
-/// The refusal of an export of this airline's flights.
-fn refusal_of<'n>(fault: ExportFault, airline: Airline) -> Refusal<'n>
-    ensures { result ≡ refusal_of_export airline fault }
-{
-    match fault {
-        ExportFault::Variations(flight) => Refusal::Variations {
-            flight: Designator { airline, flight },
-        },
-        ExportFault::Records => Refusal::Records,
-        ExportFault::WriteFault => Refusal::WriteFault,
-        ExportFault::Memory => Refusal::Memory,
-    }
 }

@@ -1,8 +1,9 @@
 -- Records of any type: column 1 says the type of what is spelt, and what is written is read back.
-use Rattle.std.proofs.Common.{◌≡◌, ℕ, false, List, [], ◌∷◌, Some, refl, sym, ap, subst, ◌∙◌, arith}
+use Rattle.std.proofs.Common.{◌≡◌, ℕ, false, List, [], ◌∷◌, Some, None, Result, Ok, Err, IfOk, IfErr, refl, sym, ap, subst, ◌∙◌, arith}
 use Rattle.std.specs.Prelude.{◌==◌, slice_index}
 use Rattle.ssim_records.specs.declared.record.Record.{Record}
 use Rattle.ssim_records.specs.declared.record.Record.TheVariants.{Header, Carrier, Leg, Segment, Trailer}
+use Rattle.ssim_records.specs.declared.fault.RecordFault.{RecordFault}
 use Rattle.ssim_records.specs.declared.fault.RecordFault.TheVariants.{BadColumn, BadType}
 use Rattle.ssim_records.specs.Columns.{columns, first_fault}
 use Rattle.ssim_records.specs.Header.{HeaderFields, SpellsHeader, header_table}
@@ -16,6 +17,7 @@ use Rattle.ssim_records.proofs.Carriers.{one_carrier, spells_carrier}
 use Rattle.ssim_records.proofs.Legs.{one_leg, spells_leg}
 use Rattle.ssim_records.proofs.Segments.{one_segment, spells_segment}
 use Rattle.ssim_records.proofs.Trailers.{one_trailer, spells_trailer}
+use Rattle.ssim_records.proofs.Rows.{none_fault}
 
 pub spells_written : (r : Record) → IsRecord r → Spells r (written r)
 spells_written (Header r) h = spells_header r h
@@ -83,13 +85,6 @@ as_trailer (Leg r) b e p = absurd (omega (arith, e))
 as_trailer (Segment r) b e p = absurd (omega (arith, e))
 as_trailer (Trailer r) b e p = (r, refl, p)
 
-pub no_kind : (r : Record) (k : ℕ) → kind_of r ≡ k → (k ≡ 49 → ⊥) → (k ≡ 50 → ⊥) → (k ≡ 51 → ⊥) → (k ≡ 52 → ⊥) → (k ≡ 53 → ⊥) → ⊥
-no_kind (Header r) k e a b c d f = a (sym e)
-no_kind (Carrier r) k e a b c d f = b (sym e)
-no_kind (Leg r) k e a b c d f = c (sym e)
-no_kind (Segment r) k e a b c d f = d (sym e)
-no_kind (Trailer r) k e a b c d f = f (sym e)
-
 pub header_fault : (n : ℕ) (b : List ℕ) (column : ℕ) → columns 1 1 b ≡ 49 ∷ [] → first_fault b header_table ≡ Some column → fault_of n b ≡ Some (BadColumn n column)
 unfolding table_of
 header_fault n b column h e = rw (first_byte b 49 h, e) refl
@@ -114,6 +109,15 @@ pub other_fault : (n : ℕ) (b : List ℕ) (k : ℕ) → columns 1 1 b ≡ k ∷
 unfolding table_of
 other_fault n b k h a b' c d e = rw (first_byte b k h, a, b', c, d, e) refl
 
+-- a block that spells a record has no fault
+pub no_fault : (n : ℕ) (b : List ℕ) (r : Record) → Spells r b → fault_of n b ≡ None
+unfolding table_of
+no_fault n b (Header r) p = rw (first_byte b 49 p.kind, none_fault b header_table p.stands) refl
+no_fault n b (Carrier r) p = rw (first_byte b 50 p.kind, none_fault b carrier_table p.stands) refl
+no_fault n b (Leg r) p = rw (first_byte b 51 p.kind, none_fault b leg_table p.stands) refl
+no_fault n b (Segment r) p = rw (first_byte b 52 p.kind, none_fault b segment_table p.stands) refl
+no_fault n b (Trailer r) p = rw (first_byte b 53 p.kind, none_fault b trailer_table p.stands) refl
+
 pub one_record : (b : List ℕ) (r s : Record) → Spells r b → Spells s b → r ≡ s
 one_record b (Header r) s p q =
     let same = as_header s b (same_kind s b 49 p.kind q) q in
@@ -130,6 +134,11 @@ one_record b (Segment r) s p q =
 one_record b (Trailer r) s p q =
     let same = as_trailer s b (same_kind s b 53 p.kind q) q in
     ap (λ (x : TrailerFields). Trailer x) (one_trailer b r same.0 p same.2) ∙ sym same.1
+
+-- what is read is the record that is spelt
+pub only_spelt : (n : ℕ) (b : List ℕ) (read : Result Record RecordFault) → IfOk read (λ r. Spells r b) → IfErr read (λ e. fault_of n b ≡ Some e) → (r : Record) → Spells r b → read ≡ Ok r
+only_spelt n b (Ok s) ok err r p = ap Ok (one_record b s r ok p)
+only_spelt n b (Err e) ok err r p = let none = no_fault n b r p in absurd cc
 
 pub same_record : (r s : Record) → Spells r (written r) → Spells s (written s) → written r ≡ written s → r ≡ s
 same_record r s p q e = one_record (written r) r s p (subst (λ (t : List ℕ). Spells s t) (sym e) q)

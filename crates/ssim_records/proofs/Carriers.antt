@@ -6,8 +6,8 @@ use Rattle.ssim_values.specs.Airline.{is_airline}
 use Rattle.ssim_values.specs.Day.{day_of, day_text}
 use Rattle.ssim_values.proofs.DayLaws.{day_of-day_text}
 use Rattle.ssim_records.specs.declared.field.Kind.TheVariants.{Carried, AirlineCode}
-use Rattle.ssim_records.specs.declared.time_mode.TimeMode.{TimeMode}
-use Rattle.ssim_records.specs.declared.time_mode.TimeMode.TheVariants.{Utc, Local}
+use Rattle.ssim_values.specs.declared.time_mode.TimeMode.{TimeMode}
+use Rattle.ssim_values.specs.declared.time_mode.TimeMode.TheVariants.{Utc, Local}
 use Rattle.ssim_records.specs.Numbers.{digits_of, digits}
 use Rattle.ssim_records.specs.Columns.{columns, fault_in, end_from, time_mode_of}
 use Rattle.ssim_records.specs.Leg.{end_text}

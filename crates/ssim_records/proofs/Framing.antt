@@ -1,5 +1,5 @@
 -- The steps of framing: what is ahead stays the same while bytes are fetched, and falls by the blocks that are given.
-use Rattle.std.proofs.Common.{◌≡◌, ℕ, ◌+◌, ◌-◌, ◌%◌, ◌^◌, ◌<◌, ◌≤◌, Bool, true, false, List, [], ◌∷◌, ◌++◌, length, Option, Some, None, Ok, Err, refl, sym, ap, ◌∙◌, append_assoc, arith}
+use Rattle.std.proofs.Common.{◌≡◌, ℕ, ◌+◌, ◌-◌, ◌%◌, ◌^◌, ◌<◌, ◌≤◌, Bool, true, false, List, [], ◌∷◌, ◌++◌, length, Option, Some, None, Ok, Err, refl, sym, ap, subst, ◌∙◌, append_assoc, arith}
 use Rattle.std.specs.Prelude.{nat_lt, Result}
 use Rattle.std.specs.Io.KnownBytes.{IsAtEnd}
 use Rattle.std.proofs.Math.Nat.{mod-add-mod}
@@ -10,16 +10,53 @@ use Rattle.ssim_records.specs.declared.blocks.Stop.TheVariants.{Short, ReadFault
 use Rattle.ssim_records.specs.declared.device.DeviceFault.{DeviceFault}
 use Rattle.ssim_records.specs.Device.{CountsBytes}
 use Rattle.ssim_records.specs.Frames.{trim, Frames, others, is_fill}
-use Rattle.ssim_records.specs.Blocks.{SameAhead, NextBlock, GivesBlock, GivesOther, Ahead, CountsOn}
+use Rattle.ssim_records.specs.Blocks.{SameAhead, NextBlock, GivesBlock, GivesOther, Ahead, CountsOn, Fetches, Takes}
 use Rattle.ssim_records.proofs.LineEnds.{trim_front, trim_pass, trim_twice, trim_less}
 use Rattle.ssim_records.proofs.Slices.{same_front, same_back}
 
--- what stands ahead stays, and how much came or will come, where it is told
+-- what came and what is held, where it is told: the bytes that were fetched are held behind those from before, but for line ends in front
 abbrev pub Stays : Bool → ℕ → List ℕ → Option (List ℕ) → ℕ → List ℕ → Option (List ℕ) → Type 0
 Stays behind came held None came' held' left' = Unit {0}
 Stays behind came held (Some left) came' held' None = ⊥
 Stays behind came held (Some left) came' held' (Some left') =
-    (came' + length left' ≡ came + length left) × (trim behind (held' ++ left') ≡ trim behind (held ++ left))
+    (fetched : List ℕ) × (came' + length left' ≡ came + length left) × (left ≡ fetched ++ left') × (trim behind (held ++ fetched) ≡ trim behind held')
+
+-- what stands ahead is the same, line ends in front left out
+same_ahead : (behind : Bool) (came came' : ℕ) (held held' x y : List ℕ) → Stays behind came held (Some x) came' held' (Some y) → trim behind (held' ++ y) ≡ trim behind (held ++ x)
+same_ahead behind came came' held held' x y stays =
+    sym (trim_pass behind held' y)
+    ∙ ap (λ (t : List ℕ). trim behind (t ++ y)) (sym stays.3)
+    ∙ trim_pass behind (held ++ stays.0) y
+    ∙ ap (trim behind) (append_assoc held stays.0 y ∙ ap (λ (t : List ℕ). held ++ t) (sym stays.2))
+
+-- as many bytes more are held as are fewer left
+grown : (held held' x y : List ℕ) (n : ℕ) → held' ++ y ≡ held ++ x → length held' ≡ length held + n → (fetched : List ℕ) × (held' ≡ held ++ fetched) × (x ≡ fetched ++ y)
+grown [] held' x y n same len = (held', refl, sym same)
+grown (b ∷ held) [] x y n same len = absurd (omega (arith, len))
+grown (b ∷ held) (c ∷ held') x y n same len =
+    let first : c ≡ b = cc in
+    let later : held' ++ y ≡ held ++ x = cc in
+    let on = grown held held' x y n later (omega (arith, len)) in
+    (on.0, ap (λ (k : ℕ). k ∷ held') first ∙ ap (λ (t : List ℕ). b ∷ t) on.1, on.2)
+
+-- the bytes that were fetched, where an answer counts no block
+pub none_taken : (behind : Bool) (came0 came : ℕ) (old held : List ℕ) (left0 left1 : Option (List ℕ)) → Stays behind came0 old left0 came held left1 → Fetches behind 0 old left0 0 held left1
+none_taken behind came0 came old held None left1 stays = tt
+none_taken behind came0 came old held (Some x) None stays = stays
+none_taken behind came0 came old held (Some x) (Some y) stays = (stays.0, [], stays.2, refl, stays.3)
+
+pub none_trimmed : (behind : Bool) (came0 came : ℕ) (old held trimmed : List ℕ) (left0 left1 : Option (List ℕ)) → Stays behind came0 old left0 came held left1 → trimmed ≡ trim behind held → Fetches behind 0 old left0 0 trimmed left1
+none_trimmed behind came0 came old held trimmed None left1 stays is = tt
+none_trimmed behind came0 came old held trimmed (Some x) None stays is = stays
+none_trimmed behind came0 came old held trimmed (Some x) (Some y) stays is =
+    (stays.0, [], stays.2, refl, stays.3 ∙ sym (trim_twice behind held) ∙ ap (trim behind) (sym is))
+
+-- and where it counts one
+pub one_taken : (behind : Bool) (came0 came : ℕ) (old held trimmed block later : List ℕ) (left0 left1 : Option (List ℕ)) → Stays behind came0 old left0 came held left1 → trimmed ≡ trim behind held → trimmed ≡ block ++ later → length block ≡ 200
+    → Fetches behind 0 old left0 1 later left1
+one_taken behind came0 came old held trimmed block later None left1 stays is parts len = tt
+one_taken behind came0 came old held trimmed block later (Some x) None stays is parts len = stays
+one_taken behind came0 came old held trimmed block later (Some x) (Some y) stays is parts len = (stays.0, block ∷ [], stays.2, refl, (later, len, stays.3 ∙ sym is ∙ parts, refl))
 
 pub took : (behind : Bool) (limit came0 came : ℕ) (old held trimmed block later : List ℕ) (left0 left1 : Option (List ℕ)) → Stays behind came0 old left0 came held left1 → trimmed ≡ trim behind held → 2 ≤ length trimmed → trimmed ≡ block ++ later → length block ≡ 200 → came ≤ limit + length later
     → GivesBlock limit behind came0 old left0 came later left1 (Ok (Some block))
@@ -27,15 +64,23 @@ took behind limit came0 came old held trimmed block later None left1 stays is lo
 took behind limit came0 came old held trimmed block later (Some x) None stays is long parts len room = stays
 took behind limit came0 came old held trimmed block later (Some x) (Some y) stays is long parts len room =
     let long' : 2 ≤ length (trim behind held) = rw (← is) long in
-    (stays.0, (len, sym stays.1 ∙ trim_front behind held y long' ∙ ap (λ (t : List ℕ). t ++ y) (sym is ∙ parts) ∙ append_assoc block later y, omega (arith, stays.0, length-append later y)))
+    (stays.1, (len, sym (same_ahead behind came0 came old held x y stays) ∙ trim_front behind held y long' ∙ ap (λ (t : List ℕ). t ++ y) (sym is ∙ parts) ∙ append_assoc block later y, omega (arith, stays.1, length-append later y)))
 
 pub stays_on : (behind : Bool) (came0 came : ℕ) (old held trimmed new : List ℕ) (left0 left1 left2 : Option (List ℕ)) (n : ℕ) → Stays behind came0 old left0 came held left1 → trimmed ≡ trim behind held → SameAhead trimmed left1 new left2 → length new ≡ length trimmed + n → Stays behind came0 old left0 (came + n) new left2
 stays_on behind came0 came old held trimmed new None left1 left2 n stays is same len = tt
 stays_on behind came0 came old held trimmed new (Some x) None left2 n stays is same len = absurd stays
 stays_on behind came0 came old held trimmed new (Some x) (Some z) None n stays is same len = same
 stays_on behind came0 came old held trimmed new (Some x) (Some z) (Some y) n stays is same len =
-    let lens : length new + length y ≡ length trimmed + length z = sym (length-append new y) ∙ ap length same ∙ length-append trimmed z in
-    (omega (arith, lens, len, stays.0), ap (trim behind) (same ∙ ap (λ (t : List ℕ). t ++ z) is) ∙ trim_pass behind held z ∙ stays.1)
+    let more = grown trimmed new z y n same len in
+    let lens : length new + length y ≡ length trimmed + length z = sym (length-append new y) ∙ ap length same ∙ length-append trimmed z in (
+      stays.0 ++ more.0,
+      omega (arith, lens, len, stays.1),
+      stays.2 ∙ ap (λ (t : List ℕ). stays.0 ++ t) more.2 ∙ sym (append_assoc stays.0 more.0 y),
+      ap (trim behind) (sym (append_assoc old stays.0 more.0))
+          ∙ sym (trim_pass behind (old ++ stays.0) more.0)
+          ∙ ap (λ (t : List ℕ). trim behind (t ++ more.0)) (stays.3 ∙ sym is)
+          ∙ ap (trim behind) (sym more.1),
+    )
 
 -- at the end of a reader all that is ahead is held
 abbrev pub AllHeld : ℕ → Bool → ℕ → List ℕ → Option (List ℕ) → ℕ → List ℕ → Option (List ℕ) → Type 0
@@ -51,7 +96,7 @@ all_held behind limit came0 came old held trimmed new (Some x) left1 None stays 
 all_held behind limit came0 came old held trimmed new (Some x) left1 (Some y) stays is same end' kept =
     let z : came + 0 ≡ came = omega arith in
     let on = stays_on behind came0 came old held trimmed new (Some x) left1 (Some y) 0 stays is same (omega (arith, ap length kept)) in
-    (omega (arith, on.0, z), sym on.1 ∙ ap (λ (t : List ℕ). trim behind (new ++ t)) end' ∙ ap (trim behind) (append-nil new ∙ kept ∙ is) ∙ trim_twice behind held ∙ sym is ∙ sym kept, end')
+    (omega (arith, on.1, z), sym (same_ahead behind came0 (came + 0) old new x y on) ∙ ap (λ (t : List ℕ). trim behind (new ++ t)) end' ∙ ap (trim behind) (append-nil new ∙ kept ∙ is) ∙ trim_twice behind held ∙ sym is ∙ sym kept, end')
 
 pub ends_empty : (behind : Bool) (limit came0 came : ℕ) (old new : List ℕ) (left0 left2 : Option (List ℕ)) → AllHeld limit behind came0 old left0 came new left2 → length new ≡ 0 → came ≤ limit → GivesBlock limit behind came0 old left0 came new left2 (Ok None)
 ends_empty behind limit came0 came old new None left2 all empty within = tt
@@ -70,15 +115,15 @@ pub never_ends : (behind : Bool) (limit came0 came : ℕ) (old held trimmed : Li
 never_ends behind limit came0 came old held trimmed None left1 stays is few over = tt
 never_ends behind limit came0 came old held trimmed (Some x) None stays is few over = stays
 never_ends behind limit came0 came old held trimmed (Some x) (Some y) stays is few over =
-    let all : trim behind (old ++ x) ≡ trim behind (trimmed ++ y) = sym stays.1 ∙ sym (trim_pass behind held y) ∙ ap (λ (t : List ℕ). trim behind (t ++ y)) (sym is) in
-    (stays.0, (omega (arith, stays.0), omega (arith, ap length all, trim_less behind (trimmed ++ y), length-append trimmed y, stays.0)))
+    let all : trim behind (old ++ x) ≡ trim behind (trimmed ++ y) = sym (same_ahead behind came0 came old held x y stays) ∙ sym (trim_pass behind held y) ∙ ap (λ (t : List ℕ). trim behind (t ++ y)) (sym is) in
+    (stays.1, (omega (arith, stays.1), omega (arith, ap length all, trim_less behind (trimmed ++ y), length-append trimmed y, stays.1)))
 
 pub faulted : (behind : Bool) (limit came0 came : ℕ) (old held trimmed new : List ℕ) (left0 left1 left2 : Option (List ℕ)) → Stays behind came0 old left0 came held left1 → trimmed ≡ trim behind held → SameAhead trimmed left1 new left2 → length new ≡ length trimmed → GivesBlock limit behind came0 old left0 came new left2 (Err ReadFault)
 faulted behind limit came0 came old held trimmed new None left1 left2 stays is same len = tt
 faulted behind limit came0 came old held trimmed new (Some x) left1 None stays is same len = stays_on behind came0 came old held trimmed new (Some x) left1 None 0 stays is same (omega (arith, len))
 faulted behind limit came0 came old held trimmed new (Some x) left1 (Some y) stays is same len =
     let on = stays_on behind came0 came old held trimmed new (Some x) left1 (Some y) 0 stays is same (omega (arith, len)) in
-    (omega (arith, on.0), tt)
+    (omega (arith, on.1), tt)
 
 -- ---- counts
 
@@ -113,6 +158,57 @@ counts_twice None None None r0 r1 r2 came0 came1 came2 h k = omega (arith, h, k)
 
 pub some_before : (n : ℕ) → nat_lt 0 (n + 1) ≡ true
 some_before n = grind (arith, nat_tests)
+
+-- what holds of bytes holds with more behind them
+takes_more : (behind : Bool) (bytes more : List ℕ) (blocks : List (List ℕ)) (held : List ℕ) → Takes behind bytes blocks held → Takes behind (bytes ++ more) blocks (held ++ more)
+takes_more behind bytes more [] held t = sym (trim_pass behind bytes more) ∙ ap (λ (x : List ℕ). trim behind (x ++ more)) t ∙ trim_pass behind held more
+takes_more behind bytes more (b ∷ bs) held t =
+    let long : 2 ≤ length (trim behind bytes) = omega (arith, ap length t.2, length-append b t.0, t.1) in
+    (t.0 ++ more, t.1, trim_front behind bytes more long ∙ ap (λ (x : List ℕ). x ++ more) t.2 ∙ append_assoc b t.0 more, takes_more true t.0 more bs held t.3)
+
+takes_none : (behind : Bool) (bytes : List ℕ) (later : List (List ℕ)) (held held' : List ℕ) → trim behind bytes ≡ trim behind held → Takes behind held later held' → Takes behind bytes later held'
+takes_none behind bytes [] held held' same t = same ∙ t
+takes_none behind bytes (b ∷ bs) held held' same t = (t.0, t.1, same ∙ t.2, t.3)
+
+-- blocks and then more blocks, where records were counted
+takes_on : (n : ℕ) (bytes : List ℕ) (blocks later : List (List ℕ)) (held held' : List ℕ) → Takes (nat_lt 0 n) bytes blocks held → Takes (nat_lt 0 (n + length blocks)) held later held' → Takes (nat_lt 0 n) bytes (blocks ++ later) held'
+takes_on n bytes [] later held held' a b =
+    let none : n + 0 ≡ n = omega arith in
+    takes_none (nat_lt 0 n) bytes later held held' a (subst (λ (k : ℕ). Takes (nat_lt 0 k) held later held') none b)
+takes_on n bytes (x ∷ xs) later held held' a b =
+    let next : n + length (x ∷ xs) ≡ n + 1 + length xs = omega arith in (
+      a.0,
+      a.1,
+      a.2,
+      subst (λ (t : Bool). Takes t a.0 (xs ++ later) held') (some_before n)
+          (takes_on (n + 1) a.0 xs later held held' (subst (λ (t : Bool). Takes t a.0 xs held) (sym (some_before n)) a.3) (subst (λ (k : ℕ). Takes (nat_lt 0 k) held later held') next b)),
+    )
+
+-- nothing was fetched yet
+pub fetches_first : (behind : Bool) (n : ℕ) (held : List ℕ) (l : Option (List ℕ)) → Fetches behind n held l n held l
+fetches_first behind n held None = tt
+fetches_first behind n held (Some x) = ([], [], refl, omega arith, ap (trim behind) (append-nil held))
+
+-- what was fetched in two goes
+pub fetches_on : (n n1 n2 m m1 : ℕ) (held held1 held2 : List ℕ) (l l1 l2 : Option (List ℕ)) → Fetches (nat_lt 0 n) n held l n1 held1 l1 → Fetches (nat_lt 0 n1) m held1 l1 m1 held2 l2 → n2 + m ≡ n1 + m1 → Fetches (nat_lt 0 n) n held l n2 held2 l2
+fetches_on n n1 n2 m m1 held held1 held2 None l1 l2 a b e = tt
+fetches_on n n1 n2 m m1 held held1 held2 (Some x) None l2 a b e = absurd a
+fetches_on n n1 n2 m m1 held held1 held2 (Some x) (Some y) None a b e = b
+fetches_on n n1 n2 m m1 held held1 held2 (Some x) (Some y) (Some z) a b e = (
+  a.0 ++ b.0,
+  a.1 ++ b.1,
+  a.2 ∙ ap (λ (t : List ℕ). a.0 ++ t) b.2 ∙ sym (append_assoc a.0 b.0 z),
+  omega (arith, a.3, b.3, e, length-append a.1 b.1),
+  subst (λ (t : List ℕ). Takes (nat_lt 0 n) t (a.1 ++ b.1) held2) (append_assoc held a.0 b.0)
+      (takes_on n ((held ++ a.0) ++ b.0) a.1 b.1 (held1 ++ b.0) held2 (takes_more (nat_lt 0 n) (held ++ a.0) b.0 a.1 held1 a.4) (subst (λ (k : ℕ). Takes (nat_lt 0 k) (held1 ++ b.0) b.1 held2) a.3 b.4)),
+)
+
+-- Where too few bytes for a block are held, the blocks are all that there are in the bytes that came.
+pub takes_all : (behind : Bool) (bytes : List ℕ) (blocks : List (List ℕ)) (held : List ℕ) → Takes behind bytes blocks held → length held < 200 → (rest : List ℕ) × Frames 0 behind bytes blocks rest
+takes_all behind bytes [] held t few = (trim behind bytes, (refl, omega (arith, ap length t, trim_less behind held, few)))
+takes_all behind bytes (b ∷ bs) held t few =
+    let later = takes_all true t.0 bs held t.3 few in
+    (later.0, (t.0, t.1, t.2, omega arith, later.1))
 
 -- The block in front is the first of the frames, where it lies before the limit.
 pub first_frame : (over : ℕ) (behind : Bool) (bytes block later : List ℕ) (blocks : List (List ℕ)) (rest : List ℕ) → length block ≡ 200 → trim behind bytes ≡ block ++ later → over ≤ length later → Frames over behind bytes blocks rest

@@ -1,5 +1,5 @@
 -- What the steps of framing do with the bytes that are held and those that a reader has left.
-use Rattle.std.specs.Prelude.{ℕ, ◌≡◌, ◌+◌, ◌-◌, ◌%◌, ◌^◌, ◌<◌, ◌≤◌, Bool, List, [], ◌∷◌, ◌++◌, length, nat_lt, Option, Some, None, Result, Ok, Err}
+use Rattle.std.specs.Prelude.{ℕ, ◌≡◌, ◌+◌, ◌-◌, ◌%◌, ◌^◌, ◌<◌, ◌≤◌, Bool, true, List, [], ◌∷◌, ◌++◌, length, nat_lt, Option, Some, None, Result, Ok, Err}
 use Rattle.ssim_records.specs.declared.blocks.Stop.{Stop}
 use Rattle.ssim_records.specs.declared.blocks.Stop.TheVariants.{Short, ReadFault, ReaderNeverEnds}
 use Rattle.ssim_records.specs.Frames.{trim, Frames, others}
@@ -31,6 +31,32 @@ GivesBlock limit behind came held (Some left) came' held' (Some left') result =
 -- what is ahead, where blocks were counted
 abbrev pub Ahead : ℕ → ℕ → ℕ → List ℕ → List ℕ → List (List ℕ) → List ℕ → Type 0
 Ahead limit number came held left blocks rest = Frames (beyond limit came left) (nat_lt 0 number) (held ++ left) blocks rest
+
+-- The bytes are these blocks, line ends behind each, and then those that are held, but for line ends in front of these.
+abbrev pub Takes : Bool → List ℕ → List (List ℕ) → List ℕ → Type 0
+Takes behind bytes [] held = trim behind bytes ≡ trim behind held
+Takes behind bytes (block ∷ blocks) held = (later : List ℕ) × (length block ≡ 200) × (trim behind bytes ≡ block ++ later) × Takes true later blocks held
+
+-- Of the bytes that the reader had left, some were fetched. With what was held before them they are the blocks that were counted since,
+-- and then what is held now.
+abbrev pub Fetches : Bool → ℕ → List ℕ → Option (List ℕ) → ℕ → List ℕ → Option (List ℕ) → Type 0
+Fetches behind number held None number' held' left' = Unit {0}
+Fetches behind number held (Some left) number' held' None = ⊥
+Fetches behind number held (Some left) number' held' (Some left') =
+    (fetched : List ℕ) × (blocks : List (List ℕ)) × (left ≡ fetched ++ left') × (number' ≡ number + length blocks) × Takes behind (held ++ fetched) blocks held'
+
+-- how many blocks an answer counts
+abbrev pub block_count : Result (Option (List ℕ)) Stop → ℕ
+block_count (Ok None) = 0
+block_count (Ok (Some block)) = 1
+block_count (Err stop) = 0
+
+-- a reader that failed left too few bytes for a block
+abbrev pub HoldsFew : List ℕ → Result (Option (List ℕ)) Stop → Type 0
+HoldsFew held (Ok o) = Unit {0}
+HoldsFew held (Err Short) = Unit {0}
+HoldsFew held (Err ReadFault) = length held < 200
+HoldsFew held (Err ReaderNeverEnds) = Unit {0}
 
 -- the answer, of the blocks and the rest that are ahead
 abbrev pub NextOther : ℕ → ℕ → List (List ℕ) → List ℕ → ℕ → (List (List ℕ) → Type 0) → Result (Option (List ℕ)) Stop → Type 0

@@ -13,8 +13,8 @@ use Rattle.ssim_records.specs.Numbers.{is_blank, digits_of, number_of, sequence_
 use Rattle.ssim_records.specs.declared.field.Kind.{Kind}
 use Rattle.ssim_records.specs.declared.field.Kind.TheVariants.{Suffix, AirlineCode, Number, Sequence, Carried, Dates, Date, Days, StationCode, Time, PassengerTime, UtcVariation, Digits, Mode, Code, Title}
 use Rattle.ssim_records.specs.declared.field.Field.{Field}
-use Rattle.ssim_records.specs.declared.time_mode.TimeMode.{TimeMode}
-use Rattle.ssim_records.specs.declared.time_mode.TimeMode.TheVariants.{Utc, Local}
+use Rattle.ssim_values.specs.declared.time_mode.TimeMode.{TimeMode}
+use Rattle.ssim_values.specs.declared.time_mode.TimeMode.TheVariants.{Utc, Local}
 use Rattle.ssim_records.specs.declared.end_code.EndCode.{EndCode}
 use Rattle.ssim_records.specs.declared.end_code.EndCode.TheVariants.{Continuation, End}
 

@@ -6,7 +6,7 @@ use Rattle.ssim_records.specs.declared.record.Record.{Record}
 use Rattle.ssim_records.specs.declared.records.Ending.{Ending}
 use Rattle.ssim_records.specs.declared.records.Ending.TheVariants.{End, Refused}
 use Rattle.ssim_records.specs.Frames.{Frames, others}
-use Rattle.ssim_records.specs.Blocks.{beyond}
+use Rattle.ssim_records.specs.Blocks.{Fetches, beyond}
 use Rattle.ssim_records.specs.Record.{Spells, fault_of}
 
 -- a reading: how many bytes may come, how many came, how many records were counted, which bytes are held, and how it
@@ -61,6 +61,20 @@ GivesNext old (Some left) new (Some left') result =
     (new.came + length left' ≡ old.came + length left)
     × ((blocks : List (List ℕ)) → (rest : List ℕ) → IsAhead old left blocks rest
     → Answers old left blocks rest new (λ later. IsAhead new left' later rest) result)
+
+-- Of the bytes that the reader had left, some were fetched. With those that were held they are the records that were counted since, fill
+-- among them, and then the bytes that are held now.
+abbrev pub FetchesNext : Reading → Option (List ℕ) → Reading → Option (List ℕ) → Type 0
+FetchesNext old left new left' = Fetches (nat_lt 0 old.number) old.number old.held left new.number new.held left'
+
+-- a reader that failed left too few bytes for a record
+abbrev pub HoldsFew : List ℕ → Answer → Type 0
+HoldsFew held (Ok found) = Unit {0}
+HoldsFew held (Err (Short n)) = Unit {0}
+HoldsFew held (Err (BadType n)) = Unit {0}
+HoldsFew held (Err (BadColumn n column)) = Unit {0}
+HoldsFew held (Err (ReadFault n)) = length held < 200
+HoldsFew held (Err (ReaderNeverEnds n)) = Unit {0}
 
 -- a record that is given is counted, and so are its 200 bytes
 abbrev pub Counts : Reading → Reading → Answer → Type 0

@@ -6,7 +6,7 @@ use Rattle.ssim_records.specs.declared.leg_parts.LegStations.{LegStations}
 use Rattle.ssim_records.specs.declared.leg_parts.LegTimes.{LegTimes}
 use Rattle.ssim_records.specs.declared.record.Record.{Record}
 use Rattle.ssim_records.specs.declared.record.Record.TheVariants.{Header, Carrier, Leg, Trailer}
-use Rattle.ssim_records.specs.declared.time_mode.TimeMode.TheVariants.{Utc}
+use Rattle.ssim_values.specs.declared.time_mode.TimeMode.TheVariants.{Utc}
 use Rattle.ssim_records.specs.Columns.{columns}
 use Rattle.ssim_records.specs.Frames.{Frames, others}
 use Rattle.ssim_records.specs.Header.{HeaderFields}

@@ -1,9 +1,9 @@
 //! The blocks of a stream of bytes, one after another.
 
-ghost use Rattle.std.specs.Prelude.{◌≡◌, ◌<◌, ◌≤◌, ◌+◌, ◌*◌, [], length, Ok, Err, IfOk, IfSome, true, false};
+ghost use Rattle.std.specs.Prelude.{◌≡◌, ◌<◌, ◌≤◌, ◌+◌, ◌*◌, [], length, nat_lt, Ok, Err, IfOk, IfSome, true, false};
 ghost use Rattle.ssim_records.specs.declared.blocks.Stop.TheVariants.{ReaderNeverEnds};
 ghost use Rattle.ssim_records.specs.Frames.{is_fill};
-ghost use Rattle.ssim_records.specs.Blocks.{GivesBlock, GivesOther, FailsOnce, CountsOn};
+ghost use Rattle.ssim_records.specs.Blocks.{GivesBlock, GivesOther, FailsOnce, CountsOn, Fetches, HoldsFew, block_count};
 
 use crate::device::Source;
 use crate::window::Window;
@@ -42,6 +42,8 @@ fn next_block<R: Source>(
     ensures few { IfOk result (λ o. IfSome o (λ _. length window.new + 200 + came.old ≤ length window.old + came.new)) }
     ensures block { GivesBlock limit behind came.old window.old (R.left reader.old) came.new window.new (R.left reader.new) result }
     ensures never_ends { result ≡ Err ReaderNeverEnds → (limit < came.new) × (length window.new ≤ 200) }
+    ensures fetched { Fetches behind 0 window.old (R.left reader.old) (block_count result) window.new (R.left reader.new) }
+    ensures few_left { HoldsFew window.new result }
     ensures fault { FailsOnce (R.failures reader.old) (R.failures reader.new) result }
     ensures count { CountsOn (R.left reader.old) (R.left reader.new) (R.came reader.old) (R.came reader.new) came.old came.new }
 {
@@ -91,6 +93,8 @@ pub fn next_other<R: Source>(
     ensures more { IfOk result (λ o. IfSome o (λ _. number.old < number.new)) }
     ensures block { GivesOther limit number.old came.old window.old (R.left reader.old) number.new came.new window.new (R.left reader.new) result }
     ensures never_ends { result ≡ Err ReaderNeverEnds → (limit < came.new) × (length window.new ≤ 200) }
+    ensures fetched { Fetches (nat_lt 0 number.old) number.old window.old (R.left reader.old) number.new window.new (R.left reader.new) }
+    ensures few_left { HoldsFew window.new result }
     ensures fault { FailsOnce (R.failures reader.old) (R.failures reader.new) result }
     ensures count { CountsOn (R.left reader.old) (R.left reader.new) (R.came reader.old) (R.came reader.new) came.old came.new }
 {

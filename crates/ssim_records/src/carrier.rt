@@ -13,8 +13,8 @@ use crate::columns::{
 };
 use crate::field::{Field, Kind, first_fault, three};
 use crate::number::six_digits;
-use crate::time_mode::{TimeMode, time_mode_of, time_mode_text};
-use ssim_values::{Airline, Day};
+use crate::time_mode::{time_mode_of, time_mode_text};
+use ssim_values::{Airline, Day, TimeMode};
 use std::marker::Model;
 
 const TABLE: [Field; 7] = [

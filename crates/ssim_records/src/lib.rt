@@ -68,6 +68,6 @@ pub use record::{Record, read_record, write_record};
 pub use records::Records;
 pub use segment::SegmentRecord;
 pub use segment_tail::SegmentTail;
+pub use ssim_values::TimeMode;
 pub use stream::{Input, Output};
-pub use time_mode::TimeMode;
 pub use trailer::Trailer;

@@ -1,6 +1,6 @@
 //! A record of any type.
 
-ghost use Rattle.std.specs.Prelude.{◌≡◌, ◌<◌, ◌↔◌, ◌∷◌, [], Ok, Some, IfOk, IfErr, IsTrue};
+ghost use Rattle.std.specs.Prelude.{◌≡◌, ◌<◌, ◌↔◌, ◌∷◌, ℕ, [], Ok, Some, IfOk, IfErr, IfNone, IfSome, IsTrue};
 ghost use Rattle.ssim_records.specs.Columns.{columns};
 ghost use Rattle.ssim_records.specs.declared.record.Record.{Record};
 ghost use Rattle.ssim_records.specs.Record.{Spells, IsRecord, written, fault_of, with_serial, serial_of};
@@ -33,79 +33,21 @@ fn kind_of(bytes: &[u8; 200]) -> u8
     bytes[0]
 }
 
-fn header_record(bytes: &[u8; 200], number: u64) -> Result<Record, RecordFault>
-    requires { columns 1 1 bytes.now ≡ 49 ∷ [] }
-    ensures ok { IfOk result (λ r. Spells r bytes.now) }
-    ensures only { (r : Record) → Spells r bytes.now → result ≡ Ok r }
-    ensures err { IfErr result (λ e. fault_of number bytes.now ≡ Some e) }
+// The record of its type, or the first column of the first invalid field; none if there is no such type.
+fn record_of(bytes: &[u8; 200]) -> Result<Option<Record>, usize>
+    ensures ok { IfOk result (λ o. IfSome o (λ r. Spells r bytes.now)) }
+    ensures none { IfOk result (λ o. IfNone o ((number : ℕ) → fault_of number bytes.now ≡ Some (RecordFault.BadType number))) }
+    ensures err { IfErr result (λ column. (number : ℕ) → fault_of number bytes.now ≡ Some (RecordFault.BadColumn number column)) }
 {
-    match read_header(bytes) {
-        Ok(header) => Ok(Record::Header(header)),
-        Err(column) => Err(RecordFault::BadColumn {
-            record: number,
-            column,
-        }),
-    }
-}
-
-fn carrier_record(bytes: &[u8; 200], number: u64) -> Result<Record, RecordFault>
-    requires { columns 1 1 bytes.now ≡ 50 ∷ [] }
-    ensures ok { IfOk result (λ r. Spells r bytes.now) }
-    ensures only { (r : Record) → Spells r bytes.now → result ≡ Ok r }
-    ensures err { IfErr result (λ e. fault_of number bytes.now ≡ Some e) }
-{
-    match read_carrier(bytes) {
-        Ok(carrier) => Ok(Record::Carrier(carrier)),
-        Err(column) => Err(RecordFault::BadColumn {
-            record: number,
-            column,
-        }),
-    }
-}
-
-fn leg_record(bytes: &[u8; 200], number: u64) -> Result<Record, RecordFault>
-    requires { columns 1 1 bytes.now ≡ 51 ∷ [] }
-    ensures ok { IfOk result (λ r. Spells r bytes.now) }
-    ensures only { (r : Record) → Spells r bytes.now → result ≡ Ok r }
-    ensures err { IfErr result (λ e. fault_of number bytes.now ≡ Some e) }
-{
-    match read_leg(bytes) {
-        Ok(leg) => Ok(Record::Leg(leg)),
-        Err(column) => Err(RecordFault::BadColumn {
-            record: number,
-            column,
-        }),
-    }
-}
-
-fn segment_record(bytes: &[u8; 200], number: u64) -> Result<Record, RecordFault>
-    requires { columns 1 1 bytes.now ≡ 52 ∷ [] }
-    ensures ok { IfOk result (λ r. Spells r bytes.now) }
-    ensures only { (r : Record) → Spells r bytes.now → result ≡ Ok r }
-    ensures err { IfErr result (λ e. fault_of number bytes.now ≡ Some e) }
-{
-    match read_segment(bytes) {
-        Ok(segment) => Ok(Record::Segment(segment)),
-        Err(column) => Err(RecordFault::BadColumn {
-            record: number,
-            column,
-        }),
-    }
-}
-
-fn trailer_record(bytes: &[u8; 200], number: u64) -> Result<Record, RecordFault>
-    requires { columns 1 1 bytes.now ≡ 53 ∷ [] }
-    ensures ok { IfOk result (λ r. Spells r bytes.now) }
-    ensures only { (r : Record) → Spells r bytes.now → result ≡ Ok r }
-    ensures err { IfErr result (λ e. fault_of number bytes.now ≡ Some e) }
-{
-    match read_trailer(bytes) {
-        Ok(trailer) => Ok(Record::Trailer(trailer)),
-        Err(column) => Err(RecordFault::BadColumn {
-            record: number,
-            column,
-        }),
-    }
+    let record = match kind_of(bytes) {
+        b'1' => Record::Header(read_header(bytes)?),
+        b'2' => Record::Carrier(read_carrier(bytes)?),
+        b'3' => Record::Leg(read_leg(bytes)?),
+        b'4' => Record::Segment(read_segment(bytes)?),
+        b'5' => Record::Trailer(read_trailer(bytes)?),
+        _ => return Ok(None),
+    };
+    Ok(Some(record))
 }
 
 /// The record that 200 bytes spell, or the fault at this record number.
@@ -114,13 +56,13 @@ pub(crate) fn read_numbered(bytes: &[u8; 200], number: u64) -> Result<Record, Re
     ensures only { (r : Record) → Spells r bytes.now → result ≡ Ok r }
     ensures err { IfErr result (λ e. fault_of number bytes.now ≡ Some e) }
 {
-    match kind_of(bytes) {
-        b'1' => header_record(bytes, number),
-        b'2' => carrier_record(bytes, number),
-        b'3' => leg_record(bytes, number),
-        b'4' => segment_record(bytes, number),
-        b'5' => trailer_record(bytes, number),
-        _ => Err(RecordFault::BadType { record: number }),
+    match record_of(bytes) {
+        Ok(Some(record)) => Ok(record),
+        Ok(None) => Err(RecordFault::BadType { record: number }),
+        Err(column) => Err(RecordFault::BadColumn {
+            record: number,
+            column,
+        }),
     }
 }
 

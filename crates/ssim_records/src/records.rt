@@ -2,7 +2,7 @@
 
 ghost use Rattle.std.specs.Prelude.{◌≡◌, ◌≤◌, ◌<◌, ◌+◌, ◌*◌, [], IfNone, IfSome};
 ghost use Rattle.ssim_records.specs.Blocks.{CountsOn};
-ghost use Rattle.ssim_records.specs.Reading.{Counts, GivesNext, HasNumber, FailsAs, NeverEnds, last_answer, ending_of};
+ghost use Rattle.ssim_records.specs.Reading.{Counts, FailsAs, FetchesNext, GivesNext, HasNumber, HoldsFew, NeverEnds, last_answer, ending_of};
 
 use crate::blocks::{Stop, next_other};
 use crate::device::Source;
@@ -76,6 +76,8 @@ impl Records {
         ensures number { HasNumber self.new.number result }
         ensures counts { Counts self.old self.new result }
         ensures never_ends { NeverEnds self.new result }
+        ensures fetched { FetchesNext self.old (R.left reader.old) self.new (R.left reader.new) }
+        ensures few_left { HoldsFew self.new.held result }
         ensures fault { FailsAs (R.failures reader.old) (R.failures reader.new) result }
         ensures count { CountsOn (R.left reader.old) (R.left reader.new) (R.came reader.old) (R.came reader.new) self.old.came self.new.came }
     {
@@ -114,6 +116,10 @@ impl Records {
         ensures record { IfNone self.old.ended (GivesNext self.old (R.left reader.old) self.new (R.left reader.new) result) }
         ensures number { IfNone self.old.ended (HasNumber self.new.number result) }
         ensures counts { IfNone self.old.ended (Counts self.old self.new result) }
+
+        // The records that were counted, and then the bytes that are held, are those that came: at 13 these are too few for a record.
+        ensures fetched { IfNone self.old.ended (FetchesNext self.old (R.left reader.old) self.new (R.left reader.new)) }
+        ensures few_left { IfNone self.old.ended (HoldsFew self.new.held result) }
 
         // 13 comes if the reader failed, 14 after the limit, and the bytes that came are those of the reader.
         ensures fault { IfNone self.old.ended (FailsAs (R.failures reader.old) (R.failures reader.new) result) }

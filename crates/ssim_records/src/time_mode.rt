@@ -1,19 +1,12 @@
-//! The time mode of a data set, and its column.
+//! The column of a time mode.
 
 ghost use Rattle.std.specs.Prelude.{◌≡◌};
 ghost use Rattle.ssim_records.specs.Columns.{time_mode_of};
 ghost use Rattle.ssim_records.specs.Carrier.{time_mode_text};
 
-/// Whether the times of a data set are UTC or local to their stations.
-#[derive(Clone, Copy, Debug, PartialEq, Eq)]
-pub enum TimeMode {
-    /// `U`.
-    Utc,
-    /// `L`.
-    Local,
-}
+use ssim_values::TimeMode;
 
-/// The mode in a column.
+/// The mode in a column: `U` or `L`.
 #[tactic(auto, unfolding(crate::specs::Columns::time_mode_of))]
 pub fn time_mode_of(text: &[u8]) -> Option<TimeMode>
     ensures { result ≡ time_mode_of text.now }

@@ -19,6 +19,7 @@ pub mod Serials
 pub mod Stands
 pub mod StationLines
 pub mod TableLemmas
+pub mod BlockLemmas
 pub mod Valid
 pub mod SinkLemmas
 pub mod Whole
@@ -28,7 +29,6 @@ pub mod ReadingLemmas
 pub mod FlightLists
 pub mod BaseFrame
 pub mod SavedBases
-pub mod Unflown
 pub mod ReadBackBy
 pub mod ResolveLemmas
 pub mod ResolvedOnce

@@ -1,18 +1,11 @@
 -- Bytes that spell the records of a base are read as this base, unless the reader fails: their blocks are one, and each spells one record.
 use Rattle.std.proofs.Common.{◌≡◌, ◌⊎◌, ℕ, ◌+◌, ◌-◌, ◌≤◌, false, List, [], ◌∷◌, ◌++◌, length, map, Some, None, Ok, inl, inr, refl, sym, ap, subst, ◌∙◌, arith}
-use Rattle.ssim_records.specs.Carrier.{carrier_table}
 use Rattle.ssim_records.specs.Frames.{Frames, FramesAreOne, others}
-use Rattle.ssim_records.specs.Header.{header_table}
-use Rattle.ssim_records.specs.Leg.{leg_table}
-use Rattle.ssim_records.specs.Record.{Spells, fault_of, table_of}
-use Rattle.ssim_records.specs.Segment.{segment_table}
-use Rattle.ssim_records.specs.Trailer.{trailer_table}
+use Rattle.ssim_records.specs.Record.{Spells, fault_of}
 use Rattle.ssim_records.specs.declared.fault.RecordFault.{RecordFault}
 use Rattle.ssim_records.specs.declared.fault.RecordFault.TheVariants.{Short, BadType, BadColumn, ReadFault, ReaderNeverEnds}
 use Rattle.ssim_records.specs.declared.record.Record.{Record}
-use Rattle.ssim_records.specs.declared.record.Record.TheVariants.{Header, Carrier, Leg, Segment, Trailer}
-use Rattle.ssim_records.proofs.AnyRecord.{first_byte, one_record}
-use Rattle.ssim_records.proofs.Rows.{none_fault}
+use Rattle.ssim_records.proofs.AnyRecord.{no_fault, one_record}
 use Rattle.ssim_schedule.specs.Base.{Ending, Done, Broken, Outcome, at_record, data_set, first_refusal, kept, kept_all, notes_of, refusal_at, unless_refused}
 use Rattle.ssim_schedule.specs.ReadBack.{AreRead, EachSpells}
 use Rattle.ssim_schedule.specs.Reading.{AreGiven, Begins, FailedReader, Gives, IsFaulty, IsOfAll, IsOfFirst, IsReadBack, Stops}
@@ -23,21 +16,12 @@ use Rattle.ssim_schedule.proofs.Bases.{at_record-none, from-ok}
 abbrev Numbered : Type 0
 Numbered = ℕ × Record
 
--- a block that spells a record has no fault
-spelt-stands : (n : ℕ) (b : List ℕ) (r : Record) → Spells r b → fault_of n b ≡ None
-unfolding table_of
-spelt-stands n b (Header r) p = rw (first_byte b 49 p.kind, none_fault b header_table p.stands) refl
-spelt-stands n b (Carrier r) p = rw (first_byte b 50 p.kind, none_fault b carrier_table p.stands) refl
-spelt-stands n b (Leg r) p = rw (first_byte b 51 p.kind, none_fault b leg_table p.stands) refl
-spelt-stands n b (Segment r) p = rw (first_byte b 52 p.kind, none_fault b segment_table p.stands) refl
-spelt-stands n b (Trailer r) p = rw (first_byte b 53 p.kind, none_fault b trailer_table p.stands) refl
-
 not-faulty : (left : List (ℕ × List ℕ)) (all : List Numbered) (n : ℕ) (f : RecordFault) → EachSpells left all → IsFaulty left n f → ⊥
 not-faulty [] all n f each faulty = let e = faulty.2 in absurd cc
 not-faulty (b ∷ left) [] n f each faulty = each
 not-faulty (b ∷ left) (r ∷ all) n f each faulty =
     let block : b.1 ≡ faulty.0 = ap (λ bs. head-block bs b.1) faulty.2 in
-    let clash : None ≡ Some f = sym (spelt-stands n faulty.0 r.1 (subst (λ k. Spells r.1 k) block each.1)) ∙ faulty.3 in
+    let clash : None ≡ Some f = sym (no_fault n faulty.0 r.1 (subst (λ k. Spells r.1 k) block each.1)) ∙ faulty.3 in
     absurd cc
   where
     head-block : List (ℕ × List ℕ) → List ℕ → List ℕ

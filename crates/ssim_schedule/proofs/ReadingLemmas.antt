@@ -4,7 +4,7 @@ use Rattle.std.proofs.lemmas.List.{append-nil, reverse-append}
 use Rattle.std.proofs.lemmas.List.Elements.{All-append}
 use Rattle.std.specs.List.{All}
 use Rattle.std.specs.Prelude.{IfNone}
-use Rattle.ssim_records.specs.Blocks.{CountsOn, beyond}
+use Rattle.ssim_records.specs.Blocks.{CountsOn, Fetches, beyond}
 use Rattle.ssim_records.specs.Frames.{Frames, FramesExist, others}
 use Rattle.ssim_records.specs.Reading as reading
 use Rattle.ssim_records.specs.Reading.{Answer, Reading, GivesNext, HasNumber, IsAhead}
@@ -13,10 +13,11 @@ use Rattle.ssim_records.specs.declared.fault.RecordFault.{RecordFault}
 use Rattle.ssim_records.specs.declared.fault.RecordFault.TheVariants.{Short, BadType, BadColumn, ReadFault, ReaderNeverEnds}
 use Rattle.ssim_records.specs.declared.record.Record.{Record}
 use Rattle.ssim_records.specs.declared.records.Ending as records
+use Rattle.ssim_records.proofs.Framing.{takes_all}
 use Rattle.ssim_schedule.specs.Base.{Ending, Done, Broken, Outcome, at_record, check_notes, data_set, first_refusal, kept, kept_all, missing, note_if, notes_of, refusal_at, unless_refused}
 use Rattle.ssim_schedule.specs.Gathering.{IsSoFar, notes_at}
 use Rattle.ssim_schedule.specs.Kept.{IsKept, IsRefused, Stood}
-use Rattle.ssim_schedule.specs.Reading.{AreBlocks, AreGiven, AreGivenOf, Begins, Came, Gives, IsReadOf, NeverEnds, Refuses, Stops}
+use Rattle.ssim_schedule.specs.Reading.{AreBlocks, AreGiven, AreGivenOf, Begins, Came, FailsAfter, Gives, IsReadOf, NeverEnds, Refuses, Stops}
 use Rattle.ssim_schedule.specs.ReadBack.{EachSpells}
 use Rattle.ssim_schedule.specs.declared.fault.BaseFault.{BaseFault}
 use Rattle.ssim_schedule.specs.declared.fault.BaseFault.TheVariants as fault
@@ -303,6 +304,26 @@ pub never-refused : (limit : ℕ) (CameFrom : ℕ → Type 0) (n : ℕ) (earlier
 never-refused limit CameFrom n earlier r fault.Memory is = tt
 never-refused limit CameFrom n earlier r (Read f) is = absurd is
 never-refused limit CameFrom n earlier r (Refused m refusal) is = tt
+
+-- ---- which record a reading fails at
+
+-- a reading that failed had as many complete records as were counted
+pub fails-after : (all left : Option (List ℕ)) (number : ℕ) (held : List ℕ) (f : RecordFault) → Fetches false 0 [] all number held left → HasNumber number (Err f) → reading.HoldsFew held (Err f) → FailsAfter all left (Read f)
+fails-after all left number held (Short n) fetched is few = tt
+fails-after all left number held (BadType n) fetched is few = tt
+fails-after all left number held (BadColumn n column) fetched is few = tt
+fails-after None left number held (ReadFault n) fetched is few = tt
+fails-after (Some all) None number held (ReadFault n) fetched is few = fetched
+fails-after (Some all) (Some left) number held (ReadFault n) fetched is few =
+    let framed = takes_all false fetched.0 fetched.1 held fetched.4 few in
+    (fetched.0, fetched.1, framed.0, fetched.2, framed.1, omega (arith, is, fetched.3))
+fails-after all left number held (ReaderNeverEnds n) fetched is few = tt
+
+-- a record is never refused as 13
+pub never-fails : (all left : Option (List ℕ)) (n : ℕ) (earlier : List Record) (r : Record) (e : BaseFault) → IsRefused n earlier r e → FailsAfter all left e
+never-fails all left n earlier r fault.Memory is = tt
+never-fails all left n earlier r (Read f) is = absurd is
+never-fails all left n earlier r (Refused m refusal) is = tt
 
 -- ---- behind the last record
 

@@ -1,36 +1,15 @@
 -- The rows of a station table: a table is cut at LF, and its lines are read one after another up to the first that is no row.
-use Rattle.std.proofs.Common.{◌≡◌, ◌≤◌, ℕ, ◌+◌, Bool, true, false, cond, List, [], ◌∷◌, ◌++◌, Option, Some, None, Result, Ok, Err, inl, inr, refl, sym, ap, subst, ◌∙◌, append_assoc, arith}
-use Rattle.std.specs.Prelude.{◌==◌, nat_le, if◌then◌else◌}
+use Rattle.std.proofs.Common.{◌≡◌, ◌≤◌, ℕ, ◌+◌, Bool, true, false, List, [], ◌∷◌, ◌++◌, Option, Some, None, Result, Ok, Err, inl, inr, refl, sym, ap, subst, ◌∙◌, append_assoc, arith}
+use Rattle.std.specs.Prelude.{nat_le, if◌then◌else◌}
 use Rattle.std.proofs.lemmas.Bool.Decides.{nat_tests}
-use Rattle.std.specs.List.{onto_first}
 use Rattle.ssim_values.specs.Variation.{Offset}
 use Rattle.ssim_text.specs.Bytes.{before, from, word, behind, ◌>>=◌}
 use Rattle.ssim_text.specs.Left.{without_end, numbered, left_from, pieces}
 use Rattle.ssim_text.specs.Lines.{station_in, day_in}
-use Rattle.ssim_text.proofs.LeftLemmas.{after}
+use Rattle.ssim_text.proofs.LeftLemmas.{after, first_piece}
 use Rattle.ssim_schedule.specs.Stations.{Row, SpellsRow, AreRows, IsFirstOther, NamesLine, StopsAs, row_of, row_before, row_then, rows_of, variation_in}
 use Rattle.ssim_schedule.specs.declared.stations.StationFault.{StationFault}
 use Rattle.ssim_schedule.specs.declared.stations.StationFault.TheVariants.{Memory, Stations}
-
--- ---- the first line of a text and the others
-
-one_cut : (b : Bool) (x : ℕ) (xs : List ℕ) → pieces xs ≡ before 10 xs ∷ after (from 10 xs)
-    → cond b ([] ∷ pieces xs) (onto_first x (pieces xs)) ≡ (if b then [] else x ∷ before 10 xs) ∷ after (if b then x ∷ xs else from 10 xs)
-one_cut true x xs h = refl
-one_cut false x xs h = ap (onto_first x) h
-
-pieces_cut : (xs : List ℕ) → pieces xs ≡ before 10 xs ∷ after (from 10 xs)
-pieces_cut [] = refl
-pieces_cut (x ∷ xs) = one_cut (x == 10) x xs (pieces_cut xs)
-
-numbered_split : (n : ℕ) (line : List ℕ) (later : List (ℕ × List ℕ)) → numbered n line later ≡ numbered n line [] ++ later
-numbered_split n [] later = refl
-numbered_split n (b ∷ line) later = refl
-
-first_piece : (n : ℕ) (rest tail : List ℕ) → from 10 rest ≡ tail → left_from n (pieces rest) ≡ numbered n (without_end (before 10 rest)) [] ++ left_from (n + 1) (after tail)
-first_piece n rest tail h =
-    ap (left_from n) (pieces_cut rest) ∙ numbered_split n (without_end (before 10 rest)) (left_from (n + 1) (after (from 10 rest)))
-    ∙ ap (λ (t : List ℕ). numbered n (without_end (before 10 rest)) [] ++ left_from (n + 1) (after t)) h
 
 -- ---- rows of lines that are joined
 

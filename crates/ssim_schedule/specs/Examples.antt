@@ -3,11 +3,13 @@ use Rattle.std.specs.Prelude.{◌≡◌, ℕ, true, false, List, [], ◌∷◌, 
 use Rattle.ssim_values.specs.Flight.{FlightNumber}
 use Rattle.ssim_records.specs.declared.record.Record.{Record}
 use Rattle.ssim_records.specs.declared.record.Record.TheVariants.{Header, Carrier, Leg, Segment, Trailer}
-use Rattle.ssim_records.specs.declared.time_mode.TimeMode.TheVariants.{Utc}
+use Rattle.ssim_values.specs.declared.time_mode.TimeMode.TheVariants.{Utc}
 use Rattle.ssim_records.specs.declared.end_code.EndCode.TheVariants as code
 use Rattle.ssim_schedule.specs.Timetable.{LegValue, itinerary}
 use Rattle.ssim_schedule.specs.Export.{flight_at}
 use Rattle.ssim_schedule.specs.ReadBack.{place_of, section_items}
+use Rattle.ssim_schedule.specs.Blocks.{AreOf, block_of, joined}
+use Rattle.ssim_schedule.specs.declared.flight_table.FlightPeriods.{FlightPeriods}
 use Rattle.ssim_schedule.specs.Base.{Done, first_refusal, notes_of, end_of}
 use Rattle.ssim_schedule.specs.declared.fault.BaseFault.TheVariants.{Refused}
 use Rattle.ssim_schedule.specs.declared.fault.BaseRefusal.TheVariants as refused
@@ -103,3 +105,21 @@ full = refl
 
 empty_section : section_items [] ≡ []
 empty_section = refl
+
+-- ---- the blocks of a schedule
+
+-- LX544 is in the block of the flights 531 to 568, and 9999 with suffix Z in the last of 264
+block_of_a_flight : block_of flight ≡ 14
+block_of_a_flight = refl
+
+last_block : block_of (numbered_flight 9999 90) ≡ 263
+last_block = refl
+
+abbrev entry : ℕ → FlightPeriods
+entry number = record { flight = numbered_flight number 32; periods = record { days = []; cuts = [] } }
+
+three_blocks : joined ((entry 1 ∷ entry 2 ∷ []) ∷ [] ∷ (entry 544 ∷ []) ∷ []) ≡ entry 1 ∷ entry 2 ∷ entry 544 ∷ []
+three_blocks = refl
+
+own_flights : AreOf 0 (entry 1 ∷ entry 2 ∷ [])
+own_flights = (refl, (refl, tt))

@@ -6,6 +6,7 @@ pub mod ItineraryLaws
 pub mod Put
 pub mod ReadBack
 pub mod Schedule
+pub mod Blocks
 pub mod Points
 pub mod Building
 pub mod Waiting

@@ -116,6 +116,23 @@ NeverEnds limit CameFrom (fault.Read (ReadFault number)) = Unit {0}
 NeverEnds limit CameFrom (fault.Read (ReaderNeverEnds number)) = (n : ℕ) × (limit < n) × CameFrom n
 NeverEnds limit CameFrom (fault.Refused number refusal) = Unit {0}
 
+-- the number after the complete records of the bytes that came: all of them but those that the reader has left
+abbrev pub IsAfterComplete : Option (List ℕ) → Option (List ℕ) → ℕ → Type 0
+IsAfterComplete None left number = Unit {0}
+IsAfterComplete (Some all) None number = ⊥
+IsAfterComplete (Some all) (Some left) number =
+    (came : List ℕ) × (blocks : List (List ℕ)) × (rest : List ℕ) × (all ≡ came ++ left) × Frames 0 false came blocks rest × (number ≡ length blocks + 1)
+
+-- 13 has the number after the complete records that came before the reader failed, fill among them
+abbrev pub FailsAfter : Option (List ℕ) → Option (List ℕ) → BaseFault → Type 0
+FailsAfter all left fault.Memory = Unit {0}
+FailsAfter all left (fault.Read (Short number)) = Unit {0}
+FailsAfter all left (fault.Read (BadType number)) = Unit {0}
+FailsAfter all left (fault.Read (BadColumn number column)) = Unit {0}
+FailsAfter all left (fault.Read (ReadFault number)) = IsAfterComplete all left number
+FailsAfter all left (fault.Read (ReaderNeverEnds number)) = Unit {0}
+FailsAfter all left (fault.Refused number refusal) = Unit {0}
+
 -- the refusal is that of the bytes
 abbrev pub Refuses : ℕ → Option (List ℕ) → BaseFault → Type 0
 Refuses limit told fault.Memory = Unit {0}

@@ -4,8 +4,6 @@ use Rattle.ssim_values.specs.Calendar.{HasDayMonth}
 use Rattle.ssim_values.specs.DayMonth.{MonthDay}
 use Rattle.ssim_values.specs.Period.{DayRange}
 use Rattle.ssim_records.specs.Carrier.{CarrierFields}
-use Rattle.ssim_records.specs.declared.time_mode.TimeMode.TheVariants as record_mode
-use Rattle.ssim_records.specs.declared.time_mode.TimeMode.{TimeMode as RecordMode}
 use Rattle.ssim_records.specs.declared.record.Record.{Record}
 use Rattle.ssim_text.specs.Message.{MessageValue}
 use Rattle.ssim_text.specs.declared.action.Sub.{Sub}
@@ -15,8 +13,8 @@ use Rattle.ssim_text.specs.declared.dates.GivenDate.{GivenDate}
 use Rattle.ssim_text.specs.declared.dates.GivenDate.TheVariants.{Full, Yearless}
 use Rattle.ssim_text.specs.declared.dates.GivenEnd.{GivenEnd}
 use Rattle.ssim_text.specs.declared.dates.GivenEnd.TheVariants.{Until, Open}
-use Rattle.ssim_text.specs.declared.kind.TimeMode.{TimeMode}
-use Rattle.ssim_text.specs.declared.kind.TimeMode.TheVariants.{Utc, Local}
+use Rattle.ssim_values.specs.declared.time_mode.TimeMode.{TimeMode}
+use Rattle.ssim_values.specs.declared.time_mode.TimeMode.TheVariants.{Utc, Local}
 use Rattle.ssim_schedule.specs.Base.{end_of}
 use Rattle.ssim_schedule.specs.Export.{Frame}
 use Rattle.ssim_schedule.specs.ReadBack.{HasFrame}
@@ -116,11 +114,11 @@ IsFirstRefused carrier n (sub ∷ subs) fault =
 -- ---- the message
 
 -- the time modes of message and carrier are one
-abbrev pub same_mode : RecordMode → TimeMode → Bool
-same_mode record_mode.Utc Utc = true
-same_mode record_mode.Utc Local = false
-same_mode record_mode.Local Utc = false
-same_mode record_mode.Local Local = true
+abbrev pub same_mode : TimeMode → TimeMode → Bool
+same_mode Utc Utc = true
+same_mode Utc Local = false
+same_mode Local Utc = false
+same_mode Local Local = true
 
 -- the reference and the sub-messages with full dates; a reference is from the day on which the data set was made
 pub record Resolves (carrier : CarrierFields) (message : MessageValue) (text : ResolvedText) : Type 0 where

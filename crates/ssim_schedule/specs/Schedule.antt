@@ -10,10 +10,6 @@ use Rattle.ssim_schedule.specs.declared.flight_table.FlightPeriods.{FlightPeriod
 abbrev pub Table : Type 0
 Table = List FlightPeriods
 
--- the entry of a flight that flies on no day
-abbrev pub unflown : FlightNumber → FlightPeriods
-unflown flight = record { flight = flight; periods = record { days = each_day (λ _. []); cuts = [] } }
-
 -- what a flight's entry says; another answer for a flight that has none
 abbrev pub found : {X : Type 0} → (FlightPeriods → X) → X → Table → FlightNumber → X
 found field other [] flight = other

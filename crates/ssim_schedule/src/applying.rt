@@ -11,7 +11,8 @@ use crate::acting::Acting;
 use crate::base::Base;
 use crate::divided::act_on_parts;
 use crate::finding::Finding;
-use crate::flight_table::{FlightTable, place};
+use crate::flight_blocks::FlightBlocks;
+use crate::flight_table::place;
 use crate::points::{lines_of, next_point};
 use crate::resolved::Resolved;
 use crate::schedule::Schedule;
@@ -57,7 +58,7 @@ impl Schedule {
     }
 }
 
-impl FlightTable {
+impl FlightBlocks {
     fn act(
         &mut self,
         rows: &[StationRow],

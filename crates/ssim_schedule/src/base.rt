@@ -7,7 +7,7 @@ ghost use Rattle.ssim_schedule.specs.BaseSeen.{AreFlights};
 ghost use Rattle.ssim_schedule.specs.Building.{IsClosed};
 ghost use Rattle.ssim_schedule.specs.Export.{Frame};
 ghost use Rattle.ssim_schedule.specs.ReadBack.{AreInOrder, CanExport, HasFrame};
-ghost use Rattle.ssim_schedule.specs.Reading.{Answers, Came, FailsAs, IsReadOf, NeverEnds};
+ghost use Rattle.ssim_schedule.specs.Reading.{Answers, Came, FailsAfter, FailsAs, IsReadOf, NeverEnds};
 ghost use Rattle.ssim_schedule.specs.SavedBase.{IsBaseRecords};
 ghost use Rattle.ssim_schedule.specs.Timetable.{days_of};
 
@@ -57,7 +57,7 @@ impl Base {
 
     /// Reads a data set, record by record, and keeps the station table with it. At most `limit` bytes and one more are fetched.
     ///
-    /// The error names the first invalid record by its number, counted from 1 with fill. For one record the order is 13 `ReadFault`,
+    /// The error names the first invalid record by its number, counted from 1 with fill; 13 names the one after the last that came whole. For one record the order is 13 `ReadFault`,
     /// 14 `ReaderNeverEnds`, 10 `Short`, 11 `BadType`, 12 `BadColumn`; 30 `NoHeader`, 31 `NoCarrier` or 11 for its place; then
     /// 33 `OtherAirline`, 36 `Overflow`, 37 `Frequency`, 12 at column 22 for an open end before the start, 34 `Overlap`, 35 `Segment`,
     /// 38 `Continuation`. If a record is missing at the end, 30, 31 or 32 `NoTrailer` has the number after the last.
@@ -71,6 +71,7 @@ impl Base {
         ensures rows { IfOk result (λ read. read.base.rows ≡ stations) }
         ensures no_failure { IfOk result (λ _. R.failures reader.new ≡ R.failures reader.old) }
         ensures failure { IfErr result (λ e. FailsAs (R.failures reader.old) (R.failures reader.new) e) }
+        ensures fails_after { IfErr result (λ e. FailsAfter (R.left reader.old) (R.left reader.new) e) }
         ensures never_ends { IfErr result (λ e. NeverEnds limit (Came (R.left reader.old) (R.left reader.new) (R.came reader.old) (R.came reader.new)) e) }
     {
         let (gathering, number) = gather(alloc, reader, limit)?;
@@ -88,6 +89,7 @@ impl Base {
         ensures read { (limit : ℕ) (told : Option (List ℕ)) → HasRead limit told gathering number → Answers result (IsReadOf limit told) }
         ensures rows { IfOk result (λ read. read.base.rows ≡ stations) }
         ensures failure { (n : ℕ) → IfErr result (λ e. FailsAs n n e) }
+        ensures fails_after { (all left : Option (List ℕ)) → IfErr result (λ e. FailsAfter all left e) }
         ensures never_ends { (limit old new : ℕ) (left others : Option (List ℕ)) → IfErr result (λ e. NeverEnds limit (Came left others old new) e) }
     {
         let Gathering {

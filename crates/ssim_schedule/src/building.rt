@@ -5,14 +5,12 @@ ghost use Rattle.std.specs.List.{All};
 ghost use Rattle.ssim_values.specs.Flight.{FlightNumber, IsFlight};
 ghost use Rattle.ssim_records.specs.declared.record.Record.{Record};
 ghost use Rattle.ssim_schedule.specs.Building.{IsClosed};
-ghost use Rattle.ssim_periods.specs.Days.{each_day};
 ghost use Rattle.ssim_schedule.specs.Points.{AreAtPoints};
-ghost use Rattle.ssim_schedule.specs.ReadBack.{Rise};
 ghost use Rattle.ssim_schedule.specs.Schedule.{cuts_in, days_in};
 ghost use Rattle.ssim_schedule.specs.Timetable.{days_of};
 
 use crate::base::Base;
-use crate::flight_table::FlightTable;
+use crate::flight_blocks::FlightBlocks;
 use crate::leg::PlacedLeg;
 use crate::put::Put;
 use crate::schedule::Schedule;
@@ -27,7 +25,7 @@ const FEW: usize = 256;
 /// The timetable of some records at the end of a base, and the tails whose leg record is not among them.
 #[derive(Drop)]
 pub(crate) struct Building {
-    pub table: FlightTable,
+    pub table: FlightBlocks,
     waiting: Waiting,
     /// The flight of the latest leg record.
     latest: Option<Flight>,
@@ -42,20 +40,19 @@ impl Schedule {
         // A cut is the first day of a leg record of the flight, or the day after its last.
         ensures cuts { IfOk result (λ s. (g : FlightNumber) → IsFlight g → AreAtPoints (cuts_in s g) g base.now.records) }
     {
-        let mut table = timetable(base.allocator(), base.records(), base.flights())?;
+        let mut table = timetable(base.allocator(), base.records())?;
         table.share_where(base.flights(), FEW)?;
         Ok(Schedule { table })
     }
 }
 
-/// The timetable of records, given the flights of their leg records.
-fn timetable(alloc: Global, records: &[Record], flights: &[Flight]) -> Result<FlightTable, Memory>
+/// The timetable of records.
+fn timetable(alloc: Global, records: &[Record]) -> Result<FlightBlocks, Memory>
     requires closed { All IsClosed records.now }
-    requires rising { Rise 0 flights.now }
     ensures days { IfOk result (λ s. (g : FlightNumber) → IsFlight g → days_in s g ≡ days_of records.now g) }
     ensures cuts { IfOk result (λ s. (g : FlightNumber) → IsFlight g → AreAtPoints (cuts_in s g) g records.now) }
 {
-    let mut building = Building::new(alloc, FlightTable::of_flights(alloc, flights)?);
+    let mut building = Building::new(alloc)?;
     let mut place = records.len();
     while place > 0 {
         place -= 1;
@@ -70,18 +67,16 @@ fn timetable(alloc: Global, records: &[Record], flights: &[Flight]) -> Result<Fl
 impl Building {
     ghost use Rattle.ssim_schedule.specs.Built.{IsBuilt, TakesLeg, TakesSegment};
 
-    /// The timetable of no records. The table has the entries of the flights that are to come.
-    pub(crate) fn new(alloc: Global, table: FlightTable) -> Building
-        requires days { (g : FlightNumber) → days_in table g ≡ each_day (λ _. []) }
-        requires cuts { (g : FlightNumber) → cuts_in table g ≡ [] }
-        ensures { IsBuilt result [] }
+    /// The timetable of no records.
+    pub(crate) fn new(alloc: Global) -> Result<Building, Memory>
+        ensures { IfOk result (λ building. IsBuilt building []) }
     {
-        Building {
-            table,
+        Ok(Building {
+            table: FlightBlocks::new(alloc)?,
             waiting: Waiting::new(alloc),
             latest: None,
             alloc,
-        }
+        })
     }
 
     /// Adds a record before the others.

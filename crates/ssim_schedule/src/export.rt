@@ -6,14 +6,14 @@ ghost use Rattle.ssim_schedule.specs.Plan.{ReadsBackBase, Refuses, RefusesBase, 
 ghost use Rattle.ssim_schedule.specs.ReadBack.{CanReadBack, IsTimetable};
 ghost use Rattle.ssim_schedule.specs.Schedule.{days_in};
 
-mod block;
+pub mod block;
 mod lines;
 mod plan;
 
 use crate::base::Base;
 use crate::export::lines::put_export;
 use crate::export::plan::{divide, measure};
-use crate::flight_table::FlightTable;
+use crate::flight_blocks::FlightBlocks;
 use crate::laws::export_bytes_read_back;
 use crate::schedule::Schedule;
 use ssim_records::{Carrier, Header, Sink, Trailer};
@@ -126,7 +126,7 @@ impl Schedule {
 
 /// Writes the canonical export of a timetable between a header, a carrier and a trailer.
 fn export_frame<W: Sink>(
-    table: &FlightTable,
+    table: &FlightBlocks,
     header: &Header,
     carrier: &Carrier,
     trailer: &Trailer,
@@ -140,7 +140,7 @@ fn export_frame<W: Sink>(
     // The legs that were written are legs that records may have.
     ensures readable { OnOk result (IsTimetable (days_in table.now) → CanReadBack (days_in table.now)) }
 {
-    let plan = divide(alloc, table.entries())?;
+    let plan = divide(alloc, table.blocks())?;
     measure(&plan)?;
     match put_export(out, header, carrier, trailer, &plan) {
         Ok(()) => Ok(()),

@@ -1,14 +1,14 @@
-//! The periods of each flight, in the order of the flights.
+//! The periods of the flights of one block, in the order of the flights.
 
-ghost use Rattle.std.specs.Prelude.{◌≡◌, ℕ, ◌<◌, ◌≤◌, nat_eq, if◌then◌else◌, List, [], length, true, All, Contains, IfOk, IfErr, OnOk, OnErr, map, slice_index_or};
+ghost use Rattle.std.specs.Prelude.{◌≡◌, ℕ, ◌<◌, ◌≤◌, nat_eq, if◌then◌else◌, List, [], length, true, All, Contains, IfOk, IfErr, OnOk, OnErr, slice_index_or};
 ghost use Rattle.std.specs.List.Sorted.{IsStrictlyIncreasing};
 ghost use Rattle.ssim_values.specs.Calendar.{weekday};
 ghost use Rattle.ssim_values.specs.Flight.{FlightNumber, IsFlight};
 ghost use Rattle.ssim_periods.specs.Calendar.{holds};
-ghost use Rattle.ssim_periods.specs.Days.{AddsOnly, changed_on, counts_on, each_day};
-ghost use Rattle.ssim_schedule.specs.ReadBack.{Rise, place_of};
+ghost use Rattle.ssim_periods.specs.Days.{AddsOnly, changed_on, counts_on};
+ghost use Rattle.ssim_schedule.specs.ReadBack.{place_of};
 ghost use Rattle.ssim_schedule.specs.Timetable.{on_day};
-ghost use Rattle.ssim_schedule.specs.Schedule.{unflown};
+ghost use Rattle.ssim_schedule.specs.Blocks.{IsBlock, block_of};
 
 use crate::itinerary::Itinerary;
 use crate::leg::PlacedLeg;
@@ -25,8 +25,8 @@ pub struct FlightPeriods {
     pub(crate) periods: SharedPeriods,
 }
 
-/// The itineraries of the flights that were named, by number and suffix of the flight. Their legs need not rise by sequence, as
-/// those of a `Schedule` do.
+/// The itineraries of those flights of a block that were named, by number and suffix of the flight. Their legs need not rise by
+/// sequence, as those of a `Schedule` do.
 #[derive(Drop)]
 pub(crate) struct FlightTable {
     flights: Vec<FlightPeriods>,
@@ -54,18 +54,6 @@ impl FlightTable {
             flights: Vec::new(alloc),
             alloc,
         }
-    }
-
-    /// Entries of these flights, none of which flies on any date. With the entries made beforehand, no later one is inserted between others.
-    pub(crate) fn of_flights(alloc: Global, flights: &[Flight]) -> Result<FlightTable, Memory>
-        requires { Rise 0 flights.now }
-        ensures days { IfOk result (λ s. (g : FlightNumber) → days_in s g ≡ each_day (λ _. [])) }
-        ensures cuts { IfOk result (λ s. (g : FlightNumber) → cuts_in s g ≡ []) }
-    {
-        Ok(FlightTable {
-            flights: entries(alloc, flights)?,
-            alloc,
-        })
     }
 
     /// The legs of a flight on a date of origin. The list is empty if the flight does not fly on the date.
@@ -111,6 +99,7 @@ impl FlightTable {
         ensures days { OnOk result ((g : FlightNumber) → days_in self.new g ≡ (if nat_eq (place_of flight) (place_of g) then changed_on (holds period.now) (C.outcome change.now) 0 (days_in self.old g) else days_in self.old g)) }
         ensures cuts { OnOk result ((g : FlightNumber) → AddsOnlyAt flight period.now g (cuts_in self.old g) (cuts_in self.new g)) }
         ensures counts { IfOk result (λ counts. counts ≡ counts_on (holds period.now) (C.class_of change.now) (days_in self.old flight)) }
+        ensures block { (k : ℕ) → IsBlock k self.old → block_of flight ≡ k → IsBlock k self.new }
         ensures err { OnErr result (self.new ≡ self.old) }
     {
         match self.search(flight) {
@@ -132,18 +121,6 @@ impl FlightTable {
         Ok(())
     }
 
-    /// Does the same for those of these flights that have at least `least` cuts.
-    pub(crate) fn share_where(&mut self, flights: &[Flight], least: usize) -> Result<(), Memory>
-        ensures { self.new ≡ self.old }
-    {
-        for flight in flights {
-            if self.cuts(flight).len() >= least {
-                self.share(*flight)?;
-            }
-        }
-        Ok(())
-    }
-
     // `change` for a flight that has no entry yet. Its entry is inserted at `gap`.
     fn change_first<C: Change<Itinerary>>(
         &mut self,
@@ -156,6 +133,7 @@ impl FlightTable {
         ensures days { OnOk result ((g : FlightNumber) → days_in self.new g ≡ (if nat_eq (place_of flight) (place_of g) then changed_on (holds period.now) (C.outcome change.now) 0 (days_in self.old g) else days_in self.old g)) }
         ensures cuts { OnOk result ((g : FlightNumber) → AddsOnlyAt flight period.now g (cuts_in self.old g) (cuts_in self.new g)) }
         ensures counts { IfOk result (λ counts. counts ≡ counts_on (holds period.now) (C.class_of change.now) (days_in self.old flight)) }
+        ensures block { (k : ℕ) → IsBlock k self.old → block_of flight ≡ k → IsBlock k self.new }
         ensures err { OnErr result (self.new ≡ self.old) }
     {
         let mut periods = Periods::new(self.alloc);
@@ -163,11 +141,6 @@ impl FlightTable {
         let periods = SharedPeriods::of(self.alloc, periods)?;
         self.flights.insert(gap, FlightPeriods { flight, periods })?;
         Ok(counts)
-    }
-
-    /// The allocator of its entries.
-    pub(crate) fn allocator(&self) -> Global {
-        self.alloc
     }
 
     /// A copy of the periods of a flight. The copy shares the itineraries.
@@ -185,6 +158,7 @@ impl FlightTable {
     pub(crate) fn put(&mut self, flight: Flight, periods: Periods<Itinerary>) -> Result<(), Memory>
         ensures days { OnOk result ((g : FlightNumber) → days_in self.new g ≡ (if nat_eq (place_of flight) (place_of g) then periods.days else days_in self.old g)) }
         ensures cuts { OnOk result ((g : FlightNumber) → cuts_in self.new g ≡ (if nat_eq (place_of flight) (place_of g) then periods.cuts else cuts_in self.old g)) }
+        ensures block { (k : ℕ) → IsBlock k self.old → block_of flight ≡ k → IsBlock k self.new }
         ensures err { OnErr result (self.new ≡ self.old) }
     {
         let periods = SharedPeriods::of(self.alloc, periods)?;
@@ -216,19 +190,6 @@ impl FlightTable {
         self.flights
             .binary_search_by_key(&place(flight), |f| place(f.flight))
     }
-}
-
-fn entries(alloc: Global, flights: &[Flight]) -> Result<Vec<FlightPeriods>, Memory>
-    ensures { IfOk result (λ entries. entries.items ≡ map unflown flights.now) }
-{
-    let mut entries = Vec::with_capacity(alloc, flights.len())?;
-    for flight in flights {
-        entries.push(FlightPeriods {
-            flight: *flight,
-            periods: SharedPeriods::of(alloc, Periods::new(alloc))?,
-        })?;
-    }
-    Ok(entries)
 }
 
 fn copies(alloc: Global, flights: &[FlightPeriods]) -> Result<Vec<FlightPeriods>, Memory>

@@ -5,9 +5,11 @@
 //!   record. What is unusual but not refused is a [`Note`].
 //! - [`Schedule`]: the itinerary of each flight on each date, which is its [`PlacedLeg`]s in order. `of` makes it from a base, `export`
 //!   writes it as chapter 7 in the one canonical division, or answers an [`ExportFault`].
+//! - [`Block`]: bytes for a sink, filled by [`put_line`] and [`put_bytes`] and emptied by [`flush`], or [`WriteFault`].
 //! - [`resolve`]: resolves a message against a base: its reference with its year, its sub-messages with full dates, or a [`ResolveFault`].
 //! - `Schedule::apply_sub`: a [`Resolved`] sub-message acts on each date of its period by itself; a [`Finding`] counts the dates by
 //!   what they got.
+//! - [`cut`], [`without_end`], [`first_word`]: how bytes are cut into lines, and a line into words.
 //! - [`laws`]: an export reads back to its timetable, byte for byte; saved records read back; a message has one outcome.
 //!
 //! The promise: a data set is read exactly, however its reader cuts the bytes; a schedule has on each date what the records, and then
@@ -23,6 +25,7 @@ mod divided;
 mod export;
 mod fault;
 mod finding;
+mod flight_blocks;
 mod flight_table;
 mod flights;
 mod gathering;
@@ -42,17 +45,20 @@ mod resolved;
 mod resolving;
 mod schedule;
 mod shared_periods;
+mod shared_table;
 mod stations;
 mod taken;
 mod waiting;
 
 pub use base::{Base, BaseRead};
 pub use export::ExportFault;
+pub use export::block::{Block, WriteFault, flush, put_bytes, put_line};
 pub use fault::{BaseFault, BaseRefusal};
 pub use finding::Finding;
 pub use flight_table::FlightPeriods;
 pub use itinerary::Itinerary;
 pub use leg::PlacedLeg;
+pub use line::{cut, first_word, without_end};
 pub use note::Note;
 pub use resolved::{Resolved, ResolvedSub};
 pub use resolving::{ResolveFault, ResolvedText, resolve};

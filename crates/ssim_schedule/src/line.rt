@@ -5,7 +5,7 @@ ghost use Rattle.ssim_text.specs.Bytes.{before, from, drop_blanks, word, behind}
 ghost use Rattle.ssim_text.specs.Left.{is_dropped, without_end};
 
 /// The bytes before the first `mark`, and those from it on.
-pub(crate) fn cut(text: &[u8], mark: u8) -> (&[u8], &[u8])
+pub fn cut(text: &[u8], mark: u8) -> (&[u8], &[u8])
     ensures before { result.0.now ≡ before mark text.now }
     ensures from { result.1.now ≡ from mark text.now }
 {
@@ -27,8 +27,8 @@ fn skip_blanks(text: &[u8]) -> &[u8]
     text
 }
 
-/// The first word, and what stands behind the blanks that follow it.
-pub(crate) fn first_word(line: &[u8]) -> (&[u8], &[u8])
+/// The first word, and the bytes after the blanks that follow it. The word is empty if the line begins with a blank.
+pub fn first_word(line: &[u8]) -> (&[u8], &[u8])
     ensures word { result.0.now ≡ word line.now }
     ensures behind { result.1.now ≡ behind line.now }
 {
@@ -43,7 +43,7 @@ fn is_dropped(byte: u8) -> bool
 }
 
 /// A line without the CR bytes and blanks at its end.
-pub(crate) fn without_end(line: &[u8]) -> &[u8]
+pub fn without_end(line: &[u8]) -> &[u8]
     ensures { result.now ≡ without_end line.now }
 {
     let mut end = 0;

@@ -2,7 +2,7 @@
 
 ghost use Rattle.std.specs.Prelude.{◌≡◌, IfOk, IfErr};
 ghost use Rattle.ssim_schedule.specs.Gathering.{HasRead};
-ghost use Rattle.ssim_schedule.specs.Reading.{Came, FailsAs, NeverEnds, Refuses};
+ghost use Rattle.ssim_schedule.specs.Reading.{Came, FailsAfter, FailsAs, NeverEnds, Refuses};
 
 use crate::fault::BaseFault;
 use crate::gathering::Gathering;
@@ -19,6 +19,7 @@ pub(crate) fn gather<R: Source>(
     ensures err { IfErr result (λ e. Refuses limit (R.left reader.old) e) }
     ensures no_failure { IfOk result (λ _. R.failures reader.new ≡ R.failures reader.old) }
     ensures failure { IfErr result (λ e. FailsAs (R.failures reader.old) (R.failures reader.new) e) }
+    ensures fails_after { IfErr result (λ e. FailsAfter (R.left reader.old) (R.left reader.new) e) }
     ensures never_ends { IfErr result (λ e. NeverEnds limit (Came (R.left reader.old) (R.left reader.new) (R.came reader.old) (R.came reader.new)) e) }
 {
     frames_are_one();

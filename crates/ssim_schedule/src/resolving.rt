@@ -9,7 +9,7 @@ use crate::kept::end_of;
 use crate::resolved::ResolvedSub;
 use ssim_records::Carrier;
 use ssim_text::{Dates, GivenDate, GivenEnd, GivenPeriod, Message, Reference, Sub};
-use ssim_values::{Day, DayMask, Period, next_on_or_after};
+use ssim_values::{Day, DayMask, Period, TimeMode, next_on_or_after};
 use std::alloc::{AllocError, AllocFailed, Global};
 use std::error::Error;
 use std::fmt;
@@ -200,15 +200,10 @@ fn resolve_sub(carrier: &Carrier, number: usize, sub: &Sub) -> Result<ResolvedSu
 }
 
 // Whether data set and message have the same time mode.
-fn same_mode(carrier: ssim_records::TimeMode, message: ssim_text::TimeMode) -> bool
+fn same_mode(carrier: TimeMode, message: TimeMode) -> bool
     ensures { result ≡ same_mode carrier message }
 {
-    match (carrier, message) {
-        (ssim_records::TimeMode::Utc, ssim_text::TimeMode::Utc)
-        | (ssim_records::TimeMode::Local, ssim_text::TimeMode::Local) => true,
-        (ssim_records::TimeMode::Utc, ssim_text::TimeMode::Local)
-        | (ssim_records::TimeMode::Local, ssim_text::TimeMode::Utc) => false,
-    }
+    carrier == message
 }
 
 // The sub-messages with full dates, or the refusal of the first that has none.

@@ -5,7 +5,8 @@ ghost use Rattle.std.specs.List.Sorted.{IsStrictlyIncreasing};
 ghost use Rattle.ssim_values.specs.Calendar.{weekday};
 ghost use Rattle.ssim_schedule.specs.Timetable.{Above, on_day};
 
-use crate::flight_table::{FlightTable, place};
+use crate::flight_blocks::FlightBlocks;
+use crate::flight_table::place;
 use crate::leg::PlacedLeg;
 use ssim_values::{Day, Flight, Memory};
 use std::marker::Model;
@@ -13,7 +14,7 @@ use std::marker::Model;
 /// The itinerary of each flight on each date. On each date the legs of a flight rise by leg sequence.
 #[derive(Drop)]
 pub struct Schedule {
-    pub(crate) table: FlightTable,
+    pub(crate) table: FlightBlocks,
 }
 
 impl Model for Schedule {
@@ -53,8 +54,8 @@ impl Schedule {
         self.table.cuts(flight)
     }
 
-    /// The same itineraries with the same cuts. The copy and the original share the periods of each flight until one of the two
-    /// changes that flight, so a copy costs one pointer for each flight.
+    /// The same itineraries with the same cuts. The copy and the original share the flights in blocks. One of the two that changes a
+    /// flight first gets that flight's block and periods for itself. So a copy costs one pointer for each of 264 blocks.
     pub fn copy(&self) -> Result<Schedule, Memory>
         ensures { IfOk result (λ copy. copy ≡ self.now) }
     {

@@ -6,8 +6,8 @@ use Rattle.std.proofs.lemmas.Grind.{common_steps}
 use Rattle.std.proofs.lemmas.Bool.{false_from_ne_true}
 use Rattle.std.proofs.lemmas.Slice.Eq.{bytes_eq-Decides}
 use Rattle.ssim_text.specs.declared.kind.Kind.{Kind}
-use Rattle.ssim_text.specs.declared.kind.TimeMode.{TimeMode}
-use Rattle.ssim_text.specs.declared.kind.TimeMode.TheVariants.{Utc}
+use Rattle.ssim_values.specs.declared.time_mode.TimeMode.{TimeMode}
+use Rattle.ssim_values.specs.declared.time_mode.TimeMode.TheVariants.{Utc}
 use Rattle.ssim_text.specs.declared.kind.ActionIdentifier.{ActionIdentifier}
 use Rattle.ssim_text.specs.declared.kind.ActionIdentifier.TheVariants as identifier
 use Rattle.ssim_text.specs.declared.reference.GivenReference.{GivenReference}

@@ -6,7 +6,7 @@ use Rattle.std.proofs.lemmas.Grind.{common_steps}
 use Rattle.ssim_values.specs.declared.designator.Designator.{Designator}
 use Rattle.ssim_text.specs.declared.kind.Kind.{Kind}
 use Rattle.ssim_text.specs.declared.kind.Kind.TheVariants.{Ssm, Asm}
-use Rattle.ssim_text.specs.declared.kind.TimeMode.{TimeMode}
+use Rattle.ssim_values.specs.declared.time_mode.TimeMode.{TimeMode}
 use Rattle.ssim_text.specs.declared.kind.ActionIdentifier.{ActionIdentifier}
 use Rattle.ssim_text.specs.declared.reference.GivenReference.{GivenReference}
 use Rattle.ssim_text.specs.declared.dates.Dates.{Dates}

@@ -37,7 +37,7 @@ numbered_split : (n : ℕ) (line : List ℕ) (later : List (ℕ × List ℕ)) �
 numbered_split n [] later = refl
 numbered_split n (b ∷ line) later = refl
 
-first_piece : (n : ℕ) (rest tail : List ℕ) → from 10 rest ≡ tail → left_from n (pieces rest) ≡ numbered n (without_end (before 10 rest)) [] ++ left_from (n + 1) (after tail)
+pub first_piece : (n : ℕ) (rest tail : List ℕ) → from 10 rest ≡ tail → left_from n (pieces rest) ≡ numbered n (without_end (before 10 rest)) [] ++ left_from (n + 1) (after tail)
 first_piece n rest tail h =
     ap (left_from n) (pieces_cut rest) ∙ numbered_split n (without_end (before 10 rest)) (left_from (n + 1) (after (from 10 rest)))
     ∙ ap (λ (t : List ℕ). numbered n (without_end (before 10 rest)) [] ++ left_from (n + 1) (after t)) h

@@ -3,6 +3,7 @@ pub mod Runs
 pub mod Sound
 pub mod Complete
 pub mod Place
+pub mod OneRefusal
 pub mod Writing
 pub mod LeftLemmas
 pub mod DecodeLemmas

@@ -7,8 +7,8 @@ use Rattle.ssim_values.specs.declared.designator.Designator.{Designator}
 use Rattle.ssim_values.specs.Designator.{SpellsDesignator}
 use Rattle.ssim_text.specs.declared.kind.Kind.{Kind}
 use Rattle.ssim_text.specs.declared.kind.Kind.TheVariants.{Ssm, Asm}
-use Rattle.ssim_text.specs.declared.kind.TimeMode.{TimeMode}
-use Rattle.ssim_text.specs.declared.kind.TimeMode.TheVariants.{Utc}
+use Rattle.ssim_values.specs.declared.time_mode.TimeMode.{TimeMode}
+use Rattle.ssim_values.specs.declared.time_mode.TimeMode.TheVariants.{Utc}
 use Rattle.ssim_text.specs.declared.kind.ActionIdentifier.{ActionIdentifier}
 use Rattle.ssim_text.specs.declared.kind.ActionIdentifier.TheVariants as identifier
 use Rattle.ssim_text.specs.declared.reference.GivenReference.{GivenReference}
@@ -49,7 +49,7 @@ use Rattle.ssim_text.proofs.Runs.{none_some, some_same, false_true, reads_on, Go
 use Rattle.ssim_text.proofs.Complete.{complete}
 use Rattle.ssim_text.proofs.Sound.{sound, Holds, reached_holds}
 
-lines_none : (xs : List (List ℕ)) → xs ++ [] ≡ xs
+pub lines_none : (xs : List (List ℕ)) → xs ++ [] ≡ xs
 lines_none xs = simp common_steps
 
 -- whatever text begins with the lines that were read goes on from the state that they lead to
@@ -64,7 +64,7 @@ remains s m lines rest r h =
     record { last = ends.last; on = follow AtStart s ends.last r.parts h.parts lines rest r.spelled r.reached h.spelled ends.reached; finished = ends.finished }
 
 -- nothing is left to read: the state is the last
-at_end : (s t : State) (ps : List Part) → AllZip Spells ps [] → run s ps ≡ Some t → s ≡ t
+pub at_end : (s t : State) (ps : List Part) → AllZip Spells ps [] → run s ps ≡ Some t → s ≡ t
 at_end s t [] h r = some_same s t r
 at_end s t (p ∷ ps) h r = absurd h
 
@@ -280,7 +280,7 @@ starts s lines r =
       spelled = record { shape = h.shape; parts = r.parts ++ w.tail.parts; has_parts = h.has_parts; spelled = spelled_both r.parts w.tail.parts lines w.completion r.spelled w.tail.spelled };
     }
 
-take_drop : (i : ℕ) (xs : List (List ℕ)) → take i xs ++ drop i xs ≡ xs
+pub take_drop : (i : ℕ) (xs : List (List ℕ)) → take i xs ++ drop i xs ≡ xs
 take_drop i xs = simp common_steps
 
 take_whole : (i : ℕ) (xs : List (List ℕ)) → i ≡ length xs → take i xs ≡ xs

@@ -64,6 +64,10 @@ abbrev pub IsRefusal : List ℕ → TextFault → Type 0
 IsRefusal text answer.Memory = Unit {0}
 IsRefusal text (answer.Refused f n) = IsTooLong text f n ⊎ IsNotAscii text f n ⊎ IsMisplaced text f n ⊎ IsWrittenTooLong text f n
 
+-- a text has one fault, at one line
+abbrev pub OneRefusal : Type 0
+OneRefusal = (text : List ℕ) (f g : Fault) (m n : ℕ) → IsRefusal text (answer.Refused f m) → IsRefusal text (answer.Refused g n) → (f ≡ g) × (m ≡ n)
+
 -- what is refused, but for memory, spells no message
 abbrev pub NoMessage : List ℕ → TextFault → Type 0
 NoMessage text answer.Memory = Unit {0}

@@ -4,8 +4,8 @@ use Rattle.std.specs.List.{AllByRecursion, AllZip}
 use Rattle.std.specs.Str.{bytes_eq}
 use Rattle.ssim_text.specs.declared.kind.Kind.{Kind}
 use Rattle.ssim_text.specs.declared.kind.Kind.TheVariants.{Ssm, Asm}
-use Rattle.ssim_text.specs.declared.kind.TimeMode.{TimeMode}
-use Rattle.ssim_text.specs.declared.kind.TimeMode.TheVariants.{Utc}
+use Rattle.ssim_values.specs.declared.time_mode.TimeMode.{TimeMode}
+use Rattle.ssim_values.specs.declared.time_mode.TimeMode.TheVariants.{Utc}
 use Rattle.ssim_text.specs.declared.kind.ActionIdentifier.{ActionIdentifier}
 use Rattle.ssim_text.specs.declared.kind.ActionIdentifier.TheVariants as identifier
 use Rattle.ssim_text.specs.declared.reference.GivenReference.{GivenReference}

@@ -1,7 +1,7 @@
 -- What contracts see of a message.
 use Rattle.std.specs.Prelude.{ℕ, List, [], ◌∷◌, ◌++◌}
 use Rattle.ssim_text.specs.declared.kind.Kind.{Kind}
-use Rattle.ssim_text.specs.declared.kind.TimeMode.{TimeMode}
+use Rattle.ssim_values.specs.declared.time_mode.TimeMode.{TimeMode}
 use Rattle.ssim_text.specs.declared.reference.GivenReference.{GivenReference}
 use Rattle.ssim_text.specs.declared.action.Sub.{Sub}
 

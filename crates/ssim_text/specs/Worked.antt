@@ -3,7 +3,7 @@ use Rattle.std.specs.Prelude.{◌≡◌, ℕ, Bool, true, false, Some, None, Lis
 use Rattle.std.specs.List.{flat_map}
 use Rattle.ssim_text.specs.declared.kind.Kind.{Kind}
 use Rattle.ssim_text.specs.declared.kind.Kind.TheVariants.{Ssm, Asm}
-use Rattle.ssim_text.specs.declared.kind.TimeMode.TheVariants.{Utc, Local}
+use Rattle.ssim_values.specs.declared.time_mode.TimeMode.TheVariants.{Utc, Local}
 use Rattle.ssim_text.specs.declared.reference.GroupCode.TheVariants.{End}
 use Rattle.ssim_text.specs.declared.reference.GivenReference.{GivenReference}
 use Rattle.ssim_text.specs.declared.dates.GivenDate.{GivenDate}

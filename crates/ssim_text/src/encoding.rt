@@ -10,13 +10,13 @@ ghost use Rattle.ssim_text.specs.Lines.{identifier_text, kind_text, mode_text};
 use crate::action::{Action, NewLegs, Sub};
 use crate::dates::{Dates, GivenDate, GivenEnd, GivenPeriod};
 use crate::equipment::Equipment;
-use crate::kind::{Kind, TimeMode};
+use crate::kind::Kind;
 use crate::leg::{LegEnd, LegLine};
 use crate::message::FreeLine;
 use crate::originator::Originator;
 use crate::reference::{GivenReference, GroupCode};
 use crate::segment::SegmentLine;
-use ssim_values::{Clock, Designator, Station};
+use ssim_values::{Clock, Designator, Station, TimeMode};
 use std::alloc::AllocError;
 
 fn digit(n: u32) -> u8

@@ -2,6 +2,7 @@
 ghost use Rattle.std.specs.Prelude.{◌≡◌, IfSome, IfNone, Some};
 ghost use Rattle.ssim_text.specs.Lines.{kind_text, mode_text, identifier_text};
 
+use ssim_values::TimeMode;
 use std::fmt;
 
 /// Whether a message is a Standard Schedules Message (chapter 4) or an Ad hoc Schedules Message (chapter 5). It is
@@ -44,23 +45,15 @@ impl fmt::Display for Kind {
     }
 }
 
-/// The time mode of the hours in a message.
-#[derive(Clone, Copy, Debug, PartialEq, Eq)]
-pub enum TimeMode {
-    Utc,
-    Local,
-}
-
-impl TimeMode {
-    pub(crate) fn parse(line: &[u8]) -> Option<TimeMode>
-        ensures some { IfSome result (λ mode. line.now ≡ mode_text mode) }
-        ensures none { IfNone result ((mode : TimeMode) → ¬ (line.now ≡ mode_text mode)) }
-    {
-        match line {
-            b"UTC" => Some(TimeMode::Utc),
-            b"LT" => Some(TimeMode::Local),
-            _ => None,
-        }
+/// The time mode of a line: `UTC` or `LT`.
+pub(crate) fn mode_of(line: &[u8]) -> Option<TimeMode>
+    ensures some { IfSome result (λ mode. line.now ≡ mode_text mode) }
+    ensures none { IfNone result ((mode : TimeMode) → ¬ (line.now ≡ mode_text mode)) }
+{
+    match line {
+        b"UTC" => Some(TimeMode::Utc),
+        b"LT" => Some(TimeMode::Local),
+        _ => None,
     }
 }
 

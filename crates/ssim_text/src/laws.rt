@@ -1,4 +1,5 @@
 //! Laws of the grammar.
+ghost use Rattle.ssim_text.specs.Decoding.{OneRefusal};
 ghost use Rattle.ssim_text.specs.Grammar.{OneMessage};
 ghost use Rattle.ssim_text.specs.Spelling.{CanonicalReadsBack, EqualWhereWrittenEqual};
 ghost use Rattle.ssim_text.specs.Worked.{WorkedTexts};
@@ -6,6 +7,12 @@ ghost use Rattle.ssim_text.specs.Worked.{WorkedTexts};
 /// No text spells two messages.
 pub fn one_message()
     ensures { OneMessage }
+{}
+
+/// A text that spells no message has one fault, at one line. So all refusals of the text by [`decode`](crate::decode), but for memory, are
+/// equal.
+pub fn one_refusal()
+    ensures { OneRefusal }
 {}
 
 /// The canonical text of a message spells it: what is encoded is decoded to the same message.

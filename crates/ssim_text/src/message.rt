@@ -8,10 +8,10 @@ ghost use Rattle.ssim_text.specs.Spelling.{SpellsMessage};
 
 use crate::action::Sub;
 use crate::encoding::{push_free, push_kind, push_mode, push_originator, push_subs};
-use crate::kind::{Kind, TimeMode};
+use crate::kind::Kind;
 use crate::originator::Originator;
 use crate::reference::GivenReference;
-use ssim_values::Memory;
+use ssim_values::{Memory, TimeMode};
 use std::alloc::{AllocError, Global};
 use std::marker::Model;
 

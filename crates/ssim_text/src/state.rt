@@ -7,13 +7,13 @@ use crate::action::{Action, NewLegs, Sub, dated_flight, flight};
 use crate::dates::{Dates, GivenPeriod};
 use crate::equipment::Equipment;
 use crate::fault::Fault;
-use crate::kind::{ActionIdentifier, Kind, TimeMode};
+use crate::kind::{ActionIdentifier, Kind, mode_of};
 use crate::leg::{LegLine, Legs, flies};
 use crate::message::Draft;
 use crate::originator::Originator;
 use crate::reference::GivenReference;
 use crate::segment::{SegmentLine, Segments};
-use ssim_values::Designator;
+use ssim_values::{Designator, TimeMode};
 use std::alloc::{AllocError, Global};
 
 /// Why reading stops.
@@ -311,7 +311,7 @@ impl State {
         ensures ok { IfOk result (λ next. Takes (State.AtMode originator kind) line.now next) }
         ensures err { IfErr result (λ stop. StopsAt (State.AtMode originator kind) line.now stop) }
     {
-        match TimeMode::parse(line) {
+        match mode_of(line) {
             Some(mode) => Ok(State::AtReference(originator, kind, mode)),
             None => {
                 let read = GivenReference::parse(alloc, line)?;

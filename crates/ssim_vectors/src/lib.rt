@@ -1,6 +1,6 @@
 //! Worked examples of the whole program, and the devices and stores that they run on.
 //!
-//! - [`data`]: data sets, a station table and messages.
+//! - [`data`]: a data set, its records and a station table.
 //! - [`MemoryStore`]: files in memory, which the program's contract can see; [`NoStore`]: a store that fails.
 //! - [`FullWriter`]: a writer that fails after some bytes; [`Pieces`]: a reader that fails after some bytes, or never ends.
 #![tactic(auto)]

@@ -74,9 +74,9 @@ fn command_lines(rt: HostRuntime) -> Result<(), Fail> {
             "unexpected argument '-x' found",
         ),
         (
-            &["ssimdesk", "merge", "a", "b", "c"],
+            &["ssimdesk", "fly", "a", "b", "c"],
             2,
-            "unrecognized subcommand 'merge'",
+            "unrecognized subcommand 'fly'",
         ),
         (&[], 2, "requires a subcommand"),
     ];

@@ -2,29 +2,24 @@
 
 ghost use Rattle.std.specs.Prelude.{◌≤◌, IfOk, length};
 
+use crate::whole_file::{fault_of, write_whole};
 use ssim_program::{Store, StoreFault};
 use std::alloc::Global;
 use std::fs;
 use std::fs::OpenFile;
-use std::io::{Error, ErrorKind, Read};
+use std::io::Read;
 use std::rt::Files;
 
 /// The files of the system. The name `-` is the standard input, and nothing is kept under it.
 #[derive(Drop)]
 pub struct FileStore<'r, R> {
     rt: &'r R,
+    alloc: Global,
 }
 
 impl<'r, R> FileStore<'r, R> {
-    pub fn new(rt: &'r R) -> Self {
-        FileStore { rt }
-    }
-}
-
-fn fault_of(error: &Error) -> StoreFault {
-    match error.kind() {
-        ErrorKind::OutOfMemory => StoreFault::Memory,
-        _ => StoreFault::Fault,
+    pub fn new(rt: &'r R, alloc: Global) -> Self {
+        FileStore { rt, alloc }
     }
 }
 
@@ -72,9 +67,6 @@ impl<R: Files + Input> Store for FileStore<'_, R> {
         if name == "-" {
             return Err(StoreFault::Fault);
         }
-        match fs::write(self.rt, name, bytes) {
-            Ok(()) => Ok(()),
-            Err(error) => Err(fault_of(&error)),
-        }
+        write_whole(self.rt, self.alloc, name, bytes)
     }
 }

@@ -2,6 +2,7 @@
 #![tactic(auto)]
 
 mod files;
+mod whole_file;
 
 use files::FileStore;
 use ssim_program::run;
@@ -43,7 +44,7 @@ fn main(rt: HostRuntime) -> ExitCode {
     let Ok(mut out) = BufWriter::with_capacity(alloc, ROOM, rt.stdout()) else {
         return out_of_memory(&rt);
     };
-    let mut store = FileStore::new(&rt);
+    let mut store = FileStore::new(&rt, alloc);
     let mut err = rt.stderr();
     let status = run(alloc, texts.as_slice(), &mut store, &mut out, &mut err);
     ExitCode::from(status)

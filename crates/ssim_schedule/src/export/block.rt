@@ -8,6 +8,8 @@ ghost use Rattle.ssim_schedule.specs.Export.{line};
 ghost use Rattle.ssim_schedule.specs.Sinks.{CountsFault, TakesFront, TakesUpTo};
 
 use ssim_records::Sink;
+use std::error::Error;
+use std::fmt;
 use std::marker::Model;
 
 /// The size of a block: forty lines.
@@ -16,13 +18,35 @@ const ROOM: usize = 8040;
 /// A record of fill.
 const FILL: [u8; 200] = [b'0'; 200];
 
-/// The sink failed, or took none of the bytes it was given.
-#[derive(Clone, Copy, Debug)]
-pub(crate) struct SinkFailed;
+/// 52: the sink failed, or took none of the bytes it was given. It has taken a prefix of what was to be written. It is displayed as
+/// its name.
+#[derive(Clone, Copy, Debug, PartialEq, Eq)]
+pub struct WriteFault;
 
-/// Bytes for a sink, seen as their list. The buffer is an array, so writing allocates nothing.
+impl WriteFault {
+    /// The number of the fault.
+    pub fn number(self) -> u8
+        ensures { result ≡ 52 }
+    {
+        52
+    }
+}
+
+impl fmt::Display for WriteFault {
+    ghost use Rattle.std.specs.Prelude.{Some, codes};
+
+    ghost output = { λ _. Some (codes "WriteFault") };
+
+    fn fmt<W: fmt::Write>(&self, f: &mut fmt::Formatter<W>) -> fmt::Result {
+        write!(f, "WriteFault")
+    }
+}
+
+impl Error for WriteFault {}
+
+/// Bytes for a sink, seen as their list; at most 8,040. The buffer is an array, so writing allocates nothing.
 #[derive(Drop)]
-pub(crate) struct Block {
+pub struct Block {
     bytes: [u8; ROOM],
     end: usize,
 }
@@ -38,7 +62,8 @@ impl Model for Block {
 }
 
 impl Block {
-    pub(crate) fn new() -> Block
+    /// A block without bytes.
+    pub fn new() -> Block
         ensures { result ≡ [] }
     {
         Block {
@@ -47,10 +72,19 @@ impl Block {
         }
     }
 
-    fn has_room(&self) -> bool
-        ensures { IsTrue result ↔ (length self.now + 201 ≤ 8040) }
+    fn has_room(&self, count: usize) -> bool
+        ensures { IsTrue result ↔ (length self.now + count ≤ 8040) }
     {
-        self.end + 201 <= ROOM
+        count <= ROOM - self.end
+    }
+
+    fn push(&mut self, bytes: &[u8])
+        requires { length self.old + length bytes.now ≤ 8040 }
+        ensures { self.new ≡ self.old ++ bytes.now }
+    {
+        let end = self.end + bytes.len();
+        self.bytes[self.end..end].copy_from_slice(bytes);
+        self.end = end;
     }
 
     fn push_line(&mut self, bytes: &[u8; 200])
@@ -77,7 +111,7 @@ impl Block {
 }
 
 /// Puts all of the bytes into the sink, however many it takes at a time.
-fn put_all<W: Sink>(out: &mut W, bytes: &[u8]) -> Result<(), SinkFailed>
+fn put_all<W: Sink>(out: &mut W, bytes: &[u8]) -> Result<(), WriteFault>
     ensures ok { OnOk result (Appends (W.taken out.old) (W.taken out.new) bytes.now) }
     ensures err { OnErr result (TakesFront bytes.now (W.taken out.old) (W.taken out.new)) }
     ensures failures { CountsFault (W.failures out.old) (W.failures out.new) result }
@@ -86,7 +120,7 @@ fn put_all<W: Sink>(out: &mut W, bytes: &[u8]) -> Result<(), SinkFailed>
     let mut rest = bytes;
     while !rest.is_empty() {
         match out.put(rest) {
-            Ok(0) | Err(_) => return Err(SinkFailed),
+            Ok(0) | Err(_) => return Err(WriteFault),
             Ok(n) => rest = rest.split_at(n).1,
         }
     }
@@ -94,7 +128,7 @@ fn put_all<W: Sink>(out: &mut W, bytes: &[u8]) -> Result<(), SinkFailed>
 }
 
 /// Puts the bytes of the block into the sink, and empties the block.
-pub(crate) fn flush<W: Sink>(out: &mut W, block: &mut Block) -> Result<(), SinkFailed>
+pub fn flush<W: Sink>(out: &mut W, block: &mut Block) -> Result<(), WriteFault>
     ensures ok { OnOk result (Appends (W.taken out.old) (W.taken out.new) block.old) }
     ensures empty { OnOk result (block.new ≡ []) }
     ensures err { OnErr result (TakesFront block.old (W.taken out.old) (W.taken out.new)) }
@@ -107,21 +141,42 @@ pub(crate) fn flush<W: Sink>(out: &mut W, block: &mut Block) -> Result<(), SinkF
 }
 
 /// Appends a record and LF to the block. If the block has no room for them, its bytes are put into the sink first.
-pub(crate) fn put_line<W: Sink>(
+pub fn put_line<W: Sink>(
     out: &mut W,
     block: &mut Block,
     bytes: &[u8; 200],
-) -> Result<(), SinkFailed>
+) -> Result<(), WriteFault>
     ensures ok { OnOk result (TakesUpTo (block.old ++ line bytes.now) block.new (W.taken out.old) (W.taken out.new)) }
     ensures err { OnErr result (TakesFront (block.old ++ line bytes.now) (W.taken out.old) (W.taken out.new)) }
     ensures failures { CountsFault (W.failures out.old) (W.failures out.new) result }
     ensures device { W.device out.new ≡ W.device out.old }
 {
-    if !block.has_room() {
+    if !block.has_room(201) {
         flush(out, block)?;
     }
     block.push_line(bytes);
     Ok(())
+}
+
+/// Appends bytes to the block. If the block has no room for them, its bytes are put into the sink first; bytes that are longer than a
+/// block follow them directly.
+pub fn put_bytes<W: Sink>(out: &mut W, block: &mut Block, bytes: &[u8]) -> Result<(), WriteFault>
+    ensures ok { OnOk result (TakesUpTo (block.old ++ bytes.now) block.new (W.taken out.old) (W.taken out.new)) }
+    ensures err { OnErr result (TakesFront (block.old ++ bytes.now) (W.taken out.old) (W.taken out.new)) }
+    ensures failures { CountsFault (W.failures out.old) (W.failures out.new) result }
+    ensures device { W.device out.new ≡ W.device out.old }
+{
+    if block.has_room(bytes.len()) {
+        block.push(bytes);
+        return Ok(());
+    }
+    flush(out, block)?;
+    if block.has_room(bytes.len()) {
+        block.push(bytes);
+        Ok(())
+    } else {
+        put_all(out, bytes)
+    }
 }
 
 /// Puts `count` records of fill.
@@ -129,7 +184,7 @@ pub(crate) fn put_fill<W: Sink>(
     out: &mut W,
     block: &mut Block,
     count: usize,
-) -> Result<(), SinkFailed>
+) -> Result<(), WriteFault>
     ensures ok { OnOk result (TakesUpTo (block.old ++ flat_map line (replicate count fill)) block.new (W.taken out.old) (W.taken out.new)) }
     ensures err { OnErr result (TakesFront (block.old ++ flat_map line (replicate count fill)) (W.taken out.old) (W.taken out.new)) }
     ensures failures { CountsFault (W.failures out.old) (W.failures out.new) result }

@@ -10,7 +10,7 @@ ghost use Rattle.ssim_schedule.specs.Plan.{HasWritableLegs, HasWritablePieces, f
 ghost use Rattle.ssim_schedule.specs.ReadBack.{IsWritable};
 ghost use Rattle.ssim_schedule.specs.Sinks.{CountsFault, TakesFront, TakesUpTo};
 
-use crate::export::block::{Block, SinkFailed, flush, put_fill, put_line};
+use crate::export::block::{Block, WriteFault, flush, put_fill, put_line};
 use crate::export::plan::FlightPieces;
 use crate::itinerary::Itinerary;
 use crate::leg::PlacedLeg;
@@ -26,7 +26,7 @@ pub(crate) fn put_export<W: Sink>(
     carrier: &Carrier,
     trailer: &Trailer,
     plan: &[FlightPieces],
-) -> Result<(), SinkFailed>
+) -> Result<(), WriteFault>
     requires few { All (λ p. length p.1 ≤ 99) plan.now }
     requires room { 3 + plan_count plan.now < 1000000 }
     ensures ok { OnOk result (Appends (W.taken out.old) (W.taken out.new) (plan_bytes (frame_from header.now carrier.now trailer.now) plan.now)) }
@@ -48,7 +48,7 @@ pub(crate) fn put_export<W: Sink>(
 }
 
 // Puts one record, and fill up to five records.
-fn put_alone<W: Sink>(out: &mut W, block: &mut Block, one: &Record) -> Result<(), SinkFailed>
+fn put_alone<W: Sink>(out: &mut W, block: &mut Block, one: &Record) -> Result<(), WriteFault>
     ensures ok { OnOk result (TakesUpTo (block.old ++ section_bytes (one.now ∷ [])) block.new (W.taken out.old) (W.taken out.new)) }
     ensures err { OnErr result (TakesFront (block.old ++ section_bytes (one.now ∷ [])) (W.taken out.old) (W.taken out.new)) }
     ensures failures { CountsFault (W.failures out.old) (W.failures out.new) result }
@@ -64,7 +64,7 @@ fn put_body<W: Sink>(
     block: &mut Block,
     airline: Airline,
     plan: &[FlightPieces],
-) -> Result<u32, SinkFailed>
+) -> Result<u32, WriteFault>
     requires few { All (λ p. length p.1 ≤ 99) plan.now }
     requires room { 3 + plan_count plan.now ≤ 1000000 }
     ensures next { IfOk result (λ next. next ≡ 3 + plan_count plan.now) }
@@ -92,7 +92,7 @@ fn put_flights<W: Sink>(
     airline: Airline,
     plan: &[FlightPieces],
     serial: u32,
-) -> Result<u32, SinkFailed>
+) -> Result<u32, WriteFault>
     requires few { All (λ p. length p.1 ≤ 99) plan.now }
     requires room { serial + plan_count plan.now ≤ 1000000 }
     ensures next { IfOk result (λ next. next ≡ serial + plan_count plan.now) }
@@ -124,7 +124,7 @@ fn put_pieces<W: Sink>(
     flight: Flight,
     pieces: &[(Period, Itinerary)],
     serial: u32,
-) -> Result<u32, SinkFailed>
+) -> Result<u32, WriteFault>
     requires few { length pieces.now ≤ 99 }
     requires room { serial + pieces_count pieces.now ≤ 1000000 }
     ensures next { IfOk result (λ next. next ≡ serial + pieces_count pieces.now) }
@@ -163,7 +163,7 @@ fn put_legs<W: Sink>(
     period: Period,
     legs: &[PlacedLeg],
     serial: u32,
-) -> Result<u32, SinkFailed>
+) -> Result<u32, WriteFault>
     requires variation { variation < 100 }
     requires room { serial + legs_count legs.now ≤ 1000000 }
     ensures next { IfOk result (λ next. next ≡ serial + legs_count legs.now) }
@@ -191,7 +191,7 @@ fn put_tails<W: Sink>(
     leg: &LegRecord,
     tails: &[SegmentTail],
     serial: u32,
-) -> Result<u32, SinkFailed>
+) -> Result<u32, WriteFault>
     requires columns { length leg.now.columns ≡ 158 }
     requires room { serial + length tails.now ≤ 1000000 }
     ensures next { IfOk result (λ next. next ≡ serial + length tails.now) }

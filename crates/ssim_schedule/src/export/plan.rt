@@ -1,14 +1,16 @@
 //! The plan of an export, made and measured before the first byte is written.
 
-ghost use Rattle.std.specs.Prelude.{◌≡◌, ◌≤◌, ◌<◌, ◌+◌, List, length, None, IfOk, IfErr, IfSome, IfNone, OnOk};
+ghost use Rattle.std.specs.Prelude.{◌≡◌, ◌≤◌, ◌<◌, ◌+◌, ◌++◌, List, length, None, IfOk, IfErr, IfSome, IfNone, OnOk};
 ghost use Rattle.std.specs.List.{All};
 ghost use Rattle.ssim_values.specs.Flight.{IsFlight};
+ghost use Rattle.ssim_schedule.specs.Blocks.{joined};
 ghost use Rattle.ssim_schedule.specs.Plan.{IsRefusedAs, legs_count, pieces_count, plan_of, plan_refusal};
 
 use crate::export::ExportFault;
 use crate::flight_table::{FlightPeriods, place};
 use crate::itinerary::Itinerary;
 use crate::leg::PlacedLeg;
+use crate::shared_table::SharedTable;
 use ssim_values::{Flight, Memory, Period};
 use std::alloc::Global;
 use std::marker::Model;
@@ -42,12 +44,23 @@ impl FlightPieces {
     }
 }
 
-/// The flights with their pieces.
-pub(crate) fn divide(alloc: Global, entries: &[FlightPeriods]) -> Result<Vec<FlightPieces>, Memory>
-    ensures plan { IfOk result (λ plan. plan.items ≡ plan_of entries.now) }
+/// The flights of all blocks with their pieces.
+pub(crate) fn divide(alloc: Global, blocks: &[SharedTable]) -> Result<Vec<FlightPieces>, Memory>
+    ensures plan { IfOk result (λ plan. plan.items ≡ plan_of (joined blocks.now)) }
+    ensures flights { OnOk result (All (λ f. IsFlight f.flight) (joined blocks.now)) }
+{
+    let mut plan = Vec::new(alloc);
+    for block in blocks {
+        divide_block(&mut plan, block.held().entries())?;
+    }
+    Ok(plan)
+}
+
+// Adds the flights of a block with their pieces.
+fn divide_block(plan: &mut Vec<FlightPieces>, entries: &[FlightPeriods]) -> Result<(), Memory>
+    ensures plan { OnOk result (plan.new.items ≡ plan.old.items ++ plan_of entries.now) }
     ensures flights { OnOk result (All (λ f. IsFlight f.flight) entries.now) }
 {
-    let mut plan = Vec::with_capacity(alloc, entries.len())?;
     for entry in entries {
         let _ = place(entry.flight);
         plan.push(FlightPieces {
@@ -55,7 +68,7 @@ pub(crate) fn divide(alloc: Global, entries: &[FlightPeriods]) -> Result<Vec<Fli
             pieces: entry.periods.held().pieces()?,
         })?;
     }
-    Ok(plan)
+    Ok(())
 }
 
 /// Refuses the first flight that has more than 99 pieces, or that makes the number of records more than 999,999.

@@ -2,6 +2,8 @@
 use Rattle.std.proofs.Common.{◌≤◌, OnOk, IfOk, Result, Ok, Err, subst}
 use Rattle.std.specs.Prelude.{IsTrue}
 use Rattle.ssim_values.specs.Flight.{IsFlight, is_suffix}
+use Rattle.ssim_schedule.specs.Schedule.{cuts_in}
+use Rattle.ssim_desk.proofs.Points.{adds_told}
 use Rattle.ssim_desk.proofs.Shown.{found_told, shows_told}
 use Rattle.ssim_desk.proofs.replay.act_one.Goals as goal
 
@@ -32,3 +34,10 @@ returns-clause-found c =
     (λ finding found before shows. found_told c.args.base.now.rows c.args.sub.now.action c.with.result.action.now c.args.dated c.with.result.flight c.with.result.period c.args.schedule.now before finding
     c.with.ensures.action c.with.ensures.flight c.with.ensures.period (exists c) found shows)
     c.apply_sub.ensures.finding
+
+pub returns-clause-cuts : goal.returns-clause-cuts
+returns-clause-cuts c =
+    on_ok c.apply_sub.result
+    (λ cuts g is. adds_told c.args.base.now.rows c.with.result.action.now c.args.dated c.with.result.flight c.with.result.period g (cuts_in c.args.schedule.now g) (cuts_in c.apply_sub.new.self g)
+    c.with.ensures.flight c.with.ensures.period (exists c) is (cuts g))
+    c.apply_sub.ensures.cuts

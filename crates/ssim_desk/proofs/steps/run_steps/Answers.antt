@@ -1,9 +1,9 @@
-use Rattle.std.proofs.Common.{◌≡◌, ◌≤◌, ◌+◌, ◌++◌, ◌∷◌, [], List, length, map, take, ap, subst, sym, ◌∙◌, arith, refl}
+use Rattle.std.proofs.Common.{◌≡◌, ◌+◌, ◌++◌, ◌∷◌, [], All, map, take, subst, sym, ◌∙◌, arith}
 use Rattle.std.proofs.lemmas.Grind.{common_steps}
+use Rattle.std.proofs.lemmas.List.{length-map, take_all}
 use Rattle.ssim_desk.specs.Kept.{state_of}
-use Rattle.ssim_desk.specs.Steps.{IsOwnMerge, Runs}
-use Rattle.ssim_desk.specs.declared.steps.Answer.{Answer}
-use Rattle.ssim_desk.specs.declared.steps.Step.{Step}
+use Rattle.ssim_desk.specs.Steps.{IsInRange, IsOwnMerge, Runs}
+use Rattle.ssim_desk.proofs.OneRun.{desks_agree}
 use Rattle.ssim_desk.proofs.StepLemmas.{one_more}
 use Rattle.ssim_desk.proofs.steps.run_steps.Goals as goal
 
@@ -24,3 +24,13 @@ loop-next-preserved c =
           (one_more (map state_of c.args.desks.now) (map state_of c.loop-next.desks) (map state_of c.run_step-answer.new.desks) (take i steps) us s a c.loop-next.invariant.runs c.run_step-answer.ensures.acts));
       own = λ all. c.run_step-answer.ensures.own (subst IsOwnMerge (sym c.next-item.is) (all i s (omega arith))) ∙ c.loop-next.invariant.own all;
     }
+
+pub returns-clause-agree : goal.returns-clause-agree
+returns-clause-agree c =
+    let start = map state_of c.args.desks.now in
+    let steps = c.args.steps.now in
+    let us = c.loop-next.answers.items in
+    let all : take c.loop-next.next-index steps ≡ steps = take_all c.loop-next.next-index steps c.loop-next-test.false in
+    desks_agree c.any_two_desks_agree.ensures start (map state_of c.loop-next.desks) steps us c.each_is_desk.ensures
+    (subst (λ n. All (IsInRange n) steps) (sym (length-map c.args.desks.now state_of)) c.requires)
+    (subst (λ xs. Runs start xs us (map state_of c.loop-next.desks)) all c.loop-next.invariant.runs)

@@ -1,31 +1,105 @@
 -- The request is the command's.
-use Rattle.std.proofs.Common.{sym, subst, OnErr, OnOk, Result, Ok, Err}
+use Rattle.std.proofs.Common.{List, map, sym, subst, OnErr, OnOk, Result, Ok, Err}
+use Rattle.std.specs.Borrow.{Bor}
+use Rattle.ssim_program.specs.Line.{Text, Take}
 use Rattle.ssim_program.specs.Again.{WritesItself}
-use Rattle.ssim_program.specs.Made.{Leaves}
+use Rattle.ssim_program.specs.Effects.{Leaves}
 use Rattle.ssim_program.specs.Request.{line_of}
 use Rattle.ssim_program.specs.declared.command_line.Request.{Request}
 use Rattle.ssim_program.proofs.program.act.Goals as goal
 
-pub returns-in-Check-clause-refused : goal.returns-in-Check-clause-refused
-returns-in-Check-clause-refused g c =
-    subst (λ (r : Request). OnErr c.check.result (Leaves (line_of r) (g.S.Store.files c.args.store.now) (g.O.Sink.taken c.args.out.now) (g.O.Sink.taken c.check.new.out) (g.O.Sink.failures c.args.out.now) (g.O.Sink.failures c.check.new.out)))
-    (sym c.in-Check.is) c.check.ensures.refused
-
-pub returns-in-Tidy-clause-refused : goal.returns-in-Tidy-clause-refused
-returns-in-Tidy-clause-refused g c =
-    subst (λ (r : Request). OnErr c.tidy.result (Leaves (line_of r) (g.S.Store.files c.args.store.now) (g.O.Sink.taken c.args.out.now) (g.O.Sink.taken c.tidy.new.out) (g.O.Sink.failures c.args.out.now) (g.O.Sink.failures c.tidy.new.out)))
-    (sym c.in-Tidy.is) c.tidy.ensures.refused
-
 nothing_said : {A E : Type 0} (r : Result A E) → OnOk r (Unit {0})
 nothing_said (Ok x) = tt
 nothing_said (Err e) = tt
+
+pub returns-in-Check-clause-refused : goal.returns-in-Check-clause-refused
+returns-in-Check-clause-refused g c =
+    subst (λ (r : Request). OnErr c.check.result (Leaves (line_of r) (g.S.Store.files c.args.store.now) (g.S.Store.files c.check.new.store) (g.O.Sink.taken c.args.out.now) (g.O.Sink.taken c.check.new.out) (g.O.Sink.failures c.args.out.now) (g.O.Sink.failures c.check.new.out)))
+    (sym c.in-Check.is) c.check.ensures.refused
 
 pub returns-in-Check-clause-again : goal.returns-in-Check-clause-again
 returns-in-Check-clause-again g c =
     subst (λ (r : Request). OnOk c.check.result (WritesItself (line_of r) (g.O.Sink.taken c.args.out.now) (g.O.Sink.taken c.check.new.out)))
     (sym c.in-Check.is) (nothing_said c.check.result)
 
+pub returns-in-Tidy-clause-refused : goal.returns-in-Tidy-clause-refused
+returns-in-Tidy-clause-refused g c =
+    subst (λ (r : Request). OnErr c.tidy.result (Leaves (line_of r) (g.S.Store.files c.args.store.now) (g.S.Store.files c.tidy.new.store) (g.O.Sink.taken c.args.out.now) (g.O.Sink.taken c.tidy.new.out) (g.O.Sink.failures c.args.out.now) (g.O.Sink.failures c.tidy.new.out)))
+    (sym c.in-Tidy.is) c.tidy.ensures.refused
+
 pub returns-in-Tidy-clause-again : goal.returns-in-Tidy-clause-again
 returns-in-Tidy-clause-again g c =
     subst (λ (r : Request). OnOk c.tidy.result (WritesItself (line_of r) (g.O.Sink.taken c.args.out.now) (g.O.Sink.taken c.tidy.new.out)))
     (sym c.in-Tidy.is) c.tidy.ensures.again
+
+pub returns-in-Start-clause-refused : goal.returns-in-Start-clause-refused
+returns-in-Start-clause-refused g c =
+    subst (λ (r : Request). OnErr c.start.result (Leaves (line_of r) (g.S.Store.files c.args.store.now) (g.S.Store.files c.start.new.store) (g.O.Sink.taken c.args.out.now) (g.O.Sink.taken c.start.new.out) (g.O.Sink.failures c.args.out.now) (g.O.Sink.failures c.start.new.out)))
+    (sym c.in-Start.is) c.start.ensures.refused
+
+pub returns-in-Start-clause-again : goal.returns-in-Start-clause-again
+returns-in-Start-clause-again g c =
+    subst (λ (r : Request). OnOk c.start.result (WritesItself (line_of r) (g.O.Sink.taken c.args.out.now) (g.O.Sink.taken c.start.new.out)))
+    (sym c.in-Start.is) (nothing_said c.start.result)
+
+pub returns-in-Take-clause-refused : goal.returns-in-Take-clause-refused
+returns-in-Take-clause-refused g c =
+    subst (λ (r : Request). OnErr c.take.result (Leaves (line_of r) (g.S.Store.files c.args.store.now) (g.S.Store.files c.take.new.store) (g.O.Sink.taken c.args.out.now) (g.O.Sink.taken c.take.new.out) (g.O.Sink.failures c.args.out.now) (g.O.Sink.failures c.take.new.out)))
+    (sym c.in-Take.is)
+    (subst (λ (ts : List (Bor Text)). OnErr c.take.result (Leaves (Take c.in-Take.desk.now c.in-Take.name.now (map (λ t. t.now) ts)) (g.S.Store.files c.args.store.now) (g.S.Store.files c.take.new.store) (g.O.Sink.taken c.args.out.now) (g.O.Sink.taken c.take.new.out) (g.O.Sink.failures c.args.out.now) (g.O.Sink.failures c.take.new.out)))
+    c.deref.ensures.value c.take.ensures.refused)
+
+pub returns-in-Take-clause-again : goal.returns-in-Take-clause-again
+returns-in-Take-clause-again g c =
+    subst (λ (r : Request). OnOk c.take.result (WritesItself (line_of r) (g.O.Sink.taken c.args.out.now) (g.O.Sink.taken c.take.new.out)))
+    (sym c.in-Take.is) (nothing_said c.take.result)
+
+pub returns-in-Merge-clause-refused : goal.returns-in-Merge-clause-refused
+returns-in-Merge-clause-refused g c =
+    subst (λ (r : Request). OnErr c.merge.result (Leaves (line_of r) (g.S.Store.files c.args.store.now) (g.S.Store.files c.merge.new.store) (g.O.Sink.taken c.args.out.now) (g.O.Sink.taken c.merge.new.out) (g.O.Sink.failures c.args.out.now) (g.O.Sink.failures c.merge.new.out)))
+    (sym c.in-Merge.is) c.merge.ensures.refused
+
+pub returns-in-Merge-clause-again : goal.returns-in-Merge-clause-again
+returns-in-Merge-clause-again g c =
+    subst (λ (r : Request). OnOk c.merge.result (WritesItself (line_of r) (g.O.Sink.taken c.args.out.now) (g.O.Sink.taken c.merge.new.out)))
+    (sym c.in-Merge.is) (nothing_said c.merge.result)
+
+pub returns-in-Show-clause-refused : goal.returns-in-Show-clause-refused
+returns-in-Show-clause-refused g c =
+    subst (λ (r : Request). OnErr c.show_flight.result (Leaves (line_of r) (g.S.Store.files c.args.store.now) (g.S.Store.files c.show_flight.new.store) (g.O.Sink.taken c.args.out.now) (g.O.Sink.taken c.show_flight.new.out) (g.O.Sink.failures c.args.out.now) (g.O.Sink.failures c.show_flight.new.out)))
+    (sym c.in-Show.is) c.show_flight.ensures.refused
+
+pub returns-in-Show-clause-again : goal.returns-in-Show-clause-again
+returns-in-Show-clause-again g c =
+    subst (λ (r : Request). OnOk c.show_flight.result (WritesItself (line_of r) (g.O.Sink.taken c.args.out.now) (g.O.Sink.taken c.show_flight.new.out)))
+    (sym c.in-Show.is) (nothing_said c.show_flight.result)
+
+pub returns-in-Findings-clause-refused : goal.returns-in-Findings-clause-refused
+returns-in-Findings-clause-refused g c =
+    subst (λ (r : Request). OnErr c.findings.result (Leaves (line_of r) (g.S.Store.files c.args.store.now) (g.S.Store.files c.findings.new.store) (g.O.Sink.taken c.args.out.now) (g.O.Sink.taken c.findings.new.out) (g.O.Sink.failures c.args.out.now) (g.O.Sink.failures c.findings.new.out)))
+    (sym c.in-Findings.is) c.findings.ensures.refused
+
+pub returns-in-Findings-clause-again : goal.returns-in-Findings-clause-again
+returns-in-Findings-clause-again g c =
+    subst (λ (r : Request). OnOk c.findings.result (WritesItself (line_of r) (g.O.Sink.taken c.args.out.now) (g.O.Sink.taken c.findings.new.out)))
+    (sym c.in-Findings.is) (nothing_said c.findings.result)
+
+pub returns-in-Export-clause-refused : goal.returns-in-Export-clause-refused
+returns-in-Export-clause-refused g c =
+    subst (λ (r : Request). OnErr c.export.result (Leaves (line_of r) (g.S.Store.files c.args.store.now) (g.S.Store.files c.export.new.store) (g.O.Sink.taken c.args.out.now) (g.O.Sink.taken c.export.new.out) (g.O.Sink.failures c.args.out.now) (g.O.Sink.failures c.export.new.out)))
+    (sym c.in-Export.is) c.export.ensures.refused
+
+pub returns-in-Export-clause-again : goal.returns-in-Export-clause-again
+returns-in-Export-clause-again g c =
+    subst (λ (r : Request). OnOk c.export.result (WritesItself (line_of r) (g.O.Sink.taken c.args.out.now) (g.O.Sink.taken c.export.new.out)))
+    (sym c.in-Export.is) (nothing_said c.export.result)
+
+pub returns-in-Rehearse-clause-refused : goal.returns-in-Rehearse-clause-refused
+returns-in-Rehearse-clause-refused g c =
+    subst (λ (r : Request). OnErr c.run_script.result (Leaves (line_of r) (g.S.Store.files c.args.store.now) (g.S.Store.files c.run_script.new.store) (g.O.Sink.taken c.args.out.now) (g.O.Sink.taken c.run_script.new.out) (g.O.Sink.failures c.args.out.now) (g.O.Sink.failures c.run_script.new.out)))
+    (sym c.in-Rehearse.is) c.run_script.ensures.refused
+
+pub returns-in-Rehearse-clause-again : goal.returns-in-Rehearse-clause-again
+returns-in-Rehearse-clause-again g c =
+    subst (λ (r : Request). OnOk c.run_script.result (WritesItself (line_of r) (g.O.Sink.taken c.args.out.now) (g.O.Sink.taken c.run_script.new.out)))
+    (sym c.in-Rehearse.is) (nothing_said c.run_script.result)

@@ -11,6 +11,6 @@ returns-clause-quiet g c line spells zero =
 pub returns-clause-refused : goal.returns-clause-refused
 returns-clause-refused g c line spells one = (
   c.run_to-status.new.err.failures,
-  subst (λ (t : Option (List ℕ)). IsRefused line (g.S.Store.files c.args.store.now) (g.O.Write.contents c.args.out.now) (g.O.Write.contents c.run_to-status.new.out) (g.E.Write.contents c.args.err.now) t 0 c.run_to-status.new.err.failures) (search rules)
+  subst (λ (t : Option (List ℕ)). IsRefused line (g.S.Store.files c.args.store.now) (g.S.Store.files c.run_to-status.new.store) (g.O.Write.contents c.args.out.now) (g.O.Write.contents c.run_to-status.new.out) (g.E.Write.contents c.args.err.now) t 0 c.run_to-status.new.err.failures) (search rules)
       (c.run_to-status.ensures.refused line spells one),
 )

@@ -1,6 +1,6 @@
 -- Each exit is a case of what is held once nothing more has to be fetched.
-use Rattle.std.proofs.Common.{◌≡◌, ◌∙◌, length, length-append, Ok, arith, ap, rules}
-use Rattle.ssim_records.proofs.Framing.{took, stays_on, counts_on, never_ends, faulted, all_held, ends_short}
+use Rattle.std.proofs.Common.{◌≡◌, ◌+◌, ◌∙◌, length, length-append, Ok, arith, ap, rules}
+use Rattle.ssim_records.proofs.Framing.{took, stays_on, counts_on, never_ends, none_taken, none_trimmed, one_taken, faulted, all_held, ends_short}
 use Rattle.ssim_records.proofs.blocks.next_block.Goals as goal
 
 pub loop-window-preserved : goal.loop-window-preserved
@@ -31,3 +31,30 @@ returns-in-Ok-eq0-clause-block g c =
     let kept : c.fetch.new.self ≡ c.trim.new.self = c.fetch.ensures.none zero in
     let all = all_held c.args.behind c.args.limit c.args.came.now c.loop-window.came c.args.window.now c.loop-window.window c.trim.new.self c.fetch.new.self _ _ _ c.loop-window.invariant.stays c.trim.ensures.value c.fetch.ensures.ahead (c.fetch.ensures.end zero) kept in
     ends_short c.args.behind c.args.limit c.args.came.now c.loop-window.came c.args.window.now c.fetch.new.self _ _ all (omega arith) (omega (arith, ap length kept, c.needed.ensures.inside)) (omega arith)
+
+-- ---- what was fetched
+
+pub returns-then-len-needed-clause-fetched : goal.returns-then-len-needed-clause-fetched
+returns-then-len-needed-clause-fetched g c =
+    one_taken c.args.behind c.args.came.now c.loop-window.came c.args.window.now c.loop-window.window c.trim.new.self c.take.result c.take.new.self _ _ c.loop-window.invariant.stays c.trim.ensures.value c.take.ensures.parts c.take.ensures.len
+
+pub returns-then-came-limit-clause-fetched : goal.returns-then-came-limit-clause-fetched
+returns-then-came-limit-clause-fetched g c =
+    none_trimmed c.args.behind c.args.came.now c.loop-window.came c.args.window.now c.loop-window.window c.trim.new.self _ _ c.loop-window.invariant.stays c.trim.ensures.value
+
+pub returns-in-Err-clause-fetched : goal.returns-in-Err-clause-fetched
+returns-in-Err-clause-fetched g c =
+    none_taken c.args.behind c.args.came.now (c.loop-window.came + 0) c.args.window.now c.fetch.new.self _ _
+    (stays_on c.args.behind c.args.came.now c.loop-window.came c.args.window.now c.loop-window.window c.trim.new.self c.fetch.new.self _ _ _ 0 c.loop-window.invariant.stays c.trim.ensures.value c.fetch.ensures.ahead (omega (arith, c.in-Err.ensures.err)))
+
+pub returns-then-len-eq0-clause-fetched : goal.returns-then-len-eq0-clause-fetched
+returns-then-len-eq0-clause-fetched g c =
+    let zero : c.fetch.result ≡ Ok 0 = search rules in
+    none_taken c.args.behind c.args.came.now (c.loop-window.came + 0) c.args.window.now c.fetch.new.self _ _
+    (stays_on c.args.behind c.args.came.now c.loop-window.came c.args.window.now c.loop-window.window c.trim.new.self c.fetch.new.self _ _ _ 0 c.loop-window.invariant.stays c.trim.ensures.value c.fetch.ensures.ahead (omega (arith, ap length (c.fetch.ensures.none zero))))
+
+pub returns-in-Ok-eq0-clause-fetched : goal.returns-in-Ok-eq0-clause-fetched
+returns-in-Ok-eq0-clause-fetched g c =
+    let zero : c.fetch.result ≡ Ok 0 = search rules in
+    none_taken c.args.behind c.args.came.now (c.loop-window.came + 0) c.args.window.now c.fetch.new.self _ _
+    (stays_on c.args.behind c.args.came.now c.loop-window.came c.args.window.now c.loop-window.window c.trim.new.self c.fetch.new.self _ _ _ 0 c.loop-window.invariant.stays c.trim.ensures.value c.fetch.ensures.ahead (omega (arith, ap length (c.fetch.ensures.none zero))))

@@ -1,7 +1,18 @@
 -- A block of fill is counted and passed over; any other answer is that of the blocks behind the fill.
-use Rattle.std.proofs.Common.{◌≡◌, ◌∙◌, Ok, Err, Some, None, sym, refl, arith, rules}
-use Rattle.ssim_records.proofs.Framing.{one_more, counts_twice, gives_other}
+use Rattle.std.proofs.Common.{◌≡◌, ◌+◌, ◌∙◌, Ok, Err, Some, None, sym, refl, arith, rules}
+use Rattle.ssim_records.proofs.Framing.{one_more, counts_none, counts_twice, fetches_first, fetches_on, gives_other, none_skipped}
 use Rattle.ssim_records.proofs.blocks.next_other.Goals as goal
+
+pub loop-block-init : goal.loop-block-init
+loop-block-init g c = record {
+  came_fits = omega (arith, c.requires.came);
+  not_less = omega arith;
+  counted = omega (arith, c.requires.counted);
+  skipped = none_skipped c.args.limit c.args.number.now c.args.came.now c.args.window.now (g.R.Source.left c.args.reader.now);
+  fetched = fetches_first _ c.args.number.now c.args.window.now (g.R.Source.left c.args.reader.now);
+  counts = counts_none (g.R.Source.left c.args.reader.now) (g.R.Source.came c.args.reader.now) c.args.came.now;
+  no_failure = refl;
+}
 
 pub loop-block-preserved : goal.loop-block-preserved
 loop-block-preserved g c =
@@ -9,11 +20,13 @@ loop-block-preserved g c =
     let b = rw e at c.next_block.ensures.block in
     let few = rw e at c.next_block.ensures.few in
     let fault = rw e at c.next_block.ensures.fault in
+    let fetched = rw e at c.next_block.ensures.fetched in
     record {
       came_fits = c.next_block.ensures.came;
       not_less = omega (arith, c.loop-block.invariant.not_less);
       counted = omega (arith, few, c.loop-block.invariant.counted);
       skipped = one_more _ _ _ _ _ _ _ _ _ _ _ _ c.in-Some.block c.loop-block.invariant.skipped b (sym c.is_fill.ensures ∙ c.if-not-is_fill.false);
+      fetched = fetches_on _ _ (c.loop-block.number + 1) 0 1 _ _ _ _ _ _ c.loop-block.invariant.fetched fetched (omega arith);
       counts = counts_twice _ _ _ _ _ _ _ _ _ c.loop-block.invariant.counts c.next_block.ensures.count;
       no_failure = fault ∙ c.loop-block.invariant.no_failure;
     }
@@ -36,3 +49,23 @@ returns-then-not-is_fill-clause-block g c =
     let e : c.next_block.result ≡ Ok (Some c.in-Some.block) = search rules in
     let b = rw e at c.next_block.ensures.block in
     gives_other _ _ _ _ _ _ _ _ _ _ _ _ _ (Ok (Some c.in-Some.block)) c.loop-block.invariant.skipped b (refl, sym c.is_fill.ensures ∙ c.if-not-is_fill.true)
+
+-- ---- what was fetched
+
+pub returns-in_err-block-clause-fetched : goal.returns-in_err-block-clause-fetched
+returns-in_err-block-clause-fetched g c =
+    let e : c.next_block.result ≡ Err c.in_err-block.field-0.0 = search rules in
+    let fetched = rw e at c.next_block.ensures.fetched in
+    fetches_on _ _ c.loop-block.number 0 0 _ _ _ _ _ _ c.loop-block.invariant.fetched fetched (omega arith)
+
+pub returns-in_default-clause-fetched : goal.returns-in_default-clause-fetched
+returns-in_default-clause-fetched g c =
+    let e : c.next_block.result ≡ Ok None = search rules in
+    let fetched = rw e at c.next_block.ensures.fetched in
+    fetches_on _ _ c.loop-block.number 0 0 _ _ _ _ _ _ c.loop-block.invariant.fetched fetched (omega arith)
+
+pub returns-then-not-is_fill-clause-fetched : goal.returns-then-not-is_fill-clause-fetched
+returns-then-not-is_fill-clause-fetched g c =
+    let e : c.next_block.result ≡ Ok (Some c.in-Some.block) = search rules in
+    let fetched = rw e at c.next_block.ensures.fetched in
+    fetches_on _ _ (c.loop-block.number + 1) 0 1 _ _ _ _ _ _ c.loop-block.invariant.fetched fetched (omega arith)

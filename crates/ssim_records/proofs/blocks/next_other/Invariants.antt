@@ -1,7 +1,7 @@
 -- The blocks so far were fill, and those other than fill stay the same.
 use Rattle.std.proofs.Common.{◌≡◌, ◌≤◌, ◌+◌, ◌-◌, ◌*◌, ℕ, List, length}
-use Rattle.std.specs.Prelude.{Option}
-use Rattle.ssim_records.specs.Blocks.{CountsOn}
+use Rattle.std.specs.Prelude.{Option, nat_lt}
+use Rattle.ssim_records.specs.Blocks.{CountsOn, Fetches}
 use Rattle.ssim_records.proofs.Framing.{Skipped}
 use Rattle.ssim_records.proofs.blocks.next_other.Given as goal
 
@@ -10,6 +10,7 @@ pub record Goes {R : Type 0} (left : R → Option (List ℕ)) (came_of failures 
   pub not_less : number0 ≤ number
   pub counted : 200 * number + length held ≤ came
   pub skipped : Skipped limit number0 came0 held0 (left before) number came held (left reader)
+  pub fetched : Fetches (nat_lt 0 number0) number0 held0 (left before) number held (left reader)
   pub counts : CountsOn (left before) (left reader) (came_of before) (came_of reader) came0 came
   pub no_failure : failures reader ≡ failures before
 

@@ -1,16 +1,20 @@
--- A byte that is none of the types has no table.
-use Rattle.std.proofs.Common.{◌≡◌, false, arith}
-use Rattle.std.specs.Prelude.{◌==◌}
-use Rattle.std.proofs.lemmas.Bool.Decides.{nat_tests}
-use Rattle.ssim_records.proofs.AnyRecord.{other_fault}
+-- What is read is spelt, and bytes that have a fault spell no record.
+use Rattle.std.proofs.Common.{◌≡◌, Some, None, Ok, Err, rules}
+use Rattle.ssim_records.specs.declared.fault.RecordFault.TheVariants.{BadColumn, BadType}
+use Rattle.ssim_records.proofs.AnyRecord.{only_spelt}
 use Rattle.ssim_records.proofs.record.read_numbered.Goals as goal
 
-pub returns-in_default-clause-err : goal.returns-in_default-clause-err
-returns-in_default-clause-err c =
-    let k = c.kind_of.result in
-    let a : (k == 49) ≡ false = grind (arith, nat_tests) in
-    let b : (k == 50) ≡ false = grind (arith, nat_tests) in
-    let d : (k == 51) ≡ false = grind (arith, nat_tests) in
-    let e : (k == 52) ≡ false = grind (arith, nat_tests) in
-    let f : (k == 53) ≡ false = grind (arith, nat_tests) in
-    other_fault c.args.number c.args.bytes.now k c.kind_of.ensures a b d e f
+pub returns-in-Ok-Some-clause-only : goal.returns-in-Ok-Some-clause-only
+returns-in-Ok-Some-clause-only c =
+    let e : c.record_of.result ≡ Ok (Some c.in-Ok-Some.record) = search rules in
+    let spelt = rw e at c.record_of.ensures.ok in
+    only_spelt c.args.number c.args.bytes.now (Ok c.in-Ok-Some.record) spelt tt
+
+pub returns-in-Ok-None-clause-only : goal.returns-in-Ok-None-clause-only
+returns-in-Ok-None-clause-only c =
+    let e : c.record_of.result ≡ Ok None = search rules in
+    let none = rw e at c.record_of.ensures.none in
+    only_spelt c.args.number c.args.bytes.now (Err (BadType c.args.number)) tt (none c.args.number)
+
+pub returns-in-Err-clause-only : goal.returns-in-Err-clause-only
+returns-in-Err-clause-only c = only_spelt c.args.number c.args.bytes.now (Err (BadColumn c.args.number c.in-Err.column)) tt (c.in-Err.ensures.err c.args.number)

@@ -12,7 +12,7 @@ use Rattle.ssim_schedule.proofs.building.timetable.Goals as goal
 
 pub loop-place-init : goal.loop-place-init
 loop-place-init c =
-    (omega arith, subst (λ (done : List Record). IsBuilt c.new-building.result done) (sym (drop_all (length c.args.records.now) c.args.records.now (omega arith))) c.new-building.ensures)
+    (omega arith, subst (λ (done : List Record). IsBuilt c.in_ok-building.building done) (sym (drop_all (length c.args.records.now) c.args.records.now (omega arith))) c.in_ok-building.ensures)
 
 pub put-requires : goal.put-requires
 put-requires c =

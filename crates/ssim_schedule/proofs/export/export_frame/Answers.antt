@@ -14,11 +14,11 @@ returns-in_err-measure-clause-err g c =
     let table = c.args.table.now in
     let frame = frame_from c.args.header.now c.args.carrier.now c.args.trailer.now in
     let plan = c.deref.result.now in
-    let is : plan ≡ plan_of table = c.deref.ensures.value ∙ c.in_ok-plan.ensures.plan ∙ ap plan_of c.entries.ensures.value in
-    let exist : All (λ f. IsFlight f.flight) table = subst (λ (xs : Table). All (λ f. IsFlight f.flight) xs) c.entries.ensures.value c.in_ok-plan.ensures.flights in
+    let is : plan ≡ plan_of table = c.deref.ensures.value ∙ c.in_ok-plan.ensures.plan ∙ ap plan_of c.blocks-2.ensures.value in
+    let exist : All (λ f. IsFlight f.flight) table = subst (λ (xs : Table). All (λ f. IsFlight f.flight) xs) c.blocks-2.ensures.value c.in_ok-plan.ensures.flights in
     let k : c.from_residual-in_err-measure.result ≡ Err c.in_err-measure.field-0.0 = search rules in
     rw k (refuses g.W.Sink.taken g.W.Sink.failures (chapter7 frame (days_in table)) c.args.out.now (plan_refusal 2 plan) c.in_err-measure.field-0.0 c.in_err-measure.ensures.err
-    (λ r some. refusal_is frame table plan r c.entries.ensures.rising exist is some))
+    (λ r some. refusal_is frame table plan r c.blocks-2.ensures.rising exist is some))
 
 pub put_export-requires-clause-few : goal.put_export-requires-clause-few
 put_export-requires-clause-few g c =
@@ -36,24 +36,24 @@ returns-in-Ok-clause-ok g c =
     let table = c.args.table.now in
     let frame = frame_from c.args.header.now c.args.carrier.now c.args.trailer.now in
     let plan = c.deref-2.result.now in
-    let is : plan ≡ plan_of table = c.deref-2.ensures.value ∙ c.in_ok-plan.ensures.plan ∙ ap plan_of c.entries.ensures.value in
-    let exist : All (λ f. IsFlight f.flight) table = subst (λ (xs : Table). All (λ f. IsFlight f.flight) xs) c.entries.ensures.value c.in_ok-plan.ensures.flights in
+    let is : plan ≡ plan_of table = c.deref-2.ensures.value ∙ c.in_ok-plan.ensures.plan ∙ ap plan_of c.blocks-2.ensures.value in
+    let exist : All (λ f. IsFlight f.flight) table = subst (λ (xs : Table). All (λ f. IsFlight f.flight) xs) c.blocks-2.ensures.value c.in_ok-plan.ensures.flights in
     let none : plan_refusal 2 plan ≡ None = ap (λ (ps : List Planned). plan_refusal 2 ps) (c.deref-2.ensures.value ∙ sym c.deref.ensures.value) ∙ c.in_ok-measure.ensures.ok in
-    (plan_bytes frame plan, export_is frame table plan c.entries.ensures.rising exist is none, c.in-Ok.ensures.ok, c.in-Ok.ensures.failures)
+    (plan_bytes frame plan, export_is frame table plan c.blocks-2.ensures.rising exist is none, c.in-Ok.ensures.ok, c.in-Ok.ensures.failures)
 
 pub returns-clause-err : goal.returns-clause-err
 returns-clause-err g c =
     let table = c.args.table.now in
     let frame = frame_from c.args.header.now c.args.carrier.now c.args.trailer.now in
     let plan = c.deref-2.result.now in
-    let is : plan ≡ plan_of table = c.deref-2.ensures.value ∙ c.in_ok-plan.ensures.plan ∙ ap plan_of c.entries.ensures.value in
-    let exist : All (λ f. IsFlight f.flight) table = subst (λ (xs : Table). All (λ f. IsFlight f.flight) xs) c.entries.ensures.value c.in_ok-plan.ensures.flights in
+    let is : plan ≡ plan_of table = c.deref-2.ensures.value ∙ c.in_ok-plan.ensures.plan ∙ ap plan_of c.blocks-2.ensures.value in
+    let exist : All (λ f. IsFlight f.flight) table = subst (λ (xs : Table). All (λ f. IsFlight f.flight) xs) c.blocks-2.ensures.value c.in_ok-plan.ensures.flights in
     let none : plan_refusal 2 plan ≡ None = ap (λ (ps : List Planned). plan_refusal 2 ps) (c.deref-2.ensures.value ∙ sym c.deref.ensures.value) ∙ c.in_ok-measure.ensures.ok in
-    (plan_bytes frame plan, export_is frame table plan c.entries.ensures.rising exist is none, c.in-Err.ensures.err, c.in-Err.ensures.failures)
+    (plan_bytes frame plan, export_is frame table plan c.blocks-2.ensures.rising exist is none, c.in-Err.ensures.err, c.in-Err.ensures.failures)
 
 pub returns-in-Ok-clause-readable : goal.returns-in-Ok-clause-readable
 returns-in-Ok-clause-readable g c =
     let table = c.args.table.now in
     let plan = c.deref-2.result.now in
-    let is : plan ≡ plan_of table = c.deref-2.ensures.value ∙ c.in_ok-plan.ensures.plan ∙ ap plan_of c.entries.ensures.value in
+    let is : plan ≡ plan_of table = c.deref-2.ensures.value ∙ c.in_ok-plan.ensures.plan ∙ ap plan_of c.blocks-2.ensures.value in
     readable table plan is c.in-Ok.ensures.writable

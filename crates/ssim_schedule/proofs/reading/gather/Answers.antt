@@ -1,11 +1,11 @@
 -- From record to record, by the lemmas on what was read so far; each answer that ends the reading is the outcome of the bytes.
-use Rattle.std.proofs.Common.{rules, ◌≡◌, ℕ, ◌+◌, Some, None, Ok, Err, [], ◌∷◌, ◌++◌, refl, sym, ap, subst, ◌∙◌, arith}
-use Rattle.ssim_records.specs.Blocks.{CountsOn}
-use Rattle.ssim_records.specs.Reading.{Answer, Counts, FailsAs, GivesNext, HasNumber, NeverEnds, Reading, ending_of}
-use Rattle.ssim_records.proofs.Framing.{counts_none, counts_twice}
+use Rattle.std.proofs.Common.{rules, ◌≡◌, ℕ, ◌+◌, Some, None, Ok, Err, false, [], ◌∷◌, ◌++◌, refl, sym, ap, subst, ◌∙◌, arith}
+use Rattle.ssim_records.specs.Blocks.{CountsOn, Fetches}
+use Rattle.ssim_records.specs.Reading.{Answer, Counts, FailsAs, GivesNext, HasNumber, HoldsFew, NeverEnds, Reading, ending_of}
+use Rattle.ssim_records.proofs.Framing.{counts_none, counts_twice, fetches_first, fetches_on}
 use Rattle.ssim_schedule.specs.Base.{Done, kept}
 use Rattle.ssim_schedule.specs.Reading.{AreGivenOf}
-use Rattle.ssim_schedule.proofs.ReadingLemmas.{Numbered, Told, ended-beyond, never-refused, step-refused, while-open, nothing, one-more, told-end, told-fault, told-first, told-step}
+use Rattle.ssim_schedule.proofs.ReadingLemmas.{Numbered, Told, ended-beyond, fails-after, never-refused, never-fails, step-refused, while-open, nothing, one-more, told-end, told-fault, told-first, told-step}
 use Rattle.ssim_schedule.proofs.reading.gather.Goals as goal
 
 pub loop-number-init : goal.loop-number-init
@@ -20,6 +20,8 @@ loop-number-init g c =
       so_far = nothing c.new-gathering.result c.new-gathering.ensures.kept c.new-gathering.ensures.notes c.new-gathering.ensures.previous;
       told = subst (λ (r : Reading). Told c.args.limit (g.R.Source.left c.args.reader.now) (g.R.Source.left c.args.reader.now) r []) (sym c.new-records.ensures)
           (told-first c.args.limit (g.R.Source.left c.args.reader.now) c.frames_are_one.ensures.exist);
+      fetched = subst (λ (r : Reading). Fetches false 0 [] (g.R.Source.left c.args.reader.now) r.number r.held (g.R.Source.left c.args.reader.now)) (sym c.new-records.ensures)
+          (fetches_first false 0 [] (g.R.Source.left c.args.reader.now));
       counts = subst (λ (r : Reading). CountsOn (g.R.Source.left c.args.reader.now) (g.R.Source.left c.args.reader.now) (g.R.Source.came c.args.reader.now) (g.R.Source.came c.args.reader.now) 0 r.came) (sym c.new-records.ensures)
           (counts_none (g.R.Source.left c.args.reader.now) (g.R.Source.came c.args.reader.now) 0);
       no_failure = refl;
@@ -47,6 +49,7 @@ loop-number-preserved g c =
       done = i.done ++ x ∷ [];
       so_far = one-more c.loop-number.gathering c.take.new.self i.earlier i.done x i.so_far (taken.stood i.earlier i.so_far.is_kept) taken.noted taken.previous taken.is_record;
       told = told-step c.args.limit (g.R.Source.left c.args.reader.now) (g.R.Source.left c.loop-number.reader) (g.R.Source.left c.next.new.reader) old new i.done x i.told given;
+      fetched = fetches_on 0 old.number new.number old.number new.number [] old.held new.held _ _ _ i.fetched (while-open old.ended i.open' c.next.ensures.fetched) (omega arith);
       counts = counts_twice _ _ _ _ _ _ _ _ _ i.counts (while-open old.ended i.open' c.next.ensures.count);
       no_failure = fault ∙ i.no_failure;
     }
@@ -95,6 +98,24 @@ returns-in_err-take-in-Ok-Some-clause-never_ends g c =
     let x : Numbered = (c.in-Ok-Some.number, c.in-Ok-Some.record) in
     let refusal : c.from_residual.result ≡ Err c.in_err-take-in-Ok-Some.field-0.0 = search rules in
     rw refusal (never-refused c.args.limit _ x.0 i.earlier x.1 c.in_err-take-in-Ok-Some.field-0.0 (c.in_err-take-in-Ok-Some.ensures.err i.earlier i.so_far.is_kept))
+
+pub returns-in_err-take-in-Ok-Some-clause-fails_after : goal.returns-in_err-take-in-Ok-Some-clause-fails_after
+returns-in_err-take-in-Ok-Some-clause-fails_after g c =
+    let i = c.loop-number.invariant in
+    let x : Numbered = (c.in-Ok-Some.number, c.in-Ok-Some.record) in
+    let refusal : c.from_residual.result ≡ Err c.in_err-take-in-Ok-Some.field-0.0 = search rules in
+    rw refusal (never-fails _ _ x.0 i.earlier x.1 c.in_err-take-in-Ok-Some.field-0.0 (c.in_err-take-in-Ok-Some.ensures.err i.earlier i.so_far.is_kept))
+
+pub returns-in-Err-clause-fails_after : goal.returns-in-Err-clause-fails_after
+returns-in-Err-clause-fails_after g c =
+    let i = c.loop-number.invariant in
+    let old = c.loop-number.records in
+    let new = c.next.new.self in
+    let answer : c.next.result ≡ Err c.in-Err.fault = search rules in
+    let fetched = fetches_on 0 old.number new.number old.number new.number [] old.held new.held _ _ _ i.fetched (while-open old.ended i.open' c.next.ensures.fetched) (omega arith) in
+    let number = subst (λ (a : Answer). HasNumber new.number a) answer (while-open old.ended i.open' c.next.ensures.number) in
+    let few = subst (λ (a : Answer). HoldsFew new.held a) answer (while-open old.ended i.open' c.next.ensures.few_left) in
+    fails-after (g.R.Source.left c.args.reader.now) (g.R.Source.left c.next.new.reader) new.number new.held c.in-Err.fault fetched number few
 
 pub returns-in-Err-clause-never_ends : goal.returns-in-Err-clause-never_ends
 returns-in-Err-clause-never_ends g c =

@@ -1,7 +1,7 @@
 -- The records so far are gathered, and the bytes that are left give the others.
-use Rattle.std.proofs.Common.{◌≡◌, ℕ, ◌+◌, ◌-◌, ◌*◌, ◌≤◌, List}
+use Rattle.std.proofs.Common.{◌≡◌, ℕ, ◌+◌, ◌-◌, ◌*◌, ◌≤◌, false, List, []}
 use Rattle.std.specs.Prelude.{Option, None}
-use Rattle.ssim_records.specs.Blocks.{CountsOn}
+use Rattle.ssim_records.specs.Blocks.{CountsOn, Fetches}
 use Rattle.ssim_records.specs.Reading.{Reading}
 use Rattle.ssim_records.specs.declared.record.Record.{Record}
 use Rattle.ssim_schedule.specs.Gathering.{IsSoFar}
@@ -17,6 +17,7 @@ pub record Goes {R : Type 0} (left : R → Option (List ℕ)) (came_of failures 
   pub done : List Numbered
   pub so_far : IsSoFar g earlier done
   pub told : Told limit (left before) (left reader) r done
+  pub fetched : Fetches false 0 [] (left before) r.number r.held (left reader)
   pub counts : CountsOn (left before) (left reader) (came_of before) (came_of reader) 0 r.came
   pub no_failure : failures reader ≡ failures before
 

@@ -1,7 +1,8 @@
-use Rattle.std.proofs.Common.{List, ◌∙◌, length, sym, ap}
+use Rattle.std.proofs.Common.{List, ◌∙◌, length, sym, ap, subst}
 use Rattle.ssim_schedule.specs.declared.finding.Finding.{Finding}
 use Rattle.ssim_schedule.specs.Timetable.{itinerary}
-use Rattle.ssim_desk.specs.Kept.{Entry}
+use Rattle.ssim_desk.specs.Kept.{AreEntries, DeskSeen, Entry}
+use Rattle.ssim_desk.proofs.Meant.{has_findings}
 use Rattle.ssim_desk.proofs.Trails.{length-findings}
 use Rattle.ssim_desk.proofs.desk.Desk.findings.Goals as goal
 
@@ -9,3 +10,6 @@ pub push_lines-requires : goal.push_lines-requires
 push_lines-requires c =
     let t = c.self.inside.trail in
     ap (λ (es : List Entry). length es) c.held.ensures ∙ sym (length-findings t.base.rows t.held (itinerary t.base.records)) ∙ sym (ap (λ (fs : List (List Finding)). length fs) c.found.ensures)
+
+pub returns-clause-finds : goal.returns-clause-finds
+returns-clause-finds c = has_findings c.args.self.now (subst (λ (t : DeskSeen). AreEntries t.base.records t.held) c.self.view_is c.self.invariant)

@@ -1,9 +1,7 @@
-use Rattle.std.proofs.Common.{◌≡◌, ◌≢◌, ◌≤◌, ◌+◌, ◌++◌, ◌∷◌, ◌%◌, ◌/◌, [], List, ℕ, ◌∙◌, ap, sym, length, take, subst, arith, length-append}
-use Rattle.ssim_schedule.specs.BaseSeen.{BaseSeen}
+use Rattle.std.proofs.Common.{◌≡◌, ◌≢◌, ◌+◌, ◌++◌, ◌∷◌, ◌%◌, ◌/◌, [], List, ◌∙◌, ap, sym, length, take, subst, arith, length-append}
 use Rattle.ssim_schedule.specs.Schedule.{Table}
 use Rattle.ssim_schedule.specs.declared.finding.Finding.{Finding}
-use Rattle.ssim_desk.specs.Kept.{Entry}
-use Rattle.ssim_desk.specs.Trail.{AreCheckpoints, IsAfter, IsTail, found_by, left_by}
+use Rattle.ssim_desk.specs.Trail.{AreCheckpoints, found_by, left_by}
 use Rattle.ssim_desk.proofs.Trails.{after_more, found_next, kept_more, kept_none}
 use Rattle.ssim_desk.proofs.tail.Tail.apply.Goals as goal
 
@@ -11,7 +9,7 @@ pub returns-in_ok-push-2-clause-applied : goal.returns-in_ok-push-2-clause-appli
 returns-in_ok-push-2-clause-applied c before from tail =
     let base = c.args.base.now in let e = c.args.held.now in
     let acts = c.in_ok-findings.ensures in
-    let latest = after_more base before e c.act.new.schedule (acts.shows (left_by base before) tail.latest_is.shows) in
+    let latest = after_more base before e c.args.self.now.latest c.act.new.schedule tail.latest_is (acts.shows (left_by base before) tail.latest_is.shows) acts.cuts in
     let on : (length before + 1) % 32 ≡ 0 = omega (arith, tail.since_is, c.if-self-eq0.true) in
     record {
       within = omega (arith, tail.within, length-append before (e ∷ []));
@@ -31,7 +29,7 @@ returns-else-self-eq0-clause-applied c before from tail =
     let off : (length before + 1) % 32 ≢ 0 = λ z. c.if-self-eq0.false (omega (arith, tail.since_is, z)) in
     record {
       within = omega (arith, tail.within, length-append before (e ∷ []));
-      latest_is = after_more base before e c.act.new.schedule (acts.shows (left_by base before) tail.latest_is.shows);
+      latest_is = after_more base before e c.args.self.now.latest c.act.new.schedule tail.latest_is (acts.shows (left_by base before) tail.latest_is.shows) acts.cuts;
       found_is = ap (λ (fs : List (List Finding)). found_by base (take from (before ++ e ∷ [])) ++ fs) c.in_ok-push.ensures.items
           ∙ found_next base before e from c.args.self.now.found.items c.in_ok-findings.findings.items tail.within tail.found_is (acts.found (left_by base before) tail.latest_is.shows);
       kept = kept_none base before e (from / 32 + 1) c.args.self.now.checkpoints.items off tail.kept;

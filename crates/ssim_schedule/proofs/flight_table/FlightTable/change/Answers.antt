@@ -1,5 +1,5 @@
 -- An entry that is changed keeps its flight, and so the order; what its flight has alone is changed.
-use Rattle.std.proofs.Common.{◌≡◌, nat_eq, if◌then◌else◌, sym, ap, subst, ◌∙◌, get_or, set}
+use Rattle.std.proofs.Common.{◌≡◌, ◌/◌, nat_eq, if◌then◌else◌, sym, ap, subst, ◌∙◌, get_or, set}
 use Rattle.std.proofs.lemmas.List.{get_or_default}
 use Rattle.ssim_periods.specs.Calendar.{holds}
 use Rattle.ssim_periods.specs.Days.{changed_on, counts_on}
@@ -7,6 +7,9 @@ use Rattle.ssim_schedule.specs.ReadBack.{place_of}
 use Rattle.ssim_schedule.specs.Schedule.{AddsOnlyAt, IsAt, Table, cuts_in, days_in, no_entry}
 use Rattle.ssim_schedule.proofs.ChangeLemmas.{cuts-set, days-set, days_at, if_ok, no_days, on_ok, own}
 use Rattle.ssim_schedule.proofs.TableLemmas.{found_at, rising_set}
+use Rattle.ssim_schedule.specs.Blocks.{IsBlock}
+use Rattle.ssim_schedule.specs.declared.flight_table.FlightPeriods.{FlightPeriods}
+use Rattle.ssim_schedule.proofs.BlockLemmas.{block_set}
 use Rattle.ssim_schedule.proofs.flight_table.FlightTable.change.Goals as goal
 
 pub invariant_of-self : goal.invariant_of-self
@@ -46,3 +49,12 @@ returns-in-Ok-clause-counts g c =
     let its : c.index_mut.result.now.periods.days ≡ days_in c.args.self.now flight =
     ap days_at here ∙ sym (found_at days_at no_days table c.self.invariant flight c.in-Ok.place is) ∙ ap (λ (t : Table). days_in t flight) c.self.view_is in
     if_ok c.apply.result (λ counts e. e ∙ ap (counts_on (holds c.args.period.now) (g.C.Change.class_of c.args.change.now)) its) c.apply.ensures.counts
+
+pub returns-in-Ok-clause-block : goal.returns-in-Ok-clause-block
+returns-in-Ok-clause-block g c = λ k block its.
+    let table = c.self.inside.flights.items in
+    let is : IsAt table c.args.flight c.in-Ok.place = subst (λ (t : Table). IsAt t c.args.flight c.in-Ok.place) (sym c.self.view_is) c.in-Ok.ensures.found in
+    let here : c.index_mut.result.now ≡ get_or table c.in-Ok.place no_entry = c.index_mut.ensures.value ∙ get_or_default table c.in-Ok.place c.index_mut.result.now no_entry is.in_range in
+    let at = own table c.args.flight c.in-Ok.place c.index_mut.result.now is here in
+    let entry : FlightPeriods = record { flight = c.index_mut.result.now.flight; periods = c.apply.new.self } in
+    block_set k table c.in-Ok.place entry (subst (λ (t : Table). IsBlock k t) (sym c.self.view_is) block) at (ap (λ n. n / 1024) (sym at.its ∙ is.its) ∙ its)

@@ -7,6 +7,9 @@ use Rattle.ssim_schedule.specs.Schedule.{AddsOnlyAt, AreRising, IsGapFor, Table,
 use Rattle.ssim_schedule.specs.Timetable.{Legs}
 use Rattle.ssim_schedule.proofs.ChangeLemmas.{cuts-insert, days-insert, days_at, no_days}
 use Rattle.ssim_schedule.proofs.TableLemmas.{found_in_gap, rising_insert}
+use Rattle.ssim_schedule.specs.Blocks.{IsBlock}
+use Rattle.ssim_schedule.specs.declared.flight_table.FlightPeriods.{FlightPeriods}
+use Rattle.ssim_schedule.proofs.BlockLemmas.{block_insert}
 use Rattle.ssim_schedule.proofs.flight_table.FlightTable.change_first.Goals as goal
 
 pub invariant_of-self : goal.invariant_of-self
@@ -44,3 +47,11 @@ returns-clause-counts g c =
     c.in_ok-counts.ensures.counts
     ∙ ap (counts_on (holds c.args.period.now) (g.C.Change.class_of c.args.change.now))
     (c.new-periods.ensures.days ∙ sym (found_in_gap days_at no_days c.args.self.now c.args.flight c.args.gap c.requires))
+
+pub returns-clause-block : goal.returns-clause-block
+returns-clause-block g c = λ k is its.
+    let table = c.self.inside.flights.items in
+    let flight = c.args.flight in
+    let gap : IsGapFor table flight c.args.gap = subst (λ (t : Table). IsGapFor t flight c.args.gap) (sym c.self.view_is) c.requires in
+    let entry : FlightPeriods = record { flight = flight; periods = c.in_ok-periods.periods } in
+    subst (λ (t : Table). IsBlock k t) (sym c.in_ok-insert.ensures.items) (block_insert k table c.args.gap entry (subst (λ (t : Table). IsBlock k t) (sym c.self.view_is) is) gap its)

@@ -7,6 +7,8 @@ use Rattle.ssim_schedule.specs.Timetable.{Legs}
 use Rattle.ssim_schedule.specs.declared.flight_table.FlightPeriods.{FlightPeriods}
 use Rattle.ssim_schedule.proofs.ChangeLemmas.{cuts_at, days_at, no_days}
 use Rattle.ssim_schedule.proofs.TableLemmas.{found_insert, found_set, rising_insert, rising_set}
+use Rattle.ssim_schedule.specs.Blocks.{IsBlock}
+use Rattle.ssim_schedule.proofs.BlockLemmas.{block_insert, block_set}
 use Rattle.ssim_schedule.proofs.flight_table.FlightTable.put.Goals as goal
 
 pub invariant_of-self : goal.invariant_of-self
@@ -67,3 +69,19 @@ returns-in_ok-insert-in-Err-clause-cuts c = λ r.
     ap (λ (t : Table). cuts_in t r) c.in_ok-insert-in-Err.ensures.items ∙ found_insert cuts_at [] table g c.in-Err.gap r gap
     ∙ ap (λ (p : Seen Legs). if nat_eq (place_of q) (place_of r) then p.cuts else cuts_in table r) c.in_ok-periods.ensures
     ∙ ap (λ (t : Table). if nat_eq (place_of q) (place_of r) then c.args.periods.cuts else cuts_in t r) c.self.view_is
+
+pub returns-in-Ok-clause-block : goal.returns-in-Ok-clause-block
+returns-in-Ok-clause-block c = λ k block its.
+    let table = c.self.inside.flights.items in
+    let q = c.args.flight in
+    let is : IsAt table q c.in-Ok.place = subst (λ (t : Table). IsAt t q c.in-Ok.place) (sym c.self.view_is) c.in-Ok.ensures.found in
+    let entry : FlightPeriods = record { flight = q; periods = c.in_ok-periods.periods } in
+    block_set k table c.in-Ok.place entry (subst (λ (t : Table). IsBlock k t) (sym c.self.view_is) block) is its
+
+pub returns-in_ok-insert-in-Err-clause-block : goal.returns-in_ok-insert-in-Err-clause-block
+returns-in_ok-insert-in-Err-clause-block c = λ k block its.
+    let table = c.self.inside.flights.items in
+    let q = c.args.flight in
+    let gap : IsGapFor table q c.in-Err.gap = subst (λ (t : Table). IsGapFor t q c.in-Err.gap) (sym c.self.view_is) c.in-Err.ensures.absent in
+    let entry : FlightPeriods = record { flight = q; periods = c.in_ok-periods.periods } in
+    subst (λ (t : Table). IsBlock k t) (sym c.in_ok-insert-in-Err.ensures.items) (block_insert k table c.in-Err.gap entry (subst (λ (t : Table). IsBlock k t) (sym c.self.view_is) block) gap its)

@@ -1,0 +1,39 @@
+-- The clauses of the latest schedule, told of the desk.
+use Rattle.std.proofs.Common.{◌≡◌, ◌<◌, ◌≤◌, ◌∙◌, ap, sym, subst, arith}
+use Rattle.std.specs.Prelude.{ℕ, IsTrue}
+use Rattle.ssim_schedule.specs.Schedule.{days_in}
+use Rattle.ssim_schedule.specs.Timetable.{on_day}
+use Rattle.ssim_values.specs.Flight.{IsFlight, is_suffix}
+use Rattle.ssim_desk.specs.Desk.{timetable_of}
+use Rattle.ssim_desk.specs.Kept.{DeskSeen}
+use Rattle.ssim_desk.specs.Points.{AreDeskPoints}
+use Rattle.ssim_desk.proofs.Meant.{legs_after}
+use Rattle.ssim_desk.proofs.Points.{within_bound}
+use Rattle.ssim_desk.proofs.desk.Desk.cuts.Goals as goal
+
+exists : (c : goal.After-cuts) → IsFlight c.args.flight.now
+exists c = record {
+  number_to = subst (λ n. n ≤ 9999) c.number.ensures.value c.number.ensures.bound;
+  suffixed = subst (λ s. IsTrue (is_suffix s)) c.suffix.ensures.value c.suffix.ensures.suffix;
+}
+
+points : (c : goal.After-cuts) → AreDeskPoints c.args.self.now.base c.args.self.now.held c.args.flight.now c.cuts.result.now
+points c =
+    subst (λ (t : DeskSeen). AreDeskPoints t.base t.held c.args.flight.now c.cuts.result.now) c.self.view_is
+    (subst (AreDeskPoints c.self.inside.trail.base c.self.inside.trail.held c.args.flight.now) (sym c.cuts.ensures.cuts) (c.latest.ensures.cuts c.args.flight.now (exists c)))
+
+pub returns-clause-points : goal.returns-clause-points
+returns-clause-points c = points c
+
+pub returns-clause-bound : goal.returns-clause-bound
+returns-clause-bound c = within_bound c.args.self.now.base c.args.self.now.held c.args.flight.now c.cuts.result.now c.cuts.ensures.rising (points c)
+
+legs : (c : goal.After-cuts) (day : ℕ) → day < 36525 → on_day (days_in c.latest.result.now c.args.flight.now) day ≡ timetable_of c.args.self.now c.args.flight.now day
+legs c day within =
+    legs_after c.self.inside.trail.base c.self.inside.trail.held c.latest.result.now c.latest.ensures c.args.flight.now (exists c) day within
+    ∙ ap (λ (t : DeskSeen). timetable_of t c.args.flight.now day) c.self.view_is
+
+pub returns-clause-weekly : goal.returns-clause-weekly
+returns-clause-weekly c m n order within same none =
+    let early : m < 36525 = omega (arith, order, within) in
+    sym (legs c m early) ∙ c.cuts.ensures.weekly m n order within same none ∙ legs c n within

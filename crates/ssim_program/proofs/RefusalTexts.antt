@@ -1,0 +1,19 @@
+-- The texts of refusals 90 and 91, computed.
+use Rattle.std.proofs.Common.{◌≡◌, ℕ, List, ◌++◌, String, refl, ap}
+use Rattle.std.specs.Prelude.{codes, string_bytes}
+use Rattle.std.specs.Fmt.{decimal, digits}
+use Rattle.std.specs.declared.alloc.Global.{Global}
+use Rattle.ssim_schedule.specs.Export.{line}
+use Rattle.ssim_program.specs.Refusal.{refusal_text}
+use Rattle.ssim_program.specs.declared.refusal.Refusal.TheVariants as refused
+
+ninety : decimal 90 ≡ codes "90"
+unfolding digits
+ninety = refl
+
+pub memory_line : line (refusal_text refused.Memory) ≡ codes "refused 90 Memory\n"
+memory_line = ap (λ (number : List ℕ). line (codes "refused " ++ number ++ codes " Memory")) ninety
+
+pub file_text : (file : String Global) (name : List ℕ) → string_bytes file ≡ name → refusal_text (refused.File file) ≡ codes "refused 91 File " ++ name
+unfolding digits
+file_text file name is = ap (λ (text : List ℕ). codes "refused 91 File " ++ text) is

@@ -1,0 +1,6 @@
+-- The message is the one that was decoded.
+use Rattle.std.proofs.Common.{refl}
+use Rattle.ssim_program.proofs.rehearse.lines.reference_of.Goals as goal
+
+pub returns-in-Ok-resolve : goal.returns-in-Ok-resolve
+returns-in-Ok-resolve c = (c.in-Ok.message, record { spelt = c.in-Ok.ensures.found; resolved = c.in-Ok-resolve.resolved; resolves = c.in-Ok-resolve.ensures.ok; referred = refl })

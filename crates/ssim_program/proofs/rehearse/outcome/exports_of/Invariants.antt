@@ -1,0 +1,11 @@
+-- The exports so far are those of the desks so far.
+use Rattle.std.proofs.Common.{◌≡◌, length, map, take}
+use Rattle.ssim_desk.specs.Kept.{state_of}
+use Rattle.ssim_program.specs.Rehearsal.{AreExports, outcome_of}
+use Rattle.ssim_program.proofs.rehearse.outcome.exports_of.Given as goal
+
+abbrev pub invariant-loop-desk : goal.invariant-loop-desk
+invariant-loop-desk l = record {
+  are : AreExports (map state_of (take l.desk-index l.desks)) (map outcome_of l.outcomes.items);
+  count : length l.outcomes.items ≡ l.desk-index;
+}

@@ -1,0 +1,10 @@
+-- The steps so far have their texts, and the files are as they were.
+use Rattle.std.proofs.Common.{◌≡◌, map, take}
+use Rattle.ssim_program.specs.Rehearsal.{AreLoaded, as_written}
+use Rattle.ssim_program.proofs.rehearse.texts.load_texts.Given as goal
+
+abbrev pub invariant-loop-next : goal.invariant-loop-next
+invariant-loop-next g l = record {
+  loaded : AreLoaded (g.S.Store.files l.fn.store) (map as_written (take l.next-index l.written)) l.steps.items;
+  same : g.S.Store.files l.store ≡ g.S.Store.files l.fn.store;
+}

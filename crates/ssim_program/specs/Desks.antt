@@ -1,0 +1,172 @@
+-- What the commands on desk files read, make and print, and why they are refused.
+use Rattle.std.specs.Prelude.{◌≡◌, ◌≢◌, ◌⊎◌, ℕ, List, [], ◌∷◌, ◌++◌, take, slice_get, Option, Some, None, Ok, Err}
+use Rattle.std.specs.Io.KnownBytes.{Appends, Keeps}
+use Rattle.ssim_values.specs.Designator.{SpellsDesignator}
+use Rattle.ssim_values.specs.declared.designator.Designator.{Designator}
+use Rattle.ssim_values.specs.declared.fault.Fault.TheVariants as value_fault
+use Rattle.ssim_schedule.specs.Base.{airline_of}
+use Rattle.ssim_schedule.specs.BaseSeen.{BaseSeen}
+use Rattle.ssim_schedule.specs.Export.{Frame, chapter7, line}
+use Rattle.ssim_schedule.specs.ReadBack.{HasFrame}
+use Rattle.ssim_schedule.specs.Sinks.{TakesFront}
+use Rattle.ssim_schedule.specs.declared.resolving.ResolveFault.TheVariants as resolve_fault
+use Rattle.ssim_text.specs.Lines.{day_in}
+use Rattle.ssim_text.specs.Message.{MessageValue}
+use Rattle.ssim_text.specs.declared.reference.Reference.{Reference}
+use Rattle.ssim_desk.specs.Desk.{days_of_desk, take_answer, timetable_of}
+use Rattle.ssim_desk.specs.File.{IsDeskFile}
+use Rattle.ssim_desk.specs.Held.{Says}
+use Rattle.ssim_desk.specs.Kept.{DeskSeen, Entry, map_of, state_of}
+use Rattle.ssim_desk.specs.Steps.{Merges, RefusesDesk, RefusesText, Takes}
+use Rattle.ssim_desk.specs.declared.desk.Took.{Took}
+use Rattle.ssim_desk.specs.declared.desk.Took.TheVariants as took
+use Rattle.ssim_desk.specs.declared.fault.DeskFault.{DeskFault}
+use Rattle.ssim_desk.specs.declared.fault.DeskFault.TheVariants as desk_fault
+use Rattle.ssim_desk.specs.declared.steps.Answer.TheVariants.{Merged}
+use Rattle.ssim_program.specs.Files.{Files}
+use Rattle.ssim_program.specs.Line.{Text}
+use Rattle.ssim_program.specs.Made.{HasFile, RefusesLoad}
+use Rattle.ssim_program.specs.Printed.{printed_text}
+use Rattle.ssim_program.specs.Printing.{CountsOne}
+use Rattle.ssim_program.specs.Refusal.{IsOfFile, refusal_of_desk}
+use Rattle.ssim_program.specs.Shown.{shown_flight}
+use Rattle.ssim_program.specs.declared.printed.Printed.{Printed}
+use Rattle.ssim_program.specs.declared.printed.Printed.TheVariants as printed
+use Rattle.ssim_program.specs.declared.refusal.Refusal.{Refusal}
+use Rattle.ssim_program.specs.declared.refusal.Refusal.TheVariants as refused
+
+-- ---- desk files
+
+-- the file of this name is the desk file of this desk
+abbrev pub ReadsDesk : Option Files → Text → DeskSeen → Type 0
+ReadsDesk files name desk = (bytes : List ℕ) × HasFile files name bytes × IsDeskFile bytes desk.base desk.held
+
+-- these bytes are the file of no desk
+abbrev pub IsNoDeskFile : List ℕ → Type 0
+IsNoDeskFile bytes = (base : BaseSeen) (entries : List Entry) → IsDeskFile bytes base entries → ⊥
+
+-- why no desk is opened of the bytes of a file: memory ran out, or they are the file of no desk (62)
+abbrev pub IsUnopened : List ℕ → DeskFault → Type 0
+IsUnopened bytes fault = (fault ≡ desk_fault.Memory) ⊎ (IsNoDeskFile bytes × (offset : ℕ) × (fault ≡ desk_fault.File offset))
+
+-- why no desk is read of a file: the file is not loaded; or it is the file of no desk, and the refusal is 62
+abbrev pub RefusesDeskFile : Option Files → Text → Refusal → Type 0
+RefusesDeskFile files name refusal =
+    RefusesLoad files name refusal
+    ⊎ ((bytes : List ℕ) × HasFile files name bytes × IsNoDeskFile bytes × (offset : ℕ) × (refusal ≡ refused.Desk (desk_fault.File offset)))
+
+-- why a file is not kept: memory ran out, or the store did not keep it
+abbrev pub RefusesKeep : Text → Refusal → Type 0
+RefusesKeep name refusal = (refusal ≡ refused.Memory) ⊎ IsOfFile name refusal
+
+-- what is printed could not be written
+abbrev pub IsUnprinted : ℕ → ℕ → Refusal → Type 0
+IsUnprinted old new refusal = (refusal ≡ refused.WriteFault) × CountsOne old new
+
+-- the line with the number of messages that a desk holds
+abbrev pub held_line : ℕ → List ℕ
+held_line n = line (printed_text (printed.Held n))
+
+-- ---- texts
+
+-- what became of a text, with the reference of its message, as it is printed
+abbrev pub took_printed : Took → Reference → Printed
+took_printed took.Taken reference = printed.Taken reference
+took_printed took.Repeated reference = printed.Repeated reference
+
+abbrev pub took_line : Took → Reference → List ℕ
+took_line answer reference = line (printed_text (took_printed answer reference))
+
+-- a desk takes a text: what became of it, the reference that it says, and the desk afterwards
+pub record IsTaken (before : DeskSeen) (text : List ℕ) (answer : Took) (reference : Reference) (after : DeskSeen) : Type 0 where
+  pub message : MessageValue
+  pub says : Says before.base text reference message
+  pub takes : Takes (state_of before) text (take_answer (Ok answer)) (map_of after.held)
+  pub base : after.base ≡ before.base
+
+-- the text in the file of this name is taken, and its line is printed
+abbrev pub TakesText : Option Files → Text → DeskSeen → DeskSeen → List ℕ → Type 0
+TakesText files name before after printed =
+    (text : List ℕ) × HasFile files name text × (answer : Took) × (reference : Reference) × IsTaken before text answer reference after
+    × (printed ≡ took_line answer reference)
+
+-- the texts in the files of these names are taken one after another, and their lines are printed
+abbrev pub TakesTexts : Option Files → List Text → DeskSeen → DeskSeen → List ℕ → Type 0
+TakesTexts files [] before after printed = (after ≡ before) × (printed ≡ [])
+TakesTexts files (name ∷ names) before after printed =
+    (between : DeskSeen) × (first : List ℕ) × (later : List ℕ)
+    × TakesText files name before between first × TakesTexts files names between after later × (printed ≡ first ++ later)
+
+-- why the text in the file of this name is refused: the file is not loaded; or the desk refuses the text; or `out` failed
+abbrev pub RefusesFileText : Option Files → Text → DeskSeen → ℕ → ℕ → Refusal → Type 0
+RefusesFileText files name desk old new refusal =
+    RefusesLoad files name refusal
+    ⊎ ((text : List ℕ) × HasFile files name text × (fault : DeskFault) × RefusesText (state_of desk) text fault × (refusal ≡ refusal_of_desk fault))
+    ⊎ IsUnprinted old new refusal
+
+-- why texts are refused: one is, after those before it were taken
+abbrev pub RefusesTexts : Option Files → List Text → DeskSeen → ℕ → ℕ → Refusal → Type 0
+RefusesTexts files names before old new refusal =
+    (n : ℕ) × (between : DeskSeen) × (printed : List ℕ) × TakesTexts files (take n names) before between printed
+    × (name : Text) × (slice_get names n ≡ Some name) × RefusesFileText files name between old new refusal
+
+-- `out` has grown by the line of a text
+abbrev pub PrintsText : Option Files → Text → DeskSeen → DeskSeen → Option (List ℕ) → Option (List ℕ) → Type 0
+PrintsText files name before after t u = (printed : List ℕ) × TakesText files name before after printed × Appends t u printed
+
+-- it is as it was, or it failed and took a prefix of the line
+abbrev pub LeavesText : Option Files → Text → DeskSeen → Option (List ℕ) → Option (List ℕ) → ℕ → ℕ → Type 0
+LeavesText files name before t u old new =
+    Keeps t u ⊎ ((after : DeskSeen) × (printed : List ℕ) × TakesText files name before after printed × TakesFront printed t u × CountsOne old new)
+
+-- it has grown by the lines of texts
+abbrev pub PrintsTexts : Option Files → List Text → DeskSeen → DeskSeen → Option (List ℕ) → Option (List ℕ) → Type 0
+PrintsTexts files names before after t u = (printed : List ℕ) × TakesTexts files names before after printed × Appends t u printed
+
+-- it has grown by the lines of the first texts, or it failed and took a prefix of them
+abbrev pub LeavesTexts : Option Files → List Text → DeskSeen → Option (List ℕ) → Option (List ℕ) → ℕ → ℕ → Type 0
+LeavesTexts files names before t u old new =
+    (n : ℕ) × (after : DeskSeen) × (printed : List ℕ) × TakesTexts files (take n names) before after printed
+    × (Appends t u printed ⊎ (TakesFront printed t u × CountsOne old new))
+
+-- ---- two desks
+
+-- a desk that holds what both hold
+pub record IsMergeOf (mine theirs after : DeskSeen) : Type 0 where
+  pub merges : Merges (state_of mine) (state_of theirs) Merged (map_of after.held)
+  pub base : after.base ≡ mine.base
+
+-- why two desks are not merged
+abbrev pub RefusesMerge : DeskSeen → DeskSeen → Refusal → Type 0
+RefusesMerge mine theirs refusal = (fault : DeskFault) × RefusesDesk (state_of mine) (state_of theirs) fault × (refusal ≡ refusal_of_desk fault)
+
+-- ---- what a desk shows
+
+-- the flight that a word names is the airline's, and the lines have its legs on the date that a word names
+pub record Shows (desk : DeskSeen) (flight date : Text) (printed : List ℕ) : Type 0 where
+  pub designator : Designator
+  pub spelled : SpellsDesignator designator flight
+  pub day : ℕ
+  pub dated : day_in date ≡ Some day
+  pub airline : designator.airline ≡ airline_of desk.base.records
+  pub printed_is : printed ≡ shown_flight designator day (timetable_of desk designator.flight day)
+
+-- why no flight is shown: memory ran out; or a word names no flight (6), or no date (1), or another airline's flight (41, sub-message 0)
+abbrev pub RefusesFlight : DeskSeen → Text → Text → Refusal → Type 0
+RefusesFlight desk flight date refusal =
+    (refusal ≡ refused.Memory)
+    ⊎ ((refusal ≡ refused.Value value_fault.BadDesignator) × ((d : Designator) → SpellsDesignator d flight → ⊥))
+    ⊎ ((refusal ≡ refused.Value value_fault.BadDate) × (day_in date ≡ None))
+    ⊎ ((refusal ≡ refused.Desk (desk_fault.Resolve (resolve_fault.Airline 0))) × (d : Designator) × SpellsDesignator d flight × (d.airline ≢ airline_of desk.base.records))
+
+-- the bytes are the canonical export of what the desk has
+abbrev pub IsExportOfDesk : DeskSeen → List ℕ → Type 0
+IsExportOfDesk desk bytes = (frame : Frame) × HasFrame frame desk.base.records × (chapter7 frame (days_of_desk desk) ≡ Ok bytes)
+
+-- `out` has grown by exactly that export
+abbrev pub ExportsDesk : DeskSeen → Option (List ℕ) → Option (List ℕ) → Type 0
+ExportsDesk desk before after = (bytes : List ℕ) × IsExportOfDesk desk bytes × Appends before after bytes
+
+-- it is as it was; or it failed, and took a prefix of the export
+abbrev pub LeavesDeskExport : DeskSeen → Option (List ℕ) → Option (List ℕ) → ℕ → ℕ → Type 0
+LeavesDeskExport desk before after old new = Keeps before after ⊎ ((bytes : List ℕ) × IsExportOfDesk desk bytes × TakesFront bytes before after × CountsOne old new)

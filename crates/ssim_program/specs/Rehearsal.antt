@@ -1,0 +1,271 @@
+-- What a rehearsal prints: a line for each step, a line for each desk, and whether all exports are equal.
+use Rattle.std.specs.Prelude.{◌≡◌, ◌⊎◌, ℕ, ◌+◌, List, [], ◌∷◌, ◌++◌, All, codes, length, map, Option, Some, None, Result, Ok, Err}
+use Rattle.std.specs.Fmt.{decimal}
+use Rattle.std.specs.FinMap.{entries}
+use Rattle.std.specs.List.{flat_map}
+use Rattle.std.specs.Io.KnownBytes.{Appends, Keeps}
+use Rattle.ssim_schedule.specs.Base.{airline_of}
+use Rattle.ssim_schedule.specs.BaseSeen.{BaseSeen}
+use Rattle.ssim_schedule.specs.Export as exported
+use Rattle.ssim_schedule.specs.Export.{ExportRefusal, line}
+use Rattle.ssim_schedule.specs.Sinks.{TakesFront}
+use Rattle.ssim_schedule.specs.declared.export.ExportFault.{ExportFault}
+use Rattle.ssim_schedule.specs.declared.export.ExportFault.TheVariants as export
+use Rattle.ssim_schedule.specs.declared.note.Note.{Note}
+use Rattle.ssim_text.specs.Message.{MessageValue}
+use Rattle.ssim_text.specs.Reference.{printed_reference}
+use Rattle.ssim_text.specs.declared.reference.Reference.{Reference}
+use Rattle.ssim_desk.specs.Held.{DeskState, Says}
+use Rattle.ssim_desk.specs.Kept.{DeskSeen, state_of}
+use Rattle.ssim_desk.specs.Meaning.{Exports}
+use Rattle.ssim_desk.specs.Reach.{IsStep}
+use Rattle.ssim_desk.specs.Steps.{Runs}
+use Rattle.ssim_desk.specs.declared.steps.Answer.{Answer}
+use Rattle.ssim_desk.specs.declared.steps.Answer.TheVariants.{Taken, Repeated, Merged, Refused}
+use Rattle.ssim_desk.specs.declared.steps.Step.{Step}
+use Rattle.ssim_desk.specs.declared.steps.Step.TheVariants.{Take, Merge}
+use Rattle.ssim_program.specs.Files.{Files}
+use Rattle.ssim_program.specs.Line.{Text}
+use Rattle.ssim_program.specs.Made.{HasFile, ReadsBase, RefusesBase, RefusesLoad}
+use Rattle.ssim_program.specs.Printing.{CountsOne}
+use Rattle.ssim_program.specs.Refusal.{refusal_of_desk, refusal_of_export, refusal_text}
+use Rattle.ssim_program.specs.Script.{RefusesScript, Script, SpellsScript, Written, Takes, Merges}
+use Rattle.ssim_program.specs.declared.refusal.Refusal.{Refusal}
+use Rattle.ssim_program.specs.declared.refusal.Refusal.TheVariants as refused
+use Rattle.ssim_program.specs.declared.rehearse.line.RehearsalLine.{RehearsalLine}
+use Rattle.ssim_program.specs.declared.rehearse.line.RehearsalLine.TheVariants as printed
+use Rattle.ssim_program.specs.declared.rehearse.outcome.Outcome as kept
+use Rattle.ssim_program.specs.declared.rehearse.outcome.Outcome.TheVariants as kept_as
+use Rattle.ssim_program.specs.declared.rehearse.script.Script as read
+use Rattle.ssim_program.specs.declared.rehearse.script.Written as spelt
+use Rattle.ssim_program.specs.declared.rehearse.script.Written.TheVariants as spelt_as
+
+-- ---- the lines, without their ends
+
+-- of a step: the desk, and the answer; of a desk: what it holds and exports; and the last line
+abbrev pub rehearsal_text : RehearsalLine → List ℕ
+rehearsal_text (printed.Taken desk reference) = decimal desk ++ codes " taken " ++ printed_reference reference
+rehearsal_text (printed.Repeated desk reference) = decimal desk ++ codes " repeated " ++ printed_reference reference
+rehearsal_text (printed.Merged desk) = decimal desk ++ codes " merged"
+rehearsal_text (printed.Refused desk fault) = decimal desk ++ 32 ∷ refusal_text (refusal_of_desk fault)
+rehearsal_text (printed.Exported desk messages bytes) =
+    codes "desk " ++ decimal desk ++ codes " held " ++ decimal messages ++ codes " bytes " ++ decimal bytes
+rehearsal_text (printed.NotExported desk airline fault) = codes "desk " ++ decimal desk ++ 32 ∷ refusal_text (refusal_of_export airline fault)
+rehearsal_text printed.Same = codes "same"
+rehearsal_text printed.Different = codes "different"
+
+abbrev pub printed_line : RehearsalLine → List ℕ
+printed_line l = line (rehearsal_text l)
+
+-- ---- the steps
+
+-- the desk that a step changes
+abbrev pub desk_of : Step → ℕ
+desk_of (Take desk text) = desk
+desk_of (Merge into from) = into
+
+-- the line of a text: the reference is that of a message that the text says over the base
+abbrev pub IsTakeLine : BaseSeen → ℕ → List ℕ → Answer → RehearsalLine → Type 0
+IsTakeLine base desk text Taken l = (reference : Reference) × (message : MessageValue) × Says base text reference message × (l ≡ printed.Taken desk reference)
+IsTakeLine base desk text Repeated l = (reference : Reference) × (message : MessageValue) × Says base text reference message × (l ≡ printed.Repeated desk reference)
+IsTakeLine base desk text Merged l = ⊥
+IsTakeLine base desk text (Refused fault) l = l ≡ printed.Refused desk fault
+
+-- the line of a merge
+abbrev pub IsMergeLine : ℕ → Answer → RehearsalLine → Type 0
+IsMergeLine desk Taken l = ⊥
+IsMergeLine desk Repeated l = ⊥
+IsMergeLine desk Merged l = l ≡ printed.Merged desk
+IsMergeLine desk (Refused fault) l = l ≡ printed.Refused desk fault
+
+-- the line of a step; desks are printed from 1
+abbrev pub IsStepLine : BaseSeen → Step → Answer → RehearsalLine → Type 0
+IsStepLine base (Take desk text) answer l = IsTakeLine base (desk + 1) text.items answer l
+IsStepLine base (Merge into from) answer l = IsMergeLine (into + 1) answer l
+
+-- the lines of steps, in order
+abbrev pub AreStepLines : BaseSeen → List Step → List Answer → List RehearsalLine → Type 0
+AreStepLines base [] [] [] = Unit {0}
+AreStepLines base (step ∷ steps) (answer ∷ answers) (l ∷ lines) = IsStepLine base step answer l × AreStepLines base steps answers lines
+AreStepLines base steps answers lines = ⊥
+
+-- answers that have lines
+abbrev pub HasTakeLine : BaseSeen → ℕ → List ℕ → Answer → Type 0
+HasTakeLine base desk text answer = (l : RehearsalLine) × IsTakeLine base desk text answer l
+
+abbrev pub HasMergeLine : ℕ → Answer → Type 0
+HasMergeLine desk answer = (l : RehearsalLine) × IsMergeLine desk answer l
+
+abbrev pub HasLine : BaseSeen → Step → Answer → Type 0
+HasLine base step answer = (l : RehearsalLine) × IsStepLine base step answer l
+
+abbrev pub HaveLines : BaseSeen → List Step → List Answer → Type 0
+HaveLines base steps answers = (k : ℕ) (step : Step) (answer : Answer) → IsStep steps answers k step answer → HasLine base step answer
+
+-- ---- the desks
+
+-- the export of a desk: its bytes, or why there are none
+abbrev pub Outcome : Type 0
+Outcome = Result (List ℕ) ExportRefusal
+
+abbrev pub outcome_of : kept.Outcome → Outcome
+outcome_of (kept_as.Exported buffer) = Ok buffer.bytes
+outcome_of (kept_as.Variations flight) = Err (exported.Variations flight)
+outcome_of kept_as.Records = Err exported.Records
+
+-- what a fault of an export says of the outcome, if it is not for want of memory
+abbrev pub refused_outcome : ExportFault → Option Outcome
+refused_outcome (export.Variations flight) = Some (Err (exported.Variations flight))
+refused_outcome export.Records = Some (Err exported.Records)
+refused_outcome export.WriteFault = None
+refused_outcome export.Memory = None
+
+-- the line of the desk with this number and export
+abbrev pub desk_line : ℕ → DeskState → Outcome → RehearsalLine
+desk_line n desk (Ok bytes) = printed.Exported n (length (entries desk.held)) (length bytes)
+desk_line n desk (Err (exported.Variations flight)) = printed.NotExported n (airline_of desk.base.records) (export.Variations flight)
+desk_line n desk (Err exported.Records) = printed.NotExported n (airline_of desk.base.records) export.Records
+
+-- the lines of desks and their exports; n is the number of the first
+abbrev pub desk_lines : ℕ → List DeskState → List Outcome → List RehearsalLine
+desk_lines n [] outcomes = []
+desk_lines n (desk ∷ desks) [] = []
+desk_lines n (desk ∷ desks) (outcome ∷ outcomes) = desk_line n desk outcome ∷ desk_lines (n + 1) desks outcomes
+
+-- each desk has this export
+abbrev pub AreExports : List DeskState → List Outcome → Type 0
+AreExports [] [] = Unit {0}
+AreExports (desk ∷ desks) (outcome ∷ outcomes) = Exports desk outcome × AreExports desks outcomes
+AreExports desks outcomes = ⊥
+
+-- each of these exports is equal to one
+abbrev pub AreEqualTo : Outcome → List Outcome → Type 0
+AreEqualTo outcome [] = Unit {0}
+AreEqualTo outcome (other ∷ others) = (other ≡ outcome) × AreEqualTo outcome others
+
+-- all exports are equal: the same bytes, or refusals of the same number and place
+abbrev pub AreSame : List Outcome → Type 0
+AreSame [] = Unit {0}
+AreSame (outcome ∷ outcomes) = AreEqualTo outcome outcomes
+
+-- the last line: `same` exactly if they are
+abbrev pub IsVerdict : List Outcome → RehearsalLine → Type 0
+IsVerdict outcomes l = (AreSame outcomes × (l ≡ printed.Same)) ⊎ ((AreSame outcomes → ⊥) × (l ≡ printed.Different))
+
+-- ---- the rehearsal
+
+-- a desk over the base that holds nothing
+abbrev pub fresh : BaseSeen → DeskSeen
+fresh base = record { base = base; held = []; applied = 0 }
+
+-- the lines of desks after a run: a line for each with its export, and whether all exports are equal
+pub record HasEnds (after : List DeskState) (lines : List RehearsalLine) : Type 0 where
+  pub outcomes : List Outcome
+  pub exports : AreExports after outcomes
+  pub last : RehearsalLine
+  pub verdict : IsVerdict outcomes last
+  pub all : lines ≡ desk_lines 1 after outcomes ++ last ∷ []
+
+-- The lines of a run of steps on desks over a base, each of which holds nothing at the start: exactly the answers of the run, and then
+-- the lines of the desks after it.
+pub record Rehearses (base : BaseSeen) (count : ℕ) (steps : List Step) (lines : List RehearsalLine) : Type 0 where
+  pub start : List DeskState
+  pub number : length start ≡ count
+  pub each : All (λ desk. desk ≡ state_of (fresh base)) start
+  pub answers : List Answer
+  pub after : List DeskState
+  pub runs : Runs start steps answers after
+  pub step_lines : List RehearsalLine
+  pub steps_printed : AreStepLines base steps answers step_lines
+  pub end_lines : List RehearsalLine
+  pub ends : HasEnds after end_lines
+  pub all : lines ≡ step_lines ++ end_lines
+
+-- ---- from files
+
+-- a step of a script, and a script, as the program reads them
+abbrev pub as_written : spelt.Written → Written
+as_written (spelt_as.Take desk name) = Takes desk name.now
+as_written (spelt_as.Merge into from) = Merges into from
+
+abbrev pub script_of : read.Script → Script
+script_of script = record { count = script.count; steps = map as_written script.steps.items }
+
+-- the step of a script with its text from the file
+abbrev pub IsLoaded : Option Files → Written → Step → Type 0
+IsLoaded files (Takes desk name) (Take d text) = (d ≡ desk) × HasFile files name text.items
+IsLoaded files (Takes desk name) (Merge into from) = ⊥
+IsLoaded files (Merges into from) (Take d text) = ⊥
+IsLoaded files (Merges into from) (Merge i f) = (i ≡ into) × (f ≡ from)
+
+-- each step with its text
+abbrev pub AreLoaded : Option Files → List Written → List Step → Type 0
+AreLoaded files [] [] = Unit {0}
+AreLoaded files [] (step ∷ steps) = ⊥
+AreLoaded files (written ∷ script) [] = ⊥
+AreLoaded files (written ∷ script) (step ∷ steps) = IsLoaded files written step × AreLoaded files script steps
+
+-- the file of this name is this script
+abbrev pub ReadsScript : Option Files → Text → Script → Type 0
+ReadsScript files name script = (bytes : List ℕ) × HasFile files name bytes × SpellsScript script bytes
+
+-- the file of this name is a script of this number of desks, and these are its steps with their texts
+pub record HasSteps (files : Option Files) (name : Text) (count : ℕ) (steps : List Step) : Type 0 where
+  pub script : Script
+  pub reads : ReadsScript files name script
+  pub desks : script.count ≡ count
+  pub loaded : AreLoaded files script.steps steps
+
+-- what `rehearse` prints of three files and of the texts that the script names
+pub record RehearsesFiles (files : Option Files) (dataset stations script : Text) (bytes : List ℕ) : Type 0 where
+  pub base : BaseSeen
+  pub notes : List Note
+  pub read : ReadsBase files dataset stations base notes
+  pub count : ℕ
+  pub steps : List Step
+  pub has_steps : HasSteps files script count steps
+  pub lines : List RehearsalLine
+  pub rehearsed : Rehearses base count steps lines
+  pub printed : bytes ≡ flat_map printed_line lines
+
+-- what `out` holds has grown by exactly these bytes
+abbrev pub WritesRehearsal : Option Files → Text → Text → Text → Option (List ℕ) → Option (List ℕ) → Type 0
+WritesRehearsal files dataset stations script before after = (bytes : List ℕ) × RehearsesFiles files dataset stations script bytes × Appends before after bytes
+
+-- it is as it was; or it failed, and took a prefix of them
+abbrev pub LeavesRehearsal : Option Files → Text → Text → Text → Option (List ℕ) → Option (List ℕ) → ℕ → ℕ → Type 0
+LeavesRehearsal files dataset stations script before after old new =
+    Keeps before after ⊎ ((bytes : List ℕ) × RehearsesFiles files dataset stations script bytes × TakesFront bytes before after × CountsOne old new)
+
+-- ---- why it is refused
+
+-- the text of a step is not loaded
+abbrev pub RefusesStep : Option Files → Written → Refusal → Type 0
+RefusesStep files (Takes desk name) refusal = RefusesLoad files name refusal
+RefusesStep files (Merges into from) refusal = ⊥
+
+-- the text of one of these steps is not loaded, or memory ran out
+abbrev pub RefusesTexts : Option Files → List Written → Refusal → Type 0
+RefusesTexts files script refusal =
+    (refusal ≡ refused.Memory)
+    ⊎ ((before : List Written) × (step : Written) × (after : List Written) × (script ≡ before ++ step ∷ after)
+    × ((steps : List Step) × AreLoaded files before steps) × RefusesStep files step refusal)
+
+-- the script is not loaded, or is no script, or one of its texts is not loaded
+abbrev pub RefusesSteps : Option Files → Text → Refusal → Type 0
+RefusesSteps files name refusal =
+    RefusesLoad files name refusal
+    ⊎ ((bytes : List ℕ) × HasFile files name bytes × RefusesScript bytes refusal)
+    ⊎ ((script : Script) × ReadsScript files name script × RefusesTexts files script.steps refusal)
+
+-- Why there are no lines: memory ran out; or no base is read; or the steps are refused.
+abbrev pub RefusesLines : Option Files → Text → Text → Text → Refusal → Type 0
+RefusesLines files dataset stations script refusal =
+    (refusal ≡ refused.Memory)
+    ⊎ RefusesBase files dataset stations refusal
+    ⊎ (((base : BaseSeen) × (notes : List Note) × ReadsBase files dataset stations base notes) × RefusesSteps files script refusal)
+
+-- why `rehearse` is refused: there are no lines, or `out` failed
+abbrev pub RefusesRehearsal : Option Files → Text → Text → Text → ℕ → ℕ → Refusal → Type 0
+RefusesRehearsal files dataset stations script old new refusal =
+    RefusesLines files dataset stations script refusal ⊎ ((refusal ≡ refused.WriteFault) × CountsOne old new)

@@ -1,0 +1,96 @@
+-- Desk scripts: which bytes are a script, and its steps.
+use Rattle.std.specs.Prelude.{◌≡◌, ◌⊎◌, ℕ, ◌+◌, ◌-◌, ◌<◌, ◌&&◌, ◌==◌, not, nat_le, nat_lt, if◌then◌else◌, List, [], ◌∷◌, ◌++◌, length, map, Option, Some, None, option_map, codes}
+use Rattle.std.specs.List.{list_any}
+use Rattle.std.specs.Str.{bytes_eq, is_utf8}
+use Rattle.ssim_text.specs.Bytes.{◌>>=◌, word, behind}
+use Rattle.ssim_text.specs.Left.{lines_left}
+use Rattle.ssim_program.specs.declared.refusal.Refusal.{Refusal}
+use Rattle.ssim_program.specs.declared.refusal.Refusal.TheVariants as refused
+
+-- a step as it is written, with desks counted from 0
+pub data Written : Type 0 where
+  Takes : ℕ → List ℕ → Written  -- the desk takes the text in the file of this name
+  Merges : ℕ → ℕ → Written  -- the desk takes over what the other desk holds
+
+-- one digit from 1 up to a number of desks names a desk
+abbrev pub desk_in : ℕ → List ℕ → Option ℕ
+desk_in count [] = None
+desk_in count (digit ∷ []) = if nat_le 49 digit && nat_lt digit (49 + count) then Some (digit - 49) else None
+desk_in count (digit ∷ other ∷ rest) = None
+
+-- DESKS n, with n from 1 to 9: the number of desks
+abbrev pub count_in : List ℕ → Option ℕ
+count_in line = if bytes_eq (word line) (codes "DESKS") then option_map (λ n. n + 1) (desk_in 9 (behind line)) else None
+
+-- the name of a file: it has a byte, no blank, and is UTF-8
+abbrev pub name_in : List ℕ → Option (List ℕ)
+name_in text = if nat_lt 0 (length text) && (not (list_any (λ b. b == 32) text) && is_utf8 text) then Some text else None
+
+-- TAKE d NAME
+abbrev pub take_in : ℕ → List ℕ → Option Written
+take_in count rest = do
+  desk ← desk_in count (word rest)
+  name ← name_in (behind rest)
+  Some (Takes desk name)
+
+-- MERGE d e
+abbrev pub merge_in : ℕ → List ℕ → Option Written
+merge_in count rest = do
+  into ← desk_in count (word rest)
+  from ← desk_in count (behind rest)
+  Some (Merges into from)
+
+-- the step that a line spells, if there are so many desks
+abbrev pub step_in : ℕ → List ℕ → Option Written
+step_in count line =
+    if bytes_eq (word line) (codes "TAKE") then take_in count (behind line)
+    else (if bytes_eq (word line) (codes "MERGE") then merge_in count (behind line)
+    else None)
+
+-- each line spells a step, in order
+abbrev pub AreSteps : ℕ → List (ℕ × List ℕ) → List Written → Type 0
+AreSteps count lines steps = map (λ l. step_in count l.1) lines ≡ map Some steps
+
+-- a script: the number of its desks, and its steps
+pub record Script : Type 0 where
+  pub count : ℕ
+  pub steps : List Written
+
+-- The bytes are the script: of the lines that are left, as lines of messages are, the first is DESKS n, and each other is a step.
+pub record SpellsScript (script : Script) (text : List ℕ) : Type 0 where
+  pub first : ℕ × List ℕ
+  pub others : List (ℕ × List ℕ)
+  pub lines : lines_left text ≡ first ∷ others
+  pub count : count_in first.1 ≡ Some script.count
+  pub steps : AreSteps script.count others script.steps
+
+-- of these lines the one with this number is the first that spells no step
+pub record IsFirstOther (count : ℕ) (lines : List (ℕ × List ℕ)) (number : ℕ) : Type 0 where
+  pub before : List (ℕ × List ℕ)
+  pub line : ℕ × List ℕ
+  pub after : List (ℕ × List ℕ)
+  pub are : lines ≡ before ++ line ∷ after
+  pub steps : List Written
+  pub spelled : AreSteps count before steps
+  pub no_step : step_in count line.1 ≡ None
+  pub is : number ≡ line.0
+
+-- a refusal names that line, or memory ran out
+abbrev pub IsOtherLine : ℕ → List (ℕ × List ℕ) → Refusal → Type 0
+IsOtherLine count lines refusal = (refusal ≡ refused.Memory) ⊎ ((number : ℕ) × (refusal ≡ refused.Script number) × IsFirstOther count lines number)
+
+-- the number is that of the line: 1 without lines, or the first line, which is not DESKS n, or the first line that spells no step
+abbrev pub IsNoScriptAt : List ℕ → ℕ → Type 0
+IsNoScriptAt text number =
+    ((lines_left text ≡ []) × (number ≡ 1))
+    ⊎ ((first : ℕ × List ℕ) × (others : List (ℕ × List ℕ)) × (lines_left text ≡ first ∷ others)
+    × (((count_in first.1 ≡ None) × (number ≡ first.0)) ⊎ ((count : ℕ) × (count_in first.1 ≡ Some count) × IsFirstOther count others number)))
+
+-- the bytes are no script, and the refusal names the line; or memory ran out
+abbrev pub RefusesScript : List ℕ → Refusal → Type 0
+RefusesScript text refusal = (refusal ≡ refused.Memory) ⊎ ((number : ℕ) × (refusal ≡ refused.Script number) × IsNoScriptAt text number)
+
+-- the desks of a step are among so many
+abbrev pub IsStepOf : ℕ → Written → Type 0
+IsStepOf count (Takes desk name) = desk < count
+IsStepOf count (Merges into from) = (into < count) × (from < count)

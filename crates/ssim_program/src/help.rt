@@ -1,0 +1,153 @@
+//! The texts of `--help`.
+
+pub(crate) const ABOUT: &str = "A schedule desk for airline schedules in SSIM chapters 4, 5 and 7";
+
+pub(crate) const EXAMPLES: &str = "\
+A desk is a file: a data set, its station table, and the SSM and ASM texts that it took.
+
+Example:
+  ssimdesk start season.ssim stations.txt desk
+  ssimdesk take desk desk cancel.txt
+  ssimdesk export desk > season_now.ssim
+
+For each file that is read, - is standard input.
+Exit status: 0 if the command was done; 1 if it was refused, with a line 'refused', the
+number, the name and the place on standard error; 2 if the words are no command.
+'ssimdesk COMMAND --help' says more of a command.";
+
+pub(crate) const CHECK: &str = "\
+Read a chapter 7 data set, print a note on each record serial and check reference that is
+out of order, and print a summary";
+
+pub(crate) const CHECK_EXAMPLE: &str = "\
+Example:
+  ssimdesk check season.ssim
+prints, if nothing is wrong, the number of records, of flights and of notes:
+  ok records 4 flights 1 notes 0
+Exit status: 0, also with notes; 1 if the data set is refused or cannot be read.";
+
+pub(crate) const TIDY: &str = "\
+Read a chapter 7 data set, and print it with the periods of each flight divided anew, in
+the one canonical form";
+
+pub(crate) const TIDY_EXAMPLE: &str = "\
+Example:
+  ssimdesk tidy season.ssim > tidy.ssim
+writes the same flights on the same dates, with serials from 000001 on.
+Exit status: 0; 1 if the data set is refused, or a flight has more than 99 variations.";
+
+pub(crate) const START: &str = "\
+Read a chapter 7 data set and a station table, and write the desk file of a desk that
+holds no message";
+
+pub(crate) const START_EXAMPLE: &str = "\
+Example:
+  ssimdesk start season.ssim stations.txt desk
+writes the file 'desk' and prints:
+  held 0
+Exit status: 0; 1 if the data set or the table is refused, or a file cannot be read or
+written.";
+
+pub(crate) const TAKE: &str = "\
+Read a desk file, take SSM and ASM texts one after the other, print what became of each,
+and write the desk file OUT, which may be the same file";
+
+pub(crate) const TAKE_EXAMPLE: &str = "\
+Example:
+  ssimdesk take desk desk cancel.txt cancel.txt
+prints the reference of each message, 'taken' if it is new and 'repeated' if it was held:
+  taken SSM 01JUN25 00001 001
+  repeated SSM 01JUN25 00001 001
+At the first text that is refused it stops, and OUT is not written.
+Exit status: 0; 1 if the desk file or a text is refused, or a file cannot be read or
+written.";
+
+pub(crate) const MERGE: &str = "\
+Read two desk files that began from the same data set and station table, and write the
+desk file OUT of a desk that holds the messages of both";
+
+pub(crate) const MERGE_EXAMPLE: &str = "\
+Example:
+  ssimdesk merge zurich geneva both
+writes the file 'both' and prints the number of messages that it holds:
+  held 3
+Exit status: 0; 1 if a desk file is refused, the data sets or the tables differ (61), the
+two hold different messages under one reference (60), or a file cannot be read or written.";
+
+pub(crate) const SHOW: &str =
+    "Read a desk file, and print the legs of a flight on a date of origin";
+
+pub(crate) const SHOW_EXAMPLE: &str = "\
+Example:
+  ssimdesk show desk LX544 07JUL25
+prints the flight and the date, then 'no flight' or a line for each leg: its sequence; the
+departure station, passenger and aircraft time, and UTC variation; the arrival station,
+aircraft and passenger time, and UTC variation; the date variations; the service type and
+the aircraft type, with . for each blank:
+  LX544 07JUL25
+  01 ZRH 0600 0600 +0200 LHR 0715 0715 +0100 00 J 320
+Exit status: 0, also if there is no flight; 1 if the desk file is refused, FLIGHT is no
+designator (6), DATE is no date (1), or the airline is another one (41).";
+
+pub(crate) const FINDINGS: &str = "\
+Read a desk file, and print for each sub-message that it holds on how many dates it acted,
+and why not on the others";
+
+pub(crate) const FINDINGS_EXAMPLE: &str = "\
+Example:
+  ssimdesk findings desk
+prints the reference, the number of the sub-message, its action and flight, and the dates:
+  SSM 01JUN25 00003 001 1 TIM LX544 acted 4 absent 0 present 0 leg 0 station 0
+Exit status: 0; 1 if the desk file is refused or cannot be read.";
+
+pub(crate) const EXPORT: &str = "\
+Read a desk file, and print its schedule as a chapter 7 data set in the one canonical form";
+
+pub(crate) const EXPORT_EXAMPLE: &str = "\
+Example:
+  ssimdesk export desk > season_now.ssim
+Exit status: 0; 1 if the desk file is refused, or a flight has more than 99 variations.";
+
+pub(crate) const REHEARSE: &str = "\
+Read a chapter 7 data set, a station table and a script, run the script on desks that
+begin from them, and print whether the desks agree at the end";
+
+pub(crate) const REHEARSE_EXAMPLE: &str = "\
+The first line of a script is 'DESKS n', n from 1 to 9. Each other line is 'TAKE d NAME',
+desk d takes the text in the file NAME, or 'MERGE d e', desk d takes what desk e holds.
+Example:
+  ssimdesk rehearse season.ssim stations.txt script.txt
+with the lines DESKS 2, TAKE 1 cancel.txt and MERGE 2 1 prints:
+  1 taken SSM 01JUN25 00001 001
+  2 merged
+  desk 1 held 1 bytes 4020
+  desk 2 held 1 bytes 4020
+  same
+Exit status: 0, also if the desks differ or a step is refused; 1 if the data set, the
+table or the script (63) is refused, or a file cannot be read.";
+
+/// What a value is, by its name in the usage.
+pub(crate) fn about_value(shown: &str) -> &'static str {
+    if shown == "DATASET" {
+        return "The data set's file, 200 bytes a record; - is standard input";
+    }
+    if shown == "STATIONS" {
+        return "The station table: lines such as ZRH 30MAR25 25OCT25 +0200; - is standard input";
+    }
+    if shown == "DESK" || shown == "OTHER" {
+        return "A desk file; - is standard input";
+    }
+    if shown == "OUT" {
+        return "The desk file to write";
+    }
+    if shown == "TEXT" {
+        return "The files of one or more SSM and ASM texts, a message each; - is standard input";
+    }
+    if shown == "FLIGHT" {
+        return "A flight designator such as LX544";
+    }
+    if shown == "DATE" {
+        return "A date of origin such as 07JUL25";
+    }
+    "The script; - is standard input"
+}

@@ -1,0 +1,174 @@
+//! The exports of desks, and whether they are equal.
+ghost use Rattle.std.specs.Prelude.{◌≡◌, ◌↔◌, ◌<◌, ◌+◌, ◌^◌, ◌≤◌, ◌++◌, IfOk, IsTrue, OnOk, length, map, option_map};
+ghost use Rattle.ssim_desk.specs.Kept.{state_of};
+ghost use Rattle.ssim_desk.specs.Meaning.{Exports};
+ghost use Rattle.ssim_program.specs.Rehearsal.{AreEqualTo, AreExports, AreSame, HasEnds, IsVerdict, desk_line, desk_lines, outcome_of, refused_outcome};
+
+use crate::rehearse::line::RehearsalLine;
+use ssim_desk::{Desk, DeskFault};
+use ssim_records::Bytes;
+use ssim_schedule::ExportFault;
+use ssim_values::{Flight, Memory};
+use std::alloc::Global;
+
+/// The export of a desk.
+#[derive(Drop)]
+pub(crate) enum Outcome {
+    /// Its bytes.
+    Exported(Bytes),
+    /// 50: the flight has more than 99 itinerary variations.
+    Variations(Flight),
+    /// 51: there are more than 999,999 records.
+    Records,
+}
+
+/// The outcome that a fault is, if it is not for want of memory.
+fn refused(fault: ExportFault) -> Option<Outcome>
+    ensures { option_map outcome_of result ≡ refused_outcome fault }
+{
+    match fault {
+        ExportFault::Variations(flight) => Some(Outcome::Variations(flight)),
+        ExportFault::Records => Some(Outcome::Records),
+        ExportFault::WriteFault => None,
+        ExportFault::Memory => None,
+    }
+}
+
+/// Exports a desk into memory.
+fn export_of(alloc: Global, desk: &Desk) -> Result<Outcome, Memory>
+    ensures { IfOk result (λ outcome. Exports (state_of desk.now) (outcome_of outcome)) }
+{
+    // No effect at run time. The proof reads from this use what the desk's messages are.
+    let _ = desk.held();
+    let mut out = Bytes::new(alloc);
+    match desk.export(&mut out) {
+        Ok(()) => Ok(Outcome::Exported(out)),
+        Err(fault) => match refused(fault) {
+            Some(outcome) => Ok(outcome),
+            None => Err(Memory),
+        },
+    }
+}
+
+/// The exports of desks, in their order.
+fn exports_of(alloc: Global, desks: &[Desk]) -> Result<Vec<Outcome>, Memory>
+    ensures are { IfOk result (λ outcomes. AreExports (map state_of desks.now) (map outcome_of outcomes.items)) }
+    ensures count { IfOk result (λ outcomes. length outcomes.items ≡ length desks.now) }
+{
+    let mut outcomes = Vec::with_capacity(alloc, desks.len())?;
+    for desk in desks {
+        outcomes.push(export_of(alloc, desk)?)?;
+    }
+    Ok(outcomes)
+}
+
+/// The line of a desk and its export.
+fn line_of(number: usize, desk: &Desk, outcome: &Outcome) -> RehearsalLine
+    ensures { result ≡ desk_line number (state_of desk.now) (outcome_of outcome.now) }
+{
+    match outcome {
+        Outcome::Exported(bytes) => RehearsalLine::Exported {
+            desk: number,
+            messages: desk.held().len(),
+            bytes: bytes.bytes().len(),
+        },
+        Outcome::Variations(flight) => RehearsalLine::NotExported {
+            desk: number,
+            airline: desk.base().airline(),
+            fault: ExportFault::Variations(*flight),
+        },
+        Outcome::Records => RehearsalLine::NotExported {
+            desk: number,
+            airline: desk.base().airline(),
+            fault: ExportFault::Records,
+        },
+    }
+}
+
+/// Adds the lines of desks and their exports; `number` is that of the first.
+fn add_lines(
+    lines: &mut Vec<RehearsalLine>,
+    number: usize,
+    desks: &[Desk],
+    outcomes: &[Outcome],
+) -> Result<(), Memory>
+    requires { number + length desks.now < 2 ^ 64 }
+    ensures { OnOk result (lines.new.items ≡ lines.old.items ++ desk_lines number (map state_of desks.now) (map outcome_of outcomes.now)) }
+{
+    // No effect at run time. The borrow checker learns from these uses which types a line contains.
+    let _fault: Option<DeskFault> = None;
+    let _export: Option<ExportFault> = None;
+    match (desks.split_first(), outcomes.split_first()) {
+        (Some((desk, desks)), Some((outcome, outcomes))) => {
+            lines.push(line_of(number, desk, outcome))?;
+            add_lines(lines, number + 1, desks, outcomes)
+        }
+        _ => Ok(()),
+    }
+}
+
+/// Whether two exports are the same bytes, or refusals of the same number and place.
+fn same(one: &Outcome, other: &Outcome) -> bool
+    ensures { IsTrue result ↔ (outcome_of other.now ≡ outcome_of one.now) }
+{
+    match one {
+        Outcome::Exported(bytes) => match other {
+            Outcome::Exported(others) => bytes.bytes() == others.bytes(),
+            _ => false,
+        },
+        Outcome::Variations(flight) => match other {
+            Outcome::Variations(another) => flight == another,
+            _ => false,
+        },
+        Outcome::Records => match other {
+            Outcome::Records => true,
+            _ => false,
+        },
+    }
+}
+
+/// Whether each of these exports is equal to one.
+fn are_equal_to(outcome: &Outcome, others: &[Outcome]) -> bool
+    ensures { IsTrue result ↔ AreEqualTo (outcome_of outcome.now) (map outcome_of others.now) }
+{
+    match others.split_first() {
+        Some((other, others)) => same(outcome, other) && are_equal_to(outcome, others),
+        None => true,
+    }
+}
+
+/// Whether all exports are equal.
+fn are_same(outcomes: &[Outcome]) -> bool
+    ensures { IsTrue result ↔ AreSame (map outcome_of outcomes.now) }
+{
+    match outcomes.split_first() {
+        Some((outcome, others)) => are_equal_to(outcome, others),
+        None => true,
+    }
+}
+
+/// The last line.
+fn verdict(outcomes: &[Outcome]) -> RehearsalLine
+    ensures { IsVerdict (map outcome_of outcomes.now) result }
+{
+    if are_same(outcomes) {
+        RehearsalLine::Same
+    } else {
+        RehearsalLine::Different
+    }
+}
+
+/// The lines of desks after a run: a line for each desk, counted from 1, and whether all exports are equal.
+pub(crate) fn ends_of(alloc: Global, desks: &[Desk]) -> Result<Vec<RehearsalLine>, Memory>
+    requires { length desks.now ≤ 9 }
+    ensures { IfOk result (λ lines. HasEnds (map state_of desks.now) lines.items) }
+{
+    // No effect at run time. The borrow checker learns from these uses which types a line contains.
+    let _fault: Option<DeskFault> = None;
+    let _export: Option<ExportFault> = None;
+    let outcomes = exports_of(alloc, desks)?;
+    let mut lines = Vec::new(alloc);
+    add_lines(&mut lines, 1, desks, &outcomes)?;
+    lines.push(verdict(&outcomes))?;
+    Ok(lines)
+}

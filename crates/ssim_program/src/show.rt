@@ -1,0 +1,179 @@
+//! The command `show`: a flight of a desk on a date.
+
+ghost use Rattle.std.specs.Prelude.{◌≡◌, ◌++◌, ◌≤◌, ◌<◌, ◌∷◌, true, None, Some, IfErr, IfOk, OnErr, OnOk};
+ghost use Rattle.ssim_schedule.specs.Export.{line};
+ghost use Rattle.ssim_text.specs.Lines.{day_in};
+ghost use Rattle.ssim_values.specs.Characters.{two_digits};
+ghost use Rattle.ssim_values.specs.Day.{day_text};
+ghost use Rattle.ssim_values.specs.Designator.{designator_text};
+ghost use Rattle.ssim_program.specs.Desks.{RefusesFlight, Shows};
+ghost use Rattle.ssim_program.specs.Effects.{Leaves, Writes};
+ghost use Rattle.ssim_program.specs.Line.{Show};
+ghost use Rattle.ssim_program.specs.Reasons.{Refuses};
+ghost use Rattle.ssim_program.specs.Shown.{columns_text, dotted, leg_line, shown, shown_flight};
+
+use crate::desk_file::open;
+use crate::printer::{Printer, print_all};
+use crate::refusal::Refusal;
+use crate::store::Store;
+use ssim_desk::{Desk, DeskFault};
+use ssim_schedule::{PlacedLeg, ResolveFault};
+use ssim_values::{Day, Designator, Fault, Memory};
+use std::alloc::Global;
+
+/// Prints a flight of the desk in a file on a date.
+pub(crate) fn show_flight<S: Store, O: Printer>(
+    alloc: Global,
+    file: &str,
+    flight: &str,
+    date: &str,
+    store: &mut S,
+    out: &mut O,
+) -> Result<(), Refusal>
+    ensures done { OnOk result (Writes (Show file.now flight.now date.now) (S.files store.old) (S.files store.new) (O.taken out.old) (O.taken out.new)) }
+    ensures refused { OnErr result (Leaves (Show file.now flight.now date.now) (S.files store.old) (S.files store.new) (O.taken out.old) (O.taken out.new) (O.failures out.old) (O.failures out.new)) }
+    ensures why { IfErr result (Refuses (Show file.now flight.now date.now) (S.files store.old) (O.failures out.old) (O.failures out.new)) }
+    ensures device { O.device out.new ≡ O.device out.old }
+    ensures flushed { OnOk result (O.flushed out.new ≡ true) }
+{
+    let desk = open(alloc, file, store)?;
+    let lines = shown(alloc, &desk, flight, date)?;
+    match print_all(out, &lines) {
+        Ok(()) => Ok(()),
+        Err(failed) => Err(Refusal::from(failed)),
+    }
+}
+
+/// The lines of the flight that the words name.
+fn shown(alloc: Global, desk: &Desk, flight: &str, date: &str) -> Result<Vec<u8>, Refusal>
+    ensures ok { IfOk result (λ lines. Shows desk.now flight.now date.now lines.items) }
+    ensures err { IfErr result (RefusesFlight desk.now flight.now date.now) }
+{
+    let designator = Designator::parse(flight.as_bytes())?;
+    let day = day_in(date)?;
+    if designator.airline != desk.base().airline() {
+        return Err(Refusal::from(DeskFault::Resolve(ResolveFault::Airline(0))));
+    }
+    let legs = desk.itinerary(&designator.flight, day);
+    let lines = lines_of(alloc, designator, day, legs)?;
+    Ok(lines)
+}
+
+/// The day that the word spells.
+fn day_in(date: &str) -> Result<Day, Fault>
+    ensures ok { IfOk result (λ day. day_in date.now ≡ Some day) }
+    ensures err { IfErr result (λ fault. (fault ≡ Fault.BadDate) × (day_in date.now ≡ None)) }
+{
+    match date.as_bytes().as_array() {
+        Some(text) => Day::parse(text),
+        None => Err(Fault::BadDate),
+    }
+}
+
+/// The flight and the date, then a line for each leg, or `no flight`.
+fn lines_of(
+    alloc: Global,
+    designator: Designator,
+    day: Day,
+    legs: &[PlacedLeg],
+) -> Result<Vec<u8>, Memory>
+    ensures { IfOk result (λ lines. lines.items ≡ shown_flight designator day legs.now) }
+{
+    let mut lines = Vec::new(alloc);
+    push_heading(&mut lines, designator, day)?;
+    if legs.is_empty() {
+        lines.extend_from_slice(b"no flight\n")?;
+    }
+    for leg in legs {
+        push_leg(&mut lines, leg)?;
+    }
+    Ok(lines)
+}
+
+/// Adds the line of the flight and the date.
+fn push_heading(lines: &mut Vec<u8>, designator: Designator, day: Day) -> Result<(), Memory>
+    ensures { OnOk result (lines.new.items ≡ lines.old.items ++ line (designator_text designator ++ 32 ∷ day_text day)) }
+{
+    lines.extend_from_slice(designator.write().as_slice())?;
+    lines.push(b' ')?;
+    lines.extend_from_slice(&day.write())?;
+    lines.push(b'\n')?;
+    Ok(())
+}
+
+/// Adds the line of a leg.
+fn push_leg(lines: &mut Vec<u8>, leg: &PlacedLeg) -> Result<(), Memory>
+    ensures { OnOk result (lines.new.items ≡ lines.old.items ++ leg_line leg.now) }
+{
+    let own = leg.columns().bytes();
+    push_sequence(lines, leg.sequence())?;
+    push_columns(lines, &own)?;
+    lines.push(b'\n')?;
+    Ok(())
+}
+
+fn push_sequence(lines: &mut Vec<u8>, sequence: u8) -> Result<(), Memory>
+    requires { sequence < 100 }
+    ensures { OnOk result (lines.new.items ≡ lines.old.items ++ two_digits sequence) }
+{
+    lines.push(b'0' + sequence / 10)?;
+    lines.push(b'0' + sequence % 10)?;
+    Ok(())
+}
+
+/// Adds the columns of a leg that are shown.
+fn push_columns(lines: &mut Vec<u8>, own: &[u8; 158]) -> Result<(), Memory>
+    ensures { OnOk result (lines.new.items ≡ lines.old.items ++ columns_text own.now) }
+{
+    push_middle(lines, own, 37, 39)?;
+    push_middle(lines, own, 40, 43)?;
+    push_middle(lines, own, 44, 47)?;
+    push_middle(lines, own, 48, 52)?;
+    push_middle(lines, own, 55, 57)?;
+    push_middle(lines, own, 58, 61)?;
+    push_middle(lines, own, 62, 65)?;
+    push_middle(lines, own, 66, 70)?;
+    push_variations(lines, own)?;
+    push_service_type(lines, own)?;
+    push_middle(lines, own, 73, 75)
+}
+
+/// Adds columns of a leg from 37 to 127.
+fn push_middle(
+    lines: &mut Vec<u8>,
+    own: &[u8; 158],
+    first: usize,
+    last: usize,
+) -> Result<(), Memory>
+    requires from { 37 ≤ first }
+    requires some { first ≤ last }
+    requires to { last ≤ 127 }
+    ensures { OnOk result (lines.new.items ≡ lines.old.items ++ shown first last own.now) }
+{
+    push_shown(lines, &own[first - 36..last - 35])
+}
+
+/// Adds columns 193 and 194 of a leg, the date variations.
+fn push_variations(lines: &mut Vec<u8>, own: &[u8; 158]) -> Result<(), Memory>
+    ensures { OnOk result (lines.new.items ≡ lines.old.items ++ shown 193 194 own.now) }
+{
+    push_shown(lines, &own[156..158])
+}
+
+/// Adds column 14 of a leg, the service type.
+fn push_service_type(lines: &mut Vec<u8>, own: &[u8; 158]) -> Result<(), Memory>
+    ensures { OnOk result (lines.new.items ≡ lines.old.items ++ shown 14 14 own.now) }
+{
+    push_shown(lines, &own[0..1])
+}
+
+/// Adds a blank and the columns, with a full stop for each blank.
+fn push_shown(lines: &mut Vec<u8>, columns: &[u8]) -> Result<(), Memory>
+    ensures { OnOk result (lines.new.items ≡ lines.old.items ++ 32 ∷ dotted columns.now) }
+{
+    lines.push(b' ')?;
+    for byte in columns {
+        lines.push(if *byte == b' ' { b'.' } else { *byte })?;
+    }
+    Ok(())
+}

@@ -1,0 +1,135 @@
+//! The command `take`: a desk takes texts, one after another.
+
+ghost use Rattle.std.specs.Prelude.{◌≡◌, true, Err, IfErr, IfOk, IfSome, Ok, OnErr, OnOk, map};
+ghost use Rattle.ssim_text.specs.Message.{MessageValue};
+ghost use Rattle.ssim_desk.specs.Held.{Says};
+ghost use Rattle.ssim_desk.specs.Kept.{state_of};
+ghost use Rattle.ssim_desk.specs.Steps.{RefusesText};
+ghost use Rattle.ssim_program.specs.Desks.{IsTaken, LeavesText, LeavesTexts, PrintsText, PrintsTexts, RefusesFileText, RefusesTexts, took_line, took_printed};
+ghost use Rattle.ssim_program.specs.Line.{Take};
+ghost use Rattle.ssim_program.specs.Effects.{Leaves, Writes};
+ghost use Rattle.ssim_program.specs.Reasons.{Refuses};
+
+use crate::data_set::load_file;
+use crate::desk_file::{keep, open};
+use crate::printed::{Printed, add_line};
+use crate::printer::{Printer, flush_all, print_all};
+use crate::refusal::Refusal;
+use crate::store::Store;
+use ssim_desk::{Desk, DeskFault, Took};
+use ssim_schedule::{Base, resolve};
+use ssim_text::{Reference, decode};
+use ssim_values::Memory;
+use std::alloc::Global;
+
+/// Takes the texts in these files at the desk in a file, prints what became of each, and at last keeps the desk file. At the
+/// first refusal it stops, and keeps nothing.
+pub(crate) fn take<S: Store, O: Printer>(
+    alloc: Global,
+    file: &str,
+    kept: &str,
+    names: &[&str],
+    store: &mut S,
+    out: &mut O,
+) -> Result<(), Refusal>
+    ensures done { OnOk result (Writes (Take file.now kept.now (map (λ t. t.now) names.now)) (S.files store.old) (S.files store.new) (O.taken out.old) (O.taken out.new)) }
+    ensures refused { OnErr result (Leaves (Take file.now kept.now (map (λ t. t.now) names.now)) (S.files store.old) (S.files store.new) (O.taken out.old) (O.taken out.new) (O.failures out.old) (O.failures out.new)) }
+    ensures why { IfErr result (Refuses (Take file.now kept.now (map (λ t. t.now) names.now)) (S.files store.old) (O.failures out.old) (O.failures out.new)) }
+    ensures device { O.device out.new ≡ O.device out.old }
+    ensures flushed { OnOk result (O.flushed out.new ≡ true) }
+{
+    let mut desk = open(alloc, file, store)?;
+    take_texts(alloc, &mut desk, names, store, out)?;
+    flush_all(out)?;
+    keep(alloc, &desk, kept, store)
+}
+
+/// Takes the texts in these files, and prints what became of each.
+fn take_texts<S: Store, O: Printer>(
+    alloc: Global,
+    desk: &mut Desk,
+    names: &[&str],
+    store: &mut S,
+    out: &mut O,
+) -> Result<(), Refusal>
+    ensures done { OnOk result (PrintsTexts (S.files store.old) (map (λ t. t.now) names.now) desk.old desk.new (O.taken out.old) (O.taken out.new)) }
+    ensures refused { OnErr result (LeavesTexts (S.files store.old) (map (λ t. t.now) names.now) desk.old (O.taken out.old) (O.taken out.new) (O.failures out.old) (O.failures out.new)) }
+    ensures why { IfErr result (RefusesTexts (S.files store.old) (map (λ t. t.now) names.now) desk.old (O.failures out.old) (O.failures out.new)) }
+    ensures same { S.files store.new ≡ S.files store.old }
+    ensures failures { OnOk result (O.failures out.new ≡ O.failures out.old) }
+    ensures device { O.device out.new ≡ O.device out.old }
+{
+    for name in names {
+        match take_text(alloc, desk, name, store, out) {
+            Ok(()) => {}
+            Err(refusal) => return Err(refusal),
+        }
+    }
+    Ok(())
+}
+
+/// Takes the text in this file, and prints what became of it.
+fn take_text<S: Store, O: Printer>(
+    alloc: Global,
+    desk: &mut Desk,
+    name: &str,
+    store: &mut S,
+    out: &mut O,
+) -> Result<(), Refusal>
+    ensures done { OnOk result (PrintsText (S.files store.old) name.now desk.old desk.new (O.taken out.old) (O.taken out.new)) }
+    ensures refused { OnErr result (LeavesText (S.files store.old) name.now desk.old (O.taken out.old) (O.taken out.new) (O.failures out.old) (O.failures out.new)) }
+    ensures why { IfErr result (RefusesFileText (S.files store.old) name.now desk.old (O.failures out.old) (O.failures out.new)) }
+    ensures same { S.files store.new ≡ S.files store.old }
+    ensures failures { OnOk result (O.failures out.new ≡ O.failures out.old) }
+    ensures device { O.device out.new ≡ O.device out.old }
+{
+    let text = load_file(alloc, name, store)?;
+    let (took, reference) = take_one(alloc, desk, &text)?;
+    let line = took_line(alloc, took, reference)?;
+    print_all(out, &line)?;
+    Ok(())
+}
+
+/// Takes a text. Returns what became of it, with the reference of its message.
+fn take_one(alloc: Global, desk: &mut Desk, text: &[u8]) -> Result<(Took, Reference), DeskFault>
+    ensures done { IfOk result (λ r. IsTaken desk.old text.now r.0 r.1 desk.new) }
+    ensures refused { IfErr result (RefusesText (state_of desk.old) text.now) }
+{
+    let reference = reference_in(alloc, desk.base(), text);
+    let took = desk.take(text)?;
+    match reference {
+        Some(reference) => Ok((took, reference)),
+        None => Err(DeskFault::Memory),
+    }
+}
+
+/// The reference of the message that the text spells; none if it spells no message with a reference, or memory ran out.
+pub(crate) fn reference_in(alloc: Global, base: &Base, text: &[u8]) -> Option<Reference>
+    ensures { IfSome result (λ reference. (message : MessageValue) × Says base.now text.now reference message) }
+{
+    let Ok(message) = decode(alloc, text) else {
+        return None;
+    };
+    match resolve(base, &message) {
+        Ok(resolved) => Some(resolved.reference),
+        Err(_) => None,
+    }
+}
+
+/// The line of a text that was taken, or repeated.
+fn took_line(alloc: Global, took: Took, reference: Reference) -> Result<Vec<u8>, Memory>
+    ensures { IfOk result (λ line. line.items ≡ took_line took reference) }
+{
+    let mut line = Vec::new(alloc);
+    add_line(&mut line, printed(took, reference))?;
+    Ok(line)
+}
+
+fn printed(took: Took, reference: Reference) -> Printed
+    ensures { result ≡ took_printed took reference }
+{
+    match took {
+        Took::Taken => Printed::Taken { reference },
+        Took::Repeated => Printed::Repeated { reference },
+    }
+}

@@ -1,6 +1,0 @@
--- Nothing changes that contracts see.
-use Rattle.std.proofs.Common.{◌≡◌}
-use Rattle.ssim_schedule.proofs.flight_table.FlightTable.share_where.Given as goal
-
-abbrev pub invariant-loop-flight : goal.invariant-loop-flight
-invariant-loop-flight l = l.self ≡ l.initial.self
