@@ -26,8 +26,8 @@ truncate -s 268435457 too_long.ssim
 
 passed=0 failed=0
 
-# expect NAME STATUS OUT ERR WORDS..: runs the program on the words. OUT and ERR are texts, or @FILE. `input` is the file for
-# standard input, `to` that for standard output.
+# expect NAME STATUS OUT ERR WORDS..: runs the program on the words. OUT and ERR are texts, @FILE, or @ for any text. `input`
+# is the file for standard input, `to` that for standard output.
 expect() {
     local name=$1 status=$2 out=$3 err=$4
     shift 4
@@ -43,9 +43,20 @@ expect() {
     fi
 }
 
-# same FILE TEXT: whether the file has exactly the text, or the bytes of the file that @FILE names.
+# expect_file NAME FILE OTHER: FILE has the bytes of OTHER, or is missing if OTHER is empty.
+expect_file() {
+    if { [ -n "$3" ] && cmp -s "$2" "$3"; } || { [ -z "$3" ] && [ ! -e "$2" ]; }; then
+        passed=$((passed + 1))
+    else
+        failed=$((failed + 1))
+        echo "program: $1: the file $2 is not ${3:-missing}"
+    fi
+}
+
+# same FILE TEXT: whether the file has exactly the text, or the bytes of the file that @FILE names, or any bytes.
 same() {
     case $2 in
+        @) [ -s "$1" ] ;;
         @*) cmp -s "$1" "${2#@}" ;;
         *) printf %s "$2" | cmp -s "$1" - ;;
     esac
@@ -69,6 +80,82 @@ to=/dev/full expect "the output cannot be written" 1 "" $'refused 52 WriteFault\
 expect "a file may be as long as the limit" 1 "" $'refused 11 BadType record 1\n' check longest.ssim
 expect "a file is too long" 1 "" $'refused 91 File too_long.ssim\n' check too_long.ssim
 input=too_long.ssim expect "standard input is too long" 1 "" $'refused 91 File -\n' check -
+
+taken=$'taken SSM 01JUN25 00001 001\n' conflict=$'refused 60 Conflict SSM 01JUN25 00001 001\n'
+
+# The files of the commands on desks. The desk files are by their format: the records of the data set without serials and
+# check reference, between the lines.
+desk_inputs() {
+    local records
+    records=$(sed -E 's/.{6}$/000000/; s/^(5.{186}).{6}/\1000000/' divided.ssim)
+    mkdir folder
+    touch none before after
+    printf 'SSM\nUTC\n01JUN00001E001\nCNL\nLX544\n01JUL25 07JUL25 2\n' > x2
+    printf 'SSM\nUTC\n01JUN00001E001\nCNL\nLX544\n02JUL25 02JUL25 3\n' > other
+    printf 'SSIMDESK 2\nRECORDS 5\n%s\nSTATIONS 0\nTEXTS 0\nEND\n' "$records" > desk.expected
+    printf 'SSIMDESK 2\nRECORDS 5\n%s\nSTATIONS 0\nTEXTS 1\nTEXT 51\n%s\nEND\n' "$records" "$(cat x2)" > held.expected
+    printf 'DESKS 2\nTAKE 1 x2\nMERGE 2 1\nTAKE 2 other\n' > script
+    printf '1 %s2 merged\n2 %sdesk 1 held 1 bytes 4020\ndesk 2 held 1 bytes 4020\nsame\n' "$taken" "$conflict" > rehearsed
+}
+
+# The commands that write a desk file.
+desks_written() {
+    expect "a desk starts" 0 $'held 0\n' "" start divided.ssim none desk
+    expect_file "a desk starts" desk desk.expected
+    input=divided.ssim expect "standard input is read once, and then empty" 0 $'held 0\n' "" start - - new
+    expect_file "standard input is read once, and then empty" new desk.expected
+    expect "a text is taken" 0 "$taken" "" take desk held x2
+    expect_file "a text is taken" held held.expected
+    input=x2 expect "a text comes from standard input" 0 "$taken" "" take desk new -
+    expect_file "a text comes from standard input" new held.expected
+    expect "a file is input and output" 0 $'repeated SSM 01JUN25 00001 001\n' "" take new new x2
+    expect_file "a file is input and output" new held.expected
+    expect "two desks merge into one of them" 0 $'held 1\n' "" merge desk new new
+    expect_file "two desks merge into one of them" new held.expected
+    rm new
+}
+
+# Refusals of these commands, after which no file is written.
+desks_refused() {
+    ls -a > before
+    expect "a text is refused" 1 "" "$conflict" take held held other
+    expect_file "a text is refused" held held.expected
+    expect "the second text is refused" 1 "$taken" "$conflict" take desk new x2 other
+    expect "standard input is no output" 1 "$taken" $'refused 91 File -\n' take desk - x2
+    expect "a desk is not written to standard output" 1 "" $'refused 91 File -\n' start divided.ssim none -
+    expect "a folder is no output" 1 "$taken" $'refused 91 File folder\n' take desk folder x2
+    expect "the folder of the output is missing" 1 "" $'refused 91 File none/new\n' merge desk held none/new
+    expect "a folder is no input" 1 "" $'refused 91 File folder\n' findings folder
+    input=desk expect "the second reading of standard input is empty" 1 "" $'refused 62 DeskFile offset 0\n' merge - - new
+    to=/dev/full expect "the answer cannot be written" 1 "" $'refused 52 WriteFault\n' take desk new x2
+    ls -a > after
+    expect_file "nothing is left after a refusal" after before
+    to=/dev/full expect "a desk is written before its line" 1 "" $'refused 52 WriteFault\n' start divided.ssim none new
+    expect_file "a desk is written before its line" new desk.expected
+}
+
+# The commands that only print.
+desks_printed() {
+    input=held expect "a flight date is shown" 0 $'LX544 01JUL25\nno flight\n' "" show - LX544 01JUL25
+    expect "a flight has its legs" 0 $'LX544 02JUL25\n01 ZRH 0545 0545 +0200 LHR 0700 0700 +0100 00 J 320\n' "" \
+        show held LX0544 02JUL25
+    expect "findings" 0 $'SSM 01JUN25 00001 001 1 CNL LX544 acted 1 absent 0 present 0 leg 0 station 0\n' "" findings held
+    expect "a desk without texts is exported" 0 "@$tidied" "" export desk
+    to=/dev/full expect "an export cannot be written" 1 "" $'refused 52 WriteFault\n' export held
+    expect "a rehearsal" 0 @rehearsed "" rehearse divided.ssim none script
+    input=script expect "a script comes from standard input" 0 @rehearsed "" rehearse divided.ssim none -
+    expect "a desk file is too long" 1 "" $'refused 91 File too_long.ssim\n' export too_long.ssim
+    expect "a desk file may be as long as the limit" 1 "" $'refused 62 DeskFile offset 0\n' export longest.ssim
+}
+
+desk_inputs
+desks_written
+desks_refused
+desks_printed
+for name in check tidy start take merge show findings export rehearse; do
+    expect "help of $name" 0 @ "" "$name" --help
+    expect "$name without its words" 2 "" @ "$name"
+done
 
 echo "$passed passed, $failed failed"
 [ $failed -eq 0 ]
