@@ -131,8 +131,8 @@ next_by equal version records start later held es front (e ∷ back) rest read m
     let fronts = each_front (IsHeldText version records) front (e ∷ back) each in
     let one = each_front (IsHeldText version records) (front ++ e ∷ []) back (subst (Each (IsHeldText version records)) (sym (append_assoc front (e ∷ []) back)) each) in
     let whole : flat_map text_element held ++ rest ≡ flat_map text_element front ++ (flat_map text_element (e ∷ back) ++ later) =
-        sym read ∙ all ∙ ap (λ (xs : List Entry). flat_map text_element xs ++ later) parts ∙ ap (λ (xs : List ℕ). xs ++ later) (flat_map-append text_element front (e ∷ back))
-        ∙ append_assoc (flat_map text_element front) (flat_map text_element (e ∷ back)) later in
+    sym read ∙ all ∙ ap (λ (xs : List Entry). flat_map text_element xs ++ later) parts ∙ ap (λ (xs : List ℕ). xs ++ later) (flat_map-append text_element front (e ∷ back))
+    ∙ append_assoc (flat_map text_element front) (flat_map text_element (e ∷ back)) later in
     let apart = elements_apart text_element (IsText records) (texts_apart equal records) held front rest (flat_map text_element (e ∷ back) ++ later) mine (plain_texts version records front fronts) long whole in
     let its = last_of front one in
     record {

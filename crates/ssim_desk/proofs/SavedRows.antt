@@ -195,9 +195,9 @@ row_is_line row is =
     let first_low : row.first < day_limit = omega (arith, is.ordered, is.in_calendar) in
     let variation = solid_line (variation_text row.variation) (omega arith) (variation_solid row.variation is.variation) in
     let last = line_behind (day_text row.last) (32 ∷ variation_text row.variation) (printable_all (day_text row.last) (day_solid row.last is.in_calendar))
-        (line_behind (32 ∷ []) (variation_text row.variation) refl variation) in
+    (line_behind (32 ∷ []) (variation_text row.variation) refl variation) in
     let first = line_behind (day_text row.first) (32 ∷ (day_text row.last ++ 32 ∷ variation_text row.variation)) (printable_all (day_text row.first) (day_solid row.first first_low))
-        (line_behind (32 ∷ []) (day_text row.last ++ 32 ∷ variation_text row.variation) refl last) in
+    (line_behind (32 ∷ []) (day_text row.last ++ 32 ∷ variation_text row.variation) refl last) in
     line_behind row.station (32 ∷ (day_text row.first ++ 32 ∷ (day_text row.last ++ 32 ∷ variation_text row.variation)))
     (printable_all row.station (station_solid row.station (length_station row.station is.station) is.station))
     (line_behind (32 ∷ []) (day_text row.first ++ 32 ∷ (day_text row.last ++ 32 ∷ variation_text row.variation)) refl first)

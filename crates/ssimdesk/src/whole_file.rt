@@ -2,11 +2,10 @@
 
 use ssim_program::StoreFault;
 use std::alloc::Global;
-use std::fs;
 use std::fs::{OpenFile, OpenOptions, Permissions};
-use std::io;
 use std::io::{Error, ErrorKind, Write};
 use std::rt::Files;
+use std::{fs, io};
 
 /// How many names beside a place are tried before the file is refused.
 const TRIES: u32 = 100;
@@ -39,12 +38,7 @@ pub(crate) fn write_whole<R: Files>(
 }
 
 /// Writes the bytes at a place that is no symbolic link.
-fn write_at<R: Files>(
-    rt: &R,
-    alloc: Global,
-    place: &str,
-    bytes: &[u8],
-) -> Result<(), StoreFault> {
+fn write_at<R: Files>(rt: &R, alloc: Global, place: &str, bytes: &[u8]) -> Result<(), StoreFault> {
     match rt.metadata(place) {
         Ok(found) if found.is_file() => {
             replace(rt, alloc, place, bytes, Some(found.permissions()))

@@ -7,6 +7,7 @@ use ssim_schedule::{Base, Stations};
 use std::io::Read;
 
 const CANCELLED: &[u8] = b"SSM\n01JUN00001E001\nCNL\nLX544\n01JUL25 31JUL25 1\n";
+
 const RETIMED: &[u8] = b"SSM\n01JUN00002E001\nTIM\nLX544\n30MAR25 25OCT25 1\nZRH0600 LHR0715\n";
 
 fn main(rt: HostRuntime) -> anyhow::Result<()> {
@@ -24,6 +25,10 @@ fn main(rt: HostRuntime) -> anyhow::Result<()> {
     let (mut here, mut there) = (Bytes::new(alloc), Bytes::new(alloc));
     zurich.export(&mut here)?;
     london.export(&mut there)?;
-    println!(rt; "{} bytes, the same: {}", here.bytes().len(), here.bytes() == there.bytes())?;
+    println!(rt;
+        "{} bytes, the same: {}",
+        here.bytes().len(),
+        here.bytes() == there.bytes()
+    )?;
     Ok(())
 }

@@ -82,11 +82,7 @@ fn from_invalid(lines: &[u8], number: u64) -> &[u8]
 }
 
 /// What the lines are read as by the code that reads a data set.
-fn read_lines(
-    alloc: Global,
-    lines: &[u8],
-    stations: Stations,
-) -> Result<BaseRead, BaseFault>
+fn read_lines(alloc: Global, lines: &[u8], stations: Stations) -> Result<BaseRead, BaseFault>
     ensures read { Answers result (IsReadAs (length lines.now) lines.now) }
     ensures rows { IfOk result (λ read. read.base.rows ≡ stations) }
     ensures failure { IfErr result (λ e. FailsAs 0 0 e) }

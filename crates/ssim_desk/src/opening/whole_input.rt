@@ -15,11 +15,7 @@ use std::alloc::Global;
 const CHUNK: usize = 16384;
 
 /// Fetches at most `most` bytes more. Returns their number, 0 at the end.
-fn fetch_more<R: Source>(
-    reader: &mut R,
-    bytes: &mut Vec<u8>,
-    most: u64,
-) -> Result<usize, DeskFault>
+fn fetch_more<R: Source>(reader: &mut R, bytes: &mut Vec<u8>, most: u64) -> Result<usize, DeskFault>
     requires { 0 < most }
     ensures ok { IfOk result (λ n. (n ≤ most) × (length bytes.new.items ≡ length bytes.old.items + n)) }
     ensures ahead { OnOk result (SameAhead bytes.old.items (R.left reader.old) bytes.new.items (R.left reader.new)) }

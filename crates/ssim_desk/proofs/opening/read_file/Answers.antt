@@ -31,7 +31,7 @@ returns-in_err-held-clause-err c =
     handed_on c.from_residual-in_err-held.result c.in_err-held.field-0.0 (NoDesk c.args.bytes.now) k
     (λ invalid base es file.
     let a = after_base c.saved_records_are_read.ensures.one c.equal_where_written_equal.ensures c.args.bytes.now c.in-Some.rest.now c.in-Some.version c.requires c.in-Some.ensures.some
-        c.in_ok-base.rest.now c.in_ok-base.base c.in_ok-base.ensures.ok.0 c.in_ok-base.ensures.ok.1 base es file in
+    c.in_ok-base.rest.now c.in_ok-base.base c.in_ok-base.ensures.ok.0 c.in_ok-base.ensures.ok.1 base es file in
     c.in_err-held.ensures.err invalid es end_line a.texts a.held a.read)
 
 pub returns-in_err-read_end-clause-err : goal.returns-in_err-read_end-clause-err

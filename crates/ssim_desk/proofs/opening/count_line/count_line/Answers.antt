@@ -23,8 +23,13 @@ returns-clause-some c =
 
 pub returns-clause-shorter : goal.returns-clause-shorter
 returns-clause-shorter c =
-    omega (arith, from_shorter 10 10 c.in_ok-rest.rest.now c.in_ok-digits.rest.now c.in_ok-digits.ensures.some.1, ap length c.in_ok-after_prefix.ensures.some,
-    length-append c.args.word.now c.in_ok-after_prefix.field-0.now, ap length c.in_ok-rest.ensures.some)
+    omega (
+      arith,
+      from_shorter 10 10 c.in_ok-rest.rest.now c.in_ok-digits.rest.now c.in_ok-digits.ensures.some.1,
+      ap length c.in_ok-after_prefix.ensures.some,
+      length-append c.args.word.now c.in_ok-after_prefix.field-0.now,
+      ap length c.in_ok-rest.ensures.some,
+    )
 
 pub returns-clause-only : goal.returns-clause-only
 returns-clause-only c = λ n later h e.

@@ -58,9 +58,8 @@ returns-in_ok-read_records-in-Err-clause-err c = λ invalid base later low low' 
 
 pub returns-in_ok-base-in-Ok-clause-ok : goal.returns-in_ok-base-in-Ok-clause-ok
 returns-in_ok-base-in-Ok-clause-ok c =
-    let ok = c.in_ok-base-in-Ok.ensures.ok in
-    (
+    let ok = c.in_ok-base-in-Ok.ensures.ok in (
       record { records = ok.0; rows = subst (All IsRow) (sym ok.2) c.in-Ok.ensures.ok.0 },
       records_found c.args.bytes.now c.in-Some.rest.now c.in-Some-elements.lines.now c.in-Some-elements.after.now c.in-Ok.later.now c.in_ok-base-in-Ok.base c.in-Ok.stations c.in-Some.count
-      c.in-Some.ensures.some c.in-Some-elements.ensures.some.1 c.in-Some-elements.ensures.some.0 ok.0 ok.1 ok.2 c.in-Ok.ensures.ok.1,
+          c.in-Some.ensures.some c.in-Some-elements.ensures.some.1 c.in-Some-elements.ensures.some.0 ok.0 ok.1 ok.2 c.in-Ok.ensures.ok.1,
     )

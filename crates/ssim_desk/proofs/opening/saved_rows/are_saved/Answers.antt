@@ -19,7 +19,7 @@ pub returns-in-None-clause-value : goal.returns-in-None-clause-value
 returns-in-None-clause-value c = (
   λ never. absurd cc,
   λ all. absurd (meets_none row_line c.args.rows.now c.args.lines.now c.loop-row.row-index c.row-item.result c.loop-row.rest.now c.loop-row-test.true c.row-item.is c.loop-row.invariant.meets
-  (λ later e. c.in-None.ensures.only later (e ∙ ap (λ (xs : List ℕ). xs ++ later) (sym c.write_row.ensures.value))) all),
+      (λ later e. c.in-None.ensures.only later (e ∙ ap (λ (xs : List ℕ). xs ++ later) (sym c.write_row.ensures.value))) all),
 )
 
 pub returns-in-None-clause-rows : goal.returns-in-None-clause-rows

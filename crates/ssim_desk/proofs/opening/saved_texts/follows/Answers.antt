@@ -22,8 +22,7 @@ returns-in_default c =
     let held = c.args.held.now in
     let last = c.index-held-held.result in
     let some : 0 < length held = grind (arith, nat_tests) in
-    let there : slice_get held (length held - 1) ≡ Some last = at_index held (length held - 1) last (omega (arith, some)) ∙ ap Some (sym c.index-held-held.is) in
-    (
+    let there : slice_get held (length held - 1) ≡ Some last = at_index held (length held - 1) last (omega (arith, some)) ∙ ap Some (sym c.index-held-held.is) in (
       λ never. absurd cc,
       λ rising. absurd (c.in_default.not-Less (c.compare.ensures ∙ ap (λ (r : Reference). reference_cmp last.reference r) c.reference.ensures ∙ rising_last held (length held - 1) last c.args.next.now rising there)),
     )

@@ -38,6 +38,7 @@ returns-clause-ok c =
     let records = c.args.base.now.records in
     let held = c.loop-alloc.held.items in
     let size : c.len.result ≡ length held = omega (arith, c.len.ensures, c.loop-alloc.held.ok.0) in
-    let whole : c.in-Some.count ≡ Some (length held) = all_read c.in-Some.count c.len.result (length held) c.ne.result c.ne.ensures c.loop-alloc-test.false size in
-    (are_held c.args.version records held c.loop-alloc.invariant.rising c.loop-alloc.invariant.each,
-    texts_found c.args.version records c.args.bytes.now c.in-Some.rest.now c.in-Some.count held c.loop-alloc.rest.now c.in-Some.ensures.some whole c.loop-alloc.invariant)
+    let whole : c.in-Some.count ≡ Some (length held) = all_read c.in-Some.count c.len.result (length held) c.ne.result c.ne.ensures c.loop-alloc-test.false size in (
+      are_held c.args.version records held c.loop-alloc.invariant.rising c.loop-alloc.invariant.each,
+      texts_found c.args.version records c.args.bytes.now c.in-Some.rest.now c.in-Some.count held c.loop-alloc.rest.now c.in-Some.ensures.some whole c.loop-alloc.invariant,
+    )
