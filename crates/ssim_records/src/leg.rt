@@ -1,6 +1,6 @@
 //! Flight leg records, type 3.
 
-ghost use Rattle.std.specs.Prelude.{◌≡◌, ◌≤◌, ◌<◌, ◌∷◌, [], None, Ok, IfOk, IfErr, IfSome, Some};
+ghost use Rattle.std.specs.Prelude.{◌≡◌, ◌↔◌, IsTrue, ◌≤◌, ◌<◌, ◌∷◌, [], None, Ok, IfOk, IfErr, IfSome, Some};
 ghost use Rattle.ssim_values.specs.Day.{day_of};
 ghost use Rattle.ssim_values.specs.DayMask.{days_of};
 ghost use Rattle.ssim_records.specs.Numbers.{digits_of};
@@ -173,6 +173,16 @@ pub(crate) fn read_leg(bytes: &[u8; 200]) -> Result<LegRecord, usize>
     }
 }
 
+fn same_end(mine: Option<Day>, theirs: Option<Day>) -> bool
+    ensures { IsTrue result ↔ (mine ≡ theirs) }
+{
+    match (mine, theirs) {
+        (None, None) => true,
+        (Some(mine), Some(theirs)) => mine == theirs,
+        _ => false,
+    }
+}
+
 impl LegRecord {
     /// The record of a leg in a period, with blanks for frequency rate and overflow, and the serial 0.
     pub fn new(name: LegName, period: Period, columns: LegColumns) -> LegRecord
@@ -304,6 +314,34 @@ impl LegRecord {
         ensures serial { result.serial ≡ 0 }
     {
         SegmentRecord::new(self.name, self.columns.service_type(), tail)
+    }
+
+    /// Whether two legs are the same.
+    pub(crate) fn same(&self, other: &LegRecord) -> bool
+        ensures { IsTrue result ↔ (self.now ≡ other.now) }
+    {
+        if self.name != other.name {
+            return false;
+        }
+        if self.first != other.first {
+            return false;
+        }
+        if !same_end(self.last, other.last) {
+            return false;
+        }
+        if self.days != other.days {
+            return false;
+        }
+        if self.rate != other.rate {
+            return false;
+        }
+        if self.overflow != other.overflow {
+            return false;
+        }
+        if self.serial != other.serial {
+            return false;
+        }
+        self.columns.same(&other.columns)
     }
 
     /// The one written spelling.

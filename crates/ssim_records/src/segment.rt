@@ -1,6 +1,6 @@
 //! Segment data records, type 4.
 
-ghost use Rattle.std.specs.Prelude.{◌≡◌, ◌<◌, ◌∷◌, [], None, Ok, IfOk, IfErr, IfSome, Some, IsTrue};
+ghost use Rattle.std.specs.Prelude.{◌≡◌, ◌↔◌, ◌<◌, ◌∷◌, [], None, Ok, IfOk, IfErr, IfSome, Some, IsTrue};
 ghost use Rattle.ssim_records.specs.Numbers.{digits_of};
 ghost use Rattle.ssim_records.specs.Columns.{columns, first_fault, is_carried, EachStands};
 ghost use Rattle.ssim_records.specs.Leg.{IsName, SpellsName};
@@ -193,6 +193,13 @@ impl SegmentRecord {
         let mut segment = self;
         segment.overflow = b' ';
         segment
+    }
+
+    /// Whether two segments are the same.
+    pub(crate) fn same(&self, other: &SegmentRecord) -> bool
+        ensures { IsTrue result ↔ (self.now ≡ other.now) }
+    {
+        self == other
     }
 
     /// The one written spelling.
