@@ -1,9 +1,11 @@
 -- Dates and days of operation, as they are written in a record.
-use Rattle.std.proofs.Common.{◌≡◌, ℕ, ◌<◌, ◌≤◌, Bool, false, List, [], ◌∷◌, length, Option, Some, None, refl, sym, ap, ◌∙◌, arith, inl, inr}
+use Rattle.std.proofs.Common.{◌≡◌, ℕ, ◌<◌, ◌≤◌, Bool, true, false, List, [], ◌∷◌, length, Option, Some, None, refl, sym, ap, ◌∙◌, arith, inl, inr}
 use Rattle.std.specs.Prelude.{codes, nat_lt}
 use Rattle.std.specs.Str.{bytes_eq}
 use Rattle.std.proofs.lemmas.Bool.Decides.{nat_tests}
-use Rattle.std.proofs.lemmas.Slice.Eq.{bytes_eq-Decides}
+use Rattle.std.proofs.lemmas.Slice.Eq.{bytes_eq-Decides, slice_eq-Decides}
+use Rattle.std.specs.Bool.{Decides, beq}
+use Rattle.std.specs.Cmp.Lexicographic.{pointwise}
 use Rattle.ssim_values.specs.Calendar.{day_limit}
 use Rattle.ssim_values.specs.Day.{day_of, day_text}
 use Rattle.ssim_values.specs.DayMask.{IsMask, places_of}
@@ -74,3 +76,17 @@ is_end first t (Some n) h =
       | inl e ↦ (let k = simp e at h in absurd cc)
       | inr f ↦ (let k = simp f at h in let r = day_from_some first n (day_of t) k in (r.1, day_of-bound n t (day_of-sound n t r.0)))
     ]
+
+-- ---- days of operation are compared day by day
+
+abbrev pub days_eq : List Bool → List Bool → Bool
+days_eq = pointwise beq
+
+bools_decide : (a b : Bool) → Decides (beq a b) (a ≡ b)
+bools_decide true true = (λ h. refl, λ e. refl)
+bools_decide true false = (λ h. absurd cc, λ e. absurd cc)
+bools_decide false true = (λ h. absurd cc, λ e. absurd cc)
+bools_decide false false = (λ h. refl, λ e. refl)
+
+pub days_decide : (a b : List Bool) → Decides (days_eq a b) (a ≡ b)
+days_decide a b = slice_eq-Decides bools_decide a b (days_eq a b) refl

@@ -27,6 +27,9 @@ made : (r : LegFields) → leg_of r.name r.first r.last r.days r.rate r.columns 
 unfolding leg_of
 made r = refl
 
+pub leg_of_parts : (r s : LegFields) → r.name ≡ s.name → r.first ≡ s.first → r.last ≡ s.last → r.days ≡ s.days → r.rate ≡ s.rate → r.overflow ≡ s.overflow → r.serial ≡ s.serial → r.columns ≡ s.columns → r ≡ s
+leg_of_parts r s name first last days rate overflow serial own = sym (made r) ∙ (rw (name, first, last, days, rate, own, overflow, serial) refl) ∙ made s
+
 pub one_leg : (b : List ℕ) (r s : LegFields) → SpellsLeg r b → SpellsLeg s b → r ≡ s
 one_leg b r s p q =
     let name : r.name ≡ s.name = one_name b r.name s.name p.name q.name in

@@ -22,3 +22,4 @@ pub mod Lines
 pub mod Readings
 pub mod FrameLaws
 pub mod Examples
+pub mod ReadOnce

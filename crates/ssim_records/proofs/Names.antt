@@ -1,7 +1,10 @@
 -- Which leg a record speaks of: columns 2 to 13 say one name, and what is written for it is read again.
-use Rattle.std.proofs.Common.{◌≡◌, ℕ, List, [], ◌∷◌, length, refl, sym, ap, ◌∙◌, arith, inl, inr}
+use Rattle.std.proofs.Common.{◌≡◌, ℕ, Bool, ◌&&◌, List, [], ◌∷◌, length, refl, sym, ap, ◌∙◌, arith, inl, inr}
 use Rattle.std.specs.Prelude.{IsTrue, ◌==◌}
-use Rattle.std.proofs.lemmas.Bool.Decides.{nat_tests}
+use Rattle.std.specs.Bool.{Decides}
+use Rattle.std.specs.Str.{bytes_eq}
+use Rattle.std.proofs.lemmas.Bool.Decides.{nat_tests, Decides-and, Decides-eqb}
+use Rattle.std.proofs.lemmas.Slice.Eq.{bytes_eq-Decides}
 use Rattle.ssim_values.specs.Airline.{is_airline}
 use Rattle.ssim_values.specs.Flight.{is_suffix}
 use Rattle.ssim_records.specs.declared.field.Kind.TheVariants.{Suffix, AirlineCode}
@@ -21,6 +24,19 @@ made n = refl
 
 pub one_name : (b : List ℕ) (m n : Name) → SpellsName m b → SpellsName n b → m ≡ n
 one_name b m n p q = sym (made m) ∙ (cc) ∙ made n
+
+-- ---- names are compared part by part
+
+abbrev pub names_eq : Name → Name → Bool
+names_eq m n = bytes_eq m.airline n.airline && ((m.flight.number == n.flight.number && m.flight.suffix == n.flight.suffix) && (m.variation == n.variation && m.sequence == n.sequence))
+
+pub names_decide : (m n : Name) → Decides (names_eq m n) (m ≡ n)
+names_decide m n =
+    let airline = bytes_eq-Decides m.airline n.airline in
+    let flight = Decides-and _ _ (Decides-eqb m.flight.number n.flight.number) (Decides-eqb m.flight.suffix n.flight.suffix) in
+    let place = Decides-and _ _ (Decides-eqb m.variation n.variation) (Decides-eqb m.sequence n.sequence) in
+    let parts = Decides-and _ _ airline (Decides-and _ _ flight place) in
+    (λ h. let p = parts.0 h in sym (made m) ∙ (rw (p.0, p.1.0.0, p.1.0.1, p.1.1.0, p.1.1.1) refl) ∙ made n, λ e. parts.1 (rw e (refl, ((refl, refl), (refl, refl)))))
 
 -- where each part of the name stands in what is written
 pub record NameLies (n : Name) (b : List ℕ) : Type 0 where

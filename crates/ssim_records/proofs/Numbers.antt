@@ -1,5 +1,5 @@
 -- Numbers in digits: what is written is read again.
-use Rattle.std.proofs.Common.{◌≡◌, ℕ, zero, suc, ◌+◌, ◌-◌, ◌*◌, ◌/◌, ◌%◌, ◌^◌, ◌<◌, ◌≤◌, true, false, List, [], ◌∷◌, ◌++◌, length, reverse, Option, Some, None, refl, sym, ap, ◌∙◌, append_assoc, arith, lit<}
+use Rattle.std.proofs.Common.{◌≡◌, ℕ, zero, suc, ◌+◌, ◌-◌, ◌*◌, ◌/◌, ◌%◌, ◌^◌, ◌<◌, ◌≤◌, true, false, List, [], ◌∷◌, ◌++◌, length, reverse, Option, Some, None, refl, sym, ap, ◌∙◌, append_assoc, arith, inl, inr, lit<}
 use Rattle.std.specs.Prelude.{IfSome}
 use Rattle.std.specs.List.{list_all}
 use Rattle.std.proofs.Math.Nat.{pow-le-pow_right, mul_assoc, pow-suc, pow-succ'}
@@ -7,6 +7,7 @@ use Rattle.std.proofs.lemmas.Bool.Decides.{nat_tests}
 use Rattle.std.proofs.lemmas.List.{append-nil, reverse-append, reverse-reverse, length-append}
 use Rattle.std.proofs.lemmas.List.Folds.{list_all-append}
 use Rattle.ssim_values.specs.Characters.{is_digit}
+use Rattle.ssim_records.proofs.LineEnds.{pick}
 use Rattle.ssim_records.specs.Numbers.{is_blank, digits_after, digits_of, drop_blanks, drop_blanks_at_end, number_of, sequence_of, from_one, digits}
 
 pub power : (i n : ℕ) → i ≤ n → 10 ^ i ≤ 10 ^ n
@@ -67,6 +68,28 @@ unfolding number_of
 number_of-digits w n h =
     ap (λ (t : List ℕ). digits_of (drop_blanks_at_end t)) (first_kept (digits (suc w) n) (digits_all (suc w) n))
     ∙ ap digits_of (last_kept (digits w (n / 10)) (48 + n % 10) (digit_is n)) ∙ digits_of-digits w n h
+
+-- ---- digits alone
+
+digits_after_all : (m : ℕ) (t : List ℕ) (n : ℕ) → digits_after m t ≡ Some n → list_all is_digit t ≡ true
+digits_after_all m [] n h = refl
+digits_after_all m (b ∷ bs) n h = elim (pick (is_digit b)) [ inl d ↦ (let k = simp d at h in rw d (digits_after_all (m * 10 + (b - 48)) bs n k)) | inr f ↦ (let k = simp f at h in absurd cc) ]
+
+digits_of_all : (t : List ℕ) (n : ℕ) → digits_of t ≡ Some n → list_all is_digit t ≡ true
+unfolding digits_of
+digits_of_all [] n h = absurd cc
+digits_of_all (b ∷ bs) n h = digits_after_all 0 (b ∷ bs) n h
+
+all_reversed : (t : List ℕ) → list_all is_digit t ≡ true → list_all is_digit (reverse t) ≡ true
+all_reversed [] h = refl
+all_reversed (b ∷ bs) h = elim (pick (is_digit b)) [ inl d ↦ (let k = simp d at h in ap (list_all is_digit) (reverse-append (b ∷ []) bs) ∙ list_all-append is_digit (reverse bs) (b ∷ []) ∙ rw (all_reversed bs k, d) refl) | inr f ↦ (let k = simp f at h in absurd cc) ]
+
+pub digits_alone : (t : List ℕ) (n : ℕ) → digits_of t ≡ Some n → number_of t ≡ Some n
+unfolding number_of drop_blanks_at_end
+digits_alone t n h =
+    let all = digits_of_all t n h in
+    let back : drop_blanks (reverse t) ≡ reverse t = first_kept (reverse t) (all_reversed t all) in
+    rw (first_kept t all, back, reverse-reverse t) h
 
 pub sequence_of-digits : (w n : ℕ) → 0 < n → n < 10 ^ suc w → sequence_of (digits (suc w) n) ≡ Some n
 unfolding sequence_of

@@ -1,6 +1,6 @@
 -- A segment data record: the bytes spell one segment, and what is written spells it.
-use Rattle.std.proofs.Common.{◌≡◌, ℕ, ◌+◌, ◌-◌, ◌≤◌, List, [], ◌∷◌, ◌++◌, length, take, drop, take_all, Some, refl, sym, ap, subst, ◌∙◌, arith, lit≤}
-use Rattle.std.specs.Prelude.{slice_range, codes, IsTrue, replicate}
+use Rattle.std.proofs.Common.{◌≡◌, ℕ, Bool, ◌&&◌, ◌+◌, ◌-◌, ◌≤◌, List, [], ◌∷◌, ◌++◌, length, take, drop, take_all, Some, refl, sym, ap, subst, ◌∙◌, arith, lit≤}
+use Rattle.std.specs.Prelude.{slice_range, codes, IsTrue, replicate, ◌==◌}
 use Rattle.std.specs.List.{list_all, AllZip}
 use Rattle.std.proofs.lemmas.List.{take-append-drop, append-nil, length-drop, length-append}
 use Rattle.ssim_records.specs.declared.field.Kind.TheVariants.{Carried}
@@ -8,7 +8,11 @@ use Rattle.ssim_records.specs.Numbers.{digits_of, digits}
 use Rattle.ssim_records.specs.Columns.{columns, fault_in, is_carried, EachStands}
 use Rattle.ssim_records.specs.Leg.{Name}
 use Rattle.ssim_records.specs.Segment.{SegmentFields, IsSegment, IsTail, SpellsSegment, segment_table, segment_texts, tail_of, spread_tail, tail_columns, written_segment}
-use Rattle.ssim_records.proofs.Names.{one_name, NameLies, spells_name, name_stands, length_airline}
+use Rattle.std.specs.Bool.{Decides}
+use Rattle.std.specs.Str.{bytes_eq}
+use Rattle.std.proofs.lemmas.Bool.Decides.{Decides-and, Decides-eqb}
+use Rattle.std.proofs.lemmas.Slice.Eq.{bytes_eq-Decides}
+use Rattle.ssim_records.proofs.Names.{names_decide, names_eq, one_name, NameLies, spells_name, name_stands, length_airline}
 use Rattle.ssim_records.proofs.Numbers.{digits_of-digits}
 use Rattle.ssim_records.proofs.OwnColumns.{moved}
 use Rattle.ssim_records.proofs.Places.{all_placed, length_concat}
@@ -26,6 +30,18 @@ pub one_segment : (b : List ℕ) (r s : SegmentFields) → SpellsSegment r b →
 one_segment b r s p q =
     let name : r.name ≡ s.name = one_name b r.name s.name p.name q.name in
     sym (made r) ∙ (cc) ∙ made s
+
+-- ---- segments are compared part by part
+
+abbrev pub segments_eq : SegmentFields → SegmentFields → Bool
+segments_eq r s = names_eq r.name s.name && (r.service == s.service && (bytes_eq r.tail s.tail && (r.overflow == s.overflow && r.serial == s.serial)))
+
+pub segments_decide : (r s : SegmentFields) → Decides (segments_eq r s) (r ≡ s)
+segments_decide r s =
+    let rest = Decides-and _ _ (Decides-eqb r.overflow s.overflow) (Decides-eqb r.serial s.serial) in
+    let own = Decides-and _ _ (Decides-eqb r.service s.service) (Decides-and _ _ (bytes_eq-Decides r.tail s.tail) rest) in
+    let parts = Decides-and _ _ (names_decide r.name s.name) own in
+    (λ h. let p = parts.0 h in sym (made r) ∙ (rw (p.0, p.1.0, p.1.1.0, p.1.1.1.0, p.1.1.1.1) refl) ∙ made s, λ e. parts.1 (rw e (refl, (refl, (refl, (refl, refl))))))
 
 -- ---- the columns of a tail
 

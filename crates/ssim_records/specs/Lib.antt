@@ -12,3 +12,4 @@ pub mod Trailer
 pub mod Record
 pub mod Reading
 pub mod Worked
+pub mod LegPoints

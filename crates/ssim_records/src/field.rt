@@ -11,6 +11,7 @@ ghost use Rattle.ssim_values.specs.Airline.{is_airline};
 ghost use Rattle.ssim_values.specs.Flight.{is_suffix};
 ghost use Rattle.ssim_values.specs.Calendar.{day_limit};
 ghost use Rattle.ssim_records.specs.Numbers.{is_blank};
+ghost use Rattle.ssim_records.specs.LegPoints.{arrival_is_valid, departure_is_valid};
 ghost use Rattle.ssim_records.specs.Columns.{is_carried, is_title, end_from, passenger_time_of, utc_variation_of, time_mode_of, end_code_of, unless, dates_fault, place_of_other, fault_in, fits_kind, first_fault, are_fields};
 
 use crate::end_code::end_code_of;
@@ -334,6 +335,51 @@ fn fault_in(kind: Kind, text: &[u8]) -> Option<usize>
         Kind::Code => unless(end_code_of(text).is_some()),
         Kind::Title => unless(is_title(text)),
     }
+}
+
+/// Whether each byte of a record can be carried. All are looked at together.
+pub fn all_carried(bytes: &[u8; 200]) -> bool
+    ensures { result ≡ list_all is_carried bytes.now }
+{
+    let mut all = true;
+    for byte in bytes {
+        all &= is_carried(*byte);
+    }
+    all
+}
+
+/// Whether columns 37 to 52 of a leg are valid: its departure.
+#[tactic(auto, unfolding(crate::specs::LegPoints::departure_is_valid))]
+pub fn departure_is_valid(bytes: &[u8; 200]) -> bool
+    ensures { result ≡ departure_is_valid bytes.now }
+{
+    if !is_station(&bytes[36..39]) {
+        return false;
+    }
+    if passenger_time_of(&bytes[39..43]).is_none() {
+        return false;
+    }
+    if clock_of(&bytes[43..47]).is_none() {
+        return false;
+    }
+    utc_variation_of(&bytes[47..52]).is_some()
+}
+
+/// Whether columns 55 to 70 of a leg are valid: its arrival.
+#[tactic(auto, unfolding(crate::specs::LegPoints::arrival_is_valid))]
+pub fn arrival_is_valid(bytes: &[u8; 200]) -> bool
+    ensures { result ≡ arrival_is_valid bytes.now }
+{
+    if !is_station(&bytes[54..57]) {
+        return false;
+    }
+    if clock_of(&bytes[57..61]).is_none() {
+        return false;
+    }
+    if passenger_time_of(&bytes[61..65]).is_none() {
+        return false;
+    }
+    utc_variation_of(&bytes[65..70]).is_some()
 }
 
 /// The first column of the first invalid field.

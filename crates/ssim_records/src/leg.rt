@@ -1,14 +1,20 @@
 //! Flight leg records, type 3.
 
-ghost use Rattle.std.specs.Prelude.{◌≡◌, ◌≤◌, ◌<◌, ◌∷◌, [], None, Ok, IfOk, IfErr, Some};
-ghost use Rattle.ssim_records.specs.Columns.{columns, first_fault, EachStands};
-ghost use Rattle.ssim_records.specs.Leg.{LegFields, IsLeg, IsEnd, SpellsLeg, leg_columns, leg_table, written_leg};
+ghost use Rattle.std.specs.Prelude.{◌≡◌, ◌↔◌, IsTrue, ◌≤◌, ◌<◌, ◌∷◌, [], None, Ok, IfOk, IfErr, IfSome, Some};
+ghost use Rattle.ssim_values.specs.Day.{day_of};
+ghost use Rattle.ssim_values.specs.DayMask.{days_of};
+ghost use Rattle.ssim_records.specs.Numbers.{digits_of};
+ghost use Rattle.ssim_records.specs.Columns.{columns, end_from, first_fault, EachStands};
+ghost use Rattle.ssim_records.specs.Leg.{IsName, SpellsName, LegFields, IsLeg, IsEnd, SpellsLeg, leg_columns, leg_table, written_leg};
 
 use crate::columns::{carried_at, days_at, digits_at, end_text, first_day_at, join, last_day_at};
-use crate::field::{Field, Kind, first_fault};
+use crate::field::{
+    Field, Kind, all_carried, arrival_is_valid, day_of, days_of, departure_is_valid, end_from,
+    first_fault,
+};
 use crate::leg_columns::{LegColumns, own_columns_at};
-use crate::leg_name::{LegName, name_at};
-use crate::number::{four_digits, six_digits, two_digits};
+use crate::leg_name::{LegName, name_at, read_name};
+use crate::number::{digits_of, four_digits, six_digits, two_digits};
 use crate::segment::SegmentRecord;
 use crate::segment_tail::SegmentTail;
 use ssim_values::{Airline, Day, DayMask, Flight, Period};
@@ -84,15 +90,70 @@ fn leg_of(bytes: &[u8; 200]) -> LegRecord
     ensures { SpellsLeg result bytes.now }
 {
     let first = first_day_at(bytes);
-    LegRecord {
-        name: name_at(bytes),
+    leg_with(
+        bytes,
+        name_at(bytes),
         first,
-        last: last_day_at(bytes, first),
-        days: days_at(bytes),
+        last_day_at(bytes, first),
+        days_at(bytes),
+        digits_at(bytes, 195, 200),
+    )
+}
+
+// The flight leg that a record spells, each field read once, or none; then the table names the invalid field.
+fn leg_in(bytes: &[u8; 200]) -> Option<LegRecord>
+    requires { columns 1 1 bytes.now ≡ 51 ∷ [] }
+    ensures { IfSome result (λ r. SpellsLeg r bytes.now) }
+{
+    if !all_carried(bytes) {
+        return None;
+    }
+    if !departure_is_valid(bytes) {
+        return None;
+    }
+    if !arrival_is_valid(bytes) {
+        return None;
+    }
+    let name = read_name(bytes)?;
+    let first = day_of(&bytes[14..21])?;
+    let last = end_from(first, &bytes[21..28])?;
+    let days = days_of(&bytes[28..35])?;
+    let serial = digits_of(&bytes[194..200])?;
+    Some(leg_with(bytes, name, first, last, days, serial))
+}
+
+// The flight leg with these parts, which the record spells.
+fn leg_with(
+    bytes: &[u8; 200],
+    name: LegName,
+    first: Day,
+    last: Option<Day>,
+    days: DayMask,
+    serial: u32,
+) -> LegRecord
+    requires kind { columns 1 1 bytes.now ≡ 51 ∷ [] }
+    requires stands { EachStands bytes.now leg_table }
+    requires name { SpellsName name bytes.now }
+    requires is_name { IsName name }
+    requires first { day_of (columns 15 21 bytes.now) ≡ Some first }
+    requires last { end_from (Some first) (columns 22 28 bytes.now) ≡ Some last }
+    requires is_end { IsEnd first last }
+    requires days { days_of (columns 29 35 bytes.now) ≡ Some days }
+    requires serial { digits_of (columns 195 200 bytes.now) ≡ Some serial }
+    requires small { serial < 1000000 }
+    ensures { SpellsLeg result bytes.now }
+{
+    let _ = first.number();
+    let _ = days.days();
+    LegRecord {
+        name,
+        first,
+        last,
+        days,
         rate: carried_at(bytes, 36),
         columns: own_columns_at(bytes),
         overflow: carried_at(bytes, 128),
-        serial: digits_at(bytes, 195, 200),
+        serial,
     }
 }
 
@@ -103,9 +164,22 @@ pub(crate) fn read_leg(bytes: &[u8; 200]) -> Result<LegRecord, usize>
     ensures only { (r : LegFields) → SpellsLeg r bytes.now → result ≡ Ok r }
     ensures err { IfErr result (λ column. first_fault bytes.now leg_table ≡ Some column) }
 {
+    if let Some(leg) = leg_in(bytes) {
+        return Ok(leg);
+    }
     match leg_fault(bytes) {
         Some(column) => Err(column),
         None => Ok(leg_of(bytes)),
+    }
+}
+
+fn same_end(mine: Option<Day>, theirs: Option<Day>) -> bool
+    ensures { IsTrue result ↔ (mine ≡ theirs) }
+{
+    match (mine, theirs) {
+        (None, None) => true,
+        (Some(mine), Some(theirs)) => mine == theirs,
+        _ => false,
     }
 }
 
@@ -240,6 +314,34 @@ impl LegRecord {
         ensures serial { result.serial ≡ 0 }
     {
         SegmentRecord::new(self.name, self.columns.service_type(), tail)
+    }
+
+    /// Whether two legs are the same.
+    pub(crate) fn same(&self, other: &LegRecord) -> bool
+        ensures { IsTrue result ↔ (self.now ≡ other.now) }
+    {
+        if self.name != other.name {
+            return false;
+        }
+        if self.first != other.first {
+            return false;
+        }
+        if !same_end(self.last, other.last) {
+            return false;
+        }
+        if self.days != other.days {
+            return false;
+        }
+        if self.rate != other.rate {
+            return false;
+        }
+        if self.overflow != other.overflow {
+            return false;
+        }
+        if self.serial != other.serial {
+            return false;
+        }
+        self.columns.same(&other.columns)
     }
 
     /// The one written spelling.

@@ -1,10 +1,12 @@
 //! The name of a leg in a record of type 3 or 4.
 
-ghost use Rattle.std.specs.Prelude.{◌≡◌, ◌<◌, IsSome};
+ghost use Rattle.std.specs.Prelude.{◌≡◌, ◌<◌, IsSome, IfSome, length};
 ghost use Rattle.ssim_records.specs.Columns.{EachStands};
 ghost use Rattle.ssim_records.specs.Leg.{Name, IsName, SpellsName, name_table};
 
 use crate::columns::{airline_at, number_at, sequence_at, suffix_at};
+use crate::field::three;
+use crate::number::{number_of, sequence_of};
 use ssim_values::{Airline, Flight};
 use std::marker::Model;
 
@@ -47,6 +49,34 @@ pub(crate) fn name_at(bytes: &[u8; 200]) -> LegName
         flight,
         variation: number_at(bytes, 10, 11) as u8,
         sequence: sequence_at(bytes, 12, 13) as u8,
+    }
+}
+
+/// The name in columns 2 to 13, if they spell one.
+pub(crate) fn read_name(bytes: &[u8; 200]) -> Option<LegName>
+    ensures spells { IfSome result (λ name. SpellsName name bytes.now) }
+    ensures is_name { IfSome result (λ name. IsName name) }
+{
+    let number = number_of(&bytes[5..9])?;
+    let variation = number_of(&bytes[9..11])?;
+    let sequence = sequence_of(&bytes[11..13])?;
+    let airline = airline_of(&bytes[2..5])?;
+    let flight = Flight::new(number as u16, bytes[1])?;
+    Some(LegName {
+        airline,
+        flight,
+        variation: variation as u8,
+        sequence: sequence as u8,
+    })
+}
+
+fn airline_of(text: &[u8]) -> Option<Airline>
+    requires { length text.now ≡ 3 }
+    ensures { IfSome result (λ airline. airline ≡ text.now) }
+{
+    match Airline::parse(&three(text)) {
+        Ok(airline) => Some(airline),
+        Err(_) => None,
     }
 }
 

@@ -54,12 +54,16 @@ fn drop_blanks_at_end(text: &[u8]) -> &[u8]
 }
 
 /// The number that digits spell, with blanks before or after.
-#[tactic(auto, unfolding(crate::specs::Numbers::number_of))]
+// Mostly there are digits alone.
+#[tactic(auto, unfolding(crate::specs::Numbers::number_of), using(crate::proofs::Numbers::digits_alone))]
 pub fn number_of(text: &[u8]) -> Option<u32>
     requires { length text.now ≤ 6 }
     ensures below { IfSome result (λ number. number < 10 ^ length text.now) }
     ensures value { result ≡ number_of text.now }
 {
+    if let Some(number) = digits_of(text) {
+        return Some(number);
+    }
     digits_of(drop_blanks_at_end(drop_blanks(text)))
 }
 

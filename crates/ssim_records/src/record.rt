@@ -91,11 +91,15 @@ pub fn write_record(value: &Record) -> [u8; 200]
 }
 
 impl Record {
-    /// Whether two records are the same: their written spellings are, and each spelling is of one record.
+    /// Whether two records are the same. Those of a frame are compared by their spellings, since each spelling is of one record.
     pub fn same(&self, other: &Record) -> bool
         ensures { IsTrue result ↔ (self.now ≡ other.now) }
     {
-        write_record(self).as_slice() == write_record(other).as_slice()
+        match (self, other) {
+            (Record::Leg(mine), Record::Leg(theirs)) => mine.same(theirs),
+            (Record::Segment(mine), Record::Segment(theirs)) => mine.same(theirs),
+            _ => write_record(self).as_slice() == write_record(other).as_slice(),
+        }
     }
 
     /// The serial that the record had.

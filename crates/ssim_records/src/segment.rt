@@ -1,13 +1,15 @@
 //! Segment data records, type 4.
 
-ghost use Rattle.std.specs.Prelude.{◌≡◌, ◌<◌, ◌∷◌, [], None, Ok, IfOk, IfErr, Some, IsTrue};
+ghost use Rattle.std.specs.Prelude.{◌≡◌, ◌↔◌, ◌<◌, ◌∷◌, [], None, Ok, IfOk, IfErr, IfSome, Some, IsTrue};
+ghost use Rattle.ssim_records.specs.Numbers.{digits_of};
 ghost use Rattle.ssim_records.specs.Columns.{columns, first_fault, is_carried, EachStands};
+ghost use Rattle.ssim_records.specs.Leg.{IsName, SpellsName};
 ghost use Rattle.ssim_records.specs.Segment.{SegmentFields, IsSegment, SpellsSegment, segment_table, written_segment};
 
 use crate::columns::{carried_at, digits_at, join};
-use crate::field::{Field, Kind, first_fault};
-use crate::leg_name::{LegName, name_at};
-use crate::number::{four_digits, six_digits, two_digits};
+use crate::field::{Field, Kind, all_carried, first_fault};
+use crate::leg_name::{LegName, name_at, read_name};
+use crate::number::{digits_of, four_digits, six_digits, two_digits};
 use crate::segment_tail::{SegmentTail, tail_at};
 use ssim_values::Airline;
 use std::marker::Model;
@@ -63,12 +65,38 @@ fn segment_of(bytes: &[u8; 200]) -> SegmentRecord
     requires stands { EachStands bytes.now segment_table }
     ensures { SpellsSegment result bytes.now }
 {
+    segment_with(bytes, name_at(bytes), digits_at(bytes, 195, 200))
+}
+
+// The segment data that a record spells, each field read once, or none; then the table names the invalid field.
+fn segment_in(bytes: &[u8; 200]) -> Option<SegmentRecord>
+    requires { columns 1 1 bytes.now ≡ 52 ∷ [] }
+    ensures { IfSome result (λ r. SpellsSegment r bytes.now) }
+{
+    if !all_carried(bytes) {
+        return None;
+    }
+    let name = read_name(bytes)?;
+    let serial = digits_of(&bytes[194..200])?;
+    Some(segment_with(bytes, name, serial))
+}
+
+// The segment data with these parts, which the record spells.
+fn segment_with(bytes: &[u8; 200], name: LegName, serial: u32) -> SegmentRecord
+    requires kind { columns 1 1 bytes.now ≡ 52 ∷ [] }
+    requires stands { EachStands bytes.now segment_table }
+    requires name { SpellsName name bytes.now }
+    requires is_name { IsName name }
+    requires serial { digits_of (columns 195 200 bytes.now) ≡ Some serial }
+    requires small { serial < 1000000 }
+    ensures { SpellsSegment result bytes.now }
+{
     SegmentRecord {
-        name: name_at(bytes),
+        name,
         service: carried_at(bytes, 14),
         tail: tail_at(bytes),
         overflow: carried_at(bytes, 28),
-        serial: digits_at(bytes, 195, 200),
+        serial,
     }
 }
 
@@ -79,6 +107,9 @@ pub(crate) fn read_segment(bytes: &[u8; 200]) -> Result<SegmentRecord, usize>
     ensures only { (r : SegmentFields) → SpellsSegment r bytes.now → result ≡ Ok r }
     ensures err { IfErr result (λ column. first_fault bytes.now segment_table ≡ Some column) }
 {
+    if let Some(segment) = segment_in(bytes) {
+        return Ok(segment);
+    }
     match segment_fault(bytes) {
         Some(column) => Err(column),
         None => Ok(segment_of(bytes)),
@@ -162,6 +193,13 @@ impl SegmentRecord {
         let mut segment = self;
         segment.overflow = b' ';
         segment
+    }
+
+    /// Whether two segments are the same.
+    pub(crate) fn same(&self, other: &SegmentRecord) -> bool
+        ensures { IsTrue result ↔ (self.now ≡ other.now) }
+    {
+        self == other
     }
 
     /// The one written spelling.

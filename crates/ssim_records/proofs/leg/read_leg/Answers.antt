@@ -1,7 +1,7 @@
 -- Each field stands where the table has no fault, and one record is spelt.
 use Rattle.std.proofs.Common.{◌≡◌, sym, ◌∙◌}
 use Rattle.ssim_records.specs.Leg.{leg_table}
-use Rattle.ssim_records.proofs.Rows.{each_stands, none_fault}
+use Rattle.ssim_records.proofs.Rows.{each_stands}
 use Rattle.ssim_records.proofs.Legs.{one_leg}
 use Rattle.ssim_records.proofs.leg.read_leg.Goals as goal
 
@@ -12,4 +12,4 @@ pub returns-in-None-clause-only : goal.returns-in-None-clause-only
 returns-in-None-clause-only c = λ r p. let e : c.leg_of.result ≡ r = one_leg c.args.bytes.now c.leg_of.result r c.leg_of.ensures p in cc
 
 pub returns-in-Some-clause-only : goal.returns-in-Some-clause-only
-returns-in-Some-clause-only c = λ r p. let e = none_fault c.args.bytes.now leg_table p.stands in absurd cc
+returns-in-Some-clause-only c = λ r p. let e : c.in-Some.leg ≡ r = one_leg c.args.bytes.now c.in-Some.leg r c.in-Some.ensures p in cc

@@ -3,4 +3,4 @@ use Rattle.ssim_records.proofs.Numbers.{below_more}
 use Rattle.ssim_records.proofs.number.number_of.Goals as goal
 
 pub returns-clause-below : goal.returns-clause-below
-returns-clause-below c = below_more _ _ _ (omega arith) c.digits_of.ensures.below
+returns-clause-below c = below_more _ _ _ (omega arith) c.digits_of-2.ensures.below

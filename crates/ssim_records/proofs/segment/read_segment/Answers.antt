@@ -1,7 +1,7 @@
 -- Each field stands where the table has no fault, and one record is spelt.
 use Rattle.std.proofs.Common.{◌≡◌, sym, ◌∙◌}
 use Rattle.ssim_records.specs.Segment.{segment_table}
-use Rattle.ssim_records.proofs.Rows.{each_stands, none_fault}
+use Rattle.ssim_records.proofs.Rows.{each_stands}
 use Rattle.ssim_records.proofs.Segments.{one_segment}
 use Rattle.ssim_records.proofs.segment.read_segment.Goals as goal
 
@@ -12,4 +12,4 @@ pub returns-in-None-clause-only : goal.returns-in-None-clause-only
 returns-in-None-clause-only c = λ r p. let e : c.segment_of.result ≡ r = one_segment c.args.bytes.now c.segment_of.result r c.segment_of.ensures p in cc
 
 pub returns-in-Some-clause-only : goal.returns-in-Some-clause-only
-returns-in-Some-clause-only c = λ r p. let e = none_fault c.args.bytes.now segment_table p.stands in absurd cc
+returns-in-Some-clause-only c = λ r p. let e : c.in-Some.segment ≡ r = one_segment c.args.bytes.now c.in-Some.segment r c.in-Some.ensures p in cc

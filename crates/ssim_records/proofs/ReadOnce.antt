@@ -1,0 +1,143 @@
+-- The rows of a table follow from carried bytes, and from fields that were read.
+use Rattle.std.proofs.Common.{◌≡◌, ℕ, zero, suc, ◌-◌, List, [], ◌∷◌, take, drop, Bool, Option, None, Some, refl}
+use Rattle.std.specs.Prelude.{IsTrue, slice_range, is_some}
+use Rattle.std.specs.List.{list_all}
+use Rattle.ssim_values.specs.Day.{day_of}
+use Rattle.ssim_values.specs.DayMask.{days_of}
+use Rattle.ssim_values.specs.Clock.{clock_of}
+use Rattle.ssim_values.specs.Station.{is_station}
+use Rattle.ssim_records.specs.declared.field.Kind.TheVariants.{Carried}
+use Rattle.ssim_records.specs.Numbers.{digits_of}
+use Rattle.ssim_records.specs.Columns.{columns, is_carried, fault_in, end_from, passenger_time_of, utc_variation_of, EachStands}
+use Rattle.ssim_records.specs.Leg.{Name, IsName, SpellsName, leg_table}
+use Rattle.ssim_records.specs.LegPoints.{departure_is_valid, arrival_is_valid}
+use Rattle.ssim_records.specs.Segment.{segment_table}
+use Rattle.ssim_records.proofs.Names.{name_stands}
+use Rattle.ssim_records.proofs.Places.{dates_stand}
+use Rattle.ssim_records.proofs.Rows.{both_true, is_true, none_other, stands_as, stands_by}
+
+-- ---- carried columns
+
+all_drop : (n : ℕ) (t : List ℕ) → IsTrue (list_all is_carried t) → IsTrue (list_all is_carried (drop n t))
+all_drop zero t h = h
+all_drop (suc n) [] h = h
+all_drop (suc n) (b ∷ bs) h = all_drop n bs (both_true (is_carried b) (list_all is_carried bs) h).1
+
+all_take : (n : ℕ) (t : List ℕ) → IsTrue (list_all is_carried t) → IsTrue (list_all is_carried (take n t))
+all_take zero t h = refl
+all_take (suc n) [] h = h
+all_take (suc n) (b ∷ bs) h = let both = both_true (is_carried b) (list_all is_carried bs) h in rw (is_true (is_carried b) both.0) (all_take n bs both.1)
+
+carried_in : (b : List ℕ) (i j : ℕ) → IsTrue (list_all is_carried b) → fault_in Carried (columns i j b) ≡ None
+carried_in b i j h = none_other 0 (slice_range b (i - 1) j) (all_take (j - (i - 1)) (drop (i - 1) b) (all_drop (i - 1) b h))
+
+-- ---- departure and arrival
+
+record DepartureRows (b : List ℕ) : Type 0 where
+  station : IsTrue (is_station (columns 37 39 b))
+  passenger : IsTrue (is_some (passenger_time_of (columns 40 43 b)))
+  time : IsTrue (is_some (clock_of (columns 44 47 b)))
+  variation : IsTrue (is_some (utc_variation_of (columns 48 52 b)))
+
+departure_rows : (b : List ℕ) → IsTrue (departure_is_valid b) → DepartureRows b
+unfolding departure_is_valid
+departure_rows b h =
+    let p = both_true (is_station (columns 37 39 b)) _ h in
+    let q = both_true (is_some (passenger_time_of (columns 40 43 b))) _ p.1 in
+    let r = both_true (is_some (clock_of (columns 44 47 b))) _ q.1 in
+    record { station = p.0; passenger = q.0; time = r.0; variation = r.1 }
+
+record ArrivalRows (b : List ℕ) : Type 0 where
+  station : IsTrue (is_station (columns 55 57 b))
+  time : IsTrue (is_some (clock_of (columns 58 61 b)))
+  passenger : IsTrue (is_some (passenger_time_of (columns 62 65 b)))
+  variation : IsTrue (is_some (utc_variation_of (columns 66 70 b)))
+
+arrival_rows : (b : List ℕ) → IsTrue (arrival_is_valid b) → ArrivalRows b
+unfolding arrival_is_valid
+arrival_rows b h =
+    let p = both_true (is_station (columns 55 57 b)) _ h in
+    let q = both_true (is_some (clock_of (columns 58 61 b))) _ p.1 in
+    let r = both_true (is_some (passenger_time_of (columns 62 65 b))) _ q.1 in
+    record { station = p.0; time = q.0; passenger = r.0; variation = r.1 }
+
+-- ---- tables
+
+pub leg_stands : (b : List ℕ) (n : Name) (first : ℕ) (last : Option ℕ) (days : List Bool) (serial : ℕ) → IsTrue (list_all is_carried b) → IsTrue (departure_is_valid b) → IsTrue (arrival_is_valid b) → IsName n → SpellsName n b → day_of (columns 15 21 b) ≡ Some first → end_from (Some first) (columns 22 28 b) ≡ Some last → days_of (columns 29 35 b) ≡ Some days → digits_of (columns 195 200 b) ≡ Some serial → EachStands b leg_table
+leg_stands b m first last days serial all departure arrival fits name p q r s =
+    let n = name_stands m b fits name in
+    let d = departure_rows b departure in
+    let a = arrival_rows b arrival in (
+      n.0,
+      (
+        n.1.0,
+        (
+          n.1.1.0,
+          (
+            n.1.1.1.0,
+            (
+              n.1.1.1.1.0,
+              (
+                carried_in b 14 14 all,
+                (
+                  dates_stand b first last p q,
+                  (
+                    stands_as (days_of (columns 29 35 b)) days r,
+                    (
+                      carried_in b 36 36 all,
+                      (
+                        stands_by _ d.station,
+                        (
+                          stands_by _ d.passenger,
+                          (
+                            stands_by _ d.time,
+                            (
+                              stands_by _ d.variation,
+                              (
+                                carried_in b 53 54 all,
+                                (
+                                  stands_by _ a.station,
+                                  (
+                                    stands_by _ a.time,
+                                    (
+                                      stands_by _ a.passenger,
+                                      (
+                                        stands_by _ a.variation,
+                                        (carried_in b 71 127 all, (carried_in b 128 128 all, (carried_in b 129 194 all, (stands_as (digits_of (columns 195 200 b)) serial s, tt)))),
+                                      ),
+                                    ),
+                                  ),
+                                ),
+                              ),
+                            ),
+                          ),
+                        ),
+                      ),
+                    ),
+                  ),
+                ),
+              ),
+            ),
+          ),
+        ),
+      ),
+    )
+
+pub segment_stands : (b : List ℕ) (n : Name) (serial : ℕ) → IsTrue (list_all is_carried b) → IsName n → SpellsName n b → digits_of (columns 195 200 b) ≡ Some serial → EachStands b segment_table
+segment_stands b m serial all fits name s =
+    let n = name_stands m b fits name in (
+      n.0,
+      (
+        n.1.0,
+        (
+          n.1.1.0,
+          (
+            n.1.1.1.0,
+            (
+              n.1.1.1.1.0,
+              (carried_in b 14 14 all, (carried_in b 15 27 all, (carried_in b 28 28 all, (carried_in b 29 194 all, (stands_as (digits_of (columns 195 200 b)) serial s, tt))))),
+            ),
+          ),
+        ),
+      ),
+    )
