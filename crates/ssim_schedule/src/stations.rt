@@ -2,10 +2,10 @@
 
 ghost use Rattle.std.specs.Prelude.{◌≡◌, ◌≤◌, ◌++◌, List, [], IfOk, IfErr, IfSome, IfNone, IsTrue, ◌↔◌, Ok, Some};
 ghost use Rattle.ssim_text.specs.Left.{lines_left, numbered};
-ghost use Rattle.ssim_text.specs.Lines.{day_in, station_in};
+ghost use Rattle.ssim_text.specs.Lines.{day_in};
 ghost use Rattle.ssim_schedule.specs.Stations.{Gives, NamesLine, Row, SpellsTable, StopsAs, covers, row_of, rows_of, variation_at, variation_in};
 
-use crate::line::{cut, first_word, without_end};
+use ssim_text::{cut, first_word, read_station, without_end};
 use ssim_values::{Day, Memory, Station, Variation};
 use std::alloc::{AllocFailed, Global};
 use std::error::Error;
@@ -164,19 +164,6 @@ impl StationRow {
         } else {
             None
         }
-    }
-}
-
-fn read_station(text: &[u8]) -> Option<Station>
-    ensures some { IfSome result (λ station. station_in text.now ≡ Some station) }
-    ensures none { IfNone result (station_in text.now ≡ None) }
-{
-    match text.as_array() {
-        Some(letters) => match Station::parse(letters) {
-            Ok(station) => Some(station),
-            Err(_) => None,
-        },
-        None => None,
     }
 }
 

@@ -1,11 +1,11 @@
-//! How a line is cut into its parts.
+//! How bytes are cut into lines, and a line into its parts.
 ghost use Rattle.std.specs.Prelude.{◌≡◌, ◌∷◌, take, drop};
 ghost use Rattle.std.specs.List.{list_all};
 ghost use Rattle.ssim_text.specs.Bytes.{before, from, drop_blanks, word, behind, is_alphanumeric};
 ghost use Rattle.ssim_values.specs.Characters.{is_digit, is_letter};
 
 /// The bytes before the first `mark`, and those from it on.
-pub(crate) fn cut(text: &[u8], mark: u8) -> (&[u8], &[u8])
+pub fn cut(text: &[u8], mark: u8) -> (&[u8], &[u8])
     ensures before { result.0.now ≡ before mark text.now }
     ensures from { result.1.now ≡ from mark text.now }
 {
@@ -28,8 +28,8 @@ pub(crate) fn skip_blanks(text: &[u8]) -> &[u8]
     text
 }
 
-/// The first word, and the bytes after the blanks that follow it.
-pub(crate) fn first_word(line: &[u8]) -> (&[u8], &[u8])
+/// The first word, and the bytes after the blanks that follow it. The word is empty if the line begins with a blank.
+pub fn first_word(line: &[u8]) -> (&[u8], &[u8])
     ensures word { result.0.now ≡ word line.now }
     ensures behind { result.1.now ≡ behind line.now }
 {

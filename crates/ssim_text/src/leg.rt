@@ -65,7 +65,8 @@ impl LegLine {
     }
 }
 
-pub(crate) fn read_station(text: &[u8]) -> Option<Station>
+/// Reads a station.
+pub fn read_station(text: &[u8]) -> Option<Station>
     ensures some { IfSome result (λ s. station_in text.now ≡ Some s) }
     ensures none { IfNone result (station_in text.now ≡ None) }
 {

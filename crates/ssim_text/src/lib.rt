@@ -38,12 +38,14 @@ mod state;
 mod tests;
 
 pub use action::{Action, NewLegs, Sub};
+pub use bytes::{cut, first_word};
 pub use dates::{Dates, GivenDate, GivenEnd, GivenPeriod};
 pub use decoding::decode;
 pub use equipment::Equipment;
 pub use fault::{Fault, TextFault};
 pub use kind::{ActionIdentifier, Kind};
-pub use leg::{LegEnd, LegLine, Legs, leg_pair};
+pub use leg::{LegEnd, LegLine, Legs, leg_pair, read_station};
+pub use lines::without_end;
 pub use message::{FreeLine, Message, encode};
 pub use originator::Originator;
 pub use reference::{CreatorReference, GivenReference, GroupCode, Reference};

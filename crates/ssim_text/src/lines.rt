@@ -22,7 +22,7 @@ fn is_dropped(byte: u8) -> bool
 }
 
 /// A line without the CR bytes and blanks at its end.
-fn without_end(line: &[u8]) -> &[u8]
+pub fn without_end(line: &[u8]) -> &[u8]
     ensures { result.now ≡ without_end line.now }
 {
     let mut end = 0;

@@ -7,7 +7,7 @@ ghost use Rattle.ssim_program.specs.Script.{IsOtherLine, IsStepOf, RefusesScript
 ghost use Rattle.ssim_program.specs.Rehearsal.{as_written, script_of};
 
 use crate::refusal::Refusal;
-use ssim_schedule::{cut, first_word, without_end};
+use ssim_text::{cut, first_word, without_end};
 use ssim_values::Memory;
 use std::alloc::Global;
 
