@@ -3,8 +3,8 @@ use Rattle.std.proofs.Common.{◌≡◌, ℕ, List, ◌∷◌, drop, All, ap, su
 use Rattle.ssim_desk.specs.Desk.{IsReplayed}
 use Rattle.ssim_desk.specs.Kept.{AreEntries, DeskSeen, Entry, map_of, state_of}
 use Rattle.ssim_desk.specs.Steps.{IsUnion}
-use Rattle.ssim_desk.specs.Trail.{IsReplaced}
-use Rattle.ssim_desk.specs.Union.{HeldAlike, IsFirstNew, IsHeldIn, IsMerged}
+use Rattle.ssim_desk.specs.Private.Trail.{IsReplaced}
+use Rattle.ssim_desk.specs.Private.Union.{HeldAlike, IsFirstNew, IsHeldIn, IsMerged}
 use Rattle.ssim_desk.proofs.Changes.{replayed}
 use Rattle.ssim_desk.proofs.Entries.{not_held}
 use Rattle.ssim_desk.proofs.Unions.{agree, union_first, union_held, union_is}

@@ -20,9 +20,9 @@ use Rattle.ssim_desk.specs.Desk.{IsReplayed}
 use Rattle.ssim_desk.specs.Fault.{message_refused, text_refused}
 use Rattle.ssim_desk.specs.Held.{DeskState, Says}
 use Rattle.ssim_desk.specs.Kept.{AreEntries, AreRising, DeskSeen, Entry, IsEntry, map_of, state_of}
-use Rattle.ssim_desk.specs.Lookup.{IsFound, IsGap}
+use Rattle.ssim_desk.specs.Private.Lookup.{IsFound, IsGap}
 use Rattle.ssim_desk.specs.Steps.{IsNew, RefusesText, Takes}
-use Rattle.ssim_desk.specs.Trail.{IsReplaced}
+use Rattle.ssim_desk.specs.Private.Trail.{IsReplaced}
 use Rattle.ssim_desk.specs.declared.fault.DeskFault.TheVariants.{Conflict}
 use Rattle.ssim_desk.specs.declared.lookup.Found.TheVariants.{Other}
 use Rattle.ssim_desk.specs.declared.steps.Answer.TheVariants.{Repeated, Refused}

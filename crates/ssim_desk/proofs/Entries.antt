@@ -12,7 +12,7 @@ use Rattle.ssim_text.specs.Message.{MessageValue}
 use Rattle.ssim_text.specs.declared.reference.Reference.{Reference}
 use Rattle.ssim_desk.specs.Held.{reference_cmp}
 use Rattle.ssim_desk.specs.Kept.{AreRising, Entry, keyed, map_of}
-use Rattle.ssim_desk.specs.Lookup.{IsGap}
+use Rattle.ssim_desk.specs.Private.Lookup.{IsGap}
 use Rattle.ssim_desk.proofs.References.{reference_apart, reference_total}
 
 abbrev pub Pair : Type 0

@@ -36,3 +36,4 @@ pub mod SavedParts
 pub mod SavedFiles
 pub mod PartFaults
 pub mod Opened
+pub mod Examples

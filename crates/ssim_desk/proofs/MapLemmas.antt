@@ -4,7 +4,7 @@ use Rattle.std.specs.declared.cmp.Ordering.{Ordering}
 use Rattle.std.specs.Ordering.{eq_by_cmp}
 use Rattle.std.specs.Cmp.{IsTotalOrder}
 use Rattle.std.specs.FinMap.{FinMap, get, entries, find, same_map, get-from_entries, get-entries, IsAntisymmetric}
-use Rattle.ssim_desk.specs.Maps.{union, Agree}
+use Rattle.ssim_desk.specs.Held.{union, Agree}
 
 -- the first, and else the second
 abbrev pub or_else : {X : Type 0} → Option X → Option X → Option X

@@ -16,9 +16,9 @@ use Rattle.ssim_schedule.specs.declared.resolving.ResolvedText.{ResolvedText}
 use Rattle.ssim_text.specs.Message.{MessageValue}
 use Rattle.ssim_values.specs.Flight.{FlightNumber, IsFlight}
 use Rattle.ssim_desk.specs.Desk.{timetable_of}
-use Rattle.ssim_desk.specs.Kept.{AreEntries, DeskSeen, Entry, IsEntry, after_entries, entries_findings, state_of}
+use Rattle.ssim_desk.specs.Kept.{AreEntries, DeskSeen, Entry, IsEntry, after_entries, entries_findings, found_by, left_by, state_of}
 use Rattle.ssim_desk.specs.Meaning.{Finds, Means, ResolveTo, Timetable, after_messages, after_subs, messages_findings, subs_findings}
-use Rattle.ssim_desk.specs.Trail.{IsAfter, found_by, left_by}
+use Rattle.ssim_desk.specs.Private.Trail.{IsAfter}
 use Rattle.ssim_desk.proofs.Entries.{values-map_of}
 use Rattle.ssim_desk.proofs.Meanings.{has_one_meaning}
 

@@ -14,8 +14,7 @@ use Rattle.ssim_text.specs.Spelling.{SpellsMessage}
 use Rattle.ssim_text.specs.declared.fault.TextFault.{TextFault}
 use Rattle.ssim_text.specs.declared.fault.TextFault.TheVariants as text_fault
 use Rattle.ssim_text.specs.declared.reference.Reference.{Reference}
-use Rattle.ssim_desk.specs.Held.{DeskState, HeldMessages, Holds, Says, reference_cmp}
-use Rattle.ssim_desk.specs.Maps.{Agree, DifferAt, IsLeastConflict, union}
+use Rattle.ssim_desk.specs.Held.{Agree, DeskState, DifferAt, HeldMessages, Holds, IsLeastConflict, Says, reference_cmp, union}
 use Rattle.ssim_desk.specs.Merging.{IsMergedTo, MergesAreDetermined, TakesAreDetermined, ThreeDesksMerge, merged}
 use Rattle.ssim_desk.specs.Steps.{IsInConflict, IsKnown, IsNew, IsUnresolved, IsUnspelt, Merges, Takes}
 use Rattle.ssim_desk.specs.declared.fault.DeskFault.TheVariants.{Memory, Text, Resolve, Conflict, OtherBase, Read, File}

@@ -11,7 +11,7 @@ use Rattle.ssim_text.specs.Message.{MessageValue}
 use Rattle.ssim_text.specs.declared.reference.Reference.{Reference}
 use Rattle.ssim_desk.specs.Held.{reference_cmp}
 use Rattle.ssim_desk.specs.Kept.{AreRising, Entry, keyed, map_of}
-use Rattle.ssim_desk.specs.Lookup.{IsHeldAt, IsNarrowed}
+use Rattle.ssim_desk.specs.Private.Lookup.{IsHeldAt, IsNarrowed}
 use Rattle.ssim_desk.proofs.Entries.{T-from_true, and_left, and_right, below_later, flips, held_at}
 use Rattle.ssim_desk.proofs.References.{reference_apart, reference_total}
 

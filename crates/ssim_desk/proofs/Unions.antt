@@ -11,11 +11,10 @@ use Rattle.std.proofs.lemmas.List.{take-append-drop}
 use Rattle.ssim_records.specs.declared.record.Record.{Record}
 use Rattle.ssim_text.specs.Message.{MessageValue}
 use Rattle.ssim_text.specs.declared.reference.Reference.{Reference}
-use Rattle.ssim_desk.specs.Held.{reference_cmp}
+use Rattle.ssim_desk.specs.Held.{Agree, DifferAt, IsLeastConflict, reference_cmp, union}
 use Rattle.ssim_desk.specs.Kept.{AreEntries, AreRising, Entry, IsEntry, keyed, map_of}
-use Rattle.ssim_desk.specs.Lookup.{IsFound, IsGap}
-use Rattle.ssim_desk.specs.Maps.{Agree, DifferAt, IsLeastConflict, union}
-use Rattle.ssim_desk.specs.Union.{HeldAlike, IsAlike, IsFirstNew, IsHeldIn, IsLesser, IsMerged}
+use Rattle.ssim_desk.specs.Private.Lookup.{IsFound, IsGap}
+use Rattle.ssim_desk.specs.Private.Union.{HeldAlike, IsAlike, IsFirstNew, IsHeldIn, IsLesser, IsMerged}
 use Rattle.ssim_desk.specs.declared.lookup.Found.{Found}
 use Rattle.ssim_desk.specs.declared.lookup.Found.TheVariants.{Absent, Same, Other}
 use Rattle.ssim_desk.proofs.Entries.{T-from_true, and_left, flips, get-map_of, held_at, not_held, self_equal, true-from_T}

@@ -6,8 +6,7 @@ use Rattle.ssim_records.specs.Blocks.{CountsOn, SameAhead}
 use Rattle.ssim_schedule.specs.Reading.{Came}
 use Rattle.std.specs.Prelude.{IfErr, Result}
 use Rattle.ssim_records.specs.declared.fault.RecordFault.TheVariants.{Short, BadType, BadColumn, ReadFault, ReaderNeverEnds}
-use Rattle.ssim_desk.specs.Fault.{IsFetchFault, IsInputFault, NeverEnds}
-use Rattle.ssim_desk.specs.Opening.{AreAll, RefusesFile}
+use Rattle.ssim_desk.specs.Opening.{AreAll, IsFetchFault, IsInputFault, NeverEnds, RefusesFile}
 use Rattle.ssim_desk.specs.declared.fault.DeskFault.{DeskFault}
 use Rattle.ssim_desk.specs.declared.fault.DeskFault.TheVariants.{Memory, Text, Resolve, Conflict, OtherBase, Read, File}
 

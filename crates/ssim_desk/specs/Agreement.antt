@@ -1,24 +1,9 @@
 -- Desks that the same messages reached are one: the same messages held, the same itineraries, the same export.
-use Rattle.std.specs.Prelude.{◌≡◌, ◌≢◌, ◌⊎◌, ◌<◌, ◌↔◌, ℕ, List, length, All, Some, Result, Ok}
-use Rattle.std.specs.FinMap.{empty}
-use Rattle.std.specs.List.{slice_get}
-use Rattle.std.specs.declared.alloc.Global.{Global}
-use Rattle.std.specs.declared.vec.Vec.{Vec}
-use Rattle.ssim_schedule.specs.Export.{ExportRefusal}
-use Rattle.ssim_schedule.specs.Reading.{IsReadAs}
-use Rattle.ssim_schedule.specs.Stations.{SpellsTable}
-use Rattle.ssim_schedule.specs.declared.note.Note.{Note}
-use Rattle.ssim_text.specs.Message.{MessageValue}
-use Rattle.ssim_text.specs.declared.reference.Reference.{Reference}
-use Rattle.ssim_desk.specs.Held.{DeskState, Holds, IsDesk}
-use Rattle.ssim_desk.specs.Meaning.{Exports, Means, Timetable}
-use Rattle.ssim_desk.specs.Reach.{IsStep, Reached, SaysTo}
-use Rattle.ssim_desk.specs.Steps.{IsInRange, Runs, desk_at}
-use Rattle.ssim_desk.specs.declared.fault.DeskFault.TheVariants.{Memory, Conflict}
-use Rattle.ssim_desk.specs.declared.steps.Answer.{Answer}
-use Rattle.ssim_desk.specs.declared.steps.Answer.TheVariants.{Refused}
-use Rattle.ssim_desk.specs.declared.steps.Step.{Step}
-use Rattle.ssim_desk.specs.declared.steps.Step.TheVariants.{Take}
+use Rattle.std.specs.{Prelude.{◌≡◌, ◌≢◌, ◌⊎◌, ◌<◌, ◌↔◌, ℕ, List, length, All, Some, Result, Ok}, FinMap.empty, List.slice_get, declared.alloc.Global.Global, declared.vec.Vec.Vec}
+use Rattle.ssim_schedule.specs.{Export.ExportRefusal, Reading.IsReadAs, Stations.SpellsTable, declared.note.Note.Note}
+use Rattle.ssim_text.specs.{Message.MessageValue, declared.reference.Reference.Reference}
+use Rattle.ssim_desk.specs.{Held.{DeskState, Holds, IsDesk}, Meaning.{Exports, Means, Timetable}, Reach.{IsStep, Reached, SaysTo}, Steps.{IsInRange, Runs, desk_at}, declared.fault.DeskFault.TheVariants.{Memory, Conflict}}
+use Rattle.ssim_desk.specs.{declared.steps.Answer.Answer, declared.steps.Answer.TheVariants.Refused, declared.steps.Step.Step, declared.steps.Step.TheVariants.Take}
 
 -- a run of steps over desks
 pub record Run : Type 0 where
@@ -42,8 +27,6 @@ abbrev pub SameMessagesSameDesk : Type 0
 SameMessagesSameDesk =
     (one other : Run) (d e : ℕ) → TookTheSame one other d e → desk_at one.start d ≡ desk_at other.start e
     → desk_at one.after d ≡ desk_at other.after e
-
--- ---- the headline
 
 -- the desk's base was read from these bytes of a data set and of a station table, and the desk holds nothing
 pub record BeganFrom (data_set stations : List ℕ) (desk : DeskState) : Type 0 where
@@ -83,8 +66,6 @@ DesksAgree start steps answers after =
     (d e : ℕ) → d < length start → e < length start → BeganAlike (desk_at start d) (desk_at start e)
     → ((reference : Reference) (message : MessageValue) → Reached start steps answers d reference message ↔ Reached start steps answers e reference message)
     → AreAgreed (desk_at after d) (desk_at after e)
-
--- ---- references that are kept apart
 
 -- a desk holds the message at the start, or a step offers a text that says it
 abbrev pub IsThere : List DeskState → List Step → Reference → MessageValue → Type 0

@@ -1,25 +1,12 @@
 -- What the calls of a desk do and return.
-use Rattle.std.specs.Prelude.{◌≡◌, ℕ, ◌+◌, ◌≤◌, ◌<◌, List, [], ◌∷◌, ◌++◌, length, take, drop, slice_get, All, Option, Some, None, IfSome, Result, Ok, Err}
-use Rattle.std.specs.FinMap.{get}
+use Rattle.std.specs.{Prelude.{◌≡◌, ℕ, ◌+◌, ◌*◌, ◌≤◌, Bool, ◌&&◌, ◌||◌, nat_eq, IsTrue, List, [], ◌∷◌, ◌++◌, length, take, slice_get, Contains, None, Some, Result, Ok, Err}, FinMap.get, List.{count_by, flat_map, list_any}}
 use Rattle.ssim_periods.specs.Days.{each_day}
-use Rattle.ssim_schedule.specs.Timetable.{Days, Legs}
-use Rattle.ssim_schedule.specs.declared.finding.Finding.{Finding}
-use Rattle.ssim_schedule.specs.declared.resolved.ResolvedSub.{ResolvedSub}
-use Rattle.ssim_text.specs.Grammar.{identifier_of}
-use Rattle.ssim_text.specs.Message.{MessageValue}
-use Rattle.ssim_text.specs.declared.action.Sub.{Sub}
-use Rattle.ssim_text.specs.declared.reference.Reference.{Reference}
+use Rattle.ssim_schedule.specs.{BaseSeen.{BaseSeen, is_leg_of}, Points.is_point, Stations.Row, Timetable.{Days, Legs, same_flight}, declared.finding.Finding.Finding, declared.resolved.ResolvedSub.ResolvedSub}
+use Rattle.ssim_text.specs.{Grammar.identifier_of, declared.action.Sub.Sub, declared.reference.Reference.Reference}
 use Rattle.ssim_values.specs.Flight.{FlightNumber}
-use Rattle.ssim_desk.specs.Kept.{DeskSeen, Entry, map_of}
-use Rattle.ssim_desk.specs.Trail.{found_by, left_by}
-use Rattle.ssim_desk.specs.declared.desk.Took.{Took}
-use Rattle.ssim_desk.specs.declared.desk.Took.TheVariants as took
-use Rattle.ssim_desk.specs.declared.fault.DeskFault.{DeskFault}
-use Rattle.ssim_desk.specs.declared.finding_line.FindingLine.{FindingLine}
-use Rattle.ssim_desk.specs.declared.steps.Answer.{Answer}
+use Rattle.ssim_desk.specs.{Kept.{DeskSeen, Entry, found_by, left_by, map_of}, declared.desk.Took.Took, declared.fault.DeskFault.DeskFault, declared.finding_line.FindingLine.FindingLine, declared.steps.Answer.Answer}
 use Rattle.ssim_desk.specs.declared.steps.Answer.TheVariants.{Taken, Repeated, Merged, Refused}
-
--- ---- answers
+use Rattle.ssim_desk.specs.declared.desk.Took.TheVariants as took
 
 -- the answer that the result of `take` is
 abbrev pub take_answer : Result Took DeskFault → Answer
@@ -31,8 +18,6 @@ take_answer (Err fault) = Refused fault
 abbrev pub merge_answer : Result (Unit {0}) DeskFault → Answer
 merge_answer (Ok done) = Merged
 merge_answer (Err fault) = Refused fault
-
--- ---- how many messages are applied
 
 -- With n messages after the first new one, from n + 1 to n + 32 are applied.
 pub record IsReplayed (old new : DeskSeen) : Type 0 where
@@ -62,18 +47,48 @@ days_of_desk desk flight = each_day (timetable_of desk flight)
 
 -- the lines of the sub-messages of one message, from number n on
 abbrev pub sub_lines : Reference → ℕ → List Sub → List Finding → List FindingLine
-sub_lines reference n [] findings = []
-sub_lines reference n (sub ∷ subs) [] = []
 sub_lines reference n (sub ∷ subs) (finding ∷ findings) =
     record { reference = reference; sub = n; action = identifier_of sub.action; designator = sub.designator; finding = finding }
     ∷ sub_lines reference (n + 1) subs findings
+sub_lines _ _ _ _ = []
 
 -- the lines of messages, in their order
 abbrev pub entry_lines : List Entry → List (List Finding) → List FindingLine
-entry_lines [] found = []
-entry_lines (e ∷ entries) [] = []
 entry_lines (e ∷ entries) (findings ∷ found) = sub_lines e.reference 1 e.message.subs findings ++ entry_lines entries found
+entry_lines _ _ = []
 
 -- a line for each sub-message: what it found on the dates of its period when it was applied in order of reference
 abbrev pub finding_lines : DeskSeen → List FindingLine
 finding_lines desk = entry_lines desk.held (found_by desk.base desk.held)
+
+-- ---- cuts: the days at which the dates of a flight are divided
+
+-- the sub-messages of messages, each with its flight and its full dates
+abbrev pub subs_of : List Entry → List ResolvedSub
+subs_of entries = flat_map (λ e. e.dates) entries
+
+-- whether the sub-message names the flight
+abbrev pub is_sub_of : FlightNumber → ResolvedSub → Bool
+is_sub_of flight sub = same_flight sub.flight flight
+
+-- whether the day is the first of the period of a sub-message that names the flight, or the day after its last
+abbrev pub is_sub_point : FlightNumber → ℕ → ResolvedSub → Bool
+is_sub_point flight day sub = is_sub_of flight sub && (nat_eq day sub.period.first || nat_eq day (sub.period.last + 1))
+
+-- whether the day is the first of a station row, or the day after its last
+abbrev pub is_row_point : ℕ → Row → Bool
+is_row_point day row = nat_eq day row.first || nat_eq day (row.last + 1)
+
+-- whether the day is such a day of a leg record of the flight, of a sub-message that names it, or of a station row
+abbrev pub is_desk_point : BaseSeen → List Entry → FlightNumber → ℕ → Bool
+is_desk_point base entries flight day =
+    list_any (is_point flight day) base.records || (list_any (is_sub_point flight day) (subs_of entries) || list_any (is_row_point day) base.rows)
+
+-- each cut is such a day
+abbrev pub AreDeskPoints : BaseSeen → List Entry → FlightNumber → List ℕ → Type 0
+AreDeskPoints base entries flight cuts = (cut : ℕ) → Contains cuts cut → IsTrue (is_desk_point base entries flight cut)
+
+-- two for each leg record of the flight, each sub-message that names it, and each station row
+abbrev pub point_bound : BaseSeen → List Entry → FlightNumber → ℕ
+point_bound base entries flight =
+    2 * (count_by (is_leg_of flight) base.records + count_by (is_sub_of flight) (subs_of entries) + length base.rows)

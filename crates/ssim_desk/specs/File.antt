@@ -53,6 +53,7 @@ rows_part rows = counted (codes "STATIONS") (length rows) ++ flat_map row_line r
 abbrev pub texts_part : List Entry → List ℕ
 texts_part entries = counted (codes "TEXTS") (length entries) ++ flat_map text_element entries
 
+-- the last line
 abbrev pub end_line : List ℕ
 end_line = codes "END" ++ 10 ∷ []
 
@@ -81,6 +82,7 @@ pub record IsRow (row : Row) : Type 0 where
 abbrev pub IsSpelled : Entry → Type 0
 IsSpelled e = SpellsMessage e.message (canonical e.message)
 
+-- the message has no originator line
 abbrev pub HasNoOriginator : Entry → Type 0
 HasNoOriginator e = e.message.originator ≡ no_originator
 
@@ -115,6 +117,7 @@ pub record IsSavedAgain (bytes : List ℕ) (base : BaseSeen) (entries : List Ent
   pub version_2 : take 11 bytes ≡ counted (codes "SSIMDESK") 2 → desk_file base entries ≡ bytes
   pub version_1 : desk_file base entries ≡ counted (codes "SSIMDESK") 2 ++ drop 11 bytes
 
+-- and so is every file that was opened
 abbrev pub SavesAsOpened : Type 0
 SavesAsOpened = (bytes : List ℕ) (base : BaseSeen) (entries : List Entry) → IsDeskFile bytes base entries → IsSavedAgain bytes base entries
 

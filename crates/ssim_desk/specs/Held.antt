@@ -1,16 +1,8 @@
--- What a desk is: a base, and messages by reference.
-use Rattle.std.specs.Prelude.{◌≡◌, ℕ, List, [], Some}
-use Rattle.std.specs.Cmp.Lexicographic.{slice_cmp}
-use Rattle.std.specs.FinMap.{FinMap, get, empty}
-use Rattle.std.specs.Ordering.{nat_cmp}
-use Rattle.std.specs.declared.cmp.Ordering.{Ordering}
-use Rattle.ssim_schedule.specs.BaseSeen.{BaseSeen, WasRead}
-use Rattle.ssim_schedule.specs.Resolve.{ResolvesIn}
-use Rattle.ssim_schedule.specs.declared.resolving.ResolvedText.{ResolvedText}
-use Rattle.ssim_text.specs.Message.{MessageValue}
-use Rattle.ssim_text.specs.Reference.{reference_numbers}
-use Rattle.ssim_text.specs.Spelling.{SpellsMessage}
-use Rattle.ssim_text.specs.declared.reference.Reference.{Reference}
+-- What a desk is: a base, and messages by reference; the union of two maps, and where they differ.
+use Rattle.std.specs.{Prelude.{◌≡◌, ◌≢◌, ◌++◌, ℕ, List, [], Some}, Cmp.Lexicographic.slice_cmp, FinMap.{FinMap, empty, entries, from_entries, get}, Ordering.nat_cmp, declared.cmp.Ordering.Ordering}
+use Rattle.std.specs.declared.cmp.Ordering.TheVariants.{Less}
+use Rattle.ssim_schedule.specs.{BaseSeen.{BaseSeen, WasRead}, Resolve.ResolvesIn, declared.resolving.ResolvedText.ResolvedText}
+use Rattle.ssim_text.specs.{Message.MessageValue, Reference.reference_numbers, Spelling.SpellsMessage, declared.reference.Reference.Reference}
 
 -- references are compared by date, group serial, message serial, kind and originator
 abbrev pub reference_cmp : Reference → Reference → Ordering
@@ -50,3 +42,25 @@ pub record IsDesk (desk : DeskState) : Type 0 where
 -- the value of a look-up of a desk by a number that no desk has
 abbrev pub no_desk : DeskState
 no_desk = record { base = record { records = []; rows = [] }; held = empty }
+
+module _ {K X : Type 0} {R : K → K → Ordering} where
+  -- what either map has, and under a key of both what the first has
+  unfoldable pub union : FinMap R X → FinMap R X → FinMap R X
+  union m n = from_entries (entries m ++ entries n)
+
+  -- under no key have they two different values
+  abbrev pub Agree : FinMap R X → FinMap R X → Type 0
+  Agree m n = (q : K) (a b : X) → get m q ≡ Some a → get n q ≡ Some b → a ≡ b
+
+  -- they have two different values under the key
+  pub record DifferAt (m n : FinMap R X) (q : K) : Type 0 where
+    pub one : X
+    pub other : X
+    pub in_one : get m q ≡ Some one
+    pub in_other : get n q ≡ Some other
+    pub apart : one ≢ other
+
+  -- and under none that comes before it
+  pub record IsLeastConflict (m n : FinMap R X) (q : K) : Type 0 where
+    pub differ : DifferAt m n q
+    pub least : (p : K) → DifferAt m n p → R p q ≢ Less

@@ -1,21 +1,10 @@
 -- What each flight has on each date, by what a desk holds.
-use Rattle.std.specs.Prelude.{◌≡◌, ℕ, ◌&&◌, if◌then◌else◌, List, [], ◌∷◌, Result}
-use Rattle.std.specs.FinMap.{values}
-use Rattle.ssim_periods.specs.Calendar.{holds}
-use Rattle.ssim_periods.specs.Days.{each_day}
+use Rattle.std.specs.{Prelude.{◌≡◌, ℕ, ◌&&◌, if◌then◌else◌, List, [], ◌∷◌, Result}, FinMap.values}
+use Rattle.ssim_periods.specs.{Calendar.holds, Days.each_day}
 use Rattle.ssim_records.specs.declared.record.Record.{Record}
-use Rattle.ssim_schedule.specs.Acts.{after_on, finding_of}
-use Rattle.ssim_schedule.specs.Export.{ExportRefusal, Frame, chapter7}
-use Rattle.ssim_schedule.specs.ReadBack.{HasFrame}
-use Rattle.ssim_schedule.specs.Resolve.{ResolvesIn}
-use Rattle.ssim_schedule.specs.Stations.{Row}
-use Rattle.ssim_schedule.specs.Timetable.{Legs, itinerary, same_flight}
-use Rattle.ssim_schedule.specs.declared.finding.Finding.{Finding}
-use Rattle.ssim_schedule.specs.declared.resolved.ResolvedSub.{ResolvedSub}
-use Rattle.ssim_schedule.specs.declared.resolving.ResolvedText.{ResolvedText}
-use Rattle.ssim_text.specs.Message.{MessageValue}
-use Rattle.ssim_text.specs.declared.action.Action.{Action}
-use Rattle.ssim_text.specs.declared.action.Sub.{Sub}
+use Rattle.ssim_schedule.specs.{Acts.{after_on, finding_of}, Export.{ExportRefusal, Frame, chapter7}, ReadBack.HasFrame, Resolve.ResolvesIn, Stations.Row, Timetable.{Legs, itinerary, same_flight}, declared.finding.Finding.Finding}
+use Rattle.ssim_schedule.specs.{declared.resolved.ResolvedSub.ResolvedSub, declared.resolving.ResolvedText.ResolvedText}
+use Rattle.ssim_text.specs.{Message.MessageValue, declared.action.Action.Action, declared.action.Sub.Sub}
 use Rattle.ssim_values.specs.Flight.{FlightNumber}
 use Rattle.ssim_desk.specs.Held.{DeskState, IsDesk}
 
@@ -30,39 +19,34 @@ after_one rows action sub before flight day =
 
 -- after the sub-messages of a text, in their order, each with its full dates
 abbrev pub after_subs : List Row → List Sub → List ResolvedSub → Timetable → Timetable
-after_subs rows [] dates before = before
-after_subs rows (sub ∷ subs) [] before = before
 after_subs rows (sub ∷ subs) (dated ∷ dates) before = after_subs rows subs dates (after_one rows sub.action dated before)
+after_subs _ _ _ before = before
 
 -- after messages, in their order, each as it resolves
 abbrev pub after_messages : List Row → List MessageValue → List ResolvedText → Timetable → Timetable
-after_messages rows [] texts before = before
-after_messages rows (message ∷ messages) [] before = before
 after_messages rows (message ∷ messages) (text ∷ texts) before =
     after_messages rows messages texts (after_subs rows message.subs text.subs.items before)
+after_messages _ _ _ before = before
 
 -- what each sub-message of a text finds: how many of its dates get which reason
 abbrev pub subs_findings : List Row → List Sub → List ResolvedSub → Timetable → List Finding
-subs_findings rows [] dates before = []
-subs_findings rows (sub ∷ subs) [] before = []
 subs_findings rows (sub ∷ subs) (dated ∷ dates) before =
     finding_of rows sub.action dated.period (each_day (before dated.flight))
     ∷ subs_findings rows subs dates (after_one rows sub.action dated before)
+subs_findings _ _ _ _ = []
 
 -- and those of messages, a list for each
 abbrev pub messages_findings : List Row → List MessageValue → List ResolvedText → Timetable → List (List Finding)
-messages_findings rows [] texts before = []
-messages_findings rows (message ∷ messages) [] before = []
 messages_findings rows (message ∷ messages) (text ∷ texts) before =
     subs_findings rows message.subs text.subs.items before
     ∷ messages_findings rows messages texts (after_subs rows message.subs text.subs.items before)
+messages_findings _ _ _ _ = []
 
 -- each message as it resolves against the records of a base
 abbrev pub ResolveTo : List Record → List MessageValue → List ResolvedText → Type 0
 ResolveTo records [] [] = Unit {0}
-ResolveTo records [] (text ∷ texts) = ⊥
-ResolveTo records (message ∷ messages) [] = ⊥
 ResolveTo records (message ∷ messages) (text ∷ texts) = ResolvesIn records message text × ResolveTo records messages texts
+ResolveTo _ _ _ = ⊥
 
 -- the meaning of a desk: what its messages, in order of reference, leave of its base's timetable
 pub record Means (desk : DeskState) (timetable : Timetable) : Type 0 where
@@ -83,8 +67,6 @@ HasMeaning = (desk : DeskState) → IsDesk desk → (timetable : Timetable) × M
 -- and only one
 abbrev pub HasOneMeaning : Type 0
 HasOneMeaning = (desk : DeskState) (one other : Timetable) → Means desk one → Means desk other → one ≡ other
-
--- ---- the export of a desk
 
 -- the answer to an export: the chapter 7 bytes of the desk's meaning, or why it has none
 pub record Exports (desk : DeskState) (answer : Result (List ℕ) ExportRefusal) : Type 0 where

@@ -1,13 +1,6 @@
 -- Laws of merging, and what determines an answer.
 use Rattle.std.specs.Prelude.{◌≡◌, ◌≢◌, List, ℕ}
-use Rattle.ssim_desk.specs.Held.{DeskState, HeldMessages}
-use Rattle.ssim_desk.specs.Maps.{Agree, union}
-use Rattle.ssim_desk.specs.Steps.{Merges, Takes}
-use Rattle.ssim_desk.specs.declared.fault.DeskFault.TheVariants.{Memory}
-use Rattle.ssim_desk.specs.declared.steps.Answer.{Answer}
-use Rattle.ssim_desk.specs.declared.steps.Answer.TheVariants.{Merged, Refused}
-
--- ---- maps
+use Rattle.ssim_desk.specs.{Held.{Agree, DeskState, HeldMessages, union}, Steps.{Merges, Takes}, declared.fault.DeskFault.TheVariants.Memory, declared.steps.Answer.Answer, declared.steps.Answer.TheVariants.{Merged, Refused}}
 
 -- (a with b) with c holds what a with (b with c) holds
 abbrev pub MergesAssociate : Type 0
@@ -20,8 +13,6 @@ MergesCommute = (a b : HeldMessages) → Agree a b → union a b ≡ union b a
 -- a with itself holds what it held
 abbrev pub MergesRepeat : Type 0
 MergesRepeat = (a : HeldMessages) → union a a ≡ a
-
--- ---- desks
 
 -- the desk after a merge with another
 abbrev pub merged : DeskState → DeskState → DeskState
@@ -49,10 +40,9 @@ pub record MergeFreely (a b c : DeskState) : Type 0 where
   pub ab_c : IsMergedTo (merged a b) c (merged (merged a b) c)
   pub a_bc : IsMergedTo a (merged b c) (merged (merged a b) c)
 
+-- so three such desks are merged in any order and grouping
 abbrev pub ThreeDesksMerge : Type 0
 ThreeDesksMerge = (a b c : DeskState) → AreMergeable a b c → MergeFreely a b c
-
--- ---- what determines an answer
 
 -- unless memory is refused, the desk and the text determine the answer and what is held afterwards
 abbrev pub TakesAreDetermined : Type 0

@@ -1,7 +1,8 @@
 -- How the parts of a desk file are read.
-use Rattle.std.specs.Prelude.{◌≡◌, ℕ, ◌≤◌, Bool, true, false, ◌==◌, if◌then◌else◌, List, [], ◌∷◌, ◌++◌, length, codes, All, Option, Some, None}
+use Rattle.std.specs.Prelude.{◌≡◌, ℕ, ◌+◌, ◌%◌, ◌^◌, ◌<◌, ◌≤◌, Bool, true, false, ◌==◌, if◌then◌else◌, List, [], ◌∷◌, ◌++◌, length, codes, All, Option, Some, None}
 use Rattle.std.specs.List.{list_all}
 use Rattle.ssim_values.specs.Characters.{is_digit}
+use Rattle.ssim_records.specs.declared.fault.RecordFault.TheVariants.{ReadFault, ReaderNeverEnds}
 use Rattle.ssim_records.specs.declared.record.Record.{Record}
 use Rattle.ssim_schedule.specs.BaseSeen.{BaseSeen}
 use Rattle.ssim_schedule.specs.SavedBase.{IsBaseRecords}
@@ -17,6 +18,7 @@ use Rattle.ssim_desk.specs.declared.opening.version.FileVersion.TheVariants.{One
 
 -- ---- lines
 
+-- whether there are no bytes
 abbrev pub is_empty : List ℕ → Bool
 is_empty [] = true
 is_empty (b ∷ rest) = false
@@ -77,12 +79,37 @@ IsInvalid (Invalid left) = Unit {0}
 
 -- ---- the whole input
 
+-- a fetch failed, or there was no memory for what came
+abbrev pub IsFetchFault : DeskFault → Type 0
+IsFetchFault desk_fault.Memory = Unit {0}
+IsFetchFault (desk_fault.Read (ReadFault n)) = Unit {0}
+IsFetchFault _ = ⊥
+
+-- the input was not read
+abbrev pub IsInputFault : DeskFault → Type 0
+IsInputFault desk_fault.Memory = Unit {0}
+IsInputFault (desk_fault.Read fault) = Unit {0}
+IsInputFault _ = ⊥
+
 -- the bytes are all that a reader has left, if they are known, and no more than the limit
 abbrev pub AreAll : ℕ → Option (List ℕ) → List ℕ → Type 0
 AreAll limit None bytes = length bytes ≤ limit
 AreAll limit (Some all) bytes = (bytes ≡ all) × (length all ≤ limit)
 
 -- ---- opening
+
+-- a failure of the reader is counted if the fault is 13, and the count wraps; the only other faults are 14, 62 and out of memory
+abbrev pub FailsAs : ℕ → ℕ → DeskFault → Type 0
+FailsAs old new (desk_fault.Read (ReadFault n)) = (n ≡ 0) × (new ≡ (old + 1) % 2 ^ 64)
+FailsAs old new (desk_fault.Read (ReaderNeverEnds n)) = (n ≡ 0) × (new ≡ old)
+FailsAs old new (desk_fault.File offset) = new ≡ old
+FailsAs old new desk_fault.Memory = new ≡ old
+FailsAs _ _ _ = ⊥
+
+-- more bytes came than the limit if the fault is 14
+abbrev pub NeverEnds : ℕ → (ℕ → Type 0) → DeskFault → Type 0
+NeverEnds limit CameFrom (desk_fault.Read (ReaderNeverEnds n)) = (count : ℕ) × (limit < count) × CameFrom count
+NeverEnds _ _ _ = Unit {0}
 
 -- the bytes that a reader has left, no more than the limit, are the file of the base and the messages
 abbrev pub Opens : ℕ → Option (List ℕ) → BaseSeen → List Entry → Type 0
@@ -94,12 +121,9 @@ abbrev pub OpensNone : ℕ → Option (List ℕ) → Type 0
 OpensNone limit None = Unit {0}
 OpensNone limit (Some bytes) = (length bytes ≤ limit) × ((base : BaseSeen) (entries : List Entry) → IsDeskFile bytes base entries → ⊥)
 
--- why no desk is opened: 62 for the bytes; else 13, 14 or want of memory
+-- why no desk is opened: 62 for the bytes; else 13, 14 or out of memory
 abbrev pub RefusesFile : ℕ → Option (List ℕ) → DeskFault → Type 0
 RefusesFile limit left desk_fault.Memory = Unit {0}
 RefusesFile limit left (desk_fault.Read fault) = Unit {0}
 RefusesFile limit left (desk_fault.File offset) = OpensNone limit left
-RefusesFile limit left (desk_fault.Text fault) = ⊥
-RefusesFile limit left (desk_fault.Resolve fault) = ⊥
-RefusesFile limit left (desk_fault.Conflict reference) = ⊥
-RefusesFile limit left desk_fault.OtherBase = ⊥
+RefusesFile _ _ _ = ⊥

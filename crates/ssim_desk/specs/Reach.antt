@@ -1,23 +1,14 @@
 -- Which messages reach which desks.
-use Rattle.std.specs.Prelude.{◌≡◌, ◌⊎◌, ◌<◌, ◌↔◌, ℕ, Bool, true, false, List, length, All, Some}
-use Rattle.std.specs.List.{slice_get}
-use Rattle.std.specs.declared.alloc.Global.{Global}
-use Rattle.std.specs.declared.vec.Vec.{Vec}
-use Rattle.ssim_text.specs.Message.{MessageValue}
-use Rattle.ssim_text.specs.declared.reference.Reference.{Reference}
-use Rattle.ssim_desk.specs.Held.{DeskState, Holds, Says}
-use Rattle.ssim_desk.specs.Steps.{IsInRange, Runs, desk_at}
-use Rattle.ssim_desk.specs.declared.steps.Answer.{Answer}
-use Rattle.ssim_desk.specs.declared.steps.Answer.TheVariants.{Taken, Repeated, Merged, Refused}
-use Rattle.ssim_desk.specs.declared.steps.Step.{Step}
+use Rattle.std.specs.{Prelude.{◌≡◌, ◌⊎◌, ◌<◌, ◌↔◌, ℕ, Bool, true, false, List, length, All, Some}, List.slice_get, declared.alloc.Global.Global, declared.vec.Vec.Vec}
+use Rattle.ssim_text.specs.{Message.MessageValue, declared.reference.Reference.Reference}
+use Rattle.ssim_desk.specs.{Held.{DeskState, Holds, Says}, Steps.{IsInRange, Runs, desk_at}, declared.steps.Answer.Answer, declared.steps.Answer.TheVariants.{Taken, Repeated, Merged, Refused}, declared.steps.Step.Step}
 use Rattle.ssim_desk.specs.declared.steps.Step.TheVariants.{Take, Merge}
 
 -- whether an answer says that the text's message is held
 abbrev pub is_accepted : Answer → Bool
 is_accepted Taken = true
 is_accepted Repeated = true
-is_accepted Merged = false
-is_accepted (Refused fault) = false
+is_accepted _ = false
 
 -- the step with this number, counted from 0, and its answer
 abbrev pub IsStep : List Step → List Answer → ℕ → Step → Answer → Type 0

@@ -1,23 +1,12 @@
--- What texts and merges do to desks, and what they answer. Want of memory may be answered to any of them, and changes nothing.
-use Rattle.std.specs.Prelude.{◌≡◌, ◌≢◌, ℕ, ◌<◌, ◌==◌, Bool, true, false, List, [], ◌∷◌, None, slice_index_or, slice_set}
-use Rattle.std.specs.FinMap.{get, insert}
-use Rattle.ssim_schedule.specs.Resolve.{IsRefusedIn}
-use Rattle.ssim_schedule.specs.declared.resolving.ResolveFault.{ResolveFault}
+-- What texts and merges do to desks, and what they return. Each of them may run out of memory, which changes nothing.
+use Rattle.std.specs.{Prelude.{◌≡◌, ◌≢◌, ℕ, ◌<◌, ◌==◌, Bool, true, false, List, [], ◌∷◌, None, slice_index_or, slice_set}, FinMap.{get, insert}}
+use Rattle.ssim_schedule.specs.{Resolve.IsRefusedIn, declared.resolving.ResolveFault.ResolveFault}
+use Rattle.ssim_text.specs.{Decoding.{IsRefusal, NoMessage}, Message.MessageValue, Spelling.SpellsMessage, declared.fault.TextFault.TextFault, declared.reference.Reference.Reference}
+use Rattle.ssim_desk.specs.{Held.{Agree, DeskState, HeldMessages, Holds, IsLeastConflict, Says, no_desk, union}, declared.fault.DeskFault.DeskFault}
+use Rattle.ssim_desk.specs.{declared.fault.DeskFault.TheVariants.{Memory, Text, Resolve, Conflict, OtherBase}, declared.steps.Answer.Answer, declared.steps.Answer.TheVariants.{Taken, Repeated, Merged, Refused}}
+use Rattle.ssim_desk.specs.{declared.steps.Step.Step, declared.steps.Step.TheVariants.{Take, Merge}}
 use Rattle.ssim_schedule.specs.declared.resolving.ResolveFault.TheVariants as resolve_fault
-use Rattle.ssim_text.specs.Decoding.{IsRefusal, NoMessage}
-use Rattle.ssim_text.specs.Message.{MessageValue}
-use Rattle.ssim_text.specs.Spelling.{SpellsMessage}
-use Rattle.ssim_text.specs.declared.fault.TextFault.{TextFault}
 use Rattle.ssim_text.specs.declared.fault.TextFault.TheVariants as text_fault
-use Rattle.ssim_text.specs.declared.reference.Reference.{Reference}
-use Rattle.ssim_desk.specs.Held.{DeskState, HeldMessages, Holds, Says, no_desk}
-use Rattle.ssim_desk.specs.Maps.{Agree, IsLeastConflict, union}
-use Rattle.ssim_desk.specs.declared.fault.DeskFault.{DeskFault}
-use Rattle.ssim_desk.specs.declared.fault.DeskFault.TheVariants.{Memory, Text, Resolve, Conflict, OtherBase, Read, File}
-use Rattle.ssim_desk.specs.declared.steps.Answer.{Answer}
-use Rattle.ssim_desk.specs.declared.steps.Answer.TheVariants.{Taken, Repeated, Merged, Refused}
-use Rattle.ssim_desk.specs.declared.steps.Step.{Step}
-use Rattle.ssim_desk.specs.declared.steps.Step.TheVariants.{Take, Merge}
 
 -- ---- a text
 
@@ -62,28 +51,23 @@ RefusesText desk text Memory = Unit {0}
 RefusesText desk text (Text fault) = IsUnspelt text fault
 RefusesText desk text (Resolve fault) = IsUnresolved desk text fault
 RefusesText desk text (Conflict reference) = IsInConflict desk text reference
-RefusesText desk text OtherBase = ⊥
-RefusesText desk text (Read fault) = ⊥
-RefusesText desk text (File offset) = ⊥
+RefusesText _ _ _ = ⊥
 
 -- what a desk answers to a text, and what it holds afterwards
 abbrev pub Takes : DeskState → List ℕ → Answer → HeldMessages → Type 0
 Takes desk text Taken held = IsNew desk text held
 Takes desk text Repeated held = IsKnown desk text × (held ≡ desk.held)
-Takes desk text Merged held = ⊥
 Takes desk text (Refused fault) held = RefusesText desk text fault × (held ≡ desk.held)
+Takes _ _ Merged _ = ⊥
 
 -- ---- another desk
 
 -- why a desk is not merged with another
 abbrev pub RefusesDesk : DeskState → DeskState → DeskFault → Type 0
 RefusesDesk mine theirs Memory = Unit {0}
-RefusesDesk mine theirs (Text fault) = ⊥
-RefusesDesk mine theirs (Resolve fault) = ⊥
-RefusesDesk mine theirs (Conflict reference) = (mine.base ≡ theirs.base) × IsLeastConflict mine.held theirs.held reference
 RefusesDesk mine theirs OtherBase = mine.base ≢ theirs.base
-RefusesDesk mine theirs (Read fault) = ⊥
-RefusesDesk mine theirs (File offset) = ⊥
+RefusesDesk mine theirs (Conflict reference) = (mine.base ≡ theirs.base) × IsLeastConflict mine.held theirs.held reference
+RefusesDesk _ _ _ = ⊥
 
 -- over one base, where no reference has two messages, each desk's messages are held
 pub record IsUnion (mine theirs : DeskState) (held : HeldMessages) : Type 0 where
@@ -93,10 +77,9 @@ pub record IsUnion (mine theirs : DeskState) (held : HeldMessages) : Type 0 wher
 
 -- what a desk answers to another, and what it holds afterwards
 abbrev pub Merges : DeskState → DeskState → Answer → HeldMessages → Type 0
-Merges mine theirs Taken held = ⊥
-Merges mine theirs Repeated held = ⊥
 Merges mine theirs Merged held = IsUnion mine theirs held
 Merges mine theirs (Refused fault) held = RefusesDesk mine theirs fault × (held ≡ mine.held)
+Merges _ _ _ _ = ⊥
 
 -- ---- steps
 
@@ -143,7 +126,6 @@ Acts desks (Merge into from) answer after = MergesOne (into == from) desks into 
 -- what steps answer, and the desks after them all
 abbrev pub Runs : List DeskState → List Step → List Answer → List DeskState → Type 0
 Runs desks [] [] after = after ≡ desks
-Runs desks [] (answer ∷ answers) after = ⊥
-Runs desks (step ∷ steps) [] after = ⊥
 Runs desks (step ∷ steps) (answer ∷ answers) after =
     (between : List DeskState) × Acts desks step answer between × Runs between steps answers after
+Runs _ _ _ _ = ⊥

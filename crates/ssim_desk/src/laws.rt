@@ -1,7 +1,6 @@
 //! What holds of any desks, over the definitions of what texts and merges do.
 
 ghost use Rattle.ssim_desk.specs.Agreement.{AnyTwoDesksAgree, NoConflict, OfferedIsReached, SameMessagesSameDesk};
-ghost use Rattle.ssim_desk.specs.Examples;
 ghost use Rattle.ssim_desk.specs.File.{NoTwoDesks, OpensAsSaved, SavesAsOpened};
 ghost use Rattle.ssim_desk.specs.Meaning.{HasExport, HasMeaning, HasOneExport, HasOneMeaning};
 ghost use Rattle.ssim_desk.specs.Merging.{MergesAreDetermined, MergesAssociate, MergesCommute, MergesRepeat, TakesAreDetermined, ThreeDesksMerge};

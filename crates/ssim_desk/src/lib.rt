@@ -10,8 +10,9 @@
 //!   and the repeats; and merging is associative, commutative and idempotent.
 //!
 //! The definitions that the contracts cite are in `specs/`: `Held` (messages by reference), `Meaning` (what each flight has on each
-//! date), `Steps` (what texts and merges do), `Reach` (which messages reach which desks), `Desk` (what the calls of a desk return),
-//! `File` (the bytes of a desk file) and `Trail` (the schedule after every 32 messages).
+//! date), `Steps` (what texts and merges do), `Reach` (which messages reach which desks), `Agreement` and `Merging` (the laws), `Kept`
+//! and `Desk` (what the calls of a desk return), `Fault`, `File` and `Opening` (the bytes of a desk file). `Private` is cited by private
+//! functions alone. Computed examples are in `proofs/Examples`.
 #![tactic(auto)]
 
 mod desk;

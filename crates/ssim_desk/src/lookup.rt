@@ -3,7 +3,7 @@
 ghost use Rattle.std.specs.Prelude.{◌≡◌, ◌<◌, ◌-◌, IfErr, IfOk};
 ghost use Rattle.ssim_desk.specs.Held.{reference_cmp};
 ghost use Rattle.ssim_desk.specs.Kept.{AreRising};
-ghost use Rattle.ssim_desk.specs.Lookup.{IsFound, IsGap, IsHeldAt, IsNarrowed};
+ghost use Rattle.ssim_desk.specs.Private.Lookup.{IsFound, IsGap, IsHeldAt, IsNarrowed};
 
 use crate::held::Held;
 use ssim_text::{Message, Reference};

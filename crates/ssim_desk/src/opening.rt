@@ -4,9 +4,8 @@ ghost use Rattle.std.specs.Prelude.{◌≡◌, ◌<◌, ◌^◌, IfErr, IfOk, Li
 ghost use Rattle.ssim_schedule.specs.BaseSeen.{BaseSeen};
 ghost use Rattle.ssim_desk.specs.File.{IsDeskFile, end_line};
 ghost use Rattle.ssim_schedule.specs.Reading.{Came};
-ghost use Rattle.ssim_desk.specs.Fault.{FailsAs, NeverEnds};
+ghost use Rattle.ssim_desk.specs.Opening.{FailsAs, IsInvalid, NeverEnds, Opens, RefusesFile};
 ghost use Rattle.ssim_desk.specs.Kept.{Entry};
-ghost use Rattle.ssim_desk.specs.Opening.{IsInvalid, Opens, RefusesFile};
 
 mod count_line;
 mod fault;

@@ -1,8 +1,8 @@
 //! Messages in order, and the schedule that they leave.
 
 ghost use Rattle.std.specs.Prelude.{◌≡◌, ◌⊎◌, ◌≤◌, ◌*◌, ◌/◌, ◌++◌, [], length, take, IfOk, OnErr, OnOk};
-ghost use Rattle.ssim_desk.specs.Kept.{DeskSeen};
-ghost use Rattle.ssim_desk.specs.Trail.{IsAfter, IsReplaced, IsStart, IsTail, found_by};
+ghost use Rattle.ssim_desk.specs.Kept.{DeskSeen, found_by};
+ghost use Rattle.ssim_desk.specs.Private.Trail.{IsAfter, IsReplaced, IsStart, IsTail};
 
 use crate::held::Held;
 use crate::tail::{Found, STEP, Tail, apply_all};
@@ -29,7 +29,7 @@ pub(crate) struct Trail {
 
 impl Model for Trail {
     ghost use Rattle.ssim_desk.specs.Kept.{DeskSeen};
-    ghost use Rattle.ssim_desk.specs.Trail.{IsTrail};
+    ghost use Rattle.ssim_desk.specs.Private.Trail.{IsTrail};
 
     ghost Value = { DeskSeen };
 

@@ -2,8 +2,8 @@
 
 ghost use Rattle.std.specs.Prelude.{◌≡◌, [], All, IfOk, IfSome, IfNone};
 ghost use Rattle.ssim_desk.specs.Kept.{AreRising, map_of};
-ghost use Rattle.ssim_desk.specs.Maps.{IsLeastConflict};
-ghost use Rattle.ssim_desk.specs.Union.{HeldAlike, IsFirstNew, IsHeldIn, IsMerged, IsNext};
+ghost use Rattle.ssim_desk.specs.Held.{IsLeastConflict};
+ghost use Rattle.ssim_desk.specs.Private.Union.{HeldAlike, IsFirstNew, IsHeldIn, IsMerged, IsNext};
 
 use crate::held::Held;
 use crate::lookup::{Found, look_up};

@@ -2,10 +2,9 @@
 use Rattle.std.proofs.Common.{◌≡◌, ◌∙◌, ◌⊎◌, inl, inr, ◌≤◌, ℕ, List, length, Option, Some, Result, Ok, Err, IfOk, IfErr, refl, ap, arith}
 use Rattle.ssim_records.specs.declared.fault.RecordFault.TheVariants.{Short, BadType, BadColumn, ReadFault, ReaderNeverEnds}
 use Rattle.ssim_schedule.specs.Reading.{Came}
-use Rattle.ssim_desk.specs.Fault.{FailsAs, NeverEnds}
 use Rattle.ssim_desk.specs.File.{IsDeskFile}
 use Rattle.ssim_desk.specs.Kept.{DeskSeen}
-use Rattle.ssim_desk.specs.Opening.{Opens, RefusesFile}
+use Rattle.ssim_desk.specs.Opening.{FailsAs, NeverEnds, Opens, RefusesFile}
 use Rattle.ssim_desk.specs.declared.fault.DeskFault.{DeskFault}
 use Rattle.ssim_desk.specs.declared.fault.DeskFault.TheVariants.{Memory, Text, Resolve, Conflict, OtherBase, Read, File}
 use Rattle.ssim_program.specs.Desks.{IsUnopened, RefusesDeskFile}

@@ -4,8 +4,7 @@ ghost use Rattle.std.specs.Prelude.{◌≡◌, ◌<◌, ◌≤◌, ◌+◌, leng
 ghost use Rattle.std.specs.Io.KnownBytes.{IsAtEnd};
 ghost use Rattle.ssim_records.specs.Blocks.{CountsOn, SameAhead};
 ghost use Rattle.ssim_schedule.specs.Reading.{Came};
-ghost use Rattle.ssim_desk.specs.Fault.{FailsAs, IsFetchFault, IsInputFault, NeverEnds};
-ghost use Rattle.ssim_desk.specs.Opening.{AreAll};
+ghost use Rattle.ssim_desk.specs.Opening.{AreAll, FailsAs, IsFetchFault, IsInputFault, NeverEnds};
 
 use crate::fault::DeskFault;
 use ssim_records::{RecordFault, Source};

@@ -1,5 +1,5 @@
 use Rattle.std.proofs.Common.{◌-◌}
-use Rattle.ssim_desk.specs.Lookup.{IsNarrowed}
+use Rattle.ssim_desk.specs.Private.Lookup.{IsNarrowed}
 use Rattle.ssim_desk.proofs.lookup.search.Given as goal
 
 abbrev pub invariant-loop-low : goal.invariant-loop-low

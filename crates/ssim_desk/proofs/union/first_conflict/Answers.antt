@@ -2,8 +2,8 @@ use Rattle.std.proofs.Common.{◌≡◌, ◌∙◌, List, Some, slice_get, ap, s
 use Rattle.std.proofs.lemmas.List.Elements.{All-more, All-same}
 use Rattle.std.proofs.lemmas.List.{take_all}
 use Rattle.ssim_desk.specs.Kept.{Entry, map_of}
-use Rattle.ssim_desk.specs.Maps.{IsLeastConflict}
-use Rattle.ssim_desk.specs.Union.{IsAlike}
+use Rattle.ssim_desk.specs.Held.{IsLeastConflict}
+use Rattle.ssim_desk.specs.Private.Union.{IsAlike}
 use Rattle.ssim_desk.proofs.Searching.{at_index}
 use Rattle.ssim_desk.proofs.Unions.{alike, least_conflict}
 use Rattle.ssim_desk.proofs.union.first_conflict.Goals as goal

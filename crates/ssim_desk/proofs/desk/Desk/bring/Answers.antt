@@ -4,7 +4,7 @@ use Rattle.ssim_schedule.specs.BaseSeen.{BaseSeen}
 use Rattle.ssim_desk.specs.Desk.{at_rest}
 use Rattle.ssim_desk.specs.Kept.{AreEntries, DeskSeen, Entry, map_of, state_of}
 use Rattle.ssim_desk.specs.Steps.{IsUnion}
-use Rattle.ssim_desk.specs.Union.{IsFirstNew, IsHeldIn, IsMerged}
+use Rattle.ssim_desk.specs.Private.Union.{IsFirstNew, IsHeldIn, IsMerged}
 use Rattle.ssim_desk.proofs.Brought.{replayed_some, united_none, united_some}
 use Rattle.ssim_desk.proofs.Unions.{union_entries}
 use Rattle.ssim_desk.proofs.desk.Desk.bring.Goals as goal

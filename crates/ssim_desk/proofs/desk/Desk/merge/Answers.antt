@@ -1,6 +1,6 @@
 use Rattle.std.proofs.Common.{◌∙◌, List, refl, sym, subst}
 use Rattle.ssim_desk.specs.Kept.{Entry}
-use Rattle.ssim_desk.specs.Union.{HeldAlike}
+use Rattle.ssim_desk.specs.Private.Union.{HeldAlike}
 use Rattle.ssim_desk.proofs.desk.Desk.merge.Goals as goal
 
 pub bring-requires-clause-base : goal.bring-requires-clause-base

@@ -4,9 +4,9 @@ use Rattle.ssim_schedule.specs.Resolve.{IsRefusedIn, ResolvesIn}
 use Rattle.ssim_desk.specs.Desk.{take_answer}
 use Rattle.ssim_desk.specs.Fault.{message_refused, text_refused}
 use Rattle.ssim_desk.specs.Kept.{Entry, IsEntry, map_of, state_of}
-use Rattle.ssim_desk.specs.Lookup.{IsFound, IsGap}
+use Rattle.ssim_desk.specs.Private.Lookup.{IsFound, IsGap}
 use Rattle.ssim_desk.specs.Steps.{Takes}
-use Rattle.ssim_desk.specs.Trail.{IsReplaced}
+use Rattle.ssim_desk.specs.Private.Trail.{IsReplaced}
 use Rattle.ssim_desk.specs.declared.desk.Took.{Took}
 use Rattle.ssim_desk.specs.declared.fault.DeskFault.{DeskFault}
 use Rattle.ssim_desk.specs.declared.lookup.Found.TheVariants.{Same, Other}

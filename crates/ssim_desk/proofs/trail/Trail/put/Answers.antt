@@ -3,7 +3,7 @@ use Rattle.std.proofs.lemmas.Grind.{common_steps}
 use Rattle.ssim_schedule.specs.Schedule.{Table}
 use Rattle.ssim_schedule.specs.declared.finding.Finding.{Finding}
 use Rattle.ssim_desk.specs.Kept.{DeskSeen, Entry}
-use Rattle.ssim_desk.specs.Trail.{AreCheckpoints, IsTail, IsTrail}
+use Rattle.ssim_desk.specs.Private.Trail.{AreCheckpoints, IsTail, IsTrail}
 use Rattle.ssim_desk.proofs.Trails.{found_in_place, kept_in_place}
 use Rattle.ssim_desk.proofs.trail.Trail.put.Goals as goal
 

@@ -6,7 +6,7 @@ use Rattle.std.specs.declared.cmp.Ordering.TheVariants.{Less, Equal, Greater}
 use Rattle.ssim_text.specs.Message.{MessageValue}
 use Rattle.ssim_desk.specs.Held.{reference_cmp}
 use Rattle.ssim_desk.specs.Kept.{Entry, map_of}
-use Rattle.ssim_desk.specs.Lookup.{IsGap}
+use Rattle.ssim_desk.specs.Private.Lookup.{IsGap}
 
 -- the next of two messages, and what is left of the two lists after it: the lesser, and of two under one reference the first
 abbrev pub IsLesser : Ordering → Entry → List Entry → Entry → List Entry → Entry → List Entry → List Entry → Type 0
@@ -43,5 +43,6 @@ pub record IsFirstNew (mine theirs : List Entry) (place at : ℕ) : Type 0 where
 abbrev pub IsAlike : List Entry → Entry → Type 0
 IsAlike mine e = (message : MessageValue) → get (map_of mine) e.reference ≡ Some message → message ≡ e.message
 
+-- under the reference of none of the entries is another message held
 abbrev pub HeldAlike : List Entry → List Entry → Type 0
 HeldAlike mine theirs = All (IsAlike mine) theirs

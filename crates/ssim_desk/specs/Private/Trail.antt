@@ -1,22 +1,26 @@
 -- What a trail keeps: the schedule after every 32 messages, the latest one, and what each message found.
-use Rattle.std.specs.Prelude.{◌≡◌, ◌⊎◌, ℕ, ◌≤◌, ◌<◌, ◌+◌, ◌*◌, ◌/◌, ◌%◌, ◌++◌, List, length, take, IfSome, slice_get}
+use Rattle.std.specs.Prelude.{◌≡◌, ◌⊎◌, ℕ, ◌≤◌, ◌<◌, ◌+◌, ◌*◌, ◌/◌, ◌%◌, ◌++◌, ◌||◌, Contains, IsTrue, List, length, take, IfSome, slice_get}
+use Rattle.std.specs.List.{list_any}
+use Rattle.ssim_periods.specs.Days.{each_day}
 use Rattle.ssim_schedule.specs.BaseSeen.{BaseSeen}
-use Rattle.ssim_schedule.specs.Schedule.{Table, cuts_in}
-use Rattle.ssim_schedule.specs.Timetable.{itinerary}
+use Rattle.ssim_schedule.specs.Schedule.{Table, cuts_in, days_in}
+use Rattle.ssim_schedule.specs.Stations.{Row}
 use Rattle.ssim_schedule.specs.declared.finding.Finding.{Finding}
+use Rattle.ssim_schedule.specs.declared.resolved.ResolvedSub.{ResolvedSub}
 use Rattle.ssim_values.specs.Flight.{FlightNumber, IsFlight}
-use Rattle.ssim_desk.specs.Kept.{DeskSeen, Entry, Shows, after_entries, entries_findings}
+use Rattle.ssim_desk.specs.Kept.{DeskSeen, Entry, found_by, left_by}
 use Rattle.ssim_desk.specs.Meaning.{Timetable}
-use Rattle.ssim_desk.specs.Points.{AreDeskPoints}
+use Rattle.ssim_desk.specs.Desk.{AreDeskPoints, is_row_point, is_sub_point}
 use Rattle.ssim_desk.specs.declared.tail.Tail.{Tail}
 
--- what these messages, in this order, leave of a base's timetable
-abbrev pub left_by : BaseSeen → List Entry → Timetable
-left_by base entries = after_entries base.rows entries (itinerary base.records)
+-- a schedule has the timetable
+abbrev pub Shows : Table → Timetable → Type 0
+Shows schedule timetable = (g : FlightNumber) → IsFlight g → days_in schedule g ≡ each_day (timetable g)
 
--- what each of them found
-abbrev pub found_by : BaseSeen → List Entry → List (List Finding)
-found_by base entries = entries_findings base.rows entries (itinerary base.records)
+-- a flight's new cuts are old ones, or such days of these sub-messages or of a row
+abbrev pub AddsSubPoints : List Row → List ResolvedSub → FlightNumber → List ℕ → List ℕ → Type 0
+AddsSubPoints rows subs flight old new =
+    (cut : ℕ) → Contains new cut → Contains old cut ⊎ IsTrue (list_any (is_sub_point flight cut) subs || list_any (is_row_point cut) rows)
 
 -- the schedule is the base's after these messages
 pub record IsAfter (base : BaseSeen) (entries : List Entry) (schedule : Table) : Type 0 where

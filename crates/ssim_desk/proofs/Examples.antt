@@ -25,7 +25,7 @@ use Rattle.ssim_values.specs.Flight.{FlightNumber}
 use Rattle.ssim_desk.specs.Held.{reference_cmp}
 use Rattle.ssim_desk.specs.Kept.{Entry}
 use Rattle.ssim_desk.specs.Meaning.{Timetable, after_subs}
-use Rattle.ssim_desk.specs.Points.{is_desk_point, point_bound}
+use Rattle.ssim_desk.specs.Desk.{is_desk_point, point_bound}
 
 -- ---- the order of references
 
