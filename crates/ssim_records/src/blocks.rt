@@ -71,10 +71,14 @@ fn next_block<R: Source>(
 
 const FILL: [u8; 200] = [b'0'; 200];
 
+// Mostly the first byte is the type of a record.
 #[tactic(auto, unfolding(crate::specs::Frames::is_fill))]
 fn is_fill(block: &[u8; 200]) -> bool
     ensures { result ≡ is_fill block.now }
 {
+    if block[0] != b'0' {
+        return false;
+    }
     block.as_slice() == FILL.as_slice()
 }
 
