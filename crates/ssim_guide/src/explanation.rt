@@ -1,6 +1,7 @@
 //! What a refusal means and what to do about it.
 ghost use Rattle.std.specs.Prelude.{◌≡◌, IfSome};
 
+use crate::lines::push_line;
 use crate::texts::TABLE;
 use std::alloc::{AllocError, Global};
 
@@ -37,13 +38,4 @@ pub fn words_on(alloc: Global, number: u8) -> Result<Vec<u8>, AllocError> {
         push_line(&mut lines, "what to do", found.remedy)?;
     }
     Ok(lines)
-}
-
-/// Adds a line: a label and a text.
-fn push_line(lines: &mut Vec<u8>, label: &str, text: &str) -> Result<(), AllocError> {
-    lines.extend_from_slice(label.as_bytes())?;
-    lines.extend_from_slice(b": ")?;
-    lines.extend_from_slice(text.as_bytes())?;
-    lines.push(b'\n')?;
-    Ok(())
 }
