@@ -30,11 +30,13 @@ pub fn explanation_of(number: u8) -> Option<Explanation>
     None
 }
 
-/// The lines on the refusals of this number: its name and meaning, and what to do. There are none if there is no such refusal.
-pub fn words_on(alloc: Global, number: u8) -> Result<Vec<u8>, AllocError> {
+/// The lines on the refusals of this number: its name and meaning, then these lines on its place, and what to do. There are none if
+/// there is no such refusal.
+pub fn words_on(alloc: Global, number: u8, place: &[u8]) -> Result<Vec<u8>, AllocError> {
     let mut lines = Vec::new(alloc);
     if let Some(found) = explanation_of(number) {
         push_line(&mut lines, found.name, found.meaning)?;
+        lines.extend_from_slice(place)?;
         push_line(&mut lines, "what to do", found.remedy)?;
     }
     Ok(lines)
