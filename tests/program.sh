@@ -148,11 +148,31 @@ desks_printed() {
     expect "a desk file may be as long as the limit" 1 "" $'refused 62 DeskFile offset 0\n' export longest.ssim
 }
 
+explained="refused 12 BadColumn record 3 column 37
+BadColumn: the field that begins there is invalid
+what to do: compare it with the field's row in docs/FORMATS.md
+"
+expect "a number is explained" 0 "$explained" "" explain 12
+broken="refused 12 BadColumn record 3 column 37
+BadColumn: the field that begins there is invalid
+record: [$(sed -n 3p broken.ssim)]
+field: station of departure, columns 37 to 39
+found: [Z1H]
+allowed: three letters
+what to do: compare it with the field's row in docs/FORMATS.md
+"
+expect "an invalid file is explained" 0 "$broken" "" explain broken.ssim
+expect "a number that no refusal has" 0 $'no refusal has the number 99\n' "" explain 99
+expect "a valid file is explained" 0 $'valid data set\n' "" explain divided.ssim
+input=divided.ssim expect "standard input is explained" 0 $'valid data set\n' "" explain -
+expect "a missing file is not explained" 1 "" $'refused 91 File missing.ssim\n' explain missing.ssim
+to=/dev/full expect "an explanation cannot be written" 1 "" $'refused 52 WriteFault\n' explain 12
+
 desk_inputs
 desks_written
 desks_refused
 desks_printed
-for name in check tidy start take merge show findings export rehearse; do
+for name in check tidy start take merge show findings export rehearse explain; do
     expect "help of $name" 0 @ "" "$name" --help
     expect "$name without its words" 2 "" @ "$name"
 done

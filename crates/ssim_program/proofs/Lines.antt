@@ -18,7 +18,7 @@ use Rattle.clap.specs.declared.parser.matches.SubCommand.{SubCommand}
 use Rattle.std.specs.Box.{box_value}
 use Rattle.clap.proofs.OnLiterals.{clap_on_literals}
 use Rattle.clap.proofs.WalkLemmas.{both}
-use Rattle.ssim_program.specs.Line.{Line, Spells, Text, is_plain, is_whole, name_of, values_of, Check, Tidy, Start, Take, Merge, Show, Findings, Export, Rehearse}
+use Rattle.ssim_program.specs.Line.{Line, Spells, Text, is_plain, is_whole, name_of, values_of, Check, Tidy, Start, Take, Merge, Show, Findings, Export, Rehearse, Explain}
 use Rattle.ssim_program.specs.Commands.{whole_program, leaf, one_value, three_values, two_values_and_texts}
 use Rattle.ssim_program.specs.Request.{line_at, with_one, with_three}
 use Rattle.ssim_program.specs.Usage.{IsNoCommand, Names}
@@ -74,6 +74,10 @@ rehearse_is : IsNamed (codes "rehearse") (ready (leaf (codes "rehearse") three_v
 unfolding clap_on_literals
 rehearse_is = record { met = refl; fits = refl; found = refl }
 
+explain_is : IsNamed (codes "explain") (ready (leaf (codes "explain") one_value))
+unfolding clap_on_literals
+explain_is = record { met = refl; fits = refl; found = refl }
+
 -- a command with one value
 one_answers : (line : Line) (name a : Text) (make : Text → Line) → line ≡ make a → name_of line ≡ name → IsNamed name (ready (leaf name one_value)) → Looks a
     → ((rows : List Row) → line_at name rows ≡ with_one make rows) → (program : Text) → Answers (program ∷ name ∷ a ∷ []) line
@@ -128,6 +132,7 @@ from_line program (Check a) w e = one_answers (Check a) (codes "check") a Check 
 from_line program (Tidy a) w e = one_answers (Tidy a) (codes "tidy") a Tidy refl refl tidy_is (one_plain a e) (λ rows. refl) program
 from_line program (Findings a) w e = one_answers (Findings a) (codes "findings") a Findings refl refl findings_is (one_plain a e) (λ rows. refl) program
 from_line program (Export a) w e = one_answers (Export a) (codes "export") a Export refl refl export_is (one_plain a e) (λ rows. refl) program
+from_line program (Explain a) w e = one_answers (Explain a) (codes "explain") a Explain refl refl explain_is (one_plain a e) (λ rows. refl) program
 from_line program (Start a b d) w e =
     let p = both _ _ e in let q = both _ _ p.1 in
     three_answers (Start a b d) (codes "start") a b d Start refl refl start_is (looks a p.0) (looks b q.0) (one_plain d q.1) (λ rows. refl) program

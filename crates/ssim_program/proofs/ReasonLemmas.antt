@@ -9,7 +9,7 @@ use Rattle.ssim_schedule.specs.Timetable.{Days, days_of}
 use Rattle.ssim_schedule.specs.declared.export.ExportFault.{ExportFault}
 use Rattle.ssim_schedule.specs.declared.export.ExportFault.TheVariants.{Variations, Records, WriteFault, Memory}
 use Rattle.ssim_program.specs.Files.{Files}
-use Rattle.ssim_program.specs.Line.{Line, Check, Tidy, Start, Take, Merge, Show, Findings, Export, Rehearse}
+use Rattle.ssim_program.specs.Line.{Line, Check, Tidy, Start, Take, Merge, Show, Findings, Export, Rehearse, Explain}
 use Rattle.ssim_program.specs.Reasons.{HasNoExport, Refuses}
 use Rattle.ssim_program.specs.declared.refusal.Refusal.TheVariants as refused
 use Rattle.ssim_program.proofs.Exporting.{AreDaysOf}
@@ -50,3 +50,4 @@ memory_refuses (Show file flight date) files m n = inl (inl (inl refl))
 memory_refuses (Findings file) files m n = inl (inl (inl refl))
 memory_refuses (Export file) files m n = inl (inl (inl refl))
 memory_refuses (Rehearse dataset stations script) files m n = inl (inl refl)
+memory_refuses (Explain word) files m n = inl (inl refl)

@@ -56,5 +56,9 @@ of_desks = leaf (codes "show") three_values ∷ leaf (codes "findings") one_valu
 abbrev pub rehearsals : List Shape
 rehearsals = leaf (codes "rehearse") three_values ∷ []
 
+-- the command that explains refusals
+abbrev pub explanations : List Shape
+explanations = leaf (codes "explain") one_value ∷ []
+
 abbrev pub whole_program : App
-whole_program = add_all (add_all (add_all (add_all bare_program on_data_sets) on_desks) of_desks) rehearsals
+whole_program = add_all (add_all (add_all (add_all (add_all bare_program on_data_sets) on_desks) of_desks) rehearsals) explanations

@@ -9,8 +9,9 @@ use Rattle.ssim_desk.specs.Desk.{finding_lines}
 use Rattle.ssim_desk.specs.File.{desk_file}
 use Rattle.ssim_desk.specs.Kept.{DeskSeen}
 use Rattle.ssim_program.specs.Desks.{IsExportOfDesk, IsMergeOf, LeavesTexts, ReadsDesk, Shows, TakesTexts, held_line}
+use Rattle.ssim_program.specs.Explained.{Explains}
 use Rattle.ssim_program.specs.Files.{Files, Kept, with_kept}
-use Rattle.ssim_program.specs.Line.{Line, Text, Check, Tidy, Start, Take, Merge, Show, Findings, Export, Rehearse}
+use Rattle.ssim_program.specs.Line.{Line, Text, Check, Tidy, Start, Take, Merge, Show, Findings, Export, Rehearse, Explain}
 use Rattle.ssim_program.specs.Made.{AreLinesOn, IsExportOf, ReadsBase, ReadsFile}
 use Rattle.ssim_program.specs.Printing.{CountsOne}
 use Rattle.ssim_program.specs.Rehearsal.{RehearsesFiles}
@@ -35,6 +36,7 @@ Makes (Findings file) files printed kept =
     (desk : DeskSeen) × ReadsDesk files file desk × (printed ≡ findings_lines (finding_lines desk)) × (kept ≡ None)
 Makes (Export file) files printed kept = (desk : DeskSeen) × ReadsDesk files file desk × IsExportOfDesk desk printed × (kept ≡ None)
 Makes (Rehearse dataset stations script) files printed kept = RehearsesFiles files dataset stations script printed × (kept ≡ None)
+Makes (Explain word) files printed kept = Explains files word printed × (kept ≡ None)
 
 -- `out` has grown by exactly what the command prints, and the files by exactly the file that it keeps
 abbrev pub Writes : Line → Option Files → Option Files → Option (List ℕ) → Option (List ℕ) → Type 0

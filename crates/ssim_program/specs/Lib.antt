@@ -13,5 +13,6 @@ pub mod Effects
 pub mod Again
 pub mod Reasons
 pub mod Script
+pub mod Explained
 pub mod Rehearsal
 pub mod Examples

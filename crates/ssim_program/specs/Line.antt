@@ -16,6 +16,7 @@ pub data Line : Type 0 where
   Findings : Text → Line
   Export : Text → Line
   Rehearse : Text → Text → Text → Line
+  Explain : Text → Line
 
 abbrev pub name_of : Line → Text
 name_of (Check dataset) = codes "check"
@@ -27,6 +28,7 @@ name_of (Show desk flight date) = codes "show"
 name_of (Findings desk) = codes "findings"
 name_of (Export desk) = codes "export"
 name_of (Rehearse dataset stations script) = codes "rehearse"
+name_of (Explain word) = codes "explain"
 
 abbrev pub values_of : Line → List Text
 values_of (Check dataset) = dataset ∷ []
@@ -38,6 +40,7 @@ values_of (Show desk flight date) = desk ∷ flight ∷ date ∷ []
 values_of (Findings desk) = desk ∷ []
 values_of (Export desk) = desk ∷ []
 values_of (Rehearse dataset stations script) = dataset ∷ stations ∷ script ∷ []
+values_of (Explain word) = word ∷ []
 
 -- `take` has one text or more
 abbrev pub is_whole : Line → Bool

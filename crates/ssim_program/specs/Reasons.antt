@@ -15,8 +15,8 @@ use Rattle.ssim_desk.specs.Kept.{DeskSeen}
 use Rattle.ssim_program.specs.Desks.{IsUnprinted, ReadsDesk, RefusesDeskFile, RefusesFlight, RefusesKeep, RefusesMerge, RefusesTexts}
 use Rattle.ssim_program.specs.Effects.{Leaves}
 use Rattle.ssim_program.specs.Files.{Files}
-use Rattle.ssim_program.specs.Line.{Line, Text, Check, Tidy, Start, Take, Merge, Show, Findings, Export, Rehearse}
-use Rattle.ssim_program.specs.Made.{ReadsFile, RefusesBase, RefusesFile}
+use Rattle.ssim_program.specs.Line.{Line, Text, Check, Tidy, Start, Take, Merge, Show, Findings, Export, Rehearse, Explain}
+use Rattle.ssim_program.specs.Made.{ReadsFile, RefusesBase, RefusesFile, RefusesLoad}
 use Rattle.ssim_program.specs.Printing.{CountsOne, PrintsOrFails}
 use Rattle.ssim_program.specs.Refusal.{refusal_of_export, refusal_text}
 use Rattle.ssim_program.specs.Rehearsal.{RefusesRehearsal}
@@ -68,6 +68,7 @@ Refuses (Findings file) files old new refusal = RefusesDeskFile files file refus
 Refuses (Export file) files old new refusal =
     RefusesDeskFile files file refusal ⊎ ((desk : DeskSeen) × ReadsDesk files file desk × RefusesDeskExport desk old new refusal)
 Refuses (Rehearse dataset stations script) files old new refusal = RefusesRehearsal files dataset stations script old new refusal
+Refuses (Explain word) files old new refusal = RefusesLoad files word refusal ⊎ IsUnprinted old new refusal
 
 -- ---- what `err` holds
 

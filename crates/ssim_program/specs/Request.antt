@@ -2,7 +2,7 @@
 use Rattle.std.specs.Prelude.{List, Option, None, map, option_and_then, option_map, if◌then◌else◌, codes}
 use Rattle.std.specs.Str.{bytes_eq}
 use Rattle.clap.specs.Words.{Row, all_of, first_of}
-use Rattle.ssim_program.specs.Line.{Line, Text, Check, Tidy, Start, Take, Merge, Show, Findings, Export, Rehearse}
+use Rattle.ssim_program.specs.Line.{Line, Text, Check, Tidy, Start, Take, Merge, Show, Findings, Export, Rehearse, Explain}
 use Rattle.ssim_program.specs.declared.command_line.Request.{Request}
 use Rattle.ssim_program.specs.declared.command_line.Request.TheVariants as request
 
@@ -16,6 +16,7 @@ line_of (request.Show desk flight date) = Show desk.now flight.now date.now
 line_of (request.Findings desk) = Findings desk.now
 line_of (request.Export desk) = Export desk.now
 line_of (request.Rehearse dataset stations script) = Rehearse dataset.now stations.now script.now
+line_of (request.Explain word) = Explain word.now
 
 -- ---- the values of a subcommand, by the ids of its arguments
 
@@ -46,4 +47,5 @@ line_at name rows =
     else (if bytes_eq name (codes "findings") then with_one Findings rows
     else (if bytes_eq name (codes "export") then with_one Export rows
     else (if bytes_eq name (codes "rehearse") then with_three Rehearse rows
-    else None))))))))
+    else (if bytes_eq name (codes "explain") then with_one Explain rows
+    else None)))))))))

@@ -11,7 +11,7 @@ use clap::error::ErrorKind;
 use clap::{ArgMatches, Error};
 use std::alloc::{AllocError, Global};
 
-/// A command with its values: names of files, but for the flight and the date of `Show`.
+/// A command with its values: names of files, but for the flight and the date of `Show` and the word of `Explain`.
 #[derive(Debug, Drop)]
 pub enum Request<'a> {
     /// Print the notes on a data set and a summary.
@@ -32,6 +32,8 @@ pub enum Request<'a> {
     Export(&'a str),
     /// Run a script on desks.
     Rehearse(&'a str, &'a str, &'a str),
+    /// Explain the refusals of a number, or what is invalid in a file.
+    Explain(&'a str),
 }
 
 /// Why the words make no request.
@@ -128,6 +130,9 @@ fn read<'a>(
     }
     if name == "rehearse" {
         return Ok(three(inner).map(|(a, b, c)| Request::Rehearse(a, b, c)));
+    }
+    if name == "explain" {
+        return Ok(one(inner).map(Request::Explain));
     }
     Ok(None)
 }

@@ -1,7 +1,7 @@
 //! The commands as `clap` sees them.
 ghost use Rattle.std.specs.Prelude.{◌≡◌, IfOk, codes, false};
 ghost use Rattle.clap.specs.Words.{app_of, rule_of};
-ghost use Rattle.ssim_program.specs.Commands.{IsLeaf, add_all, leaf, needed, of_desks, on_data_sets, on_desks, one_value, rehearsals, several_texts, three_values, two_values_and_texts, whole_program};
+ghost use Rattle.ssim_program.specs.Commands.{IsLeaf, add_all, explanations, leaf, needed, of_desks, on_data_sets, on_desks, one_value, rehearsals, several_texts, three_values, two_values_and_texts, whole_program};
 
 use crate::help;
 use clap::{Arg, ArgAction, Command};
@@ -130,6 +130,14 @@ fn with_rehearsal<'a>(alloc: Global, program: Command<'a>) -> Result<Command<'a>
     program.subcommand(rehearse)
 }
 
+/// The command that explains refusals.
+fn with_explanations<'a>(alloc: Global, program: Command<'a>) -> Result<Command<'a>, AllocError>
+    ensures { IfOk result (λ c. app_of c ≡ add_all (app_of program.entry) explanations) }
+{
+    let explain = with_one(alloc, "explain", help::EXPLAIN, help::EXPLAIN_EXAMPLE, "WORD")?;
+    program.subcommand(explain)
+}
+
 /// The program with its commands.
 pub fn command<'a>(alloc: Global) -> Result<Command<'a>, AllocError>
     ensures { IfOk result (λ c. app_of c ≡ whole_program) }
@@ -142,5 +150,6 @@ pub fn command<'a>(alloc: Global) -> Result<Command<'a>, AllocError>
     let program = with_data_sets(alloc, program)?;
     let program = with_desks(alloc, program)?;
     let program = with_prints(alloc, program)?;
-    with_rehearsal(alloc, program)
+    let program = with_rehearsal(alloc, program)?;
+    with_explanations(alloc, program)
 }

@@ -47,7 +47,7 @@ pub(crate) fn load<S: Store>(alloc: Global, name: &str, store: &mut S) -> Result
 }
 
 /// Reads a data set with an empty station table.
-fn read(alloc: Global, bytes: &[u8]) -> Result<BaseRead, BaseFault>
+pub(crate) fn read(alloc: Global, bytes: &[u8]) -> Result<BaseRead, BaseFault>
     requires { length bytes.now ≤ file_limit }
     ensures read { Answers result (IsReadAs file_limit bytes.now) }
     ensures whole { IfErr result IsOfBytes }

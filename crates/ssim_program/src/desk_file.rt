@@ -27,7 +27,7 @@ pub(crate) fn open<S: Store>(alloc: Global, name: &str, store: &mut S) -> Result
 }
 
 /// Opens the desk whose file the bytes are.
-fn open_within(alloc: Global, bytes: &[u8]) -> Result<Desk, DeskFault>
+pub(crate) fn open_within(alloc: Global, bytes: &[u8]) -> Result<Desk, DeskFault>
     requires { length bytes.now ≤ file_limit }
     ensures ok { IfOk result (λ desk. IsDeskFile bytes.now desk.base desk.held) }
     ensures err { IfErr result (IsUnopened bytes.now) }

@@ -6,13 +6,15 @@ pub(crate) const EXAMPLES: &str = "\
 A desk is a file: a data set, its station table, and the SSM and ASM texts that it took.
 
 Example:
-  ssimdesk start season.ssim stations.txt desk
-  ssimdesk take desk desk cancel.txt
-  ssimdesk export desk > season_now.ssim
+  ssimdesk start season.ssim stations.txt fdh.desk
+  ssimdesk take fdh.desk fdh.desk texts/01-holiday.ssm
+  ssimdesk export fdh.desk > summer.ssim
+The files of the examples are in samples/.
 
 For each file that is read, - is standard input.
 Exit status: 0 if the command was done; 1 if it was refused, with a line 'refused', the
-number, the name and the place on standard error; 2 if the words are no command.
+number, the name and the place on standard error ('ssimdesk explain NUMBER' says more);
+2 if the words are no command.
 'ssimdesk COMMAND --help' says more of a command.";
 
 pub(crate) const CHECK: &str = "\
@@ -23,7 +25,7 @@ pub(crate) const CHECK_EXAMPLE: &str = "\
 Example:
   ssimdesk check season.ssim
 prints, if nothing is wrong, the number of records, of flights and of notes:
-  ok records 4 flights 1 notes 0
+  ok records 75 flights 41 notes 0
 Exit status: 0, also with notes; 1 if the data set is refused or cannot be read.";
 
 pub(crate) const TIDY: &str = "\
@@ -42,8 +44,8 @@ holds no message";
 
 pub(crate) const START_EXAMPLE: &str = "\
 Example:
-  ssimdesk start season.ssim stations.txt desk
-writes the file 'desk' and prints:
+  ssimdesk start season.ssim stations.txt fdh.desk
+writes the file 'fdh.desk' and prints:
   held 0
 Exit status: 0; 1 if the data set or the table is refused, or a file cannot be read or
 written.";
@@ -54,10 +56,10 @@ and write the desk file OUT, which may be the same file";
 
 pub(crate) const TAKE_EXAMPLE: &str = "\
 Example:
-  ssimdesk take desk desk cancel.txt cancel.txt
+  ssimdesk take fdh.desk fdh.desk texts/01-holiday.ssm texts/09-holiday-again.ssm
 prints the reference of each message, 'taken' if it is new and 'repeated' if it was held:
-  taken SSM 01JUN25 00001 001
-  repeated SSM 01JUN25 00001 001
+  taken SSM 15MAR27 00001 001
+  repeated SSM 15MAR27 00001 001
 At the first text that is refused it stops, and OUT is not written.
 Exit status: 0; 1 if the desk file or a text is refused, or a file cannot be read or
 written.";
@@ -68,8 +70,8 @@ desk file OUT of a desk that holds the messages of both";
 
 pub(crate) const MERGE_EXAMPLE: &str = "\
 Example:
-  ssimdesk merge zurich geneva both
-writes the file 'both' and prints the number of messages that it holds:
+  ssimdesk merge fdh.desk ham.desk both.desk
+writes the file 'both.desk' and prints the number of messages that it holds:
   held 3
 Exit status: 0; 1 if a desk file is refused, the data sets or the tables differ (61), the
 two hold different messages under one reference (60), or a file cannot be read or written.";
@@ -79,13 +81,13 @@ pub(crate) const SHOW: &str =
 
 pub(crate) const SHOW_EXAMPLE: &str = "\
 Example:
-  ssimdesk show desk LX544 07JUL25
+  ssimdesk show fdh.desk Z7101 20MAY27
 prints the flight and the date, then 'no flight' or a line for each leg: its sequence; the
 departure station, passenger and aircraft time, and UTC variation; the arrival station,
 aircraft and passenger time, and UTC variation; the date variations; the service type and
 the aircraft type, with . for each blank:
-  LX544 07JUL25
-  01 ZRH 0600 0600 +0200 LHR 0715 0715 +0100 00 J 320
+  Z7101 20MAY27
+  01 FDH 0630 0630 +0200 HAM 0755 0755 +0200 00 J E90
 Exit status: 0, also if there is no flight; 1 if the desk file is refused, FLIGHT is no
 designator (6), DATE is no date (1), or the airline is another one (41).";
 
@@ -95,9 +97,9 @@ and why not on the others";
 
 pub(crate) const FINDINGS_EXAMPLE: &str = "\
 Example:
-  ssimdesk findings desk
+  ssimdesk findings fdh.desk
 prints the reference, the number of the sub-message, its action and flight, and the dates:
-  SSM 01JUN25 00003 001 1 TIM LX544 acted 4 absent 0 present 0 leg 0 station 0
+  SSM 15MAR27 00001 001 1 CNL Z7103 acted 1 absent 0 present 0 leg 0 station 0
 Exit status: 0; 1 if the desk file is refused or cannot be read.";
 
 pub(crate) const EXPORT: &str = "\
@@ -105,7 +107,7 @@ Read a desk file, and print its schedule as a chapter 7 data set in the one cano
 
 pub(crate) const EXPORT_EXAMPLE: &str = "\
 Example:
-  ssimdesk export desk > season_now.ssim
+  ssimdesk export fdh.desk > summer.ssim
 Exit status: 0; 1 if the desk file is refused, or a flight has more than 99 variations.";
 
 pub(crate) const REHEARSE: &str = "\
@@ -116,15 +118,32 @@ pub(crate) const REHEARSE_EXAMPLE: &str = "\
 The first line of a script is 'DESKS n', n from 1 to 9. Each other line is 'TAKE d NAME',
 desk d takes the text in the file NAME, or 'MERGE d e', desk d takes what desk e holds.
 Example:
-  ssimdesk rehearse season.ssim stations.txt script.txt
-with the lines DESKS 2, TAKE 1 cancel.txt and MERGE 2 1 prints:
-  1 taken SSM 01JUN25 00001 001
-  2 merged
-  desk 1 held 1 bytes 4020
-  desk 2 held 1 bytes 4020
+  ssimdesk rehearse season.ssim stations.txt rehearsal.txt
+prints a line for each step and each desk, and then whether all desks are the same:
+  1 taken SSM 15MAR27 00001 001
+  ...
+  desk 3 held 6 bytes 20100
   same
 Exit status: 0, also if the desks differ or a step is refused; 1 if the data set, the
 table or the script (63) is refused, or a file cannot be read.";
+
+pub(crate) const EXPLAIN: &str = "\
+Print what the refusals of a number mean, or what is invalid in a file, and what to do
+about it";
+
+pub(crate) const EXPLAIN_EXAMPLE: &str = "\
+Example:
+  ssimdesk explain 12
+prints an example of the line, what it means, and what to do:
+  refused 12 BadColumn record 3 column 37
+  BadColumn: the field that begins there is invalid
+  what to do: compare it with the field's row in docs/FORMATS.md
+  ssimdesk explain texts/14-no-such-date.ssm
+prints the refusal of the file and the line, or 'valid' and what it is. A data set begins
+with a digit, a desk file with SSIMDESK, a script with DESKS, a text with a line of one
+part; any other file is a station table.
+Exit status: 0, also if the file is invalid or no refusal has the number; 1 if the file
+cannot be read.";
 
 /// What a value is, by its name in the usage.
 pub(crate) fn about_value(shown: &str) -> &'static str {
@@ -148,6 +167,9 @@ pub(crate) fn about_value(shown: &str) -> &'static str {
     }
     if shown == "DATE" {
         return "A date of origin such as 07JUL25";
+    }
+    if shown == "WORD" {
+        return "The number of a refusal, such as 12, or a file; - is standard input";
     }
     "The script; - is standard input"
 }

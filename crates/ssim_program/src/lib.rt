@@ -2,12 +2,14 @@
 //!
 //! - [`run`]: from the words, a [`Store`] and two writers of std to a status; [`run_on`]: the same over two [`Printer`]s, which
 //!   count their failures. [`parse`] gives the [`Request`] that the words name.
-//! - [`Refusal`]: why a command was refused, as its line; [`Printed`]: the lines of `check`.
+//! - [`Refusal`]: why a command was refused, as its line; [`Printed`]: the lines that commands print.
 //! - [`laws`]: what `tidy` wrote is tidied to itself.
 //!
 //! **Promise.** The words of a command are no fault of the command line. With status 0 a command has written exactly what its
-//! definition makes of the file that it names. With status 1 it has written nothing to `out`, unless `out` failed, and the
-//! whole line of its refusal to `err`, unless `err` failed.
+//! definition makes of the files that it names, and kept exactly the file that it writes. With status 1 no file has changed and
+//! nothing was written to `out`, unless `out` failed (then `out` has a prefix, and a file that `start` or `merge` kept stays), but
+//! `take` has printed what became of the texts before the one that is refused. The whole line of the refusal was written to
+//! `err`, unless `err` failed.
 #![tactic(auto)]
 
 mod check;
@@ -15,6 +17,7 @@ mod command_line;
 mod commands;
 mod data_set;
 mod desk_file;
+mod explain;
 mod export;
 mod findings;
 mod help;

@@ -15,6 +15,7 @@ ghost use Rattle.clap.specs.Words.{kind_of};
 
 use crate::check::check;
 use crate::command_line::{LineFault, Request, parse};
+use crate::explain::explain;
 use crate::export::export;
 use crate::findings::findings;
 use crate::merge::merge;
@@ -203,6 +204,7 @@ fn act<S: Store, O: Printer>(
         Request::Rehearse(dataset, stations, script) => {
             run_script(alloc, dataset, stations, script, store, out)
         }
+        Request::Explain(word) => explain(alloc, word, store, out),
     }
 }
 

@@ -3,7 +3,7 @@
 mod line;
 mod lines;
 mod outcome;
-mod script;
+pub(crate) mod script;
 mod texts;
 
 ghost use Rattle.std.specs.Prelude.{◌≡◌, true, IfErr, IfOk, OnErr, OnOk};

@@ -103,3 +103,13 @@ pub returns-in-Rehearse-clause-again : goal.returns-in-Rehearse-clause-again
 returns-in-Rehearse-clause-again g c =
     subst (λ (r : Request). OnOk c.run_script.result (WritesItself (line_of r) (g.O.Sink.taken c.args.out.now) (g.O.Sink.taken c.run_script.new.out)))
     (sym c.in-Rehearse.is) (nothing_said c.run_script.result)
+
+pub returns-in-Explain-clause-refused : goal.returns-in-Explain-clause-refused
+returns-in-Explain-clause-refused g c =
+    subst (λ (r : Request). OnErr c.explain.result (Leaves (line_of r) (g.S.Store.files c.args.store.now) (g.S.Store.files c.explain.new.store) (g.O.Sink.taken c.args.out.now) (g.O.Sink.taken c.explain.new.out) (g.O.Sink.failures c.args.out.now) (g.O.Sink.failures c.explain.new.out)))
+    (sym c.in-Explain.is) c.explain.ensures.refused
+
+pub returns-in-Explain-clause-again : goal.returns-in-Explain-clause-again
+returns-in-Explain-clause-again g c =
+    subst (λ (r : Request). OnOk c.explain.result (WritesItself (line_of r) (g.O.Sink.taken c.args.out.now) (g.O.Sink.taken c.explain.new.out)))
+    (sym c.in-Explain.is) (nothing_said c.explain.result)

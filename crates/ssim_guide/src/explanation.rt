@@ -1,0 +1,43 @@
+//! What a refusal means and what to do about it.
+ghost use Rattle.std.specs.Prelude.{◌≡◌, IfSome};
+
+use crate::lines::push_line;
+use crate::texts::TABLE;
+use std::alloc::{AllocError, Global};
+
+/// What is said of the refusals of a number.
+#[derive(Clone, Copy, Debug)]
+pub struct Explanation {
+    /// The number of the refusal.
+    pub number: u8,
+    /// Its name, as its line has it.
+    pub name: &'static str,
+    /// Why the program refuses.
+    pub meaning: &'static str,
+    /// What a user does about it.
+    pub remedy: &'static str,
+}
+
+/// The explanation of the refusals of this number, if there are any.
+pub fn explanation_of(number: u8) -> Option<Explanation>
+    ensures { IfSome result (λ e. e.number ≡ number) }
+{
+    for entry in TABLE {
+        if entry.number == number {
+            return Some(entry);
+        }
+    }
+    None
+}
+
+/// The lines on the refusals of this number: its name and meaning, then these lines on its place, and what to do. There are none if
+/// there is no such refusal.
+pub fn words_on(alloc: Global, number: u8, place: &[u8]) -> Result<Vec<u8>, AllocError> {
+    let mut lines = Vec::new(alloc);
+    if let Some(found) = explanation_of(number) {
+        push_line(&mut lines, found.name, found.meaning)?;
+        lines.extend_from_slice(place)?;
+        push_line(&mut lines, "what to do", found.remedy)?;
+    }
+    Ok(lines)
+}

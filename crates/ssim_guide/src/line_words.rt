@@ -1,0 +1,84 @@
+//! The words on a line of a text, a station table or a script, and on an element of a desk file.
+
+use crate::lines::{push_line, push_shown};
+use std::alloc::{AllocError, Global};
+
+/// The lines on the line with this number, from 1, at which a refusal has the number `refusal`: its bytes, or that the file ends
+/// before it; and an example of what is allowed there.
+pub fn words_on_line(
+    alloc: Global,
+    bytes: &[u8],
+    number: u64,
+    refusal: u8,
+) -> Result<Vec<u8>, AllocError> {
+    let mut lines = Vec::new(alloc);
+    match line_at(bytes, number) {
+        Some(found) => push_shown(&mut lines, "line", found)?,
+        None => push_line(&mut lines, "line", "the file ends before it")?,
+    }
+    if let Some(allowed) = allowed_at(refusal) {
+        push_line(&mut lines, "allowed", allowed)?;
+    }
+    Ok(lines)
+}
+
+/// The lines on the element of a desk file that begins after so many bytes: its first line, or that the file ends there.
+pub fn words_on_offset(alloc: Global, bytes: &[u8], offset: u64) -> Result<Vec<u8>, AllocError> {
+    let mut lines = Vec::new(alloc);
+    match rest_at(bytes, offset) {
+        Some(rest) => push_shown(&mut lines, "element", first_line(rest))?,
+        None => push_line(&mut lines, "element", "the file ends before it")?,
+    }
+    Ok(lines)
+}
+
+/// An example of a line that is allowed where a refusal has this number.
+fn allowed_at(refusal: u8) -> Option<&'static str> {
+    match refusal {
+        20 => Some("SSM or ASM, or an originator such as .HAMOPZ7"),
+        21 => Some("a reference such as 15MAR00001E001"),
+        22 => Some("NEW, CNL, RPL, EQT or TIM"),
+        23 => Some("a flight such as Z7103, in an ASM such as Z7401/15JUN"),
+        24 => Some("a period such as 17MAY27 31MAY27 1"),
+        25 => Some("an equipment such as J 32N CYBMHQ.C16Y148"),
+        26 => Some("a leg such as FDH0820 BER1000, or a segment such as FDHOSL 10/SK 7601"),
+        27 => Some("//, or the end of the text"),
+        39 => Some("a row such as ZRH 28MAR27 30OCT27 +0200"),
+        63 => Some("first DESKS 2, then TAKE 1 NAME or MERGE 1 2"),
+        _ => None,
+    }
+}
+
+/// The bytes of the line with this number, without its LF.
+fn line_at(bytes: &[u8], number: u64) -> Option<&[u8]> {
+    let mut rest = bytes;
+    for _ in 1..number {
+        rest = after_line(rest)?;
+    }
+    if rest.is_empty() {
+        return None;
+    }
+    Some(first_line(rest))
+}
+
+/// What follows the first LF.
+fn after_line(bytes: &[u8]) -> Option<&[u8]> {
+    let end = bytes.iter().position(|b| *b == b'\n')?;
+    bytes.get(end..)?.split_first().map(|(_, rest)| rest)
+}
+
+/// The bytes before the first LF.
+fn first_line(bytes: &[u8]) -> &[u8] {
+    match bytes.iter().position(|b| *b == b'\n') {
+        Some(end) => bytes.get(..end).unwrap_or(bytes),
+        None => bytes,
+    }
+}
+
+/// The bytes after so many, if there are any.
+fn rest_at(bytes: &[u8], offset: u64) -> Option<&[u8]> {
+    if offset >= bytes.len() as u64 {
+        return None;
+    }
+    bytes.get(offset as usize..)
+}

@@ -1,0 +1,84 @@
+//! The words on a record of a data set.
+
+use crate::fields::field_at;
+use crate::lines::{push_line, push_number, push_shown};
+use std::alloc::{AllocError, Global};
+
+/// The lines on the record with this number, from 1: its bytes, and of the field that begins at the column its name, its columns,
+/// what is there, and what is allowed there. There are none if the data set ends before the record.
+pub fn words_on_record(
+    alloc: Global,
+    bytes: &[u8],
+    number: u64,
+    column: Option<usize>,
+) -> Result<Vec<u8>, AllocError> {
+    let mut lines = Vec::new(alloc);
+    if let Some(found) = record_at(bytes, number) {
+        push_shown(&mut lines, "record", found)?;
+        if let Some(column) = column {
+            push_field(&mut lines, found, column)?;
+        }
+    }
+    Ok(lines)
+}
+
+/// Adds the lines on the field of a record that begins at the column.
+fn push_field(lines: &mut Vec<u8>, record: &[u8], column: usize) -> Result<(), AllocError> {
+    let Some(kind) = record.first() else {
+        return Ok(());
+    };
+    let Some(field) = field_at(*kind, column) else {
+        return Ok(());
+    };
+    lines.extend_from_slice(b"columns: ")?;
+    push_number(lines, column)?;
+    lines.extend_from_slice(b" to ")?;
+    push_number(lines, field.last)?;
+    lines.push(b'\n')?;
+    push_line(lines, "field", field.name)?;
+    if let Some(found) = columns_of(record, column, field.last) {
+        push_shown(lines, "found", found)?;
+    }
+    push_line(lines, "allowed", field.allowed)
+}
+
+/// The columns of a record, counted from 1.
+fn columns_of(record: &[u8], first: usize, last: usize) -> Option<&[u8]> {
+    if first == 0 {
+        return None;
+    }
+    record.get(first - 1..last)
+}
+
+/// The bytes of the record with this number: 200, or those that are left.
+fn record_at(bytes: &[u8], number: u64) -> Option<&[u8]> {
+    let mut rest = bytes;
+    for _ in 1..number {
+        rest = after_record(rest)?;
+    }
+    if rest.is_empty() {
+        return None;
+    }
+    match rest.get(..200) {
+        Some(record) => Some(record),
+        None => Some(rest),
+    }
+}
+
+/// What follows a record and the line ends after it.
+fn after_record(bytes: &[u8]) -> Option<&[u8]> {
+    let rest = bytes.get(200..)?;
+    Some(without_line_ends(rest))
+}
+
+/// The bytes from the first that is no line end on: a line end is LF, or CR and LF.
+fn without_line_ends(bytes: &[u8]) -> &[u8] {
+    let mut rest = bytes;
+    loop {
+        match rest {
+            [b'\n', next @ ..] => rest = next,
+            [b'\r', b'\n', next @ ..] => rest = next,
+            _ => return rest,
+        }
+    }
+}

@@ -1,0 +1,245 @@
+//! The texts on each refusal, in the order of their numbers. `docs/FORMATS.md` has the same meanings, the README the same remedies.
+
+use crate::explanation::Explanation;
+
+const MESSAGE: &str = "correct the line, or ask the originator for the message again";
+
+const WHOLE: &str = "ask for the whole data set; the end of a file is often lost in a transfer";
+
+const ONE_AIRLINE: &str = "divide the file: a data set has one airline";
+
+const UNSUPPORTED: &str = "not supported: split the flight's periods, or write weekly periods";
+
+const TOO_LARGE: &str =
+    "a chapter 7 data set cannot say it: combine the flight's single dates, or divide the data set";
+
+pub(crate) const TABLE: [Explanation; 38] = [
+    Explanation {
+        number: 1,
+        name: "BadDate",
+        meaning: "the date of show is not DDMMMYY, or no day of the calendar",
+        remedy: "correct the word",
+    },
+    Explanation {
+        number: 6,
+        name: "BadDesignator",
+        meaning: "the flight of show is not spelled as an airline and a flight number",
+        remedy: "correct the word",
+    },
+    Explanation {
+        number: 10,
+        name: "Short",
+        meaning: "the data set ends within the record",
+        remedy: "look for a line that was cut or a blank that was lost at the record's end",
+    },
+    Explanation {
+        number: 11,
+        name: "BadType",
+        meaning: "column 1 is not 1 to 5, or such a record is invalid in this place",
+        remedy: "check the order: header, carrier, legs and segments, trailer",
+    },
+    Explanation {
+        number: 12,
+        name: "BadColumn",
+        meaning: "the field that begins there is invalid",
+        remedy: "compare it with the field's row in docs/FORMATS.md",
+    },
+    Explanation {
+        number: 20,
+        name: "BadKind",
+        meaning: "a text begins with SSM or ASM, or with an originator line and then these",
+        remedy: MESSAGE,
+    },
+    Explanation {
+        number: 21,
+        name: "BadReference",
+        meaning: "a reference line was expected",
+        remedy: MESSAGE,
+    },
+    Explanation {
+        number: 22,
+        name: "BadAction",
+        meaning: "an action was expected: NEW, CNL, RPL, EQT or TIM",
+        remedy: MESSAGE,
+    },
+    Explanation {
+        number: 23,
+        name: "BadFlight",
+        meaning: "a flight was expected, with a date in an ASM",
+        remedy: MESSAGE,
+    },
+    Explanation {
+        number: 24,
+        name: "BadPeriod",
+        meaning: "a first date, a last date and days of operation were expected",
+        remedy: MESSAGE,
+    },
+    Explanation {
+        number: 25,
+        name: "BadEquipment",
+        meaning: "service type and aircraft type were expected",
+        remedy: MESSAGE,
+    },
+    Explanation {
+        number: 26,
+        name: "BadLeg",
+        meaning: "a leg line was expected, or a segment line whose points are on the way",
+        remedy: MESSAGE,
+    },
+    Explanation {
+        number: 27,
+        name: "Extra",
+        meaning: "there is a line too many after CNL or EQT",
+        remedy: MESSAGE,
+    },
+    Explanation {
+        number: 28,
+        name: "TooMany",
+        meaning: "the 251st sub-message, the 21st leg line or the 100th segment line; at line 1 a text of more than 65,536 bytes",
+        remedy: MESSAGE,
+    },
+    Explanation {
+        number: 29,
+        name: "NotAscii",
+        meaning: "the line has a byte outside 32 to 126",
+        remedy: MESSAGE,
+    },
+    Explanation {
+        number: 30,
+        name: "NoHeader",
+        meaning: "the first record is no header",
+        remedy: WHOLE,
+    },
+    Explanation {
+        number: 31,
+        name: "NoCarrier",
+        meaning: "the second is no carrier record",
+        remedy: WHOLE,
+    },
+    Explanation {
+        number: 32,
+        name: "NoTrailer",
+        meaning: "there is no trailer; the number is the one that it would have",
+        remedy: WHOLE,
+    },
+    Explanation {
+        number: 33,
+        name: "OtherAirline",
+        meaning: "another airline than the carrier record's",
+        remedy: ONE_AIRLINE,
+    },
+    Explanation {
+        number: 34,
+        name: "Overlap",
+        meaning: "an earlier record has the same flight and leg sequence on one of its dates",
+        remedy: "correct the periods or the days of operation of one of them",
+    },
+    Explanation {
+        number: 35,
+        name: "Segment",
+        meaning: "no earlier leg record has this flight, variation and sequence",
+        remedy: "put the segment after its leg, or correct these columns",
+    },
+    Explanation {
+        number: 36,
+        name: "Overflow",
+        meaning: "the itinerary variation overflows",
+        remedy: UNSUPPORTED,
+    },
+    Explanation {
+        number: 37,
+        name: "Frequency",
+        meaning: "a frequency rate other than weekly",
+        remedy: UNSUPPORTED,
+    },
+    Explanation {
+        number: 38,
+        name: "Continuation",
+        meaning: "another carrier is to follow",
+        remedy: ONE_AIRLINE,
+    },
+    Explanation {
+        number: 39,
+        name: "Stations",
+        meaning: "the line of the station table is no row",
+        remedy: "a row is ZRH 30MAR25 25OCT25 +0200",
+    },
+    Explanation {
+        number: 40,
+        name: "TimeMode",
+        meaning: "the text has the other time mode than the data set",
+        remedy: "ask for the message in the data set's time mode",
+    },
+    Explanation {
+        number: 41,
+        name: "Airline",
+        meaning: "the flight is another airline's; 0 for the flight of show",
+        remedy: "send the message to that airline's desk",
+    },
+    Explanation {
+        number: 42,
+        name: "NoSuchDate",
+        meaning: "a date without a year does not come before the end of 2099; 0 for that of the reference",
+        remedy: "correct the date",
+    },
+    Explanation {
+        number: 43,
+        name: "Period",
+        meaning: "the first day of the period is after the last",
+        remedy: "correct the date",
+    },
+    Explanation {
+        number: 50,
+        name: "Variations",
+        meaning: "the flight needs more than 99 itinerary variations",
+        remedy: TOO_LARGE,
+    },
+    Explanation {
+        number: 51,
+        name: "Records",
+        meaning: "the export needs more than 999,999 records",
+        remedy: TOO_LARGE,
+    },
+    Explanation {
+        number: 52,
+        name: "WriteFault",
+        meaning: "standard output failed, or took nothing; it may have taken a prefix of what was to be written",
+        remedy: "free the disk, or mend the pipe, and run the command again",
+    },
+    Explanation {
+        number: 60,
+        name: "Conflict",
+        meaning: "the desk holds another message under this reference. For merge it is the first such reference",
+        remedy: "one of the two was sent under a wrong reference: ask the originator",
+    },
+    Explanation {
+        number: 61,
+        name: "OtherBase",
+        meaning: "the two desks have different data sets or station tables",
+        remedy: "merge desks of one season only",
+    },
+    Explanation {
+        number: 62,
+        name: "DeskFile",
+        meaning: "the element after so many bytes is invalid",
+        remedy: "take the desk file from a backup, or start again and take the messages again",
+    },
+    Explanation {
+        number: 63,
+        name: "Script",
+        meaning: "the line of the script is invalid",
+        remedy: "a script is DESKS n, then lines TAKE d FILE and MERGE d e",
+    },
+    Explanation {
+        number: 90,
+        name: "Memory",
+        meaning: "there was not enough memory",
+        remedy: "give the program more memory; nothing was changed",
+    },
+    Explanation {
+        number: 91,
+        name: "File",
+        meaning: "the file was not read, has more than 268,435,456 bytes, or was not written",
+        remedy: "check the name, the permission and the disk",
+    },
+];

@@ -1,0 +1,110 @@
+-- What `explain` prints: of a number the line of a refusal that has it, of a file the line of its refusal, and then words on it.
+use Rattle.std.specs.Prelude.{◌≡◌, ◌⊎◌, ℕ, ◌==◌, Bool, true, List, [], ◌∷◌, ◌++◌, length, Option, Some, None, Ok, Err, if◌then◌else◌, codes}
+use Rattle.std.specs.Fmt.{decimal}
+use Rattle.std.specs.Str.{bytes_eq}
+use Rattle.ssim_values.specs.Characters.{is_digit, two_digits_of}
+use Rattle.ssim_records.specs.declared.record.Record.{Record}
+use Rattle.ssim_schedule.specs.Export.{line}
+use Rattle.ssim_schedule.specs.Reading.{IsReadAs}
+use Rattle.ssim_schedule.specs.Stations.{NamesLine, Row, SpellsTable}
+use Rattle.ssim_schedule.specs.declared.fault.BaseFault.{BaseFault}
+use Rattle.ssim_schedule.specs.declared.note.Note.{Note}
+use Rattle.ssim_schedule.specs.declared.stations.StationFault.{StationFault}
+use Rattle.ssim_text.specs.Bytes.{before, behind, word}
+use Rattle.ssim_text.specs.Decoding.{IsRefusal, NoMessage}
+use Rattle.ssim_text.specs.Left.{lines_left, without_end}
+use Rattle.ssim_text.specs.Message.{MessageValue}
+use Rattle.ssim_text.specs.Spelling.{SpellsMessage}
+use Rattle.ssim_text.specs.declared.fault.TextFault.{TextFault}
+use Rattle.ssim_desk.specs.File.{IsDeskFile}
+use Rattle.ssim_desk.specs.Kept.{DeskSeen}
+use Rattle.ssim_desk.specs.declared.fault.DeskFault.TheVariants as desk_fault
+use Rattle.ssim_program.specs.Desks.{IsNoDeskFile}
+use Rattle.ssim_program.specs.Files.{Files}
+use Rattle.ssim_program.specs.Line.{Text}
+use Rattle.ssim_program.specs.Made.{HasFile, IsOfBytes, file_limit}
+use Rattle.ssim_program.specs.Refusal.{refusal_number, refusal_of_base, refusal_of_stations, refusal_text}
+use Rattle.ssim_program.specs.Script.{RefusesScript, Script, SpellsScript}
+use Rattle.ssim_program.specs.declared.explain.file_kind.FileKind.{FileKind}
+use Rattle.ssim_program.specs.declared.explain.file_kind.FileKind.TheVariants as kind
+use Rattle.ssim_program.specs.declared.refusal.Refusal.{Refusal}
+use Rattle.ssim_program.specs.declared.refusal.Refusal.TheVariants as refused
+
+-- the text begins with the line of this refusal
+abbrev pub BeginsWith : Refusal → List ℕ → Type 0
+BeginsWith refusal printed = (rest : List ℕ) × (printed ≡ line (refusal_text refusal) ++ rest)
+
+-- ---- a number
+
+-- one or two digits are a number; any other word is the name of a file
+abbrev pub number_in : Text → Option ℕ
+number_in (digit ∷ []) = two_digits_of 48 digit
+number_in (tens ∷ units ∷ []) = two_digits_of tens units
+number_in _ = None
+
+-- the text begins with the line of a refusal that has the number, or says that there is none
+abbrev pub ExplainsNumber : ℕ → List ℕ → Type 0
+ExplainsNumber number printed =
+    ((example : Refusal) × (refusal_number example ≡ number) × BeginsWith example printed)
+    ⊎ (printed ≡ line (codes "no refusal has the number " ++ decimal number))
+
+-- ---- which file it is
+
+-- a digit, or nothing at all, begins a data set
+abbrev pub begins_data_set : List ℕ → Bool
+begins_data_set [] = true
+begins_data_set (b ∷ rest) = is_digit b
+
+-- an originator, or a line of one part, begins a message
+abbrev pub begins_message : List ℕ → Bool
+begins_message [] = true
+begins_message (b ∷ rest) = if b == 46 then true else bytes_eq (behind (b ∷ rest)) []
+
+-- the kind of a file by its first line
+abbrev pub kind_of_line : List ℕ → FileKind
+kind_of_line first =
+    if bytes_eq (word first) (codes "SSIMDESK") then kind.Desk
+    else (if bytes_eq (word first) (codes "DESKS") then kind.Script
+    else (if begins_message first then kind.Message
+    else kind.Stations))
+
+abbrev pub kind_of : List ℕ → FileKind
+kind_of bytes = if begins_data_set bytes then kind.DataSet else kind_of_line (without_end (before 10 bytes))
+
+-- ---- what is said of it
+
+-- a file of this kind has the refusal that the commands which read it print
+abbrev pub IsInvalid : FileKind → List ℕ → Refusal → Type 0
+IsInvalid kind.DataSet bytes refusal =
+    (fault : BaseFault) × (refusal ≡ refusal_of_base fault) × IsOfBytes fault × IsReadAs file_limit bytes (Err fault)
+IsInvalid kind.Desk bytes refusal = IsNoDeskFile bytes × (offset : ℕ) × (refusal ≡ refused.Desk (desk_fault.File offset))
+IsInvalid kind.Script bytes refusal = RefusesScript bytes refusal
+IsInvalid kind.Message bytes refusal =
+    (fault : TextFault) × (refusal ≡ refused.Desk (desk_fault.Text fault)) × NoMessage bytes fault × IsRefusal bytes fault
+IsInvalid kind.Stations bytes refusal = (fault : StationFault) × (refusal ≡ refusal_of_stations fault) × NamesLine (lines_left bytes) fault
+
+abbrev pub IsValid : FileKind → List ℕ → Type 0
+IsValid kind.DataSet bytes = (base : List Record) × (notes : List Note) × IsReadAs file_limit bytes (Ok (base, notes))
+IsValid kind.Desk bytes = (desk : DeskSeen) × IsDeskFile bytes desk.base desk.held
+IsValid kind.Script bytes = (script : Script) × SpellsScript script bytes
+IsValid kind.Message bytes = (message : MessageValue) × SpellsMessage message bytes
+IsValid kind.Stations bytes = (rows : List Row) × SpellsTable rows bytes
+
+-- the refusal of a file, or that it is valid
+abbrev pub Judges : FileKind → List ℕ → Option Refusal → Type 0
+Judges k bytes (Some refusal) = IsInvalid k bytes refusal
+Judges k bytes None = IsValid k bytes
+
+-- the text begins with the line of the refusal, or says that the file is valid
+abbrev pub ExplainsBytes : List ℕ → List ℕ → Type 0
+ExplainsBytes bytes printed =
+    ((refusal : Refusal) × IsInvalid (kind_of bytes) bytes refusal × BeginsWith refusal printed)
+    ⊎ (IsValid (kind_of bytes) bytes × (rest : List ℕ) × (printed ≡ codes "valid " ++ rest))
+
+abbrev pub ExplainsFile : Option Files → Text → List ℕ → Type 0
+ExplainsFile files name printed = (bytes : List ℕ) × HasFile files name bytes × ExplainsBytes bytes printed
+
+abbrev pub Explains : Option Files → Text → List ℕ → Type 0
+Explains files word printed =
+    ((number : ℕ) × (number_in word ≡ Some number) × ExplainsNumber number printed)
+    ⊎ ((number_in word ≡ None) × ExplainsFile files word printed)

@@ -1,0 +1,132 @@
+//! The command `explain`: what the refusals of a number mean, or what is invalid in a file.
+
+ghost use Rattle.std.specs.Prelude.{◌≡◌, ◌++◌, true, codes, IfErr, IfOk, OnErr, OnOk};
+ghost use Rattle.std.specs.Fmt.{decimal};
+ghost use Rattle.ssim_schedule.specs.Export.{line};
+ghost use Rattle.ssim_values.specs.Characters.{two_digits_of};
+ghost use Rattle.ssim_program.specs.Effects.{Leaves, Writes};
+ghost use Rattle.ssim_program.specs.Explained.{BeginsWith, Explains, ExplainsFile, ExplainsNumber, number_in};
+ghost use Rattle.ssim_program.specs.Line.{Explain};
+ghost use Rattle.ssim_program.specs.Made.{RefusesLoad};
+ghost use Rattle.ssim_program.specs.Reasons.{Refuses};
+ghost use Rattle.ssim_program.specs.Refusal.{refusal_text};
+
+mod example;
+mod file;
+pub(crate) mod file_kind;
+
+use crate::data_set::load_file;
+use crate::printer::{Printer, print_all};
+use crate::refusal::Refusal;
+use crate::store::Store;
+use ssim_guide::words_on;
+use ssim_values::Memory;
+use std::alloc::Global;
+use std::io::Write;
+
+use example::example;
+use file::on_bytes;
+
+/// Prints what the refusals of a number mean, or what is invalid in the file of this name.
+pub(crate) fn explain<S: Store, O: Printer>(
+    alloc: Global,
+    word: &str,
+    store: &mut S,
+    out: &mut O,
+) -> Result<(), Refusal>
+    ensures done { OnOk result (Writes (Explain word.now) (S.files store.old) (S.files store.new) (O.taken out.old) (O.taken out.new)) }
+    ensures refused { OnErr result (Leaves (Explain word.now) (S.files store.old) (S.files store.new) (O.taken out.old) (O.taken out.new) (O.failures out.old) (O.failures out.new)) }
+    ensures why { IfErr result (Refuses (Explain word.now) (S.files store.old) (O.failures out.old) (O.failures out.new)) }
+    ensures device { O.device out.new ≡ O.device out.old }
+    ensures flushed { OnOk result (O.flushed out.new ≡ true) }
+{
+    let text = explained(alloc, word, store)?;
+    match print_all(out, &text) {
+        Ok(()) => Ok(()),
+        Err(failed) => Err(Refusal::from(failed)),
+    }
+}
+
+/// What is printed on a word.
+fn explained<S: Store>(alloc: Global, word: &str, store: &mut S) -> Result<Vec<u8>, Refusal>
+    ensures ok { IfOk result (λ text. Explains (S.files store.old) word.now text.items) }
+    ensures err { IfErr result (RefusesLoad (S.files store.old) word.now) }
+    ensures same { S.files store.new ≡ S.files store.old }
+{
+    match number_in(word.as_bytes()) {
+        Some(number) => Ok(on_number(alloc, number)?),
+        None => on_file(alloc, word, store),
+    }
+}
+
+/// What is printed on the file of this name.
+fn on_file<S: Store>(alloc: Global, name: &str, store: &mut S) -> Result<Vec<u8>, Refusal>
+    ensures ok { IfOk result (λ text. ExplainsFile (S.files store.old) name.now text.items) }
+    ensures err { IfErr result (RefusesLoad (S.files store.old) name.now) }
+    ensures same { S.files store.new ≡ S.files store.old }
+{
+    let bytes = load_file(alloc, name, store)?;
+    Ok(on_bytes(alloc, &bytes)?)
+}
+
+/// The number that one or two digits spell.
+fn number_in(word: &[u8]) -> Option<u8>
+    ensures { result ≡ number_in word.now }
+{
+    match word {
+        [digit] => two_digits_in(b'0', *digit),
+        [tens, units] => two_digits_in(*tens, *units),
+        _ => None,
+    }
+}
+
+/// The number that two digits spell.
+fn two_digits_in(tens: u8, units: u8) -> Option<u8>
+    ensures { result ≡ two_digits_of tens units }
+{
+    if tens.is_ascii_digit() && units.is_ascii_digit() {
+        Some((tens - b'0') * 10 + (units - b'0'))
+    } else {
+        None
+    }
+}
+
+/// The line of an example of the refusals of a number and the words on it, or that there are none.
+fn on_number(alloc: Global, number: u8) -> Result<Vec<u8>, Memory>
+    ensures { IfOk result (λ text. ExplainsNumber number text.items) }
+{
+    match example(alloc, number)? {
+        Some(refusal) => on_refusal(alloc, &refusal, b""),
+        None => no_refusal(alloc, number),
+    }
+}
+
+/// The line of a refusal, the words on it, and those on its place.
+fn on_refusal(alloc: Global, refusal: &Refusal, place: &[u8]) -> Result<Vec<u8>, Memory>
+    ensures { IfOk result (λ text. BeginsWith refusal.now text.items) }
+{
+    let mut text = line_of(alloc, refusal)?;
+    let words = words_on(alloc, refusal.number(), place)?;
+    text.extend_from_slice(&words)?;
+    Ok(text)
+}
+
+fn line_of(alloc: Global, refusal: &Refusal) -> Result<Vec<u8>, Memory>
+    ensures { IfOk result (λ text. text.items ≡ line (refusal_text refusal.now)) }
+{
+    let mut text = Vec::new(alloc);
+    match writeln!(text, "{refusal}") {
+        Ok(()) => Ok(text),
+        Err(_) => Err(Memory),
+    }
+}
+
+fn no_refusal(alloc: Global, number: u8) -> Result<Vec<u8>, Memory>
+    ensures { IfOk result (λ text. text.items ≡ line (codes "no refusal has the number " ++ decimal number)) }
+{
+    let mut text = Vec::new(alloc);
+    match writeln!(text, "no refusal has the number {number}") {
+        Ok(()) => Ok(text),
+        Err(_) => Err(Memory),
+    }
+}

@@ -1,0 +1,175 @@
+//! What is printed on a file: the refusal of its first invalid place, or that it is valid.
+
+ghost use Rattle.std.specs.Prelude.{◌≡◌, ◌≤◌, ◌++◌, ℕ, List, codes, length, IfOk};
+ghost use Rattle.ssim_program.specs.Explained.{BeginsWith, ExplainsBytes, Judges};
+ghost use Rattle.ssim_program.specs.Made.{file_limit};
+ghost use Rattle.ssim_program.specs.declared.explain.file_kind.FileKind.TheVariants as kind;
+
+use super::file_kind::{FileKind, kind_of};
+use super::on_refusal;
+use crate::data_set::read;
+use crate::desk_file::open_within;
+use crate::refusal::Refusal;
+use crate::rehearse::script::Script;
+use ssim_desk::DeskFault;
+use ssim_guide::{words_on_line, words_on_offset, words_on_record};
+use ssim_records::RecordFault;
+use ssim_schedule::{BaseFault, BaseRefusal, StationFault, Stations};
+use ssim_text::{TextFault, decode};
+use ssim_values::Memory;
+use std::alloc::{AllocError, Global};
+
+/// What is printed on a file of these bytes.
+pub(crate) fn on_bytes(alloc: Global, bytes: &[u8]) -> Result<Vec<u8>, Memory>
+    requires { length bytes.now ≤ file_limit }
+    ensures { IfOk result (λ text. ExplainsBytes bytes.now text.items) }
+{
+    let kind = kind_of(bytes);
+    match judged(alloc, kind, bytes)? {
+        Some(refusal) => on_invalid(alloc, bytes, &refusal),
+        None => on_valid(alloc, kind),
+    }
+}
+
+/// The line of the refusal of a file, the words on it, and the words on its place.
+fn on_invalid(alloc: Global, bytes: &[u8], refusal: &Refusal) -> Result<Vec<u8>, Memory>
+    ensures { IfOk result (λ text. BeginsWith refusal.now text.items) }
+{
+    let place = words_on_place(alloc, bytes, refusal)?;
+    on_refusal(alloc, refusal, &place)
+}
+
+/// That a file is valid.
+fn on_valid(alloc: Global, kind: FileKind) -> Result<Vec<u8>, Memory>
+    ensures { IfOk result (λ text. (rest : List ℕ) × (text.items ≡ codes "valid " ++ rest)) }
+{
+    let mut text = Vec::from_slice(alloc, b"valid ")?;
+    text.extend_from_slice(name_of(kind).as_bytes())?;
+    Ok(text)
+}
+
+/// The name of a kind of file, as the end of a line.
+fn name_of(kind: FileKind) -> &'static str {
+    match kind {
+        FileKind::DataSet => "data set\n",
+        FileKind::Desk => "desk file\n",
+        FileKind::Script => "desk script\n",
+        FileKind::Message => "text\n",
+        FileKind::Stations => "station table\n",
+    }
+}
+
+// ---- the refusal
+
+/// The refusal of a file of this kind, or none if it is valid.
+fn judged(alloc: Global, kind: FileKind, bytes: &[u8]) -> Result<Option<Refusal>, Memory>
+    requires { length bytes.now ≤ file_limit }
+    ensures { IfOk result (λ found. Judges kind bytes.now found) }
+{
+    match kind {
+        FileKind::DataSet => data_set(alloc, bytes),
+        FileKind::Desk => desk_file(alloc, bytes),
+        FileKind::Script => script(alloc, bytes),
+        FileKind::Message => message(alloc, bytes),
+        FileKind::Stations => station_table(alloc, bytes),
+    }
+}
+
+fn data_set(alloc: Global, bytes: &[u8]) -> Result<Option<Refusal>, Memory>
+    requires { length bytes.now ≤ file_limit }
+    ensures { IfOk result (λ found. Judges kind.DataSet bytes.now found) }
+{
+    match read(alloc, bytes) {
+        Ok(_) => Ok(None),
+        Err(BaseFault::Memory) => Err(Memory),
+        Err(fault) => Ok(Some(Refusal::from(fault))),
+    }
+}
+
+fn desk_file(alloc: Global, bytes: &[u8]) -> Result<Option<Refusal>, Memory>
+    requires { length bytes.now ≤ file_limit }
+    ensures { IfOk result (λ found. Judges kind.Desk bytes.now found) }
+{
+    match open_within(alloc, bytes) {
+        Ok(_) => Ok(None),
+        Err(DeskFault::File(offset)) => Ok(Some(Refusal::Desk(DeskFault::File(offset)))),
+        Err(_) => Err(Memory),
+    }
+}
+
+fn script(alloc: Global, bytes: &[u8]) -> Result<Option<Refusal>, Memory>
+    ensures { IfOk result (λ found. Judges kind.Script bytes.now found) }
+{
+    match Script::read(alloc, bytes) {
+        Ok(_) => Ok(None),
+        Err(Refusal::Memory) => Err(Memory),
+        Err(refusal) => Ok(Some(refusal)),
+    }
+}
+
+fn message(alloc: Global, bytes: &[u8]) -> Result<Option<Refusal>, Memory>
+    ensures { IfOk result (λ found. Judges kind.Message bytes.now found) }
+{
+    match decode(alloc, bytes) {
+        Ok(_) => Ok(None),
+        Err(TextFault::Memory) => Err(Memory),
+        Err(fault) => Ok(Some(Refusal::Desk(DeskFault::Text(fault)))),
+    }
+}
+
+fn station_table(alloc: Global, bytes: &[u8]) -> Result<Option<Refusal>, Memory>
+    ensures { IfOk result (λ found. Judges kind.Stations bytes.now found) }
+{
+    match Stations::read(alloc, bytes) {
+        Ok(_) => Ok(None),
+        Err(StationFault::Memory) => Err(Memory),
+        Err(fault) => Ok(Some(Refusal::from(fault))),
+    }
+}
+
+// ---- the place
+
+/// The words on the place of a refusal in the file.
+fn words_on_place(alloc: Global, bytes: &[u8], refusal: &Refusal) -> Result<Vec<u8>, AllocError> {
+    let number = refusal.number();
+    match refusal {
+        Refusal::DataSet(fault) => words_on_fault(alloc, bytes, *fault),
+        Refusal::Desk(DeskFault::File(offset)) => words_on_offset(alloc, bytes, *offset),
+        Refusal::Desk(DeskFault::Text(TextFault::Refused { line, .. })) => {
+            words_on_line(alloc, bytes, *line as u64, number)
+        }
+        Refusal::Stations(StationFault::Stations(line)) => {
+            words_on_line(alloc, bytes, *line, number)
+        }
+        Refusal::Script { line } => words_on_line(alloc, bytes, *line, number),
+        _ => Ok(Vec::new(alloc)),
+    }
+}
+
+/// The words on the record of a fault.
+fn words_on_fault(alloc: Global, bytes: &[u8], fault: BaseFault) -> Result<Vec<u8>, AllocError> {
+    match fault {
+        BaseFault::Read(RecordFault::BadColumn { record, column }) => {
+            words_on_record(alloc, bytes, record, Some(column))
+        }
+        BaseFault::Read(RecordFault::Short { record } | RecordFault::BadType { record }) => {
+            words_on_record(alloc, bytes, record, None)
+        }
+        BaseFault::Refused(record, refusal) => {
+            words_on_record(alloc, bytes, record, column_of(refusal))
+        }
+        _ => Ok(Vec::new(alloc)),
+    }
+}
+
+/// The first column of the field that is refused, if it is one field.
+fn column_of(refusal: BaseRefusal) -> Option<usize> {
+    match refusal {
+        BaseRefusal::OpenEnd => Some(22),
+        BaseRefusal::OtherAirline => Some(3),
+        BaseRefusal::Frequency => Some(36),
+        BaseRefusal::Overflow => Some(128),
+        BaseRefusal::Continuation => Some(194),
+        _ => None,
+    }
+}
