@@ -3,7 +3,7 @@
 ghost use Rattle.std.specs.Prelude.{◌≡◌, ◌<◌, ◌≤◌, ◌+◌, ◌*◌, [], length, nat_lt, Ok, Err, IfOk, IfSome, true, false};
 ghost use Rattle.ssim_records.specs.declared.blocks.Stop.TheVariants.{ReaderNeverEnds};
 ghost use Rattle.ssim_records.specs.Frames.{is_fill};
-ghost use Rattle.ssim_records.specs.Blocks.{GivesBlock, GivesOther, FailsOnce, CountsOn, Fetches, HoldsFew, block_count};
+ghost use Rattle.ssim_records.specs.Blocks.{put_into, GivesBlock, GivesOther, FailsOnce, CountsOn, Fetches, HoldsFew, block_count};
 
 use crate::device::Source;
 use crate::window::Window;
@@ -28,29 +28,31 @@ fn needed(came: u128, limit: u64) -> usize
     if came > limit as u128 { 201 } else { 200 }
 }
 
-/// The next block, of all that the window holds and the reader has left.
+/// Puts the next block into a place, of all that the window holds and the reader has left. Says whether there is one.
 fn next_block<R: Source>(
     window: &mut Window,
     came: &mut u128,
     limit: u64,
     behind: bool,
     reader: &mut R,
-) -> Result<Option<[u8; 200]>, Stop>
+    block: &mut [u8; 200],
+) -> Result<bool, Stop>
     requires { came.old ≤ limit + 1 }
     ensures came { came.new ≤ limit + 1 }
     ensures held { length window.new + came.old ≤ length window.old + came.new }
-    ensures few { IfOk result (λ o. IfSome o (λ _. length window.new + 200 + came.old ≤ length window.old + came.new)) }
-    ensures block { GivesBlock limit behind came.old window.old (R.left reader.old) came.new window.new (R.left reader.new) result }
+    ensures few { IfOk (put_into block.new result) (λ o. IfSome o (λ _. length window.new + 200 + came.old ≤ length window.old + came.new)) }
+    ensures block { GivesBlock limit behind came.old window.old (R.left reader.old) came.new window.new (R.left reader.new) (put_into block.new result) }
     ensures never_ends { result ≡ Err ReaderNeverEnds → (limit < came.new) × (length window.new ≤ 200) }
-    ensures fetched { Fetches behind 0 window.old (R.left reader.old) (block_count result) window.new (R.left reader.new) }
-    ensures few_left { HoldsFew window.new result }
-    ensures fault { FailsOnce (R.failures reader.old) (R.failures reader.new) result }
+    ensures fetched { Fetches behind 0 window.old (R.left reader.old) (block_count (put_into block.new result)) window.new (R.left reader.new) }
+    ensures few_left { HoldsFew window.new (put_into block.new result) }
+    ensures fault { FailsOnce (R.failures reader.old) (R.failures reader.new) (put_into block.new result) }
     ensures count { CountsOn (R.left reader.old) (R.left reader.new) (R.came reader.old) (R.came reader.new) came.old came.new }
 {
     loop {
         window.trim(behind);
         if window.len() >= needed(*came, limit) {
-            return Ok(Some(window.take()));
+            window.take(block);
+            return Ok(true);
         }
         if *came > limit as u128 {
             return Err(Stop::ReaderNeverEnds);
@@ -60,7 +62,7 @@ fn next_block<R: Source>(
             Err(_) => return Err(Stop::ReadFault),
             Ok(0) => {
                 if window.len() == 0 {
-                    return Ok(None);
+                    return Ok(false);
                 }
                 return Err(Stop::Short);
             }
@@ -82,33 +84,36 @@ fn is_fill(block: &[u8; 200]) -> bool
     block.as_slice() == FILL.as_slice()
 }
 
-/// The next block that is not fill, of all that the window holds and the reader has left. Each block is counted.
+/// Puts the next block that is not fill into a place, of all that the window holds and the reader has left. Says whether there
+/// is one. Each block is counted.
 pub fn next_other<R: Source>(
     window: &mut Window,
     came: &mut u128,
     number: &mut u64,
     limit: u64,
     reader: &mut R,
-) -> Result<Option<[u8; 200]>, Stop>
+    block: &mut [u8; 200],
+) -> Result<bool, Stop>
     requires came { came.old ≤ limit + 1 }
     requires counted { 200 * number.old + length window.old ≤ came.old }
     ensures came { came.new ≤ limit + 1 }
     ensures counted { 200 * number.new + length window.new ≤ came.new }
-    ensures more { IfOk result (λ o. IfSome o (λ _. number.old < number.new)) }
-    ensures block { GivesOther limit number.old came.old window.old (R.left reader.old) number.new came.new window.new (R.left reader.new) result }
+    ensures more { IfOk (put_into block.new result) (λ o. IfSome o (λ _. number.old < number.new)) }
+    ensures block { GivesOther limit number.old came.old window.old (R.left reader.old) number.new came.new window.new (R.left reader.new) (put_into block.new result) }
     ensures never_ends { result ≡ Err ReaderNeverEnds → (limit < came.new) × (length window.new ≤ 200) }
     ensures fetched { Fetches (nat_lt 0 number.old) number.old window.old (R.left reader.old) number.new window.new (R.left reader.new) }
-    ensures few_left { HoldsFew window.new result }
-    ensures fault { FailsOnce (R.failures reader.old) (R.failures reader.new) result }
+    ensures few_left { HoldsFew window.new (put_into block.new result) }
+    ensures fault { FailsOnce (R.failures reader.old) (R.failures reader.new) (put_into block.new result) }
     ensures count { CountsOn (R.left reader.old) (R.left reader.new) (R.came reader.old) (R.came reader.new) came.old came.new }
 {
     loop {
-        let Some(block) = next_block(window, came, limit, *number > 0, reader)? else {
-            return Ok(None);
-        };
+        let more = next_block(window, came, limit, *number > 0, reader, block)?;
+        if !more {
+            return Ok(false);
+        }
         *number += 1;
-        if !is_fill(&block) {
-            return Ok(Some(block));
+        if !is_fill(block) {
+            return Ok(true);
         }
     }
 }

@@ -159,9 +159,10 @@ pub fn seven(text: &[u8]) -> [u8; 7]
     requires { length text.now ≡ 7 }
     ensures { result ≡ text.now }
 {
-    let mut bytes = [0; 7];
-    bytes.copy_from_slice(text);
-    bytes
+    match text {
+        [a, b, c, d, e, f, g] => [*a, *b, *c, *d, *e, *f, *g],
+        _ => unreachable!(),
+    }
 }
 
 pub fn twenty(text: &[u8]) -> [u8; 20]

@@ -81,15 +81,17 @@ impl Records {
         ensures fault { FailsAs (R.failures reader.old) (R.failures reader.new) result }
         ensures count { CountsOn (R.left reader.old) (R.left reader.new) (R.came reader.old) (R.came reader.new) self.old.came self.new.came }
     {
+        let mut block = [0; 200];
         match next_other(
             &mut self.window,
             &mut self.came,
             &mut self.number,
             self.limit,
             reader,
+            &mut block,
         ) {
-            Ok(None) => Ok(None),
-            Ok(Some(block)) => match read_numbered(&block, self.number) {
+            Ok(false) => Ok(None),
+            Ok(true) => match read_numbered(&block, self.number) {
                 Ok(record) => Ok(Some((self.number, record))),
                 Err(fault) => Err(fault),
             },

@@ -82,16 +82,14 @@ impl Window {
         }
     }
 
-    /// Takes a block from the beginning.
-    pub fn take(&mut self) -> [u8; 200]
+    /// Takes a block from the beginning into this place.
+    pub fn take(&mut self, block: &mut [u8; 200])
         requires { 200 ≤ length self.old }
-        ensures len { length result ≡ 200 }
-        ensures parts { self.old ≡ result ++ self.new }
+        ensures len { length block.new ≡ 200 }
+        ensures parts { self.old ≡ block.new ++ self.new }
     {
-        let mut block = [0; 200];
         block.copy_from_slice(&self.bytes[self.start..self.start + 200]);
         self.start += 200;
-        block
     }
 
     /// Fetches more bytes, at most that many.

@@ -14,8 +14,8 @@ loop-window-preserved g c = record {
 
 pub returns-then-len-needed-clause-block : goal.returns-then-len-needed-clause-block
 returns-then-len-needed-clause-block g c =
-    took c.args.behind c.args.limit c.args.came.now c.loop-window.came c.args.window.now c.loop-window.window c.trim.new.self c.take.result c.take.new.self _ _ c.loop-window.invariant.stays c.trim.ensures.value (omega arith) c.take.ensures.parts c.take.ensures.len
-    (omega (arith, ap length c.take.ensures.parts, length-append c.take.result c.take.new.self, c.needed.ensures.within))
+    took c.args.behind c.args.limit c.args.came.now c.loop-window.came c.args.window.now c.loop-window.window c.trim.new.self c.take.new.block c.take.new.self _ _ c.loop-window.invariant.stays c.trim.ensures.value (omega arith) c.take.ensures.parts c.take.ensures.len
+    (omega (arith, ap length c.take.ensures.parts, length-append c.take.new.block c.take.new.self, c.needed.ensures.within))
 
 pub returns-then-came-limit-clause-block : goal.returns-then-came-limit-clause-block
 returns-then-came-limit-clause-block g c =
@@ -36,7 +36,7 @@ returns-in-Ok-eq0-clause-block g c =
 
 pub returns-then-len-needed-clause-fetched : goal.returns-then-len-needed-clause-fetched
 returns-then-len-needed-clause-fetched g c =
-    one_taken c.args.behind c.args.came.now c.loop-window.came c.args.window.now c.loop-window.window c.trim.new.self c.take.result c.take.new.self _ _ c.loop-window.invariant.stays c.trim.ensures.value c.take.ensures.parts c.take.ensures.len
+    one_taken c.args.behind c.args.came.now c.loop-window.came c.args.window.now c.loop-window.window c.trim.new.self c.take.new.block c.take.new.self _ _ c.loop-window.invariant.stays c.trim.ensures.value c.take.ensures.parts c.take.ensures.len
 
 pub returns-then-came-limit-clause-fetched : goal.returns-then-came-limit-clause-fetched
 returns-then-came-limit-clause-fetched g c =

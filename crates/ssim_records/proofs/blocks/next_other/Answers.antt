@@ -1,10 +1,10 @@
 -- A block of fill is counted and passed over; any other answer is that of the blocks behind the fill.
-use Rattle.std.proofs.Common.{◌≡◌, ◌+◌, ◌∙◌, Ok, Err, Some, None, sym, refl, arith, rules}
+use Rattle.std.proofs.Common.{◌≡◌, ◌+◌, ◌∙◌, Ok, Err, Some, None, true, false, sym, refl, arith, rules}
 use Rattle.ssim_records.proofs.Framing.{one_more, counts_none, counts_twice, fetches_first, fetches_on, gives_other, none_skipped}
 use Rattle.ssim_records.proofs.blocks.next_other.Goals as goal
 
-pub loop-block-init : goal.loop-block-init
-loop-block-init g c = record {
+pub loop-more-init : goal.loop-more-init
+loop-more-init g c = record {
   came_fits = omega (arith, c.requires.came);
   not_less = omega arith;
   counted = omega (arith, c.requires.counted);
@@ -14,58 +14,58 @@ loop-block-init g c = record {
   no_failure = refl;
 }
 
-pub loop-block-preserved : goal.loop-block-preserved
-loop-block-preserved g c =
-    let e : c.next_block.result ≡ Ok (Some c.in-Some.block) = search rules in
+pub loop-more-preserved : goal.loop-more-preserved
+loop-more-preserved g c =
+    let e : c.next_block.result ≡ Ok true = search rules in
     let b = rw e at c.next_block.ensures.block in
     let few = rw e at c.next_block.ensures.few in
     let fault = rw e at c.next_block.ensures.fault in
     let fetched = rw e at c.next_block.ensures.fetched in
     record {
       came_fits = c.next_block.ensures.came;
-      not_less = omega (arith, c.loop-block.invariant.not_less);
-      counted = omega (arith, few, c.loop-block.invariant.counted);
-      skipped = one_more _ _ _ _ _ _ _ _ _ _ _ _ c.in-Some.block c.loop-block.invariant.skipped b (sym c.is_fill.ensures ∙ c.if-not-is_fill.false);
-      fetched = fetches_on _ _ (c.loop-block.number + 1) 0 1 _ _ _ _ _ _ c.loop-block.invariant.fetched fetched (omega arith);
-      counts = counts_twice _ _ _ _ _ _ _ _ _ c.loop-block.invariant.counts c.next_block.ensures.count;
-      no_failure = fault ∙ c.loop-block.invariant.no_failure;
+      not_less = omega (arith, c.loop-more.invariant.not_less);
+      counted = omega (arith, few, c.loop-more.invariant.counted);
+      skipped = one_more _ _ _ _ _ _ _ _ _ _ _ _ c.next_block.new.block c.loop-more.invariant.skipped b (sym c.is_fill.ensures ∙ c.if-not-is_fill.false);
+      fetched = fetches_on _ _ (c.loop-more.number + 1) 0 1 _ _ _ _ _ _ c.loop-more.invariant.fetched fetched (omega arith);
+      counts = counts_twice _ _ _ _ _ _ _ _ _ c.loop-more.invariant.counts c.next_block.ensures.count;
+      no_failure = fault ∙ c.loop-more.invariant.no_failure;
     }
 
-pub returns-in_err-block-clause-block : goal.returns-in_err-block-clause-block
-returns-in_err-block-clause-block g c =
-    let e : c.next_block.result ≡ Err c.in_err-block.field-0.0 = search rules in
-    let k : c.from_residual.result ≡ Err c.in_err-block.field-0.0 = search rules in
+pub returns-in_err-more-clause-block : goal.returns-in_err-more-clause-block
+returns-in_err-more-clause-block g c =
+    let e : c.next_block.result ≡ Err c.in_err-more.field-0.0 = search rules in
+    let k : c.from_residual.result ≡ Err c.in_err-more.field-0.0 = search rules in
     let b = rw e at c.next_block.ensures.block in
-    rw k (gives_other _ _ _ _ _ _ _ _ _ _ _ _ _ (Err c.in_err-block.field-0.0) c.loop-block.invariant.skipped b refl)
+    rw k (gives_other _ _ _ _ _ _ _ _ _ _ _ _ _ (Err c.in_err-more.field-0.0) c.loop-more.invariant.skipped b refl)
 
-pub returns-in_default-clause-block : goal.returns-in_default-clause-block
-returns-in_default-clause-block g c =
-    let e : c.next_block.result ≡ Ok None = search rules in
+pub returns-then-not-more-clause-block : goal.returns-then-not-more-clause-block
+returns-then-not-more-clause-block g c =
+    let e : c.next_block.result ≡ Ok false = search rules in
     let b = rw e at c.next_block.ensures.block in
-    gives_other _ _ _ _ _ _ _ _ _ _ _ _ _ (Ok None) c.loop-block.invariant.skipped b refl
+    gives_other _ _ _ _ _ _ _ _ _ _ _ _ _ (Ok None) c.loop-more.invariant.skipped b refl
 
 pub returns-then-not-is_fill-clause-block : goal.returns-then-not-is_fill-clause-block
 returns-then-not-is_fill-clause-block g c =
-    let e : c.next_block.result ≡ Ok (Some c.in-Some.block) = search rules in
+    let e : c.next_block.result ≡ Ok true = search rules in
     let b = rw e at c.next_block.ensures.block in
-    gives_other _ _ _ _ _ _ _ _ _ _ _ _ _ (Ok (Some c.in-Some.block)) c.loop-block.invariant.skipped b (refl, sym c.is_fill.ensures ∙ c.if-not-is_fill.true)
+    gives_other _ _ _ _ _ _ _ _ _ _ _ _ _ (Ok (Some c.next_block.new.block)) c.loop-more.invariant.skipped b (refl, sym c.is_fill.ensures ∙ c.if-not-is_fill.true)
 
 -- ---- what was fetched
 
-pub returns-in_err-block-clause-fetched : goal.returns-in_err-block-clause-fetched
-returns-in_err-block-clause-fetched g c =
-    let e : c.next_block.result ≡ Err c.in_err-block.field-0.0 = search rules in
+pub returns-in_err-more-clause-fetched : goal.returns-in_err-more-clause-fetched
+returns-in_err-more-clause-fetched g c =
+    let e : c.next_block.result ≡ Err c.in_err-more.field-0.0 = search rules in
     let fetched = rw e at c.next_block.ensures.fetched in
-    fetches_on _ _ c.loop-block.number 0 0 _ _ _ _ _ _ c.loop-block.invariant.fetched fetched (omega arith)
+    fetches_on _ _ c.loop-more.number 0 0 _ _ _ _ _ _ c.loop-more.invariant.fetched fetched (omega arith)
 
-pub returns-in_default-clause-fetched : goal.returns-in_default-clause-fetched
-returns-in_default-clause-fetched g c =
-    let e : c.next_block.result ≡ Ok None = search rules in
+pub returns-then-not-more-clause-fetched : goal.returns-then-not-more-clause-fetched
+returns-then-not-more-clause-fetched g c =
+    let e : c.next_block.result ≡ Ok false = search rules in
     let fetched = rw e at c.next_block.ensures.fetched in
-    fetches_on _ _ c.loop-block.number 0 0 _ _ _ _ _ _ c.loop-block.invariant.fetched fetched (omega arith)
+    fetches_on _ _ c.loop-more.number 0 0 _ _ _ _ _ _ c.loop-more.invariant.fetched fetched (omega arith)
 
 pub returns-then-not-is_fill-clause-fetched : goal.returns-then-not-is_fill-clause-fetched
 returns-then-not-is_fill-clause-fetched g c =
-    let e : c.next_block.result ≡ Ok (Some c.in-Some.block) = search rules in
+    let e : c.next_block.result ≡ Ok true = search rules in
     let fetched = rw e at c.next_block.ensures.fetched in
-    fetches_on _ _ (c.loop-block.number + 1) 0 1 _ _ _ _ _ _ c.loop-block.invariant.fetched fetched (omega arith)
+    fetches_on _ _ (c.loop-more.number + 1) 0 1 _ _ _ _ _ _ c.loop-more.invariant.fetched fetched (omega arith)

@@ -14,8 +14,8 @@ pub record Goes {R : Type 0} (left : R → Option (List ℕ)) (came_of failures 
   pub counts : CountsOn (left before) (left reader) (came_of before) (came_of reader) came0 came
   pub no_failure : failures reader ≡ failures before
 
-abbrev pub invariant-loop-block : goal.invariant-loop-block
-invariant-loop-block g l = Goes g.R.Source.left g.R.Source.came g.R.Source.failures l.limit l.initial.came l.came l.initial.number l.number l.initial.window l.window l.initial.reader l.reader
+abbrev pub invariant-loop-more : goal.invariant-loop-more
+invariant-loop-more g l = Goes g.R.Source.left g.R.Source.came g.R.Source.failures l.limit l.initial.came l.came l.initial.number l.number l.initial.window l.window l.initial.reader l.reader
 
-abbrev pub decreases-loop-block : goal.decreases-loop-block
-decreases-loop-block g l = (l.limit + 1 - l.came) + length l.window
+abbrev pub decreases-loop-more : goal.decreases-loop-more
+decreases-loop-more g l = (l.limit + 1 - l.came) + length l.window

@@ -1,9 +1,9 @@
 -- Each answer is that of the next block that is not fill.
-use Rattle.std.proofs.Common.{◌≡◌, Ok, Err, Some, None, refl, rules}
+use Rattle.std.proofs.Common.{◌≡◌, Ok, Err, true, false, refl, rules}
 use Rattle.ssim_records.specs.declared.blocks.Stop.TheVariants.{Short, ReadFault, ReaderNeverEnds}
 use Rattle.ssim_records.specs.Reading.{Reading}
 use Rattle.ssim_records.proofs.Readings.{gives_end, gives_record, gives_refusal, gives_short, gives_fault, gives_never_ends}
-use Rattle.ssim_records.proofs.records.Records.answer.Goals.{in-Ok-None, in-Ok-Some+in-Ok, in-Ok-Some+in-Err, in-Err-Short, in-Err-ReadFault, in-Err-ReaderNeverEnds}
+use Rattle.ssim_records.proofs.records.Records.answer.Goals.{in-Ok-false, in-Ok-true+in-Ok, in-Ok-true+in-Err, in-Err-Short, in-Err-ReadFault, in-Err-ReaderNeverEnds}
 use Rattle.ssim_records.proofs.records.Records.answer.Goals as goal
 
 pub returns-clause-record : goal.returns-clause-record
@@ -12,9 +12,9 @@ returns-clause-record g c =
     let old : Reading = record { limit = i.limit; came = i.came; number = i.number; held = i.window; ended = i.ended } in
     let new : Reading = record { limit = i.limit; came = c.next_other.new.came; number = c.next_other.new.number; held = c.next_other.new.window; ended = i.ended } in
     elim c.match-next_other.branch [
-      | in-Ok-None w ↦ (let e : c.next_other.result ≡ Ok None = search rules in let b = rw e at c.next_other.ensures.block in rw (w.result-is, ← c.self.view_is) (gives_end old new _ _ b))
-      | in-Ok-Some+in-Ok w ↦ (let e : c.next_other.result ≡ Ok (Some w.in-Ok-Some.block) = search rules in let b = rw e at c.next_other.ensures.block in rw (w.result-is, ← c.self.view_is) (gives_record old new _ _ w.in-Ok-Some.block w.in-Ok.record refl b w.in-Ok.ensures.ok))
-      | in-Ok-Some+in-Err w ↦ (let e : c.next_other.result ≡ Ok (Some w.in-Ok-Some.block) = search rules in let b = rw e at c.next_other.ensures.block in rw (w.result-is, ← c.self.view_is) (gives_refusal old new _ _ w.in-Ok-Some.block w.in-Err.fault b w.in-Err.ensures.err))
+      | in-Ok-false w ↦ (let e : c.next_other.result ≡ Ok false = search rules in let b = rw e at c.next_other.ensures.block in rw (w.result-is, ← c.self.view_is) (gives_end old new _ _ b))
+      | in-Ok-true+in-Ok w ↦ (let e : c.next_other.result ≡ Ok true = search rules in let b = rw e at c.next_other.ensures.block in rw (w.result-is, ← c.self.view_is) (gives_record old new _ _ c.next_other.new.block w.in-Ok.record refl b w.in-Ok.ensures.ok))
+      | in-Ok-true+in-Err w ↦ (let e : c.next_other.result ≡ Ok true = search rules in let b = rw e at c.next_other.ensures.block in rw (w.result-is, ← c.self.view_is) (gives_refusal old new _ _ c.next_other.new.block w.in-Err.fault b w.in-Err.ensures.err))
       | in-Err-Short w ↦ (let e : c.next_other.result ≡ Err Short = search rules in let b = rw e at c.next_other.ensures.block in rw (w.result-is, ← c.self.view_is) (gives_short old new _ _ _ b))
       | in-Err-ReadFault w ↦ (let e : c.next_other.result ≡ Err ReadFault = search rules in let b = rw e at c.next_other.ensures.block in rw (w.result-is, ← c.self.view_is) (gives_fault old new _ _ _ b))
       | in-Err-ReaderNeverEnds w ↦ (let e : c.next_other.result ≡ Err ReaderNeverEnds = search rules in let b = rw e at c.next_other.ensures.block in rw (w.result-is, ← c.self.view_is) (gives_never_ends old new _ _ _ b))
