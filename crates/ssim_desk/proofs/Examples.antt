@@ -1,13 +1,17 @@
--- Small examples of order and meaning, checked by computation.
-use Rattle.std.specs.Prelude.{◌≡◌, ℕ, true, false, None, List, [], ◌∷◌, ◌++◌, replicate, codes, refl}
+-- Small examples of desks, checked by computation.
+use Rattle.std.proofs.Common.{arith}
+use Rattle.std.specs.Prelude.{◌≡◌, ℕ, ◌-◌, ◌^◌, true, false, None, List, [], ◌∷◌, ◌++◌, replicate, codes, refl}
+use Rattle.std.specs.Fmt.{digits}
 use Rattle.std.specs.List.{concat}
 use Rattle.std.specs.declared.cmp.Ordering.TheVariants.{Less, Equal}
+use Rattle.ssim_periods.specs.Calendar.{day_count}
+use Rattle.ssim_records.specs.declared.fault.RecordFault.TheVariants.{ReadFault, ReaderNeverEnds}
 use Rattle.ssim_records.specs.LegParts.{new_leg, station_columns, with_equipment, with_times}
 use Rattle.ssim_schedule.specs.BaseSeen.{BaseSeen}
 use Rattle.ssim_schedule.specs.Stations.{Row}
 use Rattle.ssim_schedule.specs.Timetable.{LegValue}
 use Rattle.ssim_schedule.specs.declared.resolved.ResolvedSub.{ResolvedSub}
-use Rattle.ssim_text.specs.Message.{begun}
+use Rattle.ssim_text.specs.Message.{begun, with_sub}
 use Rattle.ssim_text.specs.Values.{EquipmentValue, no_originator}
 use Rattle.ssim_text.specs.declared.action.Action.{Action}
 use Rattle.ssim_text.specs.declared.action.Action.TheVariants.{New, Cnl, Eqt}
@@ -15,17 +19,25 @@ use Rattle.ssim_text.specs.declared.action.NewLegs.{NewLegs}
 use Rattle.ssim_text.specs.declared.action.Sub.{Sub}
 use Rattle.ssim_text.specs.declared.dates.Dates.TheVariants.{Date}
 use Rattle.ssim_text.specs.declared.dates.GivenDate.TheVariants.{Full}
+use Rattle.ssim_text.specs.declared.fault.TextFault.{TextFault}
+use Rattle.ssim_text.specs.declared.kind.ActionIdentifier.TheVariants as identifier
 use Rattle.ssim_text.specs.declared.kind.Kind.{Kind}
 use Rattle.ssim_text.specs.declared.kind.Kind.TheVariants.{Ssm, Asm}
 use Rattle.ssim_values.specs.declared.time_mode.TimeMode.TheVariants.{Utc}
 use Rattle.ssim_text.specs.declared.leg.LegEnd.{LegEnd}
 use Rattle.ssim_text.specs.declared.reference.GroupCode.TheVariants.{End}
 use Rattle.ssim_text.specs.declared.reference.Reference.{Reference}
+use Rattle.ssim_values.specs.Calendar.{day_of_month, month_of, year_of}
+use Rattle.ssim_values.specs.Day.{day_text}
 use Rattle.ssim_values.specs.Flight.{FlightNumber}
+use Rattle.ssim_desk.specs.Fault.{desk_fault_text}
 use Rattle.ssim_desk.specs.Held.{reference_cmp}
 use Rattle.ssim_desk.specs.Kept.{Entry}
 use Rattle.ssim_desk.specs.Meaning.{Timetable, after_subs}
-use Rattle.ssim_desk.specs.Desk.{is_desk_point, point_bound}
+use Rattle.ssim_desk.specs.Desk.{finding_lines, is_desk_point, point_bound}
+use Rattle.ssim_desk.specs.Opening.{FailsAs, NeverEnds, first_line, is_number}
+use Rattle.ssim_desk.specs.declared.fault.DeskFault.TheVariants.{Text, Conflict, Read, File}
+use Rattle.ssim_desk.specs.declared.opening.version.FileVersion.TheVariants.{One, Two}
 
 -- ---- the order of references
 
@@ -161,3 +173,75 @@ of_the_flight = refl
 
 of_another_flight : point_bound over holding (record { number = 600; suffix = 65 }) ≡ 2
 of_another_flight = refl
+
+-- ---- findings
+
+-- a desk over the same base that holds one message: CNL of LX600 on 01JUL25, which does not fly
+abbrev cancelled : Entry
+cancelled = record {
+  reference = reference 9252 1 Ssm no_originator;
+  message = with_sub (begun no_originator Ssm Utc (record { date = record { month = 5; day = 1 }; group = 1; code = End; serial = 1; creator = None })) (sub Cnl);
+  dates = dated ∷ [];
+}
+
+-- its one line says that the flight was absent on the one date
+one_line : finding_lines (record { base = over; held = cancelled ∷ []; applied = 1 })
+    ≡ record { reference = reference 9252 1 Ssm no_originator; sub = 1; action = identifier.Cnl; designator = record { airline = codes "LX "; flight = lx600 }; finding = record { acted = 0; absent = 1; present = 0; leg = 0; station = 0 } } ∷ []
+unfolding day_count
+one_line = refl
+
+-- ---- faults
+
+-- a desk file that is invalid after 844 bytes
+file_fault : desk_fault_text (File 844) ≡ codes "DeskFile offset 844"
+unfolding digits
+file_fault = refl
+
+-- another message under the reference SSM 01JUN25 00001 001
+conflict_fault : desk_fault_text (Conflict (reference 9283 1 Ssm no_originator)) ≡ codes "Conflict SSM 01JUN25 00001 001"
+unfolding day_text year_of month_of day_of_month digits
+conflict_fault = refl
+
+-- ---- opening
+
+-- the first lines of the two versions
+version_2 : first_line Two ≡ codes "SSIMDESK 2" ++ 10 ∷ []
+unfolding digits
+version_2 = refl
+
+version_1 : first_line One ≡ codes "SSIMDESK 1" ++ 10 ∷ []
+unfolding digits
+version_1 = refl
+
+-- a number is decimal, has no leading zeros and no sign, and is of any length
+number_4 : is_number (codes "4") ≡ true
+number_4 = refl
+
+number_0 : is_number (codes "0") ≡ true
+number_0 = refl
+
+forty_digits : is_number (codes "9999999999999999999999999999999999999999") ≡ true
+forty_digits = refl
+
+leading_zero : is_number (codes "04") ≡ false
+leading_zero = refl
+
+signed : is_number (codes "+4") ≡ false
+signed = refl
+
+no_digits : is_number [] ≡ false
+no_digits = refl
+
+-- a desk is not opened for the fault of a text; a reader that failed is counted, and the count of 2^64 - 1 failures becomes 0
+no_text_fault : (fault : TextFault) → FailsAs 0 0 (Text fault) → ⊥
+no_text_fault fault fails = fails
+
+counted_once : FailsAs 0 1 (Read (ReadFault 0))
+counted_once = (refl, refl)
+
+counted_round : FailsAs (2 ^ 64 - 1) 0 (Read (ReadFault 0))
+counted_round = (refl, refl)
+
+-- not all of 849 bytes is read within a limit of 848
+too_many : NeverEnds 848 (λ count. count ≡ 849) (Read (ReaderNeverEnds 0))
+too_many = (849, omega arith, refl)
