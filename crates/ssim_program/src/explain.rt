@@ -19,13 +19,12 @@ use crate::data_set::load_file;
 use crate::printer::{Printer, print_all};
 use crate::refusal::Refusal;
 use crate::store::Store;
+use example::example;
+use file::on_bytes;
 use ssim_guide::words_on;
 use ssim_values::Memory;
 use std::alloc::Global;
 use std::io::Write;
-
-use example::example;
-use file::on_bytes;
 
 /// Prints what the refusals of a number mean, or what is invalid in the file of this name.
 pub(crate) fn explain<S: Store, O: Printer>(
