@@ -1,7 +1,8 @@
 //! Words for people: what each refusal means and what to do about it, and what is at an invalid place of a file.
 //!
 //! - [`explanation_of`]: the [`Explanation`] of a refusal by its number; [`words_on`]: its lines.
-//! - [`words_on_record`]: the lines on a record of a data set, and on the field that begins at a column.
+//! - [`words_on_record`]: the lines on a record of a data set, and on the field that begins at a column; [`words_on_overlap`]: on two
+//!   records with a common date.
 //! - [`words_on_line`]: those on a line of a text, a station table or a script; [`words_on_offset`]: on an element of a desk file.
 //!
 //! The texts are not specified. A test compares those on refusals with the tables of the documents.
@@ -11,9 +12,11 @@ mod explanation;
 mod fields;
 mod line_words;
 mod lines;
+mod overlap;
 mod record_words;
 mod texts;
 
 pub use explanation::{Explanation, explanation_of, words_on};
 pub use line_words::{words_on_line, words_on_offset};
+pub use overlap::words_on_overlap;
 pub use record_words::words_on_record;

@@ -30,12 +30,13 @@ fn push_field(lines: &mut Vec<u8>, record: &[u8], column: usize) -> Result<(), A
     let Some(field) = field_at(*kind, column) else {
         return Ok(());
     };
-    lines.extend_from_slice(b"columns: ")?;
+    lines.extend_from_slice(b"field: ")?;
+    lines.extend_from_slice(field.name.as_bytes())?;
+    lines.extend_from_slice(b", columns ")?;
     push_number(lines, column)?;
     lines.extend_from_slice(b" to ")?;
     push_number(lines, field.last)?;
     lines.push(b'\n')?;
-    push_line(lines, "field", field.name)?;
     if let Some(found) = columns_of(record, column, field.last) {
         push_shown(lines, "found", found)?;
     }
@@ -51,7 +52,7 @@ fn columns_of(record: &[u8], first: usize, last: usize) -> Option<&[u8]> {
 }
 
 /// The bytes of the record with this number: 200, or those that are left.
-fn record_at(bytes: &[u8], number: u64) -> Option<&[u8]> {
+pub(crate) fn record_at(bytes: &[u8], number: u64) -> Option<&[u8]> {
     let mut rest = bytes;
     for _ in 1..number {
         rest = after_record(rest)?;
@@ -59,14 +60,16 @@ fn record_at(bytes: &[u8], number: u64) -> Option<&[u8]> {
     if rest.is_empty() {
         return None;
     }
-    match rest.get(..200) {
-        Some(record) => Some(record),
-        None => Some(rest),
-    }
+    Some(first_record(rest))
+}
+
+/// The first 200 bytes, or fewer if there are no more.
+pub(crate) fn first_record(bytes: &[u8]) -> &[u8] {
+    bytes.get(..200).unwrap_or(bytes)
 }
 
 /// What follows a record and the line ends after it.
-fn after_record(bytes: &[u8]) -> Option<&[u8]> {
+pub(crate) fn after_record(bytes: &[u8]) -> Option<&[u8]> {
     let rest = bytes.get(200..)?;
     Some(without_line_ends(rest))
 }

@@ -134,13 +134,8 @@ fn with_rehearsal<'a>(alloc: Global, program: Command<'a>) -> Result<Command<'a>
 fn with_explanations<'a>(alloc: Global, program: Command<'a>) -> Result<Command<'a>, AllocError>
     ensures { IfOk result (λ c. app_of c ≡ add_all (app_of program.entry) explanations) }
 {
-    let explain = with_one(
-        alloc,
-        "explain",
-        help::EXPLAIN,
-        help::EXPLAIN_EXAMPLE,
-        "WORD",
-    )?;
+    let about = help::EXPLAIN;
+    let explain = with_one(alloc, "explain", about, help::EXPLAIN_EXAMPLE, "WORD")?;
     program.subcommand(explain)
 }
 

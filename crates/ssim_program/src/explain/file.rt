@@ -12,7 +12,7 @@ use crate::desk_file::open_within;
 use crate::refusal::Refusal;
 use crate::rehearse::script::Script;
 use ssim_desk::DeskFault;
-use ssim_guide::{words_on_line, words_on_offset, words_on_record};
+use ssim_guide::{words_on_line, words_on_offset, words_on_overlap, words_on_record};
 use ssim_records::RecordFault;
 use ssim_schedule::{BaseFault, BaseRefusal, StationFault, Stations};
 use ssim_text::{TextFault, decode};
@@ -155,6 +155,7 @@ fn words_on_fault(alloc: Global, bytes: &[u8], fault: BaseFault) -> Result<Vec<u
         BaseFault::Read(RecordFault::Short { record } | RecordFault::BadType { record }) => {
             words_on_record(alloc, bytes, record, None)
         }
+        BaseFault::Refused(record, BaseRefusal::Overlap) => words_on_overlap(alloc, bytes, record),
         BaseFault::Refused(record, refusal) => {
             words_on_record(alloc, bytes, record, column_of(refusal))
         }

@@ -1,0 +1,97 @@
+//! The words on an overlap: the other record, and a date that both have.
+
+use crate::lines::{push_line, push_number, push_shown};
+use crate::record_words::{after_record, first_record, record_at};
+use ssim_values::{Day, DayMask, Period};
+use std::alloc::{AllocError, Global};
+
+/// The lines on the record with this number, and on the first one before it that has its flight and leg sequence on a common date.
+pub fn words_on_overlap(alloc: Global, bytes: &[u8], number: u64) -> Result<Vec<u8>, AllocError> {
+    let mut lines = Vec::new(alloc);
+    if let Some(record) = record_at(bytes, number) {
+        push_shown(&mut lines, "record", record)?;
+        if let Some((other, found, day)) = overlap_of(bytes, record, number) {
+            push_shown(&mut lines, "other record", found)?;
+            lines.extend_from_slice(b"its number: ")?;
+            push_number(&mut lines, other as usize)?;
+            lines.extend_from_slice(b"\ncommon date: ")?;
+            lines.extend_from_slice(&day.write())?;
+            lines.push(b'\n')?;
+        }
+    }
+    Ok(lines)
+}
+
+/// The first record before the one with this number that has its flight and leg sequence on a date of it: its number, its bytes
+/// and the first such date.
+fn overlap_of<'b>(bytes: &'b [u8], record: &[u8], number: u64) -> Option<(u64, &'b [u8], Day)> {
+    let mut rest = bytes;
+    let mut end = last_day()?;
+    for earlier in 1..number {
+        let other = first_record(rest);
+        if other.first() == Some(&b'2') {
+            end = end_of_validity(other)?;
+        }
+        if is_same_leg(other, record) {
+            if let Some(day) = common_day(other, record, end) {
+                return Some((earlier, other, day));
+            }
+        }
+        rest = after_record(rest)?;
+    }
+    None
+}
+
+/// Whether two leg records have one spelling of flight and leg sequence.
+fn is_same_leg(one: &[u8], other: &[u8]) -> bool {
+    one.first() == Some(&b'3')
+        && one.get(1..9) == other.get(1..9)
+        && one.get(11..13) == other.get(11..13)
+}
+
+/// The first day that the periods of two leg records have in common. An open end is this day.
+fn common_day(one: &[u8], other: &[u8], end: Day) -> Option<Day> {
+    let one = period_of(one, end)?;
+    let other = period_of(other, end)?;
+    for number in one.first().number()..36_525 {
+        let day = Day::from_number(number)?;
+        if day > one.last() {
+            return None;
+        }
+        if one.holds(day) && other.holds(day) {
+            return Some(day);
+        }
+    }
+    None
+}
+
+/// The period of a leg record.
+fn period_of(record: &[u8], end: Day) -> Option<Period> {
+    let first = day_in(record.get(14..21)?)?;
+    let last = day_in(record.get(21..28)?).unwrap_or(end);
+    let mask = DayMask::parse(record.get(28..35)?).ok()?;
+    Period::new(first, last, mask).ok()
+}
+
+/// The day on which the validity of a carrier record ends: an open end is its start and 730 days, or 31DEC99.
+fn end_of_validity(carrier: &[u8]) -> Option<Day> {
+    if let Some(end) = day_in(carrier.get(21..28)?) {
+        return Some(end);
+    }
+    let first = day_in(carrier.get(14..21)?)?.number();
+    if first < 35_794 {
+        Day::from_number(first + 730)
+    } else {
+        last_day()
+    }
+}
+
+/// 31DEC99.
+fn last_day() -> Option<Day> {
+    Day::from_number(36_524)
+}
+
+/// The day that seven columns spell.
+fn day_in(text: &[u8]) -> Option<Day> {
+    Day::parse(text.as_array()?).ok()
+}
