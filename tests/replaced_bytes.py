@@ -1,11 +1,18 @@
 #!/usr/bin/env python3
-"""Cuts and alters two desk files, and opens each of them: replaced_bytes.py PROGRAM
+"""Cuts and alters small files, and reads each of them: replaced_bytes.py PROGRAM
 
-The files are a desk without texts (848 bytes) and with one (907 bytes), each in both versions. Every prefix of them, and
-each of them with every byte replaced by `0`, `A`, a blank, LF and 255, is either refused as 62, or opened and written
-again with the same bytes (the first line of a version 1 file aside). The last line is 'N passed, M failed'.
+The files are a data set (804 bytes), a text, a script, and two desks, without texts (848 bytes) and with one (907 bytes), each in
+both versions. Read is every prefix of them, and each of them with every byte replaced by `0`, `A`, a blank, LF and 255:
+
+- a data set is refused with a number of its own, or tidied to what is tidied to itself;
+- a text is refused with a number of its own, or taken: then the desk that is written repeats it, and is written again as it is;
+- a script is refused as 63, or for a missing file as 91, or it ends with `same` or `different`;
+- a desk file is refused as 62, or opened and written again with the same bytes (the first line of a version 1 file aside).
+
+The last line is 'N passed, M failed'.
 """
 import os
+import re
 import subprocess
 import sys
 import tempfile
@@ -16,13 +23,21 @@ sys.path.insert(0, os.path.join(TOP, "bench"))
 from commands import plain_season
 from chapter7 import with_serial
 
+# A folder in memory, if there is one: a desk file is synced whenever it is kept.
+FAST = "/dev/shm" if os.access("/dev/shm", os.W_OK) else None
+
 TEXT = b"SSM\nUTC\n01JUN00001E001\nCNL\nLX544\n01JUL25 07JUL25 2\n"
+SCRIPT = b"DESKS 2\nTAKE 1 text\nMERGE 2 1\nTAKE 2 text\n"
 FIRST_LINE = len(b"SSIMDESK 2\n")
+
+REFUSED_DATA_SET = rb"refused (1[012]|3[0-8]) [A-Za-z]+ record \d+( column \d+)?\n|refused (50 Variations flight \S+|51 Records)\n"
+REFUSED_TEXT = rb"refused 2[0-9] [A-Za-z]+ line \d+\n|refused 4[0-3] [A-Za-z]+ sub \d+\n"
+REFUSED_SCRIPT = rb"refused (63 Script line \d+|91 File .+)\n"
 
 
 def run(program, folder, *words):
     done = subprocess.run([program, *words], cwd=folder, capture_output=True, timeout=60, check=False)
-    return done.returncode, done.stderr
+    return done.returncode, done.stdout, done.stderr
 
 
 def write(folder, name, data):
@@ -35,8 +50,8 @@ def read(folder, name):
         return file.read()
 
 
-def desk_files(program, folder):
-    """The two desk files, in both versions."""
+def small_files(program, folder):
+    """The files, each with what is to be said of it: the two desk files come in both versions."""
     records = [with_serial(line, serial) + b"\n" for serial, line in enumerate(plain_season(), 1)]
     for name, data in ("season", b"".join(records)), ("none", b""), ("text", TEXT):
         write(folder, name, data)
@@ -44,7 +59,8 @@ def desk_files(program, folder):
     run(program, folder, "take", "desk", "held", "text")
     found = [read(folder, "desk"), read(folder, "held")]
     assert [len(data) for data in found] == [848, 907]
-    return found + [data.replace(b"SSIMDESK 2", b"SSIMDESK 1") for data in found]
+    found += [data.replace(b"SSIMDESK 2", b"SSIMDESK 1") for data in found]
+    return [(b"".join(records), is_data_set), (TEXT, is_text), (SCRIPT, is_script), *((data, is_desk) for data in found)]
 
 
 def altered(data):
@@ -56,10 +72,38 @@ def altered(data):
             yield f"byte {byte} at {place}", data[:place] + bytes([byte]) + data[place + 1 :]
 
 
-def is_right(program, folder, data):
+def is_data_set(program, folder):
+    """Whether the file is refused as a data set, or tidied to what is tidied to itself."""
+    status, tidied, errors = run(program, folder, "tidy", "altered")
+    if status == 1:
+        return tidied == b"" and re.fullmatch(REFUSED_DATA_SET, errors) is not None
+    write(folder, "tidied", tidied)
+    return status == 0 and run(program, folder, "tidy", "tidied") == (0, tidied, b"")
+
+
+def is_text(program, folder):
+    """Whether the file is refused as a text, or taken, and what was taken is held as it is."""
+    write(folder, "taken", b"")
+    status, printed, errors = run(program, folder, "take", "desk", "taken", "altered")
+    if status == 1:
+        return read(folder, "taken") == printed == b"" and re.fullmatch(REFUSED_TEXT, errors) is not None
+    again = run(program, folder, "take", "taken", "again", "altered")
+    repeated = (0, printed.replace(b"taken", b"repeated"), b"")
+    return status == 0 and again == repeated and read(folder, "again") == read(folder, "taken")
+
+
+def is_script(program, folder):
+    """Whether the file is refused as a script, or run to its end."""
+    status, printed, errors = run(program, folder, "rehearse", "season", "none", "altered")
+    if status == 1:
+        return printed == b"" and re.fullmatch(REFUSED_SCRIPT, errors, re.DOTALL) is not None
+    return status == 0 and printed.endswith((b"\nsame\n", b"\ndifferent\n"))
+
+
+def is_desk(program, folder):
     """Whether the file is refused as 62, or written again with the same bytes."""
-    write(folder, "altered", data)
-    status, errors = run(program, folder, "merge", "altered", "altered", "again")
+    data = read(folder, "altered")
+    status, _, errors = run(program, folder, "merge", "altered", "altered", "again")
     if status == 1:
         return errors.startswith(b"refused 62 DeskFile offset ")
     return status == 0 and read(folder, "again")[FIRST_LINE:] == data[FIRST_LINE:] and data.startswith(b"SSIMDESK ")
@@ -69,10 +113,11 @@ def main():
     if len(sys.argv) != 2:
         sys.exit(__doc__)
     program, passed, failed = os.path.abspath(sys.argv[1]), 0, 0
-    with tempfile.TemporaryDirectory() as folder:
-        for data in desk_files(program, folder):
+    with tempfile.TemporaryDirectory(dir=FAST) as folder:
+        for data, is_right in small_files(program, folder):
             for name, other in altered(data):
-                if is_right(program, folder, other):
+                write(folder, "altered", other)
+                if is_right(program, folder):
                     passed += 1
                 else:
                     failed += 1
