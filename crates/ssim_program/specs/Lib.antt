@@ -3,6 +3,7 @@ pub mod Commands
 pub mod Request
 pub mod Usage
 pub mod Files
+pub mod Names
 pub mod Refusal
 pub mod Printed
 pub mod Shown

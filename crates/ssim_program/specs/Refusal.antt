@@ -17,6 +17,7 @@ use Rattle.ssim_schedule.specs.declared.stations.StationFault.TheVariants as sta
 use Rattle.ssim_desk.specs.Fault.{desk_fault_number, desk_fault_text}
 use Rattle.ssim_desk.specs.declared.fault.DeskFault.{DeskFault}
 use Rattle.ssim_desk.specs.declared.fault.DeskFault.TheVariants as desk
+use Rattle.ssim_program.specs.Names.{printed_name}
 use Rattle.ssim_program.specs.declared.refusal.Refusal.{Refusal}
 use Rattle.ssim_program.specs.declared.refusal.Refusal.TheVariants as refusal
 
@@ -86,6 +87,6 @@ refusal_of_export airline export.Records = refusal.Export airline export.Records
 refusal_of_export airline export.WriteFault = refusal.WriteFault
 refusal_of_export airline export.Memory = refusal.Memory
 
--- 91 with this name, or memory ran out
+-- 91 with this name as it is printed, or memory ran out
 abbrev pub IsOfFile : List ℕ → Refusal → Type 0
-IsOfFile name r = (r ≡ refusal.Memory) ⊎ (refusal_text r ≡ codes "refused 91 File " ++ name)
+IsOfFile name r = (r ≡ refusal.Memory) ⊎ (refusal_text r ≡ codes "refused 91 File " ++ printed_name name)

@@ -23,6 +23,7 @@ mod findings;
 mod help;
 pub mod laws;
 mod merge;
+mod name;
 mod printed;
 mod printer;
 mod program;

@@ -2,6 +2,7 @@
 ghost use Rattle.std.specs.Prelude.{◌≡◌, Some};
 ghost use Rattle.ssim_program.specs.Refusal.{IsOfFile, refusal_number, refusal_of_base, refusal_of_desk, refusal_of_export, refusal_of_stations, refusal_of_value, refusal_text};
 
+use crate::name::printed_name;
 use crate::printer::PrintFailed;
 use ssim_desk::DeskFault;
 use ssim_schedule::{BaseFault, ExportFault, StationFault};
@@ -35,7 +36,7 @@ pub enum Refusal {
     },
     /// 90: memory ran out.
     Memory,
-    /// 91: the file was not read within the limit, or not written.
+    /// 91: the file was not read within the limit, or not written. The name is as it is printed.
     File {
         name: String,
     },
@@ -101,7 +102,7 @@ impl Refusal {
     pub(crate) fn of_file(alloc: Global, name: &str) -> Refusal
         ensures { IsOfFile name.now result }
     {
-        match String::from_str(alloc, name) {
+        match printed_name(alloc, name) {
             Ok(name) => Refusal::File { name },
             Err(_) => Refusal::Memory,
         }

@@ -4,7 +4,7 @@ ghost use Rattle.std.specs.Prelude.{◌≡◌};
 ghost use Rattle.std.specs.Str.{bytes_eq};
 ghost use Rattle.ssim_program.specs.Explained.{begins_data_set, begins_message, kind_of, kind_of_line};
 
-use ssim_schedule::{cut, first_word, without_end};
+use ssim_text::{cut, first_word, without_end};
 
 /// The files that commands read.
 #[derive(Clone, Copy, Debug, PartialEq, Eq)]

@@ -1,7 +1,8 @@
--- The name is the file's.
+-- The name is the file's, as it is printed.
 use Rattle.std.proofs.Common.{inr}
+use Rattle.ssim_program.specs.Names.{printed_name}
 use Rattle.ssim_program.proofs.RefusalTexts.{file_text}
 use Rattle.ssim_program.proofs.refusal.Refusal.of_file.Goals as goal
 
 pub returns-in-Ok : goal.returns-in-Ok
-returns-in-Ok c = inr (file_text c.in-Ok.name c.args.name.now c.in-Ok.ensures.ok)
+returns-in-Ok c = inr (file_text c.in-Ok.name (printed_name c.args.name.now) c.in-Ok.ensures)
