@@ -8,7 +8,7 @@ use files::FileStore;
 use ssim_program::run;
 use std::alloc::{AllocError, Global};
 use std::env;
-use std::io::BufWriter;
+use std::io::{BufWriter, ErrorKind};
 use std::process::ExitCode;
 
 /// The size of the buffer of the standard output.
@@ -28,11 +28,22 @@ fn out_of_memory(rt: &impl Eprint) -> ExitCode {
     ExitCode::from(1)
 }
 
+/// A word can be unread only for want of memory, or if it is no text.
+fn unread(rt: &impl Eprint, kind: ErrorKind) -> ExitCode {
+    if kind == ErrorKind::OutOfMemory {
+        return out_of_memory(rt);
+    }
+    let _ = eprintln!(rt;
+        "error: a word of the command line is no UTF-8; names of files are to be UTF-8"
+    );
+    ExitCode::from(2)
+}
+
 fn main(rt: HostRuntime) -> ExitCode {
     let alloc = rt.alloc();
-    let Ok(args) = env::args(&rt) else {
-        let _ = eprintln!(rt; "error: the arguments cannot be read as text");
-        return ExitCode::from(2);
+    let args = match env::args(&rt) {
+        Ok(args) => args,
+        Err(error) => return unread(&rt, error.kind()),
     };
     let collected: Result<Vec<String>, AllocError> = args.collect(alloc);
     let Ok(words) = collected else {
@@ -47,5 +58,7 @@ fn main(rt: HostRuntime) -> ExitCode {
     let mut store = FileStore::new(&rt, alloc);
     let mut err = rt.stderr();
     let status = run(alloc, texts.as_slice(), &mut store, &mut out, &mut err);
+    // What is printed was flushed. Only after a failure is there more in the buffer, and then nothing more is written.
+    let _ = out.into_parts();
     ExitCode::from(status)
 }

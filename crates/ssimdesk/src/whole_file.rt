@@ -18,7 +18,8 @@ pub(crate) fn fault_of(error: &Error) -> StoreFault {
     }
 }
 
-/// Writes the bytes under the name: all of them, or what is there stays as it is, and nothing is left beside it.
+/// Writes the bytes under the name: all of them, or what is there stays as it is, and nothing is left beside it unless it cannot
+/// be removed.
 ///
 /// A symbolic link stays, and the file to which it leads is written. A device or a FIFO is written straight. The permissions of
 /// a file that is there are kept.
@@ -82,7 +83,7 @@ fn create<R: Files>(rt: &R, name: &str) -> io::Result<R::File> {
     rt.open_file(&options, name)
 }
 
-/// Fills the file beside the place, and renames it. After an error it is removed.
+/// Fills the file beside the place, renames it, and syncs the folder. After an error it is removed.
 fn fill<R: Files>(
     rt: &R,
     file: R::File,
@@ -96,11 +97,26 @@ fn fill<R: Files>(
         Err(error) => Err(error),
     };
     match filled {
-        Ok(()) => Ok(()),
+        Ok(()) => {
+            sync_folder_of(rt, place);
+            Ok(())
+        }
         Err(error) => {
             let _ = rt.remove_file(beside);
             Err(fault_of(&error))
         }
+    }
+}
+
+/// Waits until the device has the new name of a file at the place. An error changes nothing: the file is there.
+fn sync_folder_of<R: Files>(rt: &R, place: &str) {
+    let folder = match place.rsplit_once('/') {
+        Some(("", _)) => "/",
+        Some((folder, _)) => folder,
+        None => ".",
+    };
+    if let Ok(file) = fs::open(rt, folder) {
+        let _ = file.sync_all();
     }
 }
 
