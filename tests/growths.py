@@ -1,0 +1,127 @@
+#!/usr/bin/env python3
+"""Refuses each growth of memory in turn to each of the nine commands: growths.py PROGRAM
+
+For k = 1, 2, .. growth number k of a run is refused, and then every growth from the k-th on, until a run meets no
+refusal. Each run ends with status 0 and exactly the bytes and the file of a run without refusals; or with status 1 and
+`refused 90 Memory`, and no file is kept or changed. Before a 90 `take` may have printed the lines of its first texts, and no
+other command anything. `rehearse` may print 90 in the line of a step: then the other lines are those of the script without
+the step. The last line is 'N passed, M failed'; the lines before it say how many runs each command took.
+"""
+import concurrent.futures
+import os
+import sys
+import tempfile
+import time
+
+from small_runs import COMMANDS, NEVER, SCRIPT, Runs, built_library
+
+MEMORY = b"refused 90 Memory\n"
+AT_ONCE = 2
+
+
+def lines_of(data):
+    return data.splitlines(keepends=True)
+
+
+class Sweep:
+    """The runs of a command in a folder."""
+
+    def __init__(self, runs, command):
+        self.runs = runs
+        self.name, self.words, self.kept = command
+        self.whole = runs.run(self.words)
+        runs.put_back(self.whole.files)
+        assert self.whole.status == 0, self.whole
+        self.rehearsals = {}
+
+    def wrong(self, answer):
+        """What is wrong with an answer, or nothing."""
+        if answer.refused == 0 or answer.status == 0:
+            return self.wrong_if_done(answer)
+        if answer.status != 1:
+            return f"status {answer.status}"
+        if answer.err != MEMORY:
+            return "another line"
+        if answer.files != self.runs.start:
+            return "a file changed"
+        if not (answer.out == b"" or self.name == "take" and self.is_front(answer.out)):
+            return "something was printed"
+        return None
+
+    def wrong_if_done(self, answer):
+        if answer.status != 0:
+            return f"status {answer.status}"
+        if answer.err:
+            return "a line of a refusal"
+        if answer.files != self.whole.files:
+            return "other files"
+        if answer.out != self.whole.out and not (self.name == "rehearse" and self.is_rehearsal(answer.out)):
+            return "other bytes"
+        return None
+
+    def is_front(self, out):
+        """Whether these are the first lines that the command prints."""
+        return self.whole.out.startswith(out) and out.endswith(b"\n")
+
+    def is_rehearsal(self, out):
+        """Whether these are the lines of a rehearsal in which no other steps were refused than those whose lines say 90."""
+        lines = lines_of(out)
+        count = len(SCRIPT.splitlines()) - 1
+        refused = tuple(place for place in range(count) if lines[place : place + 1] and lines[place].endswith(b" " + MEMORY))
+        if refused not in self.rehearsals:
+            self.rehearsals[refused] = self.rehearsal_without(refused)
+        return out == self.rehearsals[refused]
+
+    def rehearsal_without(self, places):
+        """What is printed of the script without these steps, and the line of a 90 in the place of each."""
+        first, *steps = SCRIPT.splitlines(keepends=True)
+        self.runs.write({"script": "".join([first, *(step for place, step in enumerate(steps) if place not in places)]).encode()})
+        lines = lines_of(self.runs.run(self.words).out)
+        self.runs.put_back(self.runs.files())
+        for place in places:
+            lines.insert(place, steps[place].split()[1].encode() + b" " + MEMORY)
+        return b"".join(lines)
+
+    def refuse(self, onward):
+        """Refuses growth 1, 2, ..: the number of runs, and what was wrong."""
+        faults = []
+        for number in range(1, NEVER):
+            answer = self.runs.run(self.words, "growths", number, NEVER if onward else number)
+            wrong = self.wrong(answer)
+            if wrong:
+                faults.append(f"growths: {self.name}: growth {number}{' and on' if onward else ''}: {wrong}: status {answer.status}, "
+                              f"{answer.out[:200]!r}, {answer.err[:200]!r}")
+            self.runs.put_back(answer.files)
+            if answer.refused == 0:
+                return number, faults
+
+
+def sweep(program, library, command, onward):
+    with Runs(program, library) as runs:
+        return Sweep(runs, command).refuse(onward)
+
+
+def main():
+    if len(sys.argv) != 2:
+        sys.exit(__doc__)
+    begun = time.monotonic()
+    program = os.path.abspath(sys.argv[1])
+    passed = failed = 0
+    with tempfile.TemporaryDirectory() as room, concurrent.futures.ThreadPoolExecutor(AT_ONCE) as pool:
+        library = built_library(room)
+        asked = []
+        for onward in False, True:
+            asked += [(command[0], onward, pool.submit(sweep, program, library, command, onward)) for command in COMMANDS]
+        for name, onward, answer in asked:
+            runs, faults = answer.result()
+            print(f"{name}: {runs} runs{', each growth from one on' if onward else ''}")
+            print("".join(line + "\n" for line in faults[:20]), end="")
+            passed += runs - len(faults)
+            failed += len(faults)
+    print(f"growths: {time.monotonic() - begun:.0f} s")
+    print(f"{passed} passed, {failed} failed")
+    sys.exit(1 if failed or not passed else 0)
+
+
+if __name__ == "__main__":
+    main()

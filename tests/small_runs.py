@@ -1,0 +1,119 @@
+"""The nine commands on small files, run under a library that refuses some of their calls (refusing.c).
+
+`Runs` is a folder with the files; `COMMANDS` names a command line for each command, and the file that it keeps.
+"""
+import dataclasses
+import os
+import shutil
+import subprocess
+import tempfile
+
+HERE = os.path.dirname(os.path.abspath(__file__))
+SAMPLES = os.path.join(os.path.dirname(HERE), "samples")
+
+# The library's numbers: no call is refused.
+NEVER = 1 << 40
+
+# `earlier` comes before those that the desks hold in order of reference, and `later` behind them.
+TEXTS = {
+    "first": "SSM\nUTC\n01JUN00001E001\nCNL\nLX544\n01JUL25 07JUL25 2\n",
+    "second": "SSM\nUTC\n02JUN00001E001\nEQT\nLX544\n01JUL25 31JUL25 6\nJ 321 CY.C12Y180\n",
+    "later": "SSM\nUTC\n03JUN00001E001\nCNL\nLX544\n10JUL25 12JUL25 1234567\n//\nTIM\nLX544\n01AUG25 08AUG25 5\nZRH0900 LHR0945\n",
+    "earlier": "SSM\nUTC\n31MAY00001E001\nNEW\nLX540\n01JUL25 14JUL25 24\nJ 320 CY.C12Y138\nLHR0500 ZRH0640\n",
+    "other": "SSM\nUTC\n01JUN00001E001\nCNL\nLX544\n02JUL25 02JUL25 3\n",
+}
+SCRIPT = "DESKS 3\nTAKE 1 first\nTAKE 2 later\nTAKE 1 second\nMERGE 2 1\nTAKE 2 other\nTAKE 3 earlier\nMERGE 3 2\nMERGE 1 3\nTAKE 1 first\n"
+
+DESKS = ("start season stations base", "take base desk first second", "take base theirs first later")
+
+COMMANDS = [
+    ("check", ["check", "season"], None),
+    ("tidy", ["tidy", "season"], None),
+    ("start", ["start", "season", "stations", "old"], "old"),
+    ("take", ["take", "desk", "desk", "earlier", "first", "later"], "desk"),
+    ("merge", ["merge", "desk", "theirs", "new"], "new"),
+    ("show", ["show", "desk", "LX544", "01JUL25"], None),
+    ("findings", ["findings", "desk"], None),
+    ("export", ["export", "desk"], None),
+    ("rehearse", ["rehearse", "season", "stations", "script"], None),
+]
+
+
+@dataclasses.dataclass(frozen=True)
+class Answer:
+    """What a run gave: its status, what it printed, the files afterwards, and how many of its calls were refused."""
+    status: int
+    out: bytes
+    err: bytes
+    files: dict
+    refused: int
+
+
+def fast_folder():
+    """A folder in memory, if there is one: a file is synced whenever it is kept."""
+    return "/dev/shm" if os.access("/dev/shm", os.W_OK) else None
+
+
+def built_library(folder):
+    """The library of refusing.c, built into a folder."""
+    library = os.path.join(folder, "refusing.so")
+    compiler = shutil.which("cc") or shutil.which("clang") or "cc"
+    subprocess.run([compiler, "-shared", "-fPIC", "-O1", "-o", library, os.path.join(HERE, "refusing.c"), "-ldl"], check=True)
+    return library
+
+
+class Runs:
+    """A folder of its own with small files, in which a program runs. `desks` are the command lines that make the desk files."""
+
+    def __init__(self, program, library, desks=DESKS):
+        self.program, self.library = program, library
+        self.room = tempfile.TemporaryDirectory(dir=fast_folder())
+        self.folder = os.path.join(self.room.name, "files")
+        self.told = os.path.join(self.room.name, "told")
+        os.mkdir(self.folder)
+        self.write({name: text.encode() for name, text in TEXTS.items()})
+        self.write({"script": SCRIPT.encode(), "old": b"an old file\n", "stations": b"ZRH 30MAR25 25OCT25 +0200\nLHR 30MAR25 25OCT25 +0100\n"})
+        shutil.copy(os.path.join(HERE, "program", "divided.ssim"), os.path.join(self.folder, "season"))
+        for words in desks or ():
+            assert self.run(words.split()).status == 0, words
+        self.start = self.files()
+
+    def __enter__(self):
+        return self
+
+    def __exit__(self, *_):
+        self.room.cleanup()
+
+    def write(self, files):
+        for name, data in files.items():
+            path = os.path.join(self.folder, name)
+            if os.path.exists(path):
+                os.unlink(path)
+            with open(path, "wb") as file:
+                file.write(data)
+
+    def files(self):
+        found = {}
+        for name in sorted(os.listdir(self.folder)):
+            with open(os.path.join(self.folder, name), "rb") as file:
+                found[name] = file.read()
+        return found
+
+    def put_back(self, files):
+        """Makes the files what they were before the first run."""
+        for name in files:
+            if name not in self.start:
+                os.unlink(os.path.join(self.folder, name))
+        self.write({name: data for name, data in self.start.items() if files.get(name) != data})
+
+    def run(self, words, what="growths", first=NEVER, last=NEVER, error=0, given=b""):
+        """Runs the program, and refuses the calls of these numbers. `given` is its standard input."""
+        environment = {"LD_PRELOAD": self.library, "REFUSED": what, "FROM": str(first), "TO": str(last), "ERROR": str(error),
+                       "TOLD": self.told}
+        done = subprocess.run([self.program, *words], cwd=self.folder, env=environment, input=given,
+                              capture_output=True, timeout=60, check=False)
+        refused = 0
+        if os.path.exists(self.told):
+            refused = os.path.getsize(self.told)
+            os.unlink(self.told)
+        return Answer(done.returncode, done.stdout, done.stderr, self.files(), refused)
