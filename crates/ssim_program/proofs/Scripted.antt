@@ -32,7 +32,7 @@ loaded_in_range g files count (x ∷ xs) [] are below k d lt = absurd are
 loaded_in_range g files count (x ∷ xs) (s ∷ ss) are below zero d lt = one_in_range files count (g x) s are.0 (below 0 x (omega arith))
 loaded_in_range g files count (x ∷ xs) (s ∷ ss) are below (suc k) d lt = loaded_in_range g files count xs ss are.1 (λ i e l. below (suc i) e (omega (arith, l))) k d (omega (arith, lt))
 
--- an element of a list, whatever stands for one that is none
+-- an element of a list, whatever the default is
 pub any_default : {X : Type 0} (xs : List X) (i : ℕ) (d e : X) → i < length xs → get_or xs i d ≡ get_or xs i e
 any_default [] i d e lt = absurd (omega (arith, lt))
 any_default (x ∷ xs) zero d e lt = refl

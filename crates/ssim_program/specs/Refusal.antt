@@ -57,7 +57,7 @@ name_and_place (refusal.File name) = codes "File " ++ string_bytes name
 abbrev pub refusal_text : Refusal → List ℕ
 refusal_text r = codes "refused " ++ decimal (refusal_number r) ++ 32 ∷ name_and_place r
 
--- ---- the refusal of a fault; that of each fault for want of memory is one
+-- ---- the refusal of a fault; each fault out of memory is refused as 90
 
 abbrev pub refusal_of_value : Fault → Refusal
 refusal_of_value fault = refusal.Value fault

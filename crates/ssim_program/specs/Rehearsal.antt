@@ -113,7 +113,7 @@ outcome_of (kept_as.Exported buffer) = Ok buffer.bytes
 outcome_of (kept_as.Variations flight) = Err (exported.Variations flight)
 outcome_of kept_as.Records = Err exported.Records
 
--- what a fault of an export says of the outcome, if it is not for want of memory
+-- what a fault of an export says of the outcome, if memory has not run out
 abbrev pub refused_outcome : ExportFault → Option Outcome
 refused_outcome (export.Variations flight) = Some (Err (exported.Variations flight))
 refused_outcome export.Records = Some (Err exported.Records)

@@ -40,7 +40,7 @@ merge_in count rest = do
   from ← desk_in count (behind rest)
   Some (Merges into from)
 
--- the step that a line spells, if there are so many desks
+-- the step that a line spells, for this number of desks
 abbrev pub step_in : ℕ → List ℕ → Option Written
 step_in count line =
     if bytes_eq (word line) (codes "TAKE") then take_in count (behind line)
@@ -90,7 +90,7 @@ IsNoScriptAt text number =
 abbrev pub RefusesScript : List ℕ → Refusal → Type 0
 RefusesScript text refusal = (refusal ≡ refused.Memory) ⊎ ((number : ℕ) × (refusal ≡ refused.Script number) × IsNoScriptAt text number)
 
--- the desks of a step are among so many
+-- the desks of a step are below this number
 abbrev pub IsStepOf : ℕ → Written → Type 0
 IsStepOf count (Takes desk name) = desk < count
 IsStepOf count (Merges into from) = (into < count) × (from < count)

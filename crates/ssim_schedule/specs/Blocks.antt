@@ -1,4 +1,4 @@
--- The blocks of a schedule: flights of nearby places stand together, so that copies of a schedule may share them.
+-- The blocks of a schedule: flights of nearby places are together, so that copies of a schedule may share them.
 use Rattle.std.specs.Prelude.{◌≡◌, ℕ, ◌+◌, ◌/◌, List, [], ◌∷◌, ◌++◌}
 use Rattle.ssim_values.specs.Flight.{FlightNumber}
 use Rattle.ssim_schedule.specs.ReadBack.{place_of}

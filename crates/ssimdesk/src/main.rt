@@ -28,7 +28,7 @@ fn out_of_memory(rt: &impl Eprint) -> ExitCode {
     ExitCode::from(1)
 }
 
-/// A word can be unread only for want of memory, or if it is no text.
+/// A word cannot be read if memory runs out, or if it is no text.
 fn unread(rt: &impl Eprint, kind: ErrorKind) -> ExitCode {
     if kind == ErrorKind::OutOfMemory {
         return out_of_memory(rt);

@@ -10,7 +10,7 @@ ghost use Rattle.ssim_values.specs.Characters.{is_digit};
 
 use std::str;
 
-/// How many elements follow. None stands for a number that no memory can hold.
+/// How many elements follow. None means a number that no memory can hold.
 pub(crate) type Count = Option<usize>;
 
 /// The bytes after a prefix.

@@ -22,7 +22,7 @@ pub(crate) enum Outcome {
     Records,
 }
 
-/// The outcome that a fault is, if it is not for want of memory.
+/// The outcome that a fault is, if memory has not run out.
 fn refused(fault: ExportFault) -> Option<Outcome>
     ensures { option_map outcome_of result ≡ refused_outcome fault }
 {

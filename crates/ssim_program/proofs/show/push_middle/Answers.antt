@@ -1,4 +1,4 @@
--- The middle columns stand one after another in a leg's bytes.
+-- The middle columns are one after another in a leg's bytes.
 use Rattle.std.proofs.Common.{◌≡◌, ℕ, List, ◌++◌, ◌∷◌, OnOk, subst}
 use Rattle.ssim_records.proofs.OwnColumns.{own_middle}
 use Rattle.ssim_program.specs.Shown.{dotted}

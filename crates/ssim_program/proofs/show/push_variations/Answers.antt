@@ -1,4 +1,4 @@
--- The last columns stand one after another in a leg's bytes.
+-- The last columns are one after another in a leg's bytes.
 use Rattle.std.proofs.Common.{◌≡◌, ℕ, List, ◌++◌, ◌∷◌, OnOk, subst, lit≤}
 use Rattle.ssim_records.proofs.OwnColumns.{own_tail}
 use Rattle.ssim_program.specs.Shown.{dotted}

@@ -1,4 +1,4 @@
--- Fields that were read stand in the table.
+-- The fields that were read are those of the table.
 use Rattle.std.proofs.Common.{sym}
 use Rattle.std.specs.Prelude.{IsTrue}
 use Rattle.std.specs.List.{list_all}
