@@ -26,8 +26,8 @@ truncate -s 268435457 too_long.ssim
 
 passed=0 failed=0
 
-# expect NAME STATUS OUT ERR WORDS..: runs the program on the words. OUT and ERR are texts, @FILE, or @ for any text. `input`
-# is the file for standard input, `to` that for standard output.
+# expect NAME STATUS OUT ERR WORDS..: runs the program on the words. OUT and ERR are texts, @FILE, ~PART, or @ for any text.
+# `input` is the file for standard input, `to` that for standard output.
 expect() {
     local name=$1 status=$2 out=$3 err=$4
     shift 4
@@ -53,10 +53,12 @@ expect_file() {
     fi
 }
 
-# same FILE TEXT: whether the file has exactly the text, or the bytes of the file that @FILE names, or any bytes.
+# same FILE TEXT: whether the file has exactly the text, or the bytes of the file that @FILE names, or the text after ~ as a part,
+# or any bytes.
 same() {
     case $2 in
         @) [ -s "$1" ] ;;
+        "~"*) grep -qF -- "${2#"~"}" "$1" ;;
         @*) cmp -s "$1" "${2#@}" ;;
         *) printf %s "$2" | cmp -s "$1" - ;;
     esac
@@ -165,6 +167,8 @@ expect "an invalid file is explained" 0 "$broken" "" explain broken.ssim
 expect "a number that no refusal has" 0 $'no refusal has the number 99\n' "" explain 99
 expect "a valid file is explained" 0 $'valid data set\n' "" explain divided.ssim
 input=divided.ssim expect "standard input is explained" 0 $'valid data set\n' "" explain -
+printf '\n\r\nZRH 30MAR25 25OCT25 +0200\n' > rows
+expect "empty lines do not tell the kind" 0 $'valid station table\n' "" explain rows
 expect "a missing file is not explained" 1 "" $'refused 91 File missing.ssim\n' explain missing.ssim
 to=/dev/full expect "an explanation cannot be written" 1 "" $'refused 52 WriteFault\n' explain 12
 
@@ -176,6 +180,14 @@ for name in check tidy start take merge show findings export rehearse explain; d
     expect "help of $name" 0 @ "" "$name" --help
     expect "$name without its words" 2 "" @ "$name"
 done
+expect "help" 0 "~Usage: ssimdesk <COMMAND>" "" --help
+expect "help of a command by its name" 0 "~Usage: ssimdesk tidy <DATASET>" "" help tidy
+expect "short help" 0 "~Usage: ssimdesk check <DATASET>" "" check -h
+expect "no words" 2 "" "~requires a subcommand"
+expect "a file is not named" 2 "" "~required arguments were not provided" tidy
+expect "a word too many" 2 "" "~unexpected argument 'b' found" tidy a b
+expect "an unknown option" 2 "" "~unexpected argument '-x' found" tidy -x
+expect "an unknown command with words" 2 "" "~unrecognized subcommand 'fly'" fly a b c
 
 echo "$passed passed, $failed failed"
 [ $failed -eq 0 ]

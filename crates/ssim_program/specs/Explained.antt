@@ -1,6 +1,8 @@
 -- What `explain` prints: of a number the line of a refusal that has it, of a file the line of its refusal, and then words on it.
-use Rattle.std.specs.Prelude.{◌≡◌, ◌⊎◌, ℕ, ◌==◌, Bool, true, List, [], ◌∷◌, ◌++◌, length, Option, Some, None, Ok, Err, if◌then◌else◌, codes}
+use Rattle.std.specs.Prelude.{◌≡◌, ◌⊎◌, ℕ, ◌==◌, Bool, true, List, [], ◌∷◌, ◌++◌, length, drop, Option, Some, None, Ok, Err, if◌then◌else◌, codes}
+use Rattle.std.specs.Char.{is_ascii_whitespace}
 use Rattle.std.specs.Fmt.{decimal}
+use Rattle.std.specs.List.{prefix_len}
 use Rattle.std.specs.Str.{bytes_eq}
 use Rattle.ssim_values.specs.Characters.{is_digit, two_digits_of}
 use Rattle.ssim_records.specs.declared.record.Record.{Record}
@@ -60,7 +62,7 @@ abbrev pub begins_message : List ℕ → Bool
 begins_message [] = true
 begins_message (b ∷ rest) = if b == 46 then true else bytes_eq (behind (b ∷ rest)) []
 
--- the kind of a file by its first line
+-- the kind of a file by its first line that is not empty
 abbrev pub kind_of_line : List ℕ → FileKind
 kind_of_line first =
     if bytes_eq (word first) (codes "SSIMDESK") then kind.Desk
@@ -68,8 +70,12 @@ kind_of_line first =
     else (if begins_message first then kind.Message
     else kind.Stations))
 
+abbrev pub kind_of_text : List ℕ → FileKind
+kind_of_text bytes = if begins_data_set bytes then kind.DataSet else kind_of_line (without_end (before 10 bytes))
+
+-- empty lines at the beginning say nothing of the kind
 abbrev pub kind_of : List ℕ → FileKind
-kind_of bytes = if begins_data_set bytes then kind.DataSet else kind_of_line (without_end (before 10 bytes))
+kind_of bytes = kind_of_text (drop (prefix_len is_ascii_whitespace bytes) bytes)
 
 -- ---- what is said of it
 

@@ -2,7 +2,7 @@
 
 ghost use Rattle.std.specs.Prelude.{◌≡◌};
 ghost use Rattle.std.specs.Str.{bytes_eq};
-ghost use Rattle.ssim_program.specs.Explained.{begins_data_set, begins_message, kind_of, kind_of_line};
+ghost use Rattle.ssim_program.specs.Explained.{begins_data_set, begins_message, kind_of, kind_of_line, kind_of_text};
 
 use ssim_text::{cut, first_word, without_end};
 
@@ -21,9 +21,16 @@ pub enum FileKind {
     Stations,
 }
 
-/// The kind of file that bytes are taken for.
+/// The kind of file that bytes are taken for. Empty lines at the beginning are left out.
 pub(crate) fn kind_of(bytes: &[u8]) -> FileKind
     ensures { result ≡ kind_of bytes.now }
+{
+    kind_of_text(bytes.trim_ascii_start())
+}
+
+/// The kind of file by its first line.
+fn kind_of_text(bytes: &[u8]) -> FileKind
+    ensures { result ≡ kind_of_text bytes.now }
 {
     if begins_data_set(bytes) {
         return FileKind::DataSet;
