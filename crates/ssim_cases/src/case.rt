@@ -1,9 +1,10 @@
 //! The state of a case.
 
 use crate::desks::{Desks, add_cancels};
+use crate::devices::{FullWriter, NoStore};
+use crate::memory_store::MemoryStore;
 use crate::shown::{add_shown, bad, number, show};
 use ssim_program::{Store, StoreFault, run};
-use ssim_vectors::{FullWriter, MemoryStore, NoStore};
 use std::alloc::{AllocError, Global};
 use std::io;
 use std::io::Write;

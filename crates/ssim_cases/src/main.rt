@@ -30,6 +30,8 @@
 
 mod case;
 mod desks;
+mod devices;
+mod memory_store;
 mod shown;
 
 use case::Case;

@@ -24,12 +24,8 @@ mod cover;
 mod numbers;
 mod patches;
 mod periods;
-#[cfg(test)]
-mod plain_tests;
 mod rows;
 mod shared;
-#[cfg(test)]
-mod tests;
 mod value;
 
 pub use periods::Periods;

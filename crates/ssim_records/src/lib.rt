@@ -47,8 +47,6 @@ mod records;
 mod segment;
 mod segment_tail;
 mod stream;
-#[cfg(test)]
-mod tests;
 mod time_mode;
 mod trailer;
 mod window;

@@ -30,12 +30,8 @@ mod lines;
 mod message;
 mod originator;
 mod reference;
-#[cfg(test)]
-mod replaced_tests;
 mod segment;
 mod state;
-#[cfg(test)]
-mod tests;
 
 pub use action::{Action, NewLegs, Sub};
 pub use bytes::{cut, first_word};

@@ -1,7 +1,7 @@
 //! Messages resolved against bases: years, open ends, and the refusals in their order.
 
-use crate::data::CARRIER;
-use crate::schedule_tests::data::{lines, read, with};
+use crate::data::{CARRIER, with};
+use crate::schedules::data_sets::{lines, read};
 use ssim_schedule::{Base, ResolveFault, ResolvedText, resolve};
 use ssim_text::{Message, decode};
 use ssim_values::Period;

@@ -1,7 +1,6 @@
 //! Texts with one byte replaced: each is a message that its canonical text spells again, or is refused at the first line that
 //! cannot stand.
-use crate::bytes::front;
-use crate::{decode, encode};
+use ssim_text::{decode, encode};
 use std::alloc::Global;
 use std::test::Fail;
 
@@ -18,6 +17,11 @@ const DROPPED_REST: &[u8] =
 
 const SEGMENTS: &[u8] =
     b"SSM\nUTC\n01JUN00010E001\nNEW\nLX700\n01JUL25 01JUL25 2\nJ 320 CY\nZRH0545 LHR0700\nLHR0800 ZRH1045\nZRHLHR 99/VIA TERMINAL 2\nLHRZRH 10/LX\nZRHZRH 109/M\n";
+
+/// The first bytes of a text, at most `count`, and the others.
+fn front(text: &[u8], count: usize) -> (&[u8], &[u8]) {
+    text.split_at(count.min(text.len()))
+}
 
 /// How many bytes the lines before the one with this number take, each with its LF.
 fn start_of_line(text: &[u8], number: usize) -> usize {

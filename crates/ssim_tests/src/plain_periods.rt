@@ -1,8 +1,8 @@
 //! Random periods against a plain list of days, with covers computed on it day by day as they are defined.
 ghost use Rattle.std.specs.Prelude.{◌<◌};
 
-use crate::tests::{Number, change_to, value_on};
-use crate::{Memory, Periods};
+use crate::periods::{Number, change_to, value_on};
+use ssim_periods::{Memory, Periods};
 use ssim_values::{Day, DayMask, Period};
 use std::alloc::Global;
 use std::test::Fail;

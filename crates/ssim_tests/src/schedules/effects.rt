@@ -1,7 +1,7 @@
 //! What sub-messages make of a schedule, where the cases in plain text do not show it: findings, and exports as the format has them.
 
-use crate::data::{CARRIER, LEG};
-use crate::schedule_tests::data::{export_of, lines, with};
+use crate::data::{CARRIER, LEG, with};
+use crate::schedules::data_sets::{export_of, lines};
 use ssim_records::Bytes;
 use ssim_schedule::{Base, Finding, Schedule, Stations, resolve};
 use ssim_text::decode;

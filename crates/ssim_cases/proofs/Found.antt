@@ -3,7 +3,7 @@ use Rattle.std.proofs.Common.{◌≡◌, ℕ, Bool, cond, true, false, refl, Lis
 use Rattle.std.specs.List.{find}
 use Rattle.std.specs.Str.{bytes_eq}
 use Rattle.ssim_program.specs.Files.{file_of}
-use Rattle.ssim_vectors.specs.Held.{files_of}
+use Rattle.ssim_cases.specs.Held.{files_of}
 
 module _ {A B : Type 0} where
   pub found_file : (xs : List (String A × Vec ℕ B)) (name : List ℕ) → file_of (files_of xs) name ≡ option_map (λ f. f.1.items) (find (λ f. bytes_eq (string_bytes f.0) name) xs)

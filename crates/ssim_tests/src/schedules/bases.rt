@@ -2,10 +2,11 @@
 
 ghost use Rattle.std.specs.Prelude.{◌≤◌, None};
 
-use crate::data::{CARRIER, LEG, TRAILER};
-use crate::schedule_tests::data::{
-    export_base, export_of, exported, in_pieces, lines, no_stations, numbered, place, push_line,
-    read, refusal, six, with,
+use crate::data::{CARRIER, LEG, TRAILER, with};
+use crate::pieces::in_pieces;
+use crate::schedules::data_sets::{
+    export_base, export_of, exported, lines, no_stations, numbered, place, push_line, read,
+    refusal, six,
 };
 use ssim_records::{Bytes, DeviceFault, Sink};
 use ssim_schedule::{Base, ExportFault, Schedule, Stations};

@@ -1,23 +1,11 @@
 //! Data sets for tests, and how they are read and exported.
 
-ghost use Rattle.std.specs.Prelude.{None};
-
-use crate::data::{CARRIER, FILL, HEADER, LEG, TRAILER};
-use ssim_records::{Bytes, DeviceFault, Source};
+use crate::data::{CARRIER, FILL, HEADER, LEG, TRAILER, with};
+use crate::pieces::in_pieces;
+use ssim_records::Bytes;
 use ssim_schedule::{Base, BaseFault, BaseRead, Schedule, Stations};
 use std::alloc::Global;
 use std::test::Fail;
-
-/// A record with other bytes from a column on.
-pub(crate) fn with(line: &[u8; 200], column: usize, other: &[u8]) -> [u8; 200] {
-    let mut changed = *line;
-    for (place, byte) in other.iter().enumerate() {
-        if 0 < column && column <= 200 && place <= 200 - column {
-            changed[column - 1 + place] = *byte;
-        }
-    }
-    changed
-}
 
 /// Six digits.
 pub(crate) fn six(number: u32) -> [u8; 6] {
@@ -90,50 +78,6 @@ pub(crate) fn export_of(
     push_line(&mut bytes, &numbered(TRAILER, serial))?;
     bytes.extend_from_slice(&lines(alloc, b"0000", &[])?)?;
     Ok(bytes)
-}
-
-/// A reader of at most so many bytes at a time, which fails at one of its calls.
-#[derive(Drop)]
-pub(crate) struct Pieces<'a> {
-    pub(crate) bytes: &'a [u8],
-    pub(crate) piece: usize,
-    pub(crate) came: u128,
-    pub(crate) calls: u64,
-    pub(crate) fails_at: u64,
-    pub(crate) failures: u64,
-}
-
-impl<'a> Source for Pieces<'a> {
-    ghost left = { λ _. None };
-
-    ghost came = { λ s. s.came };
-
-    ghost failures = { λ s. s.failures };
-
-    fn fetch(&mut self, into: &mut [u8]) -> Result<usize, DeviceFault> {
-        self.calls = self.calls.wrapping_add(1);
-        if self.calls == self.fails_at {
-            self.failures = self.failures.wrapping_add(1);
-            return Err(DeviceFault::Failed);
-        }
-        let n = self.bytes.len().min(into.len()).min(self.piece);
-        let (front, rest) = self.bytes.split_at(n);
-        into[..n].copy_from_slice(front);
-        self.bytes = rest;
-        self.came = self.came.wrapping_add(n as u128);
-        Ok(n)
-    }
-}
-
-pub(crate) fn in_pieces(bytes: &[u8], piece: usize, fails_at: u64) -> Pieces<'_> {
-    Pieces {
-        bytes,
-        piece,
-        came: 0,
-        calls: 0,
-        fails_at,
-        failures: 0,
-    }
 }
 
 pub(crate) fn no_stations(alloc: Global) -> Result<Stations, Fail> {

@@ -79,11 +79,13 @@ fn check_leg(rt: &impl Abort, leg: &LegRecord) {
     assert_eq!(rt; leg.last().map(|day| day.number()), Some(9429));
     assert_eq!(rt; leg.days().write(), *b"1234567");
     assert_eq!(rt; leg.flight().number(), 544);
-    check_columns(rt, &leg.columns());
+    let columns = leg.columns();
+    check_departure(rt, &columns);
+    check_arrival(rt, &columns);
+    check_equipment(rt, &columns);
 }
 
-fn check_columns(rt: &impl Abort, columns: &LegColumns) {
-    assert_eq!(rt; columns.service_type(), b'J');
+fn check_departure(rt: &impl Abort, columns: &LegColumns) {
     assert_eq!(rt; columns.departure_station().write(), *b"ZRH");
     let time = columns.passenger_departure_time().map(|time| time.write());
     assert_eq!(rt; time, Some(*b"0540"));
@@ -91,6 +93,9 @@ fn check_columns(rt: &impl Abort, columns: &LegColumns) {
     let variation = columns.departure_variation().map(|shift| shift.write());
     assert_eq!(rt; variation, Some(*b"+0200"));
     assert_eq!(rt; columns.departure_terminal(), *b"AB");
+}
+
+fn check_arrival(rt: &impl Abort, columns: &LegColumns) {
     assert_eq!(rt; columns.arrival_station().write(), *b"LHR");
     assert_eq!(rt; columns.aircraft_arrival_time().write(), *b"0700");
     let time = columns.passenger_arrival_time().map(|time| time.write());
@@ -98,6 +103,10 @@ fn check_columns(rt: &impl Abort, columns: &LegColumns) {
     let variation = columns.arrival_variation().map(|shift| shift.write());
     assert_eq!(rt; variation, Some(*b"+0100"));
     assert_eq!(rt; columns.arrival_terminal(), *b"CD");
+}
+
+fn check_equipment(rt: &impl Abort, columns: &LegColumns) {
+    assert_eq!(rt; columns.service_type(), b'J');
     assert_eq!(rt; columns.aircraft_type(), *b"320");
     assert_eq!(rt; columns.booking_designators(), *b"CY                  ");
     assert_eq!(rt; columns.configuration(), *b"C12Y138             ");

@@ -1,5 +1,6 @@
 //! The worked rows of texts: what their canonical texts are, and why others are refused.
-use crate::{Action, Message, Reference, decode, encode, leg_pair};
+use crate::displayed::is_displayed;
+use ssim_text::{Action, Message, Reference, decode, encode, leg_pair};
 use ssim_values::{Day, Station};
 use std::alloc::Global;
 use std::test::Fail;
@@ -136,40 +137,38 @@ fn canonical_texts(rt: HostRuntime) -> Result<(), Fail> {
     Ok(())
 }
 
-fn push_times(text: &mut Vec<u8>, count: usize, line: &[u8]) -> Result<(), Fail> {
+/// The refusal of a text to which a line is added so many times.
+fn refusal_with(
+    alloc: Global,
+    text: &[u8],
+    count: usize,
+    line: &[u8],
+) -> Result<Option<(u8, usize)>, Fail> {
+    let mut longer = Vec::from_slice(alloc, text)?;
     for _ in 0..count {
-        text.extend_from_slice(line)?;
+        longer.extend_from_slice(line)?;
     }
-    Ok(())
+    Ok(refusal(alloc, &longer))
 }
 
 #[test]
 fn limits(rt: HostRuntime) -> Result<(), Fail> {
-    for (count, answer) in [(20, None), (21, Some((28, 27)))] {
-        let mut text = Vec::from_slice(
-            rt.alloc(),
-            b"SSM\nUTC\n01JUN00001E001\nTIM\nLX544\n01JUL25 07JUL25 2\n",
-        )?;
-        push_times(&mut text, count, b"ZRH0600 LHR0715\n")?;
-        assert_eq!(rt; refusal(rt.alloc(), &text), answer);
-    }
-    for (count, answer) in [(99, None), (100, Some((28, 109)))] {
-        let mut text = Vec::from_slice(
-            rt.alloc(),
-            b"SSM\nUTC\n01JUN00001E001\nNEW\nLX544\n01JUL25 07JUL25 2\nJ 320\nZRH0545 LHR0700\nLHR0800 ZRH1045\n",
-        )?;
-        push_times(&mut text, count, b"ZRHLHR 99/X\n")?;
-        assert_eq!(rt; refusal(rt.alloc(), &text), answer);
-    }
-    for (count, answer) in [(249, None), (250, Some((28, 1004)))] {
-        let mut text = Vec::from_slice(rt.alloc(), X2)?;
-        push_times(&mut text, count, b"//\nCNL\nLX544\n01JUL25 07JUL25 2\n")?;
-        assert_eq!(rt; refusal(rt.alloc(), &text), answer);
-    }
-    for (count, answer) in [(65_485, None), (65_486, Some((28, 1)))] {
-        let mut text = Vec::from_slice(rt.alloc(), X2)?;
-        push_times(&mut text, count, b"\n")?;
-        assert_eq!(rt; refusal(rt.alloc(), &text), answer);
+    // a text, the lines that are added to it, how many may be, and the line of the refusal of one more
+    let legs: &[u8] = b"SSM\nUTC\n01JUN00001E001\nTIM\nLX544\n01JUL25 07JUL25 2\n";
+    let segments: &[u8] =
+        b"SSM\nUTC\n01JUN00001E001\nNEW\nLX544\n01JUL25 07JUL25 2\nJ 320\nZRH0545 LHR0700\nLHR0800 ZRH1045\n";
+    let cases: [(&[u8], &[u8], usize, usize); 4] = [
+        (legs, b"ZRH0600 LHR0715\n", 20, 27),
+        (segments, b"ZRHLHR 99/X\n", 99, 109),
+        (X2, b"//\nCNL\nLX544\n01JUL25 07JUL25 2\n", 249, 1004),
+        (X2, b"\n", 65_485, 1),
+    ];
+    for (text, line, most, refused) in cases {
+        assert_eq!(rt; refusal_with(rt.alloc(), text, most, line)?, None);
+        assert_eq!(rt;
+            refusal_with(rt.alloc(), text, most.wrapping_add(1), line)?,
+            Some((28, refused))
+        );
     }
     Ok(())
 }
@@ -416,30 +415,42 @@ fn references_in_order(rt: HostRuntime) -> Result<(), Fail> {
     Ok(())
 }
 
+/// Whether the reference of a text, with this date, is displayed so.
+fn reference_is_displayed(
+    alloc: Global,
+    text: &[u8],
+    date: &[u8; 7],
+    displayed: &str,
+) -> Result<bool, Fail> {
+    let message = decode(alloc, text)?;
+    let one = reference(&message, Day::parse(date)?);
+    Ok(is_displayed(alloc, &one, displayed))
+}
+
+/// Whether the action of the first sub-message is displayed so.
+fn action_is_displayed(alloc: Global, text: &[u8], displayed: &str) -> Result<bool, Fail> {
+    let message = decode(alloc, text)?;
+    match message.subs() {
+        [sub] => Ok(is_displayed(alloc, &sub.action.identifier(), displayed)),
+        _ => Ok(false),
+    }
+}
+
+fn fault_is_displayed(alloc: Global, text: &[u8], displayed: &str) -> bool {
+    match decode(alloc, text) {
+        Ok(_) => false,
+        Err(fault) => is_displayed(alloc, &fault, displayed),
+    }
+}
+
 #[test]
 fn displayed_texts(rt: HostRuntime) -> Result<(), Fail> {
-    let message = decode(rt.alloc(), X2)?;
-    let one = reference(&message, Day::parse(b"01JUN25")?);
-    assert_eq!(rt;
-        format!(in rt.alloc(); "{one}")?.as_str(),
-        "SSM 01JUN25 00001 001"
-    );
+    let alloc = rt.alloc();
+    assert!(rt; reference_is_displayed(alloc, X2, b"01JUN25", "SSM 01JUN25 00001 001")?);
     let named = b".ZRHRMLX\nASM\n23MAY00144E003\nTIM\nLX1/01JUL25\nZRH0000 LHR0000\n";
-    let message = decode(rt.alloc(), named)?;
-    let one = reference(&message, Day::parse(b"23MAY25")?);
-    assert_eq!(rt;
-        format!(in rt.alloc(); "{one}")?.as_str(),
-        "ASM 23MAY25 00144 003 ZRHRMLX"
-    );
-    for sub in message.subs() {
-        let action = sub.action.identifier();
-        assert_eq!(rt; format!(in rt.alloc(); "{action}")?.as_str(), "TIM");
-    }
-    if let Err(fault) = decode(rt.alloc(), b"SSM\nUTC\n01JUN00001E001\nCNL NEW\n") {
-        assert_eq!(rt;
-            format!(in rt.alloc(); "{fault}")?.as_str(),
-            "BadAction line 4"
-        );
-    }
+    assert!(rt; reference_is_displayed(alloc, named, b"23MAY25", "ASM 23MAY25 00144 003 ZRHRMLX")?);
+    assert!(rt; action_is_displayed(alloc, named, "TIM")?);
+    let two_actions = b"SSM\nUTC\n01JUN00001E001\nCNL NEW\n";
+    assert!(rt; fault_is_displayed(alloc, two_actions, "BadAction line 4"));
     Ok(())
 }

@@ -1,7 +1,7 @@
 ghost use Rattle.std.specs.Prelude.{◌≡◌, ℕ, ◌%◌, nat_eq};
 ghost use Rattle.std.proofs.Common.{eqb-true, eq-eqb};
 
-use crate::{Change, Memory, Periods, Value};
+use ssim_periods::{Change, Memory, Periods, Value};
 use ssim_values::{Day, DayMask, Fault, Period};
 use std::alloc::Global;
 use std::cell::Cell;
