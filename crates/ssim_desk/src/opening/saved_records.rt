@@ -18,11 +18,11 @@ use std::alloc::Global;
 pub(crate) const RECORD_LINE: usize = 201;
 
 /// The bytes after a record as it is written, and its LF.
-fn after_record<'a>(record: &Record, bytes: &'a [u8]) -> Option<&'a [u8]>
-    ensures some { IfSome result (λ rest. bytes.now ≡ record_line record.now ++ rest.now) }
-    ensures only { (rest : List ℕ) → bytes.now ≡ record_line record.now ++ rest → IsSomeAnd result (λ found. found.now ≡ rest) }
+fn after_record<'a>(one: &Record, bytes: &'a [u8]) -> Option<&'a [u8]>
+    ensures some { IfSome result (λ rest. bytes.now ≡ record_line one.now ++ rest.now) }
+    ensures only { (rest : List ℕ) → bytes.now ≡ record_line one.now ++ rest → IsSomeAnd result (λ found. found.now ≡ rest) }
 {
-    let written = write_record(record);
+    let written = write_record(one);
     after_prefix(b"\n", after_prefix(&written, bytes)?)
 }
 
