@@ -1,5 +1,5 @@
 -- One more record before those that are kept: which dates its leg uses, which names there are, and that it stands.
-use Rattle.std.proofs.Common.{◌≡◌, ℕ, zero, suc, ◌+◌, ◌*◌, ◌<◌, Bool, true, false, ◌&&◌, ◌||◌, nat_eq, nat_lt, if◌then◌else◌, List, [], ◌∷◌, ◌++◌, map, Some, None, unwrap_or, refl, sym, ap, subst, ◌∙◌, arith}
+use Rattle.std.proofs.Common.{◌≡◌, ℕ, ◌+◌, ◌*◌, ◌<◌, Bool, true, false, ◌&&◌, ◌||◌, nat_eq, nat_lt, if◌then◌else◌, List, [], ◌∷◌, ◌++◌, Some, None, unwrap_or, refl, sym, ap, subst, ◌∙◌, arith}
 use Rattle.std.proofs.lemmas.Bool.Decides.{nat_tests}
 use Rattle.std.proofs.lemmas.List.{reverse-append}
 use Rattle.std.specs.BTreeSet.{contains}
@@ -10,7 +10,7 @@ use Rattle.ssim_values.specs.Flight.{FlightNumber, IsFlight}
 use Rattle.ssim_values.specs.Period.{DayRange}
 use Rattle.ssim_periods.specs.Calendar.{day_count, holds}
 use Rattle.ssim_periods.specs.Days.{changed_on, count_on, each_day}
-use Rattle.ssim_periods.proofs.DayLemmas.{changed_on-each_day, each_day-same}
+use Rattle.ssim_periods.proofs.DayLemmas.{each_day-same}
 use Rattle.ssim_records.specs.Carrier.{CarrierFields}
 use Rattle.ssim_records.specs.Leg.{LegFields, Name}
 use Rattle.ssim_records.specs.Segment.{SegmentFields}
@@ -22,70 +22,23 @@ use Rattle.ssim_schedule.specs.Base as base
 use Rattle.ssim_schedule.specs.Building.{IsPlaced, name_place}
 use Rattle.ssim_schedule.specs.Kept.{AreNames, AreTaken, Follows, IsKept, IsPlace, LegStands, Stood, gives}
 use Rattle.ssim_schedule.specs.ReadBack.{place_of}
-use Rattle.ssim_schedule.specs.Taken.{class_of_use, sequence_place, use_if, used_at}
+use Rattle.ssim_schedule.specs.Taken.{Used, class_of_use, sequence_place, use_if, used_at}
 use Rattle.ssim_schedule.specs.Timetable.{period_of, same_flight, same_name}
 use Rattle.ssim_schedule.specs.declared.kept.Heading.{Heading}
 use Rattle.ssim_schedule.specs.declared.kept.Kept.{Kept}
 use Rattle.ssim_schedule.specs.declared.kept.Place.TheVariants as place
 use Rattle.ssim_schedule.specs.declared.leg_names.LegNames.{LegNames}
-use Rattle.ssim_schedule.specs.declared.taken.DateUse.TheVariants.{Used}
 use Rattle.ssim_schedule.specs.declared.taken.Taken.{Taken}
 use Rattle.ssim_schedule.specs.declared.fault.BaseRefusal.TheVariants as refused
 use Rattle.ssim_schedule.proofs.BuildingLemmas.{same_flight-place, same_name-place}
+use Rattle.ssim_schedule.proofs.TakenLemmas.{any-none, any-or, any-used, use-all}
 
 -- ---- dates
-
-use-all : (p : DayRange) (f : ℕ → Bool) → changed_on (holds p) (λ _. Used) 0 (each_day (λ n. use_if (f n))) ≡ each_day (λ n. use_if (holds p n || f n))
-use-all p f =
-    changed_on-each_day (holds p) (λ _. Used) (λ n. use_if (f n))
-    ∙ each_day-same (λ n. if holds p n then Used else use_if (f n)) (λ n. use_if (holds p n || f n)) (λ n l. by (holds p n) (f n))
-  where
-    by : (b x : Bool) → (if b then Used else use_if x) ≡ use_if (b || x)
-    by true x = refl
-    by false x = refl
 
 use-one : (b : Bool) (p : DayRange) (f : ℕ → Bool)
     → (if b then changed_on (holds p) (λ _. Used) 0 (each_day (λ n. use_if (f n))) else each_day (λ n. use_if (f n))) ≡ each_day (λ n. use_if ((b && holds p n) || f n))
 use-one true p f = use-all p f
 use-one false p f = refl
-
--- a date of the period is used exactly where the count of used dates is not 0
-any-used : (s f : ℕ → Bool) (n k : ℕ) → nat_lt 0 (count_on s class_of_use 1 n (map (λ d. use_if (f d)) (range_with_len n k))) ≡ list_any (λ d. s d && f d) (range_with_len n k)
-any-used s f n zero = refl
-any-used s f n (suc k) =
-    by (s n) (f n) (count_on s class_of_use 1 (n + 1) (map (λ d. use_if (f d)) (range_with_len (n + 1) k))) (list_any (λ d. s d && f d) (range_with_len (n + 1) k)) (any-used s f (n + 1) k)
-  where
-    by : (x y : Bool) (c : ℕ) (m : Bool) → nat_lt 0 c ≡ m → nat_lt 0 ((if x && nat_eq (class_of_use (use_if y)) 1 then 1 else 0) + c) ≡ ((x && y) || m)
-    by true true c m h = grind (arith, nat_tests)
-    by true false c m h = let same : 0 + c ≡ c = omega arith in ap (nat_lt 0) same ∙ h
-    by false true c m h = let same : 0 + c ≡ c = omega arith in ap (nat_lt 0) same ∙ h
-    by false false c m h = let same : 0 + c ≡ c = omega arith in ap (nat_lt 0) same ∙ h
-
-any-or : (a b c : ℕ → Bool) (s : Bool) (xs : List ℕ) → list_any (λ n. a n && ((s && b n) || c n)) xs ≡ ((s && list_any (λ n. a n && b n) xs) || list_any (λ n. a n && c n) xs)
-any-or a b c true [] = refl
-any-or a b c false [] = refl
-any-or a b c s (x ∷ xs) = ap (λ r. (a x && ((s && b x) || c x)) || r) (any-or a b c s xs) ∙ by (a x) (b x) (c x) s (list_any (λ n. a n && b n) xs) (list_any (λ n. a n && c n) xs)
-  where
-    by : (a b c s m r : Bool) → ((a && ((s && b) || c)) || ((s && m) || r)) ≡ ((s && ((a && b) || m)) || ((a && c) || r))
-    by true true true true m r = refl
-    by true true true false m r = refl
-    by true true false true m r = refl
-    by true true false false m r = refl
-    by true false true true true r = refl
-    by true false true true false r = refl
-    by true false true false m r = refl
-    by true false false true m r = refl
-    by true false false false m r = refl
-    by false b c true m r = refl
-    by false b c false m r = refl
-
-any-none : (a : ℕ → Bool) (xs : List ℕ) → list_any (λ n. a n && false) xs ≡ false
-any-none a [] = refl
-any-none a (x ∷ xs) = by (a x) (any-none a xs)
-  where
-    by : (b : Bool) → list_any (λ n. a n && false) xs ≡ false → ((b && false) || list_any (λ n. a n && false) xs) ≡ false
-    by true h = h
-    by false h = h
 
 -- a leg record overlaps one of those before it exactly where they give one of its dates
 meets : (name : Name) (p : DayRange) (earlier : List Record)

@@ -23,6 +23,7 @@ pub mod BlockLemmas
 pub mod Valid
 pub mod SinkLemmas
 pub mod Whole
+pub mod TakenLemmas
 pub mod KeptLemmas
 pub mod ReadingBack
 pub mod ReadingLemmas

@@ -13,6 +13,7 @@ pub mod Waiting
 pub mod Built
 pub mod Sinks
 pub mod Plan
+pub mod Dates
 pub mod Taken
 pub mod Kept
 pub mod Gathering

@@ -21,6 +21,7 @@ mod applying;
 mod base;
 mod building;
 mod columns;
+mod day_set;
 mod divided;
 mod export;
 mod fault;
@@ -47,6 +48,7 @@ mod shared_periods;
 mod shared_table;
 mod stations;
 mod taken;
+mod used_dates;
 mod waiting;
 
 pub use base::{Base, BaseRead};

@@ -8,8 +8,7 @@ use Rattle.ssim_periods.specs.Days.{changed_on, count_on}
 use Rattle.ssim_records.specs.Leg.{LegFields, Name}
 use Rattle.ssim_records.specs.declared.record.Record.TheVariants.{Leg}
 use Rattle.ssim_schedule.specs.Building.{IsPlaced, name_place}
-use Rattle.ssim_schedule.specs.Taken.{class_of_use, sequence_place, used_at}
-use Rattle.ssim_schedule.specs.declared.taken.DateUse.TheVariants.{Used}
+use Rattle.ssim_schedule.specs.Taken.{Used, class_of_use, sequence_place, used_at}
 use Rattle.ssim_schedule.proofs.KeptLemmas.{kept_leg, leg-refused, stood-leg}
 use Rattle.ssim_schedule.proofs.kept.Kept.put_leg.Goals as goal
 

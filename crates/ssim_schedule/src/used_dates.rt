@@ -1,0 +1,92 @@
+//! The dates that the leg records of one flight and leg sequence have.
+
+ghost use Rattle.std.specs.Prelude.{◌≡◌, ℕ, ◌<◌, ◌≤◌, ◌||◌, false, vec_len, OnOk, IfOk};
+ghost use Rattle.std.specs.List.{list_any};
+ghost use Rattle.ssim_periods.specs.Calendar.{holds};
+ghost use Rattle.ssim_schedule.specs.Base.{meet};
+ghost use Rattle.ssim_schedule.specs.Dates.{has_date, have_common_date};
+ghost use Rattle.ssim_schedule.specs.Taken.{is_used};
+
+use crate::day_set::DaySet;
+use ssim_values::{Memory, Period};
+use std::alloc::Global;
+
+/// The most periods that are kept as a list. A flight rarely has as many itinerary variations, and a set of dates takes as much
+/// memory as 400 periods.
+const MOST: usize = 64;
+
+/// The dates that leg records have.
+#[derive(Drop)]
+pub(crate) enum UsedDates {
+    /// The periods of the records.
+    Few(Vec<Period>),
+    /// A bit for each date. However many records there are, no date is added twice before a data set is refused.
+    Many(DaySet),
+}
+
+impl UsedDates {
+    /// No date is used.
+    pub(crate) fn new(alloc: Global) -> UsedDates
+        ensures { (n : ℕ) → is_used result n ≡ false }
+    {
+        UsedDates::Few(Vec::new(alloc))
+    }
+
+    /// The dates of a period are used. Answers whether one of them was used before.
+    pub(crate) fn take(&mut self, alloc: Global, period: &Period) -> Result<bool, Memory>
+        ensures days { OnOk result ((n : ℕ) → is_used self.new n ≡ (holds period.now n || is_used self.old n)) }
+        ensures met { IfOk result (λ met. met ≡ have_common_date (holds period.now) (is_used self.old)) }
+    {
+        match self {
+            UsedDates::Many(set) => Ok(set.add_period(period)),
+            UsedDates::Few(periods) => {
+                if periods.len() < MOST {
+                    let met = any_meets(periods, period);
+                    periods.push(*period)?;
+                    Ok(met)
+                } else {
+                    let mut set = set_of(alloc, periods)?;
+                    let met = set.add_period(period);
+                    *self = UsedDates::Many(set);
+                    Ok(met)
+                }
+            }
+        }
+    }
+}
+
+// The dates of some periods.
+fn set_of(alloc: Global, periods: &[Period]) -> Result<DaySet, Memory>
+    ensures { IfOk result (λ set. (n : ℕ) → has_date set.words.items n ≡ list_any (λ p. holds p n) periods.now) }
+{
+    let mut set = DaySet::new(alloc)?;
+    for period in periods {
+        let _ = set.add_period(period);
+    }
+    Ok(set)
+}
+
+// Whether a period has a date in common with one of some periods.
+fn any_meets(periods: &[Period], period: &Period) -> bool
+    ensures { result ≡ list_any (λ earlier. meet period.now earlier) periods.now }
+{
+    periods.iter().any(|earlier| meets(period, earlier))
+}
+
+// Whether two periods have a date in common. The first seven days of what their ranges have in common have each weekday of the rest.
+fn meets(one: &Period, other: &Period) -> bool
+    ensures { result ≡ meet one.now other.now }
+{
+    let first = one.first().number().max(other.first().number()) as usize;
+    let last = one.last().number().min(other.last().number()) as usize;
+    let end = (last + 1).min(first + 7);
+    let days = one.mask().days();
+    let other_days = other.mask().days();
+    for day in first..end {
+        let weekday = (day + 5) % 7;
+        if days[weekday] && other_days[weekday] {
+            return true;
+        }
+    }
+    false
+}
