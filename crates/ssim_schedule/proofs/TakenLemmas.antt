@@ -1,5 +1,5 @@
 -- The dates that are used: as a list of one value a day, as periods, and as bits.
-use Rattle.std.proofs.Common.{◌≡◌, ◌≢◌, ℕ, zero, suc, ◌+◌, ◌*◌, ◌/◌, ◌%◌, ◌^◌, ◌<◌, ◌≤◌, bit_or, max, min, ◌-◌, slice_set, w64, Bool, true, false, ◌&&◌, ◌||◌, nat_eq, nat_le, nat_lt, if◌then◌else◌, List, [], ◌∷◌, map, Some, length, replicate, slice_index, slice_index_or, refl, sym, ap, ◌∙◌, arith}
+use Rattle.std.proofs.Common.{◌≡◌, ◌≢◌, ℕ, zero, suc, ◌+◌, ◌*◌, ◌/◌, ◌%◌, ◌^◌, ◌<◌, ◌≤◌, bit_or, max, min, slice_set, w64, Bool, true, false, ◌&&◌, ◌||◌, nat_eq, nat_le, nat_lt, if◌then◌else◌, List, [], ◌∷◌, map, Some, length, replicate, slice_index, slice_index_or, refl, sym, ap, ◌∙◌, arith}
 use Rattle.std.proofs.Math.Bool.{and-false, and-true}
 use Rattle.std.proofs.lemmas.Bool.Decides.{nat_tests}
 use Rattle.std.proofs.lemmas.List.{get_or-set_other, get_or-set_same}
@@ -286,38 +286,18 @@ inside true true false d x y h = and-false x
 inside true true true false x y h = and-false x
 inside true true true true x y h = h refl refl refl refl
 
--- seven days have each weekday
-same-slot : (first n : ℕ) → first ≤ n → slot (first + (n - first) % 7) ≡ slot n
-same-slot first n l = omega arith
-
--- two periods meet where they meet in the first seven days that both have
-pub meet-none : (p q : DayRange) (days other : List Bool) (first last end : ℕ) → days ≡ p.days → other ≡ q.days
-    → first ≡ max p.first q.first → last ≡ min p.last q.last → end ≡ min (last + 1) (first + 7)
-    → ((n : ℕ) → first ≤ n → n < end → (slice_index_or days (slot n) false && slice_index_or other (slot n) false) ≡ false) → meet p q ≡ false
-meet-none p q days other first last end own its f l e none = no-common-date (holds p) (holds q) (λ n within. day n)
+-- two periods do not meet where no weekday of both has a day in both ranges
+pub meet-none : (p q : DayRange) (days other : List Bool) (first last : ℕ) → days ≡ p.days → other ≡ q.days → first ≡ max p.first q.first → last ≡ min p.last q.last
+    → ((n : ℕ) → first ≤ n → n ≤ last → (slice_index_or days (slot n) false && slice_index_or other (slot n) false) ≡ false) → meet p q ≡ false
+meet-none p q days other first last own its f l none = no-common-date (holds p) (holds q) (λ n within. day n)
   where
-    both : ℕ → Bool
-    both n = slice_index_or p.days (slot n) false && slice_index_or q.days (slot n) false
-
     day : (n : ℕ) → (holds p n && holds q n) ≡ false
     day n = inside (nat_le p.first n) (nat_le n p.last) (nat_le q.first n) (nat_le n q.last) (slice_index_or p.days (slot n) false) (slice_index_or q.days (slot n) false) (λ a b c d.
         let from : first ≤ n = grind (arith, nat_tests) in
         let to : n ≤ last = grind (arith, nat_tests) in
-        let m = first + (n - first) % 7 in
-        let at : m < end = omega arith in
-        let same : slot m ≡ slot n = same-slot first n from in
-        ap (λ k. slice_index_or p.days k false && slice_index_or q.days k false) (sym same)
-        ∙ ap (λ ds. slice_index_or ds (slot m) false && slice_index_or q.days (slot m) false) (sym own)
-        ∙ ap (λ ds. slice_index_or days (slot m) false && slice_index_or ds (slot m) false) (sym its)
-        ∙ none m (omega arith) at)
-
--- what no day before the next one has
-pub below-next : (test : ℕ → Bool) (first day : ℕ) → ((n : ℕ) → first ≤ n → n < day → test n ≡ false) → test day ≡ false → (n : ℕ) → first ≤ n → n < day + 1 → test n ≡ false
-below-next test first day before here n from to = by (nat_eq n day) refl
-  where
-    by : (b : Bool) → nat_eq n day ≡ b → test n ≡ false
-    by true e = let same : n ≡ day = grind (arith, nat_tests) in ap test same ∙ here
-    by false e = let other : n ≢ day = grind (arith, nat_tests) in before n from (omega arith)
+        ap (λ ds. slice_index_or ds (slot n) false && slice_index_or q.days (slot n) false) (sym own)
+        ∙ ap (λ ds. slice_index_or days (slot n) false && slice_index_or ds (slot n) false) (sym its)
+        ∙ none n from to)
 
 pub or-flip : (x y : Bool) → (x || y) ≡ (y || x)
 or-flip true true = refl

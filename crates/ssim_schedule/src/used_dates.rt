@@ -2,7 +2,7 @@
 
 ghost use Rattle.std.specs.Prelude.{◌≡◌, ℕ, ◌<◌, ◌≤◌, ◌||◌, false, vec_len, OnOk, IfOk};
 ghost use Rattle.std.specs.List.{list_any};
-ghost use Rattle.ssim_periods.specs.Calendar.{holds};
+ghost use Rattle.ssim_periods.specs.Calendar.{holds, slot};
 ghost use Rattle.ssim_schedule.specs.Base.{meet};
 ghost use Rattle.ssim_schedule.specs.Dates.{has_date, have_common_date};
 ghost use Rattle.ssim_schedule.specs.Taken.{is_used};
@@ -73,20 +73,32 @@ fn any_meets(periods: &[Period], period: &Period) -> bool
     periods.iter().any(|earlier| meets(period, earlier))
 }
 
-// Whether two periods have a date in common. The first seven days of what their ranges have in common have each weekday of the rest.
+// Whether two periods have a date in common.
 fn meets(one: &Period, other: &Period) -> bool
     ensures { result ≡ meet one.now other.now }
 {
     let first = one.first().number().max(other.first().number()) as usize;
     let last = one.last().number().min(other.last().number()) as usize;
-    let end = (last + 1).min(first + 7);
+    if last < first {
+        return false;
+    }
     let days = one.mask().days();
     let other_days = other.mask().days();
-    for day in first..end {
-        let weekday = (day + 5) % 7;
-        if days[weekday] && other_days[weekday] {
+    for weekday in 0..7 {
+        if days[weekday] && other_days[weekday] && next_on(weekday, first) <= last {
             return true;
         }
     }
     false
+}
+
+// The least day that is not before `from` and has a weekday, from 0 for Monday.
+fn next_on(weekday: usize, from: usize) -> usize
+    requires weekday { weekday < 7 }
+    requires in_calendar { from < 36525 }
+    ensures weekday { slot result ≡ weekday }
+    ensures from { from ≤ result }
+    ensures least { (n : ℕ) → from ≤ n → slot n ≡ weekday → result ≤ n }
+{
+    from + (weekday + 7 - (from + 5) % 7) % 7
 }

@@ -1,31 +1,28 @@
--- Days that two periods have in common have the weekdays of the first seven that both ranges have.
-use Rattle.std.proofs.Common.{◌≡◌, ◌&&◌, true, false, slice_index_or, refl, sym, ◌∙◌, arith}
-use Rattle.std.proofs.Math.Bool.{and-false}
-use Rattle.ssim_periods.specs.Calendar.{holds, slot}
-use Rattle.ssim_schedule.proofs.TakenLemmas.{below-next, common-date, holds-between, meet-none}
+-- Two periods have a date in common where a weekday of both has a day in both ranges.
+use Rattle.std.proofs.Common.{◌≡◌, ℕ, ◌≤◌, true, false, slice_index_or, ap, refl, sym, ◌∙◌, arith}
+use Rattle.ssim_periods.specs.Calendar.{holds}
+use Rattle.ssim_schedule.proofs.TakenLemmas.{common-date, holds-between, meet-none}
 use Rattle.ssim_schedule.proofs.used_dates.meets.Goals as goal
-use Rattle.ssim_schedule.proofs.used_dates.meets.Goals.{else-days-weekday-via-then-days-weekday+else-other_days-weekday, else-days-weekday-via-else-days-weekday}
 
-pub loop-day-preserved : goal.loop-day-preserved
-loop-day-preserved c =
-    below-next (λ n. slice_index_or c.days-days.result (slot n) false && slice_index_or c.days-other_days.result (slot n) false) c.max-first.result c.loop-day.day c.loop-day.invariant
-    (elim c.else-days-weekday.branch [
-      | else-days-weekday-via-then-days-weekday+else-other_days-weekday w ↦ rw w.if-other_days-weekday.false (and-false (slice_index_or c.days-days.result (slot c.loop-day.day) false))
-      | else-days-weekday-via-else-days-weekday w ↦ rw w.if-days-weekday.false refl
-    ])
+pub returns-then-last-first : goal.returns-then-last-first
+returns-then-last-first c =
+    sym (meet-none c.args.one.now c.args.other.now c.args.one.now.days c.args.other.now.days c.max-first.result c.min-last.result refl refl (omega arith) (omega arith)
+    (λ n from to. let never : c.max-first.result ≤ c.min-last.result = omega arith in absurd (omega arith)))
 
-pub returns-then-other_days-weekday : goal.returns-then-other_days-weekday
-returns-then-other_days-weekday c =
+pub returns-then-next_on-last : goal.returns-then-next_on-last
+returns-then-next_on-last c =
     let p = c.args.one.now in
     let q = c.args.other.now in
-    let day = c.loop-day.day in
-    let one : holds p day ≡ true = holds-between p c.days-days.result day true (omega arith) (omega arith) (c.days-days.ensures.value ∙ c.mask.ensures.value) c.if-days-weekday.true in
-    let other : holds q day ≡ true = holds-between q c.days-other_days.result day true (omega arith) (omega arith) (c.days-other_days.ensures.value ∙ c.mask-2.ensures.value) c.if-other_days-weekday.true in
+    let day = c.next_on.result in
+    let own = ap (λ (w : ℕ). slice_index_or c.days-days.result w false) c.next_on.ensures.weekday ∙ c.if-days-weekday.true in
+    let its = ap (λ (w : ℕ). slice_index_or c.days-other_days.result w false) c.next_on.ensures.weekday ∙ c.if-other_days-weekday.true in
+    let one : holds p day ≡ true = holds-between p c.days-days.result day true (omega arith) (omega arith) (c.days-days.ensures.value ∙ c.mask.ensures.value) own in
+    let other : holds q day ≡ true = holds-between q c.days-other_days.result day true (omega arith) (omega arith) (c.days-other_days.ensures.value ∙ c.mask-2.ensures.value) its in
     sym (common-date (holds p) (holds q) day (omega arith) (rw (one, other) refl))
 
 pub returns : goal.returns
 returns c =
-    sym (meet-none c.args.one.now c.args.other.now c.days-days.result c.days-other_days.result c.max-first.result c.min-last.result c.min-end.result
+    sym (meet-none c.args.one.now c.args.other.now c.days-days.result c.days-other_days.result c.max-first.result c.min-last.result
     (c.days-days.ensures.value ∙ c.mask.ensures.value) (c.days-other_days.ensures.value ∙ c.mask-2.ensures.value)
-    (omega arith) (omega arith) (omega arith)
-    (λ n from to. c.loop-day.invariant n from (omega arith)))
+    (omega arith) (omega arith)
+    (λ n from to. c.loop-weekday.invariant n from to (omega arith)))

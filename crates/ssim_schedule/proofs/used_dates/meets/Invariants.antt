@@ -2,5 +2,6 @@ use Rattle.std.proofs.Common.{◌≡◌, ℕ, ◌<◌, ◌≤◌, ◌&&◌, fals
 use Rattle.ssim_periods.specs.Calendar.{slot}
 use Rattle.ssim_schedule.proofs.used_dates.meets.Given as goal
 
-abbrev pub invariant-loop-day : goal.invariant-loop-day
-invariant-loop-day l = (n : ℕ) → l.first ≤ n → n < l.day → (slice_index_or l.days (slot n) false && slice_index_or l.other_days (slot n) false) ≡ false
+abbrev pub invariant-loop-weekday : goal.invariant-loop-weekday
+invariant-loop-weekday l =
+    (n : ℕ) → l.first ≤ n → n ≤ l.last → slot n < l.weekday → (slice_index_or l.days (slot n) false && slice_index_or l.other_days (slot n) false) ≡ false
