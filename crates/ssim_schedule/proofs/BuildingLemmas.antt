@@ -1,5 +1,5 @@
 -- One more record before those that were built: each case of the definitions, day by day and name by name.
-use Rattle.std.proofs.Common.{◌≡◌, ℕ, ◌+◌, ◌-◌, ◌*◌, ◌<◌, Bool, ◌⊎◌, inl, inr, Contains, true, false, ◌&&◌, ◌||◌, nat_eq, if◌then◌else◌, IsTrue, List, [], ◌∷◌, Some, unwrap_or, refl, sym, ap, subst, ◌∙◌, arith}
+use Rattle.std.proofs.Common.{◌≡◌, ℕ, ◌+◌, ◌-◌, ◌*◌, ◌<◌, Bool, ◌⊎◌, inl, inr, Contains, true, false, ◌&&◌, ◌||◌, nat_eq, if◌then◌else◌, IsTrue, List, [], ◌∷◌, Option, Some, None, unwrap_or, refl, sym, ap, subst, ◌∙◌, arith}
 use Rattle.std.specs.List.{list_any}
 use Rattle.std.proofs.lemmas.Bool.Decides.{nat_tests}
 use Rattle.ssim_values.specs.Flight.{FlightNumber, IsFlight, is_suffix}
@@ -16,12 +16,16 @@ use Rattle.ssim_records.specs.declared.record.Record.{Record}
 use Rattle.ssim_records.specs.declared.record.Record.TheVariants.{Header, Carrier, Leg, Segment, Trailer}
 use Rattle.ssim_schedule.specs.Timetable.{Days, LegValue, Legs, days_of, itinerary, leg_of, period_of, placed, same_flight, same_name, tails_of}
 use Rattle.ssim_schedule.specs.Building.{IsPlaced, name_place}
-use Rattle.ssim_schedule.specs.Built.{IsBuilt, TakesLeg, TakesSegment}
+use Rattle.ssim_schedule.specs.Built.{IsBuilt, IsCut, OpensGroup, PutsGroup, TakesLeg, TakesSegment, days_with}
+use Rattle.ssim_schedule.specs.Group.{Group, IsBound, with_legs}
+use Rattle.ssim_schedule.specs.Put.{StartsFrom, placed_each}
 use Rattle.ssim_schedule.specs.ReadBack.{place_of}
-use Rattle.ssim_schedule.specs.Points.{AreAtPoints, is_point}
-use Rattle.ssim_schedule.specs.Schedule.{cuts_in, days_in}
+use Rattle.ssim_schedule.specs.Points.{is_point}
+use Rattle.ssim_schedule.specs.Schedule.{Table, cuts_in, days_in}
 use Rattle.ssim_schedule.specs.Waiting.{waiting_at}
 use Rattle.ssim_schedule.specs.declared.building.Building.{Building}
+use Rattle.ssim_schedule.specs.declared.leg_group.Heading.{Heading}
+use Rattle.ssim_schedule.proofs.PutLemmas.{changed_not, changed_twice}
 
 -- where a suffix stands among the 27
 abbrev suffix_place : ℕ → ℕ
@@ -96,19 +100,11 @@ or-true true b h = refl
 or-true false b h = h
 
 pub built-other : (b : Building) (r : Record) (done : List Record) → ((g : FlightNumber) (n : ℕ) → itinerary (r ∷ done) g n ≡ itinerary done g n) → ((n : Name) → tails_of n (r ∷ done) ≡ tails_of n done)
-    → ((g : FlightNumber) → IsFlight g → AreAtPoints (cuts_in b.table g) g (r ∷ done)) → IsBuilt b done → IsBuilt b (r ∷ done)
+    → ((g : FlightNumber) → IsFlight g → (cut : ℕ) → IsCut b g cut → IsTrue (list_any (is_point g cut) (r ∷ done))) → IsBuilt b done → IsBuilt b (r ∷ done)
 built-other b r done days tails points h = record {
   days = λ g is. h.days g is ∙ sym (each_day-same (itinerary (r ∷ done) g) (itinerary done g) (λ n l. days g n));
   tails = λ n is. h.tails n is ∙ sym (tails n);
   cuts = points;
-}
-
--- the same timetable and the same tails
-pub built-same : (old new : Building) (done : List Record) → new.table ≡ old.table → new.waiting ≡ old.waiting → IsBuilt old done → IsBuilt new done
-built-same old new done schedule waiting h = record {
-  days = λ g is. ap (λ s. days_in s g) schedule ∙ h.days g is;
-  tails = λ n is. ap (λ w. waiting_at w (name_place n)) waiting ∙ h.tails n is;
-  cuts = λ g is. subst (λ s. AreAtPoints (cuts_in s g) g done) (sym schedule) (h.cuts g is);
 }
 
 -- a record that is neither leg nor segment
@@ -120,12 +116,12 @@ built-plain b r done (inr (inr (x, is))) h = subst (λ r. IsBuilt b (r ∷ done)
 
 pub built-segment : (old new : Building) (r : SegmentFields) (done : List Record) → TakesSegment old new r → IsBuilt old done → IsBuilt new (Segment r ∷ done)
 built-segment old new r done t h = record {
-  days = λ g is. ap (λ s. days_in s g) t.days ∙ h.days g is ∙ sym (each_day-same (itinerary (Segment r ∷ done) g) (itinerary done g) (λ n l. refl));
+  days = λ g is. rw (t.group, t.table) (h.days g is ∙ sym (each_day-same (itinerary (Segment r ∷ done) g) (itinerary done g) (λ n l. refl)));
   tails = λ n is.
       t.tails (name_place n)
       ∙ ap (λ b. if b then r.tail ∷ waiting_at old.waiting (name_place n) else waiting_at old.waiting (name_place n)) (sym (same_name-place n r.name is t.named))
       ∙ ap (λ ts. if same_name n r.name then r.tail ∷ ts else ts) (h.tails n is);
-  cuts = λ g is. subst (λ s. AreAtPoints (cuts_in s g) g done) (sym t.days) (h.cuts g is);
+  cuts = λ g is cut has. h.cuts g is cut (subst (λ (group : Group). Contains (cuts_in old.table g) cut ⊎ IsBound group.heading g cut) t.group (subst (λ (table : Table). Contains (cuts_in table g) cut ⊎ IsBound new.group.heading g cut) t.table has));
 }
 
 pub built-leg : (old new : Building) (r : LegFields) (done : List Record) → TakesLeg old new r → IsBuilt old done → IsBuilt new (Leg r ∷ done)
@@ -144,7 +140,7 @@ built-leg old new r done t h = record {
         let flight : same_flight r.name.flight g ≡ true = same_flight-place r.name.flight g t.named.flight is ∙ ap (λ k. nat_eq k (place_of g)) same ∙ eq-self (place_of g) in
         rw (flight, at) refl
 
-    at_point : (g : FlightNumber) → IsFlight g → (cut : ℕ) → Contains (cuts_in old.table g) cut ⊎ ((place_of r.name.flight ≡ place_of g) × ((cut ≡ r.first) ⊎ (cut ≡ (period_of r).last + 1)))
+    at_point : (g : FlightNumber) → IsFlight g → (cut : ℕ) → IsCut old g cut ⊎ ((place_of r.name.flight ≡ place_of g) × ((cut ≡ r.first) ⊎ (cut ≡ (period_of r).last + 1)))
         → (is_point g cut (Leg r) || list_any (is_point g cut) done) ≡ true
     at_point g is cut (inl has) = or-true (is_point g cut (Leg r)) (list_any (is_point g cut) done) (h.cuts g is cut has)
     at_point g is cut (inr (same, inl at)) = point g is cut same (rw (ap (λ n. nat_eq n r.first) at ∙ eq-self r.first) refl)
@@ -166,24 +162,72 @@ built-leg old new r done t h = record {
         each_day-same (itinerary done g) (itinerary (Leg r ∷ done) g)
         (λ n l. ap (λ b. if b && holds (period_of r) n then placed (leg_of r done) (itinerary done g n) else itinerary done g n) (sym e))
 
-    one : (g : FlightNumber) → IsFlight g → days_in new.table g ≡ days_of (Leg r ∷ done) g
+    one : (g : FlightNumber) → IsFlight g → days_with new g ≡ days_of (Leg r ∷ done) g
     one g is =
         t.days g
-        ∙ ap (λ b. if b then changed_on (holds (period_of r)) (placed its) 0 (days_in old.table g) else days_in old.table g) (sym (same_flight-place r.name.flight g t.named.flight is))
-        ∙ ap (λ (l : LegValue). if same_flight r.name.flight g then changed_on (holds (period_of r)) (placed l) 0 (days_in old.table g) else days_in old.table g) is_leg
+        ∙ ap (λ b. if b then changed_on (holds (period_of r)) (placed its) 0 (days_with old g) else days_with old g) (sym (same_flight-place r.name.flight g t.named.flight is))
+        ∙ ap (λ (l : LegValue). if same_flight r.name.flight g then changed_on (holds (period_of r)) (placed l) 0 (days_with old g) else days_with old g) is_leg
         ∙ ap (λ (ds : List Legs). if same_flight r.name.flight g then changed_on (holds (period_of r)) (placed (leg_of r done)) 0 ds else ds) (h.days g is)
         ∙ choose (same_flight r.name.flight g) g refl
 
--- ---- what a change by one leg is, with its parts under other names
+-- ---- the group
 
-pub put-days : (q q' : FlightNumber) (p p' : DayRange) (l l' : LegValue) (new old : Days) (g : FlightNumber) → q ≡ q' → p ≡ p' → l ≡ l'
-    → new ≡ (if nat_eq (place_of q) (place_of g) then changed_on (holds p) (placed l) 0 old else old)
-    → new ≡ (if nat_eq (place_of q') (place_of g) then changed_on (holds p') (placed l') 0 old else old)
-put-days q q' p p' l l' new old g flights periods legs h =
-    h
-    ∙ ap (λ (f : FlightNumber). if nat_eq (place_of f) (place_of g) then changed_on (holds p) (placed l) 0 old else old) flights
-    ∙ ap (λ (r : DayRange). if nat_eq (place_of q') (place_of g) then changed_on (holds r) (placed l) 0 old else old) periods
-    ∙ ap (λ (m : LegValue). if nat_eq (place_of q') (place_of g) then changed_on (holds p') (placed m) 0 old else old) legs
+-- a leg more before those of a group is put after them
+pub one_more : (h : Heading) (l : LegValue) (legs : Legs) (g : FlightNumber) (days : Days)
+    → with_legs (Some h) (l ∷ legs) g days
+    ≡ (if nat_eq (place_of h.flight) (place_of g) then changed_on (holds h.period) (placed l) 0 (with_legs (Some h) legs g days) else with_legs (Some h) legs g days)
+one_more h l legs g days = by (nat_eq (place_of h.flight) (place_of g))
+  where
+    by : (b : Bool) → (if b then changed_on (holds h.period) (placed_each (l ∷ legs)) 0 days else days)
+        ≡ (if b then changed_on (holds h.period) (placed l) 0 (if b then changed_on (holds h.period) (placed_each legs) 0 days else days) else (if b then changed_on (holds h.period) (placed_each legs) 0 days else days))
+    by true = changed_twice (holds h.period) (placed l) (placed_each legs) 0 days
+    by false = refl
+
+-- a group without legs puts nothing
+pub none_yet : (heading : Option Heading) (g : FlightNumber) (days : Days) → with_legs heading [] g days ≡ days
+none_yet None g days = refl
+none_yet (Some h) g days = by (nat_eq (place_of h.flight) (place_of g))
+  where
+    by : (b : Bool) → (if b then changed_on (holds h.period) (placed_each []) 0 days else days) ≡ days
+    by true = changed_not (holds h.period) 0 days
+    by false = refl
+
+-- those that waited are put, and others can come
+pub opened : (old put new : Building) (h : Heading) (sequence : ℕ) → PutsGroup old put → new.table ≡ put.table → new.waiting ≡ put.waiting → new.group ≡ record { heading = Some h; legs = [] }
+    → OpensGroup old new h sequence
+opened old put new h sequence puts table waiting group = record {
+  heading = ap (λ (a : Group). a.heading) group;
+  order = subst (λ (a : Group). StartsFrom sequence a.legs) (sym group) tt;
+  days = λ g.
+      ap (λ (a : Group). with_legs a.heading a.legs g (days_in new.table g)) group
+      ∙ none_yet (Some h) g (days_in new.table g)
+      ∙ ap (λ (t : Table). days_in t g) table
+      ∙ puts.days g;
+  cuts = λ g cut has. by g cut has;
+  waiting = waiting ∙ puts.waiting;
+}
+  where
+    by : (g : FlightNumber) (cut : ℕ) → IsCut new g cut → IsCut old g cut ⊎ IsBound (Some h) g cut
+    by g cut (inl has) = inl (puts.cuts g cut (subst (λ (t : Table). Contains (cuts_in t g) cut) table has))
+    by g cut (inr bound) = inr (subst (λ (a : Group). IsBound a.heading g cut) group bound)
+
+-- a leg joins those that wait
+module _ (old opened new : Building) (h : Heading) (l : LegValue) (sequence : ℕ) (opens : OpensGroup old opened h sequence) (table : new.table ≡ opened.table)
+    (group : new.group ≡ record { heading = opened.group.heading; legs = l ∷ opened.group.legs }) where
+  pub joined_days : (g : FlightNumber) → days_with new g ≡ (if nat_eq (place_of h.flight) (place_of g) then changed_on (holds h.period) (placed l) 0 (days_with old g) else days_with old g)
+  joined_days g =
+      ap (λ (a : Group). with_legs a.heading a.legs g (days_in new.table g)) group
+      ∙ ap (λ (t : Table). with_legs opened.group.heading (l ∷ opened.group.legs) g (days_in t g)) table
+      ∙ ap (λ (o : Option Heading). with_legs o (l ∷ opened.group.legs) g (days_in opened.table g)) opens.heading
+      ∙ one_more h l opened.group.legs g (days_in opened.table g)
+      ∙ ap (λ (ds : Days). if nat_eq (place_of h.flight) (place_of g) then changed_on (holds h.period) (placed l) 0 ds else ds)
+      (ap (λ (o : Option Heading). with_legs o opened.group.legs g (days_in opened.table g)) (sym opens.heading) ∙ opens.days g)
+
+  pub joined_cuts : (g : FlightNumber) (cut : ℕ) → IsCut new g cut → IsCut old g cut ⊎ IsBound (Some h) g cut
+  joined_cuts g cut has =
+      opens.cuts g cut
+      (subst (λ (a : Group). Contains (cuts_in opened.table g) cut ⊎ IsBound a.heading g cut) group
+      (subst (λ (t : Table). Contains (cuts_in t g) cut ⊎ IsBound new.group.heading g cut) table has))
 
 pub same_period : (p : DayRange) (r : LegFields) (last : ℕ) → p.first ≡ r.first → p.last ≡ last → p.days ≡ r.days → r.last ≡ Some last → p ≡ period_of r
 same_period p r last first end' days some =

@@ -12,6 +12,7 @@ pub mod Pieces
 pub mod Places
 pub mod Planning
 pub mod Puts
+pub mod PutLemmas
 pub mod ReadOnce
 pub mod SameTails
 pub mod SameBytes

@@ -9,6 +9,7 @@ pub mod Schedule
 pub mod Blocks
 pub mod Points
 pub mod Building
+pub mod Group
 pub mod Waiting
 pub mod Built
 pub mod Sinks

@@ -1,14 +1,23 @@
--- The one leg of an itinerary.
-use Rattle.std.specs.Prelude.{◌≡◌, [], ◌∷◌, length}
-use Rattle.ssim_schedule.specs.Timetable.{LegValue, Legs}
+-- Legs that are put among the legs of an itinerary.
+use Rattle.std.specs.Prelude.{ℕ, ◌+◌, ◌≤◌, nat_lt, if◌then◌else◌, [], ◌∷◌}
+use Rattle.ssim_schedule.specs.Timetable.{Legs, placed}
 
-abbrev pub no_leg : LegValue
-no_leg = record { sequence = 0; columns = []; tails = [] }
+-- no leg before the leg sequence n comes first
+abbrev pub StartsFrom : ℕ → Legs → Type 0
+StartsFrom n [] = Unit {0}
+StartsFrom n (l ∷ legs) = n ≤ l.sequence
 
--- the leg of an itinerary of one
-abbrev pub leg_in : Legs → LegValue
-leg_in [] = no_leg
-leg_in (l ∷ legs) = l
+-- the leg sequences do not fall
+abbrev pub IsOrdered : Legs → Type 0
+IsOrdered [] = Unit {0}
+IsOrdered (l ∷ legs) = StartsFrom l.sequence legs × IsOrdered legs
 
-abbrev pub IsAlone : Legs → Type 0
-IsAlone legs = length legs ≡ 1
+-- legs put among others by their sequences, one after another, the last of them first
+abbrev pub placed_each : Legs → Legs → Legs
+placed_each [] others = others
+placed_each (l ∷ legs) others = placed l (placed_each legs others)
+
+-- how many legs stand before the first whose leg sequence is n or a later one
+abbrev pub legs_before : ℕ → Legs → ℕ
+legs_before n [] = 0
+legs_before n (l ∷ legs) = if nat_lt l.sequence n then legs_before n legs + 1 else 0

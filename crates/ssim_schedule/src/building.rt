@@ -12,6 +12,7 @@ ghost use Rattle.ssim_schedule.specs.Timetable.{days_of};
 use crate::base::Base;
 use crate::flight_blocks::FlightBlocks;
 use crate::leg::PlacedLeg;
+use crate::leg_group::LegGroup;
 use crate::put::Put;
 use crate::schedule::Schedule;
 use crate::waiting::Waiting;
@@ -25,10 +26,10 @@ const FEW: usize = 256;
 /// The timetable of some records at the end of a base, and the tails whose leg record is not among them.
 #[derive(Drop)]
 pub(crate) struct Building {
-    pub table: FlightBlocks,
+    table: FlightBlocks,
+    /// Legs that are not yet in the table. They are put into it together, since each change of an itinerary copies its legs.
+    group: LegGroup,
     waiting: Waiting,
-    /// The flight of the latest leg record.
-    latest: Option<Flight>,
     alloc: Global,
 }
 
@@ -56,16 +57,14 @@ fn timetable(alloc: Global, records: &[Record]) -> Result<FlightBlocks, Memory>
     let mut place = records.len();
     while place > 0 {
         place -= 1;
-        let one = &records[place];
-        building.leave(one)?;
-        building.put(one)?;
+        building.put(&records[place])?;
     }
-    building.leave_latest()?;
+    building.put_group(None)?;
     Ok(building.table)
 }
 
 impl Building {
-    ghost use Rattle.ssim_schedule.specs.Built.{IsBuilt, TakesLeg, TakesSegment};
+    ghost use Rattle.ssim_schedule.specs.Built.{IsBuilt, OpensGroup, PutsGroup, TakesLeg, TakesSegment};
 
     /// The timetable of no records.
     pub(crate) fn new(alloc: Global) -> Result<Building, Memory>
@@ -73,8 +72,8 @@ impl Building {
     {
         Ok(Building {
             table: FlightBlocks::new(alloc)?,
+            group: LegGroup::new(alloc),
             waiting: Waiting::new(alloc),
-            latest: None,
             alloc,
         })
     }
@@ -89,35 +88,6 @@ impl Building {
             Record::Segment(segment) => self.put_segment(segment),
             Record::Header(_) | Record::Carrier(_) | Record::Trailer(_) => Ok(()),
         }
-    }
-
-    /// If the record is a leg of another flight than the latest, shares the itineraries of the latest flight if it has few cuts. Files
-    /// go from flight to flight, so a flight is mostly shared once, and one that comes many times costs only its cuts each time.
-    pub(crate) fn leave(&mut self, one: &Record) -> Result<(), Memory>
-        ensures table { self.new.table ≡ self.old.table }
-        ensures waiting { self.new.waiting ≡ self.old.waiting }
-    {
-        let Record::Leg(leg) = one else {
-            return Ok(());
-        };
-        if self.latest != Some(leg.flight()) {
-            self.leave_latest()?;
-        }
-        self.latest = Some(leg.flight());
-        Ok(())
-    }
-
-    /// Shares the itineraries of the flight of the latest leg record if it has few cuts.
-    pub(crate) fn leave_latest(&mut self) -> Result<(), Memory>
-        ensures table { self.new.table ≡ self.old.table }
-        ensures waiting { self.new.waiting ≡ self.old.waiting }
-    {
-        if let Some(latest) = self.latest {
-            if self.table.cuts(&latest).len() < FEW {
-                self.table.share(latest)?;
-            }
-        }
-        Ok(())
     }
 
     fn put_segment(&mut self, segment: &SegmentRecord) -> Result<(), Memory>
@@ -137,10 +107,48 @@ impl Building {
         let Ok(period) = Period::new(leg.first(), last, leg.days()) else {
             unreachable!();
         };
+        self.open_group(name.flight(), period, name.sequence())?;
         let tails = self.waiting.take(name);
         let placed = PlacedLeg::new(name.sequence(), leg.columns(), tails);
-        let put = Put::new(self.alloc, placed)?;
-        self.table.change(name.flight(), &period, &put)?;
+        self.group.add(placed)
+    }
+
+    /// Has a group that a leg with this flight, period and leg sequence can join: puts the group into the table if it is another one.
+    fn open_group(&mut self, flight: Flight, period: Period, sequence: u8) -> Result<(), Memory>
+        ensures { OnOk result (OpensGroup self.old self.new (record { flight = flight; period = period }) sequence) }
+    {
+        if self.group.takes(flight, period, sequence) {
+            return Ok(());
+        }
+        self.put_group(Some(flight))?;
+        self.group.begin(flight, period);
+        Ok(())
+    }
+
+    /// Puts the legs of the group into the table, before those of the next flight.
+    fn put_group(&mut self, next: Option<Flight>) -> Result<(), Memory>
+        ensures { OnOk result (PutsGroup self.old self.new) }
+    {
+        let heading = self.group.heading();
+        let legs = self.group.take()?;
+        let Some(heading) = heading else {
+            return Ok(());
+        };
+        let put = Put::new(self.alloc, legs)?;
+        self.table.change(heading.flight, &heading.period, &put)?;
+        self.leave(heading.flight, next)
+    }
+
+    /// If the next flight is another one, shares the itineraries of this flight if it has few cuts. Files go from flight to flight, so a
+    /// flight is mostly shared once, and one that comes many times costs only its cuts each time.
+    fn leave(&mut self, flight: Flight, next: Option<Flight>) -> Result<(), Memory>
+        ensures table { self.new.table ≡ self.old.table }
+        ensures group { self.new.group ≡ self.old.group }
+        ensures waiting { self.new.waiting ≡ self.old.waiting }
+    {
+        if next != Some(flight) && self.table.cuts(&flight).len() < FEW {
+            self.table.share(flight)?;
+        }
         Ok(())
     }
 }

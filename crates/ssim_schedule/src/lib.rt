@@ -34,6 +34,7 @@ mod itinerary;
 mod kept;
 pub mod laws;
 mod leg;
+mod leg_group;
 mod leg_key;
 mod leg_names;
 mod new_legs;

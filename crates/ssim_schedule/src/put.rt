@@ -1,56 +1,57 @@
-//! A leg put into the itineraries of the dates of its period.
+//! Legs put into the itineraries of the dates of their period.
 
-ghost use Rattle.std.specs.Prelude.{◌≡◌, ◌∷◌, ◌++◌, ◌≤◌, [], IfOk, OnOk, length, take, drop};
-ghost use Rattle.ssim_schedule.specs.Put.{IsAlone};
-ghost use Rattle.ssim_schedule.specs.Timetable.{placed};
+ghost use Rattle.std.specs.Prelude.{◌≡◌, ◌++◌, ◌≤◌, IfOk, OnOk, length};
+ghost use Rattle.ssim_schedule.specs.Put.{IsOrdered, legs_before, placed_each};
 
 use crate::itinerary::Itinerary;
 use crate::leg::PlacedLeg;
 use ssim_periods::{Change, Value};
 use ssim_values::Memory;
 use std::alloc::Global;
+use std::marker::Model;
 
-/// The change that puts a leg among the legs of a date, by its leg sequence.
+/// The change that puts legs among the legs of a date, each by its leg sequence.
 #[derive(Drop)]
 pub(crate) struct Put {
-    /// The leg as the only one, which all dates share that had none before.
-    alone: Itinerary,
-    ghost one: { IsAlone alone },
+    /// The legs, by leg sequence. All dates that had none before share them.
+    group: Itinerary,
+}
+
+impl Model for Put {
+    ghost use Rattle.ssim_schedule.specs.Put.{IsOrdered};
+    ghost use Rattle.ssim_schedule.specs.Timetable.{Legs};
+
+    ghost Value = { Legs };
+
+    ghost view = { λ put. put.group };
+
+    ghost invariant = { λ put. IsOrdered put.group };
 }
 
 impl Put {
-    ghost use Rattle.ssim_schedule.specs.Put.{leg_in};
-
-    /// The change that puts this leg.
-    pub(crate) fn new(alloc: Global, leg: PlacedLeg) -> Result<Put, Memory>
-        ensures { IfOk result (λ put. leg_in put.alone ≡ leg) }
+    /// The change that puts these legs.
+    pub(crate) fn new(alloc: Global, legs: Vec<PlacedLeg>) -> Result<Put, Memory>
+        requires { IsOrdered legs.items }
+        ensures { IfOk result (λ put. put ≡ legs.items) }
     {
-        let mut legs = Vec::with_capacity(alloc, 1)?;
-        legs.push(leg)?;
         Ok(Put {
-            alone: Itinerary::of(alloc, legs)?,
+            group: Itinerary::of(alloc, legs)?,
         })
     }
 }
 
 impl Change<Itinerary> for Put {
-    ghost use Rattle.ssim_schedule.specs.Timetable.{placed};
-    ghost use Rattle.ssim_schedule.specs.Put.{leg_in};
+    ghost use Rattle.ssim_schedule.specs.Put.{placed_each};
 
-    ghost outcome = { λ put old. placed (leg_in put.alone) old };
+    ghost outcome = { placed_each };
 
     ghost class_of = { λ _ _. 0 };
 
     fn after(&self, alloc: Global, old: &Itinerary) -> Result<Itinerary, Memory> {
-        match self.alone.legs() {
-            [leg] => {
-                if old.legs().is_empty() {
-                    return self.alone.copy(alloc);
-                }
-                Itinerary::of(alloc, placed_among(alloc, leg, old.legs())?)
-            }
-            _ => unreachable!(),
+        if old.legs().is_empty() {
+            return self.group.copy(alloc);
         }
+        Itinerary::of(alloc, merged(alloc, self.group.legs(), old.legs())?)
     }
 
     fn class(&self, _old: &Itinerary) -> u8 {
@@ -58,26 +59,27 @@ impl Change<Itinerary> for Put {
     }
 }
 
-/// The legs with one more, before the first whose leg sequence is not lower.
-fn placed_among(
-    alloc: Global,
-    leg: &PlacedLeg,
-    legs: &[PlacedLeg],
-) -> Result<Vec<PlacedLeg>, Memory>
-    ensures { IfOk result (λ all. all.items ≡ placed leg.now legs.now) }
+/// The legs of a group among other legs: each before the first whose leg sequence is not lower.
+fn merged(alloc: Global, group: &[PlacedLeg], legs: &[PlacedLeg]) -> Result<Vec<PlacedLeg>, Memory>
+    requires { IsOrdered group.now }
+    ensures { IfOk result (λ all. all.items ≡ placed_each group.now legs.now) }
 {
-    let place = place_among(leg, legs);
-    let mut all = Vec::with_capacity(alloc, legs.len() + 1)?;
-    push_copies(alloc, &mut all, &legs[..place])?;
-    all.push(leg.copy(alloc)?)?;
-    push_copies(alloc, &mut all, &legs[place..])?;
+    let mut all = Vec::with_capacity(alloc, group.len() + legs.len())?;
+    let mut from = 0;
+    for leg in group {
+        let place = from + place_among(leg, &legs[from..]);
+        push_copies(alloc, &mut all, &legs[from..place])?;
+        all.push(leg.copy(alloc)?)?;
+        from = place;
+    }
+    push_copies(alloc, &mut all, &legs[from..])?;
     Ok(all)
 }
 
 /// The place of the first leg whose leg sequence is not lower.
 fn place_among(leg: &PlacedLeg, legs: &[PlacedLeg]) -> usize
     ensures within { result ≤ length legs.now }
-    ensures place { take result legs.now ++ leg.now ∷ drop result legs.now ≡ placed leg.now legs.now }
+    ensures place { result ≡ legs_before leg.now.sequence legs.now }
 {
     for (place, other) in legs.iter().enumerate() {
         if other.sequence() >= leg.sequence() {

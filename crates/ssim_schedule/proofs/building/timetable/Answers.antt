@@ -1,13 +1,12 @@
 -- From the last record to the first: what stands behind a place is built.
-use Rattle.std.proofs.Common.{◌≡◌, ◌<◌, ◌-◌, ℕ, List, ◌∷◌, suc, drop, length, sym, ap, subst, ◌∙◌, arith, drop-cons}
+use Rattle.std.proofs.Common.{◌≡◌, ◌<◌, ◌-◌, ℕ, IsTrue, List, ◌∷◌, suc, drop, length, sym, ap, subst, ◌∙◌, arith, drop-cons}
 use Rattle.std.proofs.lemmas.List.{drop_all}
+use Rattle.std.specs.List.{list_any}
 use Rattle.ssim_records.specs.declared.record.Record.{Record}
 use Rattle.ssim_schedule.specs.Building.{IsClosed}
 use Rattle.ssim_schedule.specs.Built.{IsBuilt}
-use Rattle.ssim_schedule.specs.Points.{AreAtPoints}
-use Rattle.ssim_schedule.specs.Schedule.{cuts_in}
+use Rattle.ssim_schedule.specs.Points.{is_point}
 use Rattle.ssim_schedule.specs.Timetable.{days_of}
-use Rattle.ssim_schedule.proofs.BuildingLemmas.{built-same}
 use Rattle.ssim_schedule.proofs.building.timetable.Goals as goal
 
 pub loop-place-init : goal.loop-place-init
@@ -29,20 +28,17 @@ loop-place-preserved c =
     drop-cons records (place - 1) c.index-records-place.result within ∙ ap (λ (r : Record). r ∷ drop (suc (place - 1)) records) (sym c.index-records-place.is)
     ∙ ap (λ (k : ℕ). c.index-records-place.result ∷ drop k records) back in (
       omega (arith, c.loop-place.invariant.0),
-      subst (λ (done : List Record). IsBuilt c.put.new.self done) (sym step) (c.in_ok-put.ensures (drop place records)
-          (built-same c.loop-place.building c.leave.new.self (drop place records) c.leave.ensures.table c.leave.ensures.waiting c.loop-place.invariant.1)),
+      subst (λ (done : List Record). IsBuilt c.put.new.self done) (sym step) (c.in_ok-put.ensures (drop place records) c.loop-place.invariant.1),
     )
 
 pub returns-clause-days : goal.returns-clause-days
 returns-clause-days c = λ g is.
     let records = c.args.records.now in
     let none : c.loop-place.place ≡ 0 = omega arith in
-    let built = built-same c.loop-place.building c.leave_latest.new.self (drop c.loop-place.place records) c.leave_latest.ensures.table c.leave_latest.ensures.waiting c.loop-place.invariant.1 in
-    built.days g is ∙ ap (λ (k : ℕ). days_of (drop k records) g) none
+    c.in_ok-put_group.ensures.days g ∙ c.loop-place.invariant.1.days g is ∙ ap (λ (k : ℕ). days_of (drop k records) g) none
 
 pub returns-clause-cuts : goal.returns-clause-cuts
-returns-clause-cuts c = λ g is.
+returns-clause-cuts c = λ g is cut has.
     let records = c.args.records.now in
     let none : c.loop-place.place ≡ 0 = omega arith in
-    let built = built-same c.loop-place.building c.leave_latest.new.self (drop c.loop-place.place records) c.leave_latest.ensures.table c.leave_latest.ensures.waiting c.loop-place.invariant.1 in
-    subst (λ (k : ℕ). AreAtPoints (cuts_in c.leave_latest.new.self.table g) g (drop k records)) none (built.cuts g is)
+    subst (λ (k : ℕ). IsTrue (list_any (is_point g cut) (drop k records))) none (c.loop-place.invariant.1.cuts g is cut (c.in_ok-put_group.ensures.cuts g cut has))
