@@ -55,6 +55,8 @@ impl Waiting {
             None => Vec::new(self.alloc),
         };
         tails.reverse();
+        // The leg keeps the list for as long as the timetable is there.
+        tails.shrink_to_fit();
         tails
     }
 }
