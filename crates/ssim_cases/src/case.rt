@@ -1,10 +1,14 @@
 //! The state of a case.
 
-use crate::desks::{Desks, add_cancels};
+use crate::desks::{Desks, add_cancels, place_of};
 use crate::devices::{FullWriter, NoStore};
 use crate::memory_store::MemoryStore;
-use crate::shown::{add_shown, bad, number, show};
+use crate::pure::{print_read, print_resolved, print_text};
+use crate::seen::Guard;
+use crate::shown::{add_shown, bad, number, out_of_memory, show};
+use ssim_desk::Step;
 use ssim_program::{Store, StoreFault, run};
+use ssim_records::Bytes;
 use std::alloc::{AllocError, Global};
 use std::io;
 use std::io::Write;
@@ -22,6 +26,8 @@ pub struct Case<'t> {
     printed: Vec<u8>,
     devices: Devices,
     desks: Desks,
+    /// Whether calls are guarded, to the end of the input.
+    guard: Option<Guard<'t>>,
 }
 
 /// What fails in the next run.
@@ -59,6 +65,7 @@ impl<'t> Case<'t> {
             printed: Vec::new(alloc),
             devices: Devices::new(),
             desks: Desks::new(alloc),
+            guard: None,
         }
     }
 
@@ -79,6 +86,10 @@ impl<'t> Case<'t> {
             }
             "file" => self.keep(rest),
             "fails" => self.let_fail(rest),
+            "guard" => {
+                self.guard = Some(Guard::parse(rest)?);
+                Ok(())
+            }
             "cancels" => add_cancels(&mut self.bytes, rest),
             "desks" | "more" => self.start_desks(word, rest),
             "^" | "at" | "cut" | "out" | "load" => self.change_bytes(word, rest),
@@ -123,7 +134,7 @@ impl<'t> Case<'t> {
             "run" => self.run(rest, out),
             "prefixes" => self.run_on_prefixes(rest, out),
             "show" | "size" | "equal" => self.show_file(word, rest, out),
-            _ => self.ask_desks(word, rest, out),
+            _ => self.ask(word, rest, out),
         }
     }
 
@@ -150,8 +161,77 @@ impl<'t> Case<'t> {
     fn load(&mut self, name: &str) -> io::Result<Vec<u8>> {
         match self.store.load(self.alloc, name, 1_000_000) {
             Ok(bytes) => Ok(bytes),
-            Err(_) => Err(bad()),
+            Err(StoreFault::Memory) => Err(out_of_memory()),
+            Err(StoreFault::Fault) => Err(bad()),
         }
+    }
+
+    /// Calls the library, and prints the result. A guarded call that is refused for want of memory has to leave all desks as they were,
+    /// and is made again.
+    fn ask<W: Write>(&mut self, word: &str, rest: &str, out: &mut W) -> io::Result<()> {
+        let Some(guard) = self.guard else {
+            return self.call(word, rest, out);
+        };
+        let before = guard.seen(self.alloc, self.desks.all())?;
+        let mut answer = Vec::new(self.alloc);
+        self.call(word, rest, &mut answer)?;
+        out.write_all(&answer)?;
+        if !answer.starts_with(b"refused 90") && !answer.starts_with(b"refused 52") {
+            return Ok(());
+        }
+        let after = guard.seen(self.alloc, self.desks.all())?;
+        if before.as_slice() != after.as_slice() {
+            return Err(io::Error::from(io::ErrorKind::Other));
+        }
+        self.call(word, rest, out)
+    }
+
+    /// Calls the library as a line asks, and prints the result.
+    fn call<W: Write>(&mut self, word: &str, rest: &str, out: &mut W) -> io::Result<()> {
+        match word {
+            "read" | "start" => {
+                let (data_set, table) = rest.split_once(' ').ok_or(bad())?;
+                let data_set = self.load(data_set)?;
+                let table = self.load(table)?;
+                match word {
+                    "read" => print_read(self.alloc, &data_set, &table, out),
+                    _ => self.desks.start_one(&data_set, &table, out),
+                }
+            }
+            "decode" | "encode" => {
+                let text = self.load(rest)?;
+                print_text(self.alloc, word, &text, out)
+            }
+            "resolve" => {
+                let (desk, name) = rest.split_once(' ').ok_or(bad())?;
+                let text = self.load(name)?;
+                print_resolved(self.alloc, self.desks.desk(desk)?.base(), &text, out)
+            }
+            "steps" => {
+                let script = self.load(rest)?;
+                let steps = self.steps_of(&script)?;
+                self.desks.run(&steps, out)
+            }
+            _ => self.ask_desks(word, rest, out),
+        }
+    }
+
+    /// The steps of lines as `TAKE 1 FILE` and `MERGE 1 2`.
+    fn steps_of(&mut self, script: &[u8]) -> io::Result<Vec<Step>> {
+        let mut steps = Vec::new(self.alloc);
+        let Ok(script) = str::from_utf8(script) else {
+            return Err(bad());
+        };
+        for line in script.lines() {
+            let (word, rest) = line.split_once(' ').ok_or(bad())?;
+            let (desk, other) = rest.split_once(' ').ok_or(bad())?;
+            let place = place_of(desk)?;
+            steps.push(match word {
+                "TAKE" => Step::Take(place, self.load(other)?),
+                _ => Step::Merge(place, place_of(other)?),
+            })?;
+        }
+        Ok(steps)
     }
 
     /// Does what a line asks of the desks.
@@ -164,10 +244,7 @@ impl<'t> Case<'t> {
             }
             "merge" => self.desks.merge(desk, name, out),
             "copy" => self.desks.copy(desk),
-            "save" => {
-                let file = self.desks.file_of(desk)?;
-                self.keep_bytes(name, file.bytes())
-            }
+            "save" => self.save(desk, name, out),
             "open" => {
                 let file = self.load(desk)?;
                 self.desks.open(&file, number(name)? as u64, out)
@@ -224,24 +301,31 @@ impl<'t> Case<'t> {
 
     fn keep(&mut self, name: &str) -> io::Result<()> {
         if self.store.keep(name, &self.bytes).is_err() {
-            return Err(io::Error::from(io::ErrorKind::OutOfMemory));
+            return Err(out_of_memory());
         }
         self.bytes.clear();
         Ok(())
     }
 
-    fn keep_bytes(&mut self, name: &str, bytes: &[u8]) -> io::Result<()> {
-        match self.store.keep(name, bytes) {
+    /// Keeps the desk file of a desk, or prints why it was not written.
+    fn save<W: Write>(&mut self, desk: &str, name: &str, out: &mut W) -> io::Result<()> {
+        let mut file = Bytes::new(self.alloc);
+        if let Err(fault) = self.desks.desk(desk)?.save(&mut file) {
+            return writeln!(out, "refused {} {fault}", fault.number());
+        }
+        match self.store.keep(name, file.bytes()) {
             Ok(()) => Ok(()),
-            Err(_) => Err(io::Error::from(io::ErrorKind::OutOfMemory)),
+            Err(_) => Err(out_of_memory()),
         }
     }
 
     /// Prints the bytes of a file or their number, or whether two files have the same bytes.
     fn show_file<W: Write>(&mut self, word: &str, rest: &str, out: &mut W) -> io::Result<()> {
         let (name, other) = rest.split_once(' ').unwrap_or((rest, ""));
-        let Ok(bytes) = self.load(name) else {
-            return writeln!(out, "no file");
+        let bytes = match self.load(name) {
+            Ok(bytes) => bytes,
+            Err(error) if error.kind() == io::ErrorKind::OutOfMemory => return Err(error),
+            Err(_) => return writeln!(out, "no file"),
         };
         match word {
             "show" => show(out, "bytes", &bytes),

@@ -1,7 +1,10 @@
 //! The desks of a case.
 
-use crate::shown::{bad, number};
-use ssim_desk::{Desk, DeskFault, Took};
+ghost use Rattle.std.specs.Prelude.{All, IsTrue};
+ghost use Rattle.ssim_desk.specs.Steps.{IsInRange};
+
+use crate::shown::{bad, error_of, number};
+use ssim_desk::{Answer, Desk, DeskFault, FindingLine, Step, Took, run_steps};
 use ssim_records::Bytes;
 use ssim_schedule::{Base, ExportFault, Stations};
 use ssim_values::{Day, Designator};
@@ -13,8 +16,7 @@ use std::io::Write;
 #[derive(Drop)]
 pub struct Desks {
     alloc: Global,
-    /// A desk is absent only while it is merged.
-    desks: Vec<Option<Desk>>,
+    desks: Vec<Desk>,
 }
 
 impl Desks {
@@ -38,9 +40,26 @@ impl Desks {
             let Ok(desk) = Desk::start(self.alloc, base) else {
                 return Err(bad());
             };
-            self.desks.push(Some(desk))?;
+            self.desks.push(desk)?;
         }
         Ok(())
+    }
+
+    /// Adds a desk over the base of a data set, and prints the result.
+    pub fn start_one<W: Write>(
+        &mut self,
+        data_set: &[u8],
+        table: &[u8],
+        out: &mut W,
+    ) -> io::Result<()> {
+        let base = base_of(self.alloc, data_set, table)?;
+        match Desk::start(self.alloc, base) {
+            Ok(desk) => {
+                self.desks.push(desk)?;
+                writeln!(out, "started")
+            }
+            Err(_) => print_fault(out, &DeskFault::Memory),
+        }
     }
 
     /// Adds a desk over a copy of the base of another.
@@ -51,55 +70,63 @@ impl Desks {
         let Ok(desk) = Desk::start(self.alloc, base) else {
             return Err(bad());
         };
-        Ok(self.desks.push(Some(desk))?)
+        Ok(self.desks.push(desk)?)
     }
 
-    fn desk(&self, text: &str) -> io::Result<&Desk> {
-        let place = number(text)?.checked_sub(1).ok_or(bad())?;
-        match self.desks.get(place) {
-            Some(Some(desk)) => Ok(desk),
-            _ => Err(bad()),
-        }
+    /// All desks, in order.
+    pub fn all(&self) -> &[Desk] {
+        &self.desks
+    }
+
+    pub fn desk(&self, text: &str) -> io::Result<&Desk> {
+        self.desks.get(place_of(text)?).ok_or(bad())
     }
 
     /// Takes a text, and prints the result.
     pub fn take<W: Write>(&mut self, place: &str, text: &[u8], out: &mut W) -> io::Result<()> {
-        let place = number(place)?.checked_sub(1).ok_or(bad())?;
-        match self.desks.get_mut(place) {
-            Some(Some(desk)) => match desk.take(text) {
-                Ok(Took::Taken) => writeln!(out, "taken"),
-                Ok(Took::Repeated) => writeln!(out, "repeated"),
-                Err(fault) => print_fault(out, &fault),
-            },
-            _ => Err(bad()),
+        let desk = self.desks.get_mut(place_of(place)?).ok_or(bad())?;
+        match desk.take(text) {
+            Ok(Took::Taken) => writeln!(out, "taken"),
+            Ok(Took::Repeated) => writeln!(out, "repeated"),
+            Err(fault) => print_fault(out, &fault),
         }
     }
 
     /// Merges a desk into another, and prints the result.
     pub fn merge<W: Write>(&mut self, into: &str, from: &str, out: &mut W) -> io::Result<()> {
-        let place = number(into)?.checked_sub(1).ok_or(bad())?;
-        let taken = match self.desks.get_mut(place) {
-            Some(slot) => slot.take(),
-            None => None,
+        let (into, from) = (place_of(into)?, place_of(from)?);
+        let later = into.max(from);
+        if later >= self.desks.len() {
+            return Err(bad());
+        }
+        let (front, back) = self.desks.split_at_mut(later);
+        let (Some(first), Some(second)) = (front.get_mut(into.min(from)), back.first_mut()) else {
+            return Err(bad());
         };
-        let mut desk = taken.ok_or(bad())?;
-        match desk.merge(self.desk(from)?) {
-            Ok(()) => writeln!(out, "merged")?,
-            Err(fault) => print_fault(out, &fault)?,
+        let result = if into < from {
+            first.merge(second)
+        } else {
+            second.merge(first)
+        };
+        match result {
+            Ok(()) => writeln!(out, "merged"),
+            Err(fault) => print_fault(out, &fault),
         }
-        if let Some(slot) = self.desks.get_mut(place) {
-            *slot = Some(desk);
-        }
-        Ok(())
     }
 
-    /// The bytes of a desk's file.
-    pub fn file_of(&self, place: &str) -> io::Result<Bytes> {
-        let mut file = Bytes::new(self.alloc);
-        match self.desk(place)?.save(&mut file) {
-            Ok(()) => Ok(file),
-            Err(_) => Err(bad()),
+    /// Tries steps on all desks, and prints the result of each.
+    pub fn run<W: Write>(&mut self, steps: &[Step], out: &mut W) -> io::Result<()> {
+        if !are_in_range(self.desks.len(), steps) {
+            return Err(bad());
         }
+        let Ok(answers) = run_steps(self.alloc, &mut self.desks, steps) else {
+            return print_fault(out, &DeskFault::Memory);
+        };
+        for answer in &answers {
+            write!(out, "step ")?;
+            print_answer(out, answer)?;
+        }
+        Ok(())
     }
 
     /// Adds the desk of a file, and prints the result.
@@ -107,7 +134,7 @@ impl Desks {
         let mut left = file;
         match Desk::open(self.alloc, &mut left, limit) {
             Ok(desk) => {
-                self.desks.push(Some(desk))?;
+                self.desks.push(desk)?;
                 writeln!(out, "opened")
             }
             Err(fault) => print_fault(out, &fault),
@@ -137,7 +164,7 @@ impl Desks {
         let mut expected = Bytes::new(self.alloc);
         let refused = first.export(&mut expected);
         let mut same = true;
-        for desk in self.desks.iter().flatten() {
+        for desk in &self.desks {
             let mut bytes = Bytes::new(self.alloc);
             let result = desk.export(&mut bytes);
             same = same && result == refused && bytes.bytes() == expected.bytes();
@@ -214,18 +241,53 @@ impl Desks {
     }
 }
 
-fn base_of(alloc: Global, data_set: &[u8], table: &[u8]) -> io::Result<Base> {
-    let Ok(stations) = Stations::read(alloc, table) else {
-        return Err(bad());
+/// The place in the list of the desk of this number.
+pub fn place_of(text: &str) -> io::Result<usize> {
+    number(text)?.checked_sub(1).ok_or(bad())
+}
+
+fn is_in_range(count: usize, step: &Step) -> bool
+    ensures { IsTrue result → IsInRange count step.now }
+{
+    match step {
+        Step::Take(desk, _) => *desk < count,
+        Step::Merge(into, from) => *into < count && *from < count,
+    }
+}
+
+fn are_in_range(count: usize, steps: &[Step]) -> bool
+    ensures { IsTrue result → All (IsInRange count) steps.now }
+{
+    for step in steps {
+        if !is_in_range(count, step) {
+            return false;
+        }
+    }
+    true
+}
+
+pub fn base_of(alloc: Global, data_set: &[u8], table: &[u8]) -> io::Result<Base> {
+    let stations = match Stations::read(alloc, table) {
+        Ok(stations) => stations,
+        Err(fault) => return Err(error_of(fault.number())),
     };
     let mut left = data_set;
     match Base::read(alloc, &mut left, stations, 1_000_000) {
         Ok(read) => Ok(read.base),
-        Err(_) => Err(bad()),
+        Err(fault) => Err(error_of(fault.number())),
     }
 }
 
-fn print_fault<W: Write>(out: &mut W, fault: &DeskFault) -> io::Result<()> {
+fn print_answer<W: Write>(out: &mut W, answer: &Answer) -> io::Result<()> {
+    match answer {
+        Answer::Taken => writeln!(out, "taken"),
+        Answer::Repeated => writeln!(out, "repeated"),
+        Answer::Merged => writeln!(out, "merged"),
+        Answer::Refused(fault) => print_fault(out, fault),
+    }
+}
+
+pub fn print_fault<W: Write>(out: &mut W, fault: &DeskFault) -> io::Result<()> {
     writeln!(out, "refused {} {fault}", fault.number())
 }
 
@@ -253,10 +315,14 @@ fn print_held<W: Write>(desk: &Desk, out: &mut W) -> io::Result<()> {
 }
 
 fn print_findings<W: Write>(desk: &Desk, out: &mut W) -> io::Result<()> {
-    let Ok(lines) = desk.findings() else {
-        return Err(bad());
-    };
-    for line in &lines {
+    match desk.findings() {
+        Ok(lines) => print_finding_lines(&lines, out),
+        Err(_) => print_fault(out, &DeskFault::Memory),
+    }
+}
+
+pub fn print_finding_lines<W: Write>(lines: &[FindingLine], out: &mut W) -> io::Result<()> {
+    for line in lines {
         let found = line.finding;
         write!(
             out,

@@ -18,6 +18,13 @@
 //! - `held DESK`, `findings DESK`, `export DESK` (the number of bytes), `again DESK` (whether the export, read and exported, is the same); `pieces DESK FLIGHT`, `tails DESK FLIGHT`, with the flight as
 //!   columns 3-9 have it: columns 15-35, 40-43, 48-52, 58-61, 66-70 and 73-75 of its leg records, 12-13 and 29-53 of its segment records.
 //! - `cuts DESK FLIGHT DAY ..`: its cuts that are not listed; `applied DESK LEAST MOST`: whether the count is within.
+//! - `read DATASET STATIONS`: reads a base, and prints how many records it has; `start DATASET STATIONS`: adds a desk over a base.
+//! - `decode FILE`, `encode FILE`: the canonical text of a message, as it was kept or as it is written; `resolve DESK FILE`: its
+//!   reference, and flights and dates of its sub-messages, in the base of a desk.
+//! - `steps FILE`: tries the lines of a file, as `TAKE 1 FILE` and `MERGE 1 2`, in one call, and prints the result of each.
+//! - `guard FIRST LAST FLIGHT ..`: from here on, when a call on desks, texts or bases is refused for want of memory (90, or 52 of
+//!   `save` and `export`), all desks have to be as before, and it is made again. Compared are what the desks hold, their findings,
+//!   files and exports, and the itineraries of these flights from the first to the last day, which are numbers.
 //! - `cancels FLIGHT DAY STEP COUNT`: sub-messages are added to the bytes, which each cancel the flight on one date.
 //! - `run WORD ..`: the program runs on its name and these words. The file `-` is its standard input.
 //! - `show NAME`, `size NAME`: the bytes of a file, or their number; `equal NAME NAME`: whether two files have the same bytes.
@@ -26,38 +33,54 @@
 //!
 //! In a text `<17>` is seventeen blanks, `<200*0>` two hundred zeros, `<x3C>` a byte by its hexadecimal digits. The transcript
 //! shows bytes in the same way, a line of them after `| `; `<>` at the end of a line says that no LF follows.
+//!
+//! The status is 0 at the end of the cases; 1 at a line that is not understood; 2 if memory was refused to the program itself; 3 if a
+//! guarded call that was refused for want of memory changed a desk.
 #![tactic(auto)]
 
 mod case;
 mod desks;
 mod devices;
 mod memory_store;
+mod pure;
+mod seen;
 mod shown;
 
 use case::Case;
 use std::alloc::Global;
 use std::io;
-use std::io::{BufWriter, Write};
+use std::io::{BufWriter, ErrorKind, Write};
 use std::process::ExitCode;
 
-/// Runs all of the cases, and stops at the first line that begins with no word of the list.
+/// Runs all of the cases, and stops at the first line that is not followed.
 fn run_all<W: Write>(alloc: Global, cases: &str, out: &mut W) -> io::Result<()> {
     let mut case = Case::new(alloc);
     for line in cases.lines() {
         if let Err(error) = case.follow(line, out) {
-            writeln!(out, "not understood: {line}")?;
+            if error.kind() == ErrorKind::InvalidData {
+                writeln!(out, "not understood: {line}")?;
+            }
+            out.flush()?;
             return Err(error);
         }
     }
     out.flush()
 }
 
-fn main(rt: HostRuntime) -> io::Result<ExitCode> {
+fn run_input(rt: &HostRuntime) -> io::Result<()> {
     let alloc = rt.alloc();
     let cases = io::read_to_string(alloc, rt.reader())?;
     let mut out = BufWriter::new(alloc, rt.stdout())?;
-    Ok(match run_all(alloc, cases.as_str(), &mut out) {
-        Ok(()) => ExitCode::from(0),
-        Err(_) => ExitCode::from(1),
+    run_all(alloc, cases.as_str(), &mut out)
+}
+
+fn main(rt: HostRuntime) -> ExitCode {
+    ExitCode::from(match run_input(&rt) {
+        Ok(()) => 0,
+        Err(error) => match error.kind() {
+            ErrorKind::OutOfMemory => 2,
+            ErrorKind::Other => 3,
+            _ => 1,
+        },
     })
 }

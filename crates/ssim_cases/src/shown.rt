@@ -8,6 +8,16 @@ pub fn bad() -> io::Error {
     io::Error::from(io::ErrorKind::InvalidData)
 }
 
+/// What the program itself asked of memory was refused.
+pub fn out_of_memory() -> io::Error {
+    io::Error::from(io::ErrorKind::OutOfMemory)
+}
+
+/// A refusal of something that the line needs, by its number.
+pub fn error_of(number: u8) -> io::Error {
+    if number == 90 { out_of_memory() } else { bad() }
+}
+
 pub fn number(text: &str) -> io::Result<usize> {
     match text.parse() {
         Ok(number) => Ok(number),
