@@ -5,7 +5,8 @@ PROGRAM is that of crates/ssim_cases. Growth number 1, 2, .. of a run is refused
 returns that memory is out (90, or 52 of `save` and `export`), the program prints it, looks whether every desk is as before
 (else its status is 3), and makes the call again. So it prints the lines of a run without refusals, and that one. A step of
 `steps` that is refused is not made again: the other lines are those of the same cases without the step. With status 2 memory
-was refused to the program itself, between calls; it has then printed a front of those lines.
+was refused to the program itself, between calls; it has then printed a front of those lines. So are refused the growths of calls
+on a desk that has taken 40 texts, after which a late one is applied from a checkpoint.
 
 Then the growths of a run of 640 texts are counted, which are less than 20 times those of the first 64.
 The last line is 'N passed, M failed'; the lines before it say how often each call was refused.
@@ -27,6 +28,22 @@ OWN_MEMORY = 2
 WORDS = ("read", "start", "take", "merge", "findings", "export", "save", "open", "steps", "step", "encode", "decode", "resolve")
 AT_ONCE = 2
 
+# Calls on a desk that holds many texts.
+LATE = """guard 9220 9429 LX544
+| SSM
+| UTC
+| 31MAY00001E001
+| CNL
+| LX544
+| 05JUL25 05JUL25 6
+file late
+take 1 late
+save 1 saved
+open saved 1000000
+start season stations
+merge 3 1
+"""
+
 BASE = """= header
 = carrier
 = leg
@@ -41,11 +58,20 @@ def calls():
         return file.read()
 
 
-class Sweep:
-    """The runs of calls.txt in a folder, and how often each word was refused."""
+def late_calls():
+    return cases_of_texts(40, True) + LATE
 
-    def __init__(self, runs):
-        self.runs, self.cases = runs, calls()
+
+def growths_before_late(runs):
+    """The growths of the texts before the calls of LATE, with remarks as long as these."""
+    return growths_of(runs, cases_of_texts(40, True) + "".join("# " + line[2:] for line in LATE.splitlines(keepends=True)))
+
+
+class Sweep:
+    """The runs of cases in a folder, and how often each word was refused."""
+
+    def __init__(self, runs, cases):
+        self.runs, self.cases = runs, cases
         self.whole = self.printed(self.cases)
         self.without = {}
         self.counts = collections.Counter()
@@ -99,9 +125,9 @@ class Sweep:
                 return runs + 1, faults
 
 
-def sweep(program, library, first):
+def sweep(program, library, cases, first):
     with Runs(program, library, desks=()) as runs:
-        one = Sweep(runs)
+        one = Sweep(runs, cases)
         return (*one.refuse(first), one.counts)
 
 
@@ -140,7 +166,12 @@ def main():
     with tempfile.TemporaryDirectory() as room, concurrent.futures.ThreadPoolExecutor(AT_ONCE) as pool:
         library = built_library(room)
         long = [pool.submit(growths_of_a_long_run, program, library, count) for count in (64, 640)]
-        for answer in [pool.submit(sweep, program, library, first) for first in range(1, AT_ONCE + 1)]:
+        with Runs(program, library, desks=()) as folder:
+            late = growths_before_late(folder)
+        sweeps = []
+        for first in range(1, AT_ONCE + 1):
+            sweeps += [pool.submit(sweep, program, library, cases, before + first) for cases, before in ((calls(), 0), (late_calls(), late))]
+        for answer in sweeps:
             runs, wrong, refused = answer.result()
             passed += runs - len(wrong)
             faults += wrong
