@@ -16,7 +16,6 @@ use ssim_records::Sink;
 use ssim_schedule::laws::export_reads_back;
 use ssim_schedule::{Base, BaseRead, ExportFault, Schedule};
 use std::alloc::Global;
-use std::mem::forget;
 
 /// Writes the canonical export of the data set in the file of this name.
 pub(crate) fn tidy<S: Store, O: Printer>(
@@ -69,8 +68,5 @@ fn export_into<W: Sink>(base: &Base, out: &mut W) -> Result<(), ExportFault>
 {
     export_reads_back();
     let schedule = Schedule::of(base)?;
-    let exported = schedule.export(base, out);
-    // The process ends soon: its memory need not be given back piece by piece.
-    forget(schedule);
-    exported
+    schedule.export(base, out)
 }
