@@ -12,7 +12,7 @@ use ssim_values::{Memory, Period};
 use std::alloc::Global;
 
 /// The most periods that are kept as a list. A flight rarely has as many itinerary variations, and a set of dates takes as much
-/// memory as 400 periods.
+/// memory as 380 periods.
 const MOST: usize = 64;
 
 /// The dates that leg records have.
@@ -20,7 +20,8 @@ const MOST: usize = 64;
 pub(crate) enum UsedDates {
     /// The periods of the records.
     Few(Vec<Period>),
-    /// A bit for each date. However many records there are, no date is added twice before a data set is refused.
+    /// A bit for each date, where there are more records. A data set is refused at the first date that is added twice, so all of them
+    /// together set no more bits than the calendar has dates.
     Many(DaySet),
 }
 
