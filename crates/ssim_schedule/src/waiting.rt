@@ -37,7 +37,8 @@ impl Waiting {
         let key = LegKey::of(name);
         let mut tails = match self.tails.remove(&key) {
             Some(tails) => tails,
-            None => Vec::new(self.alloc),
+            // Most legs have one segment record, if any.
+            None => Vec::with_capacity(self.alloc, 1)?,
         };
         tails.push(tail)?;
         self.tails.insert(key, tails)?;
