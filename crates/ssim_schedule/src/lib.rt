@@ -9,7 +9,6 @@
 //! - [`resolve`]: resolves a message against a base: its reference with its year, its sub-messages with full dates, or a [`ResolveFault`].
 //! - `Schedule::apply_sub`: a [`Resolved`] sub-message acts on each date of its period by itself; a [`Finding`] counts the dates by
 //!   what they got.
-//! - [`cut`], [`without_end`], [`first_word`]: how bytes are cut into lines, and a line into words.
 //! - [`laws`]: an export reads back to its timetable, byte for byte; saved records read back; a message has one outcome.
 //!
 //! The promise: a data set is read exactly, however its reader cuts the bytes; a schedule has on each date what the records, and then
