@@ -1,5 +1,5 @@
 #!/usr/bin/env python3
-"""Refuses each growth of memory in turn to each of the nine commands: growths.py PROGRAM
+"""Refuses each growth of memory in turn to each of the ten commands: growths.py PROGRAM
 
 For k = 1, 2, .. growth number k of a run is refused, and then every growth from the k-th on, until a run meets no
 refusal. Each run ends with status 0 and exactly the bytes and the file of a run without refusals; or with status 1 and

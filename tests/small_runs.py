@@ -1,4 +1,4 @@
-"""The nine commands on small files, run under a library that refuses some of their calls (refusing.c).
+"""The ten commands on small files, run under a library that refuses some of their calls (refusing.c).
 
 `Runs` is a folder with the files; `COMMANDS` names a command line for each command, and the file that it keeps.
 """
@@ -36,6 +36,10 @@ COMMANDS = [
     ("findings", ["findings", "desk"], None),
     ("export", ["export", "desk"], None),
     ("rehearse", ["rehearse", "season", "stations", "script"], None),
+    ("explain a number", ["explain", "34"], None),
+    ("explain a data set", ["explain", "overlap"], None),
+    ("explain a text", ["explain", "cut"], None),
+    ("explain a desk file", ["explain", "desk"], None),
 ]
 
 
@@ -73,7 +77,9 @@ class Runs:
         os.mkdir(self.folder)
         self.write({name: text.encode() for name, text in TEXTS.items()})
         self.write({"script": SCRIPT.encode(), "old": b"an old file\n", "stations": b"ZRH 30MAR25 25OCT25 +0200\nLHR 30MAR25 25OCT25 +0100\n"})
-        shutil.copy(os.path.join(HERE, "program", "divided.ssim"), os.path.join(self.folder, "season"))
+        with open(os.path.join(HERE, "program", "divided.ssim"), "rb") as file:
+            lines = file.read().splitlines(keepends=True)
+        self.write({"season": b"".join(lines), "overlap": b"".join([*lines[:3], *lines[2:]]), "cut": TEXTS["later"][:60].encode()})
         for words in desks or ():
             assert self.run(words.split()).status == 0, words
         self.start = self.files()
