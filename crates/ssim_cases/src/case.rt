@@ -166,7 +166,7 @@ impl<'t> Case<'t> {
         }
     }
 
-    /// Calls the library, and prints the result. A guarded call that is refused for want of memory has to leave all desks as they were,
+    /// Calls the library, and prints the result. A guarded call that runs out of memory has to leave all desks as they were,
     /// and is made again.
     fn ask<W: Write>(&mut self, word: &str, rest: &str, out: &mut W) -> io::Result<()> {
         let Some(guard) = self.guard else {

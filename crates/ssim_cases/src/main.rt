@@ -22,7 +22,7 @@
 //! - `decode FILE`, `encode FILE`: the canonical text of a message, as it was kept or as it is written; `resolve DESK FILE`: its
 //!   reference, and flights and dates of its sub-messages, in the base of a desk.
 //! - `steps FILE`: tries the lines of a file, as `TAKE 1 FILE` and `MERGE 1 2`, in one call, and prints the result of each.
-//! - `guard FIRST LAST FLIGHT ..`: from here on, when a call on desks, texts or bases is refused for want of memory (90, or 52 of
+//! - `guard FIRST LAST FLIGHT ..`: from here on, when a call on desks, texts or bases runs out of memory (90, or 52 of
 //!   `save` and `export`), all desks have to be as before, and it is made again. Compared are what the desks hold, their findings,
 //!   files and exports, and the itineraries of these flights from the first to the last day, which are numbers.
 //! - `cancels FLIGHT DAY STEP COUNT`: sub-messages are added to the bytes, which each cancel the flight on one date.
@@ -35,7 +35,7 @@
 //! shows bytes in the same way, a line of them after `| `; `<>` at the end of a line says that no LF follows.
 //!
 //! The status is 0 at the end of the cases; 1 at a line that is not understood; 2 if memory was refused to the program itself; 3 if a
-//! guarded call that was refused for want of memory changed a desk.
+//! guarded call that ran out of memory changed a desk.
 #![tactic(auto)]
 
 mod case;

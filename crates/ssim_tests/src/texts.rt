@@ -137,7 +137,7 @@ fn canonical_texts(rt: HostRuntime) -> Result<(), Fail> {
     Ok(())
 }
 
-/// The refusal of a text to which a line is added so many times.
+/// The refusal of a text to which a line is added `count` times.
 fn refusal_with(
     alloc: Global,
     text: &[u8],
