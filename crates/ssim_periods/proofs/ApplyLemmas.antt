@@ -182,13 +182,13 @@ AreRows-put before cuts rows first last head tail patches s fits =
           (λ h. ap length (s.tail_is (sym (has_cut-with_cut cuts first (last + 1) (omega arith)) ∙ h)) ∙ row_on-week before cuts rows (last + 1) v));
     }
 
-contains-head : (x : ℕ) (xs : List ℕ) → Contains (x ∷ xs) x
+pub contains-head : (x : ℕ) (xs : List ℕ) → Contains (x ∷ xs) x
 contains-head x xs = (0, omega arith, refl)
 
-contains-tail : (x y : ℕ) (xs : List ℕ) → Contains xs y → Contains (x ∷ xs) y
+pub contains-tail : (x y : ℕ) (xs : List ℕ) → Contains xs y → Contains (x ∷ xs) y
 contains-tail x y xs (k, l, e) = (k + 1, omega arith, rw add-one e)
 
-contains-cases : (x y : ℕ) (xs : List ℕ) → Contains (x ∷ xs) y → (y ≡ x) ⊎ Contains xs y
+pub contains-cases : (x y : ℕ) (xs : List ℕ) → Contains (x ∷ xs) y → (y ≡ x) ⊎ Contains xs y
 contains-cases x y xs (zero, l, e) = inl (sym e)
 contains-cases x y xs (suc k, l, e) = inr (k, omega arith, e)
 
@@ -206,6 +206,33 @@ contains-with_cut (next ∷ cuts) day cut h =
         ]
       ]
     ] h
+
+-- the earlier cuts are kept
+pub with_cut-keeps : (cuts : List ℕ) (day cut : ℕ) → Contains cuts cut → Contains (with_cut cuts day) cut
+with_cut-keeps [] day cut h = let l = h.1 in absurd (omega arith)
+with_cut-keeps (next ∷ cuts) day cut h =
+    elim (nat_lt day next) as (λ t. Contains (if t then day ∷ next ∷ cuts else (if nat_eq next day then next ∷ cuts else next ∷ with_cut cuts day)) cut) [
+      | true ↦ contains-tail day cut (next ∷ cuts) h
+      | false ↦ elim (nat_eq next day) as (λ t. Contains (if t then next ∷ cuts else next ∷ with_cut cuts day) cut) [
+        | true ↦ h
+        | false ↦ elim (contains-cases next cut cuts h) [
+          | inl e ↦ subst (Contains (next ∷ with_cut cuts day)) (sym e) (contains-head next (with_cut cuts day))
+          | inr m ↦ contains-tail next cut (with_cut cuts day) (with_cut-keeps cuts day cut m)
+        ]
+      ]
+    ]
+
+-- and the new one is there
+pub with_cut-own : (cuts : List ℕ) (day : ℕ) → Contains (with_cut cuts day) day
+with_cut-own [] day = contains-head day []
+with_cut-own (next ∷ cuts) day =
+    elim (nat_lt day next) as (λ t. Contains (if t then day ∷ next ∷ cuts else (if nat_eq next day then next ∷ cuts else next ∷ with_cut cuts day)) day) [
+      | true ↦ contains-head day (next ∷ cuts)
+      | false ↦ elim (nat_eq next day) as (λ t. nat_eq next day ≡ t → Contains (if t then next ∷ cuts else next ∷ with_cut cuts day) day) [
+        | true ↦ λ e. let same : next ≡ day = grind (arith, nat_tests) in subst (Contains (next ∷ cuts)) same (contains-head next cuts)
+        | false ↦ λ e. contains-tail next day (with_cut cuts day) (with_cut-own cuts day)
+      ] refl
+    ]
 
 pub adds_only : (cuts : List ℕ) (first end : ℕ) → AddsOnly cuts (with_cut (with_cut cuts first) end) first end
 adds_only cuts first end cut h =

@@ -14,3 +14,4 @@ pub mod PiecesFound
 pub mod GatherLemmas
 pub mod NumberLemmas
 pub mod WorkedLemmas
+pub mod ApartLemmas

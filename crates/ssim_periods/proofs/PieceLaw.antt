@@ -39,7 +39,7 @@ has_value-past alike [] v n h = refl
 has_value-past alike (d ∷ days) v zero h = absurd (omega arith)
 has_value-past alike (d ∷ days) v (suc n) h = has_value-past alike days v n (omega arith)
 
-index-past : {V : Type 0} (nothing : V) (days : List V) (n : ℕ) → length days ≤ n → slice_index_or days n nothing ≡ nothing
+pub index-past : {V : Type 0} (nothing : V) (days : List V) (n : ℕ) → length days ≤ n → slice_index_or days n nothing ≡ nothing
 index-past nothing [] n h = refl
 index-past nothing (d ∷ days) zero h = absurd (omega arith)
 index-past nothing (d ∷ days) (suc n) h = index-past nothing days n (omega arith)

@@ -5,5 +5,7 @@ pub mod Splits
 pub mod Count
 pub mod Cover
 pub mod Pieces
+pub mod Apart
+pub mod Forms
 pub mod Gather
 pub mod Worked

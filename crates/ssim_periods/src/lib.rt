@@ -19,11 +19,15 @@
 //! The only error is [`Memory`]: an allocation failed, or the copy of a value or a change ran out of memory.
 #![tactic(auto)]
 
+mod apart_periods;
+mod common_days;
 mod count;
 mod cover;
+mod entries;
 mod numbers;
 mod patches;
 mod periods;
+mod range_rows;
 mod rows;
 mod shared;
 mod value;

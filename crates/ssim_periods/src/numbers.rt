@@ -6,7 +6,8 @@ ghost use Rattle.ssim_periods.specs.Days.{each_day};
 ghost use Rattle.ssim_periods.specs.Gather.{gathered, numbered};
 ghost use Rattle.ssim_periods.specs.Rows.{value_on, AreRows};
 
-use crate::{Periods, Value};
+use crate::Value;
+use crate::range_rows::RangeRows;
 use ssim_values::Memory;
 use std::alloc::Global;
 use std::marker::Model;
@@ -151,7 +152,7 @@ pub(crate) fn numbered_days<'a, V: Value>(
     before: &'a [V; 7],
     cuts: &[u32],
     rows: &'a [[V; 7]],
-) -> Result<(Vec<&'a V>, Periods<ValueNumber>), Memory>
+) -> Result<(Vec<&'a V>, RangeRows<ValueNumber>), Memory>
     requires { AreRows before.now cuts.now rows.now }
     ensures values { IfOk result (λ found. map (λ other. other.now) found.0.items ≡ gathered V.alike V.nothing [] (flat_map (λ row. row) (before.now ∷ rows.now))) }
     ensures days { IfOk result (λ found. map (numbered V.nothing (map (λ other. other.now) found.0.items)) found.1.days ≡ map Some (each_day (value_on V.nothing before.now cuts.now rows.now))) }
@@ -160,7 +161,7 @@ pub(crate) fn numbered_days<'a, V: Value>(
     let first = number_row(&mut values, before, &[NONE; 7])?;
     let later = number_rows(alloc, &mut values, &first, rows)?;
     let cuts = Vec::from_slice(alloc, cuts)?;
-    let days = Periods {
+    let days = RangeRows {
         before: first,
         cuts,
         rows: later,

@@ -7,9 +7,8 @@ ghost use Rattle.ssim_periods.specs.Days.{each_day, changed_on, counts_on, AddsO
 
 pub(crate) mod pieces;
 
-use crate::count::class_counts;
-use crate::patches::{new_rows, put_period};
-use crate::rows::{copy_row, copy_rows, place_of, row_for_cut};
+use crate::apart_periods::ApartPeriods;
+use crate::range_rows::RangeRows;
 use crate::{Change, Value};
 use ssim_values::{Day, Memory, Period};
 use std::alloc::Global;
@@ -18,24 +17,26 @@ use std::marker::Model;
 /// A value for each day. Contracts see it as the list of the values and the rising cuts.
 #[derive(Drop)]
 pub struct Periods<V: Value> {
-    /// The values by weekday up to the first cut.
-    pub(crate) before: [V; 7],
-    /// The days at which a range begins, rising; the last may be 36,525, the day after the calendar.
-    pub(crate) cuts: Vec<u32>,
-    /// For each cut the values by weekday from it to the next.
-    pub(crate) rows: Vec<[V; 7]>,
-    pub(crate) alloc: Global,
+    /// The values, in the form that takes less time and memory.
+    form: Form<V>,
+}
+
+/// The two forms of the values.
+#[derive(Drop)]
+pub(crate) enum Form<V: Value> {
+    /// A list of a few periods with values, while no two of them have a common date.
+    Apart(ApartPeriods<V>),
+    /// A row of seven values for each range.
+    Rows(RangeRows<V>),
 }
 
 impl<V: Value> Model for Periods<V> {
-    ghost use Rattle.ssim_periods.specs.Days.{Seen, each_day};
-    ghost use Rattle.ssim_periods.specs.Rows.{value_on, AreRows};
+    ghost use Rattle.ssim_periods.specs.Days.{Seen};
+    ghost use Rattle.ssim_periods.specs.Forms.{seen};
 
     ghost Value = { Seen V };
 
-    ghost view = { λ p. record { days = each_day (value_on V.nothing p.before p.cuts.items p.rows.items); cuts = p.cuts.items } };
-
-    ghost invariant = { λ p. AreRows p.before p.cuts.items p.rows.items };
+    ghost view = { λ p. seen p.form };
 }
 
 impl<V: Value> Periods<V> {
@@ -45,32 +46,17 @@ impl<V: Value> Periods<V> {
         ensures cuts { result.cuts ≡ [] }
     {
         Periods {
-            before: [
-                V::empty(),
-                V::empty(),
-                V::empty(),
-                V::empty(),
-                V::empty(),
-                V::empty(),
-                V::empty(),
-            ],
-            cuts: Vec::new(alloc),
-            rows: Vec::new(alloc),
-            alloc,
+            form: Form::Apart(ApartPeriods::new(alloc)),
         }
     }
 
-    /// The value of a day, found by binary search in the cuts.
+    /// The value of a day, found among a few periods, or by binary search in the cuts.
     pub fn at(&self, day: Day) -> &V
         ensures { slice_get self.now.days day ≡ Some result.now }
     {
-        let number = day.number();
-        let weekday = (number as usize + 5) % 7;
-        let place = place_of(&self.cuts, number as u32);
-        if place == 0 {
-            &self.before[weekday]
-        } else {
-            &self.rows[place - 1][weekday]
+        match &self.form {
+            Form::Apart(periods) => periods.at(day),
+            Form::Rows(rows) => rows.at(day),
         }
     }
 
@@ -78,66 +64,50 @@ impl<V: Value> Periods<V> {
     /// class the number of days of the period whose old value is of that class.
     ///
     /// All new values are computed, and all memory is reserved, before the first value is replaced: after an error nothing has changed.
-    /// The cost is that of the ranges that the period touches, and of moving the later ranges.
+    /// While the days of each period that is given a value had none before, the cost is that of one new value, and of comparing the
+    /// period with the earlier ones. Otherwise it is that of the ranges that the period touches, and of moving the later ranges.
     pub fn apply<C: Change<V>>(&mut self, period: &Period, change: &C) -> Result<[u32; 5], Memory>
         ensures days { OnOk result (self.new.days ≡ changed_on (holds period.now) (C.outcome change.now) 0 self.old.days) }
         ensures counts { IfOk result (λ counts. counts ≡ counts_on (holds period.now) (C.class_of change.now) self.old.days) }
         ensures cuts { OnOk result (AddsOnly self.old.cuts self.new.cuts period.now.first (period.now.last + 1)) }
         ensures err { OnErr result (self.new ≡ self.old) }
     {
-        let alloc = self.alloc;
-        let first = period.first().number() as u32;
-        let last = period.last().number() as u32;
-        let mask = period.mask().days();
-        let patches = new_rows(
-            alloc,
-            &self.before,
-            &self.cuts,
-            &self.rows,
-            first,
-            last,
-            &mask,
-            change,
-        )?;
-        let head = row_for_cut(alloc, &self.before, &self.cuts, &self.rows, first)?;
-        let tail = row_for_cut(alloc, &self.before, &self.cuts, &self.rows, last + 1)?;
-        let counts = class_counts(
-            &self.before,
-            &self.cuts,
-            &self.rows,
-            first,
-            last,
-            &mask,
-            change,
-        );
-        self.cuts.reserve(2)?;
-        self.rows.reserve(2)?;
-        put_period(
-            &mut self.cuts,
-            &mut self.rows,
-            first,
-            last + 1,
-            head,
-            tail,
-            patches,
-        );
-        Ok(counts)
+        match &mut self.form {
+            Form::Apart(periods) => {
+                if periods.has_room_for(period) {
+                    return periods.apply(period, change);
+                }
+                let mut rows = periods.to_rows()?;
+                let counts = rows.apply(period, change)?;
+                self.form = Form::Rows(rows);
+                Ok(counts)
+            }
+            Form::Rows(rows) => rows.apply(period, change),
+        }
     }
 
     /// A copy with the same values and cuts.
     pub fn copy(&self) -> Result<Periods<V>, Memory>
         ensures { IfOk result (λ copy. copy ≡ self.now) }
     {
-        let alloc = self.alloc;
-        let before = copy_row(alloc, &self.before)?;
-        let rows = copy_rows(alloc, &self.rows)?;
-        let cuts = Vec::from_slice(alloc, &self.cuts)?;
-        Ok(Periods {
-            before,
-            cuts,
-            rows,
-            alloc,
-        })
+        let form = match &self.form {
+            Form::Apart(periods) => Form::Apart(periods.copy()?),
+            Form::Rows(rows) => Form::Rows(rows.copy()?),
+        };
+        Ok(Periods { form })
+    }
+
+    /// A copy with the same values and cuts. Equal values of neighbouring ranges are copies of one value, and so are equal values of a
+    /// range, or of one period and the one that was given a value before it. If copies of a value share memory, that memory is used
+    /// once.
+    pub fn shared(&self) -> Result<Periods<V>, Memory>
+        ensures { IfOk result (λ shared. shared ≡ self.now) }
+    {
+        let form = match &self.form {
+            Form::Apart(periods) => Form::Apart(periods.shared()?),
+            Form::Rows(rows) => Form::Rows(rows.shared()?),
+        };
+        Ok(Periods { form })
     }
 
     /// The rising days at which a stored range begins or ends. 36,525 is a cut if a period ended with the calendar.
@@ -149,6 +119,9 @@ impl<V: Value> Periods<V> {
         // Two days of one weekday have the same value if no cut is after the earlier and not after the later.
         ensures weekly { (m n : ℕ) → m ≤ n → n < 36525 → weekday m ≡ weekday n → ((cut : ℕ) → Contains result.now cut → m < cut → n < cut) → slice_get self.now.days m ≡ slice_get self.now.days n }
     {
-        &self.cuts
+        match &self.form {
+            Form::Apart(periods) => periods.cuts(),
+            Form::Rows(rows) => rows.cuts(),
+        }
     }
 }

@@ -1,21 +1,22 @@
 //! Copies in which equal values are copies of one value, for values whose copies share memory.
 ghost use Rattle.std.specs.Prelude.{◌≡◌, ◌<◌, slice_index_or, IfOk};
 
-use crate::{Periods, Value};
+use crate::Value;
+use crate::range_rows::RangeRows;
 use ssim_values::Memory;
 use std::alloc::Global;
 
-impl<V: Value> Periods<V> {
+impl<V: Value> RangeRows<V> {
     /// A copy with the same values and cuts. Equal values of a range, and equal values of one weekday in neighbouring ranges, are copies
     /// of one value. If copies of a value share memory, that memory is used once.
-    pub fn shared(&self) -> Result<Periods<V>, Memory>
+    pub(crate) fn shared(&self) -> Result<RangeRows<V>, Memory>
         ensures { IfOk result (λ shared. shared ≡ self.now) }
     {
         let alloc = self.alloc;
         let before = shared_row(alloc, &self.before, &self.before)?;
         let rows = shared_rows(alloc, &before, &self.rows)?;
         let cuts = Vec::from_slice(alloc, &self.cuts)?;
-        Ok(Periods {
+        Ok(RangeRows {
             before,
             cuts,
             rows,

@@ -1,116 +1,31 @@
-//! The pieces of a list of one value per day, read from the rows, and the laws of their definition.
-ghost use Rattle.std.specs.Prelude.{◌≡◌, length, ℕ, ◌+◌, ◌-◌, ◌%◌, ◌<◌, ◌≤◌, List, ◌++◌, map, IfOk, OnOk};
-ghost use Rattle.ssim_periods.specs.Calendar.{day_count, slot};
-ghost use Rattle.ssim_periods.specs.Cover.{first_where, cover, weekdays_of, breaks, CoverLaw};
-ghost use Rattle.ssim_periods.specs.Pieces.{has_value, pieces_of, ArePieces};
+//! The pieces of a list of one value per day, and the laws of their definition.
+ghost use Rattle.std.specs.Prelude.{◌≡◌, length, List, IfOk, OnOk};
+ghost use Rattle.ssim_periods.specs.Calendar.{day_count};
+ghost use Rattle.ssim_periods.specs.Cover.{CoverLaw};
+ghost use Rattle.ssim_periods.specs.Pieces.{pieces_of, ArePieces};
 ghost use Rattle.ssim_periods.specs.Worked.{WorkedPieces};
 
-use crate::cover::{last_in, period_of, unlike_in_row};
-use crate::numbers::{ValueNumber, numbered_days};
-use crate::rows::{DAYS, place_of, range_end, row_at};
+use crate::periods::Form;
 use crate::{Periods, Value};
-use ssim_values::{Day, Memory, Period};
-
-const NO_DAYS: [bool; 7] = [false; 7];
+use ssim_values::{Memory, Period};
 
 impl<V: Value> Periods<V> {
     /// The cover of the days of each value other than the empty one, each period with its value, sorted by first day.
     ///
-    /// Each value of a row first gets a number: mostly by one comparison, with the value of the same weekday in the row before, else by
-    /// comparisons with the distinct values. From then on only numbers are compared. Each distinct value costs one pass over the ranges,
-    /// with at most seven comparisons in each.
+    /// While the values are kept as rows, each value of a row first gets a number: mostly by one comparison, with the value of the same
+    /// weekday in the row before, else by comparisons with the distinct values. From then on only numbers are compared. Each distinct
+    /// value costs one pass over the ranges, with at most seven comparisons in each.
     pub fn pieces(&self) -> Result<Vec<(Period, V)>, Memory>
         ensures pieces { IfOk result (λ pieces. pieces.items ≡ pieces_of V.alike V.nothing self.now.days) }
         ensures each_day { OnOk result (length self.now.days ≡ day_count) }
     {
-        let (values, numbers) = numbered_days(self.alloc, &self.before, &self.cuts, &self.rows)?;
-        let mut pieces = Vec::new(self.alloc);
-        for place in 0..values.len() {
-            let number = ValueNumber { number: place + 1 };
-            numbers.push_cover(&number, values[place], &mut pieces)?;
-        }
-        pieces.sort_by_key(|piece| piece.0.first().number())?;
-        Ok(pieces)
-    }
-
-    // Appends the cover of the days that have the value, each period with the label.
-    fn push_cover<L: Value>(
-        &self,
-        value: &V,
-        label: &L,
-        pieces: &mut Vec<(Period, L)>,
-    ) -> Result<(), Memory>
-        ensures { OnOk result (pieces.new.items ≡ pieces.old.items ++ map (λ period. (period, label.now)) (cover (has_value V.alike self.now.days value.now) (length self.now.days))) }
-    {
-        let mut first = self.first_unlike(value, &NO_DAYS, 0);
-        while first < DAYS {
-            let days = self.weekdays_from(value, first);
-            let after = self.break_after(value, &days, first);
-            let period = period_of(first, last_in(&days, first, after), days);
-            pieces.push((period, label.copy(self.alloc)?))?;
-            first = self.first_unlike(value, &NO_DAYS, after);
-        }
-        Ok(())
-    }
-
-    // The first day from a day on that has the value although its weekday is not one of `days`, or does not have it although its
-    // weekday is one. 36,525 if there is none.
-    fn first_unlike(&self, value: &V, days: &[bool; 7], from: u32) -> u32
-        requires { from ≤ 36525 }
-        ensures { result ≡ first_where (breaks (has_value V.alike self.now.days value.now) days.now) from (length self.now.days - from) }
-    {
-        let mut day = from;
-        let mut place = place_of(&self.cuts, from);
-        while day < DAYS {
-            let next = range_end(&self.cuts, place, DAYS);
-            let row = row_at(&self.before, &self.rows, place);
-            let found = unlike_in_row(row, value, days, day, next);
-            if found < next {
-                return found;
+        match &self.form {
+            Form::Apart(periods) => {
+                let rows = periods.to_rows()?;
+                rows.pieces()
             }
-            day = next;
-            place += 1;
+            Form::Rows(rows) => rows.pieces(),
         }
-        DAYS
-    }
-
-    // The day after the last day up to which the value is on exactly these weekdays, from a first day on.
-    fn break_after(&self, value: &V, days: &[bool; 7], first: u32) -> u32
-        requires { first ≤ 36525 }
-        ensures { result ≡ first_where (breaks (has_value V.alike self.now.days value.now) days.now) first (length self.now.days - first) }
-    {
-        self.first_unlike(value, days, first)
-    }
-
-    // Whether the value is on the first day with a weekday, from a day on.
-    fn has_on(&self, value: &V, first: u32, weekday: u32) -> bool
-        requires weekday { weekday < 7 }
-        requires in_calendar { first < 36525 }
-        requires all_days { length self.now.days ≡ 36525 }
-        ensures { result ≡ has_value V.alike self.now.days value.now (first + (weekday + 7 - slot first) % 7) }
-    {
-        let day = first + (weekday + 7 - (first + 5) % 7) % 7;
-        match Day::from_number(day as u16) {
-            Some(day) => value.same(self.at(day)),
-            None => false,
-        }
-    }
-
-    // The weekdays of the value in the seven days from a day on.
-    fn weekdays_from(&self, value: &V, first: u32) -> [bool; 7]
-        requires in_calendar { first < 36525 }
-        requires all_days { length self.now.days ≡ 36525 }
-        ensures { result ≡ weekdays_of (has_value V.alike self.now.days value.now) first }
-    {
-        [
-            self.has_on(value, first, 0),
-            self.has_on(value, first, 1),
-            self.has_on(value, first, 2),
-            self.has_on(value, first, 3),
-            self.has_on(value, first, 4),
-            self.has_on(value, first, 5),
-            self.has_on(value, first, 6),
-        ]
     }
 }
 

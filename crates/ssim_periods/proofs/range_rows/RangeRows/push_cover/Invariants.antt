@@ -2,7 +2,7 @@ use Rattle.std.proofs.Common.{◌≡◌, ◌-◌, ◌<◌, ◌≤◌, ◌++◌, 
 use Rattle.ssim_periods.specs.Cover.{cover}
 use Rattle.ssim_periods.specs.Pieces.{has_value}
 use Rattle.ssim_periods.proofs.CoverSteps.{cover_at}
-use Rattle.ssim_periods.proofs.periods.Periods.push_cover.Given as goal
+use Rattle.ssim_periods.proofs.range_rows.RangeRows.push_cover.Given as goal
 
 abbrev pub invariant-loop-first : goal.invariant-loop-first
 invariant-loop-first g l =

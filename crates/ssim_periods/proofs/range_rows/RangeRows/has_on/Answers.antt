@@ -2,7 +2,7 @@ use Rattle.std.proofs.Common.{◌+◌, ◌-◌, ◌%◌, length, sym, arith, inl
 use Rattle.ssim_periods.specs.Calendar.{slot}
 use Rattle.ssim_periods.proofs.CountLemmas.{le_or_lt}
 use Rattle.ssim_periods.proofs.PieceLaw.{has_value-past}
-use Rattle.ssim_periods.proofs.periods.Periods.has_on.Goals as goal
+use Rattle.ssim_periods.proofs.range_rows.RangeRows.has_on.Goals as goal
 
 pub returns-in-None : goal.returns-in-None
 returns-in-None g c =

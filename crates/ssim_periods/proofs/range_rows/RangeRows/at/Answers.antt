@@ -4,7 +4,7 @@ use Rattle.ssim_periods.specs.Calendar.{slot}
 use Rattle.ssim_periods.specs.Rows.{place, row_on, value_on, AreRows}
 use Rattle.ssim_periods.proofs.DayLemmas.{get-each_day}
 use Rattle.ssim_periods.proofs.RowLemmas.{row_on-place, value_on-at}
-use Rattle.ssim_periods.proofs.periods.Periods.at.Goals as goal
+use Rattle.ssim_periods.proofs.range_rows.RangeRows.at.Goals as goal
 
 -- the value found in a row is that of the list of days
 seen : {V : Type 0} (s : Seen V) (e : V) (row : List V) (cuts : List ℕ) (rows : List (List V)) (day n : ℕ) (found : List V) (x : V) → each_day (value_on e row cuts rows) ≡ s.days → AreRows row cuts rows → n ≡ day → n < 36525 → row_on row cuts rows n ≡ found → x ≡ slice_index_or found (slot n) x → slice_get s.days day ≡ Some (slice_index_or found (slot n) x)

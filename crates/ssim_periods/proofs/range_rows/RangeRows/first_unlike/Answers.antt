@@ -9,7 +9,7 @@ use Rattle.ssim_periods.proofs.RowLemmas.{place-le, row_on-place}
 use Rattle.ssim_periods.proofs.CountLemmas.{le_or_lt, reaches}
 use Rattle.ssim_periods.proofs.CoverLemmas.{first_where-either, first_where-is, first_where-none}
 use Rattle.ssim_periods.proofs.PieceRows.{unlike-in_row}
-use Rattle.ssim_periods.proofs.periods.Periods.first_unlike.Goals as goal
+use Rattle.ssim_periods.proofs.range_rows.RangeRows.first_unlike.Goals as goal
 
 pub row_at-row-requires : goal.row_at-row-requires
 row_at-row-requires g c =

@@ -10,7 +10,7 @@ use Rattle.ssim_periods.proofs.DayLemmas.{day_count-is, length-each_day}
 use Rattle.ssim_periods.proofs.GatherLemmas.{flat-next, drop-all}
 use Rattle.ssim_periods.proofs.NumberLemmas.{AreDistinct, number-read, gathered-distinct, pieces_with-number}
 use Rattle.ssim_periods.proofs.PiecesFound.{pieces-found}
-use Rattle.ssim_periods.proofs.periods.Periods.pieces.Goals as goal
+use Rattle.ssim_periods.proofs.range_rows.RangeRows.pieces.Goals as goal
 
 pub loop-place-preserved : goal.loop-place-preserved
 loop-place-preserved g c =

@@ -5,7 +5,7 @@ use Rattle.ssim_periods.specs.Cover.{first_where, break_after, period_at}
 use Rattle.ssim_periods.specs.Pieces.{has_value}
 use Rattle.ssim_periods.proofs.DayLemmas.{length-each_day}
 use Rattle.ssim_periods.proofs.CoverSteps.{cover_at, cover_from-at, cover_at-end, first-in_none, some-digit, first_where-low, first_where-high, first_where-found, step, step-last, step-period, step-rest}
-use Rattle.ssim_periods.proofs.periods.Periods.push_cover.Goals as goal
+use Rattle.ssim_periods.proofs.range_rows.RangeRows.push_cover.Goals as goal
 
 pub loop-first-init : goal.loop-first-init
 loop-first-init g c =

@@ -1,0 +1,28 @@
+-- Periods with values as a list, of which no two hold a common day.
+use Rattle.std.specs.Prelude.{◌≢◌, ℕ, ◌+◌, ◌≤◌, if◌then◌else◌, List, [], ◌∷◌, length}
+use Rattle.std.specs.List.{All, Contains}
+use Rattle.std.specs.List.Sorted.{IsStrictlyIncreasing}
+use Rattle.ssim_values.specs.Period.{DayRange}
+use Rattle.ssim_periods.specs.Calendar.{holds}
+use Rattle.ssim_periods.specs.Pieces.{held_on}
+
+-- the empty value on each weekday
+abbrev pub empty_week : {V : Type 0} → V → List V
+empty_week nothing = nothing ∷ nothing ∷ nothing ∷ nothing ∷ nothing ∷ nothing ∷ nothing ∷ []
+
+-- the value of a day: that of the last period of the list that holds it; `nothing` if none does
+abbrev pub value_in : {V : Type 0} → V → List (DayRange × V) → ℕ → V
+value_in nothing [] n = nothing
+value_in nothing (given ∷ later) n = value_in (if holds given.0 n then given.1 else nothing) later n
+
+-- the cuts have the first day of each period and the day after its last
+abbrev pub AreDivided : {V : Type 0} → List ℕ → List (DayRange × V) → Type 0
+AreDivided cuts periods = All (λ given. Contains cuts given.0.first × Contains cuts (given.0.last + 1)) periods
+
+-- no day is held twice, no value is empty, and the cuts rise to at most 36,525 and have the ends of each period
+pub record AreApart {V : Type 0} (nothing : V) (periods : List (DayRange × V)) (cuts : List ℕ) : Type 0 where
+  pub once : (n : ℕ) → length (held_on periods n) ≤ 1
+  pub given : All (λ (given : DayRange × V). given.1 ≢ nothing) periods
+  pub divided : AreDivided cuts periods
+  pub rising : IsStrictlyIncreasing cuts
+  pub in_calendar : All (λ cut. cut ≤ 36525) cuts

@@ -1,0 +1,205 @@
+//! Values given to periods of which no two have a common day.
+ghost use Rattle.std.specs.Prelude.{◌≡◌, ◌≢◌, ℕ, ◌+◌, ◌<◌, ◌≤◌, List, [], true, length, slice_get, slice_index_or, vec_len, vec_capacity, Some, IfOk, OnOk, OnErr, IsTrue};
+ghost use Rattle.std.specs.List.{All, Contains};
+ghost use Rattle.std.specs.List.Sorted.{IsStrictlyIncreasing};
+ghost use Rattle.ssim_values.specs.Calendar.{weekday};
+ghost use Rattle.ssim_periods.specs.Apart.{empty_week};
+ghost use Rattle.ssim_periods.specs.Calendar.{holds};
+ghost use Rattle.ssim_periods.specs.Days.{each_day, changed_on, counts_on, AddsOnly};
+ghost use Rattle.ssim_periods.specs.Splits.{with_cut};
+
+use crate::count::class_counts;
+use crate::entries::{copy_entries, meets_none, rows_of, shared_entries, value_at};
+use crate::range_rows::RangeRows;
+use crate::rows::{has_cut, place_of};
+use crate::{Change, Value};
+use ssim_values::{Day, Memory, Period};
+use std::alloc::Global;
+use std::marker::Model;
+
+/// The most periods in a list. Each new period is compared with all of them.
+const MOST: usize = 48;
+
+/// A value for each day, as a list of periods with values.
+#[derive(Drop)]
+pub(crate) struct ApartPeriods<V: Value> {
+    /// The values by weekday of a range that no period holds: each is the empty value.
+    empty: [V; 7],
+    /// Periods without a common day, in the order in which they came, and their values, which are not empty.
+    entries: Vec<(Period, V)>,
+    /// The first day of each period and the day after its last, rising.
+    cuts: Vec<u32>,
+    alloc: Global,
+}
+
+impl<V: Value> Model for ApartPeriods<V> {
+    ghost use Rattle.std.specs.Prelude.{◌≡◌};
+    ghost use Rattle.ssim_periods.specs.Apart.{empty_week, value_in, AreApart};
+    ghost use Rattle.ssim_periods.specs.Days.{Seen, each_day};
+
+    ghost Value = { Seen V };
+
+    ghost view = { λ p. record { days = each_day (value_in V.nothing p.entries.items); cuts = p.cuts.items } };
+
+    ghost invariant = { λ p. (p.empty ≡ empty_week V.nothing) × AreApart V.nothing p.entries.items p.cuts.items };
+}
+
+impl<V: Value> ApartPeriods<V> {
+    /// The empty value on each day. Allocates nothing.
+    pub(crate) fn new(alloc: Global) -> Self
+        ensures days { result.days ≡ each_day (λ _. V.nothing) }
+        ensures cuts { result.cuts ≡ [] }
+    {
+        ApartPeriods {
+            empty: empty_row(),
+            entries: Vec::new(alloc),
+            cuts: Vec::new(alloc),
+            alloc,
+        }
+    }
+
+    /// The value of a day, found by looking at each period.
+    pub(crate) fn at(&self, day: Day) -> &V
+        ensures { slice_get self.now.days day ≡ Some result.now }
+    {
+        let number = day.number();
+        let weekday = (number as usize + 5) % 7;
+        value_at(&self.entries, &self.empty[weekday], day)
+    }
+
+    /// Whether the list is not full and has no day of the period.
+    pub(crate) fn has_room_for(&self, period: &Period) -> bool
+        ensures { IsTrue result → (n : ℕ) → holds period.now n ≡ true → slice_index_or self.now.days n V.nothing ≡ V.nothing }
+    {
+        self.entries.len() < MOST && meets_none(&self.entries, period)
+    }
+
+    /// Gives the days of the period, which have the empty value, the outcome of the change for it. Returns for each class the number of
+    /// these days if the empty value is of that class.
+    pub(crate) fn apply<C: Change<V>>(
+        &mut self,
+        period: &Period,
+        change: &C,
+    ) -> Result<[u32; 5], Memory>
+        requires { (n : ℕ) → holds period.now n ≡ true → slice_index_or self.old.days n V.nothing ≡ V.nothing }
+        ensures days { OnOk result (self.new.days ≡ changed_on (holds period.now) (C.outcome change.now) 0 self.old.days) }
+        ensures counts { IfOk result (λ counts. counts ≡ counts_on (holds period.now) (C.class_of change.now) self.old.days) }
+        ensures cuts { OnOk result (AddsOnly self.old.cuts self.new.cuts period.now.first (period.now.last + 1)) }
+        ensures err { OnErr result (self.new ≡ self.old) }
+    {
+        let value = change.after(self.alloc, &self.empty[0])?;
+        if !value.is_empty() {
+            self.put(period, value)?;
+        }
+        Ok(empty_counts(&self.empty, period, change))
+    }
+
+    // Gives the days of the period, which have the empty value, a value that is not empty.
+    fn put(&mut self, period: &Period, value: V) -> Result<(), Memory>
+        requires free { (n : ℕ) → holds period.now n ≡ true → slice_index_or self.old.days n V.nothing ≡ V.nothing }
+        requires given { value ≢ V.nothing }
+        ensures days { OnOk result (self.new.days ≡ changed_on (holds period.now) (λ _. value) 0 self.old.days) }
+        ensures cuts { OnOk result (AddsOnly self.old.cuts self.new.cuts period.now.first (period.now.last + 1)) }
+        ensures err { OnErr result (self.new ≡ self.old) }
+    {
+        let first = period.first().number() as u32;
+        let end = period.last().number() as u32 + 1;
+        self.cuts.reserve(2)?;
+        self.entries.push((*period, value))?;
+        add_day(&mut self.cuts, first);
+        add_day(&mut self.cuts, end);
+        Ok(())
+    }
+
+    /// A copy with the same values and cuts.
+    pub(crate) fn copy(&self) -> Result<ApartPeriods<V>, Memory>
+        ensures { IfOk result (λ copy. copy ≡ self.now) }
+    {
+        let alloc = self.alloc;
+        let empty = empty_row();
+        let entries = copy_entries(alloc, &self.entries)?;
+        let cuts = Vec::from_slice(alloc, &self.cuts)?;
+        Ok(ApartPeriods {
+            empty,
+            entries,
+            cuts,
+            alloc,
+        })
+    }
+
+    /// A copy in which a value that is equal to the one before it in the list is a copy of that copy.
+    pub(crate) fn shared(&self) -> Result<ApartPeriods<V>, Memory>
+        ensures { IfOk result (λ shared. shared ≡ self.now) }
+    {
+        let alloc = self.alloc;
+        let empty = empty_row();
+        let entries = shared_entries(alloc, &self.entries)?;
+        let cuts = Vec::from_slice(alloc, &self.cuts)?;
+        Ok(ApartPeriods {
+            empty,
+            entries,
+            cuts,
+            alloc,
+        })
+    }
+
+    /// The rising days at which a period begins, or the day after one ends.
+    pub(crate) fn cuts(&self) -> &[u32]
+        ensures cuts { result.now ≡ self.now.cuts }
+        ensures rising { IsStrictlyIncreasing result.now }
+        ensures in_calendar { All (λ cut. cut ≤ 36525) result.now }
+        ensures weekly { (m n : ℕ) → m ≤ n → n < 36525 → weekday m ≡ weekday n → ((cut : ℕ) → Contains result.now cut → m < cut → n < cut) → slice_get self.now.days m ≡ slice_get self.now.days n }
+    {
+        &self.cuts
+    }
+
+    /// The same values as rows. Their cuts are among those of the list.
+    pub(crate) fn to_rows(&self) -> Result<RangeRows<V>, Memory>
+        ensures days { IfOk result (λ rows. rows.days ≡ self.now.days) }
+        ensures cuts { IfOk result (λ rows. (cut : ℕ) → Contains rows.cuts cut → Contains self.now.cuts cut) }
+    {
+        rows_of(self.alloc, &self.entries)
+    }
+}
+
+// The values by weekday of a range without a value.
+fn empty_row<V: Value>() -> [V; 7]
+    ensures { result ≡ empty_week V.nothing }
+{
+    [
+        V::empty(),
+        V::empty(),
+        V::empty(),
+        V::empty(),
+        V::empty(),
+        V::empty(),
+        V::empty(),
+    ]
+}
+
+// The number of a period's days, under the class of the empty value.
+fn empty_counts<V: Value, C: Change<V>>(empty: &[V; 7], period: &Period, change: &C) -> [u32; 5]
+    requires { empty.now ≡ empty_week V.nothing }
+    ensures { result ≡ counts_on (holds period.now) (C.class_of change.now) (each_day (λ _. V.nothing)) }
+{
+    let first = period.first().number() as u32;
+    let last = period.last().number() as u32;
+    let mask = period.mask().days();
+    class_counts(empty, &[], &[], first, last, &mask, change)
+}
+
+// Adds a cut, unless there is one.
+fn add_day(cuts: &mut Vec<u32>, day: u32)
+    requires rising { IsStrictlyIncreasing cuts.old.items }
+    requires room { vec_len cuts.old < vec_capacity cuts.old }
+    ensures cuts { cuts.new.items ≡ with_cut cuts.old.items day }
+    ensures capacity { vec_capacity cuts.old ≤ vec_capacity cuts.new }
+{
+    if has_cut(cuts, day) {
+        return;
+    }
+    let place = place_of(cuts, day);
+    if let Err(_) = cuts.insert(place, day) {
+        unreachable!();
+    }
+}

@@ -1,0 +1,118 @@
+//! Lists of periods with values.
+ghost use Rattle.std.specs.Prelude.{◌≡◌, ℕ, List, [], true, IfOk, IsTrue};
+ghost use Rattle.std.specs.List.{Contains};
+ghost use Rattle.ssim_periods.specs.Apart.{value_in, AreDivided};
+ghost use Rattle.ssim_periods.specs.Calendar.{holds};
+ghost use Rattle.ssim_periods.specs.Days.{each_day};
+ghost use Rattle.ssim_periods.specs.Pieces.{held_on};
+
+use crate::common_days::meets;
+use crate::range_rows::RangeRows;
+use crate::{Change, Value};
+use ssim_values::{Day, Memory, Period};
+use std::alloc::Global;
+
+// The value of a day: that of the last period that holds it, or the empty value.
+pub(crate) fn value_at<'a, V: Value>(entries: &'a [(Period, V)], empty: &'a V, day: Day) -> &'a V
+    ensures { result.now ≡ value_in empty.now entries.now day }
+{
+    let mut place = entries.len();
+    while place > 0 {
+        place -= 1;
+        if entries[place].0.holds(day) {
+            return &entries[place].1;
+        }
+    }
+    empty
+}
+
+// Whether a period has no day in common with any of a list.
+pub(crate) fn meets_none<V: Value>(entries: &[(Period, V)], period: &Period) -> bool
+    ensures { IsTrue result → (n : ℕ) → holds period.now n ≡ true → held_on entries.now n ≡ [] }
+{
+    for entry in entries {
+        if meets(period, &entry.0) {
+            return false;
+        }
+    }
+    true
+}
+
+// Copies of periods with values.
+pub(crate) fn copy_entries<V: Value>(
+    alloc: Global,
+    entries: &[(Period, V)],
+) -> Result<Vec<(Period, V)>, Memory>
+    ensures { IfOk result (λ copies. copies.items ≡ entries.now) }
+{
+    let mut copies = Vec::new(alloc);
+    copies.reserve(entries.len())?;
+    for entry in entries {
+        let value = entry.1.copy(alloc)?;
+        copies.push((entry.0, value))?;
+    }
+    Ok(copies)
+}
+
+// Copies of periods with values. A value that is equal to the one before it is a copy of that copy.
+pub(crate) fn shared_entries<V: Value>(
+    alloc: Global,
+    entries: &[(Period, V)],
+) -> Result<Vec<(Period, V)>, Memory>
+    ensures { IfOk result (λ copies. copies.items ≡ entries.now) }
+{
+    let mut copies = Vec::new(alloc);
+    copies.reserve(entries.len())?;
+    for entry in entries {
+        let value = shared_value(alloc, &copies, &entry.1)?;
+        copies.push((entry.0, value))?;
+    }
+    Ok(copies)
+}
+
+// A copy of a value: of the last one of a list, if that is equal.
+fn shared_value<V: Value>(alloc: Global, copies: &[(Period, V)], value: &V) -> Result<V, Memory>
+    ensures { IfOk result (λ copy. copy ≡ value.now) }
+{
+    if let Some(latest) = copies.last() {
+        if value.same(&latest.1) {
+            return Ok(latest.1.copy(alloc)?);
+        }
+    }
+    Ok(value.copy(alloc)?)
+}
+
+// The change that gives each day one value.
+#[derive(Drop)]
+struct SetTo<'a, V: Value> {
+    value: &'a V,
+}
+
+impl<'a, V: Value> Change<V> for SetTo<'a, V> {
+    ghost outcome = { λ set _. set.value.now };
+
+    ghost class_of = { λ _ _. 0 };
+
+    fn after(&self, alloc: Global, _old: &V) -> Result<V, Memory> {
+        self.value.copy(alloc)
+    }
+
+    fn class(&self, _old: &V) -> u8 {
+        0
+    }
+}
+
+// The rows with these values. Their cuts are those that divide the periods.
+pub(crate) fn rows_of<V: Value>(
+    alloc: Global,
+    entries: &[(Period, V)],
+) -> Result<RangeRows<V>, Memory>
+    ensures days { IfOk result (λ rows. rows.days ≡ each_day (value_in V.nothing entries.now)) }
+    ensures cuts { IfOk result (λ rows. (cuts : List ℕ) → AreDivided cuts entries.now → (cut : ℕ) → Contains rows.cuts cut → Contains cuts cut) }
+{
+    let mut rows = RangeRows::new(alloc);
+    for entry in entries {
+        rows.apply(&entry.0, &SetTo { value: &entry.1 })?;
+    }
+    Ok(rows)
+}
