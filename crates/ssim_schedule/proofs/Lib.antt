@@ -24,11 +24,12 @@ pub mod BlockLemmas
 pub mod Valid
 pub mod SinkLemmas
 pub mod Whole
-pub mod TakenLemmas
+pub mod DateLemmas
+pub mod LegSequences
+pub mod LegTables
 pub mod KeptLemmas
 pub mod ReadingBack
 pub mod ReadingLemmas
-pub mod FlightLists
 pub mod BaseFrame
 pub mod SavedBases
 pub mod ReadBackBy

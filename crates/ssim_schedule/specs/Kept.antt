@@ -1,28 +1,25 @@
 -- What is known of the records that a base has so far, the latest of which comes first.
-use Rattle.std.specs.Prelude.{◌≡◌, ℕ, ◌<◌, Bool, true, false, ◌&&◌, nat_eq, nat_lt, unwrap_or, Some, None, List, [], ◌∷◌, reverse}
+use Rattle.std.specs.Prelude.{◌≡◌, ℕ, Bool, true, false, ◌&&◌, nat_eq, nat_lt, unwrap_or, Some, None, List, [], ◌∷◌, reverse}
 use Rattle.std.specs.List.{list_any}
-use Rattle.std.specs.BTreeSet.{contains}
-use Rattle.std.specs.Ordering.{nat_cmp}
 use Rattle.std.specs.Str.{bytes_eq}
 use Rattle.ssim_values.specs.Flight.{FlightNumber, IsFlight}
 use Rattle.ssim_values.specs.Period.{DayRange}
 use Rattle.ssim_periods.specs.Calendar.{holds}
-use Rattle.ssim_periods.specs.Days.{each_day}
 use Rattle.ssim_records.specs.Leg.{LegFields, Name}
 use Rattle.ssim_records.specs.declared.record.Record.{Record}
 use Rattle.ssim_records.specs.declared.record.Record.TheVariants.{Header, Carrier, Leg, Segment, Trailer}
 use Rattle.ssim_schedule.specs.Base.{airline_of, carrier_end, is_trailer, is_leg_named, is_overflow, is_rate, refusal_at, kept}
-use Rattle.ssim_schedule.specs.Building.{IsPlaced, name_place}
-use Rattle.ssim_schedule.specs.Taken.{sequence_place, use_if, used_at}
+use Rattle.ssim_schedule.specs.BaseSeen.{is_leg_of}
+use Rattle.ssim_schedule.specs.LegTable.{has_legs, legs_at, names_leg, uses_date}
+use Rattle.ssim_schedule.specs.ReadBack.{place_of}
 use Rattle.ssim_schedule.specs.Timetable.{same_flight, period_of}
 use Rattle.ssim_schedule.specs.declared.kept.Heading.{Heading}
 use Rattle.ssim_schedule.specs.declared.kept.Kept.{Kept}
 use Rattle.ssim_schedule.specs.declared.kept.Place.{Place}
 use Rattle.ssim_schedule.specs.declared.kept.Place.TheVariants as place
-use Rattle.ssim_schedule.specs.declared.leg_names.LegNames.{LegNames}
+use Rattle.ssim_schedule.specs.declared.leg_table.LegTable.{LegTable}
 use Rattle.ssim_schedule.specs.declared.fault.BaseFault.{BaseFault}
 use Rattle.ssim_schedule.specs.declared.fault.BaseFault.TheVariants as fault
-use Rattle.ssim_schedule.specs.declared.taken.Taken.{Taken}
 
 -- two records at least, the latest of which is a trailer or not
 abbrev pub Follows : Bool → List Record → Type 0
@@ -50,22 +47,17 @@ gives flight sequence day (Leg e) = (same_flight flight e.name.flight && nat_eq 
 gives flight sequence day (Segment e) = false
 gives flight sequence day (Trailer e) = false
 
--- the dates that are used are those that the leg records give
-abbrev pub AreTaken : Taken → List Record → Type 0
-AreTaken t earlier =
-    (flight : FlightNumber) (sequence : ℕ) → IsFlight flight → sequence < 100
-    → used_at t (sequence_place flight sequence) ≡ each_day (λ day. use_if (list_any (gives flight sequence day) earlier))
-
--- the names are those of the leg records
-abbrev pub AreNames : LegNames → List Record → Type 0
-AreNames names earlier = (name : Name) → IsPlaced name → contains nat_cmp names.places (name_place name) ≡ list_any (is_leg_named name) earlier
+-- the names, dates and flights of the table are those of these records
+pub record AreLegs (table : LegTable) (earlier : List Record) : Type 0 where
+  pub named : (name : Name) → IsFlight name.flight → names_leg (legs_at table (place_of name.flight)) name.sequence name.variation ≡ list_any (is_leg_named name) earlier
+  pub used : (flight : FlightNumber) (sequence day : ℕ) → IsFlight flight → uses_date (legs_at table (place_of flight)) sequence day ≡ list_any (gives flight sequence day) earlier
+  pub flown : (flight : FlightNumber) → IsFlight flight → has_legs (legs_at table (place_of flight)) ≡ list_any (is_leg_of flight) earlier
 
 -- what is kept of these records
 pub record IsKept (k : Kept) (earlier : List Record) : Type 0 where
   pub records : k.records.items ≡ reverse earlier
   pub at_place : IsPlace k.place earlier
-  pub taken : AreTaken k.taken earlier
-  pub names : AreNames k.names earlier
+  pub legs : AreLegs k.legs earlier
 
 -- a record more stands, and is kept
 pub record Stood (new : Kept) (earlier : List Record) (r : Record) : Type 0 where

@@ -15,7 +15,7 @@ pub mod Built
 pub mod Sinks
 pub mod Plan
 pub mod Dates
-pub mod Taken
+pub mod LegTable
 pub mod Kept
 pub mod Gathering
 pub mod Stations
@@ -29,4 +29,3 @@ pub mod Columns
 pub mod Effect
 pub mod Acts
 pub mod EffectExamples
-pub mod FlightOrder

@@ -12,7 +12,6 @@ ghost use Rattle.ssim_schedule.specs.SavedBase.{IsBaseRecords};
 ghost use Rattle.ssim_schedule.specs.Timetable.{days_of};
 
 use crate::fault::BaseFault;
-use crate::flights::flights_of;
 use crate::gathering::Gathering;
 use crate::note::Note;
 use crate::reading::gather;
@@ -102,7 +101,7 @@ impl Base {
         }
         // A list that grew may have as much unused room as it has records.
         kept.records.shrink_to_fit();
-        let flights = flights_of(alloc, &kept.records)?;
+        let flights = kept.legs.flights()?;
         let base = Base {
             records: kept.records,
             stations,

@@ -8,8 +8,7 @@ ghost use Rattle.ssim_schedule.specs.Kept.{IsKept, IsPlace, IsRefused, LegStands
 ghost use Rattle.ssim_schedule.specs.declared.kept.Place.TheVariants as place;
 
 use crate::fault::{BaseFault, BaseRefusal};
-use crate::leg_names::LegNames;
-use crate::taken::Taken;
+use crate::leg_table::LegTable;
 use ssim_records::{Carrier, EndCode, LegRecord, Record, SegmentRecord, Trailer};
 use ssim_values::{Airline, Day, Memory, Period};
 use std::alloc::Global;
@@ -41,8 +40,8 @@ pub(crate) enum Place {
 pub(crate) struct Kept {
     pub records: Vec<Record>,
     pub place: Place,
-    taken: Taken,
-    names: LegNames,
+    /// What the leg records name, and the dates that they have.
+    pub legs: LegTable,
 }
 
 impl Kept {
@@ -53,8 +52,7 @@ impl Kept {
         Kept {
             records: Vec::new(alloc),
             place: Place::Header,
-            taken: Taken::new(alloc),
-            names: LegNames::new(alloc),
+            legs: LegTable::new(alloc),
         }
     }
 
@@ -94,8 +92,7 @@ impl Kept {
     fn push(&mut self, place: Place, one: Record) -> Result<(), Memory>
         ensures records { OnOk result (self.new.records.items ≡ self.old.records.items ++ one ∷ []) }
         ensures place { OnOk result (self.new.place ≡ place) }
-        ensures taken { self.new.taken ≡ self.old.taken }
-        ensures names { self.new.names ≡ self.old.names }
+        ensures legs { self.new.legs ≡ self.old.legs }
     {
         self.records.push(one)?;
         self.place = place;
@@ -143,9 +140,7 @@ impl Kept {
         ensures err { IfErr result (λ e. (earlier : List Record) → IsKept self.old earlier → IsRefused number earlier (Record.Leg leg.now) e) }
     {
         let period = leg_period(number, heading, leg)?;
-        let name = leg.name();
-        self.names.add(name)?;
-        if self.taken.take(name.flight(), name.sequence(), &period)? {
+        if self.legs.add(leg.name(), &period)? {
             return Err(BaseFault::Refused(number, BaseRefusal::Overlap));
         }
         let leg = leg.with_last(period.last()).with_blanks().with_serial(0);
@@ -169,7 +164,7 @@ impl Kept {
         if is_overflow(segment.overflow()) {
             return Err(BaseFault::Refused(number, BaseRefusal::Overflow));
         }
-        if !self.names.has(segment.name()) {
+        if !self.legs.has(segment.name()) {
             return Err(BaseFault::Refused(number, BaseRefusal::Segment));
         }
         let segment = segment.with_blank().with_serial(0);

@@ -8,7 +8,6 @@ ghost use Rattle.std.specs.Ordering.{as_partial_cmp, nat_cmp};
 
 use crate::flight_table::place;
 use ssim_records::LegName;
-use ssim_values::Flight;
 use std::cmp::Ordering;
 use std::marker::Model;
 
@@ -64,61 +63,6 @@ impl PartialOrd for LegKey {
     ghost laws = { partial_order_from_own_ties (Prim.search (comparing, rules)) (Prim.search (comparing, rules)) };
 
     fn partial_cmp(&self, other: &LegKey) -> Option<Ordering> {
-        Some(self.cmp(other))
-    }
-}
-
-/// A leg sequence of a flight, whatever the itinerary variation, as a key of maps. Keys rise by flight and sequence.
-#[derive(Clone, Copy, Debug, PartialEq, Eq)]
-pub(crate) struct SequenceKey {
-    number: u64,
-}
-
-impl Model for SequenceKey {
-    ghost use Rattle.std.specs.Prelude.{ℕ};
-
-    ghost Value = { ℕ };
-
-    ghost view = { λ k. k.number };
-
-    ghost inverse = { λ n. record { number = n } };
-}
-
-impl SequenceKey {
-    ghost use Rattle.ssim_values.specs.Flight.{IsFlight};
-    ghost use Rattle.ssim_schedule.specs.Taken.{sequence_place};
-
-    /// The key of a leg sequence of a flight.
-    pub(crate) fn of(flight: Flight, sequence: u8) -> SequenceKey
-        ensures value { result ≡ sequence_place flight sequence }
-        ensures flight { IsFlight flight }
-    {
-        SequenceKey {
-            number: place(flight) as u64 * 100 + sequence as u64,
-        }
-    }
-}
-
-impl Ord for SequenceKey {
-    ghost cmp = { nat_cmp };
-
-    ghost total = { Prim.search (comparing, rules) };
-
-    ghost matches_partial_cmp = { Prim.search (comparing, rules) };
-
-    ghost matches_eq = { Prim.search (comparing, rules) };
-
-    fn cmp(&self, other: &SequenceKey) -> Ordering {
-        self.number.cmp(&other.number)
-    }
-}
-
-impl PartialOrd for SequenceKey {
-    ghost partial_cmp = { as_partial_cmp nat_cmp };
-
-    ghost laws = { partial_order_from_own_ties (Prim.search (comparing, rules)) (Prim.search (comparing, rules)) };
-
-    fn partial_cmp(&self, other: &SequenceKey) -> Option<Ordering> {
         Some(self.cmp(other))
     }
 }

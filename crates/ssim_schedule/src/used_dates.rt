@@ -5,7 +5,7 @@ ghost use Rattle.std.specs.List.{list_any};
 ghost use Rattle.ssim_periods.specs.Calendar.{holds, slot};
 ghost use Rattle.ssim_schedule.specs.Base.{meet};
 ghost use Rattle.ssim_schedule.specs.Dates.{has_date, have_common_date};
-ghost use Rattle.ssim_schedule.specs.Taken.{is_used};
+ghost use Rattle.ssim_schedule.specs.LegTable.{is_used};
 
 use crate::day_set::DaySet;
 use ssim_values::{Memory, Period};

@@ -1,7 +1,7 @@
 -- Two periods have a date in common where a weekday of both has a day in both ranges.
 use Rattle.std.proofs.Common.{◌≡◌, ℕ, ◌≤◌, true, false, slice_index_or, ap, refl, sym, ◌∙◌, arith}
 use Rattle.ssim_periods.specs.Calendar.{holds}
-use Rattle.ssim_schedule.proofs.TakenLemmas.{common-date, holds-between, meet-none}
+use Rattle.ssim_schedule.proofs.DateLemmas.{common-date, holds-between, meet-none}
 use Rattle.ssim_schedule.proofs.used_dates.meets.Goals as goal
 
 pub returns-then-last-first : goal.returns-then-last-first

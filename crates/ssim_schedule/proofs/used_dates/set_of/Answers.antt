@@ -4,7 +4,7 @@ use Rattle.std.specs.List.{list_any}
 use Rattle.std.proofs.lemmas.List.Folds.{list_any_more}
 use Rattle.ssim_values.specs.Period.{DayRange}
 use Rattle.ssim_periods.specs.Calendar.{holds}
-use Rattle.ssim_schedule.proofs.TakenLemmas.{or-flip}
+use Rattle.ssim_schedule.proofs.DateLemmas.{or-flip}
 use Rattle.ssim_schedule.proofs.used_dates.set_of.Goals as goal
 
 pub loop-period-preserved : goal.loop-period-preserved

@@ -1,10 +1,12 @@
 -- The records that were gathered are a base where none is missing.
-use Rattle.std.proofs.Common.{◌≡◌, List, Ok, Err, None, rules, ap, sym, subst, ◌∙◌}
+use Rattle.std.proofs.Common.{◌≡◌, List, reverse, Ok, Err, None, rules, ap, sym, subst, ◌∙◌}
+use Rattle.ssim_values.specs.Flight.{FlightNumber}
 use Rattle.ssim_records.specs.declared.record.Record.{Record}
 use Rattle.ssim_schedule.specs.Base.{Done, Outcome}
 use Rattle.ssim_schedule.specs.BaseSeen.{AreFlights, WasRead}
 use Rattle.ssim_schedule.specs.declared.fault.BaseFault.TheVariants.{Refused}
 use Rattle.ssim_schedule.specs.declared.note.Note.{Note}
+use Rattle.ssim_schedule.proofs.LegTables.{flights-are}
 use Rattle.ssim_schedule.proofs.ReadingLemmas.{missing-outcome, of-all, whole-outcome}
 use Rattle.ssim_schedule.proofs.base.Base.finish.Goals as goal
 
@@ -25,7 +27,8 @@ invariant_of-base c =
         spelt = r.so_far.records;
         read = sym (whole-outcome c.args.gathering r.earlier r.done c.args.number r.so_far (sym (c.missing.ensures r.earlier r.so_far.is_kept) ∙ none));
       }),
-      subst (λ (rs : List Record). AreFlights rs c.in_ok-flights.flights.items) c.deref.ensures.value c.in_ok-flights.ensures,
+      subst (λ (rs : List Record). AreFlights rs c.in_ok-flights.flights.items) (sym (items ∙ r.so_far.is_kept.records))
+          (subst (λ (fs : List FlightNumber). AreFlights (reverse r.earlier) fs) (sym c.in_ok-flights.ensures) (flights-are c.args.gathering.kept.legs r.earlier r.so_far.is_kept.legs.flown)),
     )
 
 abbrev outcome_of : List Record → List Note → Outcome

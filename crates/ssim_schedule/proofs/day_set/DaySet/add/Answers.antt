@@ -2,7 +2,7 @@
 use Rattle.std.proofs.Common.{ℕ, ◌<◌, ◌*◌, ◌/◌, ◌%◌, ◌^◌, length, slice_set, bit_or, ap, ◌∙◌, arith}
 use Rattle.std.proofs.lemmas.List.{get_or_default}
 use Rattle.ssim_schedule.specs.Dates.{has_date}
-use Rattle.ssim_schedule.proofs.TakenLemmas.{date-added}
+use Rattle.ssim_schedule.proofs.DateLemmas.{date-added}
 use Rattle.ssim_schedule.proofs.day_set.DaySet.add.Goals as goal
 
 pub returns-clause-days : goal.returns-clause-days

@@ -1,6 +1,6 @@
 -- Each day of the period is added once.
 use Rattle.std.proofs.Common.{◌≡◌, ℕ, ◌≤◌, ◌+◌, true, false, subst, ◌∙◌, arith}
-use Rattle.ssim_schedule.proofs.TakenLemmas.{Added, added-day, added-last, added-none, holds-between}
+use Rattle.ssim_schedule.proofs.DateLemmas.{Added, added-day, added-last, added-none, holds-between}
 use Rattle.ssim_schedule.proofs.day_set.DaySet.add_period.Goals as goal
 use Rattle.ssim_schedule.proofs.day_set.DaySet.add_period.Goals.{then-weekdays-day, else-weekdays-day}
 

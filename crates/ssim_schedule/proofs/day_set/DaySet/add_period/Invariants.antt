@@ -1,4 +1,4 @@
-use Rattle.ssim_schedule.proofs.TakenLemmas.{Added}
+use Rattle.ssim_schedule.proofs.DateLemmas.{Added}
 use Rattle.ssim_schedule.proofs.day_set.DaySet.add_period.Given as goal
 
 abbrev pub invariant-loop-day : goal.invariant-loop-day

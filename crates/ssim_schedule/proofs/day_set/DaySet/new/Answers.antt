@@ -1,7 +1,7 @@
 -- In words that are all 0 no date has its bit.
 use Rattle.std.proofs.Common.{ℕ, List, ap, ◌∙◌}
 use Rattle.ssim_schedule.specs.Dates.{has_date}
-use Rattle.ssim_schedule.proofs.TakenLemmas.{no-bits}
+use Rattle.ssim_schedule.proofs.DateLemmas.{no-bits}
 use Rattle.ssim_schedule.proofs.day_set.DaySet.new.Goals as goal
 
 pub returns : goal.returns

@@ -9,4 +9,4 @@ pub returns-in_ok-push-in-Carrier-clause-stood : goal.returns-in_ok-push-in-Carr
 returns-in_ok-push-in-Carrier-clause-stood c = λ earlier is.
     let pushed = c.in_ok-push-in-Carrier.ensures in
     rw c.in-Carrier.is (stood-carrier c.args.self.now c.push.new.self (record { airline = c.airline.result; end = c.end_of.result }) c.in-Carrier.carrier earlier c.requires is
-    (pushed.records ∙ ap (λ (r : CarrierFields). c.args.self.now.records.items ++ Carrier r ∷ []) c.with_serial.ensures) pushed.place (cc) (cc) pushed.taken pushed.names)
+    (pushed.records ∙ ap (λ (r : CarrierFields). c.args.self.now.records.items ++ Carrier r ∷ []) c.with_serial.ensures) pushed.place (cc) (cc) pushed.legs)

@@ -2,11 +2,15 @@
 use Rattle.std.proofs.Common.{rules, ◌++◌, ◌∷◌, [], refl, ap, ◌∙◌}
 use Rattle.ssim_records.specs.Segment.{SegmentFields}
 use Rattle.ssim_records.specs.declared.record.Record.TheVariants.{Segment}
-use Rattle.ssim_schedule.proofs.KeptLemmas.{stood-segment}
+use Rattle.ssim_schedule.proofs.KeptLemmas.{segment-refused, stood-segment}
 use Rattle.ssim_schedule.proofs.kept.Kept.put_segment.Goals as goal
 
 pub returns-clause-stood : goal.returns-clause-stood
 returns-clause-stood c = λ earlier is.
-    stood-segment c.args.self.now (record { records = c.push.new.self; place = c.args.self.now.place; taken = c.args.self.now.taken; names = c.args.self.now.names }) c.args.heading c.args.segment.now earlier c.requires is
+    stood-segment c.args.self.now (record { records = c.push.new.self; place = c.args.self.now.place; legs = c.args.self.now.legs }) c.args.heading c.args.segment.now earlier c.requires is
     (c.in_ok-push.ensures.items ∙ ap (λ (r : SegmentFields). c.args.self.now.records.items ++ Segment r ∷ []) (c.with_serial-segment.ensures ∙ ap (λ (r : SegmentFields). record r { serial = 0 }) c.with_blank.ensures))
-    c.requires refl refl (search rules) (search rules) (search rules) (search rules)
+    c.requires refl (search rules) (search rules) (search rules) (search rules)
+
+pub returns-then-not-has-clause-err : goal.returns-then-not-has-clause-err
+returns-then-not-has-clause-err c = λ earlier is.
+    (refl, segment-refused c.args.self.now c.args.heading c.args.segment.now earlier c.requires is (search rules) (search rules) (search rules) (search rules))

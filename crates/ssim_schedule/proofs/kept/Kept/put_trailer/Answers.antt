@@ -9,4 +9,4 @@ pub returns-in_ok-push-in-End-clause-stood : goal.returns-in_ok-push-in-End-clau
 returns-in_ok-push-in-End-clause-stood c = λ earlier is.
     let pushed = c.in_ok-push-in-End.ensures in
     stood-trailer c.args.self.now c.push.new.self c.args.heading c.args.trailer.now earlier c.requires is
-    (pushed.records ∙ ap (λ (r : TrailerFields). c.args.self.now.records.items ++ Trailer r ∷ []) c.with_serials.ensures) pushed.place pushed.taken pushed.names (search rules) (search rules)
+    (pushed.records ∙ ap (λ (r : TrailerFields). c.args.self.now.records.items ++ Trailer r ∷ []) c.with_serials.ensures) pushed.place pushed.legs (search rules) (search rules)

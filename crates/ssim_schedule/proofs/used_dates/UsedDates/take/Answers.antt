@@ -5,9 +5,9 @@ use Rattle.ssim_values.specs.Period.{DayRange}
 use Rattle.ssim_periods.specs.Calendar.{holds}
 use Rattle.ssim_schedule.specs.Base.{meet}
 use Rattle.ssim_schedule.specs.Dates.{have_common_date}
-use Rattle.ssim_schedule.specs.Taken.{is_used}
+use Rattle.ssim_schedule.specs.LegTable.{is_used}
 use Rattle.ssim_schedule.specs.declared.used_dates.UsedDates.{UsedDates}
-use Rattle.ssim_schedule.proofs.TakenLemmas.{meets-any}
+use Rattle.ssim_schedule.proofs.DateLemmas.{meets-any}
 use Rattle.ssim_schedule.proofs.used_dates.UsedDates.take.Goals as goal
 
 pub returns-in_ok-push-in-Few-clause-met : goal.returns-in_ok-push-in-Few-clause-met

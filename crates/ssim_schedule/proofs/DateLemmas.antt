@@ -1,49 +1,19 @@
--- The dates that are used: as a list of one value a day, as periods, and as bits.
-use Rattle.std.proofs.Common.{◌≡◌, ◌≢◌, ℕ, zero, suc, ◌+◌, ◌*◌, ◌/◌, ◌%◌, ◌^◌, ◌<◌, ◌≤◌, bit_or, max, min, slice_set, w64, Bool, true, false, ◌&&◌, ◌||◌, nat_eq, nat_le, nat_lt, if◌then◌else◌, List, [], ◌∷◌, map, Some, length, replicate, slice_index, slice_index_or, refl, sym, ap, ◌∙◌, arith}
+-- Sets of dates: as periods and as bits, and whether two of them have a date in common.
+use Rattle.std.proofs.Common.{◌≡◌, ◌≢◌, ℕ, zero, suc, ◌+◌, ◌*◌, ◌/◌, ◌%◌, ◌^◌, ◌<◌, ◌≤◌, bit_or, max, min, slice_set, w64, Bool, true, false, ◌&&◌, ◌||◌, nat_eq, nat_le, nat_lt, List, [], ◌∷◌, length, replicate, slice_index, slice_index_or, refl, sym, ap, ◌∙◌, arith}
 use Rattle.std.proofs.Math.Bool.{and-false, and-true}
 use Rattle.std.proofs.lemmas.Bool.Decides.{nat_tests}
 use Rattle.std.proofs.lemmas.List.{get_or-set_other, get_or-set_same}
 use Rattle.std.proofs.lemmas.Nat.Bits.{bit_at-zero, bit_at_set_other, bit_at_set_same}
-use Rattle.std.specs.BTreeMap.{get}
-use Rattle.std.specs.Int.{bit_at}
+use Rattle.std.specs.Int.{Width, bit_at}
+use mir.Val.{bits}
 use Rattle.std.specs.List.{list_any, range_with_len}
-use Rattle.std.specs.Ordering.{nat_cmp}
 use Rattle.ssim_values.specs.Period.{DayRange}
 use Rattle.ssim_periods.specs.Calendar.{day_count, holds, slot}
-use Rattle.ssim_periods.specs.Days.{changed_on, count_on, each_day}
-use Rattle.ssim_periods.proofs.DayLemmas.{changed_on-each_day, day_count-is, each_day-same}
+use Rattle.ssim_periods.proofs.DayLemmas.{day_count-is}
 use Rattle.ssim_schedule.specs.Base.{meet}
 use Rattle.ssim_schedule.specs.Dates.{has_date, have_common_date}
-use Rattle.ssim_schedule.specs.Taken.{Used, class_of_use, is_used, is_used_of, use_if, used_at}
-use Rattle.ssim_schedule.specs.declared.taken.Taken.{Taken}
-use Rattle.ssim_schedule.specs.declared.used_dates.UsedDates.{UsedDates}
 
--- ---- dates as a list of one value a day
-
-pub use-all : (p : DayRange) (f : ℕ → Bool) → changed_on (holds p) (λ _. Used) 0 (each_day (λ n. use_if (f n))) ≡ each_day (λ n. use_if (holds p n || f n))
-use-all p f =
-    changed_on-each_day (holds p) (λ _. Used) (λ n. use_if (f n))
-    ∙ each_day-same (λ n. if holds p n then Used else use_if (f n)) (λ n. use_if (holds p n || f n)) (λ n l. by (holds p n) (f n))
-  where
-    by : (b x : Bool) → (if b then Used else use_if x) ≡ use_if (b || x)
-    by true x = refl
-    by false x = refl
-
--- the dates of one more period are used
-pub used-more : (p : DayRange) (f g : ℕ → Bool) → ((n : ℕ) → g n ≡ (holds p n || f n)) → each_day (λ n. use_if (g n)) ≡ changed_on (holds p) (λ _. Used) 0 (each_day (λ n. use_if (f n)))
-used-more p f g more = each_day-same (λ n. use_if (g n)) (λ n. use_if (holds p n || f n)) (λ n l. ap use_if (more n)) ∙ sym (use-all p f)
-
--- a date of the period is used exactly where the count of used dates is not 0
-pub any-used : (s f : ℕ → Bool) (n k : ℕ) → nat_lt 0 (count_on s class_of_use 1 n (map (λ d. use_if (f d)) (range_with_len n k))) ≡ list_any (λ d. s d && f d) (range_with_len n k)
-any-used s f n zero = refl
-any-used s f n (suc k) =
-    by (s n) (f n) (count_on s class_of_use 1 (n + 1) (map (λ d. use_if (f d)) (range_with_len (n + 1) k))) (list_any (λ d. s d && f d) (range_with_len (n + 1) k)) (any-used s f (n + 1) k)
-  where
-    by : (x y : Bool) (c : ℕ) (m : Bool) → nat_lt 0 c ≡ m → nat_lt 0 ((if x && nat_eq (class_of_use (use_if y)) 1 then 1 else 0) + c) ≡ ((x && y) || m)
-    by true true c m h = grind (arith, nat_tests)
-    by true false c m h = let same : 0 + c ≡ c = omega arith in ap (nat_lt 0) same ∙ h
-    by false true c m h = let same : 0 + c ≡ c = omega arith in ap (nat_lt 0) same ∙ h
-    by false false c m h = let same : 0 + c ≡ c = omega arith in ap (nat_lt 0) same ∙ h
+-- ---- whether one of some dates passes two tests
 
 pub any-or : (a b c : ℕ → Bool) (s : Bool) (xs : List ℕ) → list_any (λ n. a n && ((s && b n) || c n)) xs ≡ ((s && list_any (λ n. a n && b n) xs) || list_any (λ n. a n && c n) xs)
 any-or a b c true [] = refl
@@ -110,16 +80,16 @@ no-common-date f g none = any-nowhere (λ d. f d && g d) 0 day_count (λ n l. no
 -- ---- dates as bits
 
 -- bit k of a word after bit j was set
-bit-set : (word j k : ℕ) → j < 64 → nat_eq (bit_at (bit_or word (1 * 2 ^ j % 2 ^ 64)) k) 1 ≡ (nat_eq k j || nat_eq (bit_at word k) 1)
-bit-set word j k l = by (nat_eq k j) refl
+pub bit-set : (w : Width) (word j k : ℕ) → j < bits w → nat_eq (bit_at (bit_or word (1 * 2 ^ j % 2 ^ bits w)) k) 1 ≡ (nat_eq k j || nat_eq (bit_at word k) 1)
+bit-set w word j k l = by (nat_eq k j) refl
   where
-    by : (b : Bool) → nat_eq k j ≡ b → nat_eq (bit_at (bit_or word (1 * 2 ^ j % 2 ^ 64)) k) 1 ≡ (b || nat_eq (bit_at word k) 1)
+    by : (b : Bool) → nat_eq k j ≡ b → nat_eq (bit_at (bit_or word (1 * 2 ^ j % 2 ^ bits w)) k) 1 ≡ (b || nat_eq (bit_at word k) 1)
     by true e =
         let same : k ≡ j = grind (arith, nat_tests) in
-        rw (same, bit_at_set_same w64 word j l) refl
+        rw (same, bit_at_set_same w word j l) refl
     by false e =
         let other : k ≢ j = grind (arith, nat_tests) in
-        rw (bit_at_set_other w64 word j l k other) refl
+        rw (bit_at_set_other w word j l k other) refl
 
 -- two days are one where word and bit are
 same-place : (n day : ℕ) → n / 64 ≡ day / 64 → nat_eq n day ≡ nat_eq (n % 64) (day % 64)
@@ -148,7 +118,7 @@ date-added words day n l = by (nat_eq (n / 64) (day / 64)) refl
         → has_date (slice_set words (day / 64) (bit_or word (1 * 2 ^ (day % 64) % 2 ^ 64))) n ≡ (nat_eq n day || has_date words n)
     by true e =
         let same : n / 64 ≡ day / 64 = grind (arith, nat_tests) in
-        rw same (rw get_or-set_same (bit-set word (day % 64) (n % 64) (omega arith)))
+        rw same (rw get_or-set_same (bit-set w64 word (day % 64) (n % 64) (omega arith)))
         ∙ ap (λ b. b || nat_eq (bit_at word (n % 64)) 1) (sym (same-place n day same))
         ∙ ap (λ k. nat_eq n day || nat_eq (bit_at (slice_index words k) (n % 64)) 1) (sym same)
     by false e =
@@ -305,27 +275,7 @@ or-flip true false = refl
 or-flip false true = refl
 or-flip false false = refl
 
--- ---- dates by flight and leg sequence
-
--- the dates at each place after those at one place were replaced by them and those of a period
-pub used_at-more : (t new : Taken) (key k : ℕ) (p : DayRange) (dates : UsedDates)
-    → get nat_cmp new.legs k ≡ (if nat_eq k key then Some dates else get nat_cmp t.legs k)
-    → ((n : ℕ) → is_used dates n ≡ (holds p n || is_used_of (get nat_cmp t.legs key) n))
-    → used_at new k ≡ (if nat_eq k key then changed_on (holds p) (λ _. Used) 0 (used_at t k) else used_at t k)
-used_at-more t new key k p dates entry more = ap (λ o. each_day (λ n. use_if (is_used_of o n))) entry ∙ by (nat_eq k key) refl
-  where
-    by : (b : Bool) → nat_eq k key ≡ b
-        → each_day (λ n. use_if (is_used_of (if b then Some dates else get nat_cmp t.legs k) n)) ≡ (if b then changed_on (holds p) (λ _. Used) 0 (used_at t k) else used_at t k)
-    by true e =
-        let same : key ≡ k = grind (arith, nat_tests) in
-        used-more p (is_used_of (get nat_cmp t.legs k)) (is_used dates) (λ n. more n ∙ ap (λ j. holds p n || is_used_of (get nat_cmp t.legs j) n) same)
-    by false e = refl
-
--- a period has a used date at a place exactly where the count of them is not 0
-pub used_at-met : (t : Taken) (place : ℕ) (p : DayRange)
-    → have_common_date (holds p) (is_used_of (get nat_cmp t.legs place)) ≡ nat_lt 0 (count_on (holds p) class_of_use 1 0 (used_at t place))
-used_at-met t place p = sym (any-used (holds p) (is_used_of (get nat_cmp t.legs place)) 0 day_count)
-
+-- sets that have the same dates have the same dates in common with another
 pub same-dates : (f g h : ℕ → Bool) → ((n : ℕ) → g n ≡ h n) → have_common_date f g ≡ have_common_date f h
 same-dates f g h same = by (range_with_len 0 day_count)
   where
