@@ -20,7 +20,11 @@ use ssim_records::{LegRecord, Record, SegmentRecord};
 use ssim_values::{Flight, Memory, Period};
 use std::alloc::Global;
 
-// A flight with fewer cuts has its itineraries shared each time that the records go on to another flight.
+// A flight with fewer cuts is not searched for equal itineraries: the search would take more time than the memory is worth. The dates of
+// one group of legs share their itinerary anyway.
+const LEAST: usize = 32;
+
+// A flight with at least `LEAST` and fewer than so many cuts has its itineraries shared each time that the records go on to another flight.
 const FEW: usize = 256;
 
 /// The timetable of some records at the end of a base, and the tails whose leg record is not among them.
@@ -139,14 +143,18 @@ impl Building {
         self.leave(heading.flight, next)
     }
 
-    /// If the next flight is another one, shares the itineraries of this flight if it has few cuts. Files go from flight to flight, so a
-    /// flight is mostly shared once, and one that comes many times costs only its cuts each time.
+    /// If the next flight is another one, shares the itineraries of this flight unless it has very few cuts, or many. Files go from flight
+    /// to flight, so a flight is mostly shared once, and one that comes many times costs only its cuts each time.
     fn leave(&mut self, flight: Flight, next: Option<Flight>) -> Result<(), Memory>
         ensures table { self.new.table ≡ self.old.table }
         ensures group { self.new.group ≡ self.old.group }
         ensures waiting { self.new.waiting ≡ self.old.waiting }
     {
-        if next != Some(flight) && self.table.cuts(&flight).len() < FEW {
+        if next == Some(flight) {
+            return Ok(());
+        }
+        let cuts = self.table.cuts(&flight).len();
+        if LEAST <= cuts && cuts < FEW {
             self.table.share(flight)?;
         }
         Ok(())
