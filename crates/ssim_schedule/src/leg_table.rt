@@ -3,8 +3,6 @@
 ghost use Rattle.std.specs.Prelude.{◌≡◌, ◌≢◌, ℕ, ◌+◌, ◌*◌, ◌/◌, ◌%◌, ◌<◌, ◌++◌, [], Bool, length, OnOk, IfOk, slice_get};
 ghost use Rattle.ssim_values.specs.Flight.{IsFlight};
 ghost use Rattle.ssim_periods.specs.Calendar.{holds};
-ghost use Rattle.ssim_records.specs.Leg.{Name};
-ghost use Rattle.ssim_schedule.specs.Building.{IsPlaced};
 ghost use Rattle.ssim_schedule.specs.Dates.{have_common_date};
 ghost use Rattle.ssim_schedule.specs.Export.{flight_at};
 ghost use Rattle.ssim_schedule.specs.LegTable.{AddsLeg, AddsLegAt, flights_in, flights_left, flights_of, has_legs, legs_at, legs_in, names_leg, uses_date};
