@@ -13,12 +13,14 @@ use Rattle.ssim_schedule.specs.declared.flight_legs.FlightLegs.{FlightLegs}
 use Rattle.ssim_schedule.specs.declared.leg_sequence.LegSequence.{LegSequence}
 use Rattle.ssim_schedule.specs.declared.leg_table.LegTable.{LegTable}
 use Rattle.ssim_schedule.specs.declared.used_dates.UsedDates.{UsedDates}
-use Rattle.ssim_schedule.specs.declared.used_dates.UsedDates.TheVariants.{Few, Many}
+use Rattle.ssim_schedule.specs.declared.used_dates.UsedDates.TheVariants.{Empty, One, Few, Many}
 
 -- ---- one leg sequence of a flight
 
--- whether a date is used: one of the periods holds it, or it is in the set
+-- whether a date is used: the period or one of the periods holds it, or it is in the set
 abbrev pub is_used : UsedDates → ℕ → Bool
+is_used Empty n = false
+is_used (One period) n = holds period n
 is_used (Few periods) n = list_any (λ p. holds p n) periods.items
 is_used (Many set) n = has_date set.words.items n
 

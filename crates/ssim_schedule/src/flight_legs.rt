@@ -77,7 +77,7 @@ impl FlightLegs {
         ensures ok { OnOk result (AddsLeg self.old.entries.items self.new.entries.items sequence variation period.now) }
         ensures met { IfOk result (λ met. met ≡ have_common_date (holds period.now) (uses_date self.old.entries.items sequence)) }
     {
-        let mut entry = LegSequence::new(alloc, sequence);
+        let mut entry = LegSequence::new(sequence);
         let met = entry.add(alloc, variation, period)?;
         if self.entries.is_empty() {
             // Many flights have one leg.

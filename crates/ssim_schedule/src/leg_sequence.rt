@@ -22,7 +22,7 @@ pub(crate) struct LegSequence {
 
 impl LegSequence {
     /// No leg record.
-    pub(crate) fn new(alloc: Global, number: u8) -> LegSequence
+    pub(crate) fn new(number: u8) -> LegSequence
         ensures number { result.number ≡ number }
         ensures variations { (v : ℕ) → has_variation result v ≡ false }
         ensures dates { (n : ℕ) → is_used result.dates n ≡ false }
@@ -30,7 +30,7 @@ impl LegSequence {
         LegSequence {
             number,
             variations: 0,
-            dates: UsedDates::new(alloc),
+            dates: UsedDates::new(),
         }
     }
 

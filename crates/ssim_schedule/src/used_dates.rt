@@ -1,6 +1,6 @@
 //! The dates that the leg records of one flight and leg sequence have.
 
-ghost use Rattle.std.specs.Prelude.{◌≡◌, ℕ, ◌<◌, ◌≤◌, ◌||◌, false, vec_len, OnOk, IfOk};
+ghost use Rattle.std.specs.Prelude.{◌≡◌, ℕ, ◌<◌, ◌≤◌, ◌||◌, ◌∷◌, [], false, vec_len, OnOk, IfOk};
 ghost use Rattle.std.specs.List.{list_any};
 ghost use Rattle.ssim_periods.specs.Calendar.{holds, slot};
 ghost use Rattle.ssim_schedule.specs.Base.{meet};
@@ -18,6 +18,10 @@ const MOST: usize = 64;
 /// The dates that leg records have.
 #[derive(Drop)]
 pub(crate) enum UsedDates {
+    /// No record.
+    Empty,
+    /// The period of the only record. It needs no list.
+    One(Period),
     /// The periods of the records.
     Few(Vec<Period>),
     /// A bit for each date, where there are more records. A data set is refused at the first date that is added twice, so all of them
@@ -27,10 +31,10 @@ pub(crate) enum UsedDates {
 
 impl UsedDates {
     /// No date is used.
-    pub(crate) fn new(alloc: Global) -> UsedDates
+    pub(crate) fn new() -> UsedDates
         ensures { (n : ℕ) → is_used result n ≡ false }
     {
-        UsedDates::Few(Vec::new(alloc))
+        UsedDates::Empty
     }
 
     /// The dates of a period are used. Answers whether one of them was used before.
@@ -39,6 +43,15 @@ impl UsedDates {
         ensures met { IfOk result (λ met. met ≡ have_common_date (holds period.now) (is_used self.old)) }
     {
         match self {
+            UsedDates::Empty => {
+                *self = UsedDates::One(*period);
+                Ok(false)
+            }
+            UsedDates::One(first) => {
+                let met = meets(period, first);
+                *self = UsedDates::Few(pair(alloc, first, period)?);
+                Ok(met)
+            }
             UsedDates::Many(set) => Ok(set.add_period(period)),
             UsedDates::Few(periods) => {
                 if periods.len() < MOST {
@@ -54,6 +67,16 @@ impl UsedDates {
             }
         }
     }
+}
+
+// A list of two periods.
+fn pair(alloc: Global, one: &Period, other: &Period) -> Result<Vec<Period>, Memory>
+    ensures { IfOk result (λ both. both.items ≡ one.now ∷ other.now ∷ []) }
+{
+    let mut both = Vec::new(alloc);
+    both.push(*one)?;
+    both.push(*other)?;
+    Ok(both)
 }
 
 // The dates of some periods.
