@@ -253,7 +253,7 @@ no-rows row week = record {
 
 -- ---- days without a cut between them
 
-holds-same : (p : DayRange) (m n : ℕ) → m ≤ n → slot m ≡ slot n → (m < p.first → n < p.first) → (m < p.last + 1 → n < p.last + 1) → holds p m ≡ holds p n
+pub holds-same : (p : DayRange) (m n : ℕ) → m ≤ n → slot m ≡ slot n → (m < p.first → n < p.first) → (m < p.last + 1 → n < p.last + 1) → holds p m ≡ holds p n
 holds-same p m n le same low high =
     let a : nat_le p.first m ≡ nat_le p.first n = grind (arith, nat_tests) in
     let b : nat_le m p.last ≡ nat_le n p.last = grind (arith, nat_tests) in

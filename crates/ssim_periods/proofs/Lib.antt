@@ -15,3 +15,5 @@ pub mod GatherLemmas
 pub mod NumberLemmas
 pub mod WorkedLemmas
 pub mod ApartLemmas
+pub mod TrimLemmas
+pub mod ListPieces

@@ -167,17 +167,12 @@ short alike nothing days vs once n =
           let few = alone-short alike nothing (slice_index_or days n nothing) in omega arith
     ])
 
-pub pieces-found : {V : Type 0} (alike : V → V → Bool) (nothing : V) → ((x y : V) → IsTrue (alike x y) ↔ (x ≡ y)) → (before : List V) (cuts : List ℕ) (rows : List (List V)) (days values : List V) (pieces sorted : List (DayRange × V)) → AreRows before cuts rows → each_day (value_on nothing before cuts rows) ≡ days →
-    values ≡ gathered alike nothing [] (flat_map (λ row. row) (before ∷ rows)) → pieces ≡ flat_map (pieces_with alike days) values → IsPermutation pieces sorted → IsNonDecreasingBy (λ (piece : DayRange × V). piece.0.first) sorted → sorted ≡ pieces_of alike nothing days
-pieces-found {V} alike nothing exact before cuts rows days values pieces sorted r view gathered_is pieces_are moved order =
-    let f = value_on nothing before cuts rows in
-    let len : length days ≡ 36525 = sym (ap length view) ∙ length-each_day f in
+-- the pieces of values of which one is each day's value, or none where that is empty
+pub pieces-once : {V : Type 0} (alike : V → V → Bool) (nothing : V) → ((x y : V) → IsTrue (alike x y) ↔ (x ≡ y)) → (days values : List V) (pieces sorted : List (DayRange × V)) →
+    ((n : ℕ) → n < length days → filter (λ v. alike v (slice_index_or days n nothing)) values ≡ alone alike nothing (slice_index_or days n nothing)) → pieces ≡ flat_map (pieces_with alike days) values → IsPermutation pieces sorted → IsNonDecreasingBy (λ (piece : DayRange × V). piece.0.first) sorted → sorted ≡ pieces_of alike nothing days
+pieces-once {V} alike nothing exact days values pieces sorted once pieces_are moved order =
     let others = values_of alike nothing days in
     let day = λ (n : ℕ). slice_index_or days n nothing in
-    let once = λ (n : ℕ) (h : n < length days).
-    let value : day n ≡ f n = ap (λ ds. slice_index_or ds n nothing) (sym view) ∙ index-each_day f n nothing (omega arith) in
-    ap (filter (λ v. alike v (day n))) gathered_is
-    ∙ gathered-once alike nothing exact (day n) (flat_map (λ row. row) (before ∷ rows)) (ap (λ x. list_any (alike x) (flat_map (λ row. row) (before ∷ rows))) value ∙ in_rows alike nothing exact before cuts rows n r) in
     let once' = λ (n : ℕ) (h : n < length days). values_of-once alike nothing exact (day n) days ∙ ap (λ b. if b then alone alike nothing (day n) else []) (is-among alike nothing exact days n h) in
     let all = flat_map (pieces_with alike days) others in
     let found = flat_map (pieces_with alike days) values in
@@ -191,3 +186,14 @@ pieces-found {V} alike nothing exact before cuts rows days values pieces sorted 
     (rises-from 0 (length days) (sort_by_first all) (sort-ascends all) begins' few')
     (λ p i. in-sort p all (pieces-among alike nothing days values others (λ n h. once n h ∙ sym (once' n h)) p (subst (In p) pieces_are (in-moved p pieces sorted moved i))))
     (λ p i. in-moved p sorted pieces (IsPermutation-sym pieces sorted moved) (subst (In p) (sym pieces_are) (pieces-among alike nothing days others values (λ n h. once' n h ∙ sym (once n h)) p (sort-in p all i))))
+
+pub pieces-found : {V : Type 0} (alike : V → V → Bool) (nothing : V) → ((x y : V) → IsTrue (alike x y) ↔ (x ≡ y)) → (before : List V) (cuts : List ℕ) (rows : List (List V)) (days values : List V) (pieces sorted : List (DayRange × V)) → AreRows before cuts rows → each_day (value_on nothing before cuts rows) ≡ days →
+    values ≡ gathered alike nothing [] (flat_map (λ row. row) (before ∷ rows)) → pieces ≡ flat_map (pieces_with alike days) values → IsPermutation pieces sorted → IsNonDecreasingBy (λ (piece : DayRange × V). piece.0.first) sorted → sorted ≡ pieces_of alike nothing days
+pieces-found {V} alike nothing exact before cuts rows days values pieces sorted r view gathered_is pieces_are moved order =
+    let f = value_on nothing before cuts rows in
+    let len : length days ≡ 36525 = sym (ap length view) ∙ length-each_day f in
+    let day = λ (n : ℕ). slice_index_or days n nothing in
+    pieces-once alike nothing exact days values pieces sorted (λ n h.
+    let value : day n ≡ f n = ap (λ ds. slice_index_or ds n nothing) (sym view) ∙ index-each_day f n nothing (omega arith) in
+    ap (filter (λ v. alike v (day n))) gathered_is
+    ∙ gathered-once alike nothing exact (day n) (flat_map (λ row. row) (before ∷ rows)) (ap (λ x. list_any (alike x) (flat_map (λ row. row) (before ∷ rows))) value ∙ in_rows alike nothing exact before cuts rows n r)) pieces_are moved order

@@ -1,9 +1,10 @@
 -- Periods with values as a list, of which no two hold a common day.
-use Rattle.std.specs.Prelude.{◌≢◌, ℕ, ◌+◌, ◌≤◌, if◌then◌else◌, List, [], ◌∷◌, length}
-use Rattle.std.specs.List.{All, Contains}
+use Rattle.std.specs.Prelude.{◌≡◌, ◌≢◌, ℕ, ◌+◌, ◌-◌, ◌%◌, ◌≤◌, ◌&&◌, Bool, false, nat_lt, if◌then◌else◌, List, [], ◌∷◌, length, map, slice_index_or}
+use Rattle.std.specs.List.{All, Contains, list_any}
 use Rattle.std.specs.List.Sorted.{IsStrictlyIncreasing}
 use Rattle.ssim_values.specs.Period.{DayRange}
-use Rattle.ssim_periods.specs.Calendar.{holds}
+use Rattle.ssim_periods.specs.Calendar.{day_count, holds, slot}
+use Rattle.ssim_periods.specs.Cover.{cover}
 use Rattle.ssim_periods.specs.Pieces.{held_on}
 
 -- the empty value on each weekday
@@ -26,3 +27,17 @@ pub record AreApart {V : Type 0} (nothing : V) (periods : List (DayRange × V)) 
   pub divided : AreDivided cuts periods
   pub rising : IsStrictlyIncreasing cuts
   pub in_calendar : All (λ cut. cut ≤ 36525) cuts
+
+-- the cover of a period's own days, with its value
+abbrev pub own_cover : {V : Type 0} → DayRange × V → List (DayRange × V)
+own_cover given = map (λ period. (period, given.1)) (cover (holds given.0) day_count)
+
+-- no two of the values are the same
+abbrev pub AreDifferent : {V : Type 0} → (V → V → Bool) → List (DayRange × V) → Type 0
+AreDifferent alike [] = Unit {0}
+AreDifferent alike (given ∷ later) = (list_any (λ other. alike given.1 other.1) later ≡ false) × AreDifferent alike later
+
+-- which of the weekdays, Monday first, have one of the seven days from `first` on before `end`
+abbrev pub weekdays_within : List Bool → ℕ → ℕ → List Bool
+weekdays_within days first end =
+    map (λ weekday. nat_lt (first + (weekday + 7 - slot first) % 7) end && slice_index_or days weekday false) (0 ∷ 1 ∷ 2 ∷ 3 ∷ 4 ∷ 5 ∷ 6 ∷ [])

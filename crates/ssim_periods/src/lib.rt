@@ -24,12 +24,14 @@ mod common_days;
 mod count;
 mod cover;
 mod entries;
+mod entry_pieces;
 mod numbers;
 mod patches;
 mod periods;
 mod range_rows;
 mod rows;
 mod shared;
+mod trim;
 mod value;
 
 pub use periods::Periods;

@@ -12,18 +12,16 @@ use ssim_values::{Memory, Period};
 impl<V: Value> Periods<V> {
     /// The cover of the days of each value other than the empty one, each period with its value, sorted by first day.
     ///
-    /// While the values are kept as rows, each value of a row first gets a number: mostly by one comparison, with the value of the same
-    /// weekday in the row before, else by comparisons with the distinct values. From then on only numbers are compared. Each distinct
-    /// value costs one pass over the ranges, with at most seven comparisons in each.
+    /// The pieces of a few periods without a common date that were given different values are these periods, each trimmed to the days
+    /// that it holds. Otherwise each value of a row first gets a number: mostly by one comparison, with the value of the same weekday in
+    /// the row before, else by comparisons with the distinct values. From then on only numbers are compared. Each distinct value costs
+    /// one pass over the ranges, with at most seven comparisons in each.
     pub fn pieces(&self) -> Result<Vec<(Period, V)>, Memory>
         ensures pieces { IfOk result (λ pieces. pieces.items ≡ pieces_of V.alike V.nothing self.now.days) }
         ensures each_day { OnOk result (length self.now.days ≡ day_count) }
     {
         match &self.form {
-            Form::Apart(periods) => {
-                let rows = periods.to_rows()?;
-                rows.pieces()
-            }
+            Form::Apart(periods) => periods.pieces(),
             Form::Rows(rows) => rows.pieces(),
         }
     }
