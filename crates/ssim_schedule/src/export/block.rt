@@ -127,11 +127,13 @@ fn put_all<W: Sink>(out: &mut W, bytes: &[u8]) -> Result<(), WriteFault>
     Ok(())
 }
 
-/// Puts the bytes of the block into the sink, and empties the block.
+/// Puts the bytes of the block into the sink, and empties the block. After a 52 the block is unchanged: it holds the bytes of which the sink
+/// took a prefix.
 pub fn flush<W: Sink>(out: &mut W, block: &mut Block) -> Result<(), WriteFault>
     ensures ok { OnOk result (Appends (W.taken out.old) (W.taken out.new) block.old) }
     ensures empty { OnOk result (block.new ≡ []) }
     ensures err { OnErr result (TakesFront block.old (W.taken out.old) (W.taken out.new)) }
+    ensures unchanged { OnErr result (block.new ≡ block.old) }
     ensures failures { CountsFault (W.failures out.old) (W.failures out.new) result }
     ensures device { W.device out.new ≡ W.device out.old }
 {
@@ -140,7 +142,8 @@ pub fn flush<W: Sink>(out: &mut W, block: &mut Block) -> Result<(), WriteFault>
     Ok(())
 }
 
-/// Appends a record and LF to the block. If the block has no room for them, its bytes are put into the sink first.
+/// Appends a record and LF to the block. If the block has no room for them, its bytes are put into the sink first. After a 52 the block is
+/// unchanged.
 pub fn put_line<W: Sink>(
     out: &mut W,
     block: &mut Block,
@@ -148,6 +151,7 @@ pub fn put_line<W: Sink>(
 ) -> Result<(), WriteFault>
     ensures ok { OnOk result (TakesUpTo (block.old ++ line bytes.now) block.new (W.taken out.old) (W.taken out.new)) }
     ensures err { OnErr result (TakesFront (block.old ++ line bytes.now) (W.taken out.old) (W.taken out.new)) }
+    ensures unchanged { OnErr result (block.new ≡ block.old) }
     ensures failures { CountsFault (W.failures out.old) (W.failures out.new) result }
     ensures device { W.device out.new ≡ W.device out.old }
 {
@@ -159,10 +163,11 @@ pub fn put_line<W: Sink>(
 }
 
 /// Appends bytes to the block. If the block has no room for them, its bytes are put into the sink first; bytes that are longer than a
-/// block follow them directly.
+/// block follow them directly. After a 52 the block is unchanged.
 pub fn put_bytes<W: Sink>(out: &mut W, block: &mut Block, bytes: &[u8]) -> Result<(), WriteFault>
     ensures ok { OnOk result (TakesUpTo (block.old ++ bytes.now) block.new (W.taken out.old) (W.taken out.new)) }
     ensures err { OnErr result (TakesFront (block.old ++ bytes.now) (W.taken out.old) (W.taken out.new)) }
+    ensures unchanged { OnErr result (block.new ≡ block.old) }
     ensures failures { CountsFault (W.failures out.old) (W.failures out.new) result }
     ensures device { W.device out.new ≡ W.device out.old }
 {
@@ -170,13 +175,15 @@ pub fn put_bytes<W: Sink>(out: &mut W, block: &mut Block, bytes: &[u8]) -> Resul
         block.push(bytes);
         return Ok(());
     }
-    flush(out, block)?;
-    if block.has_room(bytes.len()) {
-        block.push(bytes);
-        Ok(())
-    } else {
-        put_all(out, bytes)
+    put_all(out, block.bytes())?;
+    if bytes.len() > ROOM {
+        put_all(out, bytes)?;
+        block.clear();
+        return Ok(());
     }
+    block.clear();
+    block.push(bytes);
+    Ok(())
 }
 
 /// Puts `count` records of fill.
