@@ -9,6 +9,8 @@ use std::error::Error;
 use std::fmt;
 
 /// Why a device neither gave nor took bytes. A fault is displayed as its name.
+///
+/// It has no number of its own. The call that reads from the source returns 13, and the call that writes to the sink returns 52.
 #[derive(Clone, Copy, Debug, PartialEq, Eq)]
 pub enum DeviceFault {
     /// A device that grows is out of memory.
