@@ -30,10 +30,10 @@ module _ (name : Text) (a : Text) (la : Looks a) where
   abbrev s1 : Shape
   s1 = ready (leaf name one_value)
 
-  abbrev v1 : Walk
+  abbrev pub v1 : Walk
   v1 = to_positional s1.rules (arg_by_index s1.rules 1) a (at nothing_held idle 1) nothing_held
 
-  w1 : walked s1.rules [] (at nothing_held idle 1) a ≡ v1
+  pub w1 : walked s1.rules [] (at nothing_held idle 1) a ≡ v1
   w1 = walked_plain s1.rules nothing_held idle 1 a la refl
 
   pub one_level : level_passes s1 [] nothing_held (a ∷ []) false ≡ true
@@ -62,16 +62,16 @@ module _ (name : Text) (a b d : Text) (la : Looks a) (lb : Looks b) (ld : Looks 
   abbrev pub x3 : Walk
   x3 = to_positional c3 (arg_by_index c3 3) d (at x2.held idle 3) x2.held
 
-  y1 : walked c3 [] (at nothing_held idle 1) a ≡ x1
+  pub y1 : walked c3 [] (at nothing_held idle 1) a ≡ x1
   y1 = walked_plain c3 nothing_held idle 1 a la refl
 
-  y2 : walked c3 [] x1 b ≡ x2
+  pub y2 : walked c3 [] x1 b ≡ x2
   y2 = walked_plain c3 x1.held idle 2 b lb refl
 
-  y3 : walked c3 [] x2 d ≡ x3
+  pub y3 : walked c3 [] x2 d ≡ x3
   y3 = walked_plain c3 x2.held idle 3 d ld refl
 
-  ends3 : (walk c3 [] nothing_held (a ∷ b ∷ d ∷ [])) ≡ x3
+  pub ends3 : (walk c3 [] nothing_held (a ∷ b ∷ d ∷ [])) ≡ x3
   ends3 = ap (λ (v : Walk). fold (walked c3 []) v (b ∷ d ∷ [])) y1 ∙ (ap (λ (v : Walk). fold (walked c3 []) v (d ∷ [])) y2 ∙ y3)
 
   passes3 : walk_passes s3 [] (at nothing_held idle 1) (a ∷ b ∷ d ∷ []) ≡ true
@@ -125,23 +125,23 @@ module _ (a b : Text) where
   }) positional 3
 
   module _ (la : Looks a) (lb : Looks b) where
-    first_is : walked ct [] (at nothing_held idle 1) a ≡ t1
+    pub first_is : walked ct [] (at nothing_held idle 1) a ≡ t1
     first_is = walked_plain ct nothing_held idle 1 a la refl
 
-    second_is : walked ct [] t1 b ≡ t2
+    pub second_is : walked ct [] t1 b ≡ t2
     second_is = walked_plain ct t1.held idle 2 b lb refl
 
-    third_is : (t : Text) → Looks t → walked ct [] t2 t ≡ t3 t
+    pub third_is : (t : Text) → Looks t → walked ct [] t2 t ≡ t3 t
     third_is t l = walked_plain ct t2.held idle 3 t l refl
 
-    second_text : (t u : Text) → Looks u → walked ct [] (t3 t) u ≡ state (t ∷ []) u
+    pub second_text : (t u : Text) → Looks u → walked ct [] (t3 t) u ≡ state (t ∷ []) u
     second_text t u l = walked_plain ct (t3 t).held positional 3 u l refl
 
-    later_text : (seen : List Text) (t u : Text) → Looks u → walked ct [] (state seen t) u ≡ state (seen ++ t ∷ []) u
+    pub later_text : (seen : List Text) (t u : Text) → Looks u → walked ct [] (state seen t) u ≡ state (seen ++ t ∷ []) u
     later_text seen t u l = walked_plain ct (state seen t).held positional 3 u l refl
 
     -- all the texts come, in order
-    ends_at : (seen : List Text) (t : Text) (rest : List Text) → list_all is_plain rest ≡ true
+    pub ends_at : (seen : List Text) (t : Text) (rest : List Text) → list_all is_plain rest ≡ true
         → (vs : List Text) × (v : Text) × (fold (walked ct []) (state seen t) rest ≡ state vs v) × (vs ++ v ∷ [] ≡ seen ++ t ∷ rest)
     ends_at seen t [] e = (seen, t, refl, refl)
     ends_at seen t (u ∷ rest) e =
@@ -171,7 +171,7 @@ module _ (a b : Text) where
         (next_passes st [] t1 t2 b (t ∷ rest) (turn_plain st t1.held idle 2 b lb refl refl) second_is
         (next_passes st [] t2 (t3 t) t rest (turn_plain st t2.held idle 3 t l refl refl) (third_is t l) (from_third t rest l e)))
 
-    take_starts : (t : Text) (rest : List Text) → Looks t → walk ct [] nothing_held (a ∷ b ∷ t ∷ rest) ≡ fold (walked ct []) (t3 t) rest
+    pub take_starts : (t : Text) (rest : List Text) → Looks t → walk ct [] nothing_held (a ∷ b ∷ t ∷ rest) ≡ fold (walked ct []) (t3 t) rest
     take_starts t rest l = ap (λ (w : Walk). fold (walked ct []) w (b ∷ t ∷ rest)) first_is
         ∙ (ap (λ (w : Walk). fold (walked ct []) w (t ∷ rest)) second_is ∙ ap (λ (w : Walk). fold (walked ct []) w rest) (third_is t l))
 
@@ -226,10 +226,10 @@ module _ (name : Text) (values : List Text) (s : Shape)
   abbrev stop : Walk
   stop = record (walk_from nothing_held) { stopped = Some (name, values) }
 
-  walk_is : walk top_rules (names_of whole) nothing_held (name ∷ values) ≡ stop
+  pub walk_is : walk top_rules (names_of whole) nothing_held (name ∷ values) ≡ stop
   walk_is = ap (λ (w : Walk). fold (walked top_rules (names_of whole)) w values) met ∙ sym (walk_stopped top_rules (names_of whole) (walk_from nothing_held) name [] values)
 
-  entered_is : entered whole (Some (name, values)) ≡ Some (rows_at s values)
+  pub entered_is : entered whole (Some (name, values)) ≡ Some (rows_at s values)
   entered_is = ap (λ (o : Option Shape). option_map (λ x. rows_at x values) o) found
 
   abbrev ends : Walk → Bool → Bool

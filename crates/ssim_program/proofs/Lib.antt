@@ -1,10 +1,12 @@
 pub mod Rows
 pub mod Words
 pub mod Levels
+pub mod Right
 pub mod Lines
+pub mod Faults
 pub mod Exporting
 pub mod Leaving
-pub mod Faults
+pub mod Ending
 pub mod Again
 pub mod ReasonLemmas
 pub mod PrintLemmas

@@ -6,11 +6,12 @@ use Rattle.clap.specs.Walk.{Row, all_of, answers_to, first_of, nothing_held, row
 use Rattle.clap.specs.Simple.{Shape, label_of, names_of, subcommand_of}
 use Rattle.clap.specs.Takes.{takes, turn_passes}
 use Rattle.clap.specs.Matches.{subcommand_name_of}
-use Rattle.clap.specs.Faults.{fault_of, is_simple_and_free}
+use Rattle.clap.specs.Faults.{fault_of, is_simple_and_free, turn_fault}
 use Rattle.clap.specs.Kinds.{HasKind, IsAmong}
 use Rattle.clap.specs.Simple.{App, HasMatchesOf, is_simple, subcommand_rows, subcommand_rows_of}
 use Rattle.clap.specs.Values.{kind_of}
 use Rattle.clap.specs.declared.error.Error.{Error}
+use Rattle.clap.specs.declared.error.kind.ErrorKind.{ErrorKind}
 use Rattle.clap.specs.declared.error.kind.ErrorKind.TheVariants as kind
 use Rattle.clap.specs.declared.parser.matches.ArgMatches.{ArgMatches}
 use Rattle.clap.specs.declared.parser.matches.ArgMatches.TheViews.{out-ArgMatches, out-SubCommand}
@@ -24,10 +25,12 @@ use Rattle.ssim_program.specs.Request.{line_at, with_one, with_three}
 use Rattle.ssim_program.specs.Usage.{IsNoCommand, Names}
 use Rattle.ssim_program.proofs.Words.{Looks, looks}
 use Rattle.ssim_program.proofs.Levels.{enters, one_level, one_rows, ready, simple, st, take_level, take_rows, takes_words, three_level, three_rows, top_rules, whole}
+use Rattle.ssim_program.proofs.Right.{one_right, take_right, three_right, words_right}
 
--- the words are taken, and name the row
+-- the words are taken without a fault, and name the row
 pub record Answers (words : List Text) (line : Line) : Type 0 where
   pub taken : takes whole_program words ≡ true
+  pub right : fault_of whole_program words ≡ []
   pub rows : List Row
   pub named : subcommand_of whole_program words ≡ Some (name_of line, rows)
   pub made : line_at (name_of line) rows ≡ Some line
@@ -36,47 +39,48 @@ pub record Answers (words : List Text) (line : Line) : Type 0 where
 record IsNamed (name : Text) (s : Shape) : Type 0 where
   met : walked top_rules (names_of whole) (walk_from nothing_held) name ≡ record (walk_from nothing_held) { stopped = Some (name, []) }
   fits : turn_passes whole.top (names_of whole) (walk_from nothing_held) name ≡ true
+  right : turn_fault whole.top (names_of whole) (walk_from nothing_held) name ≡ []
   found : find (λ x. answers_to name (label_of x)) whole.subs ≡ Some s
 
 check_is : IsNamed (codes "check") (ready (leaf (codes "check") one_value))
 unfolding clap_on_literals
-check_is = record { met = refl; fits = refl; found = refl }
+check_is = record { met = refl; fits = refl; right = refl; found = refl }
 
 tidy_is : IsNamed (codes "tidy") (ready (leaf (codes "tidy") one_value))
 unfolding clap_on_literals
-tidy_is = record { met = refl; fits = refl; found = refl }
+tidy_is = record { met = refl; fits = refl; right = refl; found = refl }
 
 start_is : IsNamed (codes "start") (ready (leaf (codes "start") three_values))
 unfolding clap_on_literals
-start_is = record { met = refl; fits = refl; found = refl }
+start_is = record { met = refl; fits = refl; right = refl; found = refl }
 
 take_is : IsNamed (codes "take") (ready (leaf (codes "take") two_values_and_texts))
 unfolding clap_on_literals
-take_is = record { met = refl; fits = refl; found = refl }
+take_is = record { met = refl; fits = refl; right = refl; found = refl }
 
 merge_is : IsNamed (codes "merge") (ready (leaf (codes "merge") three_values))
 unfolding clap_on_literals
-merge_is = record { met = refl; fits = refl; found = refl }
+merge_is = record { met = refl; fits = refl; right = refl; found = refl }
 
 show_is : IsNamed (codes "show") (ready (leaf (codes "show") three_values))
 unfolding clap_on_literals
-show_is = record { met = refl; fits = refl; found = refl }
+show_is = record { met = refl; fits = refl; right = refl; found = refl }
 
 findings_is : IsNamed (codes "findings") (ready (leaf (codes "findings") one_value))
 unfolding clap_on_literals
-findings_is = record { met = refl; fits = refl; found = refl }
+findings_is = record { met = refl; fits = refl; right = refl; found = refl }
 
 export_is : IsNamed (codes "export") (ready (leaf (codes "export") one_value))
 unfolding clap_on_literals
-export_is = record { met = refl; fits = refl; found = refl }
+export_is = record { met = refl; fits = refl; right = refl; found = refl }
 
 rehearse_is : IsNamed (codes "rehearse") (ready (leaf (codes "rehearse") three_values))
 unfolding clap_on_literals
-rehearse_is = record { met = refl; fits = refl; found = refl }
+rehearse_is = record { met = refl; fits = refl; right = refl; found = refl }
 
 explain_is : IsNamed (codes "explain") (ready (leaf (codes "explain") one_value))
 unfolding clap_on_literals
-explain_is = record { met = refl; fits = refl; found = refl }
+explain_is = record { met = refl; fits = refl; right = refl; found = refl }
 
 -- a command with one value
 one_answers : (line : Line) (name a : Text) (make : Text → Line) → line ≡ make a → name_of line ≡ name → IsNamed name (ready (leaf name one_value)) → Looks a
@@ -86,6 +90,7 @@ one_answers line name a make is named n la reads program =
     let rows = rows_after s.rules [] (a ∷ []) in
     record {
       taken = takes_words name (a ∷ []) s n.met n.fits n.found program (one_level name a la);
+      right = words_right name (a ∷ []) s n.met n.right n.fits n.found program (one_right name a la);
       rows = rows;
       named = enters name (a ∷ []) s n.met n.fits n.found program ∙ ap (λ (x : Text). Some (x, rows)) (sym named);
       made = ap (λ (x : Text). line_at x rows) named ∙ (reads rows ∙ (ap (with_one make) (one_rows name a la) ∙ ap Some (sym is)));
@@ -99,6 +104,7 @@ three_answers line name a b d make is named n la lb ld reads program =
     let rows = rows_after s.rules [] (a ∷ b ∷ d ∷ []) in
     record {
       taken = takes_words name (a ∷ b ∷ d ∷ []) s n.met n.fits n.found program (three_level name a b d la lb ld);
+      right = words_right name (a ∷ b ∷ d ∷ []) s n.met n.right n.fits n.found program (three_right name a b d la lb ld);
       rows = rows;
       named = enters name (a ∷ b ∷ d ∷ []) s n.met n.fits n.found program ∙ ap (λ (x : Text). Some (x, rows)) (sym named);
       made = ap (λ (x : Text). line_at x rows) named ∙ (reads rows ∙ (ap (with_three make) (three_rows name a b d la lb ld) ∙ ap Some (sym is)));
@@ -114,6 +120,7 @@ take_answers a b t rest la lb lt plain program =
     let has = take_rows a b la lb t rest lt plain in
     record {
       taken = takes_words name values st take_is.met take_is.fits take_is.found program (take_level a b la lb t rest lt plain);
+      right = words_right name values st take_is.met take_is.right take_is.fits take_is.found program (take_right a b la lb t rest lt plain);
       rows = rows;
       named = enters name values st take_is.met take_is.fits take_is.found program;
       made = made_of (first_of (codes "first") rows) (first_of (codes "second") rows) (all_of (codes "texts") rows) has.0 has.1 has.2;
@@ -152,6 +159,12 @@ from_line program (Take a b (t ∷ rest)) w e =
 
 pub line_answers : (words : List Text) (line : Line) → Spells words line → Answers words line
 line_answers words line s = subst (λ (ws : List Text). Answers ws line) (sym s.words_are) (from_line s.program line s.whole s.plain)
+
+-- so they name it
+pub spells_names : (words : List Text) (line : Line) → Spells words line → Names words line
+spells_names words line s =
+    let a = line_answers words line s in
+    record { right = a.right; name = name_of line; rows = a.rows; entered = a.named; read = a.made }
 
 -- ---- from the matches to the row
 
@@ -231,6 +244,15 @@ names_unentered m words app is matches named kinds = (
       let sub : subcommand_rows_of m ≡ Some (n.name, n.rows) = (matches (ap is_simple is ∙ simple)).1 ∙ (ap (λ (x : App). subcommand_of x words) is ∙ n.entered) in
       true≢false (sym (ap is_some (named ∙ (name_first (out-ArgMatches m).subcommand ∙ ap (option_map (λ p. p.0)) sub)))),
 )
+
+-- words name one command, and then no fault is found in them
+pub names_once : (words : List Text) (a b : Line) → Names words a → Names words b → a ≡ b
+names_once words a b n m =
+    let same : (n.name, n.rows) ≡ (m.name, m.rows) = some_inj _ _ (sym n.entered ∙ m.entered) in
+    some_inj _ _ (sym n.read ∙ (ap (λ (p : Text × List Row). line_at p.0 p.1) same ∙ m.read))
+
+pub names_faultless : (words : List Text) (line : Line) (k : ErrorKind) → Names words line → IsAmong k (fault_of whole_program words) → ⊥
+names_faultless words line k n among = subst (IsAmong k) n.right among
 
 -- a parse that fails, but not for memory, fails for the words
 pub fault_shown : (e : Error) (words : List Text) (app : App) → app ≡ whole_program → (is_simple_and_free app ≡ true → HasKind (fault_of app words) e)

@@ -1,5 +1,5 @@
 -- Why a command is refused, from what it calls.
-use Rattle.std.proofs.Common.{◌≡◌, ◌∙◌, sym, ap, inl, refl, ℕ, List, Option, Result, Ok, Err, IfErr}
+use Rattle.std.proofs.Common.{◌≡◌, ◌∙◌, sym, ap, inl, inr, refl, ℕ, List, Option, Result, Ok, Err, IfErr}
 use Rattle.ssim_values.specs.Flight.{FlightNumber}
 use Rattle.ssim_records.specs.declared.record.Record.{Record}
 use Rattle.ssim_schedule.specs.Export.{Frame, chapter7, export_bytes, result_map}
@@ -10,7 +10,10 @@ use Rattle.ssim_schedule.specs.declared.export.ExportFault.{ExportFault}
 use Rattle.ssim_schedule.specs.declared.export.ExportFault.TheVariants.{Variations, Records, WriteFault, Memory}
 use Rattle.ssim_program.specs.Files.{Files}
 use Rattle.ssim_program.specs.Line.{Line, Check, Tidy, Start, Take, Merge, Show, Findings, Export, Rehearse, Explain}
-use Rattle.ssim_program.specs.Reasons.{HasNoExport, Refuses}
+use Rattle.ssim_program.specs.Desks.{CountsRefusal}
+use Rattle.ssim_program.specs.Reasons.{CountsExport, HasNoExport, Refuses}
+use Rattle.ssim_program.specs.Refusal.{refusal_of_export}
+use Rattle.ssim_program.specs.declared.refusal.Refusal.{Refusal}
 use Rattle.ssim_program.specs.declared.refusal.Refusal.TheVariants as refused
 use Rattle.ssim_program.proofs.Exporting.{AreDaysOf}
 
@@ -27,6 +30,24 @@ module _ (told : SameExport) {W : Type 0} (taken : W → Option (List ℕ)) (fai
   pub no_export_if : (r : Result (Unit {0}) ExportFault) → IfErr r (RefusesBase taken failures base days old new) → IfErr r (HasNoExport base (days_of base) (failures old) (failures new))
   no_export_if (Ok x) h = tt
   no_export_if (Err e) h = no_export e h
+
+-- whether an export counted a failure
+module _ {W : Type 0} (taken : W → Option (List ℕ)) (failures : W → ℕ) (base : List Record) (days : FlightNumber → Days) (old new : W) where
+  counts_of : (fault : ExportFault) → RefusesBase taken failures base days old new fault → CountsExport (failures old) (failures new) fault
+  counts_of (Variations flight) h = inr (ap failures h.2.1)
+  counts_of Records h = inr (ap failures h.2.1)
+  counts_of Memory h = inr (ap failures h.2)
+  counts_of WriteFault h = inl (refl, h.2.3)
+
+  pub counts_if : {A : Type 0} (r : Result A ExportFault) → IfErr r (RefusesBase taken failures base days old new) → IfErr r (CountsExport (failures old) (failures new))
+  counts_if (Ok x) h = tt
+  counts_if (Err e) h = counts_of e h
+
+-- the refusal of an export is 52 if its fault is
+pub counts_refusal : (airline : List ℕ) (old new : ℕ) (fault : ExportFault) (refusal : Refusal) → CountsExport old new fault → refusal ≡ refusal_of_export airline fault
+    → CountsRefusal old new refusal
+counts_refusal airline old new fault refusal (inl failed) is = inl (is ∙ ap (refusal_of_export airline) failed.0, failed.1)
+counts_refusal airline old new fault refusal (inr same) is = inr same
 
 -- the same of days that are not those of the base
 module _ {W : Type 0} (taken : W → Option (List ℕ)) (failures : W → ℕ) (base : List Record) (days : FlightNumber → Days) (old new : W) where

@@ -7,11 +7,15 @@ use Rattle.std.proofs.KnownBytes.{Appends-kept, Appends-trans}
 use Rattle.ssim_schedule.specs.Sinks.{TakesFront}
 use Rattle.ssim_schedule.proofs.SinkLemmas.{then_front}
 use Rattle.ssim_desk.specs.Kept.{DeskSeen}
-use Rattle.ssim_program.specs.Desks.{LeavesText, LeavesTexts, PrintsText, PrintsTexts, RefusesFileText, RefusesTexts, TakesText, TakesTexts}
+use Rattle.ssim_program.specs.Desks.{CountsRefusal, EndsTexts, LeavesText, LeavesTexts, PrintsText, PrintsTexts, RefusesFileText, RefusesTexts, TakesText, TakesTexts}
 use Rattle.ssim_program.specs.Files.{Files}
 use Rattle.ssim_program.specs.Line.{Text}
 use Rattle.ssim_program.specs.Printing.{CountsOne}
 use Rattle.ssim_program.specs.declared.refusal.Refusal.{Refusal}
+
+-- a failure that is counted changes the count
+pub one_differs : (old new : ℕ) → CountsOne old new → new ≡ old → ⊥
+one_differs old new counted same = absurd (omega (arith, sym counted ∙ same))
 
 one_more : (files : Option Files) (names : List Text) (name : Text) (a b c : DeskSeen) (printed last : List ℕ)
     → TakesTexts files names a b printed → TakesText files name b c last → TakesTexts files (names ++ name ∷ []) a c (printed ++ last)
@@ -62,6 +66,20 @@ module _ (files : Option Files) (names : List Text) (i : ℕ) (name : Text) (is 
   pub refuses_more : (others : Option Files) (old mid new : ℕ) (refusal : Refusal) → others ≡ files → mid ≡ old → RefusesFileText others name b mid new refusal → RefusesTexts files names a old new refusal
   refuses_more others old mid new refusal alike same k =
       (i, b, before.0, before.1, name, is, subst (λ (n : ℕ). RefusesFileText files name b n new refusal) same (subst (λ (f : Option Files). RefusesFileText f name b mid new refusal) alike k))
+
+  -- and then the texts stop there, unless `out` failed
+  ends_there : (old mid new : ℕ) (refusal : Refusal) → mid ≡ old → LeavesText files name b u v mid new → RefusesFileText files name b mid new refusal
+      → CountsRefusal mid new refusal → EndsTexts files names a t v old new refusal
+  ends_there old mid new refusal same left why (inl unprinted) = inl (unprinted.0, subst (λ (n : ℕ). CountsOne n new) same unprinted.1)
+  ends_there old mid new refusal same (inl kept) why (inr counted) =
+      inr (counted ∙ same, (i, b, (before.0, before.1, Appends-kept t u v before.0 before.2 kept), name, is, subst (λ (n : ℕ). RefusesFileText files name b n new refusal) same why))
+  ends_there old mid new refusal same (inr k) why (inr counted) = absurd (one_differs mid new k.4 counted)
+
+  pub ends_more : (others : Option Files) (old mid new : ℕ) (refusal : Refusal) → others ≡ files → mid ≡ old → LeavesText others name b u v mid new
+      → RefusesFileText others name b mid new refusal → CountsRefusal mid new refusal → EndsTexts files names a t v old new refusal
+  ends_more others old mid new refusal alike same left why counts =
+      ends_there old mid new refusal same (subst (λ (f : Option Files). LeavesText f name b u v mid new) alike left)
+      (subst (λ (f : Option Files). RefusesFileText f name b mid new refusal) alike why) counts
 
 -- all texts were taken, and `out` was flushed, or failed
 module _ (files : Option Files) (names : List Text) (a b : DeskSeen) (t u v : Option (List ℕ)) (printed : PrintsTexts files names a b t u) (kept : Keeps u v) where

@@ -46,7 +46,7 @@ abbrev pub awaits_option : Waiting → Bool
 awaits_option (option id) = true
 awaits_option _ = false
 
-word_is : (c : List Rule) (waiting : Waiting) (position : ℕ) (word : Text) (h : Held) → Looks word
+pub word_is : (c : List Rule) (waiting : Waiting) (position : ℕ) (word : Text) (h : Held) → Looks word
     → subcommand_or_other c None waiting position word h ≡ plain_word c waiting word h
 word_is c waiting position word h l =
     ap (λ b. cond b (h, trailing position) (long_or_other c waiting word (long_of word) h)) l.dashes

@@ -63,6 +63,10 @@ RefusesKeep name refusal = (refusal ≡ refused.Memory) ⊎ IsOfFile name refusa
 abbrev pub IsUnprinted : ℕ → ℕ → Refusal → Type 0
 IsUnprinted old new refusal = (refusal ≡ refused.WriteFault) × CountsOne old new
 
+-- `out` counted a failure, and the refusal is 52; or it counted none
+abbrev pub CountsRefusal : ℕ → ℕ → Refusal → Type 0
+CountsRefusal old new refusal = IsUnprinted old new refusal ⊎ (new ≡ old)
+
 -- the line with the number of messages that a desk holds
 abbrev pub held_line : ℕ → List ℕ
 held_line n = line (printed_text (printed.Held n))
@@ -128,6 +132,18 @@ abbrev pub LeavesTexts : Option Files → List Text → DeskSeen → Option (Lis
 LeavesTexts files names before t u old new =
     (n : ℕ) × (after : DeskSeen) × (printed : List ℕ) × TakesTexts files (take n names) before after printed
     × (Appends t u printed ⊎ (TakesFront printed t u × CountsOne old new))
+
+-- Texts stop so, with one n: the first n texts were taken, `out` has grown by the lines of these n, and text n + 1 is refused for this
+-- reason.
+abbrev pub StopsTexts : Option Files → List Text → DeskSeen → Option (List ℕ) → Option (List ℕ) → ℕ → ℕ → Refusal → Type 0
+StopsTexts files names before t u old new refusal =
+    (n : ℕ) × (between : DeskSeen) × PrintsTexts files (take n names) before between t u
+    × (name : Text) × (slice_get names n ≡ Some name) × RefusesFileText files name between old new refusal
+
+-- `out` counted a failure, and the refusal is 52; or it counted none, and texts stop so
+abbrev pub EndsTexts : Option Files → List Text → DeskSeen → Option (List ℕ) → Option (List ℕ) → ℕ → ℕ → Refusal → Type 0
+EndsTexts files names before t u old new refusal =
+    IsUnprinted old new refusal ⊎ ((new ≡ old) × StopsTexts files names before t u old new refusal)
 
 -- ---- two desks
 

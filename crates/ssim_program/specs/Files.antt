@@ -22,6 +22,11 @@ abbrev pub KeepsFile : Option Files → Option Files → List ℕ → List ℕ �
 KeepsFile old new name bytes (Ok x) = new ≡ option_map (λ all. (name, bytes) ∷ all) old
 KeepsFile old new name bytes (Err e) = new ≡ old
 
+-- 90: memory ran out; 91: there is no such file within the limit, or it cannot be read or written
+abbrev pub store_fault_number : StoreFault → ℕ
+store_fault_number fault.Memory = 90
+store_fault_number fault.Fault = 91
+
 -- the name and the bytes of a file that is kept, if one is
 abbrev pub Kept : Type 0
 Kept = Option (List ℕ × List ℕ)

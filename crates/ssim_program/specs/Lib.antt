@@ -13,6 +13,8 @@ pub mod Desks
 pub mod Effects
 pub mod Again
 pub mod Reasons
+pub mod Ends
+pub mod Help
 pub mod Script
 pub mod Explained
 pub mod Rehearsal

@@ -1,5 +1,5 @@
 -- Why a command is refused, and what `err` holds afterwards.
-use Rattle.std.specs.Prelude.{◌≡◌, ◌⊎◌, ℕ, List, ⊤, Option, Ok, Err}
+use Rattle.std.specs.Prelude.{◌≡◌, ◌≢◌, ◌⊎◌, ℕ, List, ⊤, Option, Ok, Err}
 use Rattle.ssim_records.specs.declared.record.Record.{Record}
 use Rattle.ssim_schedule.specs.Base.{airline_of}
 use Rattle.ssim_schedule.specs.Export as refusal
@@ -32,6 +32,10 @@ HasNoExport base days old new (export.Variations flight) = (frame : Frame) × Ha
 HasNoExport base days old new export.Records = (frame : Frame) × HasFrame frame base × (chapter7 frame days ≡ Err refusal.Records)
 HasNoExport base days old new export.WriteFault = CountsOne old new
 HasNoExport base days old new export.Memory = ⊤
+
+-- an export counted a failure of `out`, and its fault is 52; or it counted none
+abbrev pub CountsExport : ℕ → ℕ → ExportFault → Type 0
+CountsExport old new fault = ((fault ≡ export.WriteFault) × CountsOne old new) ⊎ (new ≡ old)
 
 -- the data set in the file is refused so when it is exported
 abbrev pub RefusesExport : Option Files → Text → ℕ → ℕ → Refusal → Type 0
@@ -72,11 +76,12 @@ Refuses (Explain word) files old new refusal = RefusesLoad files word refusal �
 
 -- ---- what `err` holds
 
--- The printer took the whole line of the refusal, or counted a failure and took a prefix. If no memory was left for the line,
--- it is that of 90.
+-- The printer took the whole line of the refusal, or counted a failure and took a prefix. If no memory was left for the line of a refusal
+-- other than 52, it is that of 90.
 abbrev pub PrintsRefusal : Refusal → Option (List ℕ) → Option (List ℕ) → ℕ → ℕ → Type 0
 PrintsRefusal refusal before after old new =
-    PrintsOrFails (line (refusal_text refusal)) before after old new ⊎ PrintsOrFails (line (refusal_text refused.Memory)) before after old new
+    PrintsOrFails (line (refusal_text refusal)) before after old new
+    ⊎ ((refusal ≢ refused.WriteFault) × PrintsOrFails (line (refusal_text refused.Memory)) before after old new)
 
 -- the refusal has its reason, and its line was printed
 abbrev pub PrintsReason : Line → Option Files → ℕ → ℕ → Option (List ℕ) → Option (List ℕ) → ℕ → ℕ → Type 0

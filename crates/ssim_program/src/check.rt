@@ -1,6 +1,7 @@
 //! The command `check`: notes on a data set, and a summary.
 
 ghost use Rattle.std.specs.Prelude.{◌≡◌, true, IfErr, IfOk, OnErr, OnOk};
+ghost use Rattle.ssim_program.specs.Desks.{CountsRefusal};
 ghost use Rattle.ssim_program.specs.Line.{Check};
 ghost use Rattle.ssim_program.specs.Effects.{Leaves, Writes};
 ghost use Rattle.ssim_program.specs.Made.{AreLinesOn, as_printed};
@@ -26,6 +27,7 @@ pub(crate) fn check<S: Store, O: Printer>(
     ensures done { OnOk result (Writes (Check name.now) (S.files store.old) (S.files store.new) (O.taken out.old) (O.taken out.new)) }
     ensures refused { OnErr result (Leaves (Check name.now) (S.files store.old) (S.files store.new) (O.taken out.old) (O.taken out.new) (O.failures out.old) (O.failures out.new)) }
     ensures why { IfErr result (Refuses (Check name.now) (S.files store.old) (O.failures out.old) (O.failures out.new)) }
+    ensures counts { IfErr result (CountsRefusal (O.failures out.old) (O.failures out.new)) }
     ensures same { S.files store.new ≡ S.files store.old }
     ensures device { O.device out.new ≡ O.device out.old }
     ensures flushed { OnOk result (O.flushed out.new ≡ true) }

@@ -36,14 +36,14 @@ pub enum Request<'a> {
     Explain(&'a str),
 }
 
-/// Why the words make no request.
+/// Why the words make no request. It has no number of its own: the program prints 90, or what is wrong with the words.
 #[derive(Debug, Drop)]
 pub enum LineFault {
-    /// Memory ran out.
+    /// Memory ran out: refusal 90, status 1.
     Memory,
-    /// What `clap` has to say, help included.
+    /// What `clap` has to say: help, status 0; or what is wrong with the words, status 2.
     Shown(Error),
-    /// The words name no command.
+    /// The words name no command: status 2.
     NoCommand,
 }
 

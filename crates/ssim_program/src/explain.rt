@@ -4,6 +4,7 @@ ghost use Rattle.std.specs.Prelude.{◌≡◌, ◌++◌, true, codes, IfErr, IfO
 ghost use Rattle.std.specs.Fmt.{decimal};
 ghost use Rattle.ssim_schedule.specs.Export.{line};
 ghost use Rattle.ssim_values.specs.Characters.{two_digits_of};
+ghost use Rattle.ssim_program.specs.Desks.{CountsRefusal};
 ghost use Rattle.ssim_program.specs.Effects.{Leaves, Writes};
 ghost use Rattle.ssim_program.specs.Explained.{BeginsWith, Explains, ExplainsFile, ExplainsNumber, number_in};
 ghost use Rattle.ssim_program.specs.Line.{Explain};
@@ -36,6 +37,7 @@ pub(crate) fn explain<S: Store, O: Printer>(
     ensures done { OnOk result (Writes (Explain word.now) (S.files store.old) (S.files store.new) (O.taken out.old) (O.taken out.new)) }
     ensures refused { OnErr result (Leaves (Explain word.now) (S.files store.old) (S.files store.new) (O.taken out.old) (O.taken out.new) (O.failures out.old) (O.failures out.new)) }
     ensures why { IfErr result (Refuses (Explain word.now) (S.files store.old) (O.failures out.old) (O.failures out.new)) }
+    ensures counts { IfErr result (CountsRefusal (O.failures out.old) (O.failures out.new)) }
     ensures device { O.device out.new ≡ O.device out.old }
     ensures flushed { OnOk result (O.flushed out.new ≡ true) }
 {

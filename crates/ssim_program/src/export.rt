@@ -2,10 +2,10 @@
 
 ghost use Rattle.std.specs.Prelude.{◌≡◌, true, IfErr, OnErr, OnOk};
 ghost use Rattle.ssim_desk.specs.Desk.{days_of_desk};
-ghost use Rattle.ssim_program.specs.Desks.{ExportsDesk, LeavesDeskExport};
+ghost use Rattle.ssim_program.specs.Desks.{CountsRefusal, ExportsDesk, LeavesDeskExport};
 ghost use Rattle.ssim_program.specs.Line.{Export};
 ghost use Rattle.ssim_program.specs.Effects.{Leaves, Writes};
-ghost use Rattle.ssim_program.specs.Reasons.{HasNoExport, Refuses};
+ghost use Rattle.ssim_program.specs.Reasons.{CountsExport, HasNoExport, Refuses};
 
 use crate::desk_file::open;
 use crate::printer::Printer;
@@ -25,6 +25,7 @@ pub(crate) fn export<S: Store, O: Printer>(
     ensures done { OnOk result (Writes (Export name.now) (S.files store.old) (S.files store.new) (O.taken out.old) (O.taken out.new)) }
     ensures refused { OnErr result (Leaves (Export name.now) (S.files store.old) (S.files store.new) (O.taken out.old) (O.taken out.new) (O.failures out.old) (O.failures out.new)) }
     ensures why { IfErr result (Refuses (Export name.now) (S.files store.old) (O.failures out.old) (O.failures out.new)) }
+    ensures counts { IfErr result (CountsRefusal (O.failures out.old) (O.failures out.new)) }
     ensures device { O.device out.new ≡ O.device out.old }
     ensures flushed { OnOk result (O.flushed out.new ≡ true) }
 {
@@ -39,6 +40,7 @@ pub(crate) fn export<S: Store, O: Printer>(
 fn export_desk<O: Printer>(desk: &Desk, out: &mut O) -> Result<(), ExportFault>
     ensures ok { OnOk result (ExportsDesk desk.now (O.taken out.old) (O.taken out.new)) }
     ensures why { IfErr result (HasNoExport desk.now.base.records (days_of_desk desk.now) (O.failures out.old) (O.failures out.new)) }
+    ensures counts { IfErr result (CountsExport (O.failures out.old) (O.failures out.new)) }
     ensures err { OnErr result (LeavesDeskExport desk.now (O.taken out.old) (O.taken out.new) (O.failures out.old) (O.failures out.new)) }
     ensures device { O.device out.new ≡ O.device out.old }
     ensures flushed { OnOk result (O.flushed out.new ≡ true) }

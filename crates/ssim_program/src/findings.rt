@@ -3,6 +3,7 @@
 ghost use Rattle.std.specs.Prelude.{◌≡◌, ◌++◌, true, IfErr, IfOk, OnErr, OnOk};
 ghost use Rattle.ssim_schedule.specs.Export.{line};
 ghost use Rattle.ssim_desk.specs.Desk.{finding_lines};
+ghost use Rattle.ssim_program.specs.Desks.{CountsRefusal};
 ghost use Rattle.ssim_program.specs.Effects.{Leaves, Writes};
 ghost use Rattle.ssim_program.specs.Line.{Findings};
 ghost use Rattle.ssim_program.specs.Printed.{counts_text, finding_text, sub_text};
@@ -29,6 +30,7 @@ pub(crate) fn findings<S: Store, O: Printer>(
     ensures done { OnOk result (Writes (Findings file.now) (S.files store.old) (S.files store.new) (O.taken out.old) (O.taken out.new)) }
     ensures refused { OnErr result (Leaves (Findings file.now) (S.files store.old) (S.files store.new) (O.taken out.old) (O.taken out.new) (O.failures out.old) (O.failures out.new)) }
     ensures why { IfErr result (Refuses (Findings file.now) (S.files store.old) (O.failures out.old) (O.failures out.new)) }
+    ensures counts { IfErr result (CountsRefusal (O.failures out.old) (O.failures out.new)) }
     ensures device { O.device out.new ≡ O.device out.old }
     ensures flushed { OnOk result (O.flushed out.new ≡ true) }
 {

@@ -6,10 +6,10 @@
 //! - [`laws`]: what `tidy` wrote is tidied to itself.
 //!
 //! **Promise.** The words of a command are no fault of the command line. With status 0 a command has written exactly what its
-//! definition makes of the files that it names, and kept exactly the file that it writes. With status 1 no file has changed and
-//! nothing was written to `out`, unless `out` failed (then `out` has a prefix, and a file that `start` or `merge` kept stays), but
-//! `take` has printed what became of the texts before the one that is refused. The whole line of the refusal was written to
-//! `err`, unless `err` failed.
+//! definition makes of the files that it names, and kept exactly the file that it writes. With status 1 the whole line of one refusal
+//! was written to `err`, unless `err` failed. If the refusal is 52, `out` failed and has a prefix, and a file that `start` or `merge` kept
+//! stays. If it is another, no file has changed and nothing was written to `out`, but `take` has printed what became of the texts before the
+//! one that is refused. Help goes to `out`, and what is wrong with the words to `err`.
 #![tactic(auto)]
 
 mod check;

@@ -1,7 +1,7 @@
 //! The command `merge`: a desk that holds what two desks hold.
 
 ghost use Rattle.std.specs.Prelude.{◌≡◌, true, IfErr, OnErr, OnOk};
-ghost use Rattle.ssim_program.specs.Desks.{IsMergeOf, RefusesMerge};
+ghost use Rattle.ssim_program.specs.Desks.{CountsRefusal, IsMergeOf, RefusesMerge};
 ghost use Rattle.ssim_program.specs.Line.{Merge};
 ghost use Rattle.ssim_program.specs.Effects.{Leaves, Writes};
 ghost use Rattle.ssim_program.specs.Reasons.{Refuses};
@@ -26,6 +26,7 @@ pub(crate) fn merge<S: Store, O: Printer>(
     ensures done { OnOk result (Writes (Merge mine.now theirs.now name.now) (S.files store.old) (S.files store.new) (O.taken out.old) (O.taken out.new)) }
     ensures refused { OnErr result (Leaves (Merge mine.now theirs.now name.now) (S.files store.old) (S.files store.new) (O.taken out.old) (O.taken out.new) (O.failures out.old) (O.failures out.new)) }
     ensures why { IfErr result (Refuses (Merge mine.now theirs.now name.now) (S.files store.old) (O.failures out.old) (O.failures out.new)) }
+    ensures counts { IfErr result (CountsRefusal (O.failures out.old) (O.failures out.new)) }
     ensures device { O.device out.new ≡ O.device out.old }
     ensures flushed { OnOk result (O.flushed out.new ≡ true) }
 {

@@ -7,6 +7,7 @@ pub(crate) mod script;
 mod texts;
 
 ghost use Rattle.std.specs.Prelude.{◌≡◌, true, IfErr, IfOk, OnErr, OnOk};
+ghost use Rattle.ssim_program.specs.Desks.{CountsRefusal};
 ghost use Rattle.ssim_program.specs.Rehearsal.{LeavesRehearsal, RefusesLines, RefusesRehearsal, RehearsesFiles, WritesRehearsal};
 
 use crate::data_set::load_base;
@@ -55,6 +56,7 @@ pub(crate) fn rehearse<S: Store, O: Printer>(
     ensures done { OnOk result (WritesRehearsal (S.files store.old) dataset.now stations.now script.now (O.taken out.old) (O.taken out.new)) }
     ensures refused { OnErr result (LeavesRehearsal (S.files store.old) dataset.now stations.now script.now (O.taken out.old) (O.taken out.new) (O.failures out.old) (O.failures out.new)) }
     ensures why { IfErr result (RefusesRehearsal (S.files store.old) dataset.now stations.now script.now (O.failures out.old) (O.failures out.new)) }
+    ensures counts { IfErr result (CountsRefusal (O.failures out.old) (O.failures out.new)) }
     ensures same { S.files store.new ≡ S.files store.old }
     ensures device { O.device out.new ≡ O.device out.old }
     ensures flushed { OnOk result (O.flushed out.new ≡ true) }

@@ -6,7 +6,7 @@ ghost use Rattle.ssim_text.specs.Lines.{day_in};
 ghost use Rattle.ssim_values.specs.Characters.{two_digits};
 ghost use Rattle.ssim_values.specs.Day.{day_text};
 ghost use Rattle.ssim_values.specs.Designator.{designator_text};
-ghost use Rattle.ssim_program.specs.Desks.{RefusesFlight, Shows};
+ghost use Rattle.ssim_program.specs.Desks.{CountsRefusal, RefusesFlight, Shows};
 ghost use Rattle.ssim_program.specs.Effects.{Leaves, Writes};
 ghost use Rattle.ssim_program.specs.Line.{Show};
 ghost use Rattle.ssim_program.specs.Reasons.{Refuses};
@@ -33,6 +33,7 @@ pub(crate) fn show_flight<S: Store, O: Printer>(
     ensures done { OnOk result (Writes (Show file.now flight.now date.now) (S.files store.old) (S.files store.new) (O.taken out.old) (O.taken out.new)) }
     ensures refused { OnErr result (Leaves (Show file.now flight.now date.now) (S.files store.old) (S.files store.new) (O.taken out.old) (O.taken out.new) (O.failures out.old) (O.failures out.new)) }
     ensures why { IfErr result (Refuses (Show file.now flight.now date.now) (S.files store.old) (O.failures out.old) (O.failures out.new)) }
+    ensures counts { IfErr result (CountsRefusal (O.failures out.old) (O.failures out.new)) }
     ensures device { O.device out.new ≡ O.device out.old }
     ensures flushed { OnOk result (O.flushed out.new ≡ true) }
 {

@@ -1,7 +1,7 @@
 //! The command `start`: a desk that holds nothing.
 
 ghost use Rattle.std.specs.Prelude.{◌≡◌, true, IfErr, IfOk, OnErr, OnOk};
-ghost use Rattle.ssim_program.specs.Desks.{held_line};
+ghost use Rattle.ssim_program.specs.Desks.{CountsRefusal, held_line};
 ghost use Rattle.ssim_program.specs.Line.{Start};
 ghost use Rattle.ssim_program.specs.Effects.{Leaves, Writes};
 ghost use Rattle.ssim_program.specs.Reasons.{Refuses};
@@ -28,6 +28,7 @@ pub(crate) fn start<S: Store, O: Printer>(
     ensures done { OnOk result (Writes (Start dataset.now stations.now name.now) (S.files store.old) (S.files store.new) (O.taken out.old) (O.taken out.new)) }
     ensures refused { OnErr result (Leaves (Start dataset.now stations.now name.now) (S.files store.old) (S.files store.new) (O.taken out.old) (O.taken out.new) (O.failures out.old) (O.failures out.new)) }
     ensures why { IfErr result (Refuses (Start dataset.now stations.now name.now) (S.files store.old) (O.failures out.old) (O.failures out.new)) }
+    ensures counts { IfErr result (CountsRefusal (O.failures out.old) (O.failures out.new)) }
     ensures device { O.device out.new ≡ O.device out.old }
     ensures flushed { OnOk result (O.flushed out.new ≡ true) }
 {

@@ -5,9 +5,10 @@ ghost use Rattle.ssim_text.specs.Message.{MessageValue};
 ghost use Rattle.ssim_desk.specs.Held.{Says};
 ghost use Rattle.ssim_desk.specs.Kept.{state_of};
 ghost use Rattle.ssim_desk.specs.Steps.{RefusesText};
-ghost use Rattle.ssim_program.specs.Desks.{IsTaken, LeavesText, LeavesTexts, PrintsText, PrintsTexts, RefusesFileText, RefusesTexts, took_line, took_printed};
+ghost use Rattle.ssim_program.specs.Desks.{CountsRefusal, EndsTexts, IsTaken, LeavesText, LeavesTexts, PrintsText, PrintsTexts, RefusesFileText, RefusesTexts, took_line, took_printed};
 ghost use Rattle.ssim_program.specs.Line.{Take};
 ghost use Rattle.ssim_program.specs.Effects.{Leaves, Writes};
+ghost use Rattle.ssim_program.specs.Ends.{Ends};
 ghost use Rattle.ssim_program.specs.Reasons.{Refuses};
 
 use crate::data_set::load_file;
@@ -35,6 +36,7 @@ pub(crate) fn take<S: Store, O: Printer>(
     ensures done { OnOk result (Writes (Take file.now kept.now (map (λ t. t.now) names.now)) (S.files store.old) (S.files store.new) (O.taken out.old) (O.taken out.new)) }
     ensures refused { OnErr result (Leaves (Take file.now kept.now (map (λ t. t.now) names.now)) (S.files store.old) (S.files store.new) (O.taken out.old) (O.taken out.new) (O.failures out.old) (O.failures out.new)) }
     ensures why { IfErr result (Refuses (Take file.now kept.now (map (λ t. t.now) names.now)) (S.files store.old) (O.failures out.old) (O.failures out.new)) }
+    ensures ends { IfErr result (Ends (Take file.now kept.now (map (λ t. t.now) names.now)) (S.files store.old) (S.files store.new) (O.taken out.old) (O.taken out.new) (O.failures out.old) (O.failures out.new)) }
     ensures device { O.device out.new ≡ O.device out.old }
     ensures flushed { OnOk result (O.flushed out.new ≡ true) }
 {
@@ -55,6 +57,7 @@ fn take_texts<S: Store, O: Printer>(
     ensures done { OnOk result (PrintsTexts (S.files store.old) (map (λ t. t.now) names.now) desk.old desk.new (O.taken out.old) (O.taken out.new)) }
     ensures refused { OnErr result (LeavesTexts (S.files store.old) (map (λ t. t.now) names.now) desk.old (O.taken out.old) (O.taken out.new) (O.failures out.old) (O.failures out.new)) }
     ensures why { IfErr result (RefusesTexts (S.files store.old) (map (λ t. t.now) names.now) desk.old (O.failures out.old) (O.failures out.new)) }
+    ensures ends { IfErr result (EndsTexts (S.files store.old) (map (λ t. t.now) names.now) desk.old (O.taken out.old) (O.taken out.new) (O.failures out.old) (O.failures out.new)) }
     ensures same { S.files store.new ≡ S.files store.old }
     ensures failures { OnOk result (O.failures out.new ≡ O.failures out.old) }
     ensures device { O.device out.new ≡ O.device out.old }
@@ -79,6 +82,7 @@ fn take_text<S: Store, O: Printer>(
     ensures done { OnOk result (PrintsText (S.files store.old) name.now desk.old desk.new (O.taken out.old) (O.taken out.new)) }
     ensures refused { OnErr result (LeavesText (S.files store.old) name.now desk.old (O.taken out.old) (O.taken out.new) (O.failures out.old) (O.failures out.new)) }
     ensures why { IfErr result (RefusesFileText (S.files store.old) name.now desk.old (O.failures out.old) (O.failures out.new)) }
+    ensures counts { IfErr result (CountsRefusal (O.failures out.old) (O.failures out.new)) }
     ensures same { S.files store.new ≡ S.files store.old }
     ensures failures { OnOk result (O.failures out.new ≡ O.failures out.old) }
     ensures device { O.device out.new ≡ O.device out.old }

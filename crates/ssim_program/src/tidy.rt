@@ -1,12 +1,13 @@
 //! The command `tidy`: the canonical export of a data set.
 
 ghost use Rattle.std.specs.Prelude.{◌≡◌, true, IfErr, OnErr, OnOk};
+ghost use Rattle.ssim_program.specs.Desks.{CountsRefusal};
 ghost use Rattle.ssim_program.specs.Effects.{Leaves, Writes};
 ghost use Rattle.ssim_program.specs.Made.{Exports, LeavesExport};
 ghost use Rattle.ssim_program.specs.Again.{GrowsByItself};
 ghost use Rattle.ssim_schedule.specs.Timetable.{days_of};
 ghost use Rattle.ssim_program.specs.Line.{Tidy};
-ghost use Rattle.ssim_program.specs.Reasons.{HasNoExport, Refuses};
+ghost use Rattle.ssim_program.specs.Reasons.{CountsExport, HasNoExport, Refuses};
 
 use crate::data_set::load;
 use crate::printer::Printer;
@@ -28,6 +29,7 @@ pub(crate) fn tidy<S: Store, O: Printer>(
     ensures again { OnOk result (GrowsByItself (O.taken out.old) (O.taken out.new)) }
     ensures refused { OnErr result (Leaves (Tidy name.now) (S.files store.old) (S.files store.new) (O.taken out.old) (O.taken out.new) (O.failures out.old) (O.failures out.new)) }
     ensures why { IfErr result (Refuses (Tidy name.now) (S.files store.old) (O.failures out.old) (O.failures out.new)) }
+    ensures counts { IfErr result (CountsRefusal (O.failures out.old) (O.failures out.new)) }
     ensures same { S.files store.new ≡ S.files store.old }
     ensures device { O.device out.new ≡ O.device out.old }
     ensures flushed { OnOk result (O.flushed out.new ≡ true) }
@@ -46,6 +48,7 @@ fn export<O: Printer>(base: &Base, out: &mut O) -> Result<(), ExportFault>
     ensures ok { OnOk result (Exports base.now.records (O.taken out.old) (O.taken out.new)) }
     ensures again { OnOk result (GrowsByItself (O.taken out.old) (O.taken out.new)) }
     ensures why { IfErr result (HasNoExport base.now.records (days_of base.now.records) (O.failures out.old) (O.failures out.new)) }
+    ensures counts { IfErr result (CountsExport (O.failures out.old) (O.failures out.new)) }
     ensures err { OnErr result (LeavesExport base.now.records (O.taken out.old) (O.taken out.new) (O.failures out.old) (O.failures out.new)) }
     ensures device { O.device out.new ≡ O.device out.old }
     ensures flushed { OnOk result (O.flushed out.new ≡ true) }
@@ -62,6 +65,7 @@ fn export_into<W: Sink>(base: &Base, out: &mut W) -> Result<(), ExportFault>
     ensures ok { OnOk result (Exports base.now.records (W.taken out.old) (W.taken out.new)) }
     ensures again { OnOk result (GrowsByItself (W.taken out.old) (W.taken out.new)) }
     ensures why { IfErr result (HasNoExport base.now.records (days_of base.now.records) (W.failures out.old) (W.failures out.new)) }
+    ensures counts { IfErr result (CountsExport (W.failures out.old) (W.failures out.new)) }
     ensures err { OnErr result (LeavesExport base.now.records (W.taken out.old) (W.taken out.new) (W.failures out.old) (W.failures out.new)) }
     ensures count { OnOk result (W.failures out.new ≡ W.failures out.old) }
     ensures device { W.device out.new ≡ W.device out.old }
