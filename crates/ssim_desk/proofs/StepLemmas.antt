@@ -1,13 +1,16 @@
 -- A run and one step more; and what a step does to desks, by what it does to one of them.
-use Rattle.std.proofs.Common.{◌≡◌, ℕ, zero, ◌+◌, ◌-◌, ◌<◌, ◌≤◌, ◌==◌, Bool, true, false, List, [], ◌∷◌, ◌++◌, length, length-append, map, get_or, set, refl, sym, ap, subst, ◌∙◌, arith, eq-eqb}
+use Rattle.std.proofs.Common.{◌≡◌, ◌≢◌, ℕ, zero, suc, ◌+◌, ◌-◌, ◌<◌, ◌≤◌, ◌==◌, Bool, true, false, List, [], ◌∷◌, ◌++◌, length, length-append, map, get_or, set, slice_get, refl, sym, ap, subst, ◌∙◌, arith, eq-eqb, true≢false}
 use Rattle.std.proofs.lemmas.Bool.Decides.{Decides-eqb}
-use Rattle.std.proofs.lemmas.List.{get_or-map, get_or_append_left, get_or-append_right, get_or_default, map-set, set-append_left, set-append_right}
+use Rattle.std.proofs.lemmas.List.{get_or-map, get_or_append_left, get_or-append_right, get_or_default, map-set, set-append_left, set-append_right, set-get_or}
 use Rattle.ssim_desk.specs.Held.{DeskState, no_desk}
 use Rattle.ssim_desk.specs.Kept.{DeskSeen, map_of, state_of}
-use Rattle.ssim_desk.specs.Steps.{Acts, Merges, MergesAt, MergesOne, Runs, Takes, TakesAt, desk_at, with_held}
+use Rattle.ssim_desk.specs.Steps.{Acts, IsIdle, LeavesIdle, Merges, MergesAt, MergesOne, Runs, Takes, TakesAt, desk_at, is_change, with_held}
 use Rattle.ssim_desk.specs.declared.steps.Answer.{Answer}
-use Rattle.ssim_desk.specs.declared.steps.Answer.TheVariants.{Merged}
+use Rattle.ssim_desk.specs.declared.steps.Answer.TheVariants.{Taken, Repeated, Merged, Refused}
 use Rattle.ssim_desk.specs.declared.steps.Step.{Step}
+use Rattle.ssim_desk.specs.declared.steps.Step.TheVariants.{Take}
+use Rattle.std.specs.declared.alloc.Global.{Global}
+use Rattle.std.specs.declared.vec.Vec.{Vec}
 
 -- a run and one step more
 pub one_more : (start now next : List DeskState) (xs : List Step) (us : List Answer) (s : Step) (a : Answer) → Runs start xs us now → Acts now s a next
@@ -90,3 +93,42 @@ two_merge states after into from answer apart merges = by (into == from) refl
     by : (b : Bool) → (into == from) ≡ b → MergesOne b states into from answer after
     by true e = absurd (apart ((Decides-eqb into from).0 e))
     by false e = merges
+
+-- ---- a desk that no step has changed
+
+other_place : {X : Type 0} (xs : List X) (i j : ℕ) (x : X) → j ≢ i → slice_get (set xs i x) j ≡ slice_get xs j
+other_place [] i j x apart = refl
+other_place (y ∷ xs) zero zero x apart = absurd (apart refl)
+other_place (y ∷ xs) zero (suc j) x apart = refl
+other_place (y ∷ xs) (suc i) zero x apart = refl
+other_place (y ∷ xs) (suc i) (suc j) x apart = other_place xs i j x (λ e. apart (ap suc e))
+
+-- whether the text was new
+abbrev is_taken : Answer → Bool
+is_taken Taken = true
+is_taken _ = false
+
+-- what was there is put there again
+same_again : (desks : List DeskSeen) (i j : ℕ) (old new d : DeskSeen) → old ≡ get_or desks i d → new ≡ old → slice_get (set desks i new) j ≡ slice_get desks j
+same_again desks i j old new d is same = ap (λ x. slice_get (set desks i x) j) (same ∙ is) ∙ ap (λ xs. slice_get xs j) (set-get_or desks i d)
+
+pub idle_take : (desks : List DeskSeen) (i j : ℕ) (text : Vec ℕ Global) (answer : Answer) (old new d : DeskSeen) → old ≡ get_or desks i d → (answer ≢ Taken → new ≡ old)
+    → is_change j (Take i text) answer ≡ false → slice_get (set desks i new) j ≡ slice_get desks j
+idle_take desks i j text Taken old new d is same idle = other_place desks i j new (λ e. true≢false (sym (eq-eqb i j (sym e)) ∙ idle))
+idle_take desks i j text Repeated old new d is same idle = same_again desks i j old new d is (same (λ e. true≢false (sym (ap is_taken e))))
+idle_take desks i j text Merged old new d is same idle = same_again desks i j old new d is (same (λ e. true≢false (sym (ap is_taken e))))
+idle_take desks i j text (Refused fault) old new d is same idle = same_again desks i j old new d is (same (λ e. true≢false (sym (ap is_taken e))))
+
+-- of steps and one more, each leaves the desk idle
+idle_last : (start now : List DeskState) (d : ℕ) (xs : List Step) (us : List Answer) (s : Step) (a : Answer) → Runs start xs us now → IsIdle d (xs ++ s ∷ []) (us ++ a ∷ [])
+    → IsIdle d xs us × (is_change d s a ≡ false)
+idle_last start now d [] [] s a runs idle = (tt, idle.0)
+idle_last start now d [] (u ∷ us) s a runs idle = absurd runs
+idle_last start now d (x ∷ xs) [] s a runs idle = absurd runs
+idle_last start now d (x ∷ xs) (u ∷ us) s a (between, first, runs) idle =
+    let rest = idle_last between now d xs us s a runs idle.1 in ((idle.0, rest.0), rest.1)
+
+pub idle_more : (start : List DeskState) (states : List DeskState) (old now next : List DeskSeen) (xs : List Step) (us : List Answer) (s : Step) (a : Answer) → Runs start xs us states
+    → LeavesIdle old xs us now → ((d : ℕ) → is_change d s a ≡ false → slice_get next d ≡ slice_get now d) → LeavesIdle old (xs ++ s ∷ []) (us ++ a ∷ []) next
+idle_more start states old now next xs us s a runs left step d idle =
+    let h = idle_last start states d xs us s a runs idle in step d h.1 ∙ left d h.0

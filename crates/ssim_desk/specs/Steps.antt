@@ -1,8 +1,8 @@
 -- What texts and merges do to desks, and what they return. Each of them may run out of memory, which changes nothing.
-use Rattle.std.specs.{Prelude.{◌≡◌, ◌≢◌, ℕ, ◌<◌, ◌==◌, Bool, true, false, List, [], ◌∷◌, None, slice_index_or, slice_set}, FinMap.{get, insert}}
+use Rattle.std.specs.{Prelude.{◌≡◌, ◌≢◌, ℕ, ◌<◌, ◌==◌, ◌&&◌, not, Bool, true, false, List, [], ◌∷◌, None, slice_get, slice_index_or, slice_set}, FinMap.{get, insert}}
 use Rattle.ssim_schedule.specs.{Resolve.IsRefusedIn, declared.resolving.ResolveFault.ResolveFault}
 use Rattle.ssim_text.specs.{Decoding.{IsRefusal, NoMessage}, Message.MessageValue, Spelling.SpellsMessage, declared.fault.TextFault.TextFault, declared.reference.Reference.Reference}
-use Rattle.ssim_desk.specs.{Held.{Agree, DeskState, HeldMessages, Holds, IsLeastConflict, Says, no_desk, union}, declared.fault.DeskFault.DeskFault}
+use Rattle.ssim_desk.specs.{Held.{Agree, DeskState, HeldMessages, Holds, IsLeastConflict, Says, no_desk, union}, Kept.DeskSeen, declared.fault.DeskFault.DeskFault}
 use Rattle.ssim_desk.specs.{declared.fault.DeskFault.TheVariants.{Memory, Text, Resolve, Conflict, OtherBase}, declared.steps.Answer.Answer, declared.steps.Answer.TheVariants.{Taken, Repeated, Merged, Refused}}
 use Rattle.ssim_desk.specs.{declared.steps.Step.Step, declared.steps.Step.TheVariants.{Take, Merge}}
 use Rattle.ssim_schedule.specs.declared.resolving.ResolveFault.TheVariants as resolve_fault
@@ -129,3 +129,18 @@ Runs desks [] [] after = after ≡ desks
 Runs desks (step ∷ steps) (answer ∷ answers) after =
     (between : List DeskState) × Acts desks step answer between × Runs between steps answers after
 Runs _ _ _ _ = ⊥
+
+-- whether the step may have changed the desk with this number: it took a text that was new, or it was merged with another desk
+abbrev pub is_change : ℕ → Step → Answer → Bool
+is_change d (Take i text) Taken = i == d
+is_change d (Merge into from) Merged = (into == d) && not (from == d)
+is_change _ _ _ = false
+
+-- no step has
+abbrev pub IsIdle : ℕ → List Step → List Answer → Type 0
+IsIdle d (step ∷ steps) (answer ∷ answers) = (is_change d step answer ≡ false) × IsIdle d steps answers
+IsIdle _ _ _ = Unit {0}
+
+-- Then the desk with this number is what it was, with the count of messages that its latest change applied.
+abbrev pub LeavesIdle : List DeskSeen → List Step → List Answer → List DeskSeen → Type 0
+LeavesIdle old steps answers new = (d : ℕ) → IsIdle d steps answers → slice_get new d ≡ slice_get old d

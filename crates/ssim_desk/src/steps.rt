@@ -1,10 +1,10 @@
 //! Steps over several desks, which are numbered from 0.
 
-ghost use Rattle.std.specs.Prelude.{◌≡◌, ◌≢◌, ◌<◌, length, map, All, IfOk, OnErr};
+ghost use Rattle.std.specs.Prelude.{◌≡◌, ◌≢◌, ◌<◌, ℕ, false, length, map, slice_get, All, IfOk, OnErr};
 ghost use Rattle.ssim_desk.specs.Agreement.{DesksAgree};
 ghost use Rattle.ssim_desk.specs.Held.{IsDesk};
 ghost use Rattle.ssim_desk.specs.Kept.{map_of, state_of};
-ghost use Rattle.ssim_desk.specs.Steps.{Acts, IsInRange, IsOwnMerge, Merges, MergesAt, Runs, Takes};
+ghost use Rattle.ssim_desk.specs.Steps.{Acts, IsInRange, IsOwnMerge, LeavesIdle, Merges, MergesAt, Runs, Takes, is_change};
 
 use crate::desk::{Desk, Took};
 use crate::fault::DeskFault;
@@ -38,6 +38,7 @@ pub enum Answer {
 fn take_step(desk: &mut Desk, text: &[u8]) -> Answer
     ensures takes { Takes (state_of desk.old) text.now result (map_of desk.new.held) }
     ensures base { desk.new.base ≡ desk.old.base }
+    ensures same { result ≢ Answer.Taken → desk.new ≡ desk.old }
 {
     match desk.take(text) {
         Ok(Took::Taken) => Answer::Taken,
@@ -50,6 +51,7 @@ fn take_step(desk: &mut Desk, text: &[u8]) -> Answer
 fn merge_step(desk: &mut Desk, other: &Desk) -> Answer
     ensures merges { Merges (state_of desk.old) (state_of other.now) result (map_of desk.new.held) }
     ensures base { desk.new.base ≡ desk.old.base }
+    ensures same { result ≢ Answer.Merged → desk.new ≡ desk.old }
 {
     match desk.merge(other) {
         Ok(()) => Answer::Merged,
@@ -62,7 +64,9 @@ fn merge_at(desks: &mut [Desk], into: usize, from: usize) -> Answer
     requires into { into < length desks.old }
     requires from { from < length desks.old }
     requires two { into ≢ from }
-    ensures { MergesAt (map state_of desks.old) into from result (map state_of desks.new) }
+    ensures others { (d : ℕ) → d ≢ into → slice_get desks.new d ≡ slice_get desks.old d }
+    ensures same { result ≢ Answer.Merged → desks.new ≡ desks.old }
+    ensures merges { MergesAt (map state_of desks.old) into from result (map state_of desks.new) }
 {
     if into < from {
         let (front, back) = desks.split_at_mut(from);
@@ -77,6 +81,7 @@ fn run_step(desks: &mut [Desk], step: &Step) -> Answer
     requires { IsInRange (length desks.old) step.now }
     ensures acts { Acts (map state_of desks.old) step.now result (map state_of desks.new) }
     ensures own { IsOwnMerge step.now → desks.new ≡ desks.old }
+    ensures idle { (d : ℕ) → is_change d step.now result ≡ false → slice_get desks.new d ≡ slice_get desks.old d }
 {
     match step {
         Step::Take(desk, text) => take_step(&mut desks[*desk], text),
@@ -110,6 +115,9 @@ pub fn run_steps(alloc: Global, desks: &mut [Desk], steps: &[Step]) -> Result<Ve
     ensures count { IfOk result (λ answers. length answers.items ≡ length steps.now) }
     ensures runs { IfOk result (λ answers. Runs (map state_of desks.old) steps.now answers.items (map state_of desks.new)) }
     ensures own { All IsOwnMerge steps.now → desks.new ≡ desks.old }
+
+    // A desk of whose steps none was answered `Taken` or `Merged` is what it was, `applied` included.
+    ensures idle { IfOk result (λ answers. LeavesIdle desks.old steps.now answers.items desks.new) }
 
     // Any two of these desks that began alike, and that the same messages reached, have afterwards the same base, messages,
     // itineraries and export.

@@ -1,6 +1,6 @@
 use Rattle.std.proofs.Common.{◌≡◌, ◌≤◌, All, length, map, take, vec_capacity, vec_len}
 use Rattle.ssim_desk.specs.Kept.{state_of}
-use Rattle.ssim_desk.specs.Steps.{IsOwnMerge, Runs}
+use Rattle.ssim_desk.specs.Steps.{IsOwnMerge, LeavesIdle, Runs}
 use Rattle.ssim_desk.proofs.steps.run_steps.Given as goal
 
 abbrev pub invariant-loop-next : goal.invariant-loop-next
@@ -9,4 +9,5 @@ invariant-loop-next l = record {
   room : length l.steps ≤ vec_capacity l.answers;
   runs : Runs (map state_of l.fn.desks) (take l.next-index l.steps) l.answers.items (map state_of l.desks);
   own : All IsOwnMerge l.steps → l.desks ≡ l.fn.desks;
+  idle : LeavesIdle l.fn.desks (take l.next-index l.steps) l.answers.items l.desks;
 }
