@@ -20,9 +20,8 @@ use Rattle.ssim_desk.specs.Desk.{IsReplayed}
 use Rattle.ssim_desk.specs.Fault.{message_refused, text_refused}
 use Rattle.ssim_desk.specs.Held.{DeskState, Says}
 use Rattle.ssim_desk.specs.Kept.{AreEntries, AreRising, DeskSeen, Entry, IsEntry, map_of, state_of}
-use Rattle.ssim_desk.specs.Private.Lookup.{IsFound, IsGap}
+use Rattle.ssim_desk.specs.Private.{Belongs, IsFound, IsReplaced}
 use Rattle.ssim_desk.specs.Steps.{IsNew, RefusesText, Takes}
-use Rattle.ssim_desk.specs.Private.Trail.{IsReplaced}
 use Rattle.ssim_desk.specs.declared.fault.DeskFault.TheVariants.{Conflict}
 use Rattle.ssim_desk.specs.declared.lookup.Found.TheVariants.{Other}
 use Rattle.ssim_desk.specs.declared.steps.Answer.TheVariants.{Repeated, Refused}
@@ -34,7 +33,7 @@ pub replaced_entries : (old new : DeskSeen) (at : ℕ) (rest : List Entry) → I
 replaced_entries old new at rest r h =
     subst (λ b. let records = b.records in AreEntries records new.held) (sym r.base) (subst (AreEntries old.base.records) (sym r.held) h)
 
-pub inserted_entries : (records : List Record) (es : List Entry) (at : ℕ) (new : Entry) → AreEntries records es → IsGap es new.reference at → IsEntry records new
+pub inserted_entries : (records : List Record) (es : List Entry) (at : ℕ) (new : Entry) → AreEntries records es → Belongs es new.reference at at → IsEntry records new
     → AreEntries records (take at es ++ (new ∷ drop at es))
 inserted_entries records es at new h gap entry = record {
   rising = rising_with es at new h.rising gap;
@@ -96,7 +95,7 @@ module _ (desk : DeskSeen) (text : List ℕ) (m : MessageValue) (resolved : Reso
   pub takes_other : IsFound desk.held resolved.reference m Other → Takes (state_of desk) text (Refused (Conflict resolved.reference)) (map_of desk.held)
   takes_other (other, holds, apart) = (record { message = m; says = says; other = other; holds = holds; apart = apart }, refl)
 
-  pub takes_new : (at : ℕ) (new : DeskSeen) → AreRising desk.held → IsGap desk.held resolved.reference at
+  pub takes_new : (at : ℕ) (new : DeskSeen) → AreRising desk.held → Belongs desk.held resolved.reference at at
       → IsReplaced desk at (record { reference = resolved.reference; message = m; dates = resolved.subs.items } ∷ drop at desk.held) new
       → IsNew (state_of desk) text (map_of new.held)
   takes_new at new rising gap r = record {

@@ -5,14 +5,14 @@ use Rattle.std.specs.declared.cmp.Ordering.{Ordering}
 use Rattle.std.specs.declared.cmp.Ordering.TheVariants.{Less, Equal, Greater}
 use Rattle.std.specs.Ordering.{is_lt, is_eq, ordering_reverse}
 use Rattle.std.specs.List.{insert}
-use Rattle.std.specs.FinMap.{get, entries, values, is_sorted, entries-from_sorted, entries-insert, entries_sorted, get-entries, same_entries_map, find, put, from_sorted, empty, empty_of_len, len-entries}
+use Rattle.std.specs.FinMap.{get, entries, is_sorted, entries-from_sorted, entries-insert, entries_sorted, get-entries, same_entries_map, find, put, from_sorted, empty, empty_of_len, len-entries}
 use Rattle.std.specs.FinMap as map
 use Rattle.std.specs.FinMap.Entries.{by_order, below_all}
 use Rattle.ssim_text.specs.Message.{MessageValue}
 use Rattle.ssim_text.specs.declared.reference.Reference.{Reference}
 use Rattle.ssim_desk.specs.Held.{reference_cmp}
 use Rattle.ssim_desk.specs.Kept.{AreRising, Entry, keyed, map_of}
-use Rattle.ssim_desk.specs.Private.Lookup.{IsGap}
+use Rattle.ssim_desk.specs.Private.{Belongs}
 use Rattle.ssim_desk.proofs.References.{reference_apart, reference_total}
 
 abbrev pub Pair : Type 0
@@ -93,22 +93,15 @@ find_gap q (e ∷ es) (suc i) sorted within before here =
 pub entries-map_of : (es : List Entry) → AreRising es → entries (map_of es) ≡ keyed es
 entries-map_of es h = entries-from_sorted reference_cmp (keyed es) (T-from_true _ h)
 
-pub values-keyed : (es : List Entry) → map (λ (p : Reference × MessageValue). p.1) (keyed es) ≡ map (λ (e : Entry). e.message) es
-values-keyed [] = refl
-values-keyed (e ∷ es) = ap (λ (ms : List MessageValue). e.message ∷ ms) (values-keyed es)
-
-pub values-map_of : (es : List Entry) → AreRising es → values (map_of es) ≡ map (λ (e : Entry). e.message) es
-values-map_of es h = ap (map (λ (p : Reference × MessageValue). p.1)) (entries-map_of es h) ∙ values-keyed es
-
 -- what is held under a reference
 pub get-map_of : (es : List Entry) (q : Reference) → AreRising es → get (map_of es) q ≡ find reference_cmp q (keyed es)
 get-map_of es q rising = get-entries (map_of es) q ∙ ap (find reference_cmp q) (entries-map_of es rising)
 
-module _ (es : List Entry) (i : ℕ) (new : Entry) (rising : AreRising es) (gap : IsGap es new.reference i) where
+module _ (es : List Entry) (i : ℕ) (new : Entry) (rising : AreRising es) (gap : Belongs es new.reference i i) where
   entries_with : entries (map.insert (map_of es) new.reference new.message) ≡ keyed (insert es i new)
   entries_with =
       entries-insert reference_total (map_of es) new.reference new.message
-      ∙ ap (put reference_cmp new.reference new.message) (entries-map_of es rising) ∙ put_at new es i gap.within gap.before gap.here
+      ∙ ap (put reference_cmp new.reference new.message) (entries-map_of es rising) ∙ put_at new es i gap.within gap.before (gap.after i (omega arith))
 
   pub rising_with : AreRising (insert es i new)
   rising_with = true-from_T _ (subst (λ (ps : List (Reference × MessageValue)). T (is_sorted reference_cmp ps)) entries_with (entries_sorted (map.insert (map_of es) new.reference new.message)))
@@ -118,8 +111,8 @@ module _ (es : List Entry) (i : ℕ) (new : Entry) (rising : AreRising es) (gap 
   map_of_with = same_entries_map _ _ (entries-map_of (insert es i new) rising_with ∙ sym entries_with)
 
 -- nothing is held under a reference that has a gap
-pub not_held : (es : List Entry) (i : ℕ) (r : Reference) → AreRising es → IsGap es r i → get (map_of es) r ≡ None
-not_held es i r rising gap = get-map_of es r rising ∙ find_gap r es i (T-from_true _ rising) gap.within gap.before gap.here
+pub not_held : (es : List Entry) (i : ℕ) (r : Reference) → AreRising es → Belongs es r i i → get (map_of es) r ≡ None
+not_held es i r rising gap = get-map_of es r rising ∙ find_gap r es i (T-from_true _ rising) gap.within gap.before (gap.after i (omega arith))
 
 -- an entry that is not the first comes after the first
 pub below_later : (y : Reference) (es : List Entry) (i : ℕ) (e : Entry) → T (below_all reference_cmp y (keyed es)) → slice_get es i ≡ Some e → reference_cmp y e.reference ≡ Less

@@ -1,6 +1,6 @@
 -- Small examples of desks, checked by computation.
 use Rattle.std.proofs.Common.{arith}
-use Rattle.std.specs.Prelude.{◌≡◌, ℕ, ◌-◌, ◌^◌, true, false, None, List, [], ◌∷◌, ◌++◌, replicate, codes, refl}
+use Rattle.std.specs.Prelude.{◌≡◌, ℕ, ◌-◌, ◌^◌, true, false, None, List, [], ◌∷◌, ◌++◌, length, replicate, codes, refl}
 use Rattle.std.specs.Fmt.{digits}
 use Rattle.std.specs.List.{concat}
 use Rattle.std.specs.declared.cmp.Ordering.TheVariants.{Less, Equal}
@@ -30,7 +30,9 @@ use Rattle.ssim_text.specs.declared.reference.Reference.{Reference}
 use Rattle.ssim_values.specs.Calendar.{day_of_month, month_of, year_of}
 use Rattle.ssim_values.specs.Day.{day_text}
 use Rattle.ssim_values.specs.Flight.{FlightNumber}
+use Rattle.ssim_values.specs.Variation.{variation_text}
 use Rattle.ssim_desk.specs.Fault.{desk_fault_text}
+use Rattle.ssim_desk.specs.File.{after_first_line, counted, row_line, rows_part, texts_part}
 use Rattle.ssim_desk.specs.Held.{reference_cmp}
 use Rattle.ssim_desk.specs.Kept.{Entry}
 use Rattle.ssim_desk.specs.Meaning.{Timetable, after_subs}
@@ -245,3 +247,49 @@ counted_round = (refl, refl)
 -- not all of 849 bytes is read within a limit of 848
 too_many : NeverEnds 848 (λ count. count ≡ 849) (Read (ReaderNeverEnds 0))
 too_many = (849, omega arith, refl)
+
+-- ---- the lengths of the parts of a desk file around four records and one text of 51 bytes, computed: 11 + 10 + 4 * 201 + 11 + 8 + 4 are 848
+
+abbrev row_from : ℕ → ℕ → ℕ → List ℕ → Row
+row_from minutes first last station = record { station = station; first = first; last = last; variation = record { negative = false; minutes = minutes } }
+
+line_of_version_2 : counted (codes "SSIMDESK") 2 ≡ codes "SSIMDESK 2" ++ 10 ∷ []
+unfolding digits
+line_of_version_2 = refl
+
+first_line_length : length (counted (codes "SSIMDESK") 2) ≡ 11
+unfolding digits
+first_line_length = refl
+
+four_records : counted (codes "RECORDS") 4 ≡ codes "RECORDS 4" ++ 10 ∷ []
+unfolding digits
+four_records = refl
+
+four_records_length : length (counted (codes "RECORDS") 4) ≡ 10
+unfolding digits
+four_records_length = refl
+
+no_rows : rows_part [] ≡ codes "STATIONS 0" ++ 10 ∷ []
+unfolding digits
+no_rows = refl
+
+no_texts : texts_part [] ≡ codes "TEXTS 0" ++ 10 ∷ []
+unfolding digits
+no_texts = refl
+
+text_length : counted (codes "TEXT") 51 ≡ codes "TEXT 51" ++ 10 ∷ []
+unfolding digits
+text_length = refl
+
+nothing_held : after_first_line (record { records = []; rows = [] }) [] ≡ codes "RECORDS 0" ++ 10 ∷ codes "STATIONS 0" ++ 10 ∷ codes "TEXTS 0" ++ 10 ∷ codes "END" ++ 10 ∷ []
+unfolding digits
+nothing_held = refl
+
+-- 26 bytes
+zurich_summer : row_line (row_from 120 9220 9429 (codes "ZRH")) ≡ codes "ZRH 30MAR25 25OCT25 +0200" ++ 10 ∷ []
+unfolding day_text year_of month_of day_of_month
+zurich_summer = refl
+
+zurich_summer_length : length (row_line (row_from 120 9220 9429 (codes "ZRH"))) ≡ 26
+unfolding day_text year_of month_of day_of_month
+zurich_summer_length = refl

@@ -1,6 +1,7 @@
 -- A desk has one meaning and one export, since each of its messages resolves, and in one way.
-use Rattle.std.proofs.Common.{◌≡◌, List, [], ◌∷◌, map, refl, sym, ap, ◌∙◌}
-use Rattle.std.specs.FinMap.{entries, values}
+use Rattle.std.proofs.Common.{◌≡◌, List, [], ◌∷◌, refl, sym, ap, subst, ◌∙◌}
+use Rattle.std.proofs.lemmas.List.Elements.{All-from_recursion, recursion_from_All}
+use Rattle.std.specs.FinMap.{entries}
 use Rattle.std.specs.List.{AllByRecursion}
 use Rattle.ssim_periods.specs.Days.{each_day}
 use Rattle.ssim_records.specs.Carrier.{CarrierFields}
@@ -12,31 +13,35 @@ use Rattle.ssim_schedule.proofs.BaseFrame.{first-is, last-is, second-is}
 use Rattle.ssim_schedule.specs.BaseSeen.{BaseSeen}
 use Rattle.ssim_schedule.specs.Export.{Frame, chapter7}
 use Rattle.ssim_schedule.specs.ReadBack.{BasesExport, HasFrame}
-use Rattle.ssim_schedule.specs.Stations.{Row}
-use Rattle.ssim_schedule.specs.Timetable.{itinerary}
+use Rattle.ssim_schedule.specs.Resolve.{ResolvesIn}
 use Rattle.ssim_schedule.specs.declared.resolving.ResolvedText.{ResolvedText}
 use Rattle.ssim_text.specs.Message.{MessageValue}
 use Rattle.ssim_text.specs.declared.reference.Reference.{Reference}
-use Rattle.ssim_desk.specs.Held.{HasReference}
-use Rattle.ssim_desk.specs.Meaning.{HasExport, HasMeaning, HasOneExport, HasOneMeaning, ResolveTo, Timetable, after_messages, after_subs}
+use Rattle.ssim_desk.specs.Held.{DeskState, HasReference}
+use Rattle.ssim_desk.specs.Kept.{Entry, keyed}
+use Rattle.ssim_desk.specs.Meaning.{HasDates, HasExport, HasMeaning, HasOneExport, HasOneMeaning, Lists, Timetable, left_by}
 use Rattle.ssim_desk.proofs.HeldEntries.{each_entry}
 use Rattle.ssim_desk.proofs.References.{reference_apart, reference_total}
 use Rattle.ssim_desk.proofs.Resolving.{one_subs}
 
 -- ---- each has one
 
--- messages that have references resolve
-texts_of : (base : BaseSeen) (es : List (Reference × MessageValue)) → AllByRecursion (λ (e : Reference × MessageValue). HasReference base e.0 e.1) es
-    → (texts : List ResolvedText) × ResolveTo base.records (map (λ e. e.1) es) texts
-texts_of base [] each = ([], tt)
-texts_of base (e ∷ es) each =
-    let rest = texts_of base es each.1 in
-    (each.0.resolved ∷ rest.0, (each.0.resolves, rest.1))
+-- messages that have references, listed
+abbrev HaveReferences : BaseSeen → List (Reference × MessageValue) → Type 0
+HaveReferences base es = AllByRecursion (λ (e : Reference × MessageValue). HasReference base e.0 e.1) es
+
+listed : (base : BaseSeen) (es : List (Reference × MessageValue)) → HaveReferences base es → (xs : List Entry) × (keyed xs ≡ es) × AllByRecursion (HasDates base.records) xs
+listed base [] each = ([], refl, tt)
+listed base ((r, m) ∷ es) each =
+    let rest = listed base es each.1 in
+    let h = each.0 in
+    let e : Entry = record { reference = r; message = m; dates = h.resolved.subs.items } in
+    (e ∷ rest.0, ap (λ (ps : List (Reference × MessageValue)). (r, m) ∷ ps) rest.1, ((h.resolved, h.resolves, refl), rest.2))
 
 pub has_meaning : HasMeaning
 has_meaning desk is =
-    let found = texts_of desk.base (entries desk.held) (each_entry reference_total reference_apart (HasReference desk.base) desk.held is.each) in
-    (after_messages desk.base.rows (values desk.held) found.0 (itinerary desk.base.records), record { texts = found.0; resolved = found.1; left = refl })
+    let found = listed desk.base (entries desk.held) (each_entry reference_total reference_apart (HasReference desk.base) desk.held is.each) in
+    (left_by desk.base found.0, (found.0, record { held = found.1; dated = All-from_recursion (HasDates desk.base.records) found.0 found.2 }, refl))
 
 pub has_export : BasesExport → HasExport
 has_export export desk is =
@@ -49,20 +54,28 @@ has_export export desk is =
 
 -- ---- and only one
 
--- the same timetable is left
-one_left : (records : List Record) (rows : List Row) (messages : List MessageValue) (a b : List ResolvedText) (before : Timetable)
-    → ResolveTo records messages a → ResolveTo records messages b → after_messages rows messages a before ≡ after_messages rows messages b before
-one_left records rows [] a b before to_a to_b = refl
-one_left records rows (m ∷ messages) [] b before to_a to_b = absurd to_a
-one_left records rows (m ∷ messages) (x ∷ a) [] before to_a to_b = absurd to_b
-one_left records rows (m ∷ messages) (x ∷ a) (y ∷ b) before to_a to_b =
-    one_left records rows messages a b (after_subs rows m.subs x.subs.items before) to_a.1 to_b.1
-    ∙ ap (λ subs. after_messages rows messages b (after_subs rows m.subs subs before)) (one_subs records m x y to_a.0 to_b.0)
+-- entries with the same references and messages have the same dates
+one_list : (records : List Record) (xs ys : List Entry) → keyed xs ≡ keyed ys → AllByRecursion (HasDates records) xs → AllByRecursion (HasDates records) ys → xs ≡ ys
+one_list records [] [] e h k = refl
+one_list records [] (y ∷ ys) e h k = cc
+one_list records (x ∷ xs) [] e h k = cc
+one_list records (x ∷ xs) (y ∷ ys) e h k =
+    let pair : (x.reference, x.message) ≡ (y.reference, y.message) = cc in
+    let rest : keyed xs ≡ keyed ys = cc in
+    let reference : x.reference ≡ y.reference = ap (λ (p : Reference × MessageValue). p.0) pair in
+    let message : x.message ≡ y.message = ap (λ (p : Reference × MessageValue). p.1) pair in
+    let one = h.0 in
+    let other = subst (λ (m : MessageValue). (text : ResolvedText) × ResolvesIn records m text × (text.subs.items ≡ y.dates)) (sym message) k.0 in
+    let dates : x.dates ≡ y.dates = sym one.2 ∙ one_subs records x.message one.0 other.0 one.1 other.1 ∙ other.2 in
+    let same : x ≡ y = λ i. record { reference = reference i; message = message i; dates = dates i } in
+    ap (λ (z : Entry). z ∷ xs) same ∙ ap (λ (zs : List Entry). y ∷ zs) (one_list records xs ys rest h.1 k.1)
+
+pub one_listed : (desk : DeskState) (xs ys : List Entry) → Lists desk xs → Lists desk ys → xs ≡ ys
+one_listed desk xs ys is are =
+    one_list desk.base.records xs ys (is.held ∙ sym are.held) (recursion_from_All (HasDates desk.base.records) xs is.dated) (recursion_from_All (HasDates desk.base.records) ys are.dated)
 
 pub has_one_meaning : HasOneMeaning
-has_one_meaning desk one other means_one means_other =
-    means_one.left ∙ one_left desk.base.records desk.base.rows (values desk.held) means_one.texts means_other.texts (itinerary desk.base.records) means_one.resolved means_other.resolved
-    ∙ sym means_other.left
+has_one_meaning desk one other (xs, is, left) (ys, are, right) = left ∙ ap (left_by desk.base) (one_listed desk xs ys is are) ∙ sym right
 
 one_header : (a b : HeaderFields) → Header a ≡ Header b → a ≡ b
 one_header a b e = cc

@@ -11,7 +11,7 @@ use Rattle.ssim_text.specs.Message.{MessageValue}
 use Rattle.ssim_text.specs.declared.reference.Reference.{Reference}
 use Rattle.ssim_desk.specs.Held.{reference_cmp}
 use Rattle.ssim_desk.specs.Kept.{Entry, keyed}
-use Rattle.ssim_desk.specs.Private.Union.{IsLesser, IsMerged, IsNext}
+use Rattle.ssim_desk.specs.Private.{IsLesser, IsMerged, IsNext}
 use Rattle.ssim_desk.proofs.Entries.{and_left, and_right, both, find_below, flips, less-from_T, less-to_T}
 use Rattle.ssim_desk.proofs.MapLemmas.{or_else}
 use Rattle.ssim_desk.proofs.References.{reference_apart, reference_total}

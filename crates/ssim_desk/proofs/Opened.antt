@@ -4,7 +4,7 @@ use Rattle.ssim_schedule.specs.BaseSeen.{BaseSeen}
 use Rattle.ssim_desk.specs.File.{IsDeskFile}
 use Rattle.ssim_desk.specs.Kept.{AreEntries, DeskSeen, Entry}
 use Rattle.ssim_desk.specs.Opening.{Opens}
-use Rattle.ssim_desk.specs.Private.Trail.{IsReplaced}
+use Rattle.ssim_desk.specs.Private.{IsReplaced}
 
 module _ (limit : ℕ) (told : Option (List ℕ)) (base : BaseSeen) (held : List Entry) (old new : DeskSeen) (began : old ≡ record { base = base; held = []; applied = 0 }) (replaced : IsReplaced old 0 held new) where
   pub base_kept : new.base ≡ base

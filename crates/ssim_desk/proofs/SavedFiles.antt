@@ -8,11 +8,11 @@ use Rattle.ssim_schedule.specs.SavedBase.{SavedIsOne, saved}
 use Rattle.ssim_text.specs.Spelling.{EqualWhereWrittenEqual}
 use Rattle.ssim_desk.specs.File.{CanBeSaved, HasNoOriginator, IsDeskFile, IsFileOf, IsRow, IsSpelled, after_first_line, counted, end_line, records_part, row_line, rows_part, text_element, texts_part}
 use Rattle.ssim_desk.specs.Kept.{Entry, IsEntry}
-use Rattle.ssim_desk.specs.Opening.{AreHeld, IsBase, IsOf, first_line, version_number}
+use Rattle.ssim_desk.specs.Opening.{AreHeld, IsOf, first_line, version_number}
 use Rattle.ssim_desk.specs.declared.opening.version.FileVersion.{FileVersion}
 use Rattle.ssim_desk.specs.declared.opening.version.FileVersion.TheVariants.{One, Two}
 use Rattle.ssim_desk.proofs.Files.{counted_apart, both_each, few, records_first, rows_next, text_some, texts_last, within}
-use Rattle.ssim_desk.proofs.SavedParts.{records_size, rows_size}
+use Rattle.ssim_desk.proofs.SavedParts.{IsBase, records_size, rows_size}
 
 -- ---- what was read is a desk file
 
@@ -23,7 +23,7 @@ file_of Two bytes base es is none = inl is
 pub file_found : (version : FileVersion) (bytes one two three : List ℕ) (base : BaseSeen) (es : List Entry) → bytes ≡ first_line version ++ one → IsBase base → one ≡ records_part base.records ++ (rows_part base.rows ++ two)
     → AreHeld version base.records es → two ≡ texts_part es ++ three → three ≡ end_line → IsDeskFile bytes base es
 file_found version bytes one two three base es a is b held c d = record {
-  saved = record { is_base = is.records; rows = is.rows; entries_are = held.entries_are; spelled = held.spelled };
+  saved = record { is_base = is.0; rows = is.1; entries_are = held.entries_are; spelled = held.spelled };
   is_file = file_of version bytes base es
       (a ∙ ap (λ (xs : List ℕ). first_line version ++ xs) (b ∙ ap (λ (xs : List ℕ). records_part base.records ++ (rows_part base.rows ++ xs)) (c ∙ ap (λ (xs : List ℕ). texts_part es ++ xs) d)))
       held.of_version;
@@ -76,12 +76,12 @@ pub base_is : SavedIsOne → EqualWhereWrittenEqual → (one two later : List �
     → one ≡ records_part base.records ++ (rows_part base.rows ++ two) → one ≡ records_part other.records ++ (rows_part other.rows ++ later)
     → (base.records ≡ other.records) × (base.rows ≡ other.rows) × (two ≡ later)
 base_is once equal one two later base other is are a b c d e f =
-    let records = records_first once equal base other [] [] (rows_part base.rows ++ two) (rows_part other.rows ++ later) is.records are.records a b (sym e ∙ f) in
-    let rows = rows_next once equal base other [] [] two later (recursion_from_All IsRow base.rows is.rows) (recursion_from_All IsRow other.rows are.rows) c d records.1 in
+    let records = records_first once equal base other [] [] (rows_part base.rows ++ two) (rows_part other.rows ++ later) is.0 are.0 a b (sym e ∙ f) in
+    let rows = rows_next once equal base other [] [] two later (recursion_from_All IsRow base.rows is.1) (recursion_from_All IsRow other.rows are.1) c d records.1 in
     (records.0, rows.0, rows.1)
 
 pub saved_base : (base : BaseSeen) (es : List Entry) → CanBeSaved base es → IsBase base
-saved_base base es can = record { records = can.is_base; rows = can.rows }
+saved_base base es can = (can.is_base, can.rows)
 
 pub saved_texts : (version : FileVersion) (base : BaseSeen) (es : List Entry) → CanBeSaved base es → All (IsOf version) es → AreHeld version base.records es
 saved_texts version base es can of_version = record { entries_are = can.entries_are; spelled = can.spelled; of_version = of_version }
@@ -102,8 +102,8 @@ small_base one two base is e short =
     let second = length-append (rows_part base.rows) two in
     let records = length-append (counted (codes "RECORDS") (length base.records)) (saved base.records) in
     let rows = length-append (counted (codes "STATIONS") (length base.rows)) (flat_map row_line base.rows) in
-    let one_size = records_size base.records is.records in
-    let two_size = rows_size base.rows is.rows in
+    let one_size = records_size base.records is.0 in
+    let two_size = rows_size base.rows is.1 in
     (omega (arith, whole, first, records, one_size, short), omega (arith, whole, first, second, rows, two_size, short))
 
 pub small_texts : (two three : List ℕ) (es : List Entry) → two ≡ texts_part es ++ three → length two < 2 ^ 64 → length es < 2 ^ 64

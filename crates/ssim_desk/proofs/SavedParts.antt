@@ -14,13 +14,17 @@ use Rattle.ssim_schedule.specs.Stations.{Row}
 use Rattle.ssim_text.specs.Spelling.{EqualWhereWrittenEqual}
 use Rattle.ssim_desk.specs.File.{CanBeSaved, HasNoOriginator, IsDeskFile, IsFileOf, IsRow, IsSpelled, after_first_line, counted, end_line, record_line, records_part, row_line, rows_part, text_element, texts_part}
 use Rattle.ssim_desk.specs.Kept.{AreEntries, AreRising, Entry, IsEntry}
-use Rattle.ssim_desk.specs.Opening.{AreHeld, IsBase, IsNextText, IsOf, first_line, version_number}
+use Rattle.ssim_desk.specs.Opening.{AreHeld, IsNextText, IsOf, first_line, version_number}
 use Rattle.ssim_desk.specs.declared.opening.version.FileVersion.{FileVersion}
 use Rattle.ssim_desk.specs.declared.opening.version.FileVersion.TheVariants.{One, Two}
 use Rattle.ssim_desk.proofs.Files.{IsText, both_each, counted_apart, elements_apart, record_length, records_first, rows_next, texts_apart, texts_last, within}
 use Rattle.ssim_desk.proofs.SavedElements.{each_front, each_push, flat_map-append, length_all, part_is}
 use Rattle.ssim_desk.proofs.SavedRows.{length_rows}
 use Rattle.ssim_desk.proofs.SavedTexts.{rising_front}
+
+-- the records and rows of a base
+abbrev pub IsBase : BaseSeen → Type 0
+IsBase base = IsBaseRecords base.records × All IsRow base.rows
 
 -- ---- rows
 

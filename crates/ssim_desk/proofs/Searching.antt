@@ -11,7 +11,7 @@ use Rattle.ssim_text.specs.Message.{MessageValue}
 use Rattle.ssim_text.specs.declared.reference.Reference.{Reference}
 use Rattle.ssim_desk.specs.Held.{reference_cmp}
 use Rattle.ssim_desk.specs.Kept.{AreRising, Entry, keyed, map_of}
-use Rattle.ssim_desk.specs.Private.Lookup.{IsHeldAt, IsNarrowed}
+use Rattle.ssim_desk.specs.Private.{Belongs}
 use Rattle.ssim_desk.proofs.Entries.{T-from_true, and_left, and_right, below_later, flips, held_at}
 use Rattle.ssim_desk.proofs.References.{reference_apart, reference_total}
 
@@ -40,9 +40,13 @@ rise (x ∷ es) zero (suc j) a b sorted lt at bt =
     subst (λ (z : Entry). reference_cmp z.reference b.reference ≡ Less) same (below_later x.reference es j b (and_left _ _ sorted) bt)
 rise (x ∷ es) (suc i) (suc j) a b sorted lt at bt = rise es i j a b (and_right _ _ sorted) (omega arith) at bt
 
+-- a message with the reference is there
+abbrev pub IsHeldAt : List Entry → Reference → ℕ → Type 0
+IsHeldAt es r at = (e : Entry) × (slice_get es at ≡ Some e) × (e.reference ≡ r)
+
 -- ---- a search by halves
 
-module _ (es : List Entry) (rising : AreRising es) (r : Reference) (low high mid : ℕ) (n : IsNarrowed es r low high) (from : low ≤ mid) (to : mid < high) (e : Entry) (is : e ≡ slice_index_or es mid e) where
+module _ (es : List Entry) (rising : AreRising es) (r : Reference) (low high mid : ℕ) (n : Belongs es r low high) (from : low ≤ mid) (to : mid < high) (e : Entry) (is : e ≡ slice_index_or es mid e) where
   in_list : mid < length es
   in_list = omega (arith, to, n.within)
 
@@ -50,7 +54,7 @@ module _ (es : List Entry) (rising : AreRising es) (r : Reference) (low high mid
   there = at_index es mid e in_list ∙ ap Some (sym is)
 
   -- below the middle all are less if it is
-  pub narrow_up : Less ≡ reference_cmp e.reference r → IsNarrowed es r (mid + 1) high
+  pub narrow_up : Less ≡ reference_cmp e.reference r → Belongs es r (mid + 1) high
   narrow_up less = record {
     order = omega (arith, to);
     within = n.within;
@@ -65,7 +69,7 @@ module _ (es : List Entry) (rising : AreRising es) (r : Reference) (low high mid
           flips _ r Less (ap (λ (x : Entry). reference_cmp x.reference r) (ap (λ k. slice_index_or es k d) same ∙ index_of_get es mid e d there) ∙ sym less)
 
   -- above the middle all are greater if it is
-  pub narrow_down : Greater ≡ reference_cmp e.reference r → IsNarrowed es r low mid
+  pub narrow_down : Greater ≡ reference_cmp e.reference r → Belongs es r low mid
   narrow_down greater = record {
     order = from;
     within = omega (arith, in_list);
@@ -83,12 +87,12 @@ module _ (es : List Entry) (rising : AreRising es) (r : Reference) (low high mid
           ap (λ (x : Entry). reference_cmp r x.reference) (ap (λ k. slice_index_or es k d) same ∙ index_of_get es mid e d there) ∙ under
 
   pub at_middle : Equal ≡ reference_cmp e.reference r → IsHeldAt es r mid
-  at_middle equal = record { entry = e; there = there; its = reference_apart e.reference r (sym equal) }
+  at_middle equal = (e, there, reference_apart e.reference r (sym equal))
 
 -- what is held under a reference that is there
 pub found_there : (es : List Entry) → AreRising es → (r : Reference) (at : ℕ) → IsHeldAt es r at → (x : Entry) → x ≡ slice_index_or es at x → get (map_of es) r ≡ Some x.message
-found_there es rising r at h x is =
-    ap (get (map_of es)) (sym h.its) ∙ held_at es at h.entry rising h.there ∙ ap (λ (z : Entry). Some z.message) (sym (is ∙ index_of_get es at h.entry x h.there))
+found_there es rising r at (e, there, its) x is =
+    ap (get (map_of es)) (sym its) ∙ held_at es at e rising there ∙ ap (λ (z : Entry). Some z.message) (sym (is ∙ index_of_get es at e x there))
 
 pub no_more : {X : Type 0} (xs : List X) (j : ℕ) (P : X → Type 0) → length xs ≤ j → IfSome (slice_get xs j) P
 no_more xs j P le = if_some_index xs j P (λ lt d. absurd (omega (arith, lt, le)))

@@ -1,5 +1,5 @@
 -- Two lists of messages, each in order of reference, as maps: where they differ, and their union.
-use Rattle.std.proofs.Common.{◌≡◌, ◌≢◌, ◌⊎◌, inl, inr, ℕ, zero, suc, ◌<◌, ◌≤◌, ◌+◌, Bool, true, false, cond, List, [], ◌∷◌, ◌++◌, length, take, drop, get_or, Option, Some, None, IfSome, slice_get, slice_index_or, All, refl, sym, ap, subst, ◌∙◌, arith}
+use Rattle.std.proofs.Common.{◌≡◌, ◌≢◌, ◌⊎◌, inl, inr, ℕ, zero, suc, ◌<◌, ◌≤◌, ◌+◌, Bool, true, false, cond, List, [], ◌∷◌, ◌++◌, length, take, drop, get_or, Option, Some, None, IfSome, slice_get, slice_index_or, All, IsSome, is_some, refl, sym, ap, subst, ◌∙◌, arith}
 use Rattle.std.specs.Prelude.{T}
 use Rattle.std.specs.declared.cmp.Ordering.{Ordering}
 use Rattle.std.specs.declared.cmp.Ordering.TheVariants.{Less, Equal, Greater}
@@ -13,8 +13,7 @@ use Rattle.ssim_text.specs.Message.{MessageValue}
 use Rattle.ssim_text.specs.declared.reference.Reference.{Reference}
 use Rattle.ssim_desk.specs.Held.{Agree, DifferAt, IsLeastConflict, reference_cmp, union}
 use Rattle.ssim_desk.specs.Kept.{AreEntries, AreRising, Entry, IsEntry, keyed, map_of}
-use Rattle.ssim_desk.specs.Private.Lookup.{IsFound, IsGap}
-use Rattle.ssim_desk.specs.Private.Union.{HeldAlike, IsAlike, IsFirstNew, IsHeldIn, IsLesser, IsMerged}
+use Rattle.ssim_desk.specs.Private.{IsFirstNew, IsFound, IsLesser, IsMerged}
 use Rattle.ssim_desk.specs.declared.lookup.Found.{Found}
 use Rattle.ssim_desk.specs.declared.lookup.Found.TheVariants.{Absent, Same, Other}
 use Rattle.ssim_desk.proofs.Entries.{T-from_true, and_left, flips, get-map_of, held_at, not_held, self_equal, true-from_T}
@@ -22,6 +21,18 @@ use Rattle.ssim_desk.proofs.MapLemmas.{get-union, or_else}
 use Rattle.ssim_desk.proofs.References.{reference_apart, reference_total}
 use Rattle.ssim_desk.proofs.Merged.{Below, Sorted, above_merged, all_merged, at_ref, before_drop, before_gap, find_merged, rising_merged, sorted_append, sorted_drop, sorted_take}
 use Rattle.ssim_desk.proofs.Searching.{at_index, index_of_get, rise}
+
+-- a message is held under the reference of the entry
+abbrev pub IsHeldIn : List Entry → Entry → Type 0
+IsHeldIn mine e = IsSome (get (map_of mine) e.reference)
+
+-- under the reference of the entry no other message is held
+abbrev pub IsAlike : List Entry → Entry → Type 0
+IsAlike mine e = (message : MessageValue) → get (map_of mine) e.reference ≡ Some message → message ≡ e.message
+
+-- under the reference of none of the entries is another message held
+abbrev pub HeldAlike : List Entry → List Entry → Type 0
+HeldAlike mine theirs = All (IsAlike mine) theirs
 
 -- ---- what looking up says
 
@@ -34,8 +45,8 @@ alike mine e Other rising other n m h = absurd (n refl)
 -- whatever is found but nothing is held
 pub held_in : (mine : List Entry) (e : Entry) (f : Found) → IsFound mine e.reference e.message f → ((at : ℕ) → f ≡ Absent at → ⊥) → IsHeldIn mine e
 held_in mine e (Absent at) gap n = absurd (n at refl)
-held_in mine e Same same n = (e.message, same)
-held_in mine e Other other n = (other.0, other.1)
+held_in mine e Same same n = ap is_some same
+held_in mine e Other other n = ap is_some other.1
 
 -- ---- where a message is found
 
@@ -125,6 +136,10 @@ at_ref-++ q (x ∷ xs) ys =
 parts : (q : Reference) (es : List Entry) (n : ℕ) → at_ref q es ≡ or_else (at_ref q (take n es)) (at_ref q (drop n es))
 parts q es n = ap (at_ref q) (sym (take-append-drop n es)) ∙ at_ref-++ q (take n es) (drop n es)
 
+there_adds : (o : Option MessageValue) (x : MessageValue) (later : Option MessageValue) → IsSome o → or_else o later ≡ or_else o (or_else (Some x) later)
+there_adds None x later some = cc
+there_adds (Some y) x later some = refl
+
 -- messages that are held add nothing
 held_adds : (mine some : List Entry) → AreRising mine → All (IsHeldIn mine) some → (q : Reference) (later : Option MessageValue)
     → or_else (at_ref q mine) later ≡ or_else (at_ref q mine) (or_else (at_ref q some) later)
@@ -135,8 +150,7 @@ held_adds mine some rising h q later = by (at_ref q some) refl
     by (Some x) e =
         let w = find_where q some x e in
         let held = all_there (IsHeldIn mine) some w.at w.entry h w.there in
-        let there : at_ref q mine ≡ Some held.0 = ap (at_ref q) refl ∙ sym (get-map_of mine q rising) ∙ ap (get (map_of mine)) (sym w.its) ∙ held.1 in
-        ap (λ o. or_else o later) there ∙ sym (ap (λ o. or_else o (Some x)) there)
+        there_adds (at_ref q mine) x later (subst IsSome (ap (get (map_of mine)) w.its ∙ get-map_of mine q rising) held)
 
 union_at : (mine theirs : List Entry) → AreRising mine → AreRising theirs → (q : Reference) → get (union (map_of mine) (map_of theirs)) q ≡ or_else (at_ref q mine) (at_ref q theirs)
 union_at mine theirs rising others q = get-union reference_total (map_of mine) (map_of theirs) q ∙ ap (λ o. or_else o (get (map_of theirs) q)) (get-map_of mine q rising) ∙ ap (or_else (at_ref q mine)) (get-map_of theirs q others)
@@ -208,7 +222,7 @@ module _ (mine theirs : List Entry) (place at : ℕ) (rising : AreRising mine) (
       ∙ sym (union_at mine theirs rising others q))
 
   pub union_first : (later : List Entry) × (all ≡ new.first ∷ later)
-  union_first = first_of new.first (drop at mine) (drop (suc place) theirs) all (subst (λ o. IfSome o (λ e. reference_cmp new.first.reference e.reference ≡ Less)) (sym (slice_get-drop mine at)) new.gap.here)
+  union_first = first_of new.first (drop at mine) (drop (suc place) theirs) all (subst (λ o. IfSome o (λ e. reference_cmp new.first.reference e.reference ≡ Less)) (sym (slice_get-drop mine at)) (new.gap.after at (omega arith)))
       (subst (λ ts. IsMerged (drop at mine) ts all) from_new m)
 
 pub union_entries : (records : List Record) (mine theirs : List Entry) (place at : ℕ) → AreEntries records mine → AreEntries records theirs → IsFirstNew mine theirs place at → (all : List Entry) → IsMerged (drop at mine) (drop place theirs) all

@@ -4,7 +4,7 @@ use Rattle.ssim_periods.specs.Days.{each_day}
 use Rattle.ssim_schedule.specs.{BaseSeen.{BaseSeen, is_leg_of}, Points.is_point, Stations.Row, Timetable.{Days, Legs, same_flight}, declared.finding.Finding.Finding, declared.resolved.ResolvedSub.ResolvedSub}
 use Rattle.ssim_text.specs.{Grammar.identifier_of, declared.action.Sub.Sub, declared.reference.Reference.Reference}
 use Rattle.ssim_values.specs.Flight.{FlightNumber}
-use Rattle.ssim_desk.specs.{Kept.{DeskSeen, Entry, found_by, left_by, map_of}, declared.desk.Took.Took, declared.fault.DeskFault.DeskFault, declared.finding_line.FindingLine.FindingLine, declared.steps.Answer.Answer}
+use Rattle.ssim_desk.specs.{Kept.{DeskSeen, Entry, map_of}, Meaning.{found_by, left_by}, declared.desk.Took.Took, declared.fault.DeskFault.DeskFault, declared.finding_line.FindingLine.FindingLine, declared.steps.Answer.Answer}
 use Rattle.ssim_desk.specs.declared.steps.Answer.TheVariants.{Taken, Repeated, Merged, Refused}
 use Rattle.ssim_desk.specs.declared.desk.Took.TheVariants as took
 

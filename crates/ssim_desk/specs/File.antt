@@ -1,20 +1,10 @@
 -- The desk file: the bytes as which a desk is saved. Its elements are lines, records and texts, one after another; each line and each
 -- record ends with LF, and a text with the LF of its own last line. Numbers are decimal without leading zeros.
-use Rattle.std.specs.Prelude.{◌≡◌, ◌⊎◌, ℕ, ◌≤◌, ◌<◌, ◌^◌, false, List, [], ◌∷◌, ◌++◌, length, take, drop, codes, All, IsTrue, refl}
-use Rattle.std.specs.Fmt.{decimal, digits}
-use Rattle.std.specs.List.{flat_map}
-use Rattle.ssim_values.specs.Calendar.{day_limit, day_of_month, month_of, year_of}
-use Rattle.ssim_values.specs.Day.{day_text}
-use Rattle.ssim_values.specs.Station.{is_station}
-use Rattle.ssim_values.specs.Variation.{variation_text}
-use Rattle.ssim_records.specs.Record.{written}
-use Rattle.ssim_records.specs.declared.record.Record.{Record}
-use Rattle.ssim_schedule.specs.BaseSeen.{BaseSeen}
-use Rattle.ssim_schedule.specs.SavedBase.{IsBaseRecords, saved}
-use Rattle.ssim_schedule.specs.Stations.{Row}
-use Rattle.ssim_text.specs.Canonical.{canonical}
-use Rattle.ssim_text.specs.Spelling.{SpellsMessage}
-use Rattle.ssim_text.specs.Values.{no_originator}
+use Rattle.std.specs.{Prelude.{◌≡◌, ◌⊎◌, ℕ, ◌≤◌, ◌<◌, ◌^◌, List, [], ◌∷◌, ◌++◌, length, take, drop, codes, All, IsTrue}, Fmt.decimal, List.flat_map}
+use Rattle.ssim_records.specs.{Record.written, declared.record.Record.Record}
+use Rattle.ssim_schedule.specs.{BaseSeen.BaseSeen, SavedBase.{IsBaseRecords, saved}, Stations.Row}
+use Rattle.ssim_text.specs.{Canonical.canonical, Spelling.SpellsMessage, Values.no_originator}
+use Rattle.ssim_values.specs.{Calendar.day_limit, Day.day_text, Station.is_station, Variation.variation_text}
 use Rattle.ssim_desk.specs.Kept.{AreEntries, Entry}
 
 -- ---- the elements
@@ -67,10 +57,6 @@ after_first_line base entries = records_part base.records ++ (rows_part base.row
 abbrev pub desk_file : BaseSeen → List Entry → List ℕ
 desk_file base entries = counted (codes "SSIMDESK") 2 ++ after_first_line base entries
 
--- the same as version 1, which had no originators
-abbrev pub desk_file_1 : BaseSeen → List Entry → List ℕ
-desk_file_1 base entries = counted (codes "SSIMDESK") 1 ++ after_first_line base entries
-
 -- a row of a station table
 pub record IsRow (row : Row) : Type 0 where
   pub station : IsTrue (is_station row.station)
@@ -93,9 +79,10 @@ pub record CanBeSaved (base : BaseSeen) (entries : List Entry) : Type 0 where
   pub entries_are : AreEntries base.records entries
   pub spelled : All IsSpelled entries
 
--- the bytes are the file of them: of version 2, or of version 1 if no message has an originator
+-- the bytes are the file of them: of version 2, or of version 1, which had no originators
 abbrev pub IsFileOf : List ℕ → BaseSeen → List Entry → Type 0
-IsFileOf bytes base entries = (bytes ≡ desk_file base entries) ⊎ ((bytes ≡ desk_file_1 base entries) × All HasNoOriginator entries)
+IsFileOf bytes base entries =
+    (bytes ≡ desk_file base entries) ⊎ ((bytes ≡ counted (codes "SSIMDESK") 1 ++ after_first_line base entries) × All HasNoOriginator entries)
 
 -- the bytes are the desk file of a base and of the messages that are held
 pub record IsDeskFile (bytes : List ℕ) (base : BaseSeen) (entries : List Entry) : Type 0 where
@@ -120,49 +107,3 @@ pub record IsSavedAgain (bytes : List ℕ) (base : BaseSeen) (entries : List Ent
 -- and so is every file that was opened
 abbrev pub SavesAsOpened : Type 0
 SavesAsOpened = (bytes : List ℕ) (base : BaseSeen) (entries : List Entry) → IsDeskFile bytes base entries → IsSavedAgain bytes base entries
-
--- ---- the lengths of the parts around four records and one text of 51 bytes, computed: 11 + 10 + 4 * 201 + 11 + 8 + 4 are 848
-
-abbrev row_from : ℕ → ℕ → ℕ → List ℕ → Row
-row_from minutes first last station = record { station = station; first = first; last = last; variation = record { negative = false; minutes = minutes } }
-
-first_line : counted (codes "SSIMDESK") 2 ≡ codes "SSIMDESK 2" ++ 10 ∷ []
-unfolding digits
-first_line = refl
-
-first_line_length : length (counted (codes "SSIMDESK") 2) ≡ 11
-unfolding digits
-first_line_length = refl
-
-four_records : counted (codes "RECORDS") 4 ≡ codes "RECORDS 4" ++ 10 ∷ []
-unfolding digits
-four_records = refl
-
-four_records_length : length (counted (codes "RECORDS") 4) ≡ 10
-unfolding digits
-four_records_length = refl
-
-no_rows : rows_part [] ≡ codes "STATIONS 0" ++ 10 ∷ []
-unfolding digits
-no_rows = refl
-
-no_texts : texts_part [] ≡ codes "TEXTS 0" ++ 10 ∷ []
-unfolding digits
-no_texts = refl
-
-text_length : counted (codes "TEXT") 51 ≡ codes "TEXT 51" ++ 10 ∷ []
-unfolding digits
-text_length = refl
-
-nothing_held : after_first_line (record { records = []; rows = [] }) [] ≡ codes "RECORDS 0" ++ 10 ∷ codes "STATIONS 0" ++ 10 ∷ codes "TEXTS 0" ++ 10 ∷ codes "END" ++ 10 ∷ []
-unfolding digits
-nothing_held = refl
-
--- 26 bytes
-zurich_summer : row_line (row_from 120 9220 9429 (codes "ZRH")) ≡ codes "ZRH 30MAR25 25OCT25 +0200" ++ 10 ∷ []
-unfolding day_text year_of month_of day_of_month
-zurich_summer = refl
-
-zurich_summer_length : length (row_line (row_from 120 9220 9429 (codes "ZRH"))) ≡ 26
-unfolding day_text year_of month_of day_of_month
-zurich_summer_length = refl

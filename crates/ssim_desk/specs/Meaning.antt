@@ -1,12 +1,12 @@
 -- What each flight has on each date, by what a desk holds.
-use Rattle.std.specs.{Prelude.{◌≡◌, ℕ, ◌&&◌, if◌then◌else◌, List, [], ◌∷◌, Result}, FinMap.values}
+use Rattle.std.specs.{Prelude.{◌≡◌, ℕ, ◌&&◌, if◌then◌else◌, List, [], ◌∷◌, All, Result}, FinMap.entries}
 use Rattle.ssim_periods.specs.{Calendar.holds, Days.each_day}
 use Rattle.ssim_records.specs.declared.record.Record.{Record}
-use Rattle.ssim_schedule.specs.{Acts.{after_on, finding_of}, Export.{ExportRefusal, Frame, chapter7}, ReadBack.HasFrame, Resolve.ResolvesIn, Stations.Row, Timetable.{Legs, itinerary, same_flight}, declared.finding.Finding.Finding}
+use Rattle.ssim_schedule.specs.{Acts.{after_on, finding_of}, BaseSeen.BaseSeen, Export.{ExportRefusal, Frame, chapter7}, ReadBack.HasFrame, Resolve.ResolvesIn, Stations.Row, Timetable.{Legs, itinerary, same_flight}, declared.finding.Finding.Finding}
 use Rattle.ssim_schedule.specs.{declared.resolved.ResolvedSub.ResolvedSub, declared.resolving.ResolvedText.ResolvedText}
-use Rattle.ssim_text.specs.{Message.MessageValue, declared.action.Action.Action, declared.action.Sub.Sub}
+use Rattle.ssim_text.specs.declared.action.{Action.Action, Sub.Sub}
 use Rattle.ssim_values.specs.Flight.{FlightNumber}
-use Rattle.ssim_desk.specs.Held.{DeskState, IsDesk}
+use Rattle.ssim_desk.specs.{Held.{DeskState, IsDesk}, Kept.{Entry, keyed}}
 
 -- what each flight has on each date
 abbrev pub Timetable : Type 0
@@ -22,11 +22,14 @@ abbrev pub after_subs : List Row → List Sub → List ResolvedSub → Timetable
 after_subs rows (sub ∷ subs) (dated ∷ dates) before = after_subs rows subs dates (after_one rows sub.action dated before)
 after_subs _ _ _ before = before
 
--- after messages, in their order, each as it resolves
-abbrev pub after_messages : List Row → List MessageValue → List ResolvedText → Timetable → Timetable
-after_messages rows (message ∷ messages) (text ∷ texts) before =
-    after_messages rows messages texts (after_subs rows message.subs text.subs.items before)
-after_messages _ _ _ before = before
+-- after the sub-messages of an entry
+abbrev pub after_entry : List Row → Entry → Timetable → Timetable
+after_entry rows e before = after_subs rows e.message.subs e.dates before
+
+-- after entries, the first of them first
+abbrev pub after_entries : List Row → List Entry → Timetable → Timetable
+after_entries rows [] before = before
+after_entries rows (e ∷ entries) before = after_entries rows entries (after_entry rows e before)
 
 -- what each sub-message of a text finds: how many of its dates get which reason
 abbrev pub subs_findings : List Row → List Sub → List ResolvedSub → Timetable → List Finding
@@ -35,30 +38,36 @@ subs_findings rows (sub ∷ subs) (dated ∷ dates) before =
     ∷ subs_findings rows subs dates (after_one rows sub.action dated before)
 subs_findings _ _ _ _ = []
 
--- and those of messages, a list for each
-abbrev pub messages_findings : List Row → List MessageValue → List ResolvedText → Timetable → List (List Finding)
-messages_findings rows (message ∷ messages) (text ∷ texts) before =
-    subs_findings rows message.subs text.subs.items before
-    ∷ messages_findings rows messages texts (after_subs rows message.subs text.subs.items before)
-messages_findings _ _ _ _ = []
+-- and those of entries, a list for each
+abbrev pub entries_findings : List Row → List Entry → Timetable → List (List Finding)
+entries_findings rows [] before = []
+entries_findings rows (e ∷ entries) before =
+    subs_findings rows e.message.subs e.dates before ∷ entries_findings rows entries (after_entry rows e before)
 
--- each message as it resolves against the records of a base
-abbrev pub ResolveTo : List Record → List MessageValue → List ResolvedText → Type 0
-ResolveTo records [] [] = Unit {0}
-ResolveTo records (message ∷ messages) (text ∷ texts) = ResolvesIn records message text × ResolveTo records messages texts
-ResolveTo _ _ _ = ⊥
+-- what these messages, in this order, leave of a base's timetable
+abbrev pub left_by : BaseSeen → List Entry → Timetable
+left_by base entries = after_entries base.rows entries (itinerary base.records)
+
+-- what each of them finds
+abbrev pub found_by : BaseSeen → List Entry → List (List Finding)
+found_by base entries = entries_findings base.rows entries (itinerary base.records)
+
+-- the dates of the entry are those of its message as it resolves
+abbrev pub HasDates : List Record → Entry → Type 0
+HasDates records e = (text : ResolvedText) × ResolvesIn records e.message text × (text.subs.items ≡ e.dates)
+
+-- the list has what the desk holds, in order of reference, with the dates that the base gives
+pub record Lists (desk : DeskState) (listed : List Entry) : Type 0 where
+  pub held : keyed listed ≡ entries desk.held
+  pub dated : All (HasDates desk.base.records) listed
 
 -- the meaning of a desk: what its messages, in order of reference, leave of its base's timetable
-pub record Means (desk : DeskState) (timetable : Timetable) : Type 0 where
-  pub texts : List ResolvedText
-  pub resolved : ResolveTo desk.base.records (values desk.held) texts
-  pub left : timetable ≡ after_messages desk.base.rows (values desk.held) texts (itinerary desk.base.records)
+abbrev pub Means : DeskState → Timetable → Type 0
+Means desk timetable = (listed : List Entry) × Lists desk listed × (timetable ≡ left_by desk.base listed)
 
 -- what its messages, in order of reference, find: a list for each message, in the order of its sub-messages
-pub record Finds (desk : DeskState) (findings : List (List Finding)) : Type 0 where
-  pub texts : List ResolvedText
-  pub resolved : ResolveTo desk.base.records (values desk.held) texts
-  pub found : findings ≡ messages_findings desk.base.rows (values desk.held) texts (itinerary desk.base.records)
+abbrev pub Finds : DeskState → List (List Finding) → Type 0
+Finds desk findings = (listed : List Entry) × Lists desk listed × (findings ≡ found_by desk.base listed)
 
 -- every desk has a meaning
 abbrev pub HasMeaning : Type 0

@@ -1,20 +1,12 @@
 -- How the parts of a desk file are read.
-use Rattle.std.specs.Prelude.{◌≡◌, ℕ, ◌+◌, ◌%◌, ◌^◌, ◌<◌, ◌≤◌, Bool, true, false, ◌==◌, if◌then◌else◌, List, [], ◌∷◌, ◌++◌, length, codes, All, Option, Some, None}
-use Rattle.std.specs.List.{list_all}
-use Rattle.ssim_values.specs.Characters.{is_digit}
-use Rattle.ssim_records.specs.declared.fault.RecordFault.TheVariants.{ReadFault, ReaderNeverEnds}
-use Rattle.ssim_records.specs.declared.record.Record.{Record}
+use Rattle.std.specs.{Prelude.{◌≡◌, ℕ, ◌+◌, ◌%◌, ◌^◌, ◌<◌, ◌≤◌, Bool, true, false, ◌==◌, if◌then◌else◌, List, [], ◌∷◌, ◌++◌, length, codes, All, Option, Some, None}, List.list_all}
+use Rattle.ssim_records.specs.{declared.fault.RecordFault.TheVariants.{ReadFault, ReaderNeverEnds}, declared.record.Record.Record}
 use Rattle.ssim_schedule.specs.BaseSeen.{BaseSeen}
-use Rattle.ssim_schedule.specs.SavedBase.{IsBaseRecords}
 use Rattle.ssim_text.specs.Canonical.{canonical}
-use Rattle.ssim_desk.specs.File.{HasNoOriginator, IsDeskFile, IsRow, IsSpelled, counted}
-use Rattle.ssim_desk.specs.Kept.{AreEntries, AreRising, Entry, IsEntry}
-use Rattle.ssim_desk.specs.declared.fault.DeskFault.{DeskFault}
+use Rattle.ssim_values.specs.Characters.{is_digit}
+use Rattle.ssim_desk.specs.{File.{HasNoOriginator, IsDeskFile, IsSpelled, counted}, Kept.{AreEntries, AreRising, Entry, IsEntry}, declared.fault.DeskFault.DeskFault}
+use Rattle.ssim_desk.specs.declared.opening.version.FileVersion.{FileVersion, TheVariants.{One, Two}}
 use Rattle.ssim_desk.specs.declared.fault.DeskFault.TheVariants as desk_fault
-use Rattle.ssim_desk.specs.declared.opening.fault.PartFault.{PartFault}
-use Rattle.ssim_desk.specs.declared.opening.fault.PartFault.TheVariants.{Memory, Invalid}
-use Rattle.ssim_desk.specs.declared.opening.version.FileVersion.{FileVersion}
-use Rattle.ssim_desk.specs.declared.opening.version.FileVersion.TheVariants.{One, Two}
 
 -- ---- lines
 
@@ -36,13 +28,6 @@ version_number Two = 2
 -- the first line of a version
 abbrev pub first_line : FileVersion → List ℕ
 first_line version = counted (codes "SSIMDESK") (version_number version)
-
--- ---- the base
-
--- the records and rows of a base
-pub record IsBase (base : BaseSeen) : Type 0 where
-  pub records : IsBaseRecords base.records
-  pub rows : All IsRow base.rows
 
 -- ---- texts
 
@@ -69,32 +54,6 @@ pub record IsNextText (version : FileVersion) (records : List Record) (held : Li
   pub spelled : IsSpelled e
   pub rising : AreRising (held ++ e ∷ [])
   pub of_version : IsOf version e
-
--- ---- faults
-
--- the fault is not for memory
-abbrev pub IsInvalid : PartFault → Type 0
-IsInvalid Memory = ⊥
-IsInvalid (Invalid left) = Unit {0}
-
--- ---- the whole input
-
--- a fetch failed, or there was no memory for what came
-abbrev pub IsFetchFault : DeskFault → Type 0
-IsFetchFault desk_fault.Memory = Unit {0}
-IsFetchFault (desk_fault.Read (ReadFault n)) = Unit {0}
-IsFetchFault _ = ⊥
-
--- the input was not read
-abbrev pub IsInputFault : DeskFault → Type 0
-IsInputFault desk_fault.Memory = Unit {0}
-IsInputFault (desk_fault.Read fault) = Unit {0}
-IsInputFault _ = ⊥
-
--- the bytes are all that a reader has left, if they are known, and no more than the limit
-abbrev pub AreAll : ℕ → Option (List ℕ) → List ℕ → Type 0
-AreAll limit None bytes = length bytes ≤ limit
-AreAll limit (Some all) bytes = (bytes ≡ all) × (length all ≤ limit)
 
 -- ---- opening
 

@@ -1,4 +1,101 @@
 -- Definitions that only private functions cite. No law and no public contract cites them, so nobody has to believe them.
-pub mod Lookup
-pub mod Trail
-pub mod Union
+use Rattle.std.specs.{Prelude.{◌≡◌, ◌≢◌, ◌⊎◌, ◌||◌, ℕ, ◌+◌, ◌*◌, ◌/◌, ◌%◌, ◌<◌, ◌≤◌, List, [], ◌∷◌, ◌++◌, length, take, slice_get, All, Contains, IsTrue, Some, IsSome, IfSome}, FinMap.get, List.list_any}
+use Rattle.std.specs.{declared.cmp.Ordering.Ordering, declared.cmp.Ordering.TheVariants.{Less, Equal, Greater}}
+use Rattle.ssim_periods.specs.Days.{each_day}
+use Rattle.ssim_schedule.specs.{BaseSeen.BaseSeen, Schedule.{Table, cuts_in, days_in}, Stations.Row, declared.finding.Finding.Finding, declared.resolved.ResolvedSub.ResolvedSub}
+use Rattle.ssim_text.specs.{Message.MessageValue, declared.reference.Reference.Reference}
+use Rattle.ssim_values.specs.Flight.{FlightNumber, IsFlight}
+use Rattle.ssim_desk.specs.{Desk.{AreDeskPoints, is_row_point, is_sub_point}, Held.reference_cmp, Kept.{DeskSeen, Entry, map_of}, Meaning.{Timetable, found_by, left_by}, declared.lookup.Found.Found, declared.lookup.Found.TheVariants.{Absent, Same, Other}, declared.tail.Tail.Tail}
+
+-- ---- where a message is in a list in order of reference
+
+-- the reference belongs at a position from low to high: all before low are less, and all from high on are greater
+pub record Belongs (entries : List Entry) (reference : Reference) (low high : ℕ) : Type 0 where
+  pub order : low ≤ high
+  pub within : high ≤ length entries
+  pub before : (j : ℕ) → j < low → IfSome (slice_get entries j) (λ e. reference_cmp reference e.reference ≡ Greater)
+  pub after : (j : ℕ) → high ≤ j → IfSome (slice_get entries j) (λ e. reference_cmp reference e.reference ≡ Less)
+
+-- what is held under the reference of a message
+abbrev pub IsFound : List Entry → Reference → MessageValue → Found → Type 0
+IsFound entries reference message (Absent at) = Belongs entries reference at at
+IsFound entries reference message Same = get (map_of entries) reference ≡ Some message
+IsFound entries reference message Other = (other : MessageValue) × (get (map_of entries) reference ≡ Some other) × (other ≢ message)
+
+-- ---- two such lists, put together
+
+-- the next of two messages, and what is left of the two lists after it: the lesser, and of two under one reference the first
+abbrev pub IsLesser : Ordering → Entry → List Entry → Entry → List Entry → Entry → List Entry → List Entry → Type 0
+IsLesser Less m mine t theirs e mine_left theirs_left = (e ≡ m) × (mine_left ≡ mine) × (theirs_left ≡ t ∷ theirs)
+IsLesser Equal m mine t theirs e mine_left theirs_left = (e ≡ m) × (mine_left ≡ mine) × (theirs_left ≡ theirs)
+IsLesser Greater m mine t theirs e mine_left theirs_left = (e ≡ t) × (mine_left ≡ m ∷ mine) × (theirs_left ≡ theirs)
+
+-- the next message of two lists, and what is left of them after it
+abbrev pub IsNext : List Entry → List Entry → Entry → List Entry → List Entry → Type 0
+IsNext [] [] e mine_left theirs_left = ⊥
+IsNext [] (t ∷ theirs) e mine_left theirs_left = (e ≡ t) × (mine_left ≡ []) × (theirs_left ≡ theirs)
+IsNext (m ∷ mine) [] e mine_left theirs_left = (e ≡ m) × (mine_left ≡ mine) × (theirs_left ≡ [])
+IsNext (m ∷ mine) (t ∷ theirs) e mine_left theirs_left =
+    IsLesser (reference_cmp m.reference t.reference) m mine t theirs e mine_left theirs_left
+
+-- the messages of two lists, the next one first
+abbrev pub IsMerged : List Entry → List Entry → List Entry → Type 0
+IsMerged mine theirs [] = (mine ≡ []) × (theirs ≡ [])
+IsMerged mine theirs (e ∷ all) =
+    (mine_left : List Entry) × (theirs_left : List Entry) × IsNext mine theirs e mine_left theirs_left × IsMerged mine_left theirs_left all
+
+-- the entry at a place of theirs is the first whose reference is not held; it belongs at a position of mine
+pub record IsFirstNew (mine theirs : List Entry) (place at : ℕ) : Type 0 where
+  pub first : Entry
+  pub there : slice_get theirs place ≡ Some first
+  pub gap : Belongs mine first.reference at at
+  pub before : All (λ e. IsSome (get (map_of mine) e.reference)) (take place theirs)
+
+-- ---- a trail: the schedule after every 32 messages, the latest one, and what each message found
+
+-- a schedule has the timetable
+abbrev pub Shows : Table → Timetable → Type 0
+Shows schedule timetable = (g : FlightNumber) → IsFlight g → days_in schedule g ≡ each_day (timetable g)
+
+-- a flight's new cuts are old ones, or such days of these sub-messages or of a row
+abbrev pub AddsSubPoints : List Row → List ResolvedSub → FlightNumber → List ℕ → List ℕ → Type 0
+AddsSubPoints rows subs flight old new =
+    (cut : ℕ) → Contains new cut → Contains old cut ⊎ IsTrue (list_any (is_sub_point flight cut) subs || list_any (is_row_point cut) rows)
+
+-- the schedule is the base's after these messages
+pub record IsAfter (base : BaseSeen) (entries : List Entry) (schedule : Table) : Type 0 where
+  pub shows : Shows schedule (left_by base entries)
+  pub cuts : (flight : FlightNumber) → IsFlight flight → AreDeskPoints base entries flight (cuts_in schedule flight)
+
+-- the checkpoints from number `first` on: checkpoint k is the schedule after 32 * k messages
+pub record AreCheckpoints (base : BaseSeen) (entries : List Entry) (first : ℕ) (checkpoints : List Table) : Type 0 where
+  pub count : first + length checkpoints ≡ length entries / 32 + 1
+  pub each : (k : ℕ) → IfSome (slice_get checkpoints k) (IsAfter base (take (32 * (first + k)) entries))
+
+-- what a trail keeps of a base and messages
+pub record IsTrail (base : BaseSeen) (entries : List Entry) (checkpoints : List Table) (latest : Table) (found : List (List Finding)) : Type 0 where
+  pub latest_is : IsAfter base entries latest
+  pub found_is : found ≡ found_by base entries
+  pub kept : AreCheckpoints base entries 0 checkpoints
+
+-- what follows the first `from` messages: the checkpoints, the findings, and how many messages were applied
+pub record IsTail (base : BaseSeen) (entries : List Entry) (from : ℕ) (tail : Tail) : Type 0 where
+  pub within : from ≤ length entries
+  pub latest_is : IsAfter base entries tail.latest
+  pub found_is : found_by base (take from entries) ++ tail.found.items ≡ found_by base entries
+  pub kept : AreCheckpoints base entries (from / 32 + 1) tail.checkpoints.items
+  pub counted : tail.applied + from ≡ length entries
+  pub since_is : tail.since ≡ length entries % 32
+
+-- a tail counts the messages that were applied, and how many the last multiple of 32 leaves
+pub record IsCounted (tail : Tail) : Type 0 where
+  pub each : tail.applied ≡ length tail.found.items
+  pub few : tail.since < 32
+
+-- The messages from a position on are replaced. Those put there were applied, and fewer than 32 before them, none of them if all are replaced.
+pub record IsReplaced (old : DeskSeen) (at : ℕ) (rest : List Entry) (new : DeskSeen) : Type 0 where
+  pub base : new.base ≡ old.base
+  pub held : new.held ≡ take at old.held ++ rest
+  pub at_least : length rest ≤ new.applied
+  pub at_most : new.applied ≤ length rest + 31
+  pub whole : at ≡ 0 → new.applied ≡ length rest

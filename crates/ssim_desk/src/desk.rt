@@ -10,12 +10,11 @@ ghost use Rattle.ssim_schedule.specs.Sinks.{CountsFault, TakesFront};
 ghost use Rattle.ssim_desk.specs.Desk.{AreDeskPoints, IsReplayed, at_rest, days_of_desk, finding_lines, merge_answer, point_bound, take_answer, timetable_of};
 ghost use Rattle.ssim_desk.specs.File.{CanBeSaved, desk_file};
 ghost use Rattle.ssim_desk.specs.Opening.{FailsAs, NeverEnds, Opens, RefusesFile};
-ghost use Rattle.ssim_desk.specs.Kept.{AreEntries, AreRising, IsEntry, found_by, map_of, state_of};
-ghost use Rattle.ssim_desk.specs.Private.Lookup.{IsGap};
-ghost use Rattle.ssim_desk.specs.Meaning.{Finds, Means, Timetable};
+ghost use Rattle.ssim_desk.specs.Held.{Agree};
+ghost use Rattle.ssim_desk.specs.Kept.{AreEntries, AreRising, IsEntry, map_of, state_of};
+ghost use Rattle.ssim_desk.specs.Private.{Belongs, IsReplaced};
+ghost use Rattle.ssim_desk.specs.Meaning.{Finds, Means, Timetable, found_by};
 ghost use Rattle.ssim_desk.specs.Steps.{IsUnion, Merges, Takes};
-ghost use Rattle.ssim_desk.specs.Private.Trail.{IsReplaced};
-ghost use Rattle.ssim_desk.specs.Private.Union.{HeldAlike};
 
 use crate::fault::DeskFault;
 use crate::finding_line::{FindingLine, push_lines};
@@ -230,7 +229,7 @@ impl Desk {
     // Holds what another desk over the same base holds, too.
     fn bring(&mut self, other: &Desk) -> Result<(), Memory>
         requires base { self.old.base ≡ other.now.base }
-        requires alike { HeldAlike self.old.held other.now.held }
+        requires agree { Agree (map_of self.old.held) (map_of other.now.held) }
         ensures union { OnOk result (IsUnion (state_of self.old) (state_of other.now) (map_of self.new.held)) }
         ensures base { self.new.base ≡ self.old.base }
         ensures replayed { OnOk result (IsReplayed self.old self.new ⊎ (self.new ≡ at_rest self.old)) }
@@ -252,7 +251,7 @@ impl Desk {
 
     // Puts a new message where it belongs.
     fn insert(&mut self, at: usize, new: Held) -> Result<(), Memory>
-        requires gap { IsGap self.old.held new.reference at }
+        requires gap { Belongs self.old.held new.reference at at }
         requires entry { IsEntry self.old.base.records new }
         ensures ok { OnOk result (IsReplaced self.old at (new ∷ drop at self.old.held) self.new) }
         ensures err { OnErr result (self.new ≡ self.old) }

@@ -1,9 +1,9 @@
 //! Messages found by their reference.
 
-ghost use Rattle.std.specs.Prelude.{◌≡◌, ◌<◌, ◌-◌, IfErr, IfOk};
+ghost use Rattle.std.specs.Prelude.{◌≡◌, ◌<◌, ◌-◌, slice_get, Some, IfErr, IfOk};
 ghost use Rattle.ssim_desk.specs.Held.{reference_cmp};
-ghost use Rattle.ssim_desk.specs.Kept.{AreRising};
-ghost use Rattle.ssim_desk.specs.Private.Lookup.{IsFound, IsGap, IsHeldAt, IsNarrowed};
+ghost use Rattle.ssim_desk.specs.Kept.{AreRising, Entry};
+ghost use Rattle.ssim_desk.specs.Private.{Belongs, IsFound};
 
 use crate::held::Held;
 use ssim_text::{Message, Reference};
@@ -48,8 +48,8 @@ pub(crate) fn look_up(held: &[Held], one: &Held) -> Found
 // The position of a reference, or the position where it belongs.
 fn search(held: &[Held], reference: &Reference) -> Result<usize, usize>
     requires { AreRising held.now }
-    ensures found { IfOk result (IsHeldAt held.now reference.now) }
-    ensures absent { IfErr result (IsGap held.now reference.now) }
+    ensures found { IfOk result (λ at. (e : Entry) × (slice_get held.now at ≡ Some e) × (e.reference ≡ reference.now)) }
+    ensures absent { IfErr result (λ at. Belongs held.now reference.now at at) }
 {
     let mut low = 0;
     let mut high = held.len();
@@ -74,9 +74,9 @@ fn halve(
 ) -> Result<(usize, usize), usize>
     requires rising { AreRising held.now }
     requires some { low < high }
-    requires narrowed { IsNarrowed held.now reference.now low high }
-    ensures found { IfErr result (IsHeldAt held.now reference.now) }
-    ensures narrowed { IfOk result (λ half. IsNarrowed held.now reference.now half.0 half.1) }
+    requires belongs { Belongs held.now reference.now low high }
+    ensures found { IfErr result (λ at. (e : Entry) × (slice_get held.now at ≡ Some e) × (e.reference ≡ reference.now)) }
+    ensures belongs { IfOk result (λ half. Belongs held.now reference.now half.0 half.1) }
     ensures smaller { IfOk result (λ half. half.1 - half.0 < high - low) }
 {
     let middle = low + (high - low) / 2;

@@ -1,10 +1,10 @@
 //! A desk file as it is read: its parts, one after another.
 
-ghost use Rattle.std.specs.Prelude.{◌≡◌, ◌<◌, ◌^◌, IfErr, IfOk, List, ℕ, length, OnErr, OnOk};
+ghost use Rattle.std.specs.Prelude.{◌≡◌, ◌≢◌, ◌<◌, ◌^◌, IfErr, IfOk, List, ℕ, length, OnErr, OnOk};
 ghost use Rattle.ssim_schedule.specs.BaseSeen.{BaseSeen};
 ghost use Rattle.ssim_desk.specs.File.{IsDeskFile, end_line};
 ghost use Rattle.ssim_schedule.specs.Reading.{Came};
-ghost use Rattle.ssim_desk.specs.Opening.{FailsAs, IsInvalid, NeverEnds, Opens, RefusesFile};
+ghost use Rattle.ssim_desk.specs.Opening.{FailsAs, NeverEnds, Opens, RefusesFile};
 ghost use Rattle.ssim_desk.specs.Kept.{Entry};
 
 mod count_line;
@@ -48,7 +48,7 @@ fn read_end(bytes: &[u8]) -> Result<(), PartFault>
 fn read_file(alloc: Global, bytes: &[u8]) -> Result<(Base, Vec<Held>), PartFault>
     requires { length bytes.now < 2 ^ 64 }
     ensures ok { IfOk result (λ desk. IsDeskFile bytes.now desk.0 desk.1.items) }
-    ensures err { IfErr result (λ e. IsInvalid e → (base : BaseSeen) (entries : List Entry) → IsDeskFile bytes.now base entries → ⊥) }
+    ensures err { IfErr result (λ e. e ≢ PartFault.Memory → (base : BaseSeen) (entries : List Entry) → IsDeskFile bytes.now base entries → ⊥) }
 {
     saved_records_are_read();
     equal_where_written_equal();

@@ -5,9 +5,8 @@ ghost use Rattle.ssim_periods.specs.Days.{each_day};
 ghost use Rattle.ssim_schedule.specs.Acts.{finding_of};
 ghost use Rattle.ssim_schedule.specs.Schedule.{cuts_in};
 ghost use Rattle.ssim_values.specs.Flight.{FlightNumber, IsFlight};
-ghost use Rattle.ssim_desk.specs.Private.Trail.{AddsSubPoints, Shows};
-ghost use Rattle.ssim_desk.specs.Kept.{after_entry};
-ghost use Rattle.ssim_desk.specs.Meaning.{Timetable, after_one, subs_findings};
+ghost use Rattle.ssim_desk.specs.Private.{AddsSubPoints, Shows};
+ghost use Rattle.ssim_desk.specs.Meaning.{Timetable, after_entry, after_one, subs_findings};
 
 use crate::held::Held;
 use ssim_schedule::{Base, Finding, ResolvedSub, Schedule};

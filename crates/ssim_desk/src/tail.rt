@@ -3,7 +3,7 @@
 ghost use Rattle.std.specs.Prelude.{◌≡◌, ◌<◌, ◌%◌, ◌++◌, ◌∷◌, [], ℕ, List, length, IfOk, OnOk};
 ghost use Rattle.ssim_schedule.specs.BaseSeen.{BaseSeen};
 ghost use Rattle.ssim_desk.specs.Kept.{Entry};
-ghost use Rattle.ssim_desk.specs.Private.Trail.{IsAfter, IsCounted, IsTail};
+ghost use Rattle.ssim_desk.specs.Private.{IsAfter, IsCounted, IsTail};
 
 use crate::held::Held;
 use crate::replay::act;

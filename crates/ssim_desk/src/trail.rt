@@ -1,8 +1,9 @@
 //! Messages in order, and the schedule that they leave.
 
-ghost use Rattle.std.specs.Prelude.{◌≡◌, ◌⊎◌, ◌≤◌, ◌*◌, ◌/◌, ◌++◌, [], length, take, IfOk, OnErr, OnOk};
-ghost use Rattle.ssim_desk.specs.Kept.{DeskSeen, found_by};
-ghost use Rattle.ssim_desk.specs.Private.Trail.{IsAfter, IsReplaced, IsStart, IsTail};
+ghost use Rattle.std.specs.Prelude.{◌≡◌, ◌⊎◌, ◌≤◌, ◌+◌, ◌*◌, ◌/◌, ◌++◌, [], length, take, IfOk, OnErr, OnOk};
+ghost use Rattle.ssim_desk.specs.Kept.{DeskSeen};
+ghost use Rattle.ssim_desk.specs.Meaning.{found_by};
+ghost use Rattle.ssim_desk.specs.Private.{IsAfter, IsReplaced, IsTail};
 
 use crate::held::Held;
 use crate::tail::{Found, STEP, Tail, apply_all};
@@ -29,7 +30,8 @@ pub(crate) struct Trail {
 
 impl Model for Trail {
     ghost use Rattle.ssim_desk.specs.Kept.{DeskSeen};
-    ghost use Rattle.ssim_desk.specs.Private.Trail.{IsTrail};
+    ghost use Rattle.ssim_desk.specs.Meaning.{found_by};
+    ghost use Rattle.ssim_desk.specs.Private.{IsTrail};
 
     ghost Value = { DeskSeen };
 
@@ -116,10 +118,13 @@ impl Trail {
         self.put(from, at, rest, tail)
     }
 
-    // How many messages need not be applied again if those from position `at` on are replaced.
+    // How many messages need not be applied again if those from position `at` on are replaced: all, or there is a checkpoint after
+    // them, fewer than 32 before the position.
     fn start(&self, at: usize) -> usize
         requires { at ≤ length self.now.held }
-        ensures { IsStart (length self.now.held) at result }
+        ensures low { result ≤ at }
+        ensures near { at ≤ result + 31 }
+        ensures kept { (result ≡ length self.now.held) ⊎ (result ≡ 32 * (result / 32)) }
     {
         if at == self.held.len() {
             at
@@ -131,7 +136,8 @@ impl Trail {
     // What follows the first `from` messages if those from position `at` on are replaced.
     fn tail(&self, from: usize, at: usize, rest: &[Held]) -> Result<Tail, Memory>
         requires place { at ≤ length self.now.held }
-        requires start { IsStart (length self.now.held) at from }
+        requires low { from ≤ at }
+        requires kept { (from ≡ length self.now.held) ⊎ (from ≡ 32 * (from / 32)) }
         ensures { IfOk result (IsTail self.now.base (take at self.now.held ++ rest.now) from) }
     {
         let mut tail = Tail::after(self.alloc, self.schedule(from), from % STEP)?;
@@ -162,7 +168,8 @@ impl Trail {
         mut tail: Tail,
     ) -> Result<(), Memory>
         requires place { at ≤ length self.old.held }
-        requires start { IsStart (length self.old.held) at from }
+        requires low { from ≤ at }
+        requires near { at ≤ from + 31 }
         requires tail { IsTail self.old.base (take at self.old.held ++ rest.items) from tail }
         ensures ok { OnOk result (IsReplaced self.old at rest.items self.new) }
         ensures err { OnErr result (self.new ≡ self.old) }

@@ -1,9 +1,10 @@
 //! The messages of two desks.
 
-ghost use Rattle.std.specs.Prelude.{◌≡◌, [], All, IfOk, IfSome, IfNone};
+ghost use Rattle.std.specs.Prelude.{◌≡◌, [], All, IsSome, IfOk, IfSome, IfNone};
+ghost use Rattle.std.specs.FinMap.{get};
 ghost use Rattle.ssim_desk.specs.Kept.{AreRising, map_of};
-ghost use Rattle.ssim_desk.specs.Held.{IsLeastConflict};
-ghost use Rattle.ssim_desk.specs.Private.Union.{HeldAlike, IsFirstNew, IsHeldIn, IsMerged, IsNext};
+ghost use Rattle.ssim_desk.specs.Held.{Agree, IsLeastConflict};
+ghost use Rattle.ssim_desk.specs.Private.{IsFirstNew, IsMerged, IsNext};
 
 use crate::held::Held;
 use crate::lookup::{Found, look_up};
@@ -17,7 +18,7 @@ pub(crate) fn first_conflict(mine: &[Held], theirs: &[Held]) -> Option<Reference
     requires mine { AreRising mine.now }
     requires theirs { AreRising theirs.now }
     ensures some { IfSome result (IsLeastConflict (map_of mine.now) (map_of theirs.now)) }
-    ensures none { IfNone result (HeldAlike mine.now theirs.now) }
+    ensures none { IfNone result (Agree (map_of mine.now) (map_of theirs.now)) }
 {
     for held in theirs {
         if let Found::Other = look_up(mine, held) {
@@ -31,7 +32,7 @@ pub(crate) fn first_conflict(mine: &[Held], theirs: &[Held]) -> Option<Reference
 pub(crate) fn first_new(mine: &[Held], theirs: &[Held]) -> Option<(usize, usize)>
     requires { AreRising mine.now }
     ensures some { IfSome result (λ new. IsFirstNew mine.now theirs.now new.0 new.1) }
-    ensures none { IfNone result (All (IsHeldIn mine.now) theirs.now) }
+    ensures none { IfNone result (All (λ e. IsSome (get (map_of mine.now) e.reference)) theirs.now) }
 {
     for (place, held) in theirs.iter().enumerate() {
         if let Found::Absent(at) = look_up(mine, held) {

@@ -1,11 +1,10 @@
 //! The records of a base as a desk file has them.
 
-ghost use Rattle.std.specs.Prelude.{◌≡◌, ◌↔◌, ◌++◌, ◌+◌, ◌<◌, ◌≤◌, ◌^◌, List, ℕ, length, IfErr, IfOk, IfSome, IsSomeAnd, IsTrue};
+ghost use Rattle.std.specs.Prelude.{◌≡◌, ◌≢◌, ◌↔◌, ◌++◌, ◌+◌, ◌<◌, ◌≤◌, ◌^◌, List, ℕ, length, IfErr, IfOk, IfSome, IsSomeAnd, IsTrue};
 ghost use Rattle.ssim_records.specs.declared.record.Record.{Record};
 ghost use Rattle.ssim_schedule.specs.Reading.{Answers, FailsAs, IsReadAs};
 ghost use Rattle.ssim_schedule.specs.SavedBase.{IsBaseRecords, saved};
 ghost use Rattle.ssim_desk.specs.File.{record_line};
-ghost use Rattle.ssim_desk.specs.Opening.{IsInvalid};
 
 use crate::opening::count_line::after_prefix;
 use crate::opening::fault::PartFault;
@@ -104,7 +103,7 @@ pub(crate) fn read_records(
 ) -> Result<Base, PartFault>
     requires { length lines.now + more < 2 ^ 64 }
     ensures ok { IfOk result (λ base. IsBaseRecords base.records × (lines.now ≡ saved base.records) × (base.rows ≡ stations)) }
-    ensures err { IfErr result (λ e. IsInvalid e → (records : List Record) → IsBaseRecords records → lines.now ≡ saved records → ⊥) }
+    ensures err { IfErr result (λ e. e ≢ PartFault.Memory → (records : List Record) → IsBaseRecords records → lines.now ≡ saved records → ⊥) }
 {
     saved_records_are_read();
     let number = match read_lines(alloc, lines, stations) {

@@ -1,10 +1,9 @@
 //! The rows of a station table as a desk file has them.
 
-ghost use Rattle.std.specs.Prelude.{◌≡◌, ◌↔◌, ◌++◌, ◌<◌, ◌^◌, All, List, ℕ, length, IfErr, IfNone, IfOk, IfSome, IsTrue};
+ghost use Rattle.std.specs.Prelude.{◌≡◌, ◌≢◌, ◌↔◌, ◌++◌, ◌<◌, ◌^◌, All, List, ℕ, length, IfErr, IfNone, IfOk, IfSome, IsTrue};
 ghost use Rattle.std.specs.List.{flat_map};
 ghost use Rattle.ssim_schedule.specs.Stations.{Row};
 ghost use Rattle.ssim_desk.specs.File.{IsRow, row_line, rows_part};
-ghost use Rattle.ssim_desk.specs.Opening.{IsInvalid};
 
 use crate::opening::count_line::{after_prefix, count_line, elements};
 use crate::opening::fault::PartFault;
@@ -75,7 +74,7 @@ fn invalid_row(alloc: Global, bytes: &[u8]) -> PartFault {
 /// The rows of a station table with their number before them, and the bytes after them.
 pub(crate) fn read_rows(alloc: Global, bytes: &[u8]) -> Result<(Stations, &[u8]), PartFault>
     ensures ok { IfOk result (λ read. All IsRow read.0 × (bytes.now ≡ rows_part read.0 ++ read.1.now)) }
-    ensures err { IfErr result (λ e. IsInvalid e → (rows : List Row) (later : List ℕ) → length rows < 2 ^ 64 → All IsRow rows → bytes.now ≡ rows_part rows ++ later → ⊥) }
+    ensures err { IfErr result (λ e. e ≢ PartFault.Memory → (rows : List Row) (later : List ℕ) → length rows < 2 ^ 64 → All IsRow rows → bytes.now ≡ rows_part rows ++ later → ⊥) }
 {
     let Some((count, rest)) = count_line(b"STATIONS", bytes) else {
         return Err(PartFault::Invalid(bytes.len()));

@@ -1,6 +1,6 @@
 //! The messages of a desk as a desk file has them.
 
-ghost use Rattle.std.specs.Prelude.{◌≡◌, ◌↔◌, ◌++◌, ◌∷◌, [], ◌<◌, ◌^◌, List, ℕ, length, IfErr, IfNone, IfOk, IfSome, IsTrue};
+ghost use Rattle.std.specs.Prelude.{◌≡◌, ◌≢◌, ◌↔◌, ◌++◌, ◌∷◌, [], ◌<◌, ◌^◌, List, ℕ, length, IfErr, IfNone, IfOk, IfSome, IsTrue};
 ghost use Rattle.ssim_schedule.specs.Resolve.{ResolvesIn};
 ghost use Rattle.ssim_schedule.specs.declared.resolving.ResolvedText.{ResolvedText};
 ghost use Rattle.ssim_text.specs.Canonical.{canonical};
@@ -8,7 +8,7 @@ ghost use Rattle.ssim_text.specs.Message.{MessageValue};
 ghost use Rattle.ssim_text.specs.Spelling.{SpellsMessage};
 ghost use Rattle.ssim_desk.specs.File.{text_element, texts_part};
 ghost use Rattle.ssim_desk.specs.Kept.{AreRising, Entry};
-ghost use Rattle.ssim_desk.specs.Opening.{AreHeld, IsInvalid, IsNextText, IsTextOf};
+ghost use Rattle.ssim_desk.specs.Opening.{AreHeld, IsNextText, IsTextOf};
 
 use crate::held::Held;
 use crate::lookup::compare;
@@ -124,7 +124,7 @@ fn read_text<'a>(
     requires { AreRising held.now }
     ensures ok { IfOk result (λ read. IsNextText version base.now.records held.now read.0 × (bytes.now ≡ text_element read.0 ++ read.1.now)) }
     ensures shorter { IfOk result (λ read. length read.1.now < length bytes.now) }
-    ensures err { IfErr result (λ e. IsInvalid e → (next : Entry) (later : List ℕ) → IsNextText version base.now.records held.now next → bytes.now ≡ text_element next ++ later → ⊥) }
+    ensures err { IfErr result (λ e. e ≢ PartFault.Memory → (next : Entry) (later : List ℕ) → IsNextText version base.now.records held.now next → bytes.now ≡ text_element next ++ later → ⊥) }
 {
     let Some((count, rest)) = count_line(b"TEXT", bytes) else {
         return Err(PartFault::Invalid(bytes.len()));
@@ -149,7 +149,7 @@ pub(crate) fn read_texts<'a>(
     bytes: &'a [u8],
 ) -> Result<(Vec<Held>, &'a [u8]), PartFault>
     ensures ok { IfOk result (λ read. AreHeld version base.now.records read.0.items × (bytes.now ≡ texts_part read.0.items ++ read.1.now)) }
-    ensures err { IfErr result (λ e. IsInvalid e → (entries : List Entry) (later : List ℕ) → length entries < 2 ^ 64 → AreHeld version base.now.records entries → bytes.now ≡ texts_part entries ++ later → ⊥) }
+    ensures err { IfErr result (λ e. e ≢ PartFault.Memory → (entries : List Entry) (later : List ℕ) → length entries < 2 ^ 64 → AreHeld version base.now.records entries → bytes.now ≡ texts_part entries ++ later → ⊥) }
 {
     equal_where_written_equal();
     let Some((count, mut rest)) = count_line(b"TEXTS", bytes) else {

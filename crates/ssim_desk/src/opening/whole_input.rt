@@ -1,10 +1,10 @@
 //! The whole input, before anything of it is read.
 
-ghost use Rattle.std.specs.Prelude.{◌≡◌, ◌<◌, ◌≤◌, ◌+◌, length, IfErr, IfOk, OnOk, Ok};
+ghost use Rattle.std.specs.Prelude.{◌≡◌, ◌⊎◌, ◌<◌, ◌≤◌, ◌+◌, length, IfErr, IfOk, IfSome, OnOk, Ok};
 ghost use Rattle.std.specs.Io.KnownBytes.{IsAtEnd};
 ghost use Rattle.ssim_records.specs.Blocks.{CountsOn, SameAhead};
 ghost use Rattle.ssim_schedule.specs.Reading.{Came};
-ghost use Rattle.ssim_desk.specs.Opening.{AreAll, FailsAs, IsFetchFault, IsInputFault, NeverEnds};
+ghost use Rattle.ssim_desk.specs.Opening.{FailsAs, NeverEnds, RefusesFile};
 
 use crate::fault::DeskFault;
 use ssim_records::{RecordFault, Source};
@@ -23,7 +23,7 @@ fn fetch_more<R: Source>(reader: &mut R, bytes: &mut Vec<u8>, most: u64) -> Resu
     ensures count { IfOk result (λ n. CountsOn (R.left reader.old) (R.left reader.new) (R.came reader.old) (R.came reader.new) 0 n) }
     ensures no_failure { IfOk result (λ _. R.failures reader.new ≡ R.failures reader.old) }
     ensures failure { IfErr result (λ e. FailsAs (R.failures reader.old) (R.failures reader.new) e) }
-    ensures fault { IfErr result IsFetchFault }
+    ensures fault { IfErr result (λ e. (e ≡ DeskFault.Memory) ⊎ (e ≡ DeskFault.Read (RecordFault.ReadFault 0))) }
 {
     let mut chunk = [0; CHUNK];
     let room = most.min(CHUNK as u64) as usize;
@@ -45,11 +45,12 @@ pub(crate) fn read_whole<R: Source>(
     reader: &mut R,
     limit: u64,
 ) -> Result<Vec<u8>, DeskFault>
-    ensures ok { IfOk result (λ bytes. AreAll limit (R.left reader.old) bytes.items) }
+    ensures within { IfOk result (λ bytes. length bytes.items ≤ limit) }
+    ensures all { IfOk result (λ bytes. IfSome (R.left reader.old) (λ all. bytes.items ≡ all)) }
     ensures no_failure { IfOk result (λ _. R.failures reader.new ≡ R.failures reader.old) }
     ensures failure { IfErr result (λ e. FailsAs (R.failures reader.old) (R.failures reader.new) e) }
     ensures never_ends { IfErr result (λ e. NeverEnds limit (Came (R.left reader.old) (R.left reader.new) (R.came reader.old) (R.came reader.new)) e) }
-    ensures fault { IfErr result IsInputFault }
+    ensures refused { IfErr result (RefusesFile limit (R.left reader.old)) }
 {
     let mut bytes = Vec::new(alloc);
     loop {

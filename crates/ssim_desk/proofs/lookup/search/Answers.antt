@@ -14,7 +14,8 @@ pub returns-clause-absent : goal.returns-clause-absent
 returns-clause-absent c =
     let n = c.loop-low.invariant in
     record {
+      order = omega arith;
       within = omega (arith, n.order, n.within);
       before = n.before;
-      here = n.after c.loop-low.low c.loop-low-test.false;
+      after = λ j le. n.after j (omega (arith, le, n.order, c.loop-low-test.false));
     }

@@ -3,9 +3,8 @@ use Rattle.std.proofs.lemmas.List.Elements.{All-more, All-same}
 use Rattle.std.proofs.lemmas.List.{take_all}
 use Rattle.ssim_desk.specs.Kept.{Entry, map_of}
 use Rattle.ssim_desk.specs.Held.{IsLeastConflict}
-use Rattle.ssim_desk.specs.Private.Union.{IsAlike}
 use Rattle.ssim_desk.proofs.Searching.{at_index}
-use Rattle.ssim_desk.proofs.Unions.{alike, least_conflict}
+use Rattle.ssim_desk.proofs.Unions.{IsAlike, agree, alike, least_conflict}
 use Rattle.ssim_desk.proofs.union.first_conflict.Goals as goal
 
 pub returns-in-Other-clause-some : goal.returns-in-Other-clause-some
@@ -22,4 +21,6 @@ loop-held-preserved c =
     (subst (IsAlike mine) c.held-item.is (alike mine c.held-item.result c.look_up.result c.requires.mine c.look_up.ensures c.in_default.not-Other))
 
 pub returns-clause-none : goal.returns-clause-none
-returns-clause-none c = All-same (IsAlike c.args.mine.now) c.args.theirs.now _ (sym (take_all c.loop-held.held-index c.args.theirs.now c.loop-held-test.false)) c.loop-held.invariant
+returns-clause-none c =
+    let theirs = c.args.theirs.now in
+    agree c.args.mine.now theirs c.requires.theirs (All-same (IsAlike c.args.mine.now) theirs _ (sym (take_all c.loop-held.held-index theirs c.loop-held-test.false)) c.loop-held.invariant)

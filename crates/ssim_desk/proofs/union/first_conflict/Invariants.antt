@@ -1,5 +1,5 @@
 use Rattle.std.proofs.Common.{take}
-use Rattle.ssim_desk.specs.Private.Union.{HeldAlike}
+use Rattle.ssim_desk.proofs.Unions.{HeldAlike}
 use Rattle.ssim_desk.proofs.union.first_conflict.Given as goal
 
 abbrev pub invariant-loop-held : goal.invariant-loop-held

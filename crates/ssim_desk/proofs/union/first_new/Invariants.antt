@@ -1,5 +1,5 @@
 use Rattle.std.proofs.Common.{All, take}
-use Rattle.ssim_desk.specs.Private.Union.{IsHeldIn}
+use Rattle.ssim_desk.proofs.Unions.{IsHeldIn}
 use Rattle.ssim_desk.proofs.union.first_new.Given as goal
 
 abbrev pub invariant-loop-place : goal.invariant-loop-place

@@ -1,7 +1,7 @@
 use Rattle.std.proofs.Common.{◌≡◌, ◌∷◌, ◌++◌, ◌∙◌, [], List, Option, Some, None, sym, ap, subst, append_assoc}
 use Rattle.std.proofs.lemmas.List.{append-nil}
 use Rattle.ssim_desk.specs.Kept.{Entry}
-use Rattle.ssim_desk.specs.Private.Union.{IsMerged}
+use Rattle.ssim_desk.specs.Private.{IsMerged}
 use Rattle.ssim_desk.proofs.union.merged.Goals as goal
 
 pub loop-held-preserved : goal.loop-held-preserved

@@ -1,6 +1,6 @@
 use Rattle.std.proofs.Common.{List, ◌+◌, ◌++◌, length}
 use Rattle.ssim_desk.specs.Kept.{Entry}
-use Rattle.ssim_desk.specs.Private.Union.{IsMerged}
+use Rattle.ssim_desk.specs.Private.{IsMerged}
 use Rattle.ssim_desk.proofs.union.merged.Given as goal
 
 abbrev pub invariant-loop-held : goal.invariant-loop-held

@@ -4,9 +4,9 @@ use Rattle.ssim_schedule.specs.BaseSeen.{BaseSeen}
 use Rattle.ssim_desk.specs.Desk.{at_rest}
 use Rattle.ssim_desk.specs.Kept.{AreEntries, DeskSeen, Entry, map_of, state_of}
 use Rattle.ssim_desk.specs.Steps.{IsUnion}
-use Rattle.ssim_desk.specs.Private.Union.{IsFirstNew, IsHeldIn, IsMerged}
+use Rattle.ssim_desk.specs.Private.{IsFirstNew, IsMerged}
 use Rattle.ssim_desk.proofs.Brought.{replayed_some, united_none, united_some}
-use Rattle.ssim_desk.proofs.Unions.{union_entries}
+use Rattle.ssim_desk.proofs.Unions.{IsHeldIn, union_entries}
 use Rattle.ssim_desk.proofs.desk.Desk.bring.Goals as goal
 
 pub returns-in-None-clause-union : goal.returns-in-None-clause-union
@@ -15,7 +15,7 @@ returns-in-None-clause-union c =
     let none = subst (λ (es : List Entry). All (IsHeldIn es) theirs.held) c.held.ensures.value (subst (λ (es : List Entry). All (IsHeldIn c.held.result.now) es) c.held-2.ensures.value c.in-None.ensures.none) in
     let new_is : c.rest.new.self ≡ at_rest mine = c.rest.ensures ∙ ap at_rest c.self.view_is in
     subst (λ (t : DeskSeen). IsUnion (state_of mine) (state_of theirs) (map_of t.held)) (sym new_is)
-    (united_none mine theirs c.requires.base c.requires.alike c.held.ensures.kept c.held-2.ensures.kept none)
+    (united_none mine theirs c.requires.base c.requires.agree c.held.ensures.kept c.held-2.ensures.kept none)
 
 pub replace_from-requires-clause-entries : goal.replace_from-requires-clause-entries
 replace_from-requires-clause-entries c =
@@ -34,7 +34,7 @@ returns-in_ok-replace_from-in-Some-clause-union c =
     let left : take (length c.held-in-Some.result.now - at) (drop at c.held-in-Some.result.now) ≡ drop at mine.held = grind (arith, common_steps) in
     let later : take (length c.held-in-Some-2.result.now - place) (drop place c.held-in-Some-2.result.now) ≡ drop place theirs.held = grind (arith, common_steps) in
     let m = subst (λ (es : List Entry). IsMerged es (drop place theirs.held) c.in_ok-rest-in-Some.rest.items) left (subst (λ (es : List Entry). IsMerged (take (length c.held-in-Some.result.now - at) (drop at c.held-in-Some.result.now)) es c.in_ok-rest-in-Some.rest.items) later c.in_ok-rest-in-Some.ensures) in
-    united_some mine theirs c.requires.base c.requires.alike c.held.ensures.kept c.held-2.ensures.kept c.replace_from.new.self place at new c.in_ok-rest-in-Some.rest.items m c.in_ok-replace_from-in-Some.ensures.ok
+    united_some mine theirs c.requires.base c.requires.agree c.held.ensures.kept c.held-2.ensures.kept c.replace_from.new.self place at new c.in_ok-rest-in-Some.rest.items m c.in_ok-replace_from-in-Some.ensures.ok
 
 pub returns-in_ok-replace_from-in-Some-clause-replayed : goal.returns-in_ok-replace_from-in-Some-clause-replayed
 returns-in_ok-replace_from-in-Some-clause-replayed c =
@@ -43,4 +43,4 @@ returns-in_ok-replace_from-in-Some-clause-replayed c =
     let left : take (length c.held-in-Some.result.now - at) (drop at c.held-in-Some.result.now) ≡ drop at mine.held = grind (arith, common_steps) in
     let later : take (length c.held-in-Some-2.result.now - place) (drop place c.held-in-Some-2.result.now) ≡ drop place theirs.held = grind (arith, common_steps) in
     let m = subst (λ (es : List Entry). IsMerged es (drop place theirs.held) c.in_ok-rest-in-Some.rest.items) left (subst (λ (es : List Entry). IsMerged (take (length c.held-in-Some.result.now - at) (drop at c.held-in-Some.result.now)) es c.in_ok-rest-in-Some.rest.items) later c.in_ok-rest-in-Some.ensures) in
-    inl (replayed_some mine theirs c.requires.base c.requires.alike c.held.ensures.kept c.held-2.ensures.kept c.replace_from.new.self place at new c.in_ok-rest-in-Some.rest.items m c.in_ok-replace_from-in-Some.ensures.ok)
+    inl (replayed_some mine theirs c.requires.base c.requires.agree c.held.ensures.kept c.held-2.ensures.kept c.replace_from.new.self place at new c.in_ok-rest-in-Some.rest.items m c.in_ok-replace_from-in-Some.ensures.ok)

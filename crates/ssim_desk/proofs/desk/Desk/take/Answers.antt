@@ -4,9 +4,8 @@ use Rattle.ssim_schedule.specs.Resolve.{IsRefusedIn, ResolvesIn}
 use Rattle.ssim_desk.specs.Desk.{take_answer}
 use Rattle.ssim_desk.specs.Fault.{message_refused, text_refused}
 use Rattle.ssim_desk.specs.Kept.{Entry, IsEntry, map_of, state_of}
-use Rattle.ssim_desk.specs.Private.Lookup.{IsFound, IsGap}
+use Rattle.ssim_desk.specs.Private.{Belongs, IsFound, IsReplaced}
 use Rattle.ssim_desk.specs.Steps.{Takes}
-use Rattle.ssim_desk.specs.Private.Trail.{IsReplaced}
 use Rattle.ssim_desk.specs.declared.desk.Took.{Took}
 use Rattle.ssim_desk.specs.declared.fault.DeskFault.{DeskFault}
 use Rattle.ssim_desk.specs.declared.lookup.Found.TheVariants.{Same, Other}
@@ -57,13 +56,13 @@ returns-in_ok-insert-in-Absent-clause-takes c =
     let desk = c.args.self.now in let m = c.in_ok-message.message in let resolved = c.in_ok-resolved.resolved in let at = c.in-Absent.at in
     let resolves = subst (λ (b : BaseSeen). let records = b.records in ResolvesIn records m resolved) c.base.ensures c.in_ok-resolved.ensures.ok in
     takes_new desk c.args.text.now m resolved c.in_ok-message.ensures.found resolves at c.insert.new.self c.held.ensures.kept.rising
-    (subst (λ (es : List Entry). IsGap es resolved.reference at) c.held.ensures.value c.in-Absent.ensures)
+    (subst (λ (es : List Entry). Belongs es resolved.reference at at) c.held.ensures.value c.in-Absent.ensures)
     (subst (λ (e : Entry). IsReplaced desk at (e ∷ drop at desk.held) c.insert.new.self) c.in_ok-new-in-Absent.ensures c.in_ok-insert-in-Absent.ensures.ok)
 
 pub returns-in_ok-insert-in-Absent-clause-taken : goal.returns-in_ok-insert-in-Absent-clause-taken
 returns-in_ok-insert-in-Absent-clause-taken c same =
     let desk = c.args.self.now in let resolved = c.in_ok-resolved.resolved in let at = c.in-Absent.at in
-    let gap = subst (λ (es : List Entry). IsGap es resolved.reference at) c.held.ensures.value c.in-Absent.ensures in
+    let gap = subst (λ (es : List Entry). Belongs es resolved.reference at at) c.held.ensures.value c.in-Absent.ensures in
     let e : Entry = record { reference = resolved.reference; message = c.in_ok-message.message; dates = resolved.subs.items } in
     replayed desk c.insert.new.self at e (drop at desk.held) gap.within
     (subst (λ (x : Entry). IsReplaced desk at (x ∷ drop at desk.held) c.insert.new.self) c.in_ok-new-in-Absent.ensures c.in_ok-insert-in-Absent.ensures.ok)

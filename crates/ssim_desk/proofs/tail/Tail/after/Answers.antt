@@ -1,8 +1,8 @@
 use Rattle.std.proofs.Common.{◌≡◌, ◌/◌, ◌+◌, ◌%◌, ◌++◌, [], List, ap, sym, subst, ◌∙◌, length, take, arith}
 use Rattle.ssim_schedule.specs.Schedule.{Table}
 use Rattle.ssim_schedule.specs.declared.finding.Finding.{Finding}
-use Rattle.ssim_desk.specs.Private.Trail.{AreCheckpoints, IsAfter}
-use Rattle.ssim_desk.specs.Kept.{found_by}
+use Rattle.ssim_desk.specs.Private.{AreCheckpoints, IsAfter}
+use Rattle.ssim_desk.specs.Meaning.{found_by}
 use Rattle.ssim_desk.proofs.Trails.{nothing_found, nothing_kept}
 use Rattle.ssim_desk.proofs.tail.Tail.after.Goals as goal
 

@@ -3,7 +3,7 @@ use Rattle.std.proofs.lemmas.Grind.{common_steps}
 use Rattle.ssim_schedule.specs.Schedule.{Table, cuts_in}
 use Rattle.ssim_schedule.specs.declared.finding.Finding.{Finding}
 use Rattle.ssim_desk.specs.Kept.{Entry}
-use Rattle.ssim_desk.specs.Private.Trail.{IsAfter, IsTrail}
+use Rattle.ssim_desk.specs.Private.{IsAfter, IsTrail}
 use Rattle.ssim_desk.proofs.Points.{begun_at}
 use Rattle.ssim_desk.proofs.Trails.{begun_trail}
 use Rattle.ssim_desk.proofs.trail.Trail.new.Goals as goal

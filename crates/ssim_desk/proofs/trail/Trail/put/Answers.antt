@@ -3,7 +3,7 @@ use Rattle.std.proofs.lemmas.Grind.{common_steps}
 use Rattle.ssim_schedule.specs.Schedule.{Table}
 use Rattle.ssim_schedule.specs.declared.finding.Finding.{Finding}
 use Rattle.ssim_desk.specs.Kept.{DeskSeen, Entry}
-use Rattle.ssim_desk.specs.Private.Trail.{AreCheckpoints, IsTail, IsTrail}
+use Rattle.ssim_desk.specs.Private.{AreCheckpoints, IsTail, IsTrail}
 use Rattle.ssim_desk.proofs.Trails.{found_in_place, kept_in_place}
 use Rattle.ssim_desk.proofs.trail.Trail.put.Goals as goal
 
@@ -19,6 +19,6 @@ invariant_of-self-2 c =
     subst (λ (es : List Entry). IsTrail base es c.append-3.new.self.items c.args.tail.latest c.append-2.new.self.items) (sym held)
     (record {
       latest_is = tail.latest_is;
-      found_is = found ∙ found_in_place base old rest from at c.requires.start.low place c.self.inside.found.items c.args.tail.found.items c.self.invariant.found_is tail.found_is;
-      kept = subst (AreCheckpoints base (take at old ++ rest) 0) (sym kept) (kept_in_place base old rest from at c.requires.start.low place c.self.inside.checkpoints.items c.args.tail.checkpoints.items c.self.invariant.kept tail.kept);
+      found_is = found ∙ found_in_place base old rest from at c.requires.low place c.self.inside.found.items c.args.tail.found.items c.self.invariant.found_is tail.found_is;
+      kept = subst (AreCheckpoints base (take at old ++ rest) 0) (sym kept) (kept_in_place base old rest from at c.requires.low place c.self.inside.checkpoints.items c.args.tail.checkpoints.items c.self.invariant.kept tail.kept);
     })
