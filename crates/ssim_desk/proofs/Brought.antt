@@ -1,5 +1,5 @@
 -- What a desk is after the messages of another were brought.
-use Rattle.std.proofs.Common.{◌≡◌, ℕ, List, ◌∷◌, drop, All, ap, subst, ◌∙◌}
+use Rattle.std.proofs.Common.{◌≡◌, ℕ, List, drop, All, ap, subst, ◌∙◌}
 use Rattle.ssim_desk.specs.Desk.{IsReplayed}
 use Rattle.ssim_desk.specs.Held.{Agree}
 use Rattle.ssim_desk.specs.Kept.{AreEntries, DeskSeen, Entry, map_of, state_of}

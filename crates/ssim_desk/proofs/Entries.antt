@@ -1,11 +1,11 @@
 -- What a list of messages in order of reference is as a map, and what one more message at its place makes of it.
-use Rattle.std.proofs.Common.{◌≡◌, ◌≢◌, ℕ, zero, suc, ◌+◌, ◌<◌, ◌≤◌, Bool, true, false, cond, ◌&&◌, List, [], ◌∷◌, ◌++◌, map, length, Option, Some, None, IfSome, slice_get, IsTrue, refl, sym, ap, subst, ◌∙◌, arith}
+use Rattle.std.proofs.Common.{◌≡◌, ℕ, zero, suc, ◌<◌, ◌≤◌, Bool, true, false, cond, ◌&&◌, List, [], ◌∷◌, length, Some, None, IfSome, slice_get, refl, sym, ap, subst, ◌∙◌, arith}
 use Rattle.std.specs.Prelude.{T}
 use Rattle.std.specs.declared.cmp.Ordering.{Ordering}
 use Rattle.std.specs.declared.cmp.Ordering.TheVariants.{Less, Equal, Greater}
 use Rattle.std.specs.Ordering.{is_lt, is_eq, ordering_reverse}
 use Rattle.std.specs.List.{insert}
-use Rattle.std.specs.FinMap.{get, entries, is_sorted, entries-from_sorted, entries-insert, entries_sorted, get-entries, same_entries_map, find, put, from_sorted, empty, empty_of_len, len-entries}
+use Rattle.std.specs.FinMap.{get, entries, is_sorted, entries-from_sorted, entries-insert, entries_sorted, get-entries, same_entries_map, find, put}
 use Rattle.std.specs.FinMap as map
 use Rattle.std.specs.FinMap.Entries.{by_order, below_all}
 use Rattle.ssim_text.specs.Message.{MessageValue}
@@ -13,7 +13,7 @@ use Rattle.ssim_text.specs.declared.reference.Reference.{Reference}
 use Rattle.ssim_desk.specs.Held.{reference_cmp}
 use Rattle.ssim_desk.specs.Kept.{AreRising, Entry, keyed, map_of}
 use Rattle.ssim_desk.specs.Private.{Belongs}
-use Rattle.ssim_desk.proofs.References.{reference_apart, reference_total}
+use Rattle.ssim_desk.proofs.References.{reference_total}
 
 abbrev pub Pair : Type 0
 Pair = Reference × MessageValue

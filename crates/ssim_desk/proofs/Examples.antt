@@ -30,7 +30,6 @@ use Rattle.ssim_text.specs.declared.reference.Reference.{Reference}
 use Rattle.ssim_values.specs.Calendar.{day_of_month, month_of, year_of}
 use Rattle.ssim_values.specs.Day.{day_text}
 use Rattle.ssim_values.specs.Flight.{FlightNumber}
-use Rattle.ssim_values.specs.Variation.{variation_text}
 use Rattle.ssim_desk.specs.Fault.{desk_fault_text}
 use Rattle.ssim_desk.specs.File.{after_first_line, counted, row_line, rows_part, texts_part}
 use Rattle.ssim_desk.specs.Held.{reference_cmp}

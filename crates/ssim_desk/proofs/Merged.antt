@@ -1,5 +1,5 @@
 -- Two lists of messages put together: what is found in them, and that references rise.
-use Rattle.std.proofs.Common.{◌≡◌, ◌≢◌, ◌⊎◌, inl, inr, ◌≤◌, ◌<◌, ℕ, zero, suc, Bool, true, false, cond, List, [], ◌∷◌, ◌++◌, length, take, drop, Option, Some, None, IfSome, slice_get, All, refl, sym, ap, subst, ◌∙◌, arith}
+use Rattle.std.proofs.Common.{◌≡◌, ◌<◌, ℕ, zero, suc, Bool, true, false, cond, List, [], ◌∷◌, ◌++◌, take, drop, Option, Some, None, IfSome, slice_get, All, refl, sym, ap, subst, ◌∙◌, arith}
 use Rattle.std.specs.Prelude.{T}
 use Rattle.std.specs.declared.cmp.Ordering.{Ordering}
 use Rattle.std.specs.declared.cmp.Ordering.TheVariants.{Less, Equal, Greater}
@@ -11,7 +11,7 @@ use Rattle.ssim_text.specs.Message.{MessageValue}
 use Rattle.ssim_text.specs.declared.reference.Reference.{Reference}
 use Rattle.ssim_desk.specs.Held.{reference_cmp}
 use Rattle.ssim_desk.specs.Kept.{Entry, keyed}
-use Rattle.ssim_desk.specs.Private.{IsLesser, IsMerged, IsNext}
+use Rattle.ssim_desk.specs.Private.{IsLesser, IsMerged}
 use Rattle.ssim_desk.proofs.Entries.{and_left, and_right, both, find_below, flips, less-from_T, less-to_T}
 use Rattle.ssim_desk.proofs.MapLemmas.{or_else}
 use Rattle.ssim_desk.proofs.References.{reference_apart, reference_total}

@@ -1,7 +1,6 @@
 -- A desk that was opened holds what its file holds.
-use Rattle.std.proofs.Common.{◌≡◌, ℕ, ◌≤◌, List, [], ◌++◌, take, length, Option, Some, None, sym, ap, subst, ◌∙◌}
+use Rattle.std.proofs.Common.{◌≡◌, ℕ, List, [], length, Option, Some, None, sym, ap, subst, ◌∙◌}
 use Rattle.ssim_schedule.specs.BaseSeen.{BaseSeen}
-use Rattle.ssim_desk.specs.File.{IsDeskFile}
 use Rattle.ssim_desk.specs.Kept.{AreEntries, DeskSeen, Entry}
 use Rattle.ssim_desk.specs.Opening.{Opens}
 use Rattle.ssim_desk.specs.Private.{IsReplaced}

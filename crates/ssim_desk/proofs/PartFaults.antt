@@ -1,5 +1,5 @@
 -- What an error for memory says, and one that was handed on.
-use Rattle.std.proofs.Common.{◌≡◌, ◌≢◌, Option, None, Err, sym, ap, subst, ◌∙◌}
+use Rattle.std.proofs.Common.{◌≡◌, ◌≢◌, Option, None, Err, sym, subst}
 use Rattle.std.specs.Prelude.{IfErr, IfNone, Result}
 use Rattle.ssim_desk.specs.declared.opening.fault.PartFault.{PartFault}
 use Rattle.ssim_desk.specs.declared.opening.fault.PartFault.TheVariants.{Memory}

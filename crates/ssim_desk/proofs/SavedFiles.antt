@@ -1,12 +1,12 @@
 -- A desk file is read part by part: each part of a file is read as that of its desk, and a part that is not read is of no desk.
-use Rattle.std.proofs.Common.{◌≡◌, inl, inr, ◌⊎◌, ℕ, ◌<◌, ◌≤◌, ◌^◌, List, [], ◌∷◌, ◌++◌, length, codes, length-append, refl, sym, ap, subst, ◌∙◌, arith}
+use Rattle.std.proofs.Common.{◌≡◌, inl, inr, ℕ, ◌<◌, ◌^◌, List, [], ◌∷◌, ◌++◌, length, codes, length-append, refl, sym, ap, subst, ◌∙◌, arith}
 use Rattle.std.specs.List.{All, AllByRecursion as Each, flat_map}
 use Rattle.std.proofs.lemmas.List.Elements.{All-from_recursion, recursion_from_All}
 use Rattle.ssim_records.specs.declared.record.Record.{Record}
 use Rattle.ssim_schedule.specs.BaseSeen.{BaseSeen}
 use Rattle.ssim_schedule.specs.SavedBase.{SavedIsOne, saved}
 use Rattle.ssim_text.specs.Spelling.{EqualWhereWrittenEqual}
-use Rattle.ssim_desk.specs.File.{CanBeSaved, HasNoOriginator, IsDeskFile, IsFileOf, IsRow, IsSpelled, after_first_line, counted, end_line, records_part, row_line, rows_part, text_element, texts_part}
+use Rattle.ssim_desk.specs.File.{CanBeSaved, IsDeskFile, IsFileOf, IsRow, IsSpelled, after_first_line, counted, end_line, records_part, row_line, rows_part, text_element, texts_part}
 use Rattle.ssim_desk.specs.Kept.{Entry, IsEntry}
 use Rattle.ssim_desk.specs.Opening.{AreHeld, IsOf, first_line, version_number}
 use Rattle.ssim_desk.specs.declared.opening.version.FileVersion.{FileVersion}

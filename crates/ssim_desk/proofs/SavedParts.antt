@@ -1,5 +1,5 @@
 -- The parts of a desk file, one after another: what was read of a part is the part, and no other base and messages have it.
-use Rattle.std.proofs.Common.{◌≡◌, inl, inr, ◌⊎◌, ℕ, zero, suc, ◌+◌, ◌*◌, ◌<◌, ◌≤◌, ◌^◌, Bool, true, false, not, nat_eq, List, [], ◌∷◌, ◌++◌, length, take, drop, codes, Option, Some, None, IfSome, refl, sym, ap, subst, ◌∙◌, arith, append_assoc, length-append}
+use Rattle.std.proofs.Common.{◌≡◌, ℕ, zero, suc, ◌*◌, ◌<◌, ◌≤◌, Bool, true, false, not, nat_eq, List, [], ◌∷◌, ◌++◌, length, take, drop, codes, Option, Some, None, IfSome, refl, sym, ap, subst, ◌∙◌, arith, append_assoc, length-append}
 use Rattle.std.specs.Prelude.{IsSomeAnd}
 use Rattle.std.specs.Option.{option_eq}
 use Rattle.std.proofs.lemmas.Bool.Decides.{nat_tests}
@@ -9,15 +9,14 @@ use Rattle.std.proofs.lemmas.List.Elements.{All-from_recursion, recursion_from_A
 use Rattle.ssim_records.specs.Record.{IsRecord}
 use Rattle.ssim_records.specs.declared.record.Record.{Record}
 use Rattle.ssim_schedule.specs.BaseSeen.{BaseSeen}
-use Rattle.ssim_schedule.specs.SavedBase.{IsBaseRecords, SavedIsOne, saved}
+use Rattle.ssim_schedule.specs.SavedBase.{IsBaseRecords, saved}
 use Rattle.ssim_schedule.specs.Stations.{Row}
 use Rattle.ssim_text.specs.Spelling.{EqualWhereWrittenEqual}
-use Rattle.ssim_desk.specs.File.{CanBeSaved, HasNoOriginator, IsDeskFile, IsFileOf, IsRow, IsSpelled, after_first_line, counted, end_line, record_line, records_part, row_line, rows_part, text_element, texts_part}
-use Rattle.ssim_desk.specs.Kept.{AreEntries, AreRising, Entry, IsEntry}
-use Rattle.ssim_desk.specs.Opening.{AreHeld, IsNextText, IsOf, first_line, version_number}
+use Rattle.ssim_desk.specs.File.{IsRow, IsSpelled, counted, record_line, records_part, row_line, rows_part, text_element, texts_part}
+use Rattle.ssim_desk.specs.Kept.{AreRising, Entry, IsEntry}
+use Rattle.ssim_desk.specs.Opening.{AreHeld, IsNextText, IsOf}
 use Rattle.ssim_desk.specs.declared.opening.version.FileVersion.{FileVersion}
-use Rattle.ssim_desk.specs.declared.opening.version.FileVersion.TheVariants.{One, Two}
-use Rattle.ssim_desk.proofs.Files.{IsText, both_each, counted_apart, elements_apart, record_length, records_first, rows_next, texts_apart, texts_last, within}
+use Rattle.ssim_desk.proofs.Files.{IsText, elements_apart, record_length, texts_apart}
 use Rattle.ssim_desk.proofs.SavedElements.{each_front, each_push, flat_map-append, length_all, part_is}
 use Rattle.ssim_desk.proofs.SavedRows.{length_rows}
 use Rattle.ssim_desk.proofs.SavedTexts.{rising_front}

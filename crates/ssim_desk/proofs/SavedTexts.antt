@@ -1,12 +1,10 @@
 -- The texts of a desk file: the order of their references, and what a text and its length say of a message.
-use Rattle.std.proofs.Common.{◌≡◌, ℕ, zero, suc, ◌+◌, ◌-◌, ◌*◌, ◌<◌, ◌≤◌, ◌^◌, Bool, true, false, List, [], ◌∷◌, ◌++◌, length, take, drop, codes, Option, Some, None, IfSome, Ok, Err, slice_get, IsTrue, refl, sym, ap, subst, ◌∙◌, arith, append_assoc, length-append}
-use Rattle.std.specs.Prelude.{T, IsSomeAnd, Result}
-use Rattle.std.specs.Fmt.{decimal}
+use Rattle.std.proofs.Common.{◌≡◌, ℕ, zero, suc, ◌+◌, ◌*◌, ◌<◌, ◌^◌, List, [], ◌∷◌, ◌++◌, length, codes, Option, Some, None, IfSome, Ok, Err, slice_get, refl, sym, ap, subst, ◌∙◌, arith, append_assoc}
+use Rattle.std.specs.Prelude.{T, IsSomeAnd}
 use Rattle.std.specs.FinMap.{is_sorted}
 use Rattle.std.specs.FinMap.Entries.{below_all}
-use Rattle.std.specs.List.{AllByRecursion as Each, flat_map}
+use Rattle.std.specs.List.{AllByRecursion as Each}
 use Rattle.std.specs.declared.cmp.Ordering.TheVariants.{Less}
-use Rattle.std.proofs.lemmas.List.{take-append-drop}
 use Rattle.ssim_records.specs.declared.record.Record.{Record}
 use Rattle.ssim_schedule.specs.Resolve.{HasOneOutcome, IsRefusedIn, ResolvesIn}
 use Rattle.ssim_schedule.specs.declared.resolving.ResolveFault.{ResolveFault}
@@ -18,12 +16,11 @@ use Rattle.ssim_text.specs.Spelling.{EqualWhereWrittenEqual, SpellsMessage}
 use Rattle.ssim_text.specs.declared.reference.Reference.{Reference}
 use Rattle.ssim_desk.specs.File.{IsSpelled, counted, text_element}
 use Rattle.ssim_desk.specs.Held.{reference_cmp}
-use Rattle.ssim_desk.specs.Kept.{AreRising, Entry, IsEntry, keyed}
+use Rattle.ssim_desk.specs.Kept.{AreRising, Entry, keyed}
 use Rattle.ssim_desk.specs.Opening.{IsTextOf}
 use Rattle.ssim_desk.proofs.Files.{one_entry}
 use Rattle.ssim_desk.proofs.Entries.{T-from_true, and_left, and_right, below_later, both, less-from_T, less-to_T, true-from_T}
 use Rattle.ssim_desk.proofs.References.{reference_total}
-use Rattle.ssim_desk.proofs.Searching.{at_index}
 
 -- ---- one more reference
 

@@ -1,12 +1,11 @@
 -- Two lists of messages, each in order of reference, as maps: where they differ, and their union.
-use Rattle.std.proofs.Common.{◌≡◌, ◌≢◌, ◌⊎◌, inl, inr, ℕ, zero, suc, ◌<◌, ◌≤◌, ◌+◌, Bool, true, false, cond, List, [], ◌∷◌, ◌++◌, length, take, drop, get_or, Option, Some, None, IfSome, slice_get, slice_index_or, All, IsSome, is_some, refl, sym, ap, subst, ◌∙◌, arith}
-use Rattle.std.specs.Prelude.{T}
+use Rattle.std.proofs.Common.{◌≡◌, ◌≢◌, ◌⊎◌, inl, inr, ℕ, zero, suc, ◌<◌, ◌≤◌, true, false, cond, List, [], ◌∷◌, ◌++◌, length, take, drop, Option, Some, None, IfSome, slice_get, All, IsSome, is_some, refl, sym, ap, subst, ◌∙◌, arith}
 use Rattle.std.specs.declared.cmp.Ordering.{Ordering}
 use Rattle.std.specs.declared.cmp.Ordering.TheVariants.{Less, Equal, Greater}
 use Rattle.std.specs.Ordering.{is_eq}
-use Rattle.std.specs.FinMap.{find, get, is_sorted, same_map}
+use Rattle.std.specs.FinMap.{find, get, same_map}
 use Rattle.std.proofs.lemmas.Bool.{cases_lt, cases_eq}
-use Rattle.std.proofs.lemmas.List.Elements.{All-append, All-drop, All-get_or, All-more, All-take}
+use Rattle.std.proofs.lemmas.List.Elements.{All-append, All-drop, All-take}
 use Rattle.std.proofs.lemmas.List.{take-append-drop}
 use Rattle.ssim_records.specs.declared.record.Record.{Record}
 use Rattle.ssim_text.specs.Message.{MessageValue}
@@ -20,7 +19,7 @@ use Rattle.ssim_desk.proofs.Entries.{T-from_true, and_left, flips, get-map_of, h
 use Rattle.ssim_desk.proofs.MapLemmas.{get-union, or_else}
 use Rattle.ssim_desk.proofs.References.{reference_apart, reference_total}
 use Rattle.ssim_desk.proofs.Merged.{Below, Sorted, above_merged, all_merged, at_ref, before_drop, before_gap, find_merged, rising_merged, sorted_append, sorted_drop, sorted_take}
-use Rattle.ssim_desk.proofs.Searching.{at_index, index_of_get, rise}
+use Rattle.ssim_desk.proofs.Searching.{index_of_get, rise}
 
 -- a message is held under the reference of the entry
 abbrev pub IsHeldIn : List Entry → Entry → Type 0

@@ -1,7 +1,4 @@
-use Rattle.std.proofs.Common.{◌≡◌, ◌<◌, ◌+◌, ◌∙◌, ◌++◌, ℕ, suc, List, take, length, slice_get, Some, sym, ap, subst, add-one, append_assoc, arith}
-use Rattle.ssim_schedule.specs.declared.finding.Finding.{Finding}
-use Rattle.ssim_text.specs.declared.action.Sub.{Sub}
-use Rattle.ssim_text.specs.declared.reference.Reference.{Reference}
+use Rattle.std.proofs.Common.{◌≡◌, ◌<◌, ◌+◌, ◌∙◌, ◌++◌, suc, List, take, slice_get, Some, sym, ap, subst, append_assoc, arith}
 use Rattle.ssim_text.specs.Message.{MessageValue}
 use Rattle.ssim_desk.specs.Desk.{entry_lines, sub_lines}
 use Rattle.ssim_desk.specs.declared.finding_line.FindingLine.{FindingLine}

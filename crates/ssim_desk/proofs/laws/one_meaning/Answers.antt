@@ -1,4 +1,3 @@
-use Rattle.ssim_desk.proofs.Examples
 use Rattle.ssim_desk.proofs.Meanings.{has_export, has_meaning, has_one_export, has_one_meaning}
 use Rattle.ssim_desk.proofs.laws.one_meaning.Goals as goal
 

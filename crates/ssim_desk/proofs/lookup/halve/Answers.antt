@@ -1,4 +1,4 @@
-use Rattle.std.proofs.Common.{◌≡◌, ◌≤◌, ◌<◌, ◌+◌, ◌-◌, ◌/◌, ℕ, arith}
+use Rattle.std.proofs.Common.{◌+◌, ◌-◌, ◌/◌, arith}
 use Rattle.ssim_desk.proofs.Searching.{at_middle, narrow_down, narrow_up}
 use Rattle.ssim_desk.proofs.lookup.halve.Goals as goal
 

@@ -1,4 +1,4 @@
-use Rattle.std.proofs.Common.{◌≡◌, ◌∙◌, ap, sym, Some, refl}
+use Rattle.std.proofs.Common.{◌∙◌, ap, sym, Some, refl}
 use Rattle.std.proofs.lemmas.Bool.{false≢true}
 use Rattle.ssim_desk.proofs.Searching.{found_there}
 use Rattle.ssim_desk.proofs.lookup.look.Goals as goal

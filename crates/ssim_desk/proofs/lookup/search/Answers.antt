@@ -1,4 +1,4 @@
-use Rattle.std.proofs.Common.{◌≡◌, ◌≤◌, IfSome, slice_get, arith}
+use Rattle.std.proofs.Common.{arith}
 use Rattle.ssim_desk.proofs.Searching.{no_more}
 use Rattle.ssim_desk.proofs.lookup.search.Goals as goal
 

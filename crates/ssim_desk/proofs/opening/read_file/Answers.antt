@@ -1,9 +1,8 @@
 -- Part by part, what was read is the file's, and what was not read is of no desk.
-use Rattle.std.proofs.Common.{rules, ◌≡◌, ◌++◌, ◌<◌, ◌^◌, List, ℕ, Err, length}
+use Rattle.std.proofs.Common.{rules, ◌≡◌, ◌++◌, List, ℕ, Err}
 use Rattle.ssim_schedule.specs.BaseSeen.{BaseSeen}
 use Rattle.ssim_desk.specs.File.{IsDeskFile, end_line, texts_part}
 use Rattle.ssim_desk.specs.Kept.{Entry}
-use Rattle.ssim_desk.specs.Opening.{first_line}
 use Rattle.ssim_desk.proofs.PartFaults.{handed_on}
 use Rattle.ssim_desk.proofs.SavedFiles.{after_base, after_texts, before_base, file_found, file_in, saved_base}
 use Rattle.ssim_desk.proofs.opening.read_file.Goals as goal

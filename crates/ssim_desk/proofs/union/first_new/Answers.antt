@@ -1,7 +1,6 @@
-use Rattle.std.proofs.Common.{◌≡◌, ◌∙◌, List, Some, slice_get, ap, sym, subst}
+use Rattle.std.proofs.Common.{◌∙◌, Some, ap, sym, subst}
 use Rattle.std.proofs.lemmas.List.Elements.{All-more, All-same}
 use Rattle.std.proofs.lemmas.List.{take_all}
-use Rattle.ssim_desk.specs.Kept.{Entry}
 use Rattle.ssim_desk.proofs.Searching.{at_index}
 use Rattle.ssim_desk.proofs.Unions.{IsHeldIn, held_in}
 use Rattle.ssim_desk.proofs.union.first_new.Goals as goal

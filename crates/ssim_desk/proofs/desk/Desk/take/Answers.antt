@@ -1,4 +1,4 @@
-use Rattle.std.proofs.Common.{◌≡◌, ◌∷◌, ◌∙◌, List, Result, Err, drop, refl, ap, sym, subst, rules}
+use Rattle.std.proofs.Common.{◌≡◌, ◌∷◌, List, Result, Err, drop, refl, sym, subst, rules}
 use Rattle.ssim_schedule.specs.BaseSeen.{BaseSeen}
 use Rattle.ssim_schedule.specs.Resolve.{IsRefusedIn, ResolvesIn}
 use Rattle.ssim_desk.specs.Desk.{take_answer}

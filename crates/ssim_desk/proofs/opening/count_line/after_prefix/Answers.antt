@@ -1,7 +1,7 @@
 -- The bytes are cut after the length of the prefix.
 use Rattle.std.proofs.lemmas.Bool.Decides.{Decides-eqb}
 use Rattle.std.proofs.lemmas.Slice.Eq.{slice_eq-Decides}
-use Rattle.std.proofs.Common.{◌≡◌, sym, ◌∙◌}
+use Rattle.std.proofs.Common.{sym, ◌∙◌}
 use Rattle.ssim_desk.proofs.CountLines.{with_prefix, without_prefix}
 use Rattle.ssim_desk.proofs.opening.count_line.after_prefix.Goals as goal
 

@@ -1,5 +1,5 @@
 -- The word, a blank, the digits before the first LF, and what follows it.
-use Rattle.std.proofs.Common.{◌≡◌, ◌++◌, ◌∷◌, ◌∙◌, ap, sym, length, length-append, arith}
+use Rattle.std.proofs.Common.{◌++◌, ◌∷◌, ◌∙◌, ap, length, length-append, arith}
 use Rattle.std.specs.Fmt.{decimal}
 use Rattle.ssim_text.proofs.LeftLemmas.{from_shorter}
 use Rattle.ssim_desk.proofs.CountLines.{counted_on, digits_are, later_is, lines_are, no_end}

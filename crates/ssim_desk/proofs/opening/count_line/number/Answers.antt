@@ -1,5 +1,5 @@
 -- A number that a `usize` holds is read as it is written.
-use Rattle.std.proofs.Common.{◌≡◌, Some, ap, sym, ◌∙◌}
+use Rattle.std.proofs.Common.{Some, ap, sym, ◌∙◌}
 use Rattle.ssim_desk.proofs.CountLines.{number_read, no_number, decimal_utf8, reads_number}
 use Rattle.ssim_desk.proofs.opening.count_line.number.Goals as goal
 

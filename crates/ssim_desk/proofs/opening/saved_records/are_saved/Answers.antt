@@ -1,5 +1,5 @@
 -- Record by record, as far as the lines are those of the records.
-use Rattle.std.proofs.Common.{◌≡◌, arith}
+use Rattle.std.proofs.Common.{arith}
 use Rattle.ssim_desk.specs.File.{record_line}
 use Rattle.ssim_desk.proofs.SavedElements.{meets_first, meets_more, meets_none, meets_end}
 use Rattle.ssim_desk.proofs.opening.saved_records.are_saved.Goals as goal

@@ -1,5 +1,5 @@
 -- Row by row, as far as the lines are those of the rows.
-use Rattle.std.proofs.Common.{◌≡◌, ◌∙◌, ◌++◌, List, ℕ, ap, sym, arith}
+use Rattle.std.proofs.Common.{◌∙◌, ◌++◌, List, ℕ, ap, sym, arith}
 use Rattle.std.proofs.lemmas.List.Elements.{All-from_recursion}
 use Rattle.ssim_desk.specs.File.{IsRow, row_line}
 use Rattle.ssim_desk.proofs.SavedElements.{each_all, each_more, meets_first, meets_more, meets_none, meets_end}

@@ -1,5 +1,5 @@
 -- The line says how long the text is, and the text is that of the message.
-use Rattle.std.proofs.Common.{◌≡◌, ◌++◌, length, arith, subst}
+use Rattle.std.proofs.Common.{◌++◌, length, arith, subst}
 use Rattle.std.specs.Prelude.{IfNone, Option}
 use Rattle.ssim_text.specs.Canonical.{canonical}
 use Rattle.ssim_desk.specs.Kept.{Entry}

@@ -1,5 +1,5 @@
 -- Text by text, as far as the number of texts.
-use Rattle.std.proofs.Common.{rules, ◌≡◌, ◌++◌, ◌∷◌, [], ◌<◌, ◌^◌, ℕ, List, Option, Some, Err, length, sym, ap, subst, ◌∙◌, arith}
+use Rattle.std.proofs.Common.{rules, ◌≡◌, ◌++◌, ◌∷◌, [], ◌<◌, ◌^◌, ℕ, List, Some, Err, length, sym, subst, arith}
 use Rattle.std.specs.List.{flat_map}
 use Rattle.ssim_desk.specs.File.{text_element, texts_part}
 use Rattle.ssim_desk.specs.Kept.{Entry}

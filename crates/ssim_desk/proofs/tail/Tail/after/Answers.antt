@@ -1,5 +1,4 @@
-use Rattle.std.proofs.Common.{◌≡◌, ◌/◌, ◌+◌, ◌%◌, ◌++◌, [], List, ap, sym, subst, ◌∙◌, length, take, arith}
-use Rattle.ssim_schedule.specs.Schedule.{Table}
+use Rattle.std.proofs.Common.{◌/◌, ◌+◌, ◌%◌, ◌++◌, List, ap, sym, subst, ◌∙◌, take, arith}
 use Rattle.ssim_schedule.specs.declared.finding.Finding.{Finding}
 use Rattle.ssim_desk.specs.Private.{AreCheckpoints, IsAfter}
 use Rattle.ssim_desk.specs.Meaning.{found_by}
