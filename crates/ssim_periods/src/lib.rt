@@ -1,8 +1,10 @@
 //! A value for each day from 1 January 2000 to 31 December 2099.
 //!
-//! [`Periods`] holds one value for each of the 36,525 days. It stores rising *cuts*, the days at which a range begins or ends, and for
-//! each range a row of seven values, one for each weekday from Monday on. A period of a hundred years costs no more than one of a day.
-//! `apply` calls a [`Change`] at most seven times for each range that the period touches. No list of days is ever made.
+//! [`Periods`] holds one value for each of the 36,525 days. At first it is a list of a few periods with values, of which no two have a
+//! common day, so `apply` calls a [`Change`] once. A change that meets a day of the list makes rows of it: rising *cuts*, the days at
+//! which a range begins or ends, and for each range a row of seven values, one for each weekday from Monday on. From then on `apply`
+//! calls a change at most seven times for each range that the period touches. A period of a hundred years costs no more than one of a
+//! day. No list of days is ever made.
 //!
 //! A value is any type that implements [`Value`]: it has an empty value, a test for equality, and a copy, which may run out of memory.
 //! The crate knows nothing of airlines.
