@@ -6,12 +6,14 @@ use Rattle.ssim_records.specs.declared.fault.RecordFault.TheVariants.{Short, Bad
 use Rattle.ssim_records.specs.declared.record.Record.{Record}
 use Rattle.ssim_schedule.specs.Base.{Ending, Done, Broken, at_record, first_refusal, kept, missing, refusal_at, unless_refused}
 use Rattle.ssim_schedule.specs.Reading.{Answers, FailsAs, Gives, IsReadAs}
+use Rattle.ssim_schedule.specs.Summary.{Sums}
 use Rattle.ssim_schedule.specs.declared.base.BaseRead.{BaseRead}
 use Rattle.ssim_schedule.specs.declared.fault.BaseFault.{BaseFault}
 use Rattle.ssim_schedule.specs.declared.fault.BaseFault.TheVariants as fault
 use Rattle.ssim_schedule.specs.declared.fault.BaseFault.TheVariants.{Read, Refused}
 use Rattle.ssim_schedule.specs.declared.fault.BaseRefusal.{BaseRefusal}
 use Rattle.ssim_schedule.specs.declared.note.Note.{Note}
+use Rattle.ssim_schedule.specs.declared.summary.Summary.{Summary}
 use Rattle.ssim_program.specs.Made.{IsOfBytes}
 
 refused_later : (n : ℕ) (o : Option BaseRefusal) (later : Option BaseFault) (f : RecordFault) → at_record n o later ≡ Some (Read f) → later ≡ Some (Read f)
@@ -48,12 +50,22 @@ never_ends limit n bytes within (inr first) =
     absurd cc
 
 -- so a slice within the limit, which never fails, is refused for its bytes alone
+of_fault : (f : RecordFault) (limit : ℕ) (bytes : List ℕ) → length bytes ≤ limit → IsReadAs limit bytes (Err (Read f)) → FailsAs 0 0 (Read f) → IsOfBytes (Read f)
+of_fault (Short n) limit bytes within read failed = tt
+of_fault (BadType n) limit bytes within read failed = tt
+of_fault (BadColumn n column) limit bytes within read failed = tt
+of_fault (ReadFault n) limit bytes within read failed = absurd (omega (arith, failed))
+of_fault (ReaderNeverEnds n) limit bytes within read failed = absurd (never_ends limit n bytes within read)
+
 pub of_bytes : (r : Result BaseRead BaseFault) (limit : ℕ) (bytes : List ℕ) → length bytes ≤ limit → Answers r (IsReadAs limit bytes) → IfErr r (FailsAs 0 0) → IfErr r IsOfBytes
 of_bytes (Ok x) limit bytes within read failed = tt
 of_bytes (Err fault.Memory) limit bytes within read failed = tt
-of_bytes (Err (Read (Short n))) limit bytes within read failed = tt
-of_bytes (Err (Read (BadType n))) limit bytes within read failed = tt
-of_bytes (Err (Read (BadColumn n column))) limit bytes within read failed = tt
-of_bytes (Err (Read (ReadFault n))) limit bytes within read failed = absurd (omega (arith, failed))
-of_bytes (Err (Read (ReaderNeverEnds n))) limit bytes within read failed = absurd (never_ends limit n bytes within read)
+of_bytes (Err (Read f)) limit bytes within read failed = of_fault f limit bytes within read failed
 of_bytes (Err (Refused n why)) limit bytes within read failed = tt
+
+-- and so is the summary of its bytes
+pub sums_of_bytes : (r : Result Summary BaseFault) (limit : ℕ) (bytes : List ℕ) → length bytes ≤ limit → Sums limit (Some bytes) r → IfErr r (FailsAs 0 0) → IfErr r IsOfBytes
+sums_of_bytes (Ok x) limit bytes within sums failed = tt
+sums_of_bytes (Err fault.Memory) limit bytes within sums failed = tt
+sums_of_bytes (Err (Read f)) limit bytes within sums failed = of_fault f limit bytes within sums failed
+sums_of_bytes (Err (Refused n why)) limit bytes within sums failed = tt

@@ -12,11 +12,13 @@ use Rattle.ssim_schedule.specs.ReadBack.{HasFrame}
 use Rattle.ssim_schedule.specs.Reading.{IsReadAs}
 use Rattle.ssim_schedule.specs.Sinks.{TakesFront}
 use Rattle.ssim_schedule.specs.Stations.{NamesLine, Row, SpellsTable}
+use Rattle.ssim_schedule.specs.Summary.{IsSummary}
 use Rattle.ssim_schedule.specs.Timetable.{days_of}
 use Rattle.ssim_schedule.specs.declared.fault.BaseFault.{BaseFault}
 use Rattle.ssim_schedule.specs.declared.fault.BaseFault.TheVariants as base
 use Rattle.ssim_schedule.specs.declared.note.Note.{Note}
 use Rattle.ssim_schedule.specs.declared.note.Note.TheVariants as note
+use Rattle.ssim_schedule.specs.declared.summary.Summary.{Summary}
 use Rattle.ssim_schedule.specs.declared.stations.StationFault.{StationFault}
 use Rattle.ssim_text.specs.Left.{lines_left}
 use Rattle.ssim_program.specs.Files.{Files, file_of}
@@ -43,13 +45,12 @@ abbrev pub note_line : Note → List ℕ
 note_line n = line (printed_text (as_printed n))
 
 -- a line for each note, in order, and the summary: records other than fill, distinct flights, notes
-abbrev pub checked_lines : List Record → List FlightNumber → List Note → List ℕ
-checked_lines base flights notes =
-    flat_map note_line notes ++ line (printed_text (printed.Summary (length base) (length flights) (length notes)))
+abbrev pub summary_lines : ℕ → ℕ → List Note → List ℕ
+summary_lines records flights notes = flat_map note_line notes ++ line (printed_text (printed.Summary records flights (length notes)))
 
--- the bytes are those lines
+-- the bytes are those lines of these records
 abbrev pub AreLinesOn : List Record → List Note → List ℕ → Type 0
-AreLinesOn base notes bytes = (flights : List FlightNumber) × AreFlights base flights × (bytes ≡ checked_lines base flights notes)
+AreLinesOn base notes bytes = (flights : List FlightNumber) × AreFlights base flights × (bytes ≡ summary_lines (length base) (length flights) notes)
 
 -- ---- from a file
 
@@ -64,6 +65,10 @@ HasFile files name bytes = IfSome files (λ all. file_of all name ≡ Some bytes
 -- the data set in the file of this name is read as this
 abbrev pub ReadsFile : Option Files → Text → Outcome → Type 0
 ReadsFile files name outcome = (bytes : List ℕ) × HasFile files name bytes × IsReadAs file_limit bytes outcome
+
+-- the data set in the file of this name has what the summary says
+abbrev pub SumsFile : Option Files → Text → Summary → Type 0
+SumsFile files name summary = (bytes : List ℕ) × HasFile files name bytes × IsSummary file_limit (Some bytes) summary
 
 -- a fault of the bytes: not that the reader failed (13), nor that more came than the limit (14)
 abbrev pub IsOfBytes : BaseFault → Type 0

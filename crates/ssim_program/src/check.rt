@@ -4,15 +4,15 @@ ghost use Rattle.std.specs.Prelude.{◌≡◌, true, IfErr, IfOk, OnErr, OnOk};
 ghost use Rattle.ssim_program.specs.Desks.{CountsRefusal};
 ghost use Rattle.ssim_program.specs.Line.{Check};
 ghost use Rattle.ssim_program.specs.Effects.{Leaves, Writes};
-ghost use Rattle.ssim_program.specs.Made.{AreLinesOn, as_printed};
+ghost use Rattle.ssim_program.specs.Made.{as_printed, summary_lines};
 ghost use Rattle.ssim_program.specs.Reasons.{Refuses};
 
-use crate::data_set::load;
+use crate::data_set::load_summary;
 use crate::printed::{Printed, add_line};
 use crate::printer::{Printer, print_all};
 use crate::refusal::Refusal;
 use crate::store::Store;
-use ssim_schedule::{BaseRead, Note};
+use ssim_schedule::{Note, Summary};
 use ssim_values::Memory;
 use std::alloc::Global;
 use std::io::Write;
@@ -32,11 +32,11 @@ pub(crate) fn check<S: Store, O: Printer>(
     ensures device { O.device out.new ≡ O.device out.old }
     ensures flushed { OnOk result (O.flushed out.new ≡ true) }
 {
-    let read = match load(alloc, name, store) {
-        Ok(read) => read,
+    let summary = match load_summary(alloc, name, store) {
+        Ok(summary) => summary,
         Err(refusal) => return Err(refusal),
     };
-    let Ok(lines) = lines_on(alloc, &read) else {
+    let Ok(lines) = lines_on(alloc, &summary) else {
         return Err(Refusal::Memory);
     };
     match print_all(out, &lines) {
@@ -46,19 +46,19 @@ pub(crate) fn check<S: Store, O: Printer>(
 }
 
 /// A line for each note, in order, and the summary.
-fn lines_on(alloc: Global, read: &BaseRead) -> Result<Vec<u8>, Memory>
-    ensures { IfOk result (λ lines. AreLinesOn read.now.base.records read.now.notes.items lines.items) }
+fn lines_on(alloc: Global, summary: &Summary) -> Result<Vec<u8>, Memory>
+    ensures { IfOk result (λ lines. lines.items ≡ summary_lines summary.now.records summary.now.flights summary.now.notes.items) }
 {
     let mut lines = Vec::new(alloc);
-    for note in &read.notes {
+    for note in &summary.notes {
         add_line(&mut lines, printed_note(*note))?;
     }
-    let summary = Printed::Summary {
-        records: read.base.records().len(),
-        flights: read.base.flights().len(),
-        notes: read.notes.len(),
+    let last = Printed::Summary {
+        records: summary.records,
+        flights: summary.flights,
+        notes: summary.notes.len(),
     };
-    add_line(&mut lines, summary)?;
+    add_line(&mut lines, last)?;
     Ok(lines)
 }
 

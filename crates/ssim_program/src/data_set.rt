@@ -1,13 +1,14 @@
 //! Files of the store: any file, the data set in a file, and a base from a data set and a station table.
 
-ghost use Rattle.std.specs.Prelude.{◌≡◌, ◌≤◌, IfErr, IfOk, Ok, length};
+ghost use Rattle.std.specs.Prelude.{◌≡◌, ◌≤◌, IfErr, IfOk, Ok, Some, length};
 ghost use Rattle.ssim_schedule.specs.Reading.{Answers, IsReadAs};
 ghost use Rattle.ssim_schedule.specs.Stations.{Row};
-ghost use Rattle.ssim_program.specs.Made.{HasFile, IsOfBytes, ReadsBase, ReadsFile, RefusesBase, RefusesFile, RefusesLoad, file_limit};
+ghost use Rattle.ssim_schedule.specs.Summary.{Sums};
+ghost use Rattle.ssim_program.specs.Made.{HasFile, IsOfBytes, ReadsBase, ReadsFile, RefusesBase, RefusesFile, RefusesLoad, SumsFile, file_limit};
 
 use crate::refusal::Refusal;
 use crate::store::{Store, StoreFault};
-use ssim_schedule::{Base, BaseFault, BaseRead, Stations};
+use ssim_schedule::{Base, BaseFault, BaseRead, Stations, Summary};
 use std::alloc::Global;
 
 /// The most bytes that a file may have.
@@ -44,6 +45,35 @@ pub(crate) fn load<S: Store>(alloc: Global, name: &str, store: &mut S) -> Result
         },
         Err(refusal) => Err(refusal),
     }
+}
+
+/// Reads what the data set in the file of this name has. The file's bytes are freed.
+pub(crate) fn load_summary<S: Store>(
+    alloc: Global,
+    name: &str,
+    store: &mut S,
+) -> Result<Summary, Refusal>
+    ensures sums { IfOk result (SumsFile (S.files store.old) name.now) }
+    ensures refused { IfErr result (RefusesFile (S.files store.old) name.now) }
+    ensures same { S.files store.new ≡ S.files store.old }
+{
+    match load_file(alloc, name, store) {
+        Ok(bytes) => match sum(alloc, &bytes) {
+            Ok(summary) => Ok(summary),
+            Err(fault) => Err(Refusal::from(fault)),
+        },
+        Err(refusal) => Err(refusal),
+    }
+}
+
+/// Reads what a data set has.
+fn sum(alloc: Global, bytes: &[u8]) -> Result<Summary, BaseFault>
+    requires { length bytes.now ≤ file_limit }
+    ensures sums { Sums file_limit (Some bytes.now) result }
+    ensures whole { IfErr result IsOfBytes }
+{
+    let mut left = bytes;
+    Summary::read(alloc, &mut left, LIMIT)
 }
 
 /// Reads a data set with an empty station table.

@@ -18,6 +18,7 @@ use Rattle.ssim_schedule.specs.Base as base
 use Rattle.ssim_schedule.specs.BaseSeen.{is_leg_of}
 use Rattle.ssim_schedule.specs.Dates.{have_common_date}
 use Rattle.ssim_schedule.specs.Kept.{AreLegs, Follows, IsKept, IsPlace, LegStands, Stood, gives}
+use Rattle.ssim_schedule.specs.KeptRecords.{AddsRecord}
 use Rattle.ssim_schedule.specs.LegTable.{AddsLegAt, has_legs, legs_at, names_leg, uses_date}
 use Rattle.ssim_schedule.specs.ReadBack.{place_of}
 use Rattle.ssim_schedule.specs.Timetable.{period_of, same_flight, same_name}
@@ -121,11 +122,11 @@ legs-same old new k earlier legs same unnamed none other = subst (λ t. AreLegs 
 -- ---- it stands
 
 -- a record that gives no leg
-kept-other : (old new : Kept) (k : Record) (earlier : List Record) → IsKept old earlier → new.records.items ≡ old.records.items ++ k ∷ [] → IsPlace new.place (k ∷ earlier)
+kept-other : (old new : Kept) (k : Record) (earlier : List Record) → IsKept old earlier → AddsRecord old.records new.records (k) → IsPlace new.place (k ∷ earlier)
     → new.legs ≡ old.legs → ((n : Name) → is_leg_named n k ≡ false) → ((f : FlightNumber) (s n : ℕ) → gives f s n k ≡ false) → ((f : FlightNumber) → is_leg_of f k ≡ false)
     → IsKept new (k ∷ earlier)
 kept-other old new k earlier is records at legs unnamed none other = record {
-  records = records ∙ ap (λ rs. rs ++ k ∷ []) is.records ∙ sym (reverse-append (k ∷ []) earlier);
+  records = records earlier is.records;
   at_place = at;
   legs = legs-same old.legs new.legs k earlier is.legs legs unnamed none other;
 }
@@ -134,7 +135,7 @@ abbrev pub kept_carrier : CarrierFields → Record
 kept_carrier r = Carrier (record r { serial = 0 })
 
 pub stood-carrier : (old new : Kept) (heading : Heading) (r : CarrierFields) (earlier : List Record) → old.place ≡ place.Carrier → IsKept old earlier
-    → new.records.items ≡ old.records.items ++ kept_carrier r ∷ [] → new.place ≡ place.Legs heading → heading.airline ≡ r.airline → heading.end ≡ end_of r
+    → AddsRecord old.records new.records (kept_carrier r) → new.place ≡ place.Legs heading → heading.airline ≡ r.airline → heading.end ≡ end_of r
     → new.legs ≡ old.legs → Stood new earlier (Carrier r)
 stood-carrier old new heading r earlier before is records at airline end legs = by earlier is (subst (λ p. IsPlace p earlier) before is.at_place)
   where
@@ -174,7 +175,7 @@ abbrev pub kept_segment : SegmentFields → Record
 kept_segment r = Segment (record r { overflow = 32; serial = 0 })
 
 pub stood-segment : (old new : Kept) (heading : Heading) (r : SegmentFields) (earlier : List Record) → old.place ≡ place.Legs heading → IsKept old earlier
-    → new.records.items ≡ old.records.items ++ kept_segment r ∷ [] → new.place ≡ place.Legs heading → new.legs ≡ old.legs
+    → AddsRecord old.records new.records (kept_segment r) → new.place ≡ place.Legs heading → new.legs ≡ old.legs
     → bytes_eq r.name.airline heading.airline ≡ true → is_overflow r.overflow ≡ false → IsFlight r.name.flight → names_leg (legs_at old.legs (place_of r.name.flight)) r.name.sequence r.name.variation ≡ true
     → Stood new earlier (Segment r)
 stood-segment old new heading r earlier before is records at legs airline blank flight named =
@@ -201,7 +202,7 @@ abbrev pub kept_trailer : TrailerFields → Record
 kept_trailer r = Trailer (record r { check = 0; serial = 0 })
 
 pub stood-trailer : (old new : Kept) (heading : Heading) (r : TrailerFields) (earlier : List Record) → old.place ≡ place.Legs heading → IsKept old earlier
-    → new.records.items ≡ old.records.items ++ kept_trailer r ∷ [] → new.place ≡ place.End → new.legs ≡ old.legs
+    → AddsRecord old.records new.records (kept_trailer r) → new.place ≡ place.End → new.legs ≡ old.legs
     → bytes_eq r.airline heading.airline ≡ true → is_continued r.code ≡ false → Stood new earlier (Trailer r)
 stood-trailer old new heading r earlier before is records at legs airline code =
     let here : IsPlace (place.Legs heading) earlier = subst (λ p. IsPlace p earlier) before is.at_place in
@@ -244,7 +245,7 @@ leg-refused old heading r p earlier before is s flight met =
 
 pub stood-leg : (old new : Kept) (heading : Heading) (r : LegFields) (p : DayRange) (earlier : List Record) → old.place ≡ place.Legs heading → IsKept old earlier → LegStands heading r p
     → IsFlight r.name.flight → have_common_date (holds p) (uses_date (legs_at old.legs (place_of r.name.flight)) r.name.sequence) ≡ false
-    → new.records.items ≡ old.records.items ++ Leg (kept_leg r p.last) ∷ [] → new.place ≡ place.Legs heading
+    → AddsRecord old.records new.records (Leg (kept_leg r p.last)) → new.place ≡ place.Legs heading
     → AddsLegAt old.legs new.legs (place_of r.name.flight) r.name.sequence r.name.variation p
     → Stood new earlier (Leg r)
 stood-leg old new heading r p earlier before is s flight met records at legs =
@@ -254,7 +255,7 @@ stood-leg old new heading r p earlier before is s flight met records at legs =
     record {
       stands = own-leg heading r p earlier here s ∙ rw free refl;
       is_kept = subst (λ l. IsKept new (Leg (kept_leg r l) ∷ earlier)) end (record {
-        records = records ∙ ap (λ rs. rs ++ Leg (kept_leg r p.last) ∷ []) is.records ∙ sym (reverse-append (Leg (kept_leg r p.last) ∷ []) earlier);
+        records = records earlier is.records;
         at_place = subst (λ q. IsPlace q (Leg (kept_leg r p.last) ∷ earlier)) (sym at) (more-follow earlier (Leg (kept_leg r p.last)) false here.0 refl, here.1, here.2);
         legs = legs-more old.legs new.legs (kept_leg r p.last) earlier flight is.legs
             (subst (λ q. AddsLegAt old.legs new.legs (place_of r.name.flight) r.name.sequence r.name.variation q) (its-period heading r p s) legs);

@@ -329,9 +329,9 @@ never-fails all left n earlier r (Refused m refusal) is = tt
 
 -- nothing is missing: the records and notes so far are the outcome
 pub whole-outcome : (g : Gathering) (earlier : List Record) (done : List Numbered) (number : ℕ) → IsSoFar g earlier done → missing earlier ≡ None
-    → Ok (g.kept.records.items, g.notes.items) ≡ data_set (Done number) done
+    → Ok (reverse earlier, g.notes.items) ≡ data_set (Done number) done
 whole-outcome g earlier done number so_far whole =
-    ap (λ rs. outcome rs g.notes.items) (so_far.is_kept.records ∙ sym (append-nil (reverse earlier)) ∙ sym (so_far.kept []) ∙ ap (λ rs. kept_all [] (records_in rs)) (append-nil done))
+    ap (λ rs. outcome rs g.notes.items) (sym (append-nil (reverse earlier)) ∙ sym (so_far.kept []) ∙ ap (λ rs. kept_all [] (records_in rs)) (append-nil done))
     ∙ ap (outcome (kept_all [] (records_in done))) (sym (append-nil g.notes.items) ∙ sym (so_far.noted []) ∙ ap (notes_of 0) (append-nil done))
     ∙ ap (λ o. unless_refused o (kept_all [] (records_in done), notes_of 0 done))
     (sym (ap (first_refusal (Done number) []) (sym (append-nil done)) ∙ so_far.refused (Done number) [] ∙ ap (λ o. at_record number o None) whole))

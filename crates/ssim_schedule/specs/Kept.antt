@@ -1,5 +1,5 @@
 -- What is known of the records that a base has so far, the latest of which comes first.
-use Rattle.std.specs.Prelude.{◌≡◌, ℕ, Bool, true, false, ◌&&◌, nat_eq, nat_lt, unwrap_or, Some, None, List, [], ◌∷◌, reverse}
+use Rattle.std.specs.Prelude.{◌≡◌, ℕ, Bool, true, false, ◌&&◌, nat_eq, nat_lt, unwrap_or, Some, None, List, [], ◌∷◌}
 use Rattle.std.specs.List.{list_any}
 use Rattle.std.specs.Str.{bytes_eq}
 use Rattle.ssim_values.specs.Flight.{FlightNumber, IsFlight}
@@ -10,6 +10,7 @@ use Rattle.ssim_records.specs.declared.record.Record.{Record}
 use Rattle.ssim_records.specs.declared.record.Record.TheVariants.{Header, Carrier, Leg, Segment, Trailer}
 use Rattle.ssim_schedule.specs.Base.{airline_of, carrier_end, is_trailer, is_leg_named, is_overflow, is_rate, refusal_at, kept}
 use Rattle.ssim_schedule.specs.BaseSeen.{is_leg_of}
+use Rattle.ssim_schedule.specs.KeptRecords.{AreKept}
 use Rattle.ssim_schedule.specs.LegTable.{has_legs, legs_at, names_leg, uses_date}
 use Rattle.ssim_schedule.specs.ReadBack.{place_of}
 use Rattle.ssim_schedule.specs.Timetable.{same_flight, period_of}
@@ -55,7 +56,7 @@ pub record AreLegs (table : LegTable) (earlier : List Record) : Type 0 where
 
 -- what is kept of these records
 pub record IsKept (k : Kept) (earlier : List Record) : Type 0 where
-  pub records : k.records.items ≡ reverse earlier
+  pub records : AreKept k.records earlier
   pub at_place : IsPlace k.place earlier
   pub legs : AreLegs k.legs earlier
 

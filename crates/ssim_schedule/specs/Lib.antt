@@ -16,11 +16,13 @@ pub mod Sinks
 pub mod Plan
 pub mod Dates
 pub mod LegTable
+pub mod KeptRecords
 pub mod Kept
 pub mod Gathering
 pub mod Stations
 pub mod BaseSeen
 pub mod Reading
+pub mod Summary
 pub mod SavedBase
 pub mod Examples
 pub mod Resolve

@@ -1,6 +1,6 @@
 //! The base: the records of a data set and its station table.
 
-ghost use Rattle.std.specs.Prelude.{◌≡◌, ◌↔◌, ℕ, List, Option, IsTrue, IfOk, IfErr};
+ghost use Rattle.std.specs.Prelude.{◌≡◌, ◌↔◌, ℕ, List, Option, IsTrue, IfOk, IfErr, true};
 ghost use Rattle.std.specs.List.{All};
 ghost use Rattle.ssim_schedule.specs.Base.{airline_of};
 ghost use Rattle.ssim_schedule.specs.BaseSeen.{AreFlights};
@@ -13,6 +13,7 @@ ghost use Rattle.ssim_schedule.specs.Timetable.{days_of};
 
 use crate::fault::BaseFault;
 use crate::gathering::Gathering;
+use crate::kept_records::KeptRecords;
 use crate::note::Note;
 use crate::reading::gather;
 use crate::stations::{StationRow, Stations};
@@ -53,6 +54,7 @@ pub struct BaseRead {
 
 impl Base {
     ghost use Rattle.ssim_schedule.specs.Gathering.{HasRead, IsWhole};
+    ghost use Rattle.ssim_schedule.specs.KeptRecords.{keeps};
 
     /// Reads a data set, record by record, and keeps the station table with it. At most `limit` bytes and one more are fetched.
     ///
@@ -73,7 +75,8 @@ impl Base {
         ensures fails_after { IfErr result (λ e. FailsAfter (R.left reader.old) (R.left reader.new) e) }
         ensures never_ends { IfErr result (λ e. NeverEnds limit (Came (R.left reader.old) (R.left reader.new) (R.came reader.old) (R.came reader.new)) e) }
     {
-        let (gathering, number) = gather(alloc, reader, limit)?;
+        let records = KeptRecords::All(Vec::new(alloc));
+        let (gathering, number) = gather(alloc, records, reader, limit)?;
         Base::finish(alloc, gathering, number, stations)
     }
 
@@ -84,26 +87,24 @@ impl Base {
         number: u64,
         stations: Stations,
     ) -> Result<BaseRead, BaseFault>
-        requires { IsWhole gathering }
+        requires whole { IsWhole gathering }
+        requires keeps { keeps gathering.kept.records ≡ true }
         ensures read { (limit : ℕ) (told : Option (List ℕ)) → HasRead limit told gathering number → Answers result (IsReadOf limit told) }
         ensures rows { IfOk result (λ read. read.base.rows ≡ stations) }
         ensures failure { (n : ℕ) → IfErr result (λ e. FailsAs n n e) }
         ensures fails_after { (all left : Option (List ℕ)) → IfErr result (λ e. FailsAfter all left e) }
         ensures never_ends { (limit old new : ℕ) (left others : Option (List ℕ)) → IfErr result (λ e. NeverEnds limit (Came left others old new) e) }
     {
-        let Gathering {
-            mut kept,
-            notes,
-            ..
-        } = gathering;
+        let Gathering { kept, notes, .. } = gathering;
         if let Some(refusal) = kept.missing() {
             return Err(BaseFault::Refused(number, refusal));
         }
-        // A list that grew may have as much unused room as it has records.
-        kept.records.shrink_to_fit();
         let flights = kept.legs.flights()?;
+        let mut records = kept.records.into_records();
+        // A list that grew may have as much unused room as it has records.
+        records.shrink_to_fit();
         let base = Base {
-            records: kept.records,
+            records,
             stations,
             flights,
             alloc,

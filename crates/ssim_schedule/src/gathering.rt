@@ -6,6 +6,7 @@ ghost use Rattle.ssim_records.specs.declared.record.Record.{Record};
 
 use crate::fault::BaseFault;
 use crate::kept::Kept;
+use crate::kept_records::KeptRecords;
 use crate::note::Note;
 use ssim_records::Record;
 use ssim_values::Memory;
@@ -21,17 +22,20 @@ pub(crate) struct Gathering {
 }
 
 impl Gathering {
+    ghost use Rattle.ssim_schedule.specs.KeptRecords.{AreKept, keeps};
     ghost use Rattle.ssim_schedule.specs.Kept.{IsKept, IsRefused, Stood};
     ghost use Rattle.ssim_schedule.specs.Gathering.{notes_at};
 
     /// No record.
-    pub(crate) fn new(alloc: Global) -> Gathering
+    pub(crate) fn new(alloc: Global, records: KeptRecords) -> Gathering
+        requires { AreKept records [] }
         ensures kept { IsKept result.kept [] }
+        ensures records { result.kept.records ≡ records }
         ensures notes { result.notes.items ≡ [] }
         ensures previous { result.previous ≡ 0 }
     {
         Gathering {
-            kept: Kept::new(alloc),
+            kept: Kept::new(alloc, records),
             notes: Vec::new(alloc),
             previous: 0,
         }
@@ -40,6 +44,7 @@ impl Gathering {
     /// Accepts one more record, with its number, or refuses it.
     pub(crate) fn take(&mut self, number: u64, one: &Record) -> Result<(), BaseFault>
         ensures stood { OnOk result ((earlier : List Record) → IsKept self.old.kept earlier → Stood self.new.kept earlier one.now) }
+        ensures keeps { OnOk result (keeps self.new.kept.records ≡ keeps self.old.kept.records) }
         ensures noted { OnOk result (self.new.notes.items ≡ self.old.notes.items ++ notes_at number self.old.previous one.now) }
         ensures previous { OnOk result (self.new.previous ≡ serial_of one.now) }
         ensures err { IfErr result (λ e. (earlier : List Record) → IsKept self.old.kept earlier → IsRefused number earlier one.now e) }

@@ -1,13 +1,15 @@
 //! The records accepted so far, and whether the next one is allowed after them.
 
-ghost use Rattle.std.specs.Prelude.{◌≡◌, ◌++◌, ◌∷◌, [], List, IfErr, IfOk, OnOk};
+ghost use Rattle.std.specs.Prelude.{◌≡◌, [], List, IfErr, IfOk, OnOk};
 ghost use Rattle.std.specs.Str.{bytes_eq};
 ghost use Rattle.ssim_records.specs.declared.record.Record.{Record};
 ghost use Rattle.ssim_schedule.specs.Base.{end_of, is_overflow, is_rate, missing};
+ghost use Rattle.ssim_schedule.specs.KeptRecords.{AddsRecord, AreKept, keeps};
 ghost use Rattle.ssim_schedule.specs.Kept.{IsKept, IsPlace, IsRefused, LegStands, Stood};
 ghost use Rattle.ssim_schedule.specs.declared.kept.Place.TheVariants as place;
 
 use crate::fault::{BaseFault, BaseRefusal};
+use crate::kept_records::KeptRecords;
 use crate::leg_table::LegTable;
 use ssim_records::{Carrier, EndCode, LegRecord, Record, SegmentRecord, Trailer};
 use ssim_values::{Airline, Day, Memory, Period};
@@ -35,10 +37,10 @@ pub(crate) enum Place {
     End,
 }
 
-/// The records accepted so far, and the state for checking the next one.
+/// What is kept of the records accepted so far, and the state for checking the next one.
 #[derive(Drop)]
 pub(crate) struct Kept {
-    pub records: Vec<Record>,
+    pub records: KeptRecords,
     pub place: Place,
     /// What the leg records name, and the dates that they have.
     pub legs: LegTable,
@@ -46,11 +48,13 @@ pub(crate) struct Kept {
 
 impl Kept {
     /// No record.
-    pub(crate) fn new(alloc: Global) -> Kept
-        ensures { IsKept result [] }
+    pub(crate) fn new(alloc: Global, records: KeptRecords) -> Kept
+        requires { AreKept records [] }
+        ensures kept { IsKept result [] }
+        ensures records { result.records ≡ records }
     {
         Kept {
-            records: Vec::new(alloc),
+            records,
             place: Place::Header,
             legs: LegTable::new(alloc),
         }
@@ -59,6 +63,7 @@ impl Kept {
     /// Accepts one more record, with its number, or refuses it.
     pub(crate) fn put(&mut self, number: u64, one: &Record) -> Result<(), BaseFault>
         ensures stood { OnOk result ((earlier : List Record) → IsKept self.old earlier → Stood self.new earlier one.now) }
+        ensures keeps { OnOk result (keeps self.new.records ≡ keeps self.old.records) }
         ensures err { IfErr result (λ e. (earlier : List Record) → IsKept self.old earlier → IsRefused number earlier one.now e) }
     {
         match self.place {
@@ -90,7 +95,8 @@ impl Kept {
 
     // Keeps a record, after which another place is expected.
     fn push(&mut self, place: Place, one: Record) -> Result<(), Memory>
-        ensures records { OnOk result (self.new.records.items ≡ self.old.records.items ++ one ∷ []) }
+        ensures records { OnOk result (AddsRecord self.old.records self.new.records one) }
+        ensures keeps { OnOk result (keeps self.new.records ≡ keeps self.old.records) }
         ensures place { OnOk result (self.new.place ≡ place) }
         ensures legs { self.new.legs ≡ self.old.legs }
     {
@@ -102,6 +108,7 @@ impl Kept {
     fn put_header(&mut self, number: u64, one: &Record) -> Result<(), BaseFault>
         requires { self.old.place ≡ place.Header }
         ensures stood { OnOk result ((earlier : List Record) → IsKept self.old earlier → Stood self.new earlier one.now) }
+        ensures keeps { OnOk result (keeps self.new.records ≡ keeps self.old.records) }
         ensures err { IfErr result (λ e. (earlier : List Record) → IsKept self.old earlier → IsRefused number earlier one.now e) }
     {
         match one {
@@ -116,6 +123,7 @@ impl Kept {
     fn put_carrier(&mut self, number: u64, one: &Record) -> Result<(), BaseFault>
         requires { self.old.place ≡ place.Carrier }
         ensures stood { OnOk result ((earlier : List Record) → IsKept self.old earlier → Stood self.new earlier one.now) }
+        ensures keeps { OnOk result (keeps self.new.records ≡ keeps self.old.records) }
         ensures err { IfErr result (λ e. (earlier : List Record) → IsKept self.old earlier → IsRefused number earlier one.now e) }
     {
         match one {
@@ -137,6 +145,7 @@ impl Kept {
     fn put_leg(&mut self, number: u64, heading: Heading, leg: &LegRecord) -> Result<(), BaseFault>
         requires { self.old.place ≡ place.Legs heading }
         ensures stood { OnOk result ((earlier : List Record) → IsKept self.old earlier → Stood self.new earlier (Record.Leg leg.now)) }
+        ensures keeps { OnOk result (keeps self.new.records ≡ keeps self.old.records) }
         ensures err { IfErr result (λ e. (earlier : List Record) → IsKept self.old earlier → IsRefused number earlier (Record.Leg leg.now) e) }
     {
         let period = leg_period(number, heading, leg)?;
@@ -156,6 +165,7 @@ impl Kept {
     ) -> Result<(), BaseFault>
         requires { self.old.place ≡ place.Legs heading }
         ensures stood { OnOk result ((earlier : List Record) → IsKept self.old earlier → Stood self.new earlier (Record.Segment segment.now)) }
+        ensures keeps { OnOk result (keeps self.new.records ≡ keeps self.old.records) }
         ensures err { IfErr result (λ e. (earlier : List Record) → IsKept self.old earlier → IsRefused number earlier (Record.Segment segment.now) e) }
     {
         if !same_airline(segment.name().airline(), heading.airline) {
@@ -180,6 +190,7 @@ impl Kept {
     ) -> Result<(), BaseFault>
         requires { self.old.place ≡ place.Legs heading }
         ensures stood { OnOk result ((earlier : List Record) → IsKept self.old earlier → Stood self.new earlier (Record.Trailer trailer.now)) }
+        ensures keeps { OnOk result (keeps self.new.records ≡ keeps self.old.records) }
         ensures err { IfErr result (λ e. (earlier : List Record) → IsKept self.old earlier → IsRefused number earlier (Record.Trailer trailer.now) e) }
     {
         if !same_airline(trailer.airline(), heading.airline) {

@@ -3,6 +3,7 @@
 //! - [`Stations`]: which UTC variation a station has on a day, read from a table of [`StationRow`]s.
 //! - [`Base`]: a data set as it was read, record by record, with a station table; or a [`BaseFault`], which names the first invalid
 //!   record. What is unusual but not refused is a [`Note`].
+//! - [`Summary`]: how many records and flights a data set has, and its notes. It is read as a base is, but no record is kept.
 //! - [`Schedule`]: the itinerary of each flight on each date, which is its [`PlacedLeg`]s in order. `of` makes it from a base, `export`
 //!   writes it as chapter 7 in the one canonical division, or answers an [`ExportFault`].
 //! - [`Block`]: bytes for a sink, filled by [`put_line`] and [`put_bytes`] and emptied by [`flush`], or [`WriteFault`].
@@ -31,6 +32,7 @@ mod flight_table;
 mod gathering;
 mod itinerary;
 mod kept;
+mod kept_records;
 pub mod laws;
 mod leg;
 mod leg_group;
@@ -48,6 +50,7 @@ mod schedule;
 mod shared_periods;
 mod shared_table;
 mod stations;
+mod summary;
 mod used_dates;
 mod waiting;
 
@@ -64,3 +67,4 @@ pub use resolved::{Resolved, ResolvedSub};
 pub use resolving::{ResolveFault, ResolvedText, resolve};
 pub use schedule::Schedule;
 pub use stations::{StationFault, StationRow, Stations};
+pub use summary::Summary;

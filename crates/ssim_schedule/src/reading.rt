@@ -1,21 +1,26 @@
 //! Reads the records of a data set, one after another.
 
-ghost use Rattle.std.specs.Prelude.{◌≡◌, IfOk, IfErr};
+ghost use Rattle.std.specs.Prelude.{◌≡◌, [], IfOk, IfErr};
 ghost use Rattle.ssim_schedule.specs.Gathering.{HasRead};
+ghost use Rattle.ssim_schedule.specs.KeptRecords.{AreKept, keeps};
 ghost use Rattle.ssim_schedule.specs.Reading.{Came, FailsAfter, FailsAs, NeverEnds, Refuses};
 
 use crate::fault::BaseFault;
 use crate::gathering::Gathering;
+use crate::kept_records::KeptRecords;
 use ssim_records::{Records, Source, frames_are_one};
 use std::alloc::Global;
 
-/// The records of a reader, and the number after the last of them.
+/// What there is of the records of a reader, and the number after the last of them.
 pub(crate) fn gather<R: Source>(
     alloc: Global,
+    records: KeptRecords,
     reader: &mut R,
     limit: u64,
 ) -> Result<(Gathering, u64), BaseFault>
+    requires { AreKept records [] }
     ensures ok { IfOk result (λ read. HasRead limit (R.left reader.old) read.0 read.1) }
+    ensures keeps { IfOk result (λ read. keeps read.0.kept.records ≡ keeps records) }
     ensures err { IfErr result (λ e. Refuses limit (R.left reader.old) e) }
     ensures no_failure { IfOk result (λ _. R.failures reader.new ≡ R.failures reader.old) }
     ensures failure { IfErr result (λ e. FailsAs (R.failures reader.old) (R.failures reader.new) e) }
@@ -23,12 +28,12 @@ pub(crate) fn gather<R: Source>(
     ensures never_ends { IfErr result (λ e. NeverEnds limit (Came (R.left reader.old) (R.left reader.new) (R.came reader.old) (R.came reader.new)) e) }
 {
     frames_are_one();
-    let mut records = Records::new(limit);
-    let mut gathering = Gathering::new(alloc);
+    let mut blocks = Records::new(limit);
+    let mut gathering = Gathering::new(alloc, records);
     loop {
-        match records.next(reader) {
+        match blocks.next(reader) {
             Ok(Some((number, record))) => gathering.take(number, &record)?,
-            Ok(None) => return Ok((gathering, records.number() + 1)),
+            Ok(None) => return Ok((gathering, blocks.number() + 1)),
             Err(fault) => return Err(BaseFault::Read(fault)),
         }
     }

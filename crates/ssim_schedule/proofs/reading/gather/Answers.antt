@@ -10,27 +10,28 @@ use Rattle.ssim_schedule.proofs.reading.gather.Goals as goal
 
 pub loop-number-init : goal.loop-number-init
 loop-number-init g c =
-    let number : c.new-records.result.number ≡ 0 = ap (λ (r : Reading). r.number) c.new-records.ensures in
+    let number : c.new-blocks.result.number ≡ 0 = ap (λ (r : Reading). r.number) c.new-blocks.ensures in
     record {
-      limit_is = ap (λ (r : Reading). r.limit) c.new-records.ensures;
-      open' = ap (λ (r : Reading). r.ended) c.new-records.ensures;
+      limit_is = ap (λ (r : Reading). r.limit) c.new-blocks.ensures;
+      open' = ap (λ (r : Reading). r.ended) c.new-blocks.ensures;
       counted = omega (arith, number);
       earlier = [];
       done = [];
       so_far = nothing c.new-gathering.result c.new-gathering.ensures.kept c.new-gathering.ensures.notes c.new-gathering.ensures.previous;
-      told = subst (λ (r : Reading). Told c.args.limit (g.R.Source.left c.args.reader.now) (g.R.Source.left c.args.reader.now) r []) (sym c.new-records.ensures)
+      told = subst (λ (r : Reading). Told c.args.limit (g.R.Source.left c.args.reader.now) (g.R.Source.left c.args.reader.now) r []) (sym c.new-blocks.ensures)
           (told-first c.args.limit (g.R.Source.left c.args.reader.now) c.frames_are_one.ensures.exist);
-      fetched = subst (λ (r : Reading). Fetches false 0 [] (g.R.Source.left c.args.reader.now) r.number r.held (g.R.Source.left c.args.reader.now)) (sym c.new-records.ensures)
+      fetched = subst (λ (r : Reading). Fetches false 0 [] (g.R.Source.left c.args.reader.now) r.number r.held (g.R.Source.left c.args.reader.now)) (sym c.new-blocks.ensures)
           (fetches_first false 0 [] (g.R.Source.left c.args.reader.now));
-      counts = subst (λ (r : Reading). CountsOn (g.R.Source.left c.args.reader.now) (g.R.Source.left c.args.reader.now) (g.R.Source.came c.args.reader.now) (g.R.Source.came c.args.reader.now) 0 r.came) (sym c.new-records.ensures)
+      counts = subst (λ (r : Reading). CountsOn (g.R.Source.left c.args.reader.now) (g.R.Source.left c.args.reader.now) (g.R.Source.came c.args.reader.now) (g.R.Source.came c.args.reader.now) 0 r.came) (sym c.new-blocks.ensures)
           (counts_none (g.R.Source.left c.args.reader.now) (g.R.Source.came c.args.reader.now) 0);
       no_failure = refl;
+      keeps_is = refl;
     }
 
 pub loop-number-preserved : goal.loop-number-preserved
 loop-number-preserved g c =
     let i = c.loop-number.invariant in
-    let old = c.loop-number.records in
+    let old = c.loop-number.blocks in
     let new = c.next.new.self in
     let x : Numbered = (c.in-Ok-Some.number, c.in-Ok-Some.record) in
     let answer : c.next.result ≡ Ok (Some x) = search rules in
@@ -52,12 +53,13 @@ loop-number-preserved g c =
       fetched = fetches_on 0 old.number new.number old.number new.number [] old.held new.held _ _ _ i.fetched (while-open old.ended i.open' c.next.ensures.fetched) (omega arith);
       counts = counts_twice _ _ _ _ _ _ _ _ _ i.counts (while-open old.ended i.open' c.next.ensures.count);
       no_failure = fault ∙ i.no_failure;
+      keeps_is = taken.keeps ∙ i.keeps_is;
     }
 
 pub returns-in_err-take-in-Ok-Some-clause-err : goal.returns-in_err-take-in-Ok-Some-clause-err
 returns-in_err-take-in-Ok-Some-clause-err g c =
     let i = c.loop-number.invariant in
-    let old = c.loop-number.records in
+    let old = c.loop-number.blocks in
     let new = c.next.new.self in
     let x : Numbered = (c.in-Ok-Some.number, c.in-Ok-Some.record) in
     let answer : c.next.result ≡ Ok (Some x) = search rules in
@@ -69,7 +71,7 @@ returns-in_err-take-in-Ok-Some-clause-err g c =
 pub returns-in-Ok-None-clause-ok : goal.returns-in-Ok-None-clause-ok
 returns-in-Ok-None-clause-ok g c =
     let i = c.loop-number.invariant in
-    let old = c.loop-number.records in
+    let old = c.loop-number.blocks in
     let new = c.next.new.self in
     let answer : c.next.result ≡ Ok None = c.in-Ok-None.is ∙ ap Ok c.in-Ok-None.field-0-is in
     let given = subst (λ (a : Answer). GivesNext old (g.R.Source.left c.loop-number.reader) new (g.R.Source.left c.next.new.reader) a) answer (while-open old.ended i.open' c.next.ensures.record) in
@@ -84,7 +86,7 @@ returns-in-Ok-None-clause-ok g c =
 pub returns-in-Err-clause-err : goal.returns-in-Err-clause-err
 returns-in-Err-clause-err g c =
     let i = c.loop-number.invariant in
-    let old = c.loop-number.records in
+    let old = c.loop-number.blocks in
     let new = c.next.new.self in
     let answer : c.next.result ≡ Err c.in-Err.fault = search rules in
     let given = subst (λ (a : Answer). GivesNext old (g.R.Source.left c.loop-number.reader) new (g.R.Source.left c.next.new.reader) a) answer (while-open old.ended i.open' c.next.ensures.record) in
@@ -109,7 +111,7 @@ returns-in_err-take-in-Ok-Some-clause-fails_after g c =
 pub returns-in-Err-clause-fails_after : goal.returns-in-Err-clause-fails_after
 returns-in-Err-clause-fails_after g c =
     let i = c.loop-number.invariant in
-    let old = c.loop-number.records in
+    let old = c.loop-number.blocks in
     let new = c.next.new.self in
     let answer : c.next.result ≡ Err c.in-Err.fault = search rules in
     let fetched = fetches_on 0 old.number new.number old.number new.number [] old.held new.held _ _ _ i.fetched (while-open old.ended i.open' c.next.ensures.fetched) (omega arith) in
@@ -120,7 +122,7 @@ returns-in-Err-clause-fails_after g c =
 pub returns-in-Err-clause-never_ends : goal.returns-in-Err-clause-never_ends
 returns-in-Err-clause-never_ends g c =
     let i = c.loop-number.invariant in
-    let old = c.loop-number.records in
+    let old = c.loop-number.blocks in
     let new = c.next.new.self in
     let answer : c.next.result ≡ Err c.in-Err.fault = search rules in
     let given = subst (λ (a : Answer). GivesNext old (g.R.Source.left c.loop-number.reader) new (g.R.Source.left c.next.new.reader) a) answer (while-open old.ended i.open' c.next.ensures.record) in

@@ -17,8 +17,8 @@ returns-in-Some-clause-read c = λ limit told h.
 
 pub invariant_of-base : goal.invariant_of-base
 invariant_of-base c =
-    let r = c.requires in
-    let items = c.shrink_to_fit.ensures.items in
+    let r = c.requires.whole in
+    let items : c.shrink_to_fit.new.self.items ≡ reverse r.earlier = c.shrink_to_fit.ensures.items ∙ c.into_records-records.ensures r.earlier r.so_far.is_kept.records in
     let none : c.missing.result ≡ None = search rules in (
       subst (λ (rs : List Record). WasRead rs) (sym items) (record {
         ending = Done c.args.number;
@@ -27,7 +27,7 @@ invariant_of-base c =
         spelt = r.so_far.records;
         read = sym (whole-outcome c.args.gathering r.earlier r.done c.args.number r.so_far (sym (c.missing.ensures r.earlier r.so_far.is_kept) ∙ none));
       }),
-      subst (λ (rs : List Record). AreFlights rs c.in_ok-flights.flights.items) (sym (items ∙ r.so_far.is_kept.records))
+      subst (λ (rs : List Record). AreFlights rs c.in_ok-flights.flights.items) (sym items)
           (subst (λ (fs : List FlightNumber). AreFlights (reverse r.earlier) fs) (sym c.in_ok-flights.ensures) (flights-are c.args.gathering.kept.legs r.earlier r.so_far.is_kept.legs.flown)),
     )
 
@@ -38,5 +38,6 @@ pub returns-clause-read : goal.returns-clause-read
 returns-clause-read c = λ limit told h.
     let none : c.missing.result ≡ None = search rules in
     of-all limit told h.done c.args.number _ h.given
-    (ap (λ (rs : List Record). outcome_of rs c.args.gathering.notes.items) c.shrink_to_fit.ensures.items
+    (ap (λ (rs : List Record). outcome_of rs c.args.gathering.notes.items)
+    (c.shrink_to_fit.ensures.items ∙ c.into_records-records.ensures h.earlier h.so_far.is_kept.records)
     ∙ whole-outcome c.args.gathering h.earlier h.done c.args.number h.so_far (sym (c.missing.ensures h.earlier h.so_far.is_kept) ∙ none))

@@ -1,10 +1,11 @@
 -- A leg record stands where none before it has one of its dates.
-use Rattle.std.proofs.Common.{◌++◌, ◌∷◌, [], ℕ, refl, sym, ap, subst, ◌∙◌}
+use Rattle.std.proofs.Common.{ℕ, refl, sym, ap, subst, ◌∙◌}
 use Rattle.ssim_values.specs.Flight.{IsFlight}
 use Rattle.ssim_periods.specs.Calendar.{holds}
 use Rattle.ssim_records.specs.Leg.{LegFields, Name}
 use Rattle.ssim_records.specs.declared.record.Record.TheVariants.{Leg}
 use Rattle.ssim_schedule.specs.Dates.{have_common_date}
+use Rattle.ssim_schedule.specs.KeptRecords.{AddsRecord}
 use Rattle.ssim_schedule.specs.LegTable.{AddsLegAt, legs_at, uses_date}
 use Rattle.ssim_schedule.specs.ReadBack.{place_of}
 use Rattle.ssim_schedule.proofs.KeptLemmas.{kept_leg, leg-refused, stood-leg}
@@ -32,9 +33,10 @@ returns-clause-stood c = λ earlier is.
     (subst (λ (n : Name). IsFlight n.flight) c.name.ensures c.add.ensures.flight)
     (ap (λ (n : Name). have_common_date (holds p) (uses_date (legs_at old.legs (place_of n.flight)) n.sequence)) (sym c.name.ensures)
     ∙ sym c.in_ok-add.ensures.met ∙ c.if-branch.false)
-    (c.in_ok-push.ensures.items ∙ ap (λ (l : LegFields). old.records.items ++ Leg l ∷ [])
+    (subst (λ (l : LegFields). AddsRecord old.records c.push.new.self (Leg l))
     (c.with_serial-leg.ensures
     ∙ ap (λ (l : LegFields). record l { serial = 0 }) (c.with_blanks.ensures ∙ ap (λ (l : LegFields). record l { rate = 32; overflow = 32 }) c.with_last.ensures)
-    ∙ ap (λ (n : ℕ). kept_leg r n) c.last.ensures.value))
+    ∙ ap (λ (n : ℕ). kept_leg r n) c.last.ensures.value)
+    c.in_ok-push.ensures.kept)
     c.requires
     (subst (λ (n : Name). AddsLegAt old.legs legs (place_of n.flight) n.sequence n.variation p) c.name.ensures c.in_ok-add.ensures.ok)

@@ -1,7 +1,8 @@
 -- A trailer stands that ends the data set.
-use Rattle.std.proofs.Common.{rules, ◌++◌, ◌∷◌, [], ap, ◌∙◌}
+use Rattle.std.proofs.Common.{rules, subst}
 use Rattle.ssim_records.specs.Trailer.{TrailerFields}
 use Rattle.ssim_records.specs.declared.record.Record.TheVariants.{Trailer}
+use Rattle.ssim_schedule.specs.KeptRecords.{AddsRecord}
 use Rattle.ssim_schedule.proofs.KeptLemmas.{stood-trailer}
 use Rattle.ssim_schedule.proofs.kept.Kept.put_trailer.Goals as goal
 
@@ -9,4 +10,4 @@ pub returns-in_ok-push-in-End-clause-stood : goal.returns-in_ok-push-in-End-clau
 returns-in_ok-push-in-End-clause-stood c = λ earlier is.
     let pushed = c.in_ok-push-in-End.ensures in
     stood-trailer c.args.self.now c.push.new.self c.args.heading c.args.trailer.now earlier c.requires is
-    (pushed.records ∙ ap (λ (r : TrailerFields). c.args.self.now.records.items ++ Trailer r ∷ []) c.with_serials.ensures) pushed.place pushed.legs (search rules) (search rules)
+    (subst (λ (r : TrailerFields). AddsRecord c.args.self.now.records c.push.new.self.records (Trailer r)) c.with_serials.ensures pushed.records) pushed.place pushed.legs (search rules) (search rules)
