@@ -9,8 +9,8 @@ use Rattle.ssim_records.specs.declared.field.Field.{Field}
 use Rattle.ssim_records.specs.declared.record.Record.{Record}
 use Rattle.ssim_records.specs.Columns.{first_fault}
 use Rattle.ssim_records.specs.Blocks.{GivesOther}
-use Rattle.ssim_records.specs.Record.{Spells, fault_of, fault_by, column_fault, table_of}
-use Rattle.ssim_records.specs.Reading.{Reading, IsAhead, Answers, GivesNext, IsRefused, HasNumber, FailsAs, NeverEnds}
+use Rattle.ssim_records.specs.Record.{Spells, HasSpelt, fault_of, fault_by, column_fault, table_of}
+use Rattle.ssim_records.specs.Reading.{Reading, IsAhead, Answers, GivesNext, given, IsRefused, HasNumber, FailsAs, NeverEnds}
 
 -- ---- the faults of a block
 
@@ -77,6 +77,11 @@ pub gives_record : (old new : Reading) (l l' : Option (List ℕ)) (block : List 
 gives_record old new None l' block r same g p = tt
 gives_record old new (Some x) None block r same g p = g
 gives_record old new (Some x) (Some y) block r same g p = (g.0, λ blocks rest h. let t = g.1 blocks rest h in (block, t.0, (t.1, t.2), refl, p, rw same t.3))
+
+-- a record that was put into a place
+pub gives_placed : (old new : Reading) (l l' : Option (List ℕ)) (block : List ℕ) (into : Option Record) → new.limit ≡ old.limit → Gives old l new l' (Ok (Some block)) → HasSpelt into block → GivesNext old l new l' (given into (Ok new.number))
+gives_placed old new l l' block None same g p = absurd p
+gives_placed old new l l' block (Some r) same g p = gives_record old new l l' block r same g p
 
 refused : (old new : Reading) (l : List ℕ) (blocks : List (List ℕ)) (rest : List ℕ) (After : List (List ℕ) → Type 0) (e : RecordFault) → IsBlockFault new.number e → IsRefused old blocks new e → Answers old l blocks rest new After (Err e)
 refused old new l blocks rest After (Short m) h k = absurd h

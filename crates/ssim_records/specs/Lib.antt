@@ -13,3 +13,4 @@ pub mod Record
 pub mod Reading
 pub mod Worked
 pub mod LegPoints
+pub mod Heads

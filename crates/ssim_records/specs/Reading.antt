@@ -26,6 +26,16 @@ IsAhead r left blocks rest = Frames (beyond r.limit r.came left) (nat_lt 0 r.num
 abbrev pub Answer : Type 0
 Answer = Result (Option (ℕ × Record)) RecordFault
 
+-- what a place has, with a number
+abbrev pub with_number : ℕ → Option Record → Option (ℕ × Record)
+with_number number None = None
+with_number number (Some r) = Some (number, r)
+
+-- the answer of a call that puts the record into a place, and returns its number
+abbrev pub given : Option Record → Result ℕ RecordFault → Answer
+given into (Ok number) = Ok (with_number number into)
+given into (Err fault) = Err fault
+
 -- no block but fill is left, and the fault's number is that behind the last
 abbrev pub IsLast : Reading → List (List ℕ) → Reading → Type 0
 IsLast old blocks new = (others old.number blocks ≡ []) × (new.number ≡ old.number + length blocks)

@@ -23,6 +23,11 @@ Spells (Leg r) bytes = SpellsLeg r bytes
 Spells (Segment r) bytes = SpellsSegment r bytes
 Spells (Trailer r) bytes = SpellsTrailer r bytes
 
+-- the place has the record that the bytes spell
+abbrev pub HasSpelt : Option Record → List ℕ → Type 0
+HasSpelt None bytes = ⊥
+HasSpelt (Some r) bytes = Spells r bytes
+
 -- the record has a spelling: each of its values fits its columns
 abbrev pub IsRecord : Record → Type 0
 IsRecord (Header r) = IsHeader r

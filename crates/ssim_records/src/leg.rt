@@ -1,55 +1,19 @@
 //! Flight leg records, type 3.
 
-ghost use Rattle.std.specs.Prelude.{◌≡◌, ◌↔◌, IsTrue, ◌≤◌, ◌<◌, ◌∷◌, [], None, Ok, IfOk, IfErr, IfSome, Some};
-ghost use Rattle.ssim_values.specs.Day.{day_of};
-ghost use Rattle.ssim_values.specs.DayMask.{days_of};
-ghost use Rattle.ssim_records.specs.Numbers.{digits_of};
-ghost use Rattle.ssim_records.specs.Columns.{columns, end_from, first_fault, EachStands};
-ghost use Rattle.ssim_records.specs.Leg.{IsName, SpellsName, LegFields, IsLeg, IsEnd, SpellsLeg, leg_columns, leg_table, written_leg};
+ghost use Rattle.std.specs.Prelude.{◌≡◌, ◌↔◌, IsTrue, ◌≤◌, ◌<◌, ◌∷◌, [], Some};
+ghost use Rattle.ssim_records.specs.Columns.{columns};
+ghost use Rattle.ssim_records.specs.Leg.{IsLeg, IsEnd, SpellsLeg, leg_columns, written_leg};
+ghost use Rattle.ssim_records.specs.Heads.{IsLegHead};
 
-use crate::columns::{carried_at, days_at, digits_at, end_text, first_day_at, join, last_day_at};
-use crate::field::{
-    Field, Kind, all_carried, arrival_is_valid, day_of, days_of, departure_is_valid, end_from,
-    first_fault,
-};
+use crate::columns::{carried_at, end_text, join};
 use crate::leg_columns::{LegColumns, own_columns_at};
-use crate::leg_name::{LegName, name_at, read_name};
-use crate::number::{digits_of, four_digits, six_digits, two_digits};
+use crate::leg_head::LegHead;
+use crate::leg_name::LegName;
+use crate::number::{four_digits, six_digits, two_digits};
 use crate::segment::SegmentRecord;
 use crate::segment_tail::SegmentTail;
 use ssim_values::{Airline, Day, DayMask, Flight, Period};
 use std::marker::Model;
-
-const TABLE: [Field; 22] = [
-    field!(2 2 Suffix),
-    field!(3 5 AirlineCode),
-    field!(6 9 Number),
-    field!(10 11 Number),
-    field!(12 13 Sequence),
-    field!(14 14 Carried),
-    field!(15 28 Dates),
-    field!(29 35 Days),
-    field!(36 36 Carried),
-    field!(37 39 StationCode),
-    field!(40 43 PassengerTime),
-    field!(44 47 Time),
-    field!(48 52 UtcVariation),
-    field!(53 54 Carried),
-    field!(55 57 StationCode),
-    field!(58 61 Time),
-    field!(62 65 PassengerTime),
-    field!(66 70 UtcVariation),
-    field!(71 127 Carried),
-    field!(128 128 Carried),
-    field!(129 194 Carried),
-    field!(195 200 Digits),
-];
-
-fn leg_fault(bytes: &[u8; 200]) -> Option<usize>
-    ensures { result ≡ first_fault bytes.now leg_table }
-{
-    first_fault(&TABLE, bytes)
-}
 
 /// A flight leg as its record has it: its name, its period, and its own columns.
 #[derive(Clone, Copy, Debug)]
@@ -84,92 +48,23 @@ impl Model for LegRecord {
     ghost inverse = { λ v. record { name = v.name; first = v.first; last = v.last; days = v.days; rate = v.rate; columns = v.columns; overflow = v.overflow; serial = v.serial } };
 }
 
-fn leg_of(bytes: &[u8; 200]) -> LegRecord
+/// The flight leg that a record spells, of the columns that were parsed. The other columns are copied.
+pub(crate) fn leg_with(bytes: &[u8; 200], head: &LegHead) -> LegRecord
     requires kind { columns 1 1 bytes.now ≡ 51 ∷ [] }
-    requires stands { EachStands bytes.now leg_table }
+    requires head { IsLegHead head.now bytes.now }
     ensures { SpellsLeg result bytes.now }
 {
-    let first = first_day_at(bytes);
-    leg_with(
-        bytes,
-        name_at(bytes),
-        first,
-        last_day_at(bytes, first),
-        days_at(bytes),
-        digits_at(bytes, 195, 200),
-    )
-}
-
-// The flight leg that a record spells, each field read once, or none; then the table names the invalid field.
-fn leg_in(bytes: &[u8; 200]) -> Option<LegRecord>
-    requires { columns 1 1 bytes.now ≡ 51 ∷ [] }
-    ensures { IfSome result (λ r. SpellsLeg r bytes.now) }
-{
-    if !all_carried(bytes) {
-        return None;
-    }
-    if !departure_is_valid(bytes) {
-        return None;
-    }
-    if !arrival_is_valid(bytes) {
-        return None;
-    }
-    let name = read_name(bytes)?;
-    let first = day_of(&bytes[14..21])?;
-    let last = end_from(first, &bytes[21..28])?;
-    let days = days_of(&bytes[28..35])?;
-    let serial = digits_of(&bytes[194..200])?;
-    Some(leg_with(bytes, name, first, last, days, serial))
-}
-
-// The flight leg with these parts, which the record spells.
-fn leg_with(
-    bytes: &[u8; 200],
-    name: LegName,
-    first: Day,
-    last: Option<Day>,
-    days: DayMask,
-    serial: u32,
-) -> LegRecord
-    requires kind { columns 1 1 bytes.now ≡ 51 ∷ [] }
-    requires stands { EachStands bytes.now leg_table }
-    requires name { SpellsName name bytes.now }
-    requires is_name { IsName name }
-    requires first { day_of (columns 15 21 bytes.now) ≡ Some first }
-    requires last { end_from (Some first) (columns 22 28 bytes.now) ≡ Some last }
-    requires is_end { IsEnd first last }
-    requires days { days_of (columns 29 35 bytes.now) ≡ Some days }
-    requires serial { digits_of (columns 195 200 bytes.now) ≡ Some serial }
-    requires small { serial < 1000000 }
-    ensures { SpellsLeg result bytes.now }
-{
-    let _ = first.number();
-    let _ = days.days();
+    let _ = head.first.number();
+    let _ = head.days.days();
     LegRecord {
-        name,
-        first,
-        last,
-        days,
+        name: head.name,
+        first: head.first,
+        last: head.last,
+        days: head.days,
         rate: carried_at(bytes, 36),
         columns: own_columns_at(bytes),
         overflow: carried_at(bytes, 128),
-        serial,
-    }
-}
-
-/// The flight leg that a record spells, or the first column of the first invalid field.
-pub(crate) fn read_leg(bytes: &[u8; 200]) -> Result<LegRecord, usize>
-    requires { columns 1 1 bytes.now ≡ 51 ∷ [] }
-    ensures ok { IfOk result (λ r. SpellsLeg r bytes.now) }
-    ensures only { (r : LegFields) → SpellsLeg r bytes.now → result ≡ Ok r }
-    ensures err { IfErr result (λ column. first_fault bytes.now leg_table ≡ Some column) }
-{
-    if let Some(leg) = leg_in(bytes) {
-        return Ok(leg);
-    }
-    match leg_fault(bytes) {
-        Some(column) => Err(column),
-        None => Ok(leg_of(bytes)),
+        serial: head.serial,
     }
 }
 

@@ -1,15 +1,17 @@
 //! A record of any type.
 
-ghost use Rattle.std.specs.Prelude.{◌≡◌, ◌<◌, ◌↔◌, ◌∷◌, ℕ, [], Ok, Some, IfOk, IfErr, IfNone, IfSome, IsTrue};
+ghost use Rattle.std.specs.Prelude.{◌≡◌, ◌<◌, ◌↔◌, ◌∷◌, ℕ, [], Ok, Some, IfOk, IfErr, OnOk, IsTrue, false};
 ghost use Rattle.ssim_records.specs.Columns.{columns};
 ghost use Rattle.ssim_records.specs.declared.record.Record.{Record};
-ghost use Rattle.ssim_records.specs.Record.{Spells, IsRecord, written, fault_of, with_serial, serial_of};
+ghost use Rattle.ssim_records.specs.Record.{Spells, HasSpelt, IsRecord, written, fault_of, with_serial, serial_of};
 
 use crate::carrier::{Carrier, read_carrier};
 use crate::fault::RecordFault;
 use crate::header::{Header, read_header};
-use crate::leg::{LegRecord, read_leg};
-use crate::segment::{SegmentRecord, read_segment};
+use crate::leg::{LegRecord, leg_with};
+use crate::leg_head::read_leg_head;
+use crate::segment::{SegmentRecord, segment_with};
+use crate::segment_head::read_segment_head;
 use crate::trailer::{Trailer, read_trailer};
 
 /// A record of chapter 7, by its type in column 1.
@@ -33,32 +35,43 @@ fn kind_of(bytes: &[u8; 200]) -> u8
     bytes[0]
 }
 
-// The record of its type, or the first column of the first invalid field; none if there is no such type.
-fn record_of(bytes: &[u8; 200]) -> Result<Option<Record>, usize>
-    ensures ok { IfOk result (λ o. IfSome o (λ r. Spells r bytes.now)) }
-    ensures none { IfOk result (λ o. IfNone o ((number : ℕ) → fault_of number bytes.now ≡ Some (RecordFault.BadType number))) }
+// Puts the record of its type into a place, or returns the first column of the first invalid field. Says whether there is
+// such a type.
+fn put_record(bytes: &[u8; 200], into: &mut Option<Record>) -> Result<bool, usize>
+    ensures ok { IfOk result (λ known. IsTrue known → HasSpelt into.new bytes.now) }
+    ensures none { IfOk result (λ known. known ≡ false → (number : ℕ) → fault_of number bytes.now ≡ Some (RecordFault.BadType number)) }
     ensures err { IfErr result (λ column. (number : ℕ) → fault_of number bytes.now ≡ Some (RecordFault.BadColumn number column)) }
 {
-    let record = match kind_of(bytes) {
-        b'1' => Record::Header(read_header(bytes)?),
-        b'2' => Record::Carrier(read_carrier(bytes)?),
-        b'3' => Record::Leg(read_leg(bytes)?),
-        b'4' => Record::Segment(read_segment(bytes)?),
-        b'5' => Record::Trailer(read_trailer(bytes)?),
-        _ => return Ok(None),
-    };
-    Ok(Some(record))
+    match kind_of(bytes) {
+        b'1' => *into = Some(Record::Header(read_header(bytes)?)),
+        b'2' => *into = Some(Record::Carrier(read_carrier(bytes)?)),
+        b'3' => {
+            let head = read_leg_head(bytes)?;
+            *into = Some(Record::Leg(leg_with(bytes, &head)));
+        }
+        b'4' => {
+            let head = read_segment_head(bytes)?;
+            *into = Some(Record::Segment(segment_with(bytes, &head)));
+        }
+        b'5' => *into = Some(Record::Trailer(read_trailer(bytes)?)),
+        _ => return Ok(false),
+    }
+    Ok(true)
 }
 
-/// The record that 200 bytes spell, or the fault at this record number.
-pub(crate) fn read_numbered(bytes: &[u8; 200], number: u64) -> Result<Record, RecordFault>
-    ensures ok { IfOk result (λ r. Spells r bytes.now) }
-    ensures only { (r : Record) → Spells r bytes.now → result ≡ Ok r }
+/// Puts the record that 200 bytes spell into a place, or returns the fault at this record number. After a fault the place
+/// may have any record or none.
+pub(crate) fn read_into(
+    bytes: &[u8; 200],
+    number: u64,
+    into: &mut Option<Record>,
+) -> Result<(), RecordFault>
+    ensures ok { OnOk result (HasSpelt into.new bytes.now) }
     ensures err { IfErr result (λ e. fault_of number bytes.now ≡ Some e) }
 {
-    match record_of(bytes) {
-        Ok(Some(record)) => Ok(record),
-        Ok(None) => Err(RecordFault::BadType { record: number }),
+    match put_record(bytes, into) {
+        Ok(true) => Ok(()),
+        Ok(false) => Err(RecordFault::BadType { record: number }),
         Err(column) => Err(RecordFault::BadColumn {
             record: number,
             column,
@@ -72,7 +85,12 @@ pub fn read_record(bytes: &[u8; 200]) -> Result<Record, RecordFault>
     ensures only { (r : Record) → Spells r bytes.now → result ≡ Ok r }
     ensures err { IfErr result (λ e. fault_of 0 bytes.now ≡ Some e) }
 {
-    read_numbered(bytes, 0)
+    let mut record = None;
+    read_into(bytes, 0, &mut record)?;
+    match record {
+        Some(record) => Ok(record),
+        None => unreachable!(),
+    }
 }
 
 /// The one written spelling of a record. It is read back as this record.

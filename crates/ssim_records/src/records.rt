@@ -1,13 +1,13 @@
 //! The records of a stream, one after another.
 
-ghost use Rattle.std.specs.Prelude.{◌≡◌, ◌≤◌, ◌<◌, ◌+◌, ◌*◌, [], IfNone, IfSome};
+ghost use Rattle.std.specs.Prelude.{◌≡◌, ◌≤◌, ◌<◌, ◌+◌, ◌*◌, [], IfNone, IfSome, IfOk};
 ghost use Rattle.ssim_records.specs.Blocks.{CountsOn};
-ghost use Rattle.ssim_records.specs.Reading.{Counts, FailsAs, FetchesNext, GivesNext, HasNumber, HoldsFew, NeverEnds, last_answer, ending_of};
+ghost use Rattle.ssim_records.specs.Reading.{Counts, FailsAs, FetchesNext, GivesNext, HasNumber, HoldsFew, NeverEnds, given, last_answer, ending_of};
 
 use crate::blocks::{Stop, next_other};
 use crate::device::Source;
 use crate::fault::RecordFault;
-use crate::record::{Record, read_numbered};
+use crate::record::{Record, read_into};
 use crate::window::Window;
 use std::marker::Model;
 
@@ -70,16 +70,22 @@ impl Records {
         self.number
     }
 
-    fn answer<R: Source>(&mut self, reader: &mut R) -> Result<Option<(u64, Record)>, RecordFault>
+    // What `next_into` returns before the end.
+    fn answer<R: Source>(
+        &mut self,
+        reader: &mut R,
+        into: &mut Option<Record>,
+    ) -> Result<u64, RecordFault>
         ensures limit { self.new.limit ≡ self.old.limit }
-        ensures record { GivesNext self.old (R.left reader.old) self.new (R.left reader.new) result }
-        ensures number { HasNumber self.new.number result }
-        ensures counts { Counts self.old self.new result }
-        ensures never_ends { NeverEnds self.new result }
+        ensures record { GivesNext self.old (R.left reader.old) self.new (R.left reader.new) (given into.new result) }
+        ensures number { HasNumber self.new.number (given into.new result) }
+        ensures counts { Counts self.old self.new (given into.new result) }
+        ensures never_ends { NeverEnds self.new (given into.new result) }
         ensures fetched { FetchesNext self.old (R.left reader.old) self.new (R.left reader.new) }
-        ensures few_left { HoldsFew self.new.held result }
-        ensures fault { FailsAs (R.failures reader.old) (R.failures reader.new) result }
+        ensures few_left { HoldsFew self.new.held (given into.new result) }
+        ensures fault { FailsAs (R.failures reader.old) (R.failures reader.new) (given into.new result) }
         ensures count { CountsOn (R.left reader.old) (R.left reader.new) (R.came reader.old) (R.came reader.new) self.old.came self.new.came }
+        ensures returned { IfOk result (λ number. number ≡ self.new.number) }
     {
         let mut block = [0; 200];
         match next_other(
@@ -90,9 +96,12 @@ impl Records {
             reader,
             &mut block,
         ) {
-            Ok(false) => Ok(None),
-            Ok(true) => match read_numbered(&block, self.number) {
-                Ok(record) => Ok(Some((self.number, record))),
+            Ok(false) => {
+                *into = None;
+                Ok(self.number)
+            }
+            Ok(true) => match read_into(&block, self.number, into) {
+                Ok(()) => Ok(self.number),
                 Err(fault) => Err(fault),
             },
             Err(Stop::Short) => Err(RecordFault::Short {
@@ -105,6 +114,53 @@ impl Records {
                 record: self.number + 1,
             }),
         }
+    }
+
+    /// Puts the next record that is not fill into a place, and returns its number. After the last record the place is
+    /// `None`, and the number is that of the last block. After the end, and after a refusal, each call returns the same.
+    /// After a refusal the place may have any record or none.
+    pub fn next_into<R: Source>(
+        &mut self,
+        reader: &mut R,
+        into: &mut Option<Record>,
+    ) -> Result<u64, RecordFault>
+        // After an end the same result is returned, and nothing else happens.
+        ensures again { IfSome self.old.ended (λ e. (given into.new result ≡ last_answer e) × (self.new ≡ self.old) × (reader.new ≡ reader.old)) }
+        ensures ended { self.new.ended ≡ ending_of (given into.new result) }
+        ensures limit { self.new.limit ≡ self.old.limit }
+
+        // If the contract knows the reader's bytes, the result is the next record of the bytes ahead.
+        ensures record { IfNone self.old.ended (GivesNext self.old (R.left reader.old) self.new (R.left reader.new) (given into.new result)) }
+        ensures number { IfNone self.old.ended (HasNumber self.new.number (given into.new result)) }
+        ensures counts { IfNone self.old.ended (Counts self.old self.new (given into.new result)) }
+
+        // The records that were counted, and then the bytes that are held, are those that came: at 13 these are too few for a record.
+        ensures fetched { IfNone self.old.ended (FetchesNext self.old (R.left reader.old) self.new (R.left reader.new)) }
+        ensures few_left { IfNone self.old.ended (HoldsFew self.new.held (given into.new result)) }
+
+        // 13 comes if the reader failed, 14 after the limit, and the bytes that came are those of the reader.
+        ensures fault { IfNone self.old.ended (FailsAs (R.failures reader.old) (R.failures reader.new) (given into.new result)) }
+        ensures never_ends { IfNone self.old.ended (NeverEnds self.new (given into.new result)) }
+        ensures count { IfNone self.old.ended (CountsOn (R.left reader.old) (R.left reader.new) (R.came reader.old) (R.came reader.new) self.old.came self.new.came) }
+        ensures returned { IfOk result (λ number. number ≡ self.new.number) }
+    {
+        match self.ended {
+            Some(Ending::End) => {
+                *into = None;
+                return Ok(self.number);
+            }
+            Some(Ending::Refused(fault)) => return Err(fault),
+            None => {}
+        }
+        let answer = self.answer(reader, into);
+        self.ended = match &answer {
+            Ok(_) => match into {
+                Some(_) => None,
+                None => Some(Ending::End),
+            },
+            Err(fault) => Some(Ending::Refused(*fault)),
+        };
+        answer
     }
 
     /// The next record that is not fill, and its number. After the end, and after a refusal, each call returns the same.
@@ -128,17 +184,11 @@ impl Records {
         ensures never_ends { IfNone self.old.ended (NeverEnds self.new result) }
         ensures count { IfNone self.old.ended (CountsOn (R.left reader.old) (R.left reader.new) (R.came reader.old) (R.came reader.new) self.old.came self.new.came) }
     {
-        match self.ended {
-            Some(Ending::End) => return Ok(None),
-            Some(Ending::Refused(fault)) => return Err(fault),
-            None => {}
+        let mut record = None;
+        let number = self.next_into(reader, &mut record)?;
+        match record {
+            Some(record) => Ok(Some((number, record))),
+            None => Ok(None),
         }
-        let answer = self.answer(reader);
-        self.ended = match &answer {
-            Ok(None) => Some(Ending::End),
-            Ok(Some(_)) => None,
-            Err(fault) => Some(Ending::Refused(*fault)),
-        };
-        answer
     }
 }

@@ -1,37 +1,17 @@
 //! Segment data records, type 4.
 
-ghost use Rattle.std.specs.Prelude.{◌≡◌, ◌↔◌, ◌<◌, ◌∷◌, [], None, Ok, IfOk, IfErr, IfSome, Some, IsTrue};
-ghost use Rattle.ssim_records.specs.Numbers.{digits_of};
-ghost use Rattle.ssim_records.specs.Columns.{columns, first_fault, is_carried, EachStands};
-ghost use Rattle.ssim_records.specs.Leg.{IsName, SpellsName};
-ghost use Rattle.ssim_records.specs.Segment.{SegmentFields, IsSegment, SpellsSegment, segment_table, written_segment};
+ghost use Rattle.std.specs.Prelude.{◌≡◌, ◌↔◌, ◌<◌, ◌∷◌, [], IsTrue};
+ghost use Rattle.ssim_records.specs.Columns.{columns, is_carried};
+ghost use Rattle.ssim_records.specs.Segment.{IsSegment, SpellsSegment, written_segment};
+ghost use Rattle.ssim_records.specs.Heads.{IsSegmentHead};
 
-use crate::columns::{carried_at, digits_at, join};
-use crate::field::{Field, Kind, all_carried, first_fault};
-use crate::leg_name::{LegName, name_at, read_name};
-use crate::number::{digits_of, four_digits, six_digits, two_digits};
+use crate::columns::{carried_at, join};
+use crate::leg_name::LegName;
+use crate::number::{four_digits, six_digits, two_digits};
+use crate::segment_head::SegmentHead;
 use crate::segment_tail::{SegmentTail, tail_at};
 use ssim_values::Airline;
 use std::marker::Model;
-
-const TABLE: [Field; 10] = [
-    field!(2 2 Suffix),
-    field!(3 5 AirlineCode),
-    field!(6 9 Number),
-    field!(10 11 Number),
-    field!(12 13 Sequence),
-    field!(14 14 Carried),
-    field!(15 27 Carried),
-    field!(28 28 Carried),
-    field!(29 194 Carried),
-    field!(195 200 Digits),
-];
-
-fn segment_fault(bytes: &[u8; 200]) -> Option<usize>
-    ensures { result ≡ first_fault bytes.now segment_table }
-{
-    first_fault(&TABLE, bytes)
-}
 
 /// Data of a segment that begins with a leg, as its record has them: the name of the leg, and the tail.
 #[derive(Clone, Copy, Debug, PartialEq, Eq)]
@@ -60,59 +40,18 @@ impl Model for SegmentRecord {
     ghost inverse = { λ v. record { name = v.name; service = v.service; tail = v.tail; overflow = v.overflow; serial = v.serial } };
 }
 
-fn segment_of(bytes: &[u8; 200]) -> SegmentRecord
+/// The segment data that a record spells, of the columns that were parsed. The other columns are copied.
+pub(crate) fn segment_with(bytes: &[u8; 200], head: &SegmentHead) -> SegmentRecord
     requires kind { columns 1 1 bytes.now ≡ 52 ∷ [] }
-    requires stands { EachStands bytes.now segment_table }
-    ensures { SpellsSegment result bytes.now }
-{
-    segment_with(bytes, name_at(bytes), digits_at(bytes, 195, 200))
-}
-
-// The segment data that a record spells, each field read once, or none; then the table names the invalid field.
-fn segment_in(bytes: &[u8; 200]) -> Option<SegmentRecord>
-    requires { columns 1 1 bytes.now ≡ 52 ∷ [] }
-    ensures { IfSome result (λ r. SpellsSegment r bytes.now) }
-{
-    if !all_carried(bytes) {
-        return None;
-    }
-    let name = read_name(bytes)?;
-    let serial = digits_of(&bytes[194..200])?;
-    Some(segment_with(bytes, name, serial))
-}
-
-// The segment data with these parts, which the record spells.
-fn segment_with(bytes: &[u8; 200], name: LegName, serial: u32) -> SegmentRecord
-    requires kind { columns 1 1 bytes.now ≡ 52 ∷ [] }
-    requires stands { EachStands bytes.now segment_table }
-    requires name { SpellsName name bytes.now }
-    requires is_name { IsName name }
-    requires serial { digits_of (columns 195 200 bytes.now) ≡ Some serial }
-    requires small { serial < 1000000 }
+    requires head { IsSegmentHead head.now bytes.now }
     ensures { SpellsSegment result bytes.now }
 {
     SegmentRecord {
-        name,
+        name: head.name,
         service: carried_at(bytes, 14),
         tail: tail_at(bytes),
         overflow: carried_at(bytes, 28),
-        serial,
-    }
-}
-
-/// The segment data that a record spells, or the first column of the first invalid field.
-pub(crate) fn read_segment(bytes: &[u8; 200]) -> Result<SegmentRecord, usize>
-    requires { columns 1 1 bytes.now ≡ 52 ∷ [] }
-    ensures ok { IfOk result (λ r. SpellsSegment r bytes.now) }
-    ensures only { (r : SegmentFields) → SpellsSegment r bytes.now → result ≡ Ok r }
-    ensures err { IfErr result (λ column. first_fault bytes.now segment_table ≡ Some column) }
-{
-    if let Some(segment) = segment_in(bytes) {
-        return Ok(segment);
-    }
-    match segment_fault(bytes) {
-        Some(column) => Err(column),
-        None => Ok(segment_of(bytes)),
+        serial: head.serial,
     }
 }
 

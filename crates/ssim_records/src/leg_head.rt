@@ -1,0 +1,117 @@
+//! The columns of a flight leg record that are parsed: its name, its dates and its serial.
+
+ghost use Rattle.std.specs.Prelude.{◌≡◌, Some, IfOk, IfErr, IfSome};
+ghost use Rattle.ssim_records.specs.Columns.{first_fault, EachStands};
+ghost use Rattle.ssim_records.specs.Leg.{leg_table};
+ghost use Rattle.ssim_records.specs.Heads.{IsLegHead};
+
+use crate::columns::{days_at, digits_at, first_day_at, last_day_at};
+use crate::field::{
+    Field, Kind, all_carried, arrival_is_valid, day_of, days_of, departure_is_valid, end_from,
+    first_fault,
+};
+use crate::leg_name::{LegName, name_at, read_name};
+use crate::number::digits_of;
+use ssim_values::{Day, DayMask};
+
+const TABLE: [Field; 22] = [
+    field!(2 2 Suffix),
+    field!(3 5 AirlineCode),
+    field!(6 9 Number),
+    field!(10 11 Number),
+    field!(12 13 Sequence),
+    field!(14 14 Carried),
+    field!(15 28 Dates),
+    field!(29 35 Days),
+    field!(36 36 Carried),
+    field!(37 39 StationCode),
+    field!(40 43 PassengerTime),
+    field!(44 47 Time),
+    field!(48 52 UtcVariation),
+    field!(53 54 Carried),
+    field!(55 57 StationCode),
+    field!(58 61 Time),
+    field!(62 65 PassengerTime),
+    field!(66 70 UtcVariation),
+    field!(71 127 Carried),
+    field!(128 128 Carried),
+    field!(129 194 Carried),
+    field!(195 200 Digits),
+];
+
+fn leg_fault(bytes: &[u8; 200]) -> Option<usize>
+    ensures { result ≡ first_fault bytes.now leg_table }
+{
+    first_fault(&TABLE, bytes)
+}
+
+/// The columns of a flight leg record that are parsed. The others are copied.
+#[derive(Clone, Copy, Debug)]
+pub(crate) struct LegHead {
+    /// Columns 2 to 13.
+    pub(crate) name: LegName,
+    /// Columns 15 to 21.
+    pub(crate) first: Day,
+    /// Columns 22 to 28.
+    pub(crate) last: Option<Day>,
+    /// Columns 29 to 35.
+    pub(crate) days: DayMask,
+    /// Columns 195 to 200.
+    pub(crate) serial: u32,
+}
+
+fn head_of(bytes: &[u8; 200]) -> LegHead
+    requires { EachStands bytes.now leg_table }
+    ensures { IsLegHead result bytes.now }
+{
+    let first = first_day_at(bytes);
+    LegHead {
+        name: name_at(bytes),
+        first,
+        last: last_day_at(bytes, first),
+        days: days_at(bytes),
+        serial: digits_at(bytes, 195, 200),
+    }
+}
+
+// The head of a flight leg all of whose fields are valid, each field read once, or none; then the
+// table names the invalid field.
+fn head_in(bytes: &[u8; 200]) -> Option<LegHead>
+    ensures { IfSome result (λ head. IsLegHead head bytes.now) }
+{
+    if !all_carried(bytes) {
+        return None;
+    }
+    if !departure_is_valid(bytes) {
+        return None;
+    }
+    if !arrival_is_valid(bytes) {
+        return None;
+    }
+    let name = read_name(bytes)?;
+    let first = day_of(&bytes[14..21])?;
+    let last = end_from(first, &bytes[21..28])?;
+    let days = days_of(&bytes[28..35])?;
+    let serial = digits_of(&bytes[194..200])?;
+    Some(LegHead {
+        name,
+        first,
+        last,
+        days,
+        serial,
+    })
+}
+
+/// The head of a flight leg all of whose fields are valid, or the first column of the first invalid field.
+pub(crate) fn read_leg_head(bytes: &[u8; 200]) -> Result<LegHead, usize>
+    ensures ok { IfOk result (λ head. IsLegHead head bytes.now) }
+    ensures err { IfErr result (λ column. first_fault bytes.now leg_table ≡ Some column) }
+{
+    if let Some(head) = head_in(bytes) {
+        return Ok(head);
+    }
+    match leg_fault(bytes) {
+        Some(column) => Err(column),
+        None => Ok(head_of(bytes)),
+    }
+}

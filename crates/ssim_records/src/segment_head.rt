@@ -1,0 +1,76 @@
+//! The columns of a segment data record that are parsed: its name and its serial.
+
+ghost use Rattle.std.specs.Prelude.{◌≡◌, Some, IfOk, IfErr, IfSome};
+ghost use Rattle.ssim_records.specs.Columns.{first_fault, EachStands};
+ghost use Rattle.ssim_records.specs.Segment.{segment_table};
+ghost use Rattle.ssim_records.specs.Heads.{IsSegmentHead};
+
+use crate::columns::digits_at;
+use crate::field::{Field, Kind, all_carried, first_fault};
+use crate::leg_name::{LegName, name_at, read_name};
+use crate::number::digits_of;
+
+const TABLE: [Field; 10] = [
+    field!(2 2 Suffix),
+    field!(3 5 AirlineCode),
+    field!(6 9 Number),
+    field!(10 11 Number),
+    field!(12 13 Sequence),
+    field!(14 14 Carried),
+    field!(15 27 Carried),
+    field!(28 28 Carried),
+    field!(29 194 Carried),
+    field!(195 200 Digits),
+];
+
+fn segment_fault(bytes: &[u8; 200]) -> Option<usize>
+    ensures { result ≡ first_fault bytes.now segment_table }
+{
+    first_fault(&TABLE, bytes)
+}
+
+/// The columns of a segment data record that are parsed. The others are copied.
+#[derive(Clone, Copy, Debug)]
+pub(crate) struct SegmentHead {
+    /// Columns 2 to 13.
+    pub(crate) name: LegName,
+    /// Columns 195 to 200.
+    pub(crate) serial: u32,
+}
+
+fn head_of(bytes: &[u8; 200]) -> SegmentHead
+    requires { EachStands bytes.now segment_table }
+    ensures { IsSegmentHead result bytes.now }
+{
+    SegmentHead {
+        name: name_at(bytes),
+        serial: digits_at(bytes, 195, 200),
+    }
+}
+
+// The head of segment data all of whose fields are valid, each field read once, or none; then the
+// table names the invalid field.
+fn head_in(bytes: &[u8; 200]) -> Option<SegmentHead>
+    ensures { IfSome result (λ head. IsSegmentHead head bytes.now) }
+{
+    if !all_carried(bytes) {
+        return None;
+    }
+    let name = read_name(bytes)?;
+    let serial = digits_of(&bytes[194..200])?;
+    Some(SegmentHead { name, serial })
+}
+
+/// The head of segment data all of whose fields are valid, or the first column of the first invalid field.
+pub(crate) fn read_segment_head(bytes: &[u8; 200]) -> Result<SegmentHead, usize>
+    ensures ok { IfOk result (λ head. IsSegmentHead head bytes.now) }
+    ensures err { IfErr result (λ column. first_fault bytes.now segment_table ≡ Some column) }
+{
+    if let Some(head) = head_in(bytes) {
+        return Ok(head);
+    }
+    match segment_fault(bytes) {
+        Some(column) => Err(column),
+        None => Ok(head_of(bytes)),
+    }
+}
