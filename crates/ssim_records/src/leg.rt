@@ -200,6 +200,18 @@ impl LegRecord {
         leg
     }
 
+    /// The last day becomes this one, frequency rate and overflow become blanks, and the serial becomes 0.
+    pub fn close(&mut self, last: Day)
+        requires { self.old.first ≤ last }
+        ensures { self.new ≡ record self.old { last = Some last; rate = 32; overflow = 32; serial = 0 } }
+    {
+        let _ = last.number();
+        self.last = Some(last);
+        self.rate = b' ';
+        self.overflow = b' ';
+        self.serial = 0;
+    }
+
     /// A segment record of this leg: its name, its service type, this tail, a blank for overflow, and the serial 0.
     pub fn segment(&self, tail: SegmentTail) -> SegmentRecord
         ensures name { result.name ≡ self.now.name }

@@ -134,6 +134,14 @@ impl SegmentRecord {
         segment
     }
 
+    /// The overflow becomes a blank, and the serial becomes 0.
+    pub fn close(&mut self)
+        ensures { self.new ≡ record self.old { overflow = 32; serial = 0 } }
+    {
+        self.overflow = b' ';
+        self.serial = 0;
+    }
+
     /// Whether two segments are the same.
     pub(crate) fn same(&self, other: &SegmentRecord) -> bool
         ensures { IsTrue result ↔ (self.now ≡ other.now) }
