@@ -10,7 +10,7 @@ use Rattle.ssim_records.specs.declared.record.Record.{Record}
 use Rattle.ssim_records.specs.declared.record.Record.TheVariants.{Header, Carrier, Leg, Segment, Trailer}
 use Rattle.ssim_schedule.specs.Base.{airline_of, carrier_end, is_trailer, is_leg_named, is_overflow, is_rate, refusal_at, kept}
 use Rattle.ssim_schedule.specs.BaseSeen.{is_leg_of}
-use Rattle.ssim_schedule.specs.KeptRecords.{AreKept}
+use Rattle.ssim_schedule.specs.KeptRecords.{AddsRecord, AreKept}
 use Rattle.ssim_schedule.specs.LegTable.{has_legs, legs_at, names_leg, uses_date}
 use Rattle.ssim_schedule.specs.ReadBack.{place_of}
 use Rattle.ssim_schedule.specs.Timetable.{same_flight, period_of}
@@ -18,6 +18,7 @@ use Rattle.ssim_schedule.specs.declared.kept.Heading.{Heading}
 use Rattle.ssim_schedule.specs.declared.kept.Kept.{Kept}
 use Rattle.ssim_schedule.specs.declared.kept.Place.{Place}
 use Rattle.ssim_schedule.specs.declared.kept.Place.TheVariants as place
+use Rattle.ssim_schedule.specs.declared.kept_records.KeptRecords.{KeptRecords}
 use Rattle.ssim_schedule.specs.declared.leg_table.LegTable.{LegTable}
 use Rattle.ssim_schedule.specs.declared.fault.BaseFault.{BaseFault}
 use Rattle.ssim_schedule.specs.declared.fault.BaseFault.TheVariants as fault
@@ -64,6 +65,12 @@ pub record IsKept (k : Kept) (earlier : List Record) : Type 0 where
 pub record Stood (new : Kept) (earlier : List Record) (r : Record) : Type 0 where
   pub stands : refusal_at earlier r ≡ None
   pub is_kept : IsKept new (kept earlier r ∷ earlier)
+
+-- A record is accepted, and closed. It stands once its closed form is with the records.
+abbrev pub Accepts : Kept → Kept → Record → Record → Type 0
+Accepts old new one closed =
+    (earlier : List Record) (records : KeptRecords) → IsKept old earlier → AddsRecord old.records records closed
+    → Stood (record { records = records; place = new.place; legs = new.legs }) earlier one
 
 -- the refusal is that of the record, or the want of memory
 abbrev pub IsRefused : ℕ → List Record → Record → BaseFault → Type 0

@@ -41,18 +41,18 @@ impl Gathering {
         }
     }
 
-    /// Accepts one more record, with its number, or refuses it.
-    pub(crate) fn take(&mut self, number: u64, one: &Record) -> Result<(), BaseFault>
-        ensures stood { OnOk result ((earlier : List Record) → IsKept self.old.kept earlier → Stood self.new.kept earlier one.now) }
+    /// Accepts one more record, with its number, or refuses it. It may be changed.
+    pub(crate) fn take(&mut self, number: u64, one: &mut Record) -> Result<(), BaseFault>
+        ensures stood { OnOk result ((earlier : List Record) → IsKept self.old.kept earlier → Stood self.new.kept earlier one.old) }
         ensures keeps { OnOk result (keeps self.new.kept.records ≡ keeps self.old.kept.records) }
-        ensures noted { OnOk result (self.new.notes.items ≡ self.old.notes.items ++ notes_at number self.old.previous one.now) }
-        ensures previous { OnOk result (self.new.previous ≡ serial_of one.now) }
-        ensures err { IfErr result (λ e. (earlier : List Record) → IsKept self.old.kept earlier → IsRefused number earlier one.now e) }
-        ensures is_record { OnOk result (IsRecord one.now) }
+        ensures noted { OnOk result (self.new.notes.items ≡ self.old.notes.items ++ notes_at number self.old.previous one.old) }
+        ensures previous { OnOk result (self.new.previous ≡ serial_of one.old) }
+        ensures err { IfErr result (λ e. (earlier : List Record) → IsKept self.old.kept earlier → IsRefused number earlier one.old e) }
+        ensures is_record { OnOk result (IsRecord one.old) }
     {
-        self.kept.put(number, one)?;
+        // `put` closes the record, so its serial is read before.
         self.note(number, one)?;
-        Ok(())
+        self.kept.put(number, one)
     }
 
     // Adds the notes on a record.

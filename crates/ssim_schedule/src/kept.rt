@@ -5,7 +5,7 @@ ghost use Rattle.std.specs.Str.{bytes_eq};
 ghost use Rattle.ssim_records.specs.declared.record.Record.{Record};
 ghost use Rattle.ssim_schedule.specs.Base.{end_of, is_overflow, is_rate, missing};
 ghost use Rattle.ssim_schedule.specs.KeptRecords.{AddsRecord, AreKept, keeps};
-ghost use Rattle.ssim_schedule.specs.Kept.{IsKept, IsPlace, IsRefused, LegStands, Stood};
+ghost use Rattle.ssim_schedule.specs.Kept.{Accepts, IsKept, IsPlace, IsRefused, LegStands, Stood};
 ghost use Rattle.ssim_schedule.specs.declared.kept.Place.TheVariants as place;
 
 use crate::fault::{BaseFault, BaseRefusal};
@@ -60,25 +60,37 @@ impl Kept {
         }
     }
 
-    /// Accepts one more record, with its number, or refuses it.
-    pub(crate) fn put(&mut self, number: u64, one: &Record) -> Result<(), BaseFault>
-        ensures stood { OnOk result ((earlier : List Record) → IsKept self.old earlier → Stood self.new earlier one.now) }
+    /// Accepts one more record, with its number, or refuses it. It may be changed.
+    pub(crate) fn put(&mut self, number: u64, one: &mut Record) -> Result<(), BaseFault>
+        ensures stood { OnOk result ((earlier : List Record) → IsKept self.old earlier → Stood self.new earlier one.old) }
         ensures keeps { OnOk result (keeps self.new.records ≡ keeps self.old.records) }
-        ensures err { IfErr result (λ e. (earlier : List Record) → IsKept self.old earlier → IsRefused number earlier one.now e) }
+        ensures err { IfErr result (λ e. (earlier : List Record) → IsKept self.old earlier → IsRefused number earlier one.old e) }
     {
         match self.place {
             Place::Header => self.put_header(number, one),
             Place::Carrier => self.put_carrier(number, one),
-            Place::Legs(heading) => match one {
-                Record::Leg(leg) => self.put_leg(number, heading, leg),
-                Record::Segment(segment) => self.put_segment(number, heading, segment),
-                Record::Trailer(trailer) => self.put_trailer(number, heading, trailer),
-                Record::Header(_) | Record::Carrier(_) => {
-                    Err(BaseFault::Refused(number, BaseRefusal::BadType))
-                }
-            },
+            Place::Legs(heading) => self.put_next(number, heading, one),
             Place::End => Err(BaseFault::Refused(number, BaseRefusal::BadType)),
         }
+    }
+
+    // Accepts a record after the carrier, or refuses it. A leg and a segment are closed where they stand, and then copied.
+    fn put_next(&mut self, number: u64, heading: Heading, one: &mut Record) -> Result<(), BaseFault>
+        requires { self.old.place ≡ place.Legs heading }
+        ensures stood { OnOk result ((earlier : List Record) → IsKept self.old earlier → Stood self.new earlier one.old) }
+        ensures keeps { OnOk result (keeps self.new.records ≡ keeps self.old.records) }
+        ensures err { IfErr result (λ e. (earlier : List Record) → IsKept self.old earlier → IsRefused number earlier one.old e) }
+    {
+        match one {
+            Record::Leg(leg) => self.close_leg(number, heading, leg)?,
+            Record::Segment(segment) => self.close_segment(number, heading, segment)?,
+            Record::Trailer(trailer) => return self.put_trailer(number, heading, trailer),
+            Record::Header(_) | Record::Carrier(_) => {
+                return Err(BaseFault::Refused(number, BaseRefusal::BadType));
+            }
+        }
+        self.records.push(one)?;
+        Ok(())
     }
 
     /// What is missing if no record follows.
@@ -100,7 +112,7 @@ impl Kept {
         ensures place { OnOk result (self.new.place ≡ place) }
         ensures legs { self.new.legs ≡ self.old.legs }
     {
-        self.records.push(one)?;
+        self.records.push(&one)?;
         self.place = place;
         Ok(())
     }
@@ -142,31 +154,36 @@ impl Kept {
         }
     }
 
-    fn put_leg(&mut self, number: u64, heading: Heading, leg: &LegRecord) -> Result<(), BaseFault>
+    // Enters a leg that is accepted into the table of legs, and closes its record.
+    fn close_leg(
+        &mut self,
+        number: u64,
+        heading: Heading,
+        leg: &mut LegRecord,
+    ) -> Result<(), BaseFault>
         requires { self.old.place ≡ place.Legs heading }
-        ensures stood { OnOk result ((earlier : List Record) → IsKept self.old earlier → Stood self.new earlier (Record.Leg leg.now)) }
-        ensures keeps { OnOk result (keeps self.new.records ≡ keeps self.old.records) }
-        ensures err { IfErr result (λ e. (earlier : List Record) → IsKept self.old earlier → IsRefused number earlier (Record.Leg leg.now) e) }
+        ensures accepts { OnOk result (Accepts self.old self.new (Record.Leg leg.old) (Record.Leg leg.new)) }
+        ensures records { OnOk result (self.new.records ≡ self.old.records) }
+        ensures err { IfErr result (λ e. (earlier : List Record) → IsKept self.old earlier → IsRefused number earlier (Record.Leg leg.old) e) }
     {
         let period = leg_period(number, heading, leg)?;
         if self.legs.add(leg.name(), &period)? {
             return Err(BaseFault::Refused(number, BaseRefusal::Overlap));
         }
-        let leg = leg.with_last(period.last()).with_blanks().with_serial(0);
-        self.records.push(Record::Leg(leg))?;
+        leg.close(period.last());
         Ok(())
     }
 
-    fn put_segment(
-        &mut self,
+    // Closes the record of a segment that is accepted.
+    fn close_segment(
+        &self,
         number: u64,
         heading: Heading,
-        segment: &SegmentRecord,
+        segment: &mut SegmentRecord,
     ) -> Result<(), BaseFault>
-        requires { self.old.place ≡ place.Legs heading }
-        ensures stood { OnOk result ((earlier : List Record) → IsKept self.old earlier → Stood self.new earlier (Record.Segment segment.now)) }
-        ensures keeps { OnOk result (keeps self.new.records ≡ keeps self.old.records) }
-        ensures err { IfErr result (λ e. (earlier : List Record) → IsKept self.old earlier → IsRefused number earlier (Record.Segment segment.now) e) }
+        requires { self.now.place ≡ place.Legs heading }
+        ensures accepts { OnOk result (Accepts self.now self.now (Record.Segment segment.old) (Record.Segment segment.new)) }
+        ensures err { IfErr result (λ e. (earlier : List Record) → IsKept self.now earlier → IsRefused number earlier (Record.Segment segment.old) e) }
     {
         if !same_airline(segment.name().airline(), heading.airline) {
             return Err(BaseFault::Refused(number, BaseRefusal::OtherAirline));
@@ -177,8 +194,7 @@ impl Kept {
         if !self.legs.has(segment.name()) {
             return Err(BaseFault::Refused(number, BaseRefusal::Segment));
         }
-        let segment = segment.with_blank().with_serial(0);
-        self.records.push(Record::Segment(segment))?;
+        segment.close();
         Ok(())
     }
 

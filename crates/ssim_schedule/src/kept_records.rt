@@ -18,13 +18,13 @@ pub(crate) enum KeptRecords {
 
 impl KeptRecords {
     /// One more record. Out of memory is returned also if there are more records than a `usize` counts.
-    pub(crate) fn push(&mut self, one: Record) -> Result<(), Memory>
-        ensures kept { OnOk result (AddsRecord self.old self.new one) }
+    pub(crate) fn push(&mut self, one: &Record) -> Result<(), Memory>
+        ensures kept { OnOk result (AddsRecord self.old self.new one.now) }
         ensures keeps { OnOk result (keeps self.new ≡ keeps self.old) }
     {
         match self {
             KeptRecords::All(records) => {
-                records.push(one)?;
+                records.push(*one)?;
                 Ok(())
             }
             KeptRecords::Count(count) => match count.checked_add(1) {

@@ -30,10 +30,13 @@ pub(crate) fn gather<R: Source>(
     frames_are_one();
     let mut blocks = Records::new(limit);
     let mut gathering = Gathering::new(alloc, records);
+    let mut next = None;
     loop {
-        match blocks.next(reader) {
-            Ok(Some((number, record))) => gathering.take(number, &record)?,
-            Ok(None) => return Ok((gathering, blocks.number() + 1)),
+        match blocks.next_into(reader, &mut next) {
+            Ok(number) => match &mut next {
+                Some(record) => gathering.take(number, record)?,
+                None => return Ok((gathering, blocks.number() + 1)),
+            },
             Err(fault) => return Err(BaseFault::Read(fault)),
         }
     }

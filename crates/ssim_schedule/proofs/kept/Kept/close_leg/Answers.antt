@@ -9,7 +9,7 @@ use Rattle.ssim_schedule.specs.KeptRecords.{AddsRecord}
 use Rattle.ssim_schedule.specs.LegTable.{AddsLegAt, legs_at, uses_date}
 use Rattle.ssim_schedule.specs.ReadBack.{place_of}
 use Rattle.ssim_schedule.proofs.KeptLemmas.{kept_leg, leg-refused, stood-leg}
-use Rattle.ssim_schedule.proofs.kept.Kept.put_leg.Goals as goal
+use Rattle.ssim_schedule.proofs.kept.Kept.close_leg.Goals as goal
 
 pub returns-then-branch-clause-err : goal.returns-then-branch-clause-err
 returns-then-branch-clause-err c = λ earlier is.
@@ -22,21 +22,17 @@ returns-then-branch-clause-err c = λ earlier is.
           ∙ sym c.in_ok-add.ensures.met ∙ c.if-branch.true),
     )
 
-pub returns-clause-stood : goal.returns-clause-stood
-returns-clause-stood c = λ earlier is.
+pub returns-clause-accepts : goal.returns-clause-accepts
+returns-clause-accepts c = λ earlier records is added.
     let r = c.args.leg.now in
     let p = c.in_ok-period.period in
     let old = c.args.self.now in
     let legs = c.add.new.self in
-    stood-leg old (record { records = c.push.new.self; place = old.place; legs = legs }) c.args.heading r p
+    stood-leg old (record { records = records; place = old.place; legs = legs }) c.args.heading r p
     earlier c.requires is c.in_ok-period.ensures.ok
     (subst (λ (n : Name). IsFlight n.flight) c.name.ensures c.add.ensures.flight)
     (ap (λ (n : Name). have_common_date (holds p) (uses_date (legs_at old.legs (place_of n.flight)) n.sequence)) (sym c.name.ensures)
     ∙ sym c.in_ok-add.ensures.met ∙ c.if-branch.false)
-    (subst (λ (l : LegFields). AddsRecord old.records c.push.new.self (Leg l))
-    (c.with_serial-leg.ensures
-    ∙ ap (λ (l : LegFields). record l { serial = 0 }) (c.with_blanks.ensures ∙ ap (λ (l : LegFields). record l { rate = 32; overflow = 32 }) c.with_last.ensures)
-    ∙ ap (λ (n : ℕ). kept_leg r n) c.last.ensures.value)
-    c.in_ok-push.ensures.kept)
+    (subst (λ (l : LegFields). AddsRecord old.records records (Leg l)) (c.close.ensures ∙ ap (λ (n : ℕ). kept_leg r n) c.last.ensures.value) added)
     c.requires
     (subst (λ (n : Name). AddsLegAt old.legs legs (place_of n.flight) n.sequence n.variation p) c.name.ensures c.in_ok-add.ensures.ok)

@@ -4,12 +4,13 @@ use Rattle.ssim_records.specs.Segment.{SegmentFields}
 use Rattle.ssim_records.specs.declared.record.Record.TheVariants.{Segment}
 use Rattle.ssim_schedule.specs.KeptRecords.{AddsRecord}
 use Rattle.ssim_schedule.proofs.KeptLemmas.{segment-refused, stood-segment}
-use Rattle.ssim_schedule.proofs.kept.Kept.put_segment.Goals as goal
+use Rattle.ssim_schedule.proofs.kept.Kept.close_segment.Goals as goal
 
-pub returns-clause-stood : goal.returns-clause-stood
-returns-clause-stood c = λ earlier is.
-    stood-segment c.args.self.now (record { records = c.push.new.self; place = c.args.self.now.place; legs = c.args.self.now.legs }) c.args.heading c.args.segment.now earlier c.requires is
-    (subst (λ (r : SegmentFields). AddsRecord c.args.self.now.records c.push.new.self (Segment r)) (c.with_serial-segment.ensures ∙ ap (λ (r : SegmentFields). record r { serial = 0 }) c.with_blank.ensures) c.in_ok-push.ensures.kept)
+pub returns-clause-accepts : goal.returns-clause-accepts
+returns-clause-accepts c = λ earlier records is added.
+    let old = c.args.self.now in
+    stood-segment old (record { records = records; place = old.place; legs = old.legs }) c.args.heading c.args.segment.now earlier c.requires is
+    (subst (λ (r : SegmentFields). AddsRecord old.records records (Segment r)) c.close.ensures added)
     c.requires refl (search rules) (search rules) (search rules) (search rules)
 
 pub returns-then-not-has-clause-err : goal.returns-then-not-has-clause-err
