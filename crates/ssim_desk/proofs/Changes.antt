@@ -1,5 +1,5 @@
 -- What a text and a merge make of a desk.
-use Rattle.std.proofs.Common.{◌≡◌, ◌≤◌, ℕ, suc, List, [], ◌∷◌, ◌++◌, length, take, drop, Some, None, slice_get, refl, sym, ap, subst, ◌∙◌, arith, length-append}
+use Rattle.std.proofs.Common.{◌≡◌, ◌≢◌, ◌≤◌, ℕ, suc, List, [], ◌∷◌, ◌++◌, length, take, drop, Some, None, slice_get, refl, sym, ap, subst, ◌∙◌, arith, length-append}
 use Rattle.std.proofs.lemmas.List.{length-take, take-append-le, take_all}
 use Rattle.std.proofs.lemmas.List.Elements.{All-append, All-cons, All-drop, All-take}
 use Rattle.std.specs.FinMap.{get}
@@ -20,11 +20,8 @@ use Rattle.ssim_desk.specs.Desk.{IsReplayed}
 use Rattle.ssim_desk.specs.Fault.{message_refused, text_refused}
 use Rattle.ssim_desk.specs.Held.{DeskState, Says}
 use Rattle.ssim_desk.specs.Kept.{AreEntries, AreRising, DeskSeen, Entry, IsEntry, map_of, state_of}
-use Rattle.ssim_desk.specs.Private.{Belongs, IsFound, IsReplaced}
-use Rattle.ssim_desk.specs.Steps.{IsNew, RefusesText, Takes}
-use Rattle.ssim_desk.specs.declared.fault.DeskFault.TheVariants.{Conflict}
-use Rattle.ssim_desk.specs.declared.lookup.Found.TheVariants.{Other}
-use Rattle.ssim_desk.specs.declared.steps.Answer.TheVariants.{Repeated, Refused}
+use Rattle.ssim_desk.specs.Private.{Belongs, IsReplaced}
+use Rattle.ssim_desk.specs.Steps.{IsInConflict, IsKnown, IsNew, RefusesText}
 use Rattle.ssim_desk.proofs.Entries.{map_of_with, not_held, rising_with}
 
 -- ---- messages that are replaced
@@ -82,26 +79,26 @@ no_dates desk text m (resolve_fault.Airline sub) spelt refused = record { messag
 no_dates desk text m (resolve_fault.NoSuchDate sub) spelt refused = record { message = m; spelt = spelt; refused = refused; of_message = λ e. cc }
 no_dates desk text m (resolve_fault.Period sub) spelt refused = record { message = m; spelt = spelt; refused = refused; of_message = λ e. cc }
 
-module _ (desk : DeskSeen) (text : List ℕ) (m : MessageValue) (resolved : ResolvedText) (spelt : SpellsMessage m text) (resolves : ResolvesIn desk.base.records m resolved) where
-  says : Says desk.base text resolved.reference m
+module _ (desk : DeskState) (text : List ℕ) (m : MessageValue) (resolved : ResolvedText) (spelt : SpellsMessage m text) (resolves : ResolvesIn desk.base.records m resolved) where
+  pub says : Says desk.base text resolved.reference m
   says = record { spelt = spelt; resolved = resolved; resolves = resolves; referred = refl }
 
   pub is_entry : IsEntry desk.base.records (record { reference = resolved.reference; message = m; dates = resolved.subs.items })
   is_entry = record { text = resolved; resolves = resolves; referred = refl; dated = refl }
 
-  pub takes_same : get (map_of desk.held) resolved.reference ≡ Some m → Takes (state_of desk) text Repeated (map_of desk.held)
-  takes_same holds = (record { reference = resolved.reference; message = m; says = says; holds = holds }, refl)
+  pub is_known : get desk.held resolved.reference ≡ Some m → IsKnown desk text
+  is_known holds = record { reference = resolved.reference; message = m; says = says; holds = holds }
 
-  pub takes_other : IsFound desk.held resolved.reference m Other → Takes (state_of desk) text (Refused (Conflict resolved.reference)) (map_of desk.held)
-  takes_other (other, holds, apart) = (record { message = m; says = says; other = other; holds = holds; apart = apart }, refl)
+  pub in_conflict : (other : MessageValue) → get desk.held resolved.reference ≡ Some other → other ≢ m → IsInConflict desk text resolved.reference
+  in_conflict other holds apart = record { message = m; says = says; other = other; holds = holds; apart = apart }
 
-  pub takes_new : (at : ℕ) (new : DeskSeen) → AreRising desk.held → Belongs desk.held resolved.reference at at
-      → IsReplaced desk at (record { reference = resolved.reference; message = m; dates = resolved.subs.items } ∷ drop at desk.held) new
-      → IsNew (state_of desk) text (map_of new.held)
-  takes_new at new rising gap r = record {
-    reference = resolved.reference;
-    message = m;
-    says = says;
-    absent = not_held desk.held at resolved.reference rising gap;
-    added = ap map_of r.held ∙ map_of_with desk.held at (record { reference = resolved.reference; message = m; dates = resolved.subs.items }) rising gap;
-  }
+-- a message is new where it has a gap, and is held when it is put there
+pub is_new : (desk : DeskSeen) (text : List ℕ) (e : Entry) (at : ℕ) (held : List Entry) → AreRising desk.held → Belongs desk.held e.reference at at → Says desk.base text e.reference e.message
+    → held ≡ take at desk.held ++ (e ∷ drop at desk.held) → IsNew (state_of desk) text (map_of held)
+is_new desk text e at held rising gap says is = record {
+  reference = e.reference;
+  message = e.message;
+  says = says;
+  absent = not_held desk.held at e.reference rising gap;
+  added = ap map_of is ∙ map_of_with desk.held at e rising gap;
+}

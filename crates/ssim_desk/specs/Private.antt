@@ -5,7 +5,7 @@ use Rattle.ssim_periods.specs.Days.{each_day}
 use Rattle.ssim_schedule.specs.{BaseSeen.BaseSeen, Schedule.{Table, cuts_in, days_in}, Stations.Row, declared.finding.Finding.Finding, declared.resolved.ResolvedSub.ResolvedSub}
 use Rattle.ssim_text.specs.{Message.MessageValue, declared.reference.Reference.Reference}
 use Rattle.ssim_values.specs.Flight.{FlightNumber, IsFlight}
-use Rattle.ssim_desk.specs.{Desk.{AreDeskPoints, is_row_point, is_sub_point}, Held.reference_cmp, Kept.{DeskSeen, Entry, map_of}, Meaning.{Timetable, found_by, left_by}, declared.lookup.Found.Found, declared.lookup.Found.TheVariants.{Absent, Same, Other}, declared.tail.Tail.Tail}
+use Rattle.ssim_desk.specs.{Desk.{AreDeskPoints, is_row_point, is_sub_point}, Held.{DeskState, Says, reference_cmp}, Kept.{DeskSeen, Entry, IsEntry, map_of}, Meaning.{Timetable, found_by, left_by}, declared.lookup.Found.Found, Steps.IsKnown, declared.lookup.Found.TheVariants.{Absent, Same, Other}, declared.offer.Offer.Offer, declared.offer.Offer.TheVariants.{Known, New}, declared.tail.Tail.Tail}
 
 -- ---- where a message is in a list in order of reference
 
@@ -21,6 +21,11 @@ abbrev pub IsFound : List Entry → Reference → MessageValue → Found → Typ
 IsFound entries reference message (Absent at) = Belongs entries reference at at
 IsFound entries reference message Same = get (map_of entries) reference ≡ Some message
 IsFound entries reference message Other = (other : MessageValue) × (get (map_of entries) reference ≡ Some other) × (other ≢ message)
+
+-- what a text is to messages that are held: its message is held; or it is new, and belongs at a position
+abbrev pub IsOffer : DeskState → List Entry → List ℕ → Offer → Type 0
+IsOffer desk held text Known = IsKnown desk text
+IsOffer desk held text (New at e) = Belongs held e.reference at at × IsEntry desk.base.records e × Says desk.base text e.reference e.message
 
 -- ---- two such lists, put together
 

@@ -19,14 +19,14 @@ ghost use Rattle.ssim_desk.specs.Steps.{IsUnion, Merges, Takes};
 use crate::fault::DeskFault;
 use crate::finding_line::{FindingLine, push_lines};
 use crate::held::Held;
-use crate::lookup::{Found, look};
+use crate::holdings::Holdings;
+use crate::offer::{Offer, offer_of};
 use crate::opening::read_desk;
 use crate::saving::put_desk;
 use crate::trail::Trail;
 use crate::union::{first_conflict, first_new, merged};
 use ssim_records::{Sink, Source};
-use ssim_schedule::{Base, ExportFault, PlacedLeg, WriteFault, resolve};
-use ssim_text::decode;
+use ssim_schedule::{Base, ExportFault, PlacedLeg, WriteFault};
 use ssim_values::{Day, Flight, Memory};
 use std::alloc::Global;
 use std::marker::Model;
@@ -84,9 +84,16 @@ impl Desk {
         ensures never_ends { IfErr result (λ e. NeverEnds limit (Came (R.left reader.old) (R.left reader.new) (R.came reader.old) (R.came reader.new)) e) }
     {
         let (base, held) = read_desk(alloc, reader, limit)?;
-        let mut trail = Trail::new(alloc, base)?;
-        trail.replace_from(0, held)?;
-        Ok(Desk { trail })
+        let desk = Desk::with(alloc, base, held)?;
+        Ok(desk)
+    }
+
+    /// The desk that holds this. `applied` is then the number of messages.
+    pub fn of(alloc: Global, holdings: Holdings) -> Result<Desk, Memory>
+        ensures { IfOk result (λ desk. desk ≡ record holdings { applied = length holdings.held }) }
+    {
+        let (base, held) = holdings.into_parts();
+        Desk::with(alloc, base, held)
     }
 
     /// The base from which the desk began. No call changes it.
@@ -125,13 +132,10 @@ impl Desk {
         ensures err { OnErr result (self.new ≡ self.old) }
     {
         let alloc = self.trail.allocator();
-        let message = decode(alloc, text)?;
-        let resolved = resolve(self.base(), &message)?;
-        match look(self.held(), &resolved.reference, &message) {
-            Found::Same => Ok(Took::Repeated),
-            Found::Other => Err(DeskFault::Conflict(resolved.reference)),
-            Found::Absent(at) => {
-                let new = Held::of(alloc, resolved.reference, message, resolved.subs)?;
+        let offered = offer_of(alloc, self.base(), self.held(), text)?;
+        match offered {
+            Offer::Known => Ok(Took::Repeated),
+            Offer::New(at, new) => {
                 self.insert(at, new)?;
                 Ok(Took::Taken)
             }
@@ -224,6 +228,16 @@ impl Desk {
         ensures device { W.device out.new ≡ W.device out.old }
     {
         put_desk(out, self.base(), self.held())
+    }
+
+    // A desk of a base and messages.
+    fn with(alloc: Global, base: Base, held: Vec<Held>) -> Result<Desk, Memory>
+        requires { AreEntries base.records held.items }
+        ensures { IfOk result (λ desk. desk ≡ record { base = base; held = held.items; applied = length held.items }) }
+    {
+        let mut trail = Trail::new(alloc, base)?;
+        trail.replace_from(0, held)?;
+        Ok(Desk { trail })
     }
 
     // Holds what another desk over the same base holds, too.

@@ -2,6 +2,7 @@
 //!
 //! - [`Desk`]: a base and the messages that it holds in order of reference. `take` takes a text, `merge` what another desk holds;
 //!   `itinerary`, `cuts`, `findings` and `export` read the schedule that the messages leave. [`Took`] and [`DeskFault`]: the results.
+//! - [`Holdings`]: the base and the messages of a desk without its timetable, for callers that ask for none.
 //! - [`Held`]: a message that a desk holds, with its reference and its canonical text.
 //! - [`FindingLine`]: what a sub-message found on the dates of its period.
 //! - [`run_steps`]: tries [`Step`]s on several desks, each a text or a merge, and returns an [`Answer`] for each.
@@ -19,8 +20,10 @@ mod desk;
 mod fault;
 mod finding_line;
 mod held;
+mod holdings;
 pub mod laws;
 mod lookup;
+mod offer;
 mod opening;
 mod replay;
 mod row_line;
@@ -34,5 +37,6 @@ pub use desk::{Desk, Took};
 pub use fault::DeskFault;
 pub use finding_line::FindingLine;
 pub use held::Held;
+pub use holdings::Holdings;
 pub use ssim_schedule::WriteFault;
 pub use steps::{Answer, Step, run_steps};

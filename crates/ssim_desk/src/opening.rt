@@ -4,7 +4,7 @@ ghost use Rattle.std.specs.Prelude.{◌≡◌, ◌≢◌, ◌<◌, ◌^◌, IfEr
 ghost use Rattle.ssim_schedule.specs.BaseSeen.{BaseSeen};
 ghost use Rattle.ssim_desk.specs.File.{IsDeskFile, end_line};
 ghost use Rattle.ssim_schedule.specs.Reading.{Came};
-ghost use Rattle.ssim_desk.specs.Opening.{FailsAs, NeverEnds, Opens, RefusesFile};
+ghost use Rattle.ssim_desk.specs.Opening.{FailsAs, NeverEnds, Opens, RefusesBytes, RefusesFile};
 ghost use Rattle.ssim_desk.specs.Kept.{Entry};
 
 mod count_line;
@@ -61,6 +61,22 @@ fn read_file(alloc: Global, bytes: &[u8]) -> Result<(Base, Vec<Held>), PartFault
     Ok((base, held))
 }
 
+/// The base and the messages whose desk file the bytes are. The errors are 90, and 62 with the number of the bytes before the first
+/// element that is invalid.
+pub(crate) fn read_bytes(alloc: Global, bytes: &[u8]) -> Result<(Base, Vec<Held>), DeskFault>
+    ensures ok { IfOk result (λ desk. IsDeskFile bytes.now desk.0 desk.1.items) }
+    ensures err { IfErr result (RefusesBytes bytes.now) }
+{
+    match read_file(alloc, bytes) {
+        Ok(desk) => Ok(desk),
+        Err(PartFault::Memory) => Err(DeskFault::Memory),
+        Err(PartFault::Invalid(left)) => {
+            let offset = bytes.len().saturating_sub(left);
+            Err(DeskFault::File(offset as u64))
+        }
+    }
+}
+
 /// Reads all bytes of a reader, and then the base and the messages whose desk file they are.
 pub(crate) fn read_desk<R: Source>(
     alloc: Global,
@@ -74,12 +90,5 @@ pub(crate) fn read_desk<R: Source>(
     ensures never_ends { IfErr result (λ e. NeverEnds limit (Came (R.left reader.old) (R.left reader.new) (R.came reader.old) (R.came reader.new)) e) }
 {
     let bytes = read_whole(alloc, reader, limit)?;
-    match read_file(alloc, &bytes) {
-        Ok(desk) => Ok(desk),
-        Err(PartFault::Memory) => Err(DeskFault::Memory),
-        Err(PartFault::Invalid(left)) => {
-            let offset = bytes.len().saturating_sub(left);
-            Err(DeskFault::File(offset as u64))
-        }
-    }
+    read_bytes(alloc, &bytes)
 }

@@ -1,15 +1,14 @@
 //! The desk in a file.
 
-ghost use Rattle.std.specs.Prelude.{◌≡◌, ◌≤◌, length, IfErr, IfOk, OnErr, OnOk, Some};
-ghost use Rattle.ssim_desk.specs.File.{IsDeskFile, desk_file};
-ghost use Rattle.ssim_program.specs.Desks.{IsUnopened, ReadsDesk, RefusesDeskFile, RefusesKeep};
+ghost use Rattle.std.specs.Prelude.{◌≡◌, IfErr, IfOk, OnErr, OnOk, Some};
+ghost use Rattle.ssim_desk.specs.File.{desk_file};
+ghost use Rattle.ssim_program.specs.Desks.{ReadsDesk, RefusesDeskFile, RefusesKeep};
 ghost use Rattle.ssim_program.specs.Files.{with_kept};
-ghost use Rattle.ssim_program.specs.Made.{file_limit};
 
-use crate::data_set::{LIMIT, load_file};
+use crate::data_set::load_file;
 use crate::refusal::Refusal;
 use crate::store::{Store, StoreFault};
-use ssim_desk::{Desk, DeskFault};
+use ssim_desk::{Desk, Holdings};
 use ssim_records::Bytes;
 use std::alloc::Global;
 
@@ -19,36 +18,43 @@ pub(crate) fn open<S: Store>(alloc: Global, name: &str, store: &mut S) -> Result
     ensures refused { IfErr result (RefusesDeskFile (S.files store.old) name.now) }
     ensures same { S.files store.new ≡ S.files store.old }
 {
-    let bytes = load_file(alloc, name, store)?;
-    match open_within(alloc, &bytes) {
+    let holdings = open_holdings(alloc, name, store)?;
+    match Desk::of(alloc, holdings) {
         Ok(desk) => Ok(desk),
+        Err(_) => Err(Refusal::Memory),
+    }
+}
+
+/// What the desk in the file of this name holds. The file's bytes are freed.
+pub(crate) fn open_holdings<S: Store>(
+    alloc: Global,
+    name: &str,
+    store: &mut S,
+) -> Result<Holdings, Refusal>
+    ensures read { IfOk result (ReadsDesk (S.files store.old) name.now) }
+    ensures refused { IfErr result (RefusesDeskFile (S.files store.old) name.now) }
+    ensures same { S.files store.new ≡ S.files store.old }
+{
+    let bytes = load_file(alloc, name, store)?;
+    match Holdings::open(alloc, &bytes) {
+        Ok(holdings) => Ok(holdings),
         Err(fault) => Err(Refusal::from(fault)),
     }
 }
 
-/// Opens the desk whose file the bytes are.
-pub(crate) fn open_within(alloc: Global, bytes: &[u8]) -> Result<Desk, DeskFault>
-    requires { length bytes.now ≤ file_limit }
-    ensures ok { IfOk result (λ desk. IsDeskFile bytes.now desk.base desk.held) }
-    ensures err { IfErr result (IsUnopened bytes.now) }
-{
-    let mut left = bytes;
-    Desk::open(alloc, &mut left, LIMIT)
-}
-
-/// Keeps the desk file of the desk under this name.
+/// Keeps the desk file of what a desk holds under this name.
 pub(crate) fn keep<S: Store>(
     alloc: Global,
-    desk: &Desk,
+    holdings: &Holdings,
     name: &str,
     store: &mut S,
 ) -> Result<(), Refusal>
-    ensures kept { OnOk result (S.files store.new ≡ with_kept (Some (name.now, desk_file desk.now.base desk.now.held)) (S.files store.old)) }
+    ensures kept { OnOk result (S.files store.new ≡ with_kept (Some (name.now, desk_file holdings.now.base holdings.now.held)) (S.files store.old)) }
     ensures why { IfErr result (RefusesKeep name.now) }
     ensures same { OnErr result (S.files store.new ≡ S.files store.old) }
 {
     let mut bytes = Bytes::new(alloc);
-    if desk.save(&mut bytes).is_err() {
+    if holdings.save(&mut bytes).is_err() {
         return Err(Refusal::Memory);
     }
     match store.keep(name, bytes.bytes()) {

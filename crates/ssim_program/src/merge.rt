@@ -6,12 +6,12 @@ ghost use Rattle.ssim_program.specs.Line.{Merge};
 ghost use Rattle.ssim_program.specs.Effects.{Leaves, Writes};
 ghost use Rattle.ssim_program.specs.Reasons.{Refuses};
 
-use crate::desk_file::{keep, open};
+use crate::desk_file::{keep, open_holdings};
 use crate::printer::{Printer, print_all};
 use crate::refusal::Refusal;
 use crate::start::held_line;
 use crate::store::Store;
-use ssim_desk::Desk;
+use ssim_desk::Holdings;
 use std::alloc::Global;
 
 /// Keeps the desk file of two desks that are merged, and then prints how many messages it holds.
@@ -30,8 +30,8 @@ pub(crate) fn merge<S: Store, O: Printer>(
     ensures device { O.device out.new ≡ O.device out.old }
     ensures flushed { OnOk result (O.flushed out.new ≡ true) }
 {
-    let mut desk = open(alloc, mine, store)?;
-    let other = open(alloc, theirs, store)?;
+    let mut desk = open_holdings(alloc, mine, store)?;
+    let other = open_holdings(alloc, theirs, store)?;
     match merge_desks(&mut desk, &other) {
         Ok(()) => {}
         Err(refusal) => return Err(refusal),
@@ -48,7 +48,7 @@ pub(crate) fn merge<S: Store, O: Printer>(
 }
 
 /// Holds what the other desk holds, too.
-fn merge_desks(desk: &mut Desk, other: &Desk) -> Result<(), Refusal>
+fn merge_desks(desk: &mut Holdings, other: &Holdings) -> Result<(), Refusal>
     ensures merged { OnOk result (IsMergeOf desk.old other.now desk.new) }
     ensures why { IfErr result (RefusesMerge desk.old other.now) }
 {

@@ -12,7 +12,7 @@ use crate::printed::{Printed, add_line};
 use crate::printer::{Printer, print_all};
 use crate::refusal::Refusal;
 use crate::store::Store;
-use ssim_desk::Desk;
+use ssim_desk::Holdings;
 use ssim_values::Memory;
 use std::alloc::Global;
 
@@ -33,7 +33,7 @@ pub(crate) fn start<S: Store, O: Printer>(
     ensures flushed { OnOk result (O.flushed out.new ≡ true) }
 {
     let read = load_base(alloc, dataset, stations, store)?;
-    let desk = Desk::start(alloc, read.base)?;
+    let desk = Holdings::start(alloc, read.base);
     let line = held_line(alloc, 0)?;
     keep(alloc, &desk, name, store)?;
     match print_all(out, &line) {

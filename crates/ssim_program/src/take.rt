@@ -12,12 +12,12 @@ ghost use Rattle.ssim_program.specs.Ends.{Ends};
 ghost use Rattle.ssim_program.specs.Reasons.{Refuses};
 
 use crate::data_set::load_file;
-use crate::desk_file::{keep, open};
+use crate::desk_file::{keep, open_holdings};
 use crate::printed::{Printed, add_line};
 use crate::printer::{Printer, flush_all, print_all};
 use crate::refusal::Refusal;
 use crate::store::Store;
-use ssim_desk::{Desk, DeskFault, Took};
+use ssim_desk::{DeskFault, Holdings, Took};
 use ssim_schedule::{Base, resolve};
 use ssim_text::{Reference, decode};
 use ssim_values::Memory;
@@ -40,7 +40,7 @@ pub(crate) fn take<S: Store, O: Printer>(
     ensures device { O.device out.new ≡ O.device out.old }
     ensures flushed { OnOk result (O.flushed out.new ≡ true) }
 {
-    let mut desk = open(alloc, file, store)?;
+    let mut desk = open_holdings(alloc, file, store)?;
     take_texts(alloc, &mut desk, names, store, out)?;
     flush_all(out)?;
     keep(alloc, &desk, kept, store)
@@ -49,7 +49,7 @@ pub(crate) fn take<S: Store, O: Printer>(
 /// Takes the texts in these files, and prints what became of each.
 fn take_texts<S: Store, O: Printer>(
     alloc: Global,
-    desk: &mut Desk,
+    desk: &mut Holdings,
     names: &[&str],
     store: &mut S,
     out: &mut O,
@@ -74,7 +74,7 @@ fn take_texts<S: Store, O: Printer>(
 /// Takes the text in this file, and prints what became of it.
 fn take_text<S: Store, O: Printer>(
     alloc: Global,
-    desk: &mut Desk,
+    desk: &mut Holdings,
     name: &str,
     store: &mut S,
     out: &mut O,
@@ -95,7 +95,7 @@ fn take_text<S: Store, O: Printer>(
 }
 
 /// Takes a text. Returns what became of it, with the reference of its message.
-fn take_one(alloc: Global, desk: &mut Desk, text: &[u8]) -> Result<(Took, Reference), DeskFault>
+fn take_one(alloc: Global, desk: &mut Holdings, text: &[u8]) -> Result<(Took, Reference), DeskFault>
     ensures done { IfOk result (λ r. IsTaken desk.old text.now r.0 r.1 desk.new) }
     ensures refused { IfErr result (RefusesText (state_of desk.old) text.now) }
 {

@@ -8,10 +8,9 @@ ghost use Rattle.ssim_program.specs.declared.explain.file_kind.FileKind.TheVaria
 use super::file_kind::{FileKind, kind_of};
 use super::on_refusal;
 use crate::data_set::read;
-use crate::desk_file::open_within;
 use crate::refusal::Refusal;
 use crate::rehearse::script::Script;
-use ssim_desk::DeskFault;
+use ssim_desk::{DeskFault, Holdings};
 use ssim_guide::{words_on_line, words_on_offset, words_on_overlap, words_on_record};
 use ssim_records::RecordFault;
 use ssim_schedule::{BaseFault, BaseRefusal, StationFault, Stations};
@@ -90,7 +89,7 @@ fn desk_file(alloc: Global, bytes: &[u8]) -> Result<Option<Refusal>, Memory>
     requires { length bytes.now ≤ file_limit }
     ensures { IfOk result (λ found. Judges kind.Desk bytes.now found) }
 {
-    match open_within(alloc, bytes) {
+    match Holdings::open(alloc, bytes) {
         Ok(_) => Ok(None),
         Err(DeskFault::File(offset)) => Ok(Some(Refusal::Desk(DeskFault::File(offset)))),
         Err(_) => Err(Memory),

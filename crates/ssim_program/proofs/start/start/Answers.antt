@@ -21,22 +21,22 @@ returns-in_err-keep-clause-refused g c = at_fault _ (inl (c.in_err-keep.ensures.
 
 pub returns-in-Ok-clause-done : goal.returns-in-Ok-clause-done
 returns-in-Ok-clause-done g c =
-    let desk = c.in_ok-desk.desk in let name = c.args.name.now in
+    let desk = c.start-desk.result in let name = c.args.name.now in
     let kept = Some (name, desk_file desk.base desk.held) in (
       c.deref.result.now,
       kept,
-      (c.in_ok-read.read.base, c.in_ok-read.read.notes.items, c.in_ok-read.ensures.read, c.deref.ensures.value ∙ c.in_ok-line.ensures, ap (λ (d : DeskSeen). Some (name, desk_file d.base d.held)) c.in_ok-desk.ensures),
+      (c.in_ok-read.read.base, c.in_ok-read.read.notes.items, c.in_ok-read.ensures.read, c.deref.ensures.value ∙ c.in_ok-line.ensures, ap (λ (d : DeskSeen). Some (name, desk_file d.base d.held)) c.start-desk.ensures),
       c.in-Ok.ensures.ok,
       c.in_ok-keep.ensures.kept ∙ ap (with_kept kept) c.load_base.ensures.same,
     )
 
 pub returns-clause-refused : goal.returns-clause-refused
 returns-clause-refused g c =
-    let desk = c.in_ok-desk.desk in let name = c.args.name.now in
+    let desk = c.start-desk.result in let name = c.args.name.now in
     let kept = Some (name, desk_file desk.base desk.held) in inr (
       c.deref.result.now,
       kept,
-      (c.in_ok-read.read.base, c.in_ok-read.read.notes.items, c.in_ok-read.ensures.read, c.deref.ensures.value ∙ c.in_ok-line.ensures, ap (λ (d : DeskSeen). Some (name, desk_file d.base d.held)) c.in_ok-desk.ensures),
+      (c.in_ok-read.read.base, c.in_ok-read.read.notes.items, c.in_ok-read.ensures.read, c.deref.ensures.value ∙ c.in_ok-line.ensures, ap (λ (d : DeskSeen). Some (name, desk_file d.base d.held)) c.start-desk.ensures),
       c.in-Err.ensures.err,
       c.in-Err.ensures.failures,
       c.in_ok-keep.ensures.kept ∙ ap (with_kept kept) c.load_base.ensures.same,

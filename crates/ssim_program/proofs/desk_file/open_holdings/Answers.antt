@@ -1,8 +1,8 @@
--- The bytes of the file are opened, or refused.
+-- The bytes of the file are read, or refused.
 use Rattle.std.proofs.Common.{sym, subst}
 use Rattle.ssim_program.specs.Made.{HasFile}
 use Rattle.ssim_program.proofs.Opening.{refuses_file}
-use Rattle.ssim_program.proofs.desk_file.open.Goals as goal
+use Rattle.ssim_program.proofs.desk_file.open_holdings.Goals as goal
 
 pub returns-clause-refused : goal.returns-clause-refused
 returns-clause-refused g c =

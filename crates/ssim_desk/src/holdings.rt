@@ -1,0 +1,153 @@
+//! What a desk holds, without the timetable that it leaves.
+
+ghost use Rattle.std.specs.Prelude.{◌≡◌, ◌++◌, [], ◌∷◌, take, drop, Ok, IfErr, IfOk, OnErr, OnOk};
+ghost use Rattle.std.specs.Io.KnownBytes.{Appends};
+ghost use Rattle.ssim_schedule.specs.Sinks.{CountsFault, TakesFront};
+ghost use Rattle.ssim_desk.specs.Desk.{merge_answer, take_answer};
+ghost use Rattle.ssim_desk.specs.File.{CanBeSaved, IsDeskFile, desk_file};
+ghost use Rattle.ssim_desk.specs.Kept.{AreEntries, AreRising, IsEntry, map_of, state_of};
+ghost use Rattle.ssim_desk.specs.Opening.{RefusesBytes};
+ghost use Rattle.ssim_desk.specs.Private.{Belongs};
+ghost use Rattle.ssim_desk.specs.Steps.{Merges, Takes};
+
+use crate::desk::Took;
+use crate::fault::DeskFault;
+use crate::held::Held;
+use crate::offer::{Offer, offer_of};
+use crate::opening::read_bytes;
+use crate::saving::put_desk;
+use crate::union::{first_conflict, merged};
+use ssim_records::Sink;
+use ssim_schedule::{Base, WriteFault};
+use ssim_values::Memory;
+use std::alloc::Global;
+use std::marker::Model;
+
+/// What a desk holds: a base, and messages in order of reference. It takes texts and merges as a desk does. It keeps no timetable, so it
+/// takes less time and memory than a desk where no timetable is asked for.
+///
+/// Contracts see it as a desk whose latest change applied no message.
+#[derive(Drop)]
+pub struct Holdings {
+    base: Base,
+    held: Vec<Held>,
+    alloc: Global,
+}
+
+impl Model for Holdings {
+    ghost use Rattle.ssim_desk.specs.Kept.{AreEntries, DeskSeen};
+
+    ghost Value = { DeskSeen };
+
+    ghost view = { λ h. record { base = h.base; held = h.held.items; applied = 0 } };
+
+    ghost invariant = { λ h. AreEntries h.base.records h.held.items };
+}
+
+impl Holdings {
+    /// A base and no message. It does not allocate.
+    pub fn start(alloc: Global, base: Base) -> Holdings
+        ensures { result ≡ record { base = base; held = []; applied = 0 } }
+    {
+        Holdings {
+            base,
+            held: Vec::new(alloc),
+            alloc,
+        }
+    }
+
+    /// Reads the bytes of a desk file, of version 2, or of version 1 without originators.
+    ///
+    /// The errors are 90, and 62 if the bytes are no desk file, with the number of bytes before the first invalid element.
+    pub fn open(alloc: Global, bytes: &[u8]) -> Result<Holdings, DeskFault>
+        ensures ok { IfOk result (λ holdings. IsDeskFile bytes.now holdings.base holdings.held) }
+        ensures applied { IfOk result (λ holdings. holdings.applied ≡ 0) }
+        ensures err { IfErr result (RefusesBytes bytes.now) }
+    {
+        let (base, held) = read_bytes(alloc, bytes)?;
+        Ok(Holdings { base, held, alloc })
+    }
+
+    /// The base. No call changes it.
+    pub fn base(&self) -> &Base
+        ensures { result.now ≡ self.now.base }
+    {
+        &self.base
+    }
+
+    /// The messages that are held, in order of reference.
+    pub fn held(&self) -> &[Held]
+        ensures value { result.now ≡ self.now.held }
+        ensures kept { AreEntries self.now.base.records self.now.held }
+        ensures rising { AreRising result.now }
+    {
+        &self.held
+    }
+
+    /// Takes a text: holds its message if it is new. The answers and errors are those of `Desk::take`.
+    pub fn take(&mut self, text: &[u8]) -> Result<Took, DeskFault>
+        ensures takes { Takes (state_of self.old) text.now (take_answer result) (map_of self.new.held) }
+        ensures base { self.new.base ≡ self.old.base }
+        ensures repeated { result ≡ Ok Took.Repeated → self.new ≡ self.old }
+        ensures err { OnErr result (self.new ≡ self.old) }
+    {
+        let offered = offer_of(self.alloc, &self.base, &self.held, text)?;
+        match offered {
+            Offer::Known => Ok(Took::Repeated),
+            Offer::New(at, new) => {
+                self.insert(at, new)?;
+                Ok(Took::Taken)
+            }
+        }
+    }
+
+    /// Holds what the other holds, too. The errors are those of `Desk::merge`.
+    pub fn merge(&mut self, other: &Holdings) -> Result<(), DeskFault>
+        ensures merges { Merges (state_of self.old) (state_of other.now) (merge_answer result) (map_of self.new.held) }
+        ensures base { self.new.base ≡ self.old.base }
+        ensures err { OnErr result (self.new ≡ self.old) }
+    {
+        if !self.base.same(&other.base) {
+            return Err(DeskFault::OtherBase);
+        }
+        if let Some(reference) = first_conflict(&self.held, &other.held) {
+            return Err(DeskFault::Conflict(reference));
+        }
+        self.held = merged(self.alloc, &self.held, &other.held)?;
+        Ok(())
+    }
+
+    /// Writes the desk file, as `Desk::save` does. Allocates nothing.
+    ///
+    /// Fails only if the sink fails, with 52. The sink has then taken a prefix of the file.
+    pub fn save<W: Sink>(&self, out: &mut W) -> Result<(), WriteFault>
+        ensures ok { OnOk result (Appends (W.taken out.old) (W.taken out.new) (desk_file self.now.base self.now.held)) }
+        ensures can_be_saved { OnOk result (CanBeSaved self.now.base self.now.held) }
+        ensures err { OnErr result (TakesFront (desk_file self.now.base self.now.held) (W.taken out.old) (W.taken out.new)) }
+        ensures failures { CountsFault (W.failures out.old) (W.failures out.new) result }
+        ensures device { W.device out.new ≡ W.device out.old }
+    {
+        put_desk(out, &self.base, &self.held)
+    }
+
+    /// The base and the messages.
+    pub(crate) fn into_parts(self) -> (Base, Vec<Held>)
+        ensures base { result.0 ≡ self.base }
+        ensures held { result.1.items ≡ self.held }
+        ensures kept { AreEntries self.base.records self.held }
+    {
+        (self.base, self.held)
+    }
+
+    // Puts a new message where it belongs.
+    fn insert(&mut self, at: usize, new: Held) -> Result<(), Memory>
+        requires gap { Belongs self.old.held new.reference at at }
+        requires entry { IsEntry self.old.base.records new }
+        ensures ok { OnOk result (self.new.held ≡ take at self.old.held ++ (new ∷ drop at self.old.held)) }
+        ensures base { self.new.base ≡ self.old.base }
+        ensures err { OnErr result (self.new ≡ self.old) }
+    {
+        self.held.insert(at, new)?;
+        Ok(())
+    }
+}
