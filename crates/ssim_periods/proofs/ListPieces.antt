@@ -1,25 +1,37 @@
--- The pieces of periods without a common day whose values are all different: each value's days are those of its period.
-use Rattle.std.proofs.Common.{◌≡◌, ◌≢◌, ℕ, zero, suc, ◌+◌, ◌-◌, ◌<◌, ◌≤◌, ◌||◌, Bool, true, false, if◌then◌else◌, List, [], ◌∷◌, ◌++◌, length, filter, map, take, drop, slice_index_or, refl, ap, subst, sym, ◌∙◌, arith, ◌⊎◌, inl, inr, IsTrue, ◌↔◌, append-nil, append_assoc, length-drop}
-use Rattle.std.specs.List.{All, Contains, flat_map, list_any}
+-- The pieces of periods without a common day: each value's days are those of its periods, and each value comes last once.
+use Rattle.std.proofs.Common.{◌≡◌, ◌≢◌, ℕ, zero, suc, ◌+◌, ◌-◌, ◌<◌, ◌≤◌, ◌||◌, Bool, true, false, if◌then◌else◌, nat_eq, List, [], ◌∷◌, ◌++◌, length, filter, map, take, drop, slice_index_or, refl, ap, subst, sym, ◌∙◌, arith, ◌⊎◌, inl, inr, IsTrue, ◌↔◌, append-nil, append_assoc, length-drop}
+use Rattle.std.specs.List.{All, flat_map, list_any}
 use Rattle.std.specs.List.Sorted.{IsPermutation, IsNonDecreasingBy}
 use Rattle.std.proofs.Math.Path.{fun_ext}
-use Rattle.std.proofs.lemmas.List.{drop_more, take_more}
+use Rattle.std.proofs.lemmas.List.{drop_more, take_more, take-append-drop}
+use Rattle.std.proofs.lemmas.List.Folds.{list_any-append}
 use Rattle.ssim_values.specs.Period.{DayRange}
-use Rattle.ssim_periods.specs.Apart.{value_in, own_cover, AreApart, AreDifferent}
+use Rattle.ssim_periods.specs.Apart.{value_in, own_cover, given_on, given_cover, marked, last_values, AreApart}
 use Rattle.ssim_periods.specs.Calendar.{day_count, holds}
 use Rattle.ssim_periods.specs.Cover.{cover}
-use Rattle.ssim_periods.specs.Days.{each_day}
+use Rattle.ssim_periods.specs.Days.{each_day, changed_on}
 use Rattle.ssim_periods.specs.Pieces.{has_value, pieces_with, pieces_of, held_on, alone}
 use Rattle.ssim_periods.proofs.ApartLemmas.{value_in-none}
 use Rattle.ssim_periods.proofs.CoverLemmas.{le_or_lt}
-use Rattle.ssim_periods.proofs.DayLemmas.{day_count-is, length-each_day, index-each_day, holds-Holds}
-use Rattle.ssim_periods.proofs.PieceLaw.{alike-self, has_value-at, has_value-past, some_alike}
+use Rattle.ssim_periods.proofs.DayLemmas.{day_count-is, length-each_day, index-each_day, each_day-same, changed_on-each_day, holds-Holds}
+use Rattle.ssim_periods.proofs.PieceLaw.{alike-self, alike-turned, has_value-at, has_value-past, held_on-append}
 use Rattle.ssim_periods.proofs.PieceOrder.{In}
 use Rattle.ssim_periods.proofs.PiecesFound.{pieces-once}
 
 known : (b : Bool) → (b ≡ true) ⊎ (b ≡ false)
 known true = inl refl
 known false = inr refl
+
+or-true : (b : Bool) → (b || true) ≡ true
+or-true true = refl
+or-true false = refl
+
+or-false : (b : Bool) → (b || false) ≡ b
+or-false true = refl
+or-false false = refl
+
+not-alike : {V : Type 0} (alike : V → V → Bool) → ((x y : V) → IsTrue (alike x y) ↔ (x ≡ y)) → (v w : V) → v ≢ w → alike v w ≡ false
+not-alike alike exact v w h = elim (known (alike v w)) [ inl on ↦ absurd (h ((exact v w).0 on)) | inr off ↦ off ]
 
 -- ---- the period that holds a day
 
@@ -36,6 +48,10 @@ none-left : {V : Type 0} (vs : List V) (v : V) → length (v ∷ vs) ≤ 1 → v
 none-left [] v h = refl
 none-left (w ∷ vs) v h = absurd (omega arith)
 
+less : {V : Type 0} (b : Bool) (v : V) (vs : List V) → length (if b then v ∷ vs else vs) ≤ 1 → length vs ≤ 1
+less true v vs l = omega arith
+less false v vs l = l
+
 held-value : {V : Type 0} (d : V) (xs : List (DayRange × V)) (x : DayRange × V) (n : ℕ) → length (held_on xs n) ≤ 1 → In x xs → holds x.0 n ≡ true → value_in d xs n ≡ x.1
 held-value d [] x n once i h = absurd i
 held-value {V} d (y ∷ xs) x n once (inl e) h =
@@ -43,64 +59,64 @@ held-value {V} d (y ∷ xs) x n once (inl e) h =
     let few : length (y.1 ∷ held_on xs n) ≤ 1 = subst (λ b. length (if b then y.1 ∷ held_on xs n else held_on xs n) ≤ 1) own once in
     ap (λ b. value_in (if b then y.1 else d) xs n) own ∙ value_in-none y.1 xs n (none-left (held_on xs n) y.1 few) ∙ ap (λ z. z.1) (sym e)
 held-value {V} d (y ∷ xs) x n once (inr i) h =
-    held-value (if holds y.0 n then y.1 else d) xs x n (less (holds y.0 n) once) i h
+    held-value (if holds y.0 n then y.1 else d) xs x n (less (holds y.0 n) y.1 (held_on xs n) once) i h
+
+-- it is the only one
+held-one : {V : Type 0} (xs : List (DayRange × V)) (x : DayRange × V) (n : ℕ) → length (held_on xs n) ≤ 1 → In x xs → holds x.0 n ≡ true → held_on xs n ≡ x.1 ∷ []
+held-one [] x n once i h = absurd i
+held-one (y ∷ xs) x n once (inl e) h =
+    let own : holds y.0 n ≡ true = ap (λ z. holds z.0 n) (sym e) ∙ h in
+    let few : length (y.1 ∷ held_on xs n) ≤ 1 = subst (λ b. length (if b then y.1 ∷ held_on xs n else held_on xs n) ≤ 1) own once in
+    ap (λ b. if b then y.1 ∷ held_on xs n else held_on xs n) own ∙ ap (λ vs. y.1 ∷ vs) (none-left (held_on xs n) y.1 few) ∙ ap (λ z. z.1 ∷ []) (sym e)
+held-one {V} (y ∷ xs) x n once (inr i) h = by (holds y.0 n) once (held-one xs x n (less (holds y.0 n) y.1 (held_on xs n) once) i h)
   where
-    less : (b : Bool) → length (if b then y.1 ∷ held_on xs n else held_on xs n) ≤ 1 → length (held_on xs n) ≤ 1
-    less true l = omega arith
-    less false l = l
+    by : (b : Bool) → length (if b then y.1 ∷ held_on xs n else held_on xs n) ≤ 1 → held_on xs n ≡ x.1 ∷ [] → (if b then y.1 ∷ held_on xs n else held_on xs n) ≡ x.1 ∷ []
+    by true few one = let none = none-left (held_on xs n) y.1 few in cc
+    by false few one = one
 
--- ---- different values
+-- no period holds a day after the calendar
+pub held-past : {V : Type 0} (xs : List (DayRange × V)) (n : ℕ) → All (λ (given : DayRange × V). given.0.last < 36525) xs → 36525 ≤ n → held_on xs n ≡ []
+held-past [] n all past = refl
+held-past {V} (y ∷ xs) n all past =
+    ap (λ b. if b then y.1 ∷ held_on xs n else held_on xs n) off ∙ held-past xs n (λ k d l. all (suc k) d (omega arith)) past
+  where
+    off : holds y.0 n ≡ false
+    off = elim (known (holds y.0 n)) [ inl on ↦ let to = (holds-Holds y.0 n on).1 in let last = all 0 y (omega arith) in absurd (omega arith) | inr out ↦ out ]
 
-or-true : (b : Bool) → (b || true) ≡ true
-or-true true = refl
-or-true false = refl
+-- ---- each value once
 
 any-in : {V : Type 0} (alike : V → V → Bool) (v : V) (xs : List (DayRange × V)) (x : DayRange × V) → In x xs → alike v x.1 ≡ true → list_any (λ (y : DayRange × V). alike v y.1) xs ≡ true
 any-in alike v [] x i h = absurd i
 any-in alike v (y ∷ xs) x (inl e) h = ap (λ b. b || list_any (λ z. alike v z.1) xs) (ap (λ z. alike v z.1) (sym e) ∙ h)
 any-in alike v (y ∷ xs) x (inr i) h = ap (λ b. alike v y.1 || b) (any-in alike v xs x i h) ∙ or-true (alike v y.1)
 
-any-values : {V : Type 0} (alike : V → V → Bool) (v : V) (xs : List (DayRange × V)) → list_any (alike v) (map (λ (y : DayRange × V). y.1) xs) ≡ list_any (λ (y : DayRange × V). alike v y.1) xs
-any-values alike v [] = refl
-any-values alike v (y ∷ xs) = ap (λ b. alike v y.1 || b) (any-values alike v xs)
+-- a value of the list passes the test of its own once
+last-once : {V : Type 0} (alike : V → V → Bool) → ((x y : V) → IsTrue (alike x y) ↔ (x ≡ y)) → (w : V) (xs : List (DayRange × V)) → filter (λ v. alike v w) (last_values alike xs) ≡ (if list_any (λ (y : DayRange × V). alike w y.1) xs then w ∷ [] else [])
+last-once alike exact w [] = refl
+last-once {V} alike exact w (y ∷ xs) = by (list_any (λ (z : DayRange × V). alike y.1 z.1) xs) refl (known (alike w y.1)) (last-once alike exact w xs)
+  where
+    among : V → Bool
+    among = λ v. list_any (λ (z : DayRange × V). alike v z.1) xs
 
--- two periods with one value are one
-same-entry : {V : Type 0} (alike : V → V → Bool) → ((x y : V) → IsTrue (alike x y) ↔ (x ≡ y)) → (xs : List (DayRange × V)) (x y : DayRange × V) → AreDifferent alike xs → In x xs → In y xs → x.1 ≡ y.1 → x ≡ y
-same-entry alike exact [] x y d i j e = absurd i
-same-entry alike exact (z ∷ xs) x y d (inl a) (inl b) e = a ∙ sym b
-same-entry alike exact (z ∷ xs) x y d (inl a) (inr j) e =
-    let both = any-in alike z.1 xs y j ((exact z.1 y.1).1 (ap (λ w. w.1) (sym a) ∙ e)) in
-    let bad : true ≡ false = sym both ∙ d.0 in absurd cc
-same-entry alike exact (z ∷ xs) x y d (inr i) (inl b) e =
-    let both = any-in alike z.1 xs x i ((exact z.1 x.1).1 (ap (λ w. w.1) (sym b) ∙ sym e)) in
-    let bad : true ≡ false = sym both ∙ d.0 in absurd cc
-same-entry alike exact (z ∷ xs) x y d (inr i) (inr j) e = same-entry alike exact xs x y d.1 i j e
+    of : Bool → List V
+    of = λ b. if b then w ∷ [] else []
 
--- one value passes the test of its own
-one-alike : {V : Type 0} (alike : V → V → Bool) → ((x y : V) → IsTrue (alike x y) ↔ (x ≡ y)) → (xs : List (DayRange × V)) (x : DayRange × V) → AreDifferent alike xs → In x xs → filter (λ v. alike v x.1) (map (λ (y : DayRange × V). y.1) xs) ≡ x.1 ∷ []
-one-alike alike exact [] x d i = absurd i
-one-alike alike exact (y ∷ xs) x d (inl e) =
-    let rest = filter (λ v. alike v x.1) (map (λ (z : _ × _). z.1) xs) in
-    let value : x.1 ≡ y.1 = ap (λ z. z.1) e in
-    let on : alike y.1 x.1 ≡ true = (exact y.1 x.1).1 (sym value) in
-    let none : rest ≡ [] = some_alike alike exact x.1 (map (λ z. z.1) xs) (ap (λ v. list_any (alike v) (map (λ z. z.1) xs)) value ∙ any-values alike y.1 xs ∙ d.0) in
-    ap (λ b. if b then y.1 ∷ rest else rest) on ∙ ap (λ vs. y.1 ∷ vs) none ∙ ap (λ v. v ∷ []) (sym value)
-one-alike alike exact (y ∷ xs) x d (inr i) =
-    let rest = filter (λ v. alike v x.1) (map (λ (z : _ × _). z.1) xs) in
-    let off : alike y.1 x.1 ≡ false = elim (known (alike y.1 x.1)) [
-      | inl on ↦ let both = any-in alike y.1 xs x i on in let bad : true ≡ false = sym both ∙ d.0 in absurd cc
-      | inr differ ↦ differ
-    ] in
-    ap (λ b. if b then y.1 ∷ rest else rest) off ∙ one-alike alike exact xs x d.1 i
+    by : (b : Bool) → among y.1 ≡ b → (alike w y.1 ≡ true) ⊎ (alike w y.1 ≡ false) → filter (λ v. alike v w) (last_values alike xs) ≡ of (among w) → filter (λ v. alike v w) (if b then last_values alike xs else y.1 ∷ last_values alike xs) ≡ of (alike w y.1 || among w)
+    by true e (inl on) so = so ∙ ap of (ap among ((exact w y.1).0 on) ∙ e) ∙ sym (ap (λ b. of (b || among w)) on)
+    by true e (inr off) so = so ∙ sym (ap (λ b. of (b || among w)) off)
+    by false e (inl on) so =
+        let same : w ≡ y.1 = (exact w y.1).0 on in let rest = filter (λ v. alike v w) (last_values alike xs) in
+        ap (λ b. if b then y.1 ∷ rest else rest) ((exact y.1 w).1 (sym same))
+        ∙ ap (λ vs. y.1 ∷ vs) (so ∙ ap of (ap among same ∙ e)) ∙ ap (λ v. v ∷ []) (sym same) ∙ sym (ap (λ b. of (b || among w)) on)
+    by false e (inr off) so =
+        let rest = filter (λ v. alike v w) (last_values alike xs) in
+        ap (λ b. if b then y.1 ∷ rest else rest) (alike-turned alike exact y.1 w ∙ off) ∙ so ∙ sym (ap (λ b. of (b || among w)) off)
 
-not-alike : {V : Type 0} (alike : V → V → Bool) → ((x y : V) → IsTrue (alike x y) ↔ (x ≡ y)) → (v w : V) → v ≢ w → alike v w ≡ false
-not-alike alike exact v w h = elim (known (alike v w)) [ inl on ↦ absurd (h ((exact v w).0 on)) | inr off ↦ off ]
-
--- and none that of the empty value
-none-empty : {V : Type 0} (alike : V → V → Bool) (nothing : V) → ((x y : V) → IsTrue (alike x y) ↔ (x ≡ y)) → (xs : List (DayRange × V)) → All (λ (given : DayRange × V). given.1 ≢ nothing) xs → filter (λ v. alike v nothing) (map (λ (y : DayRange × V). y.1) xs) ≡ []
+-- and the empty value is not among them
+none-empty : {V : Type 0} (alike : V → V → Bool) (nothing : V) → ((x y : V) → IsTrue (alike x y) ↔ (x ≡ y)) → (xs : List (DayRange × V)) → All (λ (given : DayRange × V). given.1 ≢ nothing) xs → list_any (λ (y : DayRange × V). alike nothing y.1) xs ≡ false
 none-empty alike nothing exact [] all = refl
 none-empty alike nothing exact (y ∷ xs) all =
-    ap (λ b. if b then y.1 ∷ filter (λ v. alike v nothing) (map (λ z. z.1) xs) else filter (λ v. alike v nothing) (map (λ z. z.1) xs)) (not-alike alike exact y.1 nothing (all 0 y (omega arith)))
+    ap (λ b. b || list_any (λ z. alike nothing z.1) xs) (not-alike alike exact nothing y.1 (λ e. all 0 y (omega arith) (sym e)))
     ∙ none-empty alike nothing exact xs (λ k d l. all (suc k) d (omega arith))
 
 given-in : {V : Type 0} (nothing : V) (xs : List (DayRange × V)) (x : DayRange × V) → All (λ (given : DayRange × V). given.1 ≢ nothing) xs → In x xs → x.1 ≢ nothing
@@ -108,69 +124,130 @@ given-in nothing [] x all i = absurd i
 given-in nothing (y ∷ xs) x all (inl e) = subst (λ z. z.1 ≢ nothing) (sym e) (all 0 y (omega arith))
 given-in nothing (y ∷ xs) x all (inr i) = given-in nothing xs x (λ k d l. all (suc k) d (omega arith)) i
 
+last-given : {V : Type 0} (alike : V → V → Bool) (nothing : V) (xs : List (DayRange × V)) (v : V) → All (λ (given : DayRange × V). given.1 ≢ nothing) xs → In v (last_values alike xs) → v ≢ nothing
+last-given alike nothing [] v all i = absurd i
+last-given {V} alike nothing (y ∷ xs) v all i = by (list_any (λ (z : DayRange × V). alike y.1 z.1) xs) (last-given alike nothing xs v (λ k d l. all (suc k) d (omega arith))) i
+  where
+    by : (b : Bool) → (In v (last_values alike xs) → v ≢ nothing) → In v (if b then last_values alike xs else y.1 ∷ last_values alike xs) → v ≢ nothing
+    by true so j = so j
+    by false so (inl e) = subst (λ w. w ≢ nothing) (sym e) (all 0 y (omega arith))
+    by false so (inr j) = so j
+
 -- each day has its value once
-once-each : {V : Type 0} (alike : V → V → Bool) (nothing : V) → ((x y : V) → IsTrue (alike x y) ↔ (x ≡ y)) → (xs : List (DayRange × V)) (cuts : List ℕ) (n : ℕ) → AreApart nothing xs cuts → AreDifferent alike xs → filter (λ v. alike v (value_in nothing xs n)) (map (λ (y : DayRange × V). y.1) xs) ≡ alone alike nothing (value_in nothing xs n)
-once-each alike nothing exact xs cuts n a d =
-    elim (found xs n) [
+once-each : {V : Type 0} (alike : V → V → Bool) (nothing : V) → ((x y : V) → IsTrue (alike x y) ↔ (x ≡ y)) → (xs : List (DayRange × V)) (cuts : List ℕ) (n : ℕ) → AreApart nothing xs cuts → filter (λ v. alike v (value_in nothing xs n)) (last_values alike xs) ≡ alone alike nothing (value_in nothing xs n)
+once-each {V} alike nothing exact xs cuts n a =
+    let among = λ (v : V). list_any (λ (y : DayRange × V). alike v y.1) xs in
+    last-once alike exact (value_in nothing xs n) xs ∙ elim (found xs n) [
       | inl none ↦
           let value = value_in-none nothing xs n none in
-          ap (λ x. filter (λ v. alike v x) (map (λ y. y.1) xs)) value ∙ none-empty alike nothing exact xs a.given
+          ap (λ x. if among x then x ∷ [] else []) value ∙ ap (λ b. if b then nothing ∷ [] else []) (none-empty alike nothing exact xs a.given)
           ∙ sym (ap (λ x. alone alike nothing x) value ∙ ap (λ b. if b then [] else nothing ∷ []) (alike-self alike exact nothing))
       | inr some ↦
           let x = some.0 in let value = held-value nothing xs x n (a.once n) some.1 some.2 in
-          ap (λ y. filter (λ v. alike v y) (map (λ y. y.1) xs)) value ∙ one-alike alike exact xs x d some.1
+          ap (λ y. if among y then y ∷ [] else []) value ∙ ap (λ b. if b then x.1 ∷ [] else []) (any-in alike x.1 xs x some.1 (alike-self alike exact x.1))
           ∙ sym (ap (λ y. alone alike nothing y) value ∙ ap (λ b. if b then [] else x.1 ∷ []) (not-alike alike exact x.1 nothing (given-in nothing xs x a.given some.1)))
     ]
 
 -- ---- the days of a value
 
-last-in : {V : Type 0} (nothing : V) (xs : List (DayRange × V)) (cuts : List ℕ) (x : DayRange × V) → AreApart nothing xs cuts → In x xs → x.0.last < 36525
-last-in {V} nothing xs cuts x a i = go xs a.divided i
-  where
-    go : (ys : List (DayRange × V)) → All (λ (given : DayRange × V). Contains cuts given.0.first × Contains cuts (given.0.last + 1)) ys → In x ys → x.0.last < 36525
-    go [] all j = absurd j
-    go (y ∷ ys) all (inl e) =
-        let c = (all 0 y (omega arith)).1 in
-        let le : y.0.last + 1 ≤ 36525 = subst (λ k. k ≤ 36525) c.2 (a.in_calendar c.0 (y.0.last + 1) c.1) in
-        let same : x.0.last ≡ y.0.last = ap (λ z. z.0.last) e in
-        omega arith
-    go (y ∷ ys) all (inr j) = go ys (λ k d l. all (suc k) d (omega arith)) j
+-- periods end in the calendar
+pub all-end : {V : Type 0} (nothing : V) (xs : List (DayRange × V)) (cuts : List ℕ) → AreApart nothing xs cuts → All (λ (given : DayRange × V). given.0.last < 36525) xs
+all-end nothing xs cuts a k d l =
+    let c = (a.divided k d l).1 in let x = slice_index_or xs k d in
+    let le : x.0.last + 1 ≤ 36525 = subst (λ m. m ≤ 36525) c.2 (a.in_calendar c.0 (x.0.last + 1) c.1) in
+    omega arith
 
-days-of : {V : Type 0} (alike : V → V → Bool) (nothing : V) → ((x y : V) → IsTrue (alike x y) ↔ (x ≡ y)) → (xs : List (DayRange × V)) (cuts : List ℕ) (days : List V) (x : DayRange × V) (n : ℕ) → AreApart nothing xs cuts → AreDifferent alike xs → each_day (value_in nothing xs) ≡ days → In x xs → holds x.0 n ≡ has_value alike days x.1 n
-days-of {V} alike nothing exact xs cuts days x n a d view i =
+days-of : {V : Type 0} (alike : V → V → Bool) (nothing : V) → ((x y : V) → IsTrue (alike x y) ↔ (x ≡ y)) → (xs : List (DayRange × V)) (cuts : List ℕ) (days : List V) (v : V) (n : ℕ) → AreApart nothing xs cuts → each_day (value_in nothing xs) ≡ days → v ≢ nothing → given_on alike xs v n ≡ has_value alike days v n
+days-of {V} alike nothing exact xs cuts days v n a view given =
     let size : length days ≡ 36525 = sym (ap length view) ∙ length-each_day (value_in nothing xs) in
     elim (le_or_lt (length days) n) [
-      | inl past ↦ elim (known (holds x.0 n)) [
-        | inl on ↦ let to = (holds-Holds x.0 n on).1 in let last = last-in nothing xs cuts x a i in absurd (omega arith)
-        | inr off ↦ off ∙ sym (has_value-past alike days x.1 n past)
-      ]
+      | inl past ↦ ap (list_any (alike v)) (held-past xs n (all-end nothing xs cuts a) (omega arith)) ∙ sym (has_value-past alike days v n past)
       | inr within ↦
           let day : slice_index_or days n nothing ≡ value_in nothing xs n = ap (λ ds. slice_index_or ds n nothing) (sym view) ∙ index-each_day (value_in nothing xs) n nothing (omega arith) in
-          let has : has_value alike days x.1 n ≡ alike x.1 (value_in nothing xs n) = has_value-at alike nothing days x.1 n within ∙ ap (alike x.1) day in
-          elim (known (holds x.0 n)) [
-            | inl on ↦ on ∙ sym (has ∙ ap (alike x.1) (held-value nothing xs x n (a.once n) i on) ∙ alike-self alike exact x.1)
-            | inr off ↦ off ∙ sym (has ∙ elim (found xs n) [
-              | inl none ↦ ap (alike x.1) (value_in-none nothing xs n none) ∙ not-alike alike exact x.1 nothing (given-in nothing xs x a.given i)
-              | inr some ↦ ap (alike x.1) (held-value nothing xs some.0 n (a.once n) some.1 some.2)
-                  ∙ not-alike alike exact x.1 some.0.1 (λ e.
-                  let one = same-entry alike exact xs x some.0 d i some.1 e in
-                  let bad : true ≡ false = sym some.2 ∙ ap (λ z. holds z.0 n) (sym one) ∙ off in absurd cc)
-            ])
+          let has : has_value alike days v n ≡ alike v (value_in nothing xs n) = has_value-at alike nothing days v n within ∙ ap (alike v) day in
+          elim (found xs n) [
+            | inl none ↦ ap (list_any (alike v)) none ∙ sym (has ∙ ap (alike v) (value_in-none nothing xs n none) ∙ not-alike alike exact v nothing given)
+            | inr some ↦
+                let x = some.0 in
+                ap (list_any (alike v)) (held-one xs x n (a.once n) some.1 some.2) ∙ or-false (alike v x.1)
+                ∙ sym (has ∙ ap (alike v) (held-value nothing xs x n (a.once n) some.1 some.2))
           ]
     ]
 
+-- periods that come later without a value
+none-later : {V : Type 0} (alike : V → V → Bool) (v : V) (xs : List (DayRange × V)) (n : ℕ) → list_any (λ (y : DayRange × V). alike v y.1) xs ≡ false → given_on alike xs v n ≡ false
+none-later alike v [] n none = refl
+none-later {V} alike v (y ∷ xs) n none = by (alike v y.1) (holds y.0 n) refl none (none-later alike v xs n)
+  where
+    among : Bool
+    among = list_any (λ (z : DayRange × V). alike v z.1) xs
+
+    by : (a b : Bool) → alike v y.1 ≡ a → (a || among) ≡ false → (among ≡ false → given_on alike xs v n ≡ false) → list_any (alike v) (if b then y.1 ∷ held_on xs n else held_on xs n) ≡ false
+    by true b e h so = cc
+    by false true e h so = ap (λ a. a || given_on alike xs v n) e ∙ so h
+    by false false e h so = so h
+
+-- the days of a value in two lists, and in one with a last period
+pub on-append : {V : Type 0} (alike : V → V → Bool) (xs ys : List (DayRange × V)) (v : V) (n : ℕ) → given_on alike (xs ++ ys) v n ≡ (given_on alike xs v n || given_on alike ys v n)
+on-append alike xs ys v n = ap (list_any (alike v)) (held_on-append xs ys n) ∙ list_any-append (alike v) (held_on xs n) (held_on ys n)
+
+on-last : {V : Type 0} (alike : V → V → Bool) (xs : List (DayRange × V)) (x : DayRange × V) (v : V) (n : ℕ) (b : Bool) → holds x.0 n ≡ b → given_on alike (xs ++ x ∷ []) v n ≡ (given_on alike xs v n || list_any (alike v) (if b then x.1 ∷ [] else []))
+on-last alike xs x v n b e = on-append alike xs (x ∷ []) v n ∙ ap (λ c. given_on alike xs v n || list_any (alike v) (if c then x.1 ∷ [] else [])) e
+
+-- the days of a value that only the last period has
+on-own : {V : Type 0} (alike : V → V → Bool) → ((x y : V) → IsTrue (alike x y) ↔ (x ≡ y)) → (xs : List (DayRange × V)) (x : DayRange × V) (n : ℕ) → list_any (λ (y : DayRange × V). alike x.1 y.1) xs ≡ false → holds x.0 n ≡ given_on alike (xs ++ x ∷ []) x.1 n
+on-own {V} alike exact xs x n none = by (holds x.0 n) refl
+  where
+    by : (b : Bool) → holds x.0 n ≡ b → b ≡ given_on alike (xs ++ x ∷ []) x.1 n
+    by true e = sym (on-last alike xs x x.1 n true e ∙ ap (λ c. c || (alike x.1 x.1 || false)) (none-later alike x.1 xs n none) ∙ or-false (alike x.1 x.1) ∙ alike-self alike exact x.1)
+    by false e = sym (on-last alike xs x x.1 n false e ∙ or-false (given_on alike xs x.1 n) ∙ none-later alike x.1 xs n none)
+
+-- ---- marks in place of values
+
+-- a mark for one more period with the value
+marked-same : {V : Type 0} (alike : V → V → Bool) (xs : List (DayRange × V)) (x : DayRange × V) (v : V) (n : ℕ) → alike v x.1 ≡ true → (if holds x.0 n then 1 else marked alike xs v n) ≡ marked alike (xs ++ x ∷ []) v n
+marked-same {V} alike xs x v n same = by (holds x.0 n) refl
+  where
+    by : (b : Bool) → holds x.0 n ≡ b → (if b then 1 else marked alike xs v n) ≡ marked alike (xs ++ x ∷ []) v n
+    by true e = sym (ap (λ c. if c then 1 else 0) (on-last alike xs x v n true e ∙ ap (λ c. given_on alike xs v n || (c || false)) same ∙ or-true (given_on alike xs v n)))
+    by false e = sym (ap (λ c. if c then 1 else 0) (on-last alike xs x v n false e ∙ or-false (given_on alike xs v n)))
+
+pub marks-same : {V : Type 0} (alike : V → V → Bool) (xs : List (DayRange × V)) (x : DayRange × V) (v : V) (old new : List ℕ) → alike v x.1 ≡ true → old ≡ each_day (marked alike xs v) → new ≡ changed_on (holds x.0) (λ _. 1) 0 old → new ≡ each_day (marked alike (xs ++ x ∷ []) v)
+marks-same alike xs x v old new same so put =
+    put ∙ ap (changed_on (holds x.0) (λ _. 1) 0) so ∙ changed_on-each_day (holds x.0) (λ _. 1) (marked alike xs v)
+    ∙ each_day-same (λ n. if holds x.0 n then 1 else marked alike xs v n) (marked alike (xs ++ x ∷ []) v) (λ n l. marked-same alike xs x v n same)
+
+-- and for one without it
+pub marks-other : {V : Type 0} (alike : V → V → Bool) (xs : List (DayRange × V)) (x : DayRange × V) (v : V) → alike v x.1 ≡ false → each_day (marked alike xs v) ≡ each_day (marked alike (xs ++ x ∷ []) v)
+marks-other {V} alike xs x v other = each_day-same (marked alike xs v) (marked alike (xs ++ x ∷ []) v) (λ n l. by n (holds x.0 n) refl)
+  where
+    by : (n : ℕ) (b : Bool) → holds x.0 n ≡ b → marked alike xs v n ≡ marked alike (xs ++ x ∷ []) v n
+    by n true e = sym (ap (λ c. if c then 1 else 0) (on-last alike xs x v n true e ∙ ap (λ c. given_on alike xs v n || (c || false)) other ∙ or-false (given_on alike xs v n)))
+    by n false e = sym (ap (λ c. if c then 1 else 0) (on-last alike xs x v n false e ∙ or-false (given_on alike xs v n)))
+
+-- the list up to the next period
+pub upto-next : {X : Type 0} (xs : List X) (i : ℕ) (x : X) → i < length xs → x ≡ slice_index_or xs i x → take (i + 1) xs ≡ take i xs ++ x ∷ []
+upto-next xs i x lt is = take_more xs i x lt ∙ ap (λ y. take i xs ++ y ∷ []) (sym is)
+
+-- the marked days are those of the value
+has-mark : {V : Type 0} (alike : V → V → Bool) (xs : List (DayRange × V)) (v : V) (marks : List ℕ) (n : ℕ) → All (λ (given : DayRange × V). given.0.last < 36525) xs → marks ≡ each_day (marked alike xs v) → has_value nat_eq marks 1 n ≡ given_on alike xs v n
+has-mark {V} alike xs v marks n ends are =
+    let size : length marks ≡ 36525 = ap length are ∙ length-each_day (marked alike xs v) in
+    elim (le_or_lt (length marks) n) [
+      | inl past ↦ has_value-past nat_eq marks 1 n past ∙ sym (ap (list_any (alike v)) (held-past xs n ends (omega arith)))
+      | inr within ↦ has_value-at nat_eq 0 marks 1 n within ∙ ap (nat_eq 1) (ap (λ ms. slice_index_or ms n 0) are ∙ index-each_day (marked alike xs v) n 0 (omega arith)) ∙ one (given_on alike xs v n)
+    ]
+  where
+    one : (b : Bool) → nat_eq 1 (if b then 1 else 0) ≡ b
+    one true = refl
+    one false = refl
+
+pub cover-marked : {V : Type 0} (alike : V → V → Bool) (xs : List (DayRange × V)) (v : V) (marks : List ℕ) → All (λ (given : DayRange × V). given.0.last < 36525) xs → marks ≡ each_day (marked alike xs v) → map (λ (period : DayRange). (period, v)) (cover (has_value nat_eq marks 1) (length marks)) ≡ given_cover alike xs v
+cover-marked alike xs v marks ends are =
+    ap (λ is_in. map (λ (period : DayRange). (period, v)) (cover is_in (length marks))) (fun_ext (λ n. has-mark alike xs v marks n ends are))
+    ∙ ap (λ end. map (λ (period : DayRange). (period, v)) (cover (given_on alike xs v) end)) (ap length are ∙ length-each_day (marked alike xs v) ∙ sym day_count-is)
+
 -- ---- the pieces
-
-flat-append : {X Y : Type 0} (f : X → List Y) (xs ys : List X) → flat_map f (xs ++ ys) ≡ flat_map f xs ++ flat_map f ys
-flat-append f [] ys = refl
-flat-append f (x ∷ xs) ys = ap (λ l. f x ++ l) (flat-append f xs ys) ∙ sym (append_assoc (f x) (flat_map f xs) (flat_map f ys))
-
--- the covers of one more period
-pub covers-more : {V : Type 0} (xs : List (DayRange × V)) (i : ℕ) (x : DayRange × V) (pieces : List (DayRange × V)) → i < length xs → x ≡ slice_index_or xs i x → pieces ≡ flat_map own_cover (take i xs) → pieces ++ own_cover x ≡ flat_map own_cover (take (i + 1) xs)
-covers-more {V} xs i x pieces lt is so =
-    ap (λ l. l ++ own_cover x) so
-    ∙ sym (ap (flat_map own_cover) (take_more xs i x lt ∙ ap (λ y. take i xs ++ y ∷ []) (sym is)) ∙ flat-append own_cover (take i xs) (x ∷ [])
-    ∙ ap (λ l. flat_map own_cover (take i xs) ++ l) (append-nil (own_cover x)))
 
 -- what is pushed for a period that holds a day, and for one that holds none
 pub pushed_one : {V : Type 0} (pieces more : List (DayRange × V)) (x : DayRange × V) (q : DayRange) (v : V) → cover (holds x.0) day_count ≡ q ∷ [] → v ≡ x.1 → more ≡ pieces ++ (q, v) ∷ [] → more ≡ pieces ++ own_cover x
@@ -179,32 +256,64 @@ pushed_one pieces more x q v one same is = is ∙ ap (λ w. pieces ++ (q, w) ∷
 pub pushed_none : {V : Type 0} (pieces : List (DayRange × V)) (x : DayRange × V) → cover (holds x.0) day_count ≡ [] → pieces ≡ pieces ++ own_cover x
 pushed_none pieces x none = sym (append-nil pieces) ∙ ap (λ qs. pieces ++ map (λ (period : DayRange). (period, x.1)) qs) (sym none)
 
-take-whole : {X : Type 0} (n : ℕ) (xs : List X) → length xs ≤ n → take n xs ≡ xs
+-- the cover of a value that only the last period has is that of the period's days
+pub cover-own : {V : Type 0} (alike : V → V → Bool) → ((x y : V) → IsTrue (alike x y) ↔ (x ≡ y)) → (xs : List (DayRange × V)) (x : DayRange × V) → list_any (λ (y : DayRange × V). alike x.1 y.1) xs ≡ false → own_cover x ≡ given_cover alike (xs ++ x ∷ []) x.1
+cover-own alike exact xs x none = ap (λ is_in. map (λ (period : DayRange). (period, x.1)) (cover is_in day_count)) (fun_ext (λ n. on-own alike exact xs x n none))
+
+pub take-whole : {X : Type 0} (n : ℕ) (xs : List X) → length xs ≤ n → take n xs ≡ xs
 take-whole zero [] h = refl
 take-whole (suc n) [] h = refl
 take-whole zero (x ∷ xs) h = absurd (omega arith)
 take-whole (suc n) (x ∷ xs) h = ap (λ ys. x ∷ ys) (take-whole n xs (omega arith))
 
--- one value more that is not among the later ones
-pub different-more : {V : Type 0} (alike : V → V → Bool) (xs : List (DayRange × V)) (i j : ℕ) (d : DayRange × V) (b : Bool) → j + 1 ≡ i → j < length xs → b ≡ list_any (λ (y : DayRange × V). alike (slice_index_or xs j d).1 y.1) (take (length xs - (j + 1)) (drop (j + 1) xs)) → b ≡ false → AreDifferent alike (drop i xs) → AreDifferent alike (drop j xs)
-different-more {V} alike xs i j d b next lt any off so =
-    let later = drop (j + 1) xs in
-    let whole : take (length xs - (j + 1)) later ≡ later = take-whole (length xs - (j + 1)) later (simp length-drop (omega arith)) in
-    subst (AreDifferent alike) (sym (drop_more xs j d lt)) (sym (any ∙ ap (list_any (λ (y : DayRange × V). alike (slice_index_or xs j d).1 y.1)) whole) ∙ off, subst (λ k. AreDifferent alike (drop k xs)) (sym next) so)
+-- the periods after one, as the rest of a slice
+pub later-whole : {X : Type 0} (xs : List X) (k : ℕ) → take (length xs - k) (drop k xs) ≡ drop k xs
+later-whole xs k = take-whole (length xs - k) (drop k xs) (simp length-drop (omega arith))
 
-covers-of : {V : Type 0} (alike : V → V → Bool) (days : List V) (xs : List (DayRange × V)) → length days ≡ day_count → ((x : DayRange × V) (n : ℕ) → In x xs → holds x.0 n ≡ has_value alike days x.1 n) → flat_map own_cover xs ≡ flat_map (pieces_with alike days) (map (λ (y : DayRange × V). y.1) xs)
-covers-of alike days [] size h = refl
-covers-of {V} alike days (x ∷ xs) size h =
-    let one : own_cover x ≡ pieces_with alike days x.1 = ap (λ is_in. map (λ (period : DayRange). (period, x.1)) (cover is_in day_count)) (fun_ext (λ n. h x n (inl refl)))
-    ∙ ap (λ end. map (λ (period : DayRange). (period, x.1)) (cover (has_value alike days x.1) end)) (sym size) in
-    ap (λ l. l ++ flat_map own_cover xs) one ∙ ap (λ l. pieces_with alike days x.1 ++ l) (covers-of alike days xs size (λ y n i. h y n (inr i)))
+-- a value that comes later too is passed over
+pub values-later : {V : Type 0} (alike : V → V → Bool) (xs : List (DayRange × V)) (i : ℕ) (x : DayRange × V) → i < length xs → x ≡ slice_index_or xs i x → list_any (λ (y : DayRange × V). alike x.1 y.1) (drop (i + 1) xs) ≡ true → last_values alike (drop i xs) ≡ last_values alike (drop (i + 1) xs)
+values-later alike xs i x lt is some =
+    ap (last_values alike) (drop_more xs i x lt ∙ ap (λ y. y ∷ drop (i + 1) xs) (sym is))
+    ∙ ap (λ b. if b then last_values alike (drop (i + 1) xs) else x.1 ∷ last_values alike (drop (i + 1) xs)) some
 
-pub list-pieces : {V : Type 0} (alike : V → V → Bool) (nothing : V) → ((x y : V) → IsTrue (alike x y) ↔ (x ≡ y)) → (xs : List (DayRange × V)) (cuts : List ℕ) (days : List V) (pieces sorted : List (DayRange × V)) → AreApart nothing xs cuts → AreDifferent alike xs → each_day (value_in nothing xs) ≡ days → pieces ≡ flat_map own_cover xs → IsPermutation pieces sorted → IsNonDecreasingBy (λ (piece : DayRange × V). piece.0.first) sorted → sorted ≡ pieces_of alike nothing days
-list-pieces {V} alike nothing exact xs cuts days pieces sorted a d view are moved order =
+values-own : {V : Type 0} (alike : V → V → Bool) (xs : List (DayRange × V)) (i : ℕ) (x : DayRange × V) → i < length xs → x ≡ slice_index_or xs i x → list_any (λ (y : DayRange × V). alike x.1 y.1) (drop (i + 1) xs) ≡ false → last_values alike (drop i xs) ≡ x.1 ∷ last_values alike (drop (i + 1) xs)
+values-own alike xs i x lt is none =
+    ap (last_values alike) (drop_more xs i x lt ∙ ap (λ y. y ∷ drop (i + 1) xs) (sym is))
+    ∙ ap (λ b. if b then last_values alike (drop (i + 1) xs) else x.1 ∷ last_values alike (drop (i + 1) xs)) none
+
+-- the days of a value that no later period has
+cover-last : {V : Type 0} (alike : V → V → Bool) (xs : List (DayRange × V)) (i : ℕ) (x : DayRange × V) → i < length xs → x ≡ slice_index_or xs i x → list_any (λ (y : DayRange × V). alike x.1 y.1) (drop (i + 1) xs) ≡ false → given_cover alike (take i xs ++ x ∷ []) x.1 ≡ given_cover alike xs x.1
+cover-last {V} alike xs i x lt is none = ap (λ is_in. map (λ (period : DayRange). (period, x.1)) (cover is_in day_count)) (fun_ext same)
+  where
+    whole : (take i xs ++ x ∷ []) ++ drop (i + 1) xs ≡ xs
+    whole = ap (λ ys. ys ++ drop (i + 1) xs) (sym (upto-next xs i x lt is)) ∙ take-append-drop (i + 1) xs
+
+    same : (n : ℕ) → given_on alike (take i xs ++ x ∷ []) x.1 n ≡ given_on alike xs x.1 n
+    same n =
+        sym (ap (λ ys. given_on alike ys x.1 n) (sym whole) ∙ on-append alike (take i xs ++ x ∷ []) (drop (i + 1) xs) x.1 n
+        ∙ ap (λ b. given_on alike (take i xs ++ x ∷ []) x.1 n || b) (none-later alike x.1 (drop (i + 1) xs) n none) ∙ or-false (given_on alike (take i xs ++ x ∷ []) x.1 n))
+
+-- what is pushed for it
+pub covers-more : {V : Type 0} (alike : V → V → Bool) (xs : List (DayRange × V)) (i : ℕ) (x : DayRange × V) (pieces more : List (DayRange × V)) → i < length xs → x ≡ slice_index_or xs i x → list_any (λ (y : DayRange × V). alike x.1 y.1) (drop (i + 1) xs) ≡ false → more ≡ pieces ++ given_cover alike (take i xs ++ x ∷ []) x.1
+    → more ++ flat_map (given_cover alike xs) (last_values alike (drop (i + 1) xs)) ≡ pieces ++ flat_map (given_cover alike xs) (last_values alike (drop i xs))
+covers-more alike xs i x pieces more lt is none put =
+    let rest = flat_map (given_cover alike xs) (last_values alike (drop (i + 1) xs)) in
+    ap (λ l. l ++ rest) (put ∙ ap (λ l. pieces ++ l) (cover-last alike xs i x lt is none)) ∙ append_assoc pieces (given_cover alike xs x.1) rest
+    ∙ ap (λ l. pieces ++ l) (sym (ap (flat_map (given_cover alike xs)) (values-own alike xs i x lt is none)))
+
+flat-same : {X Y : Type 0} (f g : X → List Y) (xs : List X) → ((x : X) → In x xs → f x ≡ g x) → flat_map f xs ≡ flat_map g xs
+flat-same f g [] h = refl
+flat-same f g (x ∷ xs) h = ap (λ l. l ++ flat_map f xs) (h x (inl refl)) ∙ ap (λ l. g x ++ l) (flat-same f g xs (λ y i. h y (inr i)))
+
+pub list-pieces : {V : Type 0} (alike : V → V → Bool) (nothing : V) → ((x y : V) → IsTrue (alike x y) ↔ (x ≡ y)) → (xs : List (DayRange × V)) (cuts : List ℕ) (days : List V) (pieces sorted : List (DayRange × V)) → AreApart nothing xs cuts → each_day (value_in nothing xs) ≡ days → pieces ≡ flat_map (given_cover alike xs) (last_values alike xs) → IsPermutation pieces sorted → IsNonDecreasingBy (λ (piece : DayRange × V). piece.0.first) sorted → sorted ≡ pieces_of alike nothing days
+list-pieces {V} alike nothing exact xs cuts days pieces sorted a view are moved order =
     let size : length days ≡ 36525 = sym (ap length view) ∙ length-each_day (value_in nothing xs) in
     let day = λ (n : ℕ). slice_index_or days n nothing in
-    pieces-once alike nothing exact days (map (λ (y : DayRange × V). y.1) xs) pieces sorted
+    let same : (v : V) → In v (last_values alike xs) → given_cover alike xs v ≡ pieces_with alike days v =
+    λ v i. ap (λ is_in. map (λ (period : DayRange). (period, v)) (cover is_in day_count)) (fun_ext (λ n. days-of alike nothing exact xs cuts days v n a view (last-given alike nothing xs v a.given i)))
+    ∙ ap (λ end. map (λ (period : DayRange). (period, v)) (cover (has_value alike days v) end)) (day_count-is ∙ sym size) in
+    pieces-once alike nothing exact days (last_values alike xs) pieces sorted
     (λ n h.
     let value : day n ≡ value_in nothing xs n = ap (λ ds. slice_index_or ds n nothing) (sym view) ∙ index-each_day (value_in nothing xs) n nothing (omega arith) in
-    ap (λ x. filter (λ v. alike v x) (map (λ (y : DayRange × V). y.1) xs)) value ∙ once-each alike nothing exact xs cuts n a d ∙ ap (λ x. alone alike nothing x) (sym value))
-    (are ∙ covers-of alike days xs (size ∙ sym day_count-is) (λ x n i. days-of alike nothing exact xs cuts days x n a d view i)) moved order
+    ap (λ x. filter (λ v. alike v x) (last_values alike xs)) value ∙ once-each alike nothing exact xs cuts n a ∙ ap (λ x. alone alike nothing x) (sym value))
+    (are ∙ flat-same (given_cover alike xs) (pieces_with alike days) (last_values alike xs) same) moved order

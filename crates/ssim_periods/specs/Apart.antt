@@ -1,5 +1,5 @@
 -- Periods with values as a list, of which no two hold a common day.
-use Rattle.std.specs.Prelude.{◌≡◌, ◌≢◌, ℕ, ◌+◌, ◌-◌, ◌%◌, ◌≤◌, ◌&&◌, Bool, false, nat_lt, if◌then◌else◌, List, [], ◌∷◌, length, map, slice_index_or}
+use Rattle.std.specs.Prelude.{◌≢◌, ℕ, ◌+◌, ◌-◌, ◌%◌, ◌≤◌, ◌&&◌, Bool, false, nat_lt, if◌then◌else◌, List, [], ◌∷◌, length, map, slice_index_or}
 use Rattle.std.specs.List.{All, Contains, list_any}
 use Rattle.std.specs.List.Sorted.{IsStrictlyIncreasing}
 use Rattle.ssim_values.specs.Period.{DayRange}
@@ -32,10 +32,23 @@ pub record AreApart {V : Type 0} (nothing : V) (periods : List (DayRange × V)) 
 abbrev pub own_cover : {V : Type 0} → DayRange × V → List (DayRange × V)
 own_cover given = map (λ period. (period, given.1)) (cover (holds given.0) day_count)
 
--- no two of the values are the same
-abbrev pub AreDifferent : {V : Type 0} → (V → V → Bool) → List (DayRange × V) → Type 0
-AreDifferent alike [] = Unit {0}
-AreDifferent alike (given ∷ later) = (list_any (λ other. alike given.1 other.1) later ≡ false) × AreDifferent alike later
+-- whether a period with the value holds the day
+abbrev pub given_on : {V : Type 0} → (V → V → Bool) → List (DayRange × V) → V → ℕ → Bool
+given_on alike periods v n = list_any (alike v) (held_on periods n)
+
+-- the cover of the days of a value, each period with the value
+abbrev pub given_cover : {V : Type 0} → (V → V → Bool) → List (DayRange × V) → V → List (DayRange × V)
+given_cover alike periods v = map (λ period. (period, v)) (cover (given_on alike periods v) day_count)
+
+-- 1 on a day of the value, else 0
+abbrev pub marked : {V : Type 0} → (V → V → Bool) → List (DayRange × V) → V → ℕ → ℕ
+marked alike periods v n = if given_on alike periods v n then 1 else 0
+
+-- each value once, at the last period that has it
+abbrev pub last_values : {V : Type 0} → (V → V → Bool) → List (DayRange × V) → List V
+last_values alike [] = []
+last_values alike (given ∷ later) =
+    if list_any (λ other. alike given.1 other.1) later then last_values alike later else given.1 ∷ last_values alike later
 
 -- which of the weekdays, Monday first, have one of the seven days from `first` on before `end`
 abbrev pub weekdays_within : List Bool → ℕ → ℕ → List Bool

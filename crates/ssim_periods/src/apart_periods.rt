@@ -11,7 +11,7 @@ ghost use Rattle.ssim_periods.specs.Splits.{with_cut};
 
 use crate::count::class_counts;
 use crate::entries::{copy_entries, meets_none, rows_of, shared_entries, value_at};
-use crate::entry_pieces::{are_different, covers};
+use crate::entry_pieces::covers;
 use crate::range_rows::RangeRows;
 use crate::rows::{has_cut, place_of};
 use crate::{Change, Value};
@@ -163,16 +163,12 @@ impl<V: Value> ApartPeriods<V> {
         rows_of(self.alloc, &self.entries)
     }
 
-    /// The cover of the days of each value, each period with its value, sorted by first day. If two values of the list are equal, the
-    /// pieces are those of the rows; else each value's days are the days of one period.
+    /// The cover of the days of each value, each period with its value, sorted by first day. The days of a value of one period are
+    /// those of this period. For a value of several periods, rows are made of these periods.
     pub(crate) fn pieces(&self) -> Result<Vec<(Period, V)>, Memory>
         ensures pieces { IfOk result (λ pieces. pieces.items ≡ pieces_of V.alike V.nothing self.now.days) }
         ensures each_day { OnOk result (length self.now.days ≡ day_count) }
     {
-        if !are_different(&self.entries) {
-            let rows = self.to_rows()?;
-            return rows.pieces();
-        }
         let mut pieces = covers(self.alloc, &self.entries)?;
         pieces.sort_by_key(|piece| piece.0.first().number())?;
         Ok(pieces)

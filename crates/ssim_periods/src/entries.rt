@@ -1,12 +1,13 @@
 //! Lists of periods with values.
-ghost use Rattle.std.specs.Prelude.{◌≡◌, ℕ, List, [], true, IfOk, IsTrue};
+ghost use Rattle.std.specs.Prelude.{◌≡◌, ◌++◌, ◌∷◌, ℕ, List, [], true, IfOk, IsTrue};
 ghost use Rattle.std.specs.List.{Contains};
-ghost use Rattle.ssim_periods.specs.Apart.{value_in, AreDivided};
+ghost use Rattle.ssim_periods.specs.Apart.{marked, value_in, AreDivided};
 ghost use Rattle.ssim_periods.specs.Calendar.{holds};
 ghost use Rattle.ssim_periods.specs.Days.{each_day};
 ghost use Rattle.ssim_periods.specs.Pieces.{held_on};
 
 use crate::common_days::meets;
+use crate::numbers::ValueNumber;
 use crate::range_rows::RangeRows;
 use crate::{Change, Value};
 use ssim_values::{Day, Memory, Period};
@@ -114,5 +115,24 @@ pub(crate) fn rows_of<V: Value>(
     for entry in entries {
         rows.apply(&entry.0, &SetTo { value: &entry.1 })?;
     }
+    Ok(rows)
+}
+
+// The rows with 1 on each day of the value of a period and of the earlier ones that have it, and 0 on each other day.
+pub(crate) fn rows_of_value<V: Value>(
+    alloc: Global,
+    earlier: &[(Period, V)],
+    entry: &(Period, V),
+) -> Result<RangeRows<ValueNumber>, Memory>
+    ensures { IfOk result (λ rows. rows.days ≡ each_day (marked V.alike (earlier.now ++ entry.now ∷ []) entry.now.1)) }
+{
+    let one = ValueNumber { number: 1 };
+    let mut rows = RangeRows::new(alloc);
+    for other in earlier {
+        if entry.1.same(&other.1) {
+            rows.apply(&other.0, &SetTo { value: &one })?;
+        }
+    }
+    rows.apply(&entry.0, &SetTo { value: &one })?;
     Ok(rows)
 }

@@ -12,10 +12,11 @@ use ssim_values::{Memory, Period};
 impl<V: Value> Periods<V> {
     /// The cover of the days of each value other than the empty one, each period with its value, sorted by first day.
     ///
-    /// The pieces of a few periods without a common date that were given different values are these periods, each trimmed to the days
-    /// that it holds. Otherwise each value of a row first gets a number: mostly by one comparison, with the value of the same weekday in
-    /// the row before, else by comparisons with the distinct values. From then on only numbers are compared. Each distinct value costs
-    /// one pass over the ranges, with at most seven comparisons in each.
+    /// In a list of a few periods without a common date, each value is compared with the others. A value of one period gives this
+    /// period, trimmed to the days that it holds. For a value of several periods, rows are made of these periods alone. Otherwise each
+    /// value of a row first gets a number: mostly by one comparison, with the value of the same weekday in the row before, else by
+    /// comparisons with the distinct values. From then on only numbers are compared. Each distinct value costs one pass over the ranges,
+    /// with at most seven comparisons in each.
     pub fn pieces(&self) -> Result<Vec<(Period, V)>, Memory>
         ensures pieces { IfOk result (λ pieces. pieces.items ≡ pieces_of V.alike V.nothing self.now.days) }
         ensures each_day { OnOk result (length self.now.days ≡ day_count) }

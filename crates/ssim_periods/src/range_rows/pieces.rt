@@ -33,8 +33,8 @@ impl<V: Value> RangeRows<V> {
         Ok(pieces)
     }
 
-    // Appends the cover of the days that have the value, each period with the label.
-    fn push_cover<L: Value>(
+    /// Appends the cover of the days that have the value, each period with the label.
+    pub(crate) fn push_cover<L: Value>(
         &self,
         value: &V,
         label: &L,
