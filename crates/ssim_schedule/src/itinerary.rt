@@ -1,8 +1,9 @@
 //! The legs of a flight on one date, shared by all dates that have them.
 
-ghost use Rattle.std.specs.Prelude.{◌≡◌, ◌∷◌, [], IfOk};
+ghost use Rattle.std.specs.Prelude.{◌≡◌, ◌<◌, ◌^◌, ◌∷◌, [], IfOk};
 ghost use Rattle.ssim_schedule.specs.Export.{same_itinerary};
 ghost use Rattle.ssim_schedule.specs.ItineraryLaws.{exact_itinerary};
+ghost use Rattle.ssim_schedule.specs.Shared.{hash_of};
 
 use crate::leg::PlacedLeg;
 use ssim_periods::Value;
@@ -15,15 +16,20 @@ use std::rc::Rc;
 #[derive(Drop)]
 pub struct Itinerary {
     legs: Option<Rc<Vec<PlacedLeg>>>,
+    /// The hash of the legs. Itineraries with different hashes are different.
+    hash: u64,
 }
 
 impl Model for Itinerary {
+    ghost use Rattle.std.specs.Prelude.{◌≡◌};
     ghost use Rattle.ssim_schedule.specs.Timetable.{Legs};
-    ghost use Rattle.ssim_schedule.specs.Shared.{legs_of};
+    ghost use Rattle.ssim_schedule.specs.Shared.{legs_of, hash_of};
 
     ghost Value = { Legs };
 
     ghost view = { λ i. legs_of i.legs };
+
+    ghost invariant = { λ i. i.hash ≡ hash_of (legs_of i.legs) };
 }
 
 impl Itinerary {
@@ -31,8 +37,10 @@ impl Itinerary {
     pub(crate) fn of(alloc: Global, legs: Vec<PlacedLeg>) -> Result<Itinerary, Memory>
         ensures { IfOk result (λ itinerary. itinerary ≡ legs.items) }
     {
+        let hash = hash_of(&legs);
         Ok(Itinerary {
             legs: Some(Rc::new(alloc, legs)?),
+            hash,
         })
     }
 
@@ -44,6 +52,17 @@ impl Itinerary {
             None => &[],
             Some(legs) => legs.as_slice(),
         }
+    }
+}
+
+// The hash of legs: each leg is added to the hash of the later ones.
+fn hash_of(legs: &[PlacedLeg]) -> u64
+    ensures value { result ≡ hash_of legs.now }
+    ensures bound { result < 2 ^ 56 }
+{
+    match legs.split_first() {
+        None => 0,
+        Some((leg, later)) => hash_of(later) % 4_294_967_296 * 7_919 + leg.hash(),
     }
 }
 
@@ -66,7 +85,10 @@ impl Value for Itinerary {
     ghost alike = { same_itinerary };
 
     fn empty() -> Self {
-        Itinerary { legs: None }
+        Itinerary {
+            legs: None,
+            hash: 0,
+        }
     }
 
     fn is_empty(&self) -> bool {
@@ -74,16 +96,18 @@ impl Value for Itinerary {
     }
 
     fn same(&self, other: &Self) -> bool {
-        same_legs(self.legs(), other.legs())
+        self.hash == other.hash && same_legs(self.legs(), other.legs())
     }
 
     fn copy(&self, _alloc: Global) -> Result<Self, Memory> {
-        match &self.legs {
-            None => Ok(Itinerary { legs: None }),
-            Some(legs) => Ok(Itinerary {
-                legs: Some(legs.clone()?),
-            }),
-        }
+        let legs = match &self.legs {
+            None => None,
+            Some(legs) => Some(legs.clone()?),
+        };
+        Ok(Itinerary {
+            legs,
+            hash: self.hash,
+        })
     }
 
     ghost exact = { exact_itinerary };
