@@ -4,7 +4,8 @@
 A data set of 900,000 records (or RECORDS) is made in FOLDER where it is not there yet, and 1,000 texts (or TEXTS), each of
 which changes the equipment of a flight in one week. Each command runs five times with each program, in turn; the best time
 and the greatest peak memory of each count. `start` and `take` of both programs write the same files, which is checked. `cp`
-of the desk file stands beside `start`, which writes it. GNU time (`/usr/bin/time`) reads the memory.
+of the desk file stands beside the commands that write it. Opening a desk file alone is a `take` that is refused at its text.
+GNU time (`/usr/bin/time`) reads the memory.
 """
 import filecmp
 import os
@@ -32,16 +33,29 @@ def write_texts(folder, dataset, count):
     return names, designator
 
 
-def compare(title, lines, folder):
-    """The best of each command line, run in turn."""
+def compare(title, lines, folder, status=0):
+    """The best of each command line, run in turn; they end with this status."""
     runs = [[] for _ in lines]
     for _ in range(RUNS):
         for line, found in zip(lines, runs):
-            found.append(once(line[0], line[1:], folder))
-    (seconds, peak), (other_seconds, other_peak) = [best(found) for found in runs[:2]]
-    more = "".join(f"  cp {best(found)[0]:.3f} s" for found in runs[2:])
+            found.append(once(line[0], line[1:], folder, status))
+    found = [best(found) for found in runs]
+    (seconds, peak), (other_seconds, other_peak) = found[:2]
+    more = "".join(f"  cp {copied:.3f} s" for copied, _ in found[2:])
     print(f"{title:14} {seconds:8.3f} {other_seconds:8.3f} {seconds / other_seconds:6.2f} "
           f"{peak / 2**20:10.1f} {other_peak / 2**20:10.1f} {peak / other_peak:6.2f}{more}", flush=True)
+    return seconds, other_seconds
+
+
+def compare_file(both, folder):
+    """Opening a desk file alone, which is a `take` of a text that is no message, and opening and saving it, which is a `take` of a
+    text that is held. The time of saving is their difference."""
+    with open(os.path.join(folder, "no-message"), "w") as text:
+        text.write("no message\n")
+    opened = compare("open", both(["take", "desk.@", "again.@", "no-message"]), folder, status=1)
+    kept = compare("open and save", [*both(["take", "desk.@", "again.@", "text0000"]), ["/bin/cp", "desk.a", "copy"]], folder)
+    saved, other_saved = kept[0] - opened[0], kept[1] - opened[1]
+    print(f"{'save':14} {saved:8.3f} {other_saved:8.3f} {saved / other_saved:6.2f}", flush=True)
 
 
 def main():
@@ -72,6 +86,7 @@ def main():
     for program, mark in ((ours, "a"), (other, "b")):
         for name, part in (("first", texts[:half]), ("second", texts[half:])):
             subprocess.run([program, "take", f"empty.{mark}", f"{name}.{mark}", *part], cwd=folder, check=True, stdout=subprocess.DEVNULL)
+    compare_file(both, folder)
     compare(f"merge {half}+{half}", both(["merge", "first.@", "second.@", "merged.@"]), folder)
     compare("show", both(["show", "desk.@", designator, "01JUL25"]), folder)
     compare("findings", both(["findings", "desk.@"]), folder)

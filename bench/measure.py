@@ -17,13 +17,15 @@ SIZES = [10_000, 100_000, 900_000]
 HERE = os.path.dirname(os.path.abspath(__file__))
 
 
-def once(program, words, folder):
-    """Seconds and peak bytes of one run."""
+def once(program, words, folder, status=0):
+    """Seconds and peak bytes of one run, which ends with this status."""
     with tempfile.NamedTemporaryFile("r") as report:
         command = ["/usr/bin/time", "-q", "-f", "%M", "-o", report.name, program, *words]
         begin = time.monotonic()
-        subprocess.run(command, cwd=folder, stdout=open(os.path.join(folder, "out"), "wb"), check=True)
+        run = subprocess.run(command, cwd=folder, stdout=open(os.path.join(folder, "out"), "wb"), stderr=subprocess.DEVNULL)
         seconds = time.monotonic() - begin
+        if run.returncode != status:
+            sys.exit(f"{program} {' '.join(words)}: status {run.returncode}")
         return seconds, int(report.read()) * 1024
 
 
