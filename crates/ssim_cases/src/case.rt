@@ -300,7 +300,7 @@ impl<'t> Case<'t> {
     }
 
     fn keep(&mut self, name: &str) -> io::Result<()> {
-        if self.store.keep(name, &self.bytes).is_err() {
+        if self.store.add(name, &self.bytes).is_err() {
             return Err(out_of_memory());
         }
         self.bytes.clear();
@@ -313,7 +313,7 @@ impl<'t> Case<'t> {
         if let Err(fault) = self.desks.desk(desk)?.save(&mut file) {
             return writeln!(out, "refused {} {fault}", fault.number());
         }
-        match self.store.keep(name, file.bytes()) {
+        match self.store.add(name, file.bytes()) {
             Ok(()) => Ok(()),
             Err(_) => Err(out_of_memory()),
         }

@@ -1,6 +1,6 @@
 //! Devices and stores that fail.
 
-use ssim_program::{Store, StoreFault};
+use ssim_program::{Content, Store, StoreFault};
 use std::alloc::Global;
 use std::io;
 use std::io::Write;
@@ -53,7 +53,7 @@ impl Store for NoStore {
         Err(self.fault)
     }
 
-    fn keep(&mut self, _name: &str, _bytes: &[u8]) -> Result<(), StoreFault> {
+    fn keep<C: Content>(&mut self, _name: &str, _content: &C) -> Result<(), StoreFault> {
         Err(self.fault)
     }
 }

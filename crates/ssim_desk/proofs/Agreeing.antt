@@ -10,8 +10,9 @@ use Rattle.ssim_schedule.specs.Stations.{SameBytesSameRows}
 use Rattle.ssim_text.specs.Grammar.{OneMessage}
 use Rattle.ssim_text.specs.Message.{MessageValue}
 use Rattle.ssim_text.specs.declared.reference.Reference.{Reference}
+use Rattle.ssim_held.specs.Held.{DeskState, HasReference, Holds, IsDesk, no_desk}
+use Rattle.ssim_held.proofs.References.{reference_apart, reference_total}
 use Rattle.ssim_desk.specs.Agreement.{AnyTwoDesksAgree, AreAgreed, BeganAlike, BeganFrom, Run, SameMessagesSameDesk}
-use Rattle.ssim_desk.specs.Held.{DeskState, HasReference, Holds, IsDesk, no_desk}
 use Rattle.ssim_desk.specs.Meaning.{Exports, Means, Timetable}
 use Rattle.ssim_desk.specs.Reach.{Brings, by_text, from_start, from_step}
 use Rattle.ssim_desk.specs.Steps.{MergesOne, desk_at}
@@ -19,7 +20,6 @@ use Rattle.ssim_desk.specs.declared.steps.Answer.TheVariants.{Merged}
 use Rattle.ssim_desk.proofs.Meanings.{has_export, has_meaning, has_one_export, has_one_meaning}
 use Rattle.ssim_desk.proofs.Moments.{at_end, at_step}
 use Rattle.ssim_desk.proofs.Reaching.{SoFar}
-use Rattle.ssim_desk.proofs.References.{reference_apart, reference_total}
 
 same_option : (a b : Option MessageValue) → ((m : MessageValue) → a ≡ Some m → b ≡ Some m) → ((m : MessageValue) → b ≡ Some m → a ≡ Some m) → a ≡ b
 same_option None None f g = refl

@@ -1,13 +1,14 @@
 -- What a desk is after the messages of another were brought.
 use Rattle.std.proofs.Common.{◌≡◌, ℕ, List, drop, All, ap, subst, ◌∙◌}
+use Rattle.ssim_held.specs.Held.{Agree}
+use Rattle.ssim_held.specs.Kept.{AreEntries, DeskSeen, Entry, map_of, state_of}
+use Rattle.ssim_held.specs.Ordered.{IsFirstNew, IsMerged}
+use Rattle.ssim_held.proofs.Entries.{not_held}
+use Rattle.ssim_held.proofs.Unions.{IsHeldIn, union_first, union_held, union_is}
 use Rattle.ssim_desk.specs.Desk.{IsReplayed}
-use Rattle.ssim_desk.specs.Held.{Agree}
-use Rattle.ssim_desk.specs.Kept.{AreEntries, DeskSeen, Entry, map_of, state_of}
 use Rattle.ssim_desk.specs.Steps.{IsUnion}
-use Rattle.ssim_desk.specs.Private.{IsFirstNew, IsMerged, IsReplaced}
+use Rattle.ssim_desk.specs.Private.{IsReplaced}
 use Rattle.ssim_desk.proofs.Changes.{replayed}
-use Rattle.ssim_desk.proofs.Entries.{not_held}
-use Rattle.ssim_desk.proofs.Unions.{IsHeldIn, union_first, union_held, union_is}
 
 module _ (old other : DeskSeen) (base : old.base ≡ other.base) (agree : Agree (map_of old.held) (map_of other.held)) (mine : AreEntries old.base.records old.held) (theirs : AreEntries other.base.records other.held) where
   pub united_none : All (IsHeldIn old.held) other.held → IsUnion (state_of old) (state_of other) (map_of old.held)

@@ -1,28 +1,26 @@
 -- What a text and a merge make of a desk.
-use Rattle.std.proofs.Common.{◌≡◌, ◌≢◌, ◌≤◌, ℕ, suc, List, [], ◌∷◌, ◌++◌, length, take, drop, Some, None, slice_get, refl, sym, ap, subst, ◌∙◌, arith, length-append}
+use Rattle.std.proofs.Common.{◌≡◌, ◌≢◌, ◌≤◌, ℕ, List, [], ◌∷◌, ◌++◌, length, take, drop, Some, None, slice_get, refl, sym, ap, subst, ◌∙◌, arith, length-append}
 use Rattle.std.proofs.lemmas.List.{length-take, take-append-le, take_all}
 use Rattle.std.proofs.lemmas.List.Elements.{All-append, All-cons, All-drop, All-take}
 use Rattle.std.specs.FinMap.{get}
-use Rattle.ssim_records.specs.Carrier.{CarrierFields}
 use Rattle.ssim_records.specs.declared.record.Record.{Record}
-use Rattle.ssim_schedule.specs.Resolve.{AreResolved, IsRefusedIn, ResolvesIn}
-use Rattle.ssim_schedule.specs.declared.resolved.ResolvedSub.{ResolvedSub}
+use Rattle.ssim_schedule.specs.Resolve.{IsRefusedIn, ResolvesIn}
 use Rattle.ssim_schedule.specs.declared.resolving.ResolveFault.{ResolveFault}
 use Rattle.ssim_schedule.specs.declared.resolving.ResolveFault.TheVariants as resolve_fault
 use Rattle.ssim_schedule.specs.declared.resolving.ResolvedText.{ResolvedText}
 use Rattle.ssim_text.specs.Decoding.{IsRefusal, NoMessage}
 use Rattle.ssim_text.specs.Message.{MessageValue}
 use Rattle.ssim_text.specs.Spelling.{SpellsMessage}
-use Rattle.ssim_text.specs.declared.action.Sub.{Sub}
 use Rattle.ssim_text.specs.declared.fault.TextFault.{TextFault}
 use Rattle.ssim_text.specs.declared.fault.TextFault.TheVariants as text_fault
+use Rattle.ssim_held.specs.Fault.{message_refused, text_refused}
+use Rattle.ssim_held.specs.Held.{DeskState, Says}
+use Rattle.ssim_held.specs.Kept.{AreEntries, AreRising, DeskSeen, Entry, IsEntry, map_of, state_of}
+use Rattle.ssim_held.specs.Ordered.{Belongs}
+use Rattle.ssim_held.proofs.Entries.{map_of_with, not_held, rising_with}
 use Rattle.ssim_desk.specs.Desk.{IsReplayed}
-use Rattle.ssim_desk.specs.Fault.{message_refused, text_refused}
-use Rattle.ssim_desk.specs.Held.{DeskState, Says}
-use Rattle.ssim_desk.specs.Kept.{AreEntries, AreRising, DeskSeen, Entry, IsEntry, map_of, state_of}
-use Rattle.ssim_desk.specs.Private.{Belongs, IsReplaced}
+use Rattle.ssim_desk.specs.Private.{IsReplaced}
 use Rattle.ssim_desk.specs.Steps.{IsInConflict, IsKnown, IsNew, RefusesText}
-use Rattle.ssim_desk.proofs.Entries.{map_of_with, not_held, rising_with}
 
 -- ---- messages that are replaced
 
@@ -58,15 +56,6 @@ replayed old new at first others place r absent =
     }
 
 -- ---- a text
-
-pub length-resolved : (carrier : CarrierFields) (subs : List Sub) (dates : List ResolvedSub) → AreResolved carrier subs dates → length dates ≡ length subs
-length-resolved carrier [] [] h = refl
-length-resolved carrier [] (d ∷ dates) h = absurd h
-length-resolved carrier (s ∷ subs) [] h = absurd h
-length-resolved carrier (s ∷ subs) (d ∷ dates) h = ap suc (length-resolved carrier subs dates h.1)
-
-pub each_dated : (records : List Record) (m : MessageValue) (text : ResolvedText) → ResolvesIn records m text → length text.subs.items ≡ length m.subs
-each_dated records m text (frame, in_frame, is) = length-resolved frame.carrier m.subs text.subs.items is.subs
 
 pub no_text : (desk : DeskState) (text : List ℕ) (fault : TextFault) → NoMessage text fault → IsRefusal text fault → RefusesText desk text (text_refused fault)
 no_text desk text text_fault.Memory none place = tt

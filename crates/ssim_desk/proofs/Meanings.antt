@@ -17,12 +17,12 @@ use Rattle.ssim_schedule.specs.Resolve.{ResolvesIn}
 use Rattle.ssim_schedule.specs.declared.resolving.ResolvedText.{ResolvedText}
 use Rattle.ssim_text.specs.Message.{MessageValue}
 use Rattle.ssim_text.specs.declared.reference.Reference.{Reference}
-use Rattle.ssim_desk.specs.Held.{DeskState, HasReference}
-use Rattle.ssim_desk.specs.Kept.{Entry, keyed}
+use Rattle.ssim_held.specs.Held.{DeskState, HasReference}
+use Rattle.ssim_held.specs.Kept.{Entry, keyed}
+use Rattle.ssim_held.proofs.References.{reference_apart, reference_total}
+use Rattle.ssim_held.proofs.Resolving.{one_subs}
 use Rattle.ssim_desk.specs.Meaning.{HasDates, HasExport, HasMeaning, HasOneExport, HasOneMeaning, Lists, Timetable, left_by}
 use Rattle.ssim_desk.proofs.HeldEntries.{each_entry}
-use Rattle.ssim_desk.proofs.References.{reference_apart, reference_total}
-use Rattle.ssim_desk.proofs.Resolving.{one_subs}
 
 -- ---- each has one
 

@@ -7,11 +7,11 @@ use Rattle.ssim_schedule.specs.BaseSeen.{BaseSeen}
 use Rattle.ssim_schedule.specs.Schedule.{Table, days_in}
 use Rattle.ssim_schedule.specs.Timetable.{Legs}
 use Rattle.ssim_values.specs.Flight.{FlightNumber, IsFlight}
+use Rattle.ssim_held.specs.Kept.{AreEntries, DeskSeen, Entry, IsEntry, state_of}
+use Rattle.ssim_held.proofs.Entries.{entries-map_of}
 use Rattle.ssim_desk.specs.Desk.{timetable_of}
-use Rattle.ssim_desk.specs.Kept.{AreEntries, DeskSeen, Entry, IsEntry, state_of}
 use Rattle.ssim_desk.specs.Meaning.{Finds, HasDates, Lists, Means, Timetable, found_by, left_by}
 use Rattle.ssim_desk.specs.Private.{IsAfter}
-use Rattle.ssim_desk.proofs.Entries.{entries-map_of}
 use Rattle.ssim_desk.proofs.Meanings.{has_one_meaning}
 
 -- a desk's messages are listed as it keeps them

@@ -14,14 +14,14 @@ use Rattle.ssim_text.specs.Spelling.{SpellsMessage}
 use Rattle.ssim_text.specs.declared.fault.TextFault.{TextFault}
 use Rattle.ssim_text.specs.declared.fault.TextFault.TheVariants as text_fault
 use Rattle.ssim_text.specs.declared.reference.Reference.{Reference}
-use Rattle.ssim_desk.specs.Held.{Agree, DeskState, DifferAt, HeldMessages, Holds, IsLeastConflict, Says, reference_cmp, union}
+use Rattle.ssim_held.specs.Held.{Agree, DeskState, DifferAt, HeldMessages, Holds, IsLeastConflict, Says, reference_cmp, union}
+use Rattle.ssim_held.specs.declared.fault.DeskFault.TheVariants.{Memory, Text, Resolve, Conflict, OtherBase, Read, File}
+use Rattle.ssim_held.proofs.MapLemmas.{get-union, or_else, union-assoc, union-comm, union-idem}
+use Rattle.ssim_held.proofs.References.{reference_apart, reference_total}
 use Rattle.ssim_desk.specs.Merging.{IsMergedTo, MergesAreDetermined, TakesAreDetermined, ThreeDesksMerge, merged}
 use Rattle.ssim_desk.specs.Steps.{IsInConflict, IsKnown, IsNew, IsUnresolved, IsUnspelt, Merges, Takes}
-use Rattle.ssim_desk.specs.declared.fault.DeskFault.TheVariants.{Memory, Text, Resolve, Conflict, OtherBase, Read, File}
 use Rattle.ssim_desk.specs.declared.steps.Answer.{Answer}
 use Rattle.ssim_desk.specs.declared.steps.Answer.TheVariants.{Taken, Repeated, Merged, Refused}
-use Rattle.ssim_desk.proofs.MapLemmas.{get-union, or_else, union-assoc, union-comm, union-idem}
-use Rattle.ssim_desk.proofs.References.{reference_apart, reference_total}
 use Rattle.ssim_desk.proofs.Refusing.{one_refusal, resolves_or_not}
 use Rattle.ssim_desk.proofs.Taking.{says_message, says_reference}
 

@@ -14,14 +14,14 @@ use Rattle.ssim_schedule.specs.Resolve.{ResolvesIn}
 use Rattle.ssim_schedule.specs.Stations.{Row}
 use Rattle.ssim_text.specs.Message.{MessageValue}
 use Rattle.ssim_text.specs.declared.reference.Reference.{Reference}
+use Rattle.ssim_held.specs.Held.{DeskState, HasReference, IsDesk, reference_cmp}
+use Rattle.ssim_held.specs.Kept.{AreEntries, DeskSeen, Entry, IsEntry, keyed, state_of}
+use Rattle.ssim_held.proofs.Entries.{get-map_of}
+use Rattle.ssim_held.proofs.References.{reference_apart}
 use Rattle.ssim_desk.specs.Agreement.{AnyTwoDesksAgree, DesksAgree, Run}
-use Rattle.ssim_desk.specs.Held.{DeskState, HasReference, IsDesk, reference_cmp}
-use Rattle.ssim_desk.specs.Kept.{AreEntries, DeskSeen, Entry, IsEntry, keyed, state_of}
 use Rattle.ssim_desk.specs.Steps.{IsInRange, Runs}
 use Rattle.ssim_desk.specs.declared.steps.Answer.{Answer}
 use Rattle.ssim_desk.specs.declared.steps.Step.{Step}
-use Rattle.ssim_desk.proofs.Entries.{get-map_of}
-use Rattle.ssim_desk.proofs.References.{reference_apart}
 
 abbrev numbered : List Record → List (ℕ × Record)
 numbered base = map (λ r. (0, r)) base

@@ -21,7 +21,7 @@ use Rattle.ssim_schedule.specs.declared.resolved.ResolvedSub.{ResolvedSub}
 use Rattle.ssim_text.specs.declared.action.Action.{Action}
 use Rattle.ssim_values.specs.Flight.{FlightNumber, IsFlight}
 use Rattle.ssim_values.specs.Period.{DayRange}
-use Rattle.ssim_desk.specs.Kept.{Entry}
+use Rattle.ssim_held.specs.Kept.{Entry}
 use Rattle.ssim_desk.specs.Private.{AddsSubPoints}
 use Rattle.ssim_desk.specs.Desk.{AreDeskPoints, is_desk_point, is_row_point, is_sub_of, is_sub_point, point_bound, subs_of}
 

@@ -2,8 +2,8 @@
 use Rattle.std.proofs.Common.{◌≡◌, ◌≢◌, ℕ, zero, suc, ◌-◌, ◌<◌, ◌==◌, Bool, true, false, List, [], ◌∷◌, ◌++◌, length, map, get_or, set, slice_get, refl, sym, ap, subst, ◌∙◌, arith, eq-eqb, true≢false}
 use Rattle.std.proofs.lemmas.Bool.Decides.{Decides-eqb}
 use Rattle.std.proofs.lemmas.List.{get_or-map, get_or_append_left, get_or-append_right, map-set, set-append_left, set-append_right, set-get_or}
-use Rattle.ssim_desk.specs.Held.{DeskState, no_desk}
-use Rattle.ssim_desk.specs.Kept.{DeskSeen, map_of, state_of}
+use Rattle.ssim_held.specs.Held.{DeskState, no_desk}
+use Rattle.ssim_held.specs.Kept.{DeskSeen, map_of, state_of}
 use Rattle.ssim_desk.specs.Steps.{Acts, IsIdle, LeavesIdle, Merges, MergesAt, MergesOne, Runs, Takes, TakesAt, desk_at, is_change, with_held}
 use Rattle.ssim_desk.specs.declared.steps.Answer.{Answer}
 use Rattle.ssim_desk.specs.declared.steps.Answer.TheVariants.{Taken, Repeated, Merged, Refused}

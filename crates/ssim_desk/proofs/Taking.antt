@@ -10,14 +10,14 @@ use Rattle.ssim_schedule.specs.Resolve.{ResolvesIn}
 use Rattle.ssim_text.specs.Grammar.{OneMessage}
 use Rattle.ssim_text.specs.Message.{MessageValue}
 use Rattle.ssim_text.specs.declared.reference.Reference.{Reference}
-use Rattle.ssim_desk.specs.Held.{DeskState, HeldMessages, Says, reference_cmp}
+use Rattle.ssim_held.specs.Held.{DeskState, HeldMessages, Says, reference_cmp}
+use Rattle.ssim_held.proofs.MapLemmas.{get-union, or_else}
+use Rattle.ssim_held.proofs.References.{reference_apart, reference_total}
+use Rattle.ssim_held.proofs.Resolving.{one_reference}
 use Rattle.ssim_desk.specs.Reach.{is_accepted}
 use Rattle.ssim_desk.specs.Steps.{Merges, Takes}
 use Rattle.ssim_desk.specs.declared.steps.Answer.{Answer}
 use Rattle.ssim_desk.specs.declared.steps.Answer.TheVariants.{Taken, Repeated, Merged, Refused}
-use Rattle.ssim_desk.proofs.MapLemmas.{get-union, or_else}
-use Rattle.ssim_desk.proofs.References.{reference_apart, reference_total}
-use Rattle.ssim_desk.proofs.Resolving.{one_reference}
 
 -- a text says one message, under one reference
 pub says_message : OneMessage → (base : BaseSeen) (text : List ℕ) (r q : Reference) (m n : MessageValue) → Says base text r m → Says base text q n → m ≡ n

@@ -6,7 +6,7 @@ use Rattle.ssim_schedule.specs.Schedule.{Table, cuts_in}
 use Rattle.ssim_schedule.specs.Stations.{Row}
 use Rattle.ssim_schedule.specs.declared.finding.Finding.{Finding}
 use Rattle.ssim_values.specs.Flight.{FlightNumber, IsFlight}
-use Rattle.ssim_desk.specs.Kept.{Entry}
+use Rattle.ssim_held.specs.Kept.{Entry}
 use Rattle.ssim_desk.specs.Private.{AddsSubPoints, AreCheckpoints, IsAfter, IsTrail, Shows}
 use Rattle.ssim_desk.specs.Meaning.{Timetable, after_entries, after_entry, entries_findings, found_by, left_by, subs_findings}
 use Rattle.ssim_desk.proofs.Points.{more_at}

@@ -1,9 +1,12 @@
 -- Desks that the same messages reached are one: the same messages held, the same itineraries, the same export.
-use Rattle.std.specs.{Prelude.{◌≡◌, ◌≢◌, ◌⊎◌, ◌<◌, ◌↔◌, ℕ, List, length, All, Some, Result, Ok}, FinMap.empty, List.slice_get, declared.alloc.Global.Global, declared.vec.Vec.Vec}
+use Rattle.std.specs.{Prelude.{◌≡◌, ◌≢◌, ◌⊎◌, ◌<◌, ◌↔◌, ℕ, List, length, All, Some, Result, Ok}, FinMap.empty, List.slice_get}
+use Rattle.std.specs.{declared.alloc.Global.Global, declared.vec.Vec.Vec}
 use Rattle.ssim_schedule.specs.{Export.ExportRefusal, Reading.IsReadAs, Stations.SpellsTable, declared.note.Note.Note}
 use Rattle.ssim_text.specs.{Message.MessageValue, declared.reference.Reference.Reference}
-use Rattle.ssim_desk.specs.{Held.{DeskState, Holds, IsDesk}, Meaning.{Exports, Means, Timetable}, Reach.{IsStep, Reached, SaysTo}, Steps.{IsInRange, Runs, desk_at}, declared.fault.DeskFault.TheVariants.{Memory, Conflict}}
-use Rattle.ssim_desk.specs.{declared.steps.Answer.Answer, declared.steps.Answer.TheVariants.Refused, declared.steps.Step.Step, declared.steps.Step.TheVariants.Take}
+use Rattle.ssim_held.specs.{Held.{DeskState, Holds, IsDesk}, declared.fault.DeskFault.TheVariants.{Memory, Conflict}}
+use Rattle.ssim_desk.specs.{Meaning.{Exports, Means, Timetable}, Reach.{IsStep, Reached, SaysTo}, Steps.{IsInRange, Runs, desk_at}}
+use Rattle.ssim_desk.specs.{declared.steps.Answer.Answer, declared.steps.Answer.TheVariants.Refused, declared.steps.Step.Step}
+use Rattle.ssim_desk.specs.declared.steps.Step.TheVariants.{Take}
 
 -- a run of steps over desks
 pub record Run : Type 0 where

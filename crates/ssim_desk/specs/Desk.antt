@@ -1,10 +1,15 @@
 -- What the calls of a desk do and return.
-use Rattle.std.specs.{Prelude.{◌≡◌, ℕ, ◌+◌, ◌*◌, ◌≤◌, Bool, ◌&&◌, ◌||◌, nat_eq, IsTrue, List, [], ◌∷◌, ◌++◌, length, take, slice_get, Contains, None, Some, Result, Ok, Err}, FinMap.get, List.{count_by, flat_map, list_any}}
+use Rattle.std.specs.Prelude.{◌≡◌, ℕ, ◌+◌, ◌*◌, ◌≤◌, Bool, ◌&&◌, ◌||◌, nat_eq, IsTrue, List, [], ◌∷◌, ◌++◌, length, take, slice_get, Contains, None}
+use Rattle.std.specs.Prelude.{Some, Result, Ok, Err}
+use Rattle.std.specs.{FinMap.get, List.{count_by, flat_map, list_any}}
 use Rattle.ssim_periods.specs.Days.{each_day}
-use Rattle.ssim_schedule.specs.{BaseSeen.{BaseSeen, is_leg_of}, Points.is_point, Stations.Row, Timetable.{Days, Legs, same_flight}, declared.finding.Finding.Finding, declared.resolved.ResolvedSub.ResolvedSub}
+use Rattle.ssim_schedule.specs.{BaseSeen.{BaseSeen, is_leg_of}, Points.is_point, Stations.Row, Timetable.{Days, Legs, same_flight}}
+use Rattle.ssim_schedule.specs.{declared.finding.Finding.Finding, declared.resolved.ResolvedSub.ResolvedSub}
 use Rattle.ssim_text.specs.{Grammar.identifier_of, declared.action.Sub.Sub, declared.reference.Reference.Reference}
 use Rattle.ssim_values.specs.Flight.{FlightNumber}
-use Rattle.ssim_desk.specs.{Kept.{DeskSeen, Entry, map_of}, Meaning.{found_by, left_by}, declared.desk.Took.Took, declared.fault.DeskFault.DeskFault, declared.finding_line.FindingLine.FindingLine, declared.steps.Answer.Answer}
+use Rattle.ssim_held.specs.{Kept.{DeskSeen, Entry, map_of}, declared.fault.DeskFault.DeskFault}
+use Rattle.ssim_desk.specs.{Meaning.{found_by, left_by}, declared.desk.Took.Took, declared.finding_line.FindingLine.FindingLine}
+use Rattle.ssim_desk.specs.declared.steps.Answer.{Answer}
 use Rattle.ssim_desk.specs.declared.steps.Answer.TheVariants.{Taken, Repeated, Merged, Refused}
 use Rattle.ssim_desk.specs.declared.desk.Took.TheVariants as took
 

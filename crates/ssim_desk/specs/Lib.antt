@@ -1,12 +1,7 @@
-pub mod Fault
-pub mod Held
 pub mod Meaning
 pub mod Steps
 pub mod Merging
 pub mod Reach
 pub mod Agreement
-pub mod Kept
 pub mod Desk
-pub mod File
-pub mod Opening
 pub mod Private

@@ -1,6 +1,7 @@
 -- Laws of merging, and what determines an answer.
 use Rattle.std.specs.Prelude.{◌≡◌, ◌≢◌, List, ℕ}
-use Rattle.ssim_desk.specs.{Held.{Agree, DeskState, HeldMessages, union}, Steps.{Merges, Takes}, declared.fault.DeskFault.TheVariants.Memory, declared.steps.Answer.Answer, declared.steps.Answer.TheVariants.{Merged, Refused}}
+use Rattle.ssim_held.specs.{Held.{Agree, DeskState, HeldMessages, union}, declared.fault.DeskFault.TheVariants.Memory}
+use Rattle.ssim_desk.specs.{Steps.{Merges, Takes}, declared.steps.Answer.Answer, declared.steps.Answer.TheVariants.{Merged, Refused}}
 
 -- (a with b) with c holds what a with (b with c) holds
 abbrev pub MergesAssociate : Type 0

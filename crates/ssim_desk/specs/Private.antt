@@ -1,60 +1,20 @@
 -- Definitions that only private functions cite. No law and no public contract cites them, so nobody has to believe them.
-use Rattle.std.specs.{Prelude.{◌≡◌, ◌≢◌, ◌⊎◌, ◌||◌, ℕ, ◌+◌, ◌*◌, ◌/◌, ◌%◌, ◌<◌, ◌≤◌, List, [], ◌∷◌, ◌++◌, length, take, slice_get, All, Contains, IsTrue, Some, IsSome, IfSome}, FinMap.get, List.list_any}
-use Rattle.std.specs.{declared.cmp.Ordering.Ordering, declared.cmp.Ordering.TheVariants.{Less, Equal, Greater}}
+use Rattle.std.specs.Prelude.{◌≡◌, ◌⊎◌, ◌||◌, ℕ, ◌+◌, ◌*◌, ◌/◌, ◌%◌, ◌<◌, ◌≤◌, List, ◌++◌, length, take, slice_get, Contains, IsTrue, IfSome}
+use Rattle.std.specs.List.{list_any}
 use Rattle.ssim_periods.specs.Days.{each_day}
-use Rattle.ssim_schedule.specs.{BaseSeen.BaseSeen, Schedule.{Table, cuts_in, days_in}, Stations.Row, declared.finding.Finding.Finding, declared.resolved.ResolvedSub.ResolvedSub}
-use Rattle.ssim_text.specs.{Message.MessageValue, declared.reference.Reference.Reference}
+use Rattle.ssim_schedule.specs.{BaseSeen.BaseSeen, Schedule.{Table, cuts_in, days_in}, Stations.Row, declared.finding.Finding.Finding}
+use Rattle.ssim_schedule.specs.declared.resolved.ResolvedSub.{ResolvedSub}
 use Rattle.ssim_values.specs.Flight.{FlightNumber, IsFlight}
-use Rattle.ssim_desk.specs.{Desk.{AreDeskPoints, is_row_point, is_sub_point}, Held.{DeskState, Says, reference_cmp}, Kept.{DeskSeen, Entry, IsEntry, map_of}, Meaning.{Timetable, found_by, left_by}, declared.lookup.Found.Found, Steps.IsKnown, declared.lookup.Found.TheVariants.{Absent, Same, Other}, declared.offer.Offer.Offer, declared.offer.Offer.TheVariants.{Known, New}, declared.tail.Tail.Tail}
+use Rattle.ssim_held.specs.{Held.{DeskState, Says}, Kept.{DeskSeen, Entry, IsEntry}, Ordered.Belongs}
+use Rattle.ssim_desk.specs.{Desk.{AreDeskPoints, is_row_point, is_sub_point}, Meaning.{Timetable, found_by, left_by}, Steps.IsKnown}
+use Rattle.ssim_desk.specs.{declared.offer.Offer.Offer, declared.offer.Offer.TheVariants.{Known, New}, declared.tail.Tail.Tail}
 
--- ---- where a message is in a list in order of reference
-
--- the reference belongs at a position from low to high: all before low are less, and all from high on are greater
-pub record Belongs (entries : List Entry) (reference : Reference) (low high : ℕ) : Type 0 where
-  pub order : low ≤ high
-  pub within : high ≤ length entries
-  pub before : (j : ℕ) → j < low → IfSome (slice_get entries j) (λ e. reference_cmp reference e.reference ≡ Greater)
-  pub after : (j : ℕ) → high ≤ j → IfSome (slice_get entries j) (λ e. reference_cmp reference e.reference ≡ Less)
-
--- what is held under the reference of a message
-abbrev pub IsFound : List Entry → Reference → MessageValue → Found → Type 0
-IsFound entries reference message (Absent at) = Belongs entries reference at at
-IsFound entries reference message Same = get (map_of entries) reference ≡ Some message
-IsFound entries reference message Other = (other : MessageValue) × (get (map_of entries) reference ≡ Some other) × (other ≢ message)
+-- ---- a text that is offered
 
 -- what a text is to messages that are held: its message is held; or it is new, and belongs at a position
 abbrev pub IsOffer : DeskState → List Entry → List ℕ → Offer → Type 0
 IsOffer desk held text Known = IsKnown desk text
 IsOffer desk held text (New at e) = Belongs held e.reference at at × IsEntry desk.base.records e × Says desk.base text e.reference e.message
-
--- ---- two such lists, put together
-
--- the next of two messages, and what is left of the two lists after it: the lesser, and of two under one reference the first
-abbrev pub IsLesser : Ordering → Entry → List Entry → Entry → List Entry → Entry → List Entry → List Entry → Type 0
-IsLesser Less m mine t theirs e mine_left theirs_left = (e ≡ m) × (mine_left ≡ mine) × (theirs_left ≡ t ∷ theirs)
-IsLesser Equal m mine t theirs e mine_left theirs_left = (e ≡ m) × (mine_left ≡ mine) × (theirs_left ≡ theirs)
-IsLesser Greater m mine t theirs e mine_left theirs_left = (e ≡ t) × (mine_left ≡ m ∷ mine) × (theirs_left ≡ theirs)
-
--- the next message of two lists, and what is left of them after it
-abbrev pub IsNext : List Entry → List Entry → Entry → List Entry → List Entry → Type 0
-IsNext [] [] e mine_left theirs_left = ⊥
-IsNext [] (t ∷ theirs) e mine_left theirs_left = (e ≡ t) × (mine_left ≡ []) × (theirs_left ≡ theirs)
-IsNext (m ∷ mine) [] e mine_left theirs_left = (e ≡ m) × (mine_left ≡ mine) × (theirs_left ≡ [])
-IsNext (m ∷ mine) (t ∷ theirs) e mine_left theirs_left =
-    IsLesser (reference_cmp m.reference t.reference) m mine t theirs e mine_left theirs_left
-
--- the messages of two lists, the next one first
-abbrev pub IsMerged : List Entry → List Entry → List Entry → Type 0
-IsMerged mine theirs [] = (mine ≡ []) × (theirs ≡ [])
-IsMerged mine theirs (e ∷ all) =
-    (mine_left : List Entry) × (theirs_left : List Entry) × IsNext mine theirs e mine_left theirs_left × IsMerged mine_left theirs_left all
-
--- the entry at a place of theirs is the first whose reference is not held; it belongs at a position of mine
-pub record IsFirstNew (mine theirs : List Entry) (place at : ℕ) : Type 0 where
-  pub first : Entry
-  pub there : slice_get theirs place ≡ Some first
-  pub gap : Belongs mine first.reference at at
-  pub before : All (λ e. IsSome (get (map_of mine) e.reference)) (take place theirs)
 
 -- ---- a trail: the schedule after every 32 messages, the latest one, and what each message found
 

@@ -1,7 +1,10 @@
 -- Which messages reach which desks.
-use Rattle.std.specs.{Prelude.{◌≡◌, ◌⊎◌, ◌<◌, ◌↔◌, ℕ, Bool, true, false, List, length, All, Some}, List.slice_get, declared.alloc.Global.Global, declared.vec.Vec.Vec}
+use Rattle.std.specs.{Prelude.{◌≡◌, ◌⊎◌, ◌<◌, ◌↔◌, ℕ, Bool, true, false, List, length, All, Some}, List.slice_get, declared.alloc.Global.Global}
+use Rattle.std.specs.declared.vec.Vec.{Vec}
 use Rattle.ssim_text.specs.{Message.MessageValue, declared.reference.Reference.Reference}
-use Rattle.ssim_desk.specs.{Held.{DeskState, Holds, Says}, Steps.{IsInRange, Runs, desk_at}, declared.steps.Answer.Answer, declared.steps.Answer.TheVariants.{Taken, Repeated, Merged}, declared.steps.Step.Step}
+use Rattle.ssim_held.specs.Held.{DeskState, Holds, Says}
+use Rattle.ssim_desk.specs.{Steps.{IsInRange, Runs, desk_at}, declared.steps.Answer.Answer}
+use Rattle.ssim_desk.specs.{declared.steps.Answer.TheVariants.{Taken, Repeated, Merged}, declared.steps.Step.Step}
 use Rattle.ssim_desk.specs.declared.steps.Step.TheVariants.{Take, Merge}
 
 -- whether an answer says that the text's message is held

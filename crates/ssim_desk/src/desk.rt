@@ -7,24 +7,21 @@ ghost use Rattle.ssim_values.specs.Calendar.{weekday};
 ghost use Rattle.ssim_schedule.specs.Reading.{Came};
 ghost use Rattle.ssim_schedule.specs.Plan.{ReadsBackBase, RefusesBase, WritesBase};
 ghost use Rattle.ssim_schedule.specs.Sinks.{CountsFault, TakesFront};
+ghost use Rattle.ssim_held.specs.File.{CanBeSaved, desk_file};
+ghost use Rattle.ssim_held.specs.Opening.{FailsAs, NeverEnds, Opens, RefusesFile};
+ghost use Rattle.ssim_held.specs.Held.{Agree};
+ghost use Rattle.ssim_held.specs.Kept.{AreEntries, AreRising, IsEntry, map_of, state_of};
+ghost use Rattle.ssim_held.specs.Ordered.{Belongs};
 ghost use Rattle.ssim_desk.specs.Desk.{AreDeskPoints, IsReplayed, at_rest, days_of_desk, finding_lines, merge_answer, point_bound, take_answer, timetable_of};
-ghost use Rattle.ssim_desk.specs.File.{CanBeSaved, desk_file};
-ghost use Rattle.ssim_desk.specs.Opening.{FailsAs, NeverEnds, Opens, RefusesFile};
-ghost use Rattle.ssim_desk.specs.Held.{Agree};
-ghost use Rattle.ssim_desk.specs.Kept.{AreEntries, AreRising, IsEntry, map_of, state_of};
-ghost use Rattle.ssim_desk.specs.Private.{Belongs, IsReplaced};
+ghost use Rattle.ssim_desk.specs.Private.{IsReplaced};
 ghost use Rattle.ssim_desk.specs.Meaning.{Finds, Means, Timetable, found_by};
 ghost use Rattle.ssim_desk.specs.Steps.{IsUnion, Merges, Takes};
 
-use crate::fault::DeskFault;
 use crate::finding_line::{FindingLine, push_lines};
-use crate::held::Held;
 use crate::holdings::Holdings;
 use crate::offer::{Offer, offer_of};
-use crate::opening::read_desk;
-use crate::saving::put_desk;
 use crate::trail::Trail;
-use crate::union::{first_conflict, first_new, merged};
+use ssim_held::{DeskFault, Held, first_conflict, first_new, merged, put_desk, read_desk};
 use ssim_records::{Sink, Source};
 use ssim_schedule::{Base, ExportFault, PlacedLeg, WriteFault};
 use ssim_values::{Day, Flight, Memory};
@@ -50,8 +47,8 @@ pub struct Desk {
 }
 
 impl Model for Desk {
-    ghost use Rattle.ssim_desk.specs.File.{CanBeSaved, desk_file};
-    ghost use Rattle.ssim_desk.specs.Kept.{AreEntries, DeskSeen};
+    ghost use Rattle.ssim_held.specs.File.{CanBeSaved, desk_file};
+    ghost use Rattle.ssim_held.specs.Kept.{AreEntries, DeskSeen};
 
     ghost Value = { DeskSeen };
 

@@ -4,8 +4,8 @@ ghost use Rattle.std.specs.Prelude.{◌≡◌, ◌<◌, ◌+◌, ◌^◌, ◌++�
 ghost use Rattle.ssim_text.specs.Grammar.{identifier_of};
 ghost use Rattle.ssim_desk.specs.Desk.{entry_lines, sub_lines};
 
-use crate::held::Held;
 use crate::tail::Found;
+use ssim_held::Held;
 use ssim_schedule::Finding;
 use ssim_text::{Action, ActionIdentifier, Reference, Sub};
 use ssim_values::{Designator, Memory};

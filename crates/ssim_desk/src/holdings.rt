@@ -3,20 +3,16 @@
 ghost use Rattle.std.specs.Prelude.{◌≡◌, ◌++◌, [], ◌∷◌, take, drop, Ok, IfErr, IfOk, OnErr, OnOk};
 ghost use Rattle.std.specs.Io.KnownBytes.{Appends};
 ghost use Rattle.ssim_schedule.specs.Sinks.{CountsFault, TakesFront};
+ghost use Rattle.ssim_held.specs.File.{CanBeSaved, IsDeskFile, desk_file};
+ghost use Rattle.ssim_held.specs.Kept.{AreEntries, AreRising, IsEntry, map_of, state_of};
+ghost use Rattle.ssim_held.specs.Opening.{RefusesBytes};
+ghost use Rattle.ssim_held.specs.Ordered.{Belongs};
 ghost use Rattle.ssim_desk.specs.Desk.{merge_answer, take_answer};
-ghost use Rattle.ssim_desk.specs.File.{CanBeSaved, IsDeskFile, desk_file};
-ghost use Rattle.ssim_desk.specs.Kept.{AreEntries, AreRising, IsEntry, map_of, state_of};
-ghost use Rattle.ssim_desk.specs.Opening.{RefusesBytes};
-ghost use Rattle.ssim_desk.specs.Private.{Belongs};
 ghost use Rattle.ssim_desk.specs.Steps.{Merges, Takes};
 
 use crate::desk::Took;
-use crate::fault::DeskFault;
-use crate::held::Held;
 use crate::offer::{Offer, offer_of};
-use crate::opening::read_bytes;
-use crate::saving::put_desk;
-use crate::union::{first_conflict, merged};
+use ssim_held::{DeskFault, Held, first_conflict, merged, put_desk, read_bytes};
 use ssim_records::Sink;
 use ssim_schedule::{Base, WriteFault};
 use ssim_values::Memory;
@@ -35,7 +31,7 @@ pub struct Holdings {
 }
 
 impl Model for Holdings {
-    ghost use Rattle.ssim_desk.specs.Kept.{AreEntries, DeskSeen};
+    ghost use Rattle.ssim_held.specs.Kept.{AreEntries, DeskSeen};
 
     ghost Value = { DeskSeen };
 

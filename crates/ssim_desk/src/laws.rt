@@ -1,16 +1,15 @@
 //! What holds of any desks, over the definitions of what texts and merges do.
 
 ghost use Rattle.ssim_desk.specs.Agreement.{AnyTwoDesksAgree, NoConflict, OfferedIsReached, SameMessagesSameDesk};
-ghost use Rattle.ssim_desk.specs.File.{NoTwoDesks, OpensAsSaved, SavesAsOpened};
 ghost use Rattle.ssim_desk.specs.Meaning.{HasExport, HasMeaning, HasOneExport, HasOneMeaning};
 ghost use Rattle.ssim_desk.specs.Merging.{MergesAreDetermined, MergesAssociate, MergesCommute, MergesRepeat, TakesAreDetermined, ThreeDesksMerge};
 ghost use Rattle.ssim_desk.specs.Reach.{HoldsWhatReached};
 
+pub use ssim_held::laws::{no_two_desks_have_one_file, opened_is_saved};
 use ssim_schedule::laws::{
     bases_can_be_exported, resolving_has_one_outcome, same_bytes_same_base, same_bytes_same_rows,
-    saved_records_are_read,
 };
-use ssim_text::laws::{equal_where_written_equal, one_message, one_refusal};
+use ssim_text::laws::{one_message, one_refusal};
 
 /// Any two desks agree if they began from the same bytes of a data set and of a station table, or as one desk, and the same messages
 /// reached them, whatever the order, the grouping and the repeats. They hold the same messages. Each flight has on each date the same itinerary, which
@@ -71,21 +70,4 @@ pub fn answers_are_determined()
     one_message();
     one_refusal();
     resolving_has_one_outcome();
-}
-
-/// Bytes are the desk file of at most one base with at most one list of held messages, whatever the version.
-pub fn no_two_desks_have_one_file()
-    ensures { NoTwoDesks }
-{
-    saved_records_are_read();
-    equal_where_written_equal();
-}
-
-/// A desk that is opened from the file of another has the same base and holds the same messages. A desk that was opened is saved as the
-/// bytes that it was opened from, but the first line of version 1 becomes that of version 2.
-pub fn opened_is_saved()
-    ensures opens { OpensAsSaved }
-    ensures saves { SavesAsOpened }
-{
-    no_two_desks_have_one_file();
 }

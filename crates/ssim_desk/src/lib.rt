@@ -10,33 +10,24 @@
 //! - [`laws`]: any two desks that began from the same bytes and that the same messages reached agree, whatever the order, the grouping
 //!   and the repeats; and merging is associative, commutative and idempotent.
 //!
-//! The definitions that the contracts cite are in `specs/`: `Held` (messages by reference), `Meaning` (what each flight has on each
-//! date), `Steps` (what texts and merges do), `Reach` (which messages reach which desks), `Agreement` and `Merging` (the laws), `Kept`
-//! and `Desk` (what the calls of a desk return), `Fault`, `File` and `Opening` (the bytes of a desk file). `Private` is cited by private
-//! functions alone. Computed examples are in `proofs/Examples`.
+//! What a desk holds, where a message is in it, and the desk file are in the crate `ssim_held`, whose definitions these contracts cite,
+//! too. The other definitions are in `specs/`: `Meaning` (what each flight has on each date), `Steps` (what texts and merges do), `Reach`
+//! (which messages reach which desks), `Agreement` and `Merging` (the laws) and `Desk` (what the calls of a desk return). `Private` is
+//! cited by private functions alone. Computed examples are in `proofs/Examples`.
 #![tactic(auto)]
 
 mod desk;
-mod fault;
 mod finding_line;
-mod held;
 mod holdings;
 pub mod laws;
-mod lookup;
 mod offer;
-mod opening;
 mod replay;
-mod row_line;
-mod saving;
 mod steps;
 mod tail;
 mod trail;
-mod union;
 
 pub use desk::{Desk, Took};
-pub use fault::DeskFault;
 pub use finding_line::FindingLine;
-pub use held::Held;
 pub use holdings::Holdings;
-pub use ssim_schedule::WriteFault;
+pub use ssim_held::{DeskFault, Held, WriteFault};
 pub use steps::{Answer, Step, run_steps};

@@ -1,13 +1,11 @@
 //! What a text is to the messages that are held.
 
 ghost use Rattle.std.specs.Prelude.{◌≡◌, IfErr, IfOk};
-ghost use Rattle.ssim_desk.specs.Kept.{AreEntries, map_of};
+ghost use Rattle.ssim_held.specs.Kept.{AreEntries, map_of};
 ghost use Rattle.ssim_desk.specs.Private.{IsOffer};
 ghost use Rattle.ssim_desk.specs.Steps.{RefusesText};
 
-use crate::fault::DeskFault;
-use crate::held::Held;
-use crate::lookup::{Found, look};
+use ssim_held::{DeskFault, Found, Held, look};
 use ssim_schedule::{Base, resolve};
 use ssim_text::decode;
 use std::alloc::Global;

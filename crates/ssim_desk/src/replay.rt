@@ -8,7 +8,7 @@ ghost use Rattle.ssim_values.specs.Flight.{FlightNumber, IsFlight};
 ghost use Rattle.ssim_desk.specs.Private.{AddsSubPoints, Shows};
 ghost use Rattle.ssim_desk.specs.Meaning.{Timetable, after_entry, after_one, subs_findings};
 
-use crate::held::Held;
+use ssim_held::Held;
 use ssim_schedule::{Base, Finding, ResolvedSub, Schedule};
 use ssim_text::Sub;
 use ssim_values::Memory;

@@ -1,14 +1,14 @@
 //! Steps over several desks, which are numbered from 0.
 
 ghost use Rattle.std.specs.Prelude.{◌≡◌, ◌≢◌, ◌<◌, ℕ, false, length, map, slice_get, All, IfOk, OnErr};
+ghost use Rattle.ssim_held.specs.Held.{IsDesk};
+ghost use Rattle.ssim_held.specs.Kept.{map_of, state_of};
 ghost use Rattle.ssim_desk.specs.Agreement.{DesksAgree};
-ghost use Rattle.ssim_desk.specs.Held.{IsDesk};
-ghost use Rattle.ssim_desk.specs.Kept.{map_of, state_of};
 ghost use Rattle.ssim_desk.specs.Steps.{Acts, IsInRange, IsOwnMerge, LeavesIdle, Merges, MergesAt, Runs, Takes, is_change};
 
 use crate::desk::{Desk, Took};
-use crate::fault::DeskFault;
 use crate::laws::any_two_desks_agree;
+use ssim_held::DeskFault;
 use ssim_values::Memory;
 use std::alloc::Global;
 

@@ -2,11 +2,11 @@
 
 ghost use Rattle.std.specs.Prelude.{◌≡◌, ◌<◌, ◌%◌, ◌++◌, ◌∷◌, [], ℕ, List, length, IfOk, OnOk};
 ghost use Rattle.ssim_schedule.specs.BaseSeen.{BaseSeen};
-ghost use Rattle.ssim_desk.specs.Kept.{Entry};
+ghost use Rattle.ssim_held.specs.Kept.{Entry};
 ghost use Rattle.ssim_desk.specs.Private.{IsAfter, IsCounted, IsTail};
 
-use crate::held::Held;
 use crate::replay::act;
+use ssim_held::Held;
 use ssim_schedule::{Base, Finding, Schedule};
 use ssim_values::Memory;
 use std::alloc::Global;

@@ -1,12 +1,12 @@
 //! Messages in order, and the schedule that they leave.
 
 ghost use Rattle.std.specs.Prelude.{◌≡◌, ◌⊎◌, ◌≤◌, ◌+◌, ◌*◌, ◌/◌, ◌++◌, [], length, take, IfOk, OnErr, OnOk};
-ghost use Rattle.ssim_desk.specs.Kept.{DeskSeen};
+ghost use Rattle.ssim_held.specs.Kept.{DeskSeen};
 ghost use Rattle.ssim_desk.specs.Meaning.{found_by};
 ghost use Rattle.ssim_desk.specs.Private.{IsAfter, IsReplaced, IsTail};
 
-use crate::held::Held;
 use crate::tail::{Found, STEP, Tail, apply_all};
+use ssim_held::Held;
 use ssim_schedule::{Base, Schedule};
 use ssim_values::Memory;
 use std::alloc::Global;
@@ -29,7 +29,7 @@ pub(crate) struct Trail {
 }
 
 impl Model for Trail {
-    ghost use Rattle.ssim_desk.specs.Kept.{DeskSeen};
+    ghost use Rattle.ssim_held.specs.Kept.{DeskSeen};
     ghost use Rattle.ssim_desk.specs.Meaning.{found_by};
     ghost use Rattle.ssim_desk.specs.Private.{IsTrail};
 

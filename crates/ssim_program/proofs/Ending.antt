@@ -3,7 +3,7 @@ use Rattle.std.proofs.Common.{◌≡◌, ◌⊎◌, inl, inr, ℕ, List, Option,
 use Rattle.std.specs.Io.KnownBytes.{Keeps}
 use Rattle.std.proofs.KnownBytes.{Keeps-refl}
 use Rattle.ssim_schedule.specs.Sinks.{TakesFront}
-use Rattle.ssim_desk.specs.Kept.{DeskSeen}
+use Rattle.ssim_held.specs.Kept.{DeskSeen}
 use Rattle.ssim_program.specs.Desks.{CountsRefusal, EndsTexts, IsUnprinted, LeavesTexts, PrintsTexts, ReadsDesk, RefusesKeep}
 use Rattle.ssim_program.specs.Effects.{Leaves, Makes}
 use Rattle.ssim_program.specs.Ends.{Ends, Stops}

@@ -1,4 +1,4 @@
--- An export of a timetable that is the base's on each flight is the export of the base.
+-- What an export of a base or of a desk leaves.
 use Rattle.std.proofs.Common.{◌≡◌, ◌∙◌, sym, ap, subst, inl, inr, ℕ, List, Option, Result, Ok, Err, IfErr, OnErr, OnOk}
 use Rattle.std.specs.Io.KnownBytes.{Keeps}
 use Rattle.std.proofs.KnownBytes.{Keeps-refl}
@@ -10,40 +10,33 @@ use Rattle.ssim_schedule.specs.ReadBack.{SameExport}
 use Rattle.ssim_schedule.specs.Timetable.{Days, days_of}
 use Rattle.ssim_schedule.specs.declared.export.ExportFault.{ExportFault}
 use Rattle.ssim_schedule.specs.declared.export.ExportFault.TheVariants.{Variations, Records, WriteFault, Memory}
+use Rattle.ssim_held.specs.Kept.{DeskSeen}
 use Rattle.ssim_desk.specs.Desk.{days_of_desk}
-use Rattle.ssim_desk.specs.Kept.{DeskSeen}
 use Rattle.ssim_program.specs.Desks.{ExportsDesk, LeavesDeskExport}
 use Rattle.ssim_program.specs.Made.{Exports, LeavesExport}
 
--- the days of a timetable are those of the base
-abbrev pub AreDaysOf : List Record → (FlightNumber → Days) → Type 0
-AreDaysOf base days = (flight : FlightNumber) → IsFlight flight → days flight ≡ days_of base flight
-
-module _ (told : SameExport) {W : Type 0} (taken : W → Option (List ℕ)) (failures : W → ℕ) (base : List Record) (days : FlightNumber → Days) (same : AreDaysOf base days) (old new : W) where
-  same_bytes : (frame : Frame) → chapter7 frame (days_of base) ≡ chapter7 frame days
-  same_bytes frame = ap (result_map export_bytes) (sym (told frame days (days_of base) same))
-
+module _ {W : Type 0} (taken : W → Option (List ℕ)) (failures : W → ℕ) (base : List Record) (old new : W) where
   kept : new ≡ old → LeavesExport base (taken old) (taken new) (failures old) (failures new)
   kept is = inl (subst (λ (x : W). Keeps (taken old) (taken x)) (sym is) (Keeps-refl (taken old)))
 
-  pub exports : WritesBase taken failures base days old new → Exports base (taken old) (taken new)
-  exports w = (w.2.0, (w.0, w.1, same_bytes w.0 ∙ w.2.1), w.2.2)
+  exports : WritesBase taken failures base (days_of base) old new → Exports base (taken old) (taken new)
+  exports w = (w.2.0, (w.0, w.1, w.2.1), w.2.2)
 
-  pub leaves : (fault : ExportFault) → RefusesBase taken failures base days old new fault → LeavesExport base (taken old) (taken new) (failures old) (failures new)
+  leaves : (fault : ExportFault) → RefusesBase taken failures base (days_of base) old new fault → LeavesExport base (taken old) (taken new) (failures old) (failures new)
   leaves (Variations flight) h = kept h.2.1
   leaves Records h = kept h.2.1
   leaves Memory h = kept h.2
-  leaves WriteFault h = inr (h.2.0, (h.0, h.1, same_bytes h.0 ∙ h.2.1), h.2.2, h.2.3)
+  leaves WriteFault h = inr (h.2.0, (h.0, h.1, h.2.1), h.2.2, h.2.3)
 
-  pub leaves_if : (r : Result (Unit {0}) ExportFault) → IfErr r (RefusesBase taken failures base days old new) → OnErr r (LeavesExport base (taken old) (taken new) (failures old) (failures new))
+  pub leaves_if : (r : Result (Unit {0}) ExportFault) → IfErr r (RefusesBase taken failures base (days_of base) old new) → OnErr r (LeavesExport base (taken old) (taken new) (failures old) (failures new))
   leaves_if (Ok x) h = tt
   leaves_if (Err e) h = leaves e h
 
-  pub exports_if : (r : Result (Unit {0}) ExportFault) → OnOk r (WritesBase taken failures base days old new) → OnOk r (Exports base (taken old) (taken new))
+  pub exports_if : (r : Result (Unit {0}) ExportFault) → OnOk r (WritesBase taken failures base (days_of base) old new) → OnOk r (Exports base (taken old) (taken new))
   exports_if (Ok x) h = exports h
   exports_if (Err e) h = tt
 
-  pub counted_if : (r : Result (Unit {0}) ExportFault) → OnOk r (WritesBase taken failures base days old new) → OnOk r (failures new ≡ failures old)
+  pub counted_if : (r : Result (Unit {0}) ExportFault) → OnOk r (WritesBase taken failures base (days_of base) old new) → OnOk r (failures new ≡ failures old)
   counted_if (Ok x) h = h.2.3
   counted_if (Err e) h = tt
 

@@ -4,7 +4,7 @@ use Rattle.ssim_records.specs.declared.record.Record.{Record}
 use Rattle.ssim_schedule.specs.Sinks.{TakesFront}
 use Rattle.ssim_schedule.specs.declared.note.Note.{Note}
 use Rattle.ssim_schedule.specs.declared.summary.Summary.{Summary}
-use Rattle.ssim_desk.specs.Kept.{DeskSeen}
+use Rattle.ssim_held.specs.Kept.{DeskSeen}
 use Rattle.ssim_program.specs.Desks.{LeavesDeskExport, ReadsDesk}
 use Rattle.ssim_program.specs.Effects.{Leaves, Writes}
 use Rattle.ssim_program.specs.Files.{Files}

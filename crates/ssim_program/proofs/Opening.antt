@@ -1,8 +1,8 @@
 -- A file is refused if its bytes are read as no desk.
 use Rattle.std.proofs.Common.{◌≡◌, inl, inr, ℕ, List, Option}
-use Rattle.ssim_desk.specs.Opening.{RefusesBytes}
-use Rattle.ssim_desk.specs.declared.fault.DeskFault.{DeskFault}
-use Rattle.ssim_desk.specs.declared.fault.DeskFault.TheVariants.{Memory, Text, Resolve, Conflict, OtherBase, Read, File}
+use Rattle.ssim_held.specs.Opening.{RefusesBytes}
+use Rattle.ssim_held.specs.declared.fault.DeskFault.{DeskFault}
+use Rattle.ssim_held.specs.declared.fault.DeskFault.TheVariants.{Memory, Text, Resolve, Conflict, OtherBase, Read, File}
 use Rattle.ssim_program.specs.Desks.{RefusesDeskFile}
 use Rattle.ssim_program.specs.Files.{Files}
 use Rattle.ssim_program.specs.Made.{HasFile}

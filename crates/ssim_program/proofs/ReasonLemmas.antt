@@ -2,10 +2,8 @@
 use Rattle.std.proofs.Common.{◌≡◌, ◌∙◌, sym, ap, inl, inr, refl, ℕ, List, Option, Result, Ok, Err, IfErr}
 use Rattle.ssim_values.specs.Flight.{FlightNumber}
 use Rattle.ssim_records.specs.declared.record.Record.{Record}
-use Rattle.ssim_schedule.specs.Export.{Frame, chapter7, export_bytes, result_map}
 use Rattle.ssim_schedule.specs.Plan.{RefusesBase}
-use Rattle.ssim_schedule.specs.ReadBack.{SameExport}
-use Rattle.ssim_schedule.specs.Timetable.{Days, days_of}
+use Rattle.ssim_schedule.specs.Timetable.{Days}
 use Rattle.ssim_schedule.specs.declared.export.ExportFault.{ExportFault}
 use Rattle.ssim_schedule.specs.declared.export.ExportFault.TheVariants.{Variations, Records, WriteFault, Memory}
 use Rattle.ssim_program.specs.Files.{Files}
@@ -15,21 +13,6 @@ use Rattle.ssim_program.specs.Reasons.{CountsExport, HasNoExport, Refuses}
 use Rattle.ssim_program.specs.Refusal.{refusal_of_export}
 use Rattle.ssim_program.specs.declared.refusal.Refusal.{Refusal}
 use Rattle.ssim_program.specs.declared.refusal.Refusal.TheVariants as refused
-use Rattle.ssim_program.proofs.Exporting.{AreDaysOf}
-
-module _ (told : SameExport) {W : Type 0} (taken : W → Option (List ℕ)) (failures : W → ℕ) (base : List Record) (days : FlightNumber → Days) (same : AreDaysOf base days) (old new : W) where
-  same_bytes : (frame : Frame) → chapter7 frame (days_of base) ≡ chapter7 frame days
-  same_bytes frame = ap (result_map export_bytes) (sym (told frame days (days_of base) same))
-
-  no_export : (fault : ExportFault) → RefusesBase taken failures base days old new fault → HasNoExport base (days_of base) (failures old) (failures new) fault
-  no_export (Variations flight) h = (h.0, h.1, same_bytes h.0 ∙ h.2.0)
-  no_export Records h = (h.0, h.1, same_bytes h.0 ∙ h.2.0)
-  no_export Memory h = tt
-  no_export WriteFault h = h.2.3
-
-  pub no_export_if : (r : Result (Unit {0}) ExportFault) → IfErr r (RefusesBase taken failures base days old new) → IfErr r (HasNoExport base (days_of base) (failures old) (failures new))
-  no_export_if (Ok x) h = tt
-  no_export_if (Err e) h = no_export e h
 
 -- whether an export counted a failure
 module _ {W : Type 0} (taken : W → Option (List ℕ)) (failures : W → ℕ) (base : List Record) (days : FlightNumber → Days) (old new : W) where
@@ -49,7 +32,7 @@ pub counts_refusal : (airline : List ℕ) (old new : ℕ) (fault : ExportFault) 
 counts_refusal airline old new fault refusal (inl failed) is = inl (is ∙ ap (refusal_of_export airline) failed.0, failed.1)
 counts_refusal airline old new fault refusal (inr same) is = inr same
 
--- the same of days that are not those of the base
+-- why there is no export of these days
 module _ {W : Type 0} (taken : W → Option (List ℕ)) (failures : W → ℕ) (base : List Record) (days : FlightNumber → Days) (old new : W) where
   none_of_days : (fault : ExportFault) → RefusesBase taken failures base days old new fault → HasNoExport base days (failures old) (failures new) fault
   none_of_days (Variations flight) h = (h.0, h.1, h.2.0)

@@ -4,7 +4,7 @@ use Rattle.std.proofs.lemmas.List.{map-append}
 use Rattle.std.proofs.lemmas.List.{take_more}
 use Rattle.ssim_schedule.specs.BaseSeen.{BaseSeen}
 use Rattle.ssim_text.specs.Grammar.{OneMessage}
-use Rattle.ssim_desk.specs.Held.{DeskState, HeldMessages, Says}
+use Rattle.ssim_held.specs.Held.{DeskState, HeldMessages, Says}
 use Rattle.ssim_desk.specs.Meaning.{Exports}
 use Rattle.ssim_desk.specs.Steps.{IsInRange, MergesOne, Runs, Takes, desk_at}
 use Rattle.ssim_desk.specs.declared.steps.Answer.{Answer}

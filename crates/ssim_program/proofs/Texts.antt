@@ -6,7 +6,7 @@ use Rattle.std.specs.Io.KnownBytes.{Appends, Keeps}
 use Rattle.std.proofs.KnownBytes.{Appends-kept, Appends-trans}
 use Rattle.ssim_schedule.specs.Sinks.{TakesFront}
 use Rattle.ssim_schedule.proofs.SinkLemmas.{then_front}
-use Rattle.ssim_desk.specs.Kept.{DeskSeen}
+use Rattle.ssim_held.specs.Kept.{DeskSeen}
 use Rattle.ssim_program.specs.Desks.{CountsRefusal, EndsTexts, LeavesText, LeavesTexts, PrintsText, PrintsTexts, RefusesFileText, RefusesTexts, TakesText, TakesTexts}
 use Rattle.ssim_program.specs.Files.{Files}
 use Rattle.ssim_program.specs.Line.{Text}

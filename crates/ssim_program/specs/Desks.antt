@@ -13,15 +13,15 @@ use Rattle.ssim_schedule.specs.declared.resolving.ResolveFault.TheVariants as re
 use Rattle.ssim_text.specs.Lines.{day_in}
 use Rattle.ssim_text.specs.Message.{MessageValue}
 use Rattle.ssim_text.specs.declared.reference.Reference.{Reference}
+use Rattle.ssim_held.specs.File.{IsDeskFile}
+use Rattle.ssim_held.specs.Held.{Says}
+use Rattle.ssim_held.specs.Kept.{DeskSeen, Entry, map_of, state_of}
+use Rattle.ssim_held.specs.declared.fault.DeskFault.{DeskFault}
+use Rattle.ssim_held.specs.declared.fault.DeskFault.TheVariants as desk_fault
 use Rattle.ssim_desk.specs.Desk.{days_of_desk, take_answer, timetable_of}
-use Rattle.ssim_desk.specs.File.{IsDeskFile}
-use Rattle.ssim_desk.specs.Held.{Says}
-use Rattle.ssim_desk.specs.Kept.{DeskSeen, Entry, map_of, state_of}
 use Rattle.ssim_desk.specs.Steps.{Merges, RefusesDesk, RefusesText, Takes}
 use Rattle.ssim_desk.specs.declared.desk.Took.{Took}
 use Rattle.ssim_desk.specs.declared.desk.Took.TheVariants as took
-use Rattle.ssim_desk.specs.declared.fault.DeskFault.{DeskFault}
-use Rattle.ssim_desk.specs.declared.fault.DeskFault.TheVariants as desk_fault
 use Rattle.ssim_desk.specs.declared.steps.Answer.TheVariants.{Merged}
 use Rattle.ssim_program.specs.Files.{Files}
 use Rattle.ssim_program.specs.Line.{Text}
@@ -44,10 +44,6 @@ ReadsDesk files name desk = (bytes : List ℕ) × HasFile files name bytes × Is
 -- these bytes are the file of no desk
 abbrev pub IsNoDeskFile : List ℕ → Type 0
 IsNoDeskFile bytes = (base : BaseSeen) (entries : List Entry) → IsDeskFile bytes base entries → ⊥
-
--- why no desk is opened of the bytes of a file: memory ran out, or they are the file of no desk (62)
-abbrev pub IsUnopened : List ℕ → DeskFault → Type 0
-IsUnopened bytes fault = (fault ≡ desk_fault.Memory) ⊎ (IsNoDeskFile bytes × (offset : ℕ) × (fault ≡ desk_fault.File offset))
 
 -- why no desk is read of a file: the file is not loaded; or it is the file of no desk, and the refusal is 62
 abbrev pub RefusesDeskFile : Option Files → Text → Refusal → Type 0

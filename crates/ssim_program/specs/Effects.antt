@@ -5,9 +5,9 @@ use Rattle.ssim_records.specs.declared.record.Record.{Record}
 use Rattle.ssim_schedule.specs.BaseSeen.{BaseSeen}
 use Rattle.ssim_schedule.specs.Sinks.{TakesFront}
 use Rattle.ssim_schedule.specs.declared.note.Note.{Note}
+use Rattle.ssim_held.specs.File.{desk_file}
+use Rattle.ssim_held.specs.Kept.{DeskSeen}
 use Rattle.ssim_desk.specs.Desk.{finding_lines}
-use Rattle.ssim_desk.specs.File.{desk_file}
-use Rattle.ssim_desk.specs.Kept.{DeskSeen}
 use Rattle.ssim_program.specs.Desks.{IsExportOfDesk, IsMergeOf, LeavesTexts, ReadsDesk, Shows, TakesTexts, held_line}
 use Rattle.ssim_program.specs.Explained.{Explains}
 use Rattle.ssim_program.specs.Files.{Files, Kept, with_kept}

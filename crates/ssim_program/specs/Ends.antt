@@ -1,7 +1,7 @@
 -- What a refused command leaves, by its refusal, and the line of the refusal on `err`.
 use Rattle.std.specs.Prelude.{◌≡◌, ◌⊎◌, ℕ, List, Option}
 use Rattle.std.specs.Io.KnownBytes.{Keeps}
-use Rattle.ssim_desk.specs.Kept.{DeskSeen}
+use Rattle.ssim_held.specs.Kept.{DeskSeen}
 use Rattle.ssim_program.specs.Desks.{IsUnprinted, PrintsTexts, ReadsDesk, RefusesDeskFile, RefusesKeep, StopsTexts}
 use Rattle.ssim_program.specs.Effects.{Leaves}
 use Rattle.ssim_program.specs.Files.{Files}

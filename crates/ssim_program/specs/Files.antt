@@ -11,11 +11,16 @@ Files = List (List ℕ × List ℕ)
 abbrev pub file_of : Files → List ℕ → Option (List ℕ)
 file_of all name = option_map (λ f. f.1) (find (λ f. bytes_eq f.0 name) all)
 
--- a load gives the file, and fails only if there is none within the limit
+-- a load gives the bytes of the file, and fails only if there is none within the limit
+abbrev pub LoadsBytes : Files → List ℕ → ℕ → Result (List ℕ) StoreFault → Type 0
+LoadsBytes all name limit (Ok bytes) = file_of all name ≡ Some bytes
+LoadsBytes all name limit (Err fault.Memory) = ⊤
+LoadsBytes all name limit (Err fault.Fault) = IfSome (file_of all name) (λ bytes. limit < length bytes)
+
+-- a load into a vector
 abbrev pub LoadsFile : {A : Type 0} → Files → List ℕ → ℕ → Result (Vec ℕ A) StoreFault → Type 0
-LoadsFile all name limit (Ok v) = file_of all name ≡ Some v.items
-LoadsFile all name limit (Err fault.Memory) = ⊤
-LoadsFile all name limit (Err fault.Fault) = IfSome (file_of all name) (λ bytes. limit < length bytes)
+LoadsFile all name limit (Ok v) = LoadsBytes all name limit (Ok v.items)
+LoadsFile all name limit (Err e) = LoadsBytes all name limit (Err e)
 
 -- a file that is kept comes first; after a fault the files are as they were
 abbrev pub KeepsFile : Option Files → Option Files → List ℕ → List ℕ → Result ⊤ StoreFault → Type 0

@@ -10,8 +10,8 @@ use Rattle.ssim_schedule.specs.declared.export.ExportFault.{ExportFault}
 use Rattle.ssim_schedule.specs.declared.export.ExportFault.TheVariants as export
 use Rattle.ssim_schedule.specs.declared.note.Note.{Note}
 use Rattle.ssim_values.specs.Flight.{FlightNumber}
+use Rattle.ssim_held.specs.Kept.{DeskSeen}
 use Rattle.ssim_desk.specs.Desk.{days_of_desk}
-use Rattle.ssim_desk.specs.Kept.{DeskSeen}
 use Rattle.ssim_program.specs.Desks.{IsUnprinted, ReadsDesk, RefusesDeskFile, RefusesFlight, RefusesKeep, RefusesMerge, RefusesTexts}
 use Rattle.ssim_program.specs.Effects.{Leaves}
 use Rattle.ssim_program.specs.Files.{Files}

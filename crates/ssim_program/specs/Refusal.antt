@@ -14,9 +14,9 @@ use Rattle.ssim_schedule.specs.declared.fault.BaseFault.{BaseFault}
 use Rattle.ssim_schedule.specs.declared.fault.BaseFault.TheVariants as base
 use Rattle.ssim_schedule.specs.declared.stations.StationFault.{StationFault}
 use Rattle.ssim_schedule.specs.declared.stations.StationFault.TheVariants as stations
-use Rattle.ssim_desk.specs.Fault.{desk_fault_number, desk_fault_text}
-use Rattle.ssim_desk.specs.declared.fault.DeskFault.{DeskFault}
-use Rattle.ssim_desk.specs.declared.fault.DeskFault.TheVariants as desk
+use Rattle.ssim_held.specs.Fault.{desk_fault_number, desk_fault_text}
+use Rattle.ssim_held.specs.declared.fault.DeskFault.{DeskFault}
+use Rattle.ssim_held.specs.declared.fault.DeskFault.TheVariants as desk
 use Rattle.ssim_program.specs.Names.{printed_name}
 use Rattle.ssim_program.specs.declared.refusal.Refusal.{Refusal}
 use Rattle.ssim_program.specs.declared.refusal.Refusal.TheVariants as refusal

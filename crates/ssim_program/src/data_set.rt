@@ -8,6 +8,7 @@ ghost use Rattle.ssim_program.specs.Made.{HasFile, IsOfBytes, ReadsBase, ReadsFi
 
 use crate::refusal::Refusal;
 use crate::store::{Store, StoreFault};
+use ssim_records::Parts;
 use ssim_schedule::{Base, BaseFault, BaseRead, Stations, Summary};
 use std::alloc::Global;
 
@@ -32,14 +33,28 @@ pub(crate) fn load_file<S: Store>(
     }
 }
 
-/// Reads the data set in the file of this name, with an empty station table. The file's bytes are freed.
+/// Loads the file of this name in parts. Returns 91 if there is no such file within the limit.
+fn load_parts<S: Store>(alloc: Global, name: &str, store: &mut S) -> Result<Parts, Refusal>
+    ensures bytes { IfOk result (λ parts. HasFile (S.files store.old) name.now parts) }
+    ensures within { IfOk result (λ parts. length parts ≤ file_limit) }
+    ensures refused { IfErr result (RefusesLoad (S.files store.old) name.now) }
+    ensures same { S.files store.new ≡ S.files store.old }
+{
+    match store.load_parts(alloc, name, LIMIT) {
+        Ok(parts) => Ok(parts),
+        Err(StoreFault::Memory) => Err(Refusal::Memory),
+        Err(StoreFault::Fault) => Err(Refusal::of_file(alloc, name)),
+    }
+}
+
+/// Reads the data set in the file of this name, with an empty station table. The file's bytes are freed while they are read.
 pub(crate) fn load<S: Store>(alloc: Global, name: &str, store: &mut S) -> Result<BaseRead, Refusal>
     ensures read { IfOk result (λ read. ReadsFile (S.files store.old) name.now (Ok (read.base.records, read.notes.items))) }
     ensures refused { IfErr result (RefusesFile (S.files store.old) name.now) }
     ensures same { S.files store.new ≡ S.files store.old }
 {
-    match load_file(alloc, name, store) {
-        Ok(bytes) => match read(alloc, &bytes) {
+    match load_parts(alloc, name, store) {
+        Ok(parts) => match read_alone(alloc, parts) {
             Ok(read) => Ok(read),
             Err(fault) => Err(Refusal::from(fault)),
         },
@@ -47,7 +62,7 @@ pub(crate) fn load<S: Store>(alloc: Global, name: &str, store: &mut S) -> Result
     }
 }
 
-/// Reads what the data set in the file of this name has. The file's bytes are freed.
+/// Reads what the data set in the file of this name has. The file's bytes are freed while they are read.
 pub(crate) fn load_summary<S: Store>(
     alloc: Global,
     name: &str,
@@ -57,8 +72,8 @@ pub(crate) fn load_summary<S: Store>(
     ensures refused { IfErr result (RefusesFile (S.files store.old) name.now) }
     ensures same { S.files store.new ≡ S.files store.old }
 {
-    match load_file(alloc, name, store) {
-        Ok(bytes) => match sum(alloc, &bytes) {
+    match load_parts(alloc, name, store) {
+        Ok(parts) => match sum(alloc, parts) {
             Ok(summary) => Ok(summary),
             Err(fault) => Err(Refusal::from(fault)),
         },
@@ -67,16 +82,16 @@ pub(crate) fn load_summary<S: Store>(
 }
 
 /// Reads what a data set has.
-fn sum(alloc: Global, bytes: &[u8]) -> Result<Summary, BaseFault>
-    requires { length bytes.now ≤ file_limit }
-    ensures sums { Sums file_limit (Some bytes.now) result }
+fn sum(alloc: Global, parts: Parts) -> Result<Summary, BaseFault>
+    requires { length parts ≤ file_limit }
+    ensures sums { Sums file_limit (Some parts) result }
     ensures whole { IfErr result IsOfBytes }
 {
-    let mut left = bytes;
+    let mut left = parts;
     Summary::read(alloc, &mut left, LIMIT)
 }
 
-/// Reads a data set with an empty station table.
+/// Reads the bytes of a data set with an empty station table.
 pub(crate) fn read(alloc: Global, bytes: &[u8]) -> Result<BaseRead, BaseFault>
     requires { length bytes.now ≤ file_limit }
     ensures read { Answers result (IsReadAs file_limit bytes.now) }
@@ -88,7 +103,7 @@ pub(crate) fn read(alloc: Global, bytes: &[u8]) -> Result<BaseRead, BaseFault>
     read_with(alloc, bytes, stations)
 }
 
-/// Reads a data set with a station table.
+/// Reads the bytes of a data set with a station table.
 fn read_with(alloc: Global, bytes: &[u8], stations: Stations) -> Result<BaseRead, BaseFault>
     requires { length bytes.now ≤ file_limit }
     ensures read { Answers result (IsReadAs file_limit bytes.now) }
@@ -96,6 +111,29 @@ fn read_with(alloc: Global, bytes: &[u8], stations: Stations) -> Result<BaseRead
     ensures whole { IfErr result IsOfBytes }
 {
     let mut left = bytes;
+    Base::read(alloc, &mut left, stations, LIMIT)
+}
+
+/// Reads a data set in parts with an empty station table.
+fn read_alone(alloc: Global, parts: Parts) -> Result<BaseRead, BaseFault>
+    requires { length parts ≤ file_limit }
+    ensures read { Answers result (IsReadAs file_limit parts) }
+    ensures whole { IfErr result IsOfBytes }
+{
+    let Ok(stations) = Stations::read(alloc, b"") else {
+        return Err(BaseFault::Memory);
+    };
+    read_parts(alloc, parts, stations)
+}
+
+/// Reads a data set in parts with a station table.
+fn read_parts(alloc: Global, parts: Parts, stations: Stations) -> Result<BaseRead, BaseFault>
+    requires { length parts ≤ file_limit }
+    ensures read { Answers result (IsReadAs file_limit parts) }
+    ensures rows { IfOk result (λ read. read.base.rows ≡ stations) }
+    ensures whole { IfErr result IsOfBytes }
+{
+    let mut left = parts;
     Base::read(alloc, &mut left, stations, LIMIT)
 }
 
@@ -111,9 +149,11 @@ pub(crate) fn load_base<S: Store>(
     ensures refused { IfErr result (RefusesBase (S.files store.old) dataset.now stations.now) }
     ensures same { S.files store.new ≡ S.files store.old }
 {
-    let bytes = load_file(alloc, dataset, store)?;
+    let parts = load_parts(alloc, dataset, store)?;
     let table = load_file(alloc, stations, store)?;
     let stations = Stations::read(alloc, &table)?;
-    let read = read_with(alloc, &bytes, stations)?;
-    Ok(read)
+    match read_parts(alloc, parts, stations) {
+        Ok(read) => Ok(read),
+        Err(fault) => Err(Refusal::from(fault)),
+    }
 }

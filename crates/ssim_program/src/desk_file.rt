@@ -1,7 +1,7 @@
 //! The desk in a file.
 
 ghost use Rattle.std.specs.Prelude.{◌≡◌, IfErr, IfOk, OnErr, OnOk, Some};
-ghost use Rattle.ssim_desk.specs.File.{desk_file};
+ghost use Rattle.ssim_held.specs.File.{desk_file};
 ghost use Rattle.ssim_program.specs.Desks.{ReadsDesk, RefusesDeskFile, RefusesKeep};
 ghost use Rattle.ssim_program.specs.Files.{with_kept};
 
@@ -9,7 +9,6 @@ use crate::data_set::load_file;
 use crate::refusal::Refusal;
 use crate::store::{Store, StoreFault};
 use ssim_desk::{Desk, Holdings};
-use ssim_records::Bytes;
 use std::alloc::Global;
 
 /// Opens the desk in the file of this name.
@@ -53,11 +52,7 @@ pub(crate) fn keep<S: Store>(
     ensures why { IfErr result (RefusesKeep name.now) }
     ensures same { OnErr result (S.files store.new ≡ S.files store.old) }
 {
-    let mut bytes = Bytes::new(alloc);
-    if holdings.save(&mut bytes).is_err() {
-        return Err(Refusal::Memory);
-    }
-    match store.keep(name, bytes.bytes()) {
+    match store.keep(name, holdings) {
         Ok(()) => Ok(()),
         Err(StoreFault::Memory) => Err(Refusal::Memory),
         Err(StoreFault::Fault) => Err(Refusal::of_file(alloc, name)),

@@ -2,6 +2,7 @@
 //!
 //! - [`run`]: from the words, a [`Store`] and two writers of std to a status; [`run_on`]: the same over two [`Printer`]s, which
 //!   count their failures. [`parse`] gives the [`Request`] that the words name.
+//! - [`Content`]: what a store keeps, as the desk file of [`ssim_desk::Holdings`].
 //! - [`Refusal`]: why a command was refused, as its line; [`Printed`]: the lines that commands print.
 //! - [`laws`]: what `tidy` wrote is tidied to itself.
 //!
@@ -15,6 +16,7 @@
 mod check;
 mod command_line;
 mod commands;
+mod content;
 mod data_set;
 mod desk_file;
 mod explain;
@@ -36,6 +38,7 @@ mod take;
 mod tidy;
 
 pub use command_line::{LineFault, Request, parse};
+pub use content::Content;
 pub use printed::Printed;
 pub use printer::{CountedWriter, Printer};
 pub use program::{run, run_on};

@@ -2,8 +2,8 @@
 
 ghost use Rattle.std.specs.Prelude.{◌≡◌, true, Err, IfErr, IfOk, IfSome, Ok, OnErr, OnOk, map};
 ghost use Rattle.ssim_text.specs.Message.{MessageValue};
-ghost use Rattle.ssim_desk.specs.Held.{Says};
-ghost use Rattle.ssim_desk.specs.Kept.{state_of};
+ghost use Rattle.ssim_held.specs.Held.{Says};
+ghost use Rattle.ssim_held.specs.Kept.{state_of};
 ghost use Rattle.ssim_desk.specs.Steps.{RefusesText};
 ghost use Rattle.ssim_program.specs.Desks.{CountsRefusal, EndsTexts, IsTaken, LeavesText, LeavesTexts, PrintsText, PrintsTexts, RefusesFileText, RefusesTexts, took_line, took_printed};
 ghost use Rattle.ssim_program.specs.Line.{Take};

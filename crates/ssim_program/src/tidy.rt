@@ -14,8 +14,7 @@ use crate::printer::Printer;
 use crate::refusal::Refusal;
 use crate::store::Store;
 use ssim_records::Sink;
-use ssim_schedule::laws::export_reads_back;
-use ssim_schedule::{Base, BaseRead, ExportFault, Schedule};
+use ssim_schedule::{Base, BaseRead, ExportFault};
 use std::alloc::Global;
 
 /// Writes the canonical export of the data set in the file of this name.
@@ -35,21 +34,24 @@ pub(crate) fn tidy<S: Store, O: Printer>(
     ensures flushed { OnOk result (O.flushed out.new ≡ true) }
 {
     match load(alloc, name, store) {
-        Ok(BaseRead { base, .. }) => match export(&base, out) {
-            Ok(()) => Ok(()),
-            Err(fault) => Err(Refusal::of_export(base.airline(), fault)),
-        },
+        Ok(BaseRead { base, .. }) => {
+            let airline = base.airline();
+            match export(base, out) {
+                Ok(()) => Ok(()),
+                Err(fault) => Err(Refusal::of_export(airline, fault)),
+            }
+        }
         Err(refusal) => Err(refusal),
     }
 }
 
 /// Writes the canonical export of a base, and flushes `out`.
-fn export<O: Printer>(base: &Base, out: &mut O) -> Result<(), ExportFault>
-    ensures ok { OnOk result (Exports base.now.records (O.taken out.old) (O.taken out.new)) }
+fn export<O: Printer>(base: Base, out: &mut O) -> Result<(), ExportFault>
+    ensures ok { OnOk result (Exports base.records (O.taken out.old) (O.taken out.new)) }
     ensures again { OnOk result (GrowsByItself (O.taken out.old) (O.taken out.new)) }
-    ensures why { IfErr result (HasNoExport base.now.records (days_of base.now.records) (O.failures out.old) (O.failures out.new)) }
+    ensures why { IfErr result (HasNoExport base.records (days_of base.records) (O.failures out.old) (O.failures out.new)) }
     ensures counts { IfErr result (CountsExport (O.failures out.old) (O.failures out.new)) }
-    ensures err { OnErr result (LeavesExport base.now.records (O.taken out.old) (O.taken out.new) (O.failures out.old) (O.failures out.new)) }
+    ensures err { OnErr result (LeavesExport base.records (O.taken out.old) (O.taken out.new) (O.failures out.old) (O.failures out.new)) }
     ensures device { O.device out.new ≡ O.device out.old }
     ensures flushed { OnOk result (O.flushed out.new ≡ true) }
 {
@@ -60,17 +62,15 @@ fn export<O: Printer>(base: &Base, out: &mut O) -> Result<(), ExportFault>
     }
 }
 
-/// Makes the timetable of a base, and writes its canonical export.
-fn export_into<W: Sink>(base: &Base, out: &mut W) -> Result<(), ExportFault>
-    ensures ok { OnOk result (Exports base.now.records (W.taken out.old) (W.taken out.new)) }
+/// Writes the canonical export of a base.
+fn export_into<W: Sink>(base: Base, out: &mut W) -> Result<(), ExportFault>
+    ensures ok { OnOk result (Exports base.records (W.taken out.old) (W.taken out.new)) }
     ensures again { OnOk result (GrowsByItself (W.taken out.old) (W.taken out.new)) }
-    ensures why { IfErr result (HasNoExport base.now.records (days_of base.now.records) (W.failures out.old) (W.failures out.new)) }
+    ensures why { IfErr result (HasNoExport base.records (days_of base.records) (W.failures out.old) (W.failures out.new)) }
     ensures counts { IfErr result (CountsExport (W.failures out.old) (W.failures out.new)) }
-    ensures err { OnErr result (LeavesExport base.now.records (W.taken out.old) (W.taken out.new) (W.failures out.old) (W.failures out.new)) }
+    ensures err { OnErr result (LeavesExport base.records (W.taken out.old) (W.taken out.new) (W.failures out.old) (W.failures out.new)) }
     ensures count { OnOk result (W.failures out.new ≡ W.failures out.old) }
     ensures device { W.device out.new ≡ W.device out.old }
 {
-    export_reads_back();
-    let schedule = Schedule::of(base)?;
-    schedule.export(base, out)
+    base.export(out)
 }

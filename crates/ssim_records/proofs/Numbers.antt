@@ -6,7 +6,7 @@ use Rattle.std.proofs.Math.Nat.{pow-le-pow_right, mul_assoc, pow-suc, pow-succ'}
 use Rattle.std.proofs.lemmas.Bool.Decides.{nat_tests}
 use Rattle.std.proofs.lemmas.List.{append-nil, reverse-append, reverse-reverse, length-append}
 use Rattle.std.proofs.lemmas.List.Folds.{list_all-append}
-use Rattle.ssim_values.specs.Characters.{is_digit}
+use Rattle.ssim_values.specs.Characters.{is_digit, two_digits}
 use Rattle.ssim_records.proofs.LineEnds.{pick}
 use Rattle.ssim_records.specs.Numbers.{is_blank, digits_after, digits_of, drop_blanks, drop_blanks_at_end, number_of, sequence_of, from_one, digits}
 
@@ -94,3 +94,10 @@ digits_alone t n h =
 pub sequence_of-digits : (w n : ℕ) → 0 < n → n < 10 ^ suc w → sequence_of (digits (suc w) n) ≡ Some n
 unfolding sequence_of
 sequence_of-digits w n low h = ap from_one (number_of-digits w n h) ∙ grind (arith, nat_tests)
+
+-- the two last digits of a number are those of its rest by a hundred
+pub last_two : (n : ℕ) → two_digits (n % 100) ≡ digits 2 n
+last_two n =
+    let tens : n % 100 / 10 ≡ n / 10 % 10 = omega arith in
+    let units : n % 100 % 10 ≡ n % 10 = omega arith in
+    rw (tens, units) refl

@@ -3,6 +3,7 @@ use Rattle.std.proofs.Common.{◌≡◌, ℕ, ◌+◌, ◌-◌, List, [], ◌∷
 use Rattle.std.specs.Prelude.{slice_range}
 use Rattle.std.specs.List.{concat, AllZip}
 use Rattle.std.proofs.lemmas.List.{take_at, drop_at, drop-drop, drop-take, length-append}
+use Rattle.std.proofs.lemmas.List.Folds.{concat-append}
 use Rattle.ssim_values.specs.Day.{day_of}
 use Rattle.ssim_records.specs.declared.field.Kind.TheVariants.{Dates}
 use Rattle.ssim_records.specs.Columns.{columns, fault_in, dates_fault, end_from}
@@ -39,6 +40,15 @@ length_concat [] [] h e = refl
 length_concat [] (p ∷ ps) h e = absurd (omega (arith, e))
 length_concat (w ∷ ws) [] h e = absurd (omega (arith, e))
 length_concat (w ∷ ws) (p ∷ ps) h e = omega (arith, length-append p (concat ps), h.0, length_concat ws ps h.1 (omega (arith, e)))
+
+-- parts that are joined first are joined as the others
+pub joined : (kind : List ℕ) (name front back : List (List ℕ)) → concat (concat (kind ∷ concat name ∷ front) ∷ back) ≡ concat (kind ∷ (name ++ (front ++ back)))
+joined kind name front back =
+    append_assoc kind (concat name ++ concat front) (concat back)
+    ∙ ap (λ (t : List ℕ). kind ++ t) (append_assoc (concat name) (concat front) (concat back) ∙ ap (λ (t : List ℕ). concat name ++ t) (sym (concat-append front back)) ∙ sym (concat-append name (front ++ back)))
+
+pub name_joined : (kind : List ℕ) (name back : List (List ℕ)) → concat (kind ∷ concat name ∷ back) ≡ concat (kind ∷ (name ++ back))
+name_joined kind name back = ap (λ (t : List ℕ). kind ++ t) (sym (concat-append name back))
 
 -- ---- a start and an end
 

@@ -10,7 +10,7 @@ use Rattle.ssim_records.specs.declared.record.Record.{Record}
 use Rattle.ssim_records.specs.Columns.{first_fault}
 use Rattle.ssim_records.specs.Blocks.{GivesOther}
 use Rattle.ssim_records.specs.Record.{Spells, HasSpelt, fault_of, fault_by, column_fault, table_of}
-use Rattle.ssim_records.specs.Reading.{Reading, IsAhead, Answers, GivesNext, given, IsRefused, HasNumber, FailsAs, NeverEnds}
+use Rattle.ssim_records.specs.Reading.{Reading, IsAhead, Answers, GivesNext, given, IsRefused, HasNumber, FailsAs, NeverEnds, HoldsFew}
 
 -- ---- the faults of a block
 
@@ -61,6 +61,13 @@ refused_ends n new (BadType m) h = tt
 refused_ends n new (BadColumn m column) h = tt
 refused_ends n new (ReadFault m) h = tt
 refused_ends n new (ReaderNeverEnds m) h = absurd h
+
+pub refused_holds : (n : ℕ) (held : List ℕ) (e : RecordFault) → IsBlockFault n e → HoldsFew held (Err e)
+refused_holds n held (Short m) h = tt
+refused_holds n held (BadType m) h = tt
+refused_holds n held (BadColumn m column) h = tt
+refused_holds n held (ReadFault m) h = absurd h
+refused_holds n held (ReaderNeverEnds m) h = tt
 
 -- ---- answers
 

@@ -21,3 +21,7 @@ pub same_back : (a b x y : List ℕ) → length a ≡ length b → a ++ x ≡ b 
 same_back a b x y len e =
     let front : a ≡ b = same_front a b x y len e in
     append_cancel_left b x y (ap (λ (t : List ℕ). t ++ x) (sym front) ∙ e)
+
+-- a block is as long as it is
+pub front_length : (x : List ℕ) → 200 ≤ length x → length (take 200 x) ≡ 200
+front_length x h = omega (arith, length-take 200 x, h)

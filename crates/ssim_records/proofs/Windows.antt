@@ -29,7 +29,7 @@ same_ahead held held' got None new e c = tt
 same_ahead held held' got (Some xs) None e c = c
 same_ahead held held' got (Some xs) (Some ys) e c = rw (e, c) (append_assoc held got ys)
 
-window_rest : (x : List ℕ) (s e n : ℕ) → s + n ≤ e → drop n (slice_range x s e) ≡ slice_range x (s + n) e
+pub window_rest : (x : List ℕ) (s e n : ℕ) → s + n ≤ e → drop n (slice_range x s e) ≡ slice_range x (s + n) e
 window_rest x s e n h =
     let m : e - s ≡ n + (e - (s + n)) = omega arith in
     ap (λ (w : ℕ). drop n (take w (drop s x))) m ∙ drop-take n (e - (s + n)) (drop s x) ∙ ap (take (e - (s + n))) (drop-drop n s x)

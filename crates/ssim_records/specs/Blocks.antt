@@ -1,5 +1,5 @@
 -- What the steps of framing do with the bytes that are held and those that a reader has left.
-use Rattle.std.specs.Prelude.{ℕ, ◌≡◌, ◌+◌, ◌-◌, ◌%◌, ◌^◌, ◌<◌, ◌≤◌, Bool, true, false, List, [], ◌∷◌, ◌++◌, length, nat_lt, Option, Some, None, Result, Ok, Err}
+use Rattle.std.specs.Prelude.{ℕ, ◌≡◌, ◌+◌, ◌-◌, ◌%◌, ◌^◌, ◌<◌, ◌≤◌, Bool, true, false, List, [], ◌∷◌, ◌++◌, length, take, drop, nat_lt, Option, Some, None, Result, Ok, Err}
 use Rattle.ssim_records.specs.declared.blocks.Stop.{Stop}
 use Rattle.ssim_records.specs.declared.blocks.Stop.TheVariants.{Short, ReadFault, ReaderNeverEnds}
 use Rattle.ssim_records.specs.Frames.{trim, Frames, others}
@@ -45,11 +45,17 @@ Fetches behind number held (Some left) number' held' None = ⊥
 Fetches behind number held (Some left) number' held' (Some left') =
     (fetched : List ℕ) × (blocks : List (List ℕ)) × (left ≡ fetched ++ left') × (number' ≡ number + length blocks) × Takes behind (held ++ fetched) blocks held'
 
--- the answer of a call that puts the block into a place, and says whether there is one
-abbrev pub put_into : List ℕ → Result Bool Stop → Result (Option (List ℕ)) Stop
-put_into block (Ok false) = Ok None
-put_into block (Ok true) = Ok (Some block)
-put_into block (Err stop) = Err stop
+-- the answer of a call that says whether the bytes that are held begin with the next block
+abbrev pub with_front : List ℕ → Result Bool Stop → Result (Option (List ℕ)) Stop
+with_front held (Ok false) = Ok None
+with_front held (Ok true) = Ok (Some (take 200 held))
+with_front held (Err stop) = Err stop
+
+-- what is held after that block, or all if there is none
+abbrev pub behind_front : Result Bool Stop → List ℕ → List ℕ
+behind_front (Ok false) held = held
+behind_front (Ok true) held = drop 200 held
+behind_front (Err stop) held = held
 
 -- how many blocks an answer counts
 abbrev pub block_count : Result (Option (List ℕ)) Stop → ℕ

@@ -1,9 +1,9 @@
 //! The blocks of a stream of bytes, one after another.
 
-ghost use Rattle.std.specs.Prelude.{◌≡◌, ◌<◌, ◌≤◌, ◌+◌, ◌*◌, [], length, nat_lt, Ok, Err, IfOk, IfSome, true, false};
+ghost use Rattle.std.specs.Prelude.{◌≡◌, ◌<◌, ◌≤◌, ◌+◌, ◌*◌, [], length, nat_lt, Ok, Err, true, false};
 ghost use Rattle.ssim_records.specs.declared.blocks.Stop.TheVariants.{ReaderNeverEnds};
 ghost use Rattle.ssim_records.specs.Frames.{is_fill};
-ghost use Rattle.ssim_records.specs.Blocks.{put_into, GivesBlock, GivesOther, FailsOnce, CountsOn, Fetches, HoldsFew, block_count};
+ghost use Rattle.ssim_records.specs.Blocks.{behind_front, with_front, GivesBlock, GivesOther, FailsOnce, CountsOn, Fetches, HoldsFew, block_count};
 
 use crate::device::Source;
 use crate::window::Window;
@@ -28,30 +28,29 @@ fn needed(came: u128, limit: u64) -> usize
     if came > limit as u128 { 201 } else { 200 }
 }
 
-/// Puts the next block into a place, of all that the window holds and the reader has left. Says whether there is one.
+/// Brings the next block to the beginning of the window, of all that the window holds and the reader has left. Says whether
+/// there is one.
 fn next_block<R: Source>(
     window: &mut Window,
     came: &mut u128,
     limit: u64,
     behind: bool,
     reader: &mut R,
-    block: &mut [u8; 200],
 ) -> Result<bool, Stop>
     requires { came.old ≤ limit + 1 }
     ensures came { came.new ≤ limit + 1 }
     ensures held { length window.new + came.old ≤ length window.old + came.new }
-    ensures few { IfOk (put_into block.new result) (λ o. IfSome o (λ _. length window.new + 200 + came.old ≤ length window.old + came.new)) }
-    ensures block { GivesBlock limit behind came.old window.old (R.left reader.old) came.new window.new (R.left reader.new) (put_into block.new result) }
+    ensures long { result ≡ Ok true → 200 ≤ length window.new }
+    ensures block { GivesBlock limit behind came.old window.old (R.left reader.old) came.new (behind_front result window.new) (R.left reader.new) (with_front window.new result) }
     ensures never_ends { result ≡ Err ReaderNeverEnds → (limit < came.new) × (length window.new ≤ 200) }
-    ensures fetched { Fetches behind 0 window.old (R.left reader.old) (block_count (put_into block.new result)) window.new (R.left reader.new) }
-    ensures few_left { HoldsFew window.new (put_into block.new result) }
-    ensures fault { FailsOnce (R.failures reader.old) (R.failures reader.new) (put_into block.new result) }
+    ensures fetched { Fetches behind 0 window.old (R.left reader.old) (block_count (with_front window.new result)) (behind_front result window.new) (R.left reader.new) }
+    ensures few_left { HoldsFew window.new (with_front window.new result) }
+    ensures fault { FailsOnce (R.failures reader.old) (R.failures reader.new) (with_front window.new result) }
     ensures count { CountsOn (R.left reader.old) (R.left reader.new) (R.came reader.old) (R.came reader.new) came.old came.new }
 {
     loop {
         window.trim(behind);
         if window.len() >= needed(*came, limit) {
-            window.take(block);
             return Ok(true);
         }
         if *came > limit as u128 {
@@ -84,36 +83,37 @@ fn is_fill(block: &[u8; 200]) -> bool
     block.as_slice() == FILL.as_slice()
 }
 
-/// Puts the next block that is not fill into a place, of all that the window holds and the reader has left. Says whether there
-/// is one. Each block is counted.
+/// Brings the next block that is not fill to the beginning of the window, of all that the window holds and the reader has
+/// left. Says whether there is one. Each block is counted.
 pub fn next_other<R: Source>(
     window: &mut Window,
     came: &mut u128,
     number: &mut u64,
     limit: u64,
     reader: &mut R,
-    block: &mut [u8; 200],
 ) -> Result<bool, Stop>
     requires came { came.old ≤ limit + 1 }
     requires counted { 200 * number.old + length window.old ≤ came.old }
     ensures came { came.new ≤ limit + 1 }
-    ensures counted { 200 * number.new + length window.new ≤ came.new }
-    ensures more { IfOk (put_into block.new result) (λ o. IfSome o (λ _. number.old < number.new)) }
-    ensures block { GivesOther limit number.old came.old window.old (R.left reader.old) number.new came.new window.new (R.left reader.new) (put_into block.new result) }
+    ensures counted { 200 * number.new + length (behind_front result window.new) ≤ came.new }
+    ensures more { result ≡ Ok true → number.old < number.new }
+    ensures long { result ≡ Ok true → 200 ≤ length window.new }
+    ensures block { GivesOther limit number.old came.old window.old (R.left reader.old) number.new came.new (behind_front result window.new) (R.left reader.new) (with_front window.new result) }
     ensures never_ends { result ≡ Err ReaderNeverEnds → (limit < came.new) × (length window.new ≤ 200) }
-    ensures fetched { Fetches (nat_lt 0 number.old) number.old window.old (R.left reader.old) number.new window.new (R.left reader.new) }
-    ensures few_left { HoldsFew window.new (put_into block.new result) }
-    ensures fault { FailsOnce (R.failures reader.old) (R.failures reader.new) (put_into block.new result) }
+    ensures fetched { Fetches (nat_lt 0 number.old) number.old window.old (R.left reader.old) number.new (behind_front result window.new) (R.left reader.new) }
+    ensures few_left { HoldsFew window.new (with_front window.new result) }
+    ensures fault { FailsOnce (R.failures reader.old) (R.failures reader.new) (with_front window.new result) }
     ensures count { CountsOn (R.left reader.old) (R.left reader.new) (R.came reader.old) (R.came reader.new) came.old came.new }
 {
     loop {
-        let more = next_block(window, came, limit, *number > 0, reader, block)?;
+        let more = next_block(window, came, limit, *number > 0, reader)?;
         if !more {
             return Ok(false);
         }
         *number += 1;
-        if !is_fill(block) {
+        if !is_fill(window.front()) {
             return Ok(true);
         }
+        window.skip();
     }
 }

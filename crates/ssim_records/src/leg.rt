@@ -9,7 +9,8 @@ use crate::columns::{carried_at, end_text, join};
 use crate::leg_columns::{LegColumns, own_columns_at};
 use crate::leg_head::LegHead;
 use crate::leg_name::LegName;
-use crate::number::{four_digits, six_digits, two_digits};
+use crate::name_text::name_text;
+use crate::number::six_digits;
 use crate::segment::SegmentRecord;
 use crate::segment_tail::SegmentTail;
 use ssim_values::{Airline, Day, DayMask, Flight, Period};
@@ -258,21 +259,24 @@ impl LegRecord {
         ensures spells { SpellsLeg self.now result }
     {
         let columns = self.columns.bytes();
-        let mut bytes = [b' '; 200];
+        let mut head = [b' '; 36];
         join(
-            &mut bytes,
+            &mut head,
             &[
                 b"3",
-                &[self.name.flight().suffix()],
-                &self.name.airline().write(),
-                &four_digits(self.name.flight().number() as u32),
-                &two_digits(self.name.variation() as u32),
-                &two_digits(self.name.sequence() as u32),
+                &name_text(self.name),
                 &columns[0..1],
                 &self.first.write(),
                 &end_text(self.last),
                 &self.days.write(),
                 &[self.rate],
+            ],
+        );
+        let mut bytes = [b' '; 200];
+        join(
+            &mut bytes,
+            &[
+                &head,
                 &columns[1..92],
                 &[self.overflow],
                 &columns[92..158],

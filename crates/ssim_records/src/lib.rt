@@ -6,14 +6,14 @@
 //!   columns that a leg or a segment has of its own, with a reader for each field.
 //! - [`LegStations`], [`LegTimes`] and [`LegEquipment`]: the parts of a new leg's columns, and what messages change in them.
 //! - [`Records`]: the records of a stream, one after another, from any [`Source`].
-//! - [`Source`] and [`Sink`]: devices that bytes come from and go to. Contracts know the bytes of a `&[u8]` and of [`Bytes`].
-//!   [`Input`] and [`Output`], over std's readers and writers, count their bytes and failures.
+//! - [`Source`] and [`Sink`]: devices that bytes come from and go to. Contracts know the bytes of a `&[u8]`, of [`Bytes`]
+//!   and of [`Parts`]. [`Input`] and [`Output`], over std's readers and writers, count their bytes and failures.
 //! - [`RecordFault`]: refusals 10 to 14, with the record number.
 //!
 //! **Promise.** Records are read and written exactly. If 200 bytes spell a record, that record is read; else the fault
 //! names the first column of the first invalid field. What is written is read back as it was. The records of a stream come
 //! in order, with their numbers, in whatever pieces its reader returns the bytes. 13 comes only if the reader failed, and 14
-//! only if more bytes came than the limit. Only [`Bytes`] allocates, when it grows.
+//! only if more bytes came than the limit. Only [`Bytes`] and [`Parts`] allocate, when they grow.
 #![tactic(auto)]
 
 // A row of a table: the columns of a field, and its kind.
@@ -42,7 +42,9 @@ mod leg_columns;
 mod leg_head;
 mod leg_name;
 mod leg_parts;
+mod name_text;
 mod number;
+mod parts;
 mod record;
 mod records;
 mod segment;
@@ -64,7 +66,8 @@ pub use leg::LegRecord;
 pub use leg_columns::LegColumns;
 pub use leg_name::LegName;
 pub use leg_parts::{LegEquipment, LegStations, LegTimes};
-pub use record::{Record, read_record, write_record};
+pub use parts::Parts;
+pub use record::{Record, read_into, read_record, write_record};
 pub use records::Records;
 pub use segment::SegmentRecord;
 pub use segment_tail::SegmentTail;

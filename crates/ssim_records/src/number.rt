@@ -4,6 +4,8 @@ ghost use Rattle.std.specs.Prelude.{◌≡◌, ◌≤◌, ◌<◌, ◌+◌, ◌%
 ghost use Rattle.ssim_values.specs.Characters.{is_digit};
 ghost use Rattle.ssim_records.specs.Numbers.{digits_of, drop_blanks, drop_blanks_at_end, number_of, sequence_of, digits};
 
+use ssim_values::write_two_digits;
+
 fn is_digit(byte: u8) -> bool
     ensures { result ≡ is_digit byte }
 {
@@ -86,10 +88,11 @@ fn digit(number: u32) -> u8
     b'0' + (number % 10) as u8
 }
 
+#[tactic(auto, using(crate::proofs::Numbers::last_two))]
 pub fn two_digits(number: u32) -> [u8; 2]
     ensures { result ≡ digits 2 number }
 {
-    [digit(number / 10), digit(number)]
+    write_two_digits((number % 100) as u8)
 }
 
 pub fn three_digits(number: u32) -> [u8; 3]
@@ -101,25 +104,17 @@ pub fn three_digits(number: u32) -> [u8; 3]
 pub fn four_digits(number: u32) -> [u8; 4]
     ensures { result ≡ digits 4 number }
 {
-    let hundreds = number / 10 / 10;
-    [
-        digit(hundreds / 10),
-        digit(hundreds),
-        digit(number / 10),
-        digit(number),
-    ]
+    let [d1, d2] = two_digits(number / 10 / 10);
+    let [d3, d4] = two_digits(number);
+    [d1, d2, d3, d4]
 }
 
 pub fn six_digits(number: u32) -> [u8; 6]
     ensures { result ≡ digits 6 number }
 {
-    let thousands = number / 10 / 10 / 10;
-    [
-        digit(thousands / 10 / 10),
-        digit(thousands / 10),
-        digit(thousands),
-        digit(number / 10 / 10),
-        digit(number / 10),
-        digit(number),
-    ]
+    let hundreds = number / 10 / 10;
+    let [d1, d2] = two_digits(hundreds / 10 / 10);
+    let [d3, d4] = two_digits(hundreds);
+    let [d5, d6] = two_digits(number);
+    [d1, d2, d3, d4, d5, d6]
 }

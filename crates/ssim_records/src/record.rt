@@ -61,7 +61,7 @@ fn put_record(bytes: &[u8; 200], into: &mut Option<Record>) -> Result<bool, usiz
 
 /// Puts the record that 200 bytes spell into a place, or returns the fault at this record number. After a fault the place
 /// may have any record or none.
-pub(crate) fn read_into(
+pub fn read_into(
     bytes: &[u8; 200],
     number: u64,
     into: &mut Option<Record>,

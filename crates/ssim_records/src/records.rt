@@ -87,23 +87,25 @@ impl Records {
         ensures count { CountsOn (R.left reader.old) (R.left reader.new) (R.came reader.old) (R.came reader.new) self.old.came self.new.came }
         ensures returned { IfOk result (λ number. number ≡ self.new.number) }
     {
-        let mut block = [0; 200];
         match next_other(
             &mut self.window,
             &mut self.came,
             &mut self.number,
             self.limit,
             reader,
-            &mut block,
         ) {
             Ok(false) => {
                 *into = None;
                 Ok(self.number)
             }
-            Ok(true) => match read_into(&block, self.number, into) {
-                Ok(()) => Ok(self.number),
-                Err(fault) => Err(fault),
-            },
+            Ok(true) => {
+                let read = read_into(self.window.front(), self.number, into);
+                self.window.skip();
+                match read {
+                    Ok(()) => Ok(self.number),
+                    Err(fault) => Err(fault),
+                }
+            }
             Err(Stop::Short) => Err(RecordFault::Short {
                 record: self.number + 1,
             }),

@@ -7,7 +7,8 @@ ghost use Rattle.ssim_records.specs.Heads.{IsSegmentHead};
 
 use crate::columns::{carried_at, join};
 use crate::leg_name::LegName;
-use crate::number::{four_digits, six_digits, two_digits};
+use crate::name_text::name_text;
+use crate::number::six_digits;
 use crate::segment_head::SegmentHead;
 use crate::segment_tail::{SegmentTail, tail_at};
 use ssim_values::Airline;
@@ -161,11 +162,7 @@ impl SegmentRecord {
             &mut bytes,
             &[
                 b"4",
-                &[self.name.flight().suffix()],
-                &self.name.airline().write(),
-                &four_digits(self.name.flight().number() as u32),
-                &two_digits(self.name.variation() as u32),
-                &two_digits(self.name.sequence() as u32),
+                &name_text(self.name),
                 &[self.service],
                 &tail[0..13],
                 &[self.overflow],

@@ -1,6 +1,6 @@
 //! Bytes that came and are not used yet.
 
-ghost use Rattle.std.specs.Prelude.{◌≡◌, ◌<◌, ◌≤◌, ◌+◌, ◌++◌, [], length, IfOk, OnErr, Ok};
+ghost use Rattle.std.specs.Prelude.{◌≡◌, ◌<◌, ◌≤◌, ◌+◌, [], length, take, drop, IfOk, OnErr, Ok};
 ghost use Rattle.std.specs.Io.KnownBytes.{IsAtEnd};
 ghost use Rattle.ssim_records.specs.Device.{CountsBytes, CountsFailure};
 ghost use Rattle.ssim_records.specs.Frames.{drop_line_ends, trim};
@@ -82,13 +82,22 @@ impl Window {
         }
     }
 
-    /// Takes a block from the beginning into this place.
-    pub fn take(&mut self, block: &mut [u8; 200])
-        requires { 200 ≤ length self.old }
-        ensures len { length block.new ≡ 200 }
-        ensures parts { self.old ≡ block.new ++ self.new }
+    /// The block at the beginning, where it stands.
+    pub fn front(&self) -> &[u8; 200]
+        requires { 200 ≤ length self.now }
+        ensures { result.now ≡ take 200 self.now }
     {
-        block.copy_from_slice(&self.bytes[self.start..self.start + 200]);
+        match self.bytes[self.start..self.end].first_chunk() {
+            Some(block) => block,
+            None => unreachable!(),
+        }
+    }
+
+    /// Skips the block at the beginning.
+    pub fn skip(&mut self)
+        requires { 200 ≤ length self.old }
+        ensures { self.new ≡ drop 200 self.old }
+    {
         self.start += 200;
     }
 

@@ -32,6 +32,7 @@ pub mod ReadingBack
 pub mod ReadingLemmas
 pub mod BaseFrame
 pub mod SavedBases
+pub mod SavedLines
 pub mod ReadBackBy
 pub mod ResolveLemmas
 pub mod ResolvedOnce

@@ -43,7 +43,7 @@ some-is : (o : Option ℕ) (d : ℕ) → IsSome o → Some (unwrap_or o d) ≡ o
 some-is None d h = absurd cc
 some-is (Some x) d h = refl
 
-kept-bare : (e : List Record) (r : Record) → IsBare r → kept e r ≡ r
+pub kept-bare : (e : List Record) (r : Record) → IsBare r → kept e r ≡ r
 kept-bare e (Header r) h = ap (λ n. Header (record r { serial = n })) (sym h)
 kept-bare e (Carrier r) h = ap (λ n. Carrier (record r { serial = n })) (sym h)
 kept-bare e (Leg r) h =
@@ -54,7 +54,7 @@ kept-bare e (Leg r) h =
 kept-bare e (Segment r) h = ap (λ n. Segment (record r { overflow = n; serial = 0 })) (sym h.1) ∙ ap (λ n. Segment (record r { serial = n })) (sym h.0)
 kept-bare e (Trailer r) h = ap (λ n. Trailer (record r { check = n; serial = 0 })) (sym h.1) ∙ ap (λ n. Trailer (record r { serial = n })) (sym h.0)
 
-all-kept : (e rs : List Record) → Each IsBare rs → kept_all e rs ≡ rs
+pub all-kept : (e rs : List Record) → Each IsBare rs → kept_all e rs ≡ rs
 all-kept e [] h = refl
 all-kept e (r ∷ rs) h = ap (λ x. x ∷ kept_all (kept e r ∷ e) rs) (kept-bare e r h.0) ∙ ap (λ xs. r ∷ xs) (all-kept (kept e r ∷ e) rs h.1)
 
@@ -194,13 +194,13 @@ base-records base w =
 
 -- ---- the bytes of these records
 
-abbrev items : List Record → List (Option Record)
+abbrev pub items : List Record → List (Option Record)
 items base = map (λ r. Some r) base
 
 abbrev its_blocks : List Record → List (List ℕ)
 its_blocks base = map block_of (items base)
 
-abbrev its_records : List Record → List (ℕ × Record)
+abbrev pub its_records : List Record → List (ℕ × Record)
 its_records base = records_at 0 (items base)
 
 saved-read : WrittenIsFramed → WrittenSpells → (base : List Record) → Each IsRecord base → AreRead (saved base) (length (its_blocks base)) (its_records base)
@@ -214,7 +214,7 @@ saved-read frames spells base each =
       spelled = subst (λ blocks. EachSpells blocks (its_records base)) (sym read.1) (each-spells spells 0 (items base) valid);
     }
 
-numbered-are : (base : List Record) → map (λ r. r.1) (its_records base) ≡ base
+pub numbered-are : (base : List Record) → map (λ r. r.1) (its_records base) ≡ base
 numbered-are base = at-among 0 (items base) ∙ among-records base
 
 each-of : (base : List Record) → IsBaseRecords base → Each IsRecord base

@@ -1,5 +1,5 @@
 -- What is known of the records that a base has so far, the latest of which comes first.
-use Rattle.std.specs.Prelude.{◌≡◌, ℕ, Bool, true, false, ◌&&◌, nat_eq, nat_lt, unwrap_or, Some, None, List, [], ◌∷◌}
+use Rattle.std.specs.Prelude.{◌≡◌, ℕ, Bool, true, false, ◌&&◌, nat_eq, nat_lt, unwrap_or, Some, None, List, [], ◌∷◌, reverse}
 use Rattle.std.specs.List.{list_any}
 use Rattle.std.specs.Str.{bytes_eq}
 use Rattle.ssim_values.specs.Flight.{FlightNumber, IsFlight}
@@ -9,7 +9,7 @@ use Rattle.ssim_records.specs.Leg.{LegFields, Name}
 use Rattle.ssim_records.specs.declared.record.Record.{Record}
 use Rattle.ssim_records.specs.declared.record.Record.TheVariants.{Header, Carrier, Leg, Segment, Trailer}
 use Rattle.ssim_schedule.specs.Base.{airline_of, carrier_end, is_trailer, is_leg_named, is_overflow, is_rate, refusal_at, kept}
-use Rattle.ssim_schedule.specs.BaseSeen.{is_leg_of}
+use Rattle.ssim_schedule.specs.BaseSeen.{WasRead, is_leg_of}
 use Rattle.ssim_schedule.specs.KeptRecords.{AddsRecord, AreKept}
 use Rattle.ssim_schedule.specs.LegTable.{has_legs, legs_at, names_leg, uses_date}
 use Rattle.ssim_schedule.specs.ReadBack.{place_of}
@@ -87,3 +87,9 @@ pub record LegStands (heading : Heading) (r : LegFields) (period : DayRange) : T
   pub last_is : period.last ≡ unwrap_or r.last heading.end
   pub days_is : period.days ≡ r.days
   pub in_order : nat_lt period.last r.first ≡ false
+
+-- what is kept are the records of a base
+pub record IsWholeBase (k : Kept) : Type 0 where
+  pub earlier : List Record
+  pub is_kept : IsKept k earlier
+  pub was_read : WasRead (reverse earlier)

@@ -1,5 +1,5 @@
 -- What the records of a base are, and how they are read again once they are written.
-use Rattle.std.specs.Prelude.{◌≡◌, ◌⊎◌, ℕ, ◌≤◌, List, [], ◌∷◌, ◌++◌, map, length, Ok, IsSome}
+use Rattle.std.specs.Prelude.{◌≡◌, ◌⊎◌, ℕ, ◌≤◌, List, [], ◌∷◌, ◌++◌, map, length, Option, Some, None, Ok, IsSome}
 use Rattle.std.specs.List.{All, flat_map}
 use Rattle.ssim_records.specs.Record.{IsRecord, written}
 use Rattle.ssim_records.specs.declared.record.Record.{Record}
@@ -9,6 +9,8 @@ use Rattle.ssim_schedule.specs.Export.{Frame}
 use Rattle.ssim_schedule.specs.ReadBack.{HasFrame}
 use Rattle.ssim_schedule.specs.Reading.{FailedReader, IsReadAs}
 use Rattle.ssim_schedule.specs.declared.note.Note.{Note}
+use Rattle.ssim_schedule.specs.declared.saved.SavedFault.{SavedFault}
+use Rattle.ssim_schedule.specs.declared.saved.SavedFault.TheVariants as fault
 
 -- a record without serial, check reference, rate and overflow; the end of a leg is a date
 abbrev pub IsBare : Record → Type 0
@@ -29,6 +31,22 @@ pub record IsBaseRecords (base : List Record) : Type 0 where
 -- each record as it is written, followed by LF
 abbrev pub saved : List Record → List ℕ
 saved = flat_map (λ r. written r ++ 10 ∷ [])
+
+-- the bytes are the line of a bare record, and this rest
+pub record IsLine (r : Record) (bytes rest : List ℕ) : Type 0 where
+  pub is_record : IsRecord r
+  pub bare : IsBare r
+  pub written_is : bytes ≡ (written r ++ 10 ∷ []) ++ rest
+
+-- the same of the record in a place
+abbrev pub IsLineOf : Option Record → List ℕ → List ℕ → Type 0
+IsLineOf None bytes rest = ⊥
+IsLineOf (Some r) bytes rest = IsLine r bytes rest
+
+-- no more bytes are left than there are
+abbrev pub IsWithin : List ℕ → SavedFault → Type 0
+IsWithin lines fault.Memory = Unit {0}
+IsWithin lines (fault.Invalid left) = left ≤ length lines
 
 -- these records, whatever is noted of them
 abbrev pub IsOfRecords : List Record → Outcome → Type 0

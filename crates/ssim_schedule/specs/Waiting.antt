@@ -1,5 +1,5 @@
 -- The tails that wait for their leg.
-use Rattle.std.specs.Prelude.{ℕ, List, [], Option, Some, None, reverse}
+use Rattle.std.specs.Prelude.{ℕ, nat_eq, if◌then◌else◌, List, [], Option, Some, None, reverse}
 use Rattle.std.specs.Ordering.{nat_cmp}
 use Rattle.std.specs.BTreeMap.{get}
 use Rattle.std.specs.declared.alloc.Global.{Global}
@@ -13,4 +13,4 @@ in_order (Some tails) = reverse tails.items
 
 -- those of the leg whose name has this place
 abbrev pub waiting_at : Waiting → ℕ → List (List ℕ)
-waiting_at w place = in_order (get nat_cmp w.tails place)
+waiting_at w place = if nat_eq place w.latest then reverse w.tails.items else in_order (get nat_cmp w.others place)

@@ -1,10 +1,11 @@
 //! The base: the records of a data set and its station table.
 
-ghost use Rattle.std.specs.Prelude.{◌≡◌, ◌↔◌, ℕ, List, Option, IsTrue, IfOk, IfErr, true};
+ghost use Rattle.std.specs.Prelude.{◌≡◌, ◌↔◌, ℕ, List, Option, IsTrue, IfOk, IfErr, reverse, true};
 ghost use Rattle.std.specs.List.{All};
 ghost use Rattle.ssim_schedule.specs.Base.{airline_of};
 ghost use Rattle.ssim_schedule.specs.BaseSeen.{AreFlights};
 ghost use Rattle.ssim_schedule.specs.Building.{IsClosed};
+ghost use Rattle.ssim_records.specs.declared.record.Record.{Record};
 ghost use Rattle.ssim_schedule.specs.Export.{Frame};
 ghost use Rattle.ssim_schedule.specs.ReadBack.{AreInOrder, CanExport, HasFrame};
 ghost use Rattle.ssim_schedule.specs.Reading.{Answers, Came, FailsAfter, FailsAs, IsReadOf, NeverEnds};
@@ -13,6 +14,7 @@ ghost use Rattle.ssim_schedule.specs.Timetable.{days_of};
 
 use crate::fault::BaseFault;
 use crate::gathering::Gathering;
+use crate::kept::Kept;
 use crate::kept_records::KeptRecords;
 use crate::note::Note;
 use crate::reading::gather;
@@ -54,6 +56,7 @@ pub struct BaseRead {
 
 impl Base {
     ghost use Rattle.ssim_schedule.specs.Gathering.{HasRead, IsWhole};
+    ghost use Rattle.ssim_schedule.specs.Kept.{IsKept, IsWholeBase};
     ghost use Rattle.ssim_schedule.specs.KeptRecords.{keeps};
 
     /// Reads a data set, record by record, and keeps the station table with it. At most `limit` bytes and one more are fetched.
@@ -99,17 +102,27 @@ impl Base {
         if let Some(refusal) = kept.missing() {
             return Err(BaseFault::Refused(number, refusal));
         }
+        let base = Base::of_kept(alloc, kept, stations)?;
+        Ok(BaseRead { base, notes })
+    }
+
+    /// The base of the records that are kept, which are those of a base.
+    pub(crate) fn of_kept(alloc: Global, kept: Kept, stations: Stations) -> Result<Base, Memory>
+        requires whole { IsWholeBase kept }
+        requires keeps { keeps kept.records ≡ true }
+        ensures records { (earlier : List Record) → IsKept kept earlier → IfOk result (λ base. base.records ≡ reverse earlier) }
+        ensures rows { IfOk result (λ base. base.rows ≡ stations) }
+    {
         let flights = kept.legs.flights()?;
         let mut records = kept.records.into_records();
         // A list that grew may have as much unused room as it has records.
         records.shrink_to_fit();
-        let base = Base {
+        Ok(Base {
             records,
             stations,
             flights,
             alloc,
-        };
-        Ok(BaseRead { base, notes })
+        })
     }
 
     /// The same base.
@@ -184,6 +197,14 @@ impl Base {
         ensures in_order { AreInOrder (days_of result.now) }
     {
         &self.records
+    }
+
+    /// The records, and the flights of the leg records.
+    pub(crate) fn into_parts(self) -> (Vec<Record>, Vec<Flight>)
+        ensures value { result.0.items ≡ self.records }
+        ensures closed { All IsClosed result.0.items }
+    {
+        (self.records, self.flights)
     }
 
     /// The rows of the station table, in order.

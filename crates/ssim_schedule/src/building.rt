@@ -1,6 +1,6 @@
 //! The timetable of records, built from the last record to the first, so that each tail comes before its leg.
 
-ghost use Rattle.std.specs.Prelude.{◌≡◌, ◌∷◌, [], List, IfOk, OnOk, Some};
+ghost use Rattle.std.specs.Prelude.{◌≡◌, ◌∷◌, ◌++◌, [], List, IfOk, OnOk, Some};
 ghost use Rattle.std.specs.List.{All};
 ghost use Rattle.ssim_values.specs.Flight.{FlightNumber, IsFlight};
 ghost use Rattle.ssim_records.specs.declared.record.Record.{Record};
@@ -27,6 +27,9 @@ const LEAST: usize = 32;
 // A flight with at least `LEAST` and fewer than so many cuts has its itineraries shared each time that the records go on to another flight.
 const FEW: usize = 256;
 
+// The number of records that are freed at a time.
+const FREED: usize = 65_536;
+
 /// The timetable of some records at the end of a base, and the tails whose leg record is not among them.
 #[derive(Drop)]
 pub(crate) struct Building {
@@ -51,6 +54,19 @@ impl Schedule {
     }
 }
 
+impl Base {
+    /// The timetable of the base. The records are freed while it is made.
+    pub(crate) fn into_table(self) -> Result<FlightBlocks, Memory>
+        ensures { IfOk result (λ s. (g : FlightNumber) → IsFlight g → days_in s g ≡ days_of self.records g) }
+    {
+        let alloc = self.allocator();
+        let (records, flights) = self.into_parts();
+        let mut table = timetable_from(alloc, records)?;
+        table.share_where(&flights, FEW)?;
+        Ok(table)
+    }
+}
+
 /// The timetable of records.
 fn timetable(alloc: Global, records: &[Record]) -> Result<FlightBlocks, Memory>
     requires closed { All IsClosed records.now }
@@ -58,10 +74,23 @@ fn timetable(alloc: Global, records: &[Record]) -> Result<FlightBlocks, Memory>
     ensures cuts { IfOk result (λ s. (g : FlightNumber) → IsFlight g → AreAtPoints (cuts_in s g) g records.now) }
 {
     let mut building = Building::new(alloc)?;
-    let mut place = records.len();
-    while place > 0 {
-        place -= 1;
-        building.put(&records[place])?;
+    building.put_all(records)?;
+    building.put_group(None)?;
+    Ok(building.table)
+}
+
+/// The timetable of records, which are freed as they are put into it. So the two never take the memory of both.
+fn timetable_from(alloc: Global, records: Vec<Record>) -> Result<FlightBlocks, Memory>
+    requires closed { All IsClosed records.items }
+    ensures { IfOk result (λ s. (g : FlightNumber) → IsFlight g → days_in s g ≡ days_of records.items g) }
+{
+    let mut building = Building::new(alloc)?;
+    let mut left = records;
+    while !left.is_empty() {
+        let from = left.len().saturating_sub(FREED);
+        building.put_all(&left[from..])?;
+        left.truncate(from);
+        left.shrink_to_fit();
     }
     building.put_group(None)?;
     Ok(building.table)
@@ -80,6 +109,19 @@ impl Building {
             waiting: Waiting::new(alloc),
             alloc,
         })
+    }
+
+    /// Adds records before the others, from the last to the first.
+    fn put_all(&mut self, records: &[Record]) -> Result<(), Memory>
+        requires { All IsClosed records.now }
+        ensures { OnOk result ((done : List Record) → IsBuilt self.old done → IsBuilt self.new (records.now ++ done)) }
+    {
+        let mut place = records.len();
+        while place > 0 {
+            place -= 1;
+            self.put(&records[place])?;
+        }
+        Ok(())
     }
 
     /// Adds a record before the others.
@@ -112,7 +154,7 @@ impl Building {
             unreachable!();
         };
         self.open_group(name.flight(), period, name.sequence())?;
-        let tails = self.waiting.take(name);
+        let tails = self.waiting.take(name)?;
         let placed = PlacedLeg::new(name.sequence(), leg.columns(), tails);
         self.group.add(placed)
     }

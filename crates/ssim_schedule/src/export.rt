@@ -5,6 +5,7 @@ ghost use Rattle.ssim_schedule.specs.Export.{chapter7};
 ghost use Rattle.ssim_schedule.specs.Plan.{ReadsBackBase, Refuses, RefusesBase, Writes, WritesBase, frame_from};
 ghost use Rattle.ssim_schedule.specs.ReadBack.{CanReadBack, IsTimetable};
 ghost use Rattle.ssim_schedule.specs.Schedule.{days_in};
+ghost use Rattle.ssim_schedule.specs.Timetable.{days_of};
 
 pub mod block;
 mod lines;
@@ -14,7 +15,7 @@ use crate::base::Base;
 use crate::export::lines::put_export;
 use crate::export::plan::{divide, measure};
 use crate::flight_blocks::FlightBlocks;
-use crate::laws::export_bytes_read_back;
+use crate::laws::{export_bytes_read_back, export_reads_back};
 use crate::schedule::Schedule;
 use ssim_records::{Carrier, Header, Sink, Trailer};
 use ssim_values::{Flight, Memory};
@@ -121,6 +122,28 @@ impl Schedule {
             base.allocator(),
             out,
         )
+    }
+}
+
+impl Base {
+    /// Writes the canonical export of the base's timetable, as `Schedule::of` and `Schedule::export` do. The records are freed while the
+    /// timetable is made, so it takes the memory of one of the two. 90 can also mean that there is no memory for the timetable.
+    pub fn export<W: Sink>(self, out: &mut W) -> Result<(), ExportFault>
+        ensures ok { OnOk result (WritesBase W.taken W.failures self.records (days_of self.records) out.old out.new) }
+        ensures err { IfErr result (λ fault. RefusesBase W.taken W.failures self.records (days_of self.records) out.old out.new fault) }
+        ensures device { W.device out.new ≡ W.device out.old }
+
+        // The bytes read back to the same itinerary on each date, and the export of what was read is the same bytes.
+        ensures reads_back { OnOk result (ReadsBackBase W.taken self.records (days_of self.records) out.old out.new) }
+    {
+        export_reads_back();
+        export_bytes_read_back();
+        let header = *self.header();
+        let carrier = *self.carrier();
+        let trailer = *self.trailer();
+        let alloc = self.allocator();
+        let table = self.into_table()?;
+        export_frame(&table, &header, &carrier, &trailer, alloc, out)
     }
 }
 

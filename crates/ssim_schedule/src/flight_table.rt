@@ -182,11 +182,25 @@ impl FlightTable {
         &self.flights
     }
 
+    // Whether the first entry is the flight's.
+    fn begins_with(&self, flight: Flight) -> bool
+        ensures { result ≡ true → IsAt self.now flight 0 }
+    {
+        match self.flights.first() {
+            None => false,
+            Some(first) => place(first.flight) == place(flight),
+        }
+    }
+
     // The index of the flight's entry, or the index at which it would be inserted.
     fn search(&self, flight: Flight) -> Result<usize, usize>
         ensures found { IfOk result (IsAt self.now flight) }
         ensures absent { IfErr result (IsGapFor self.now flight) }
     {
+        // Timetables are made from their last flight to the first.
+        if self.begins_with(flight) {
+            return Ok(0);
+        }
         self.flights
             .binary_search_by_key(&place(flight), |f| place(f.flight))
     }

@@ -31,6 +31,11 @@ impl Model for LegKey {
 impl LegKey {
     ghost use Rattle.ssim_schedule.specs.Building.{IsPlaced, name_place};
 
+    /// A key that is not greater than any other.
+    pub(crate) fn first() -> LegKey {
+        LegKey { number: 0 }
+    }
+
     /// The key of the leg with this name.
     pub(crate) fn of(name: LegName) -> LegKey
         ensures value { result ≡ name_place name }

@@ -1,6 +1,8 @@
 //! The tails that wait for their leg while records are gone through from the last to the first.
 
-ghost use Rattle.std.specs.Prelude.{◌≡◌, ℕ, ◌<◌, ◌∷◌, [], nat_eq, if◌then◌else◌, reverse, OnOk};
+ghost use Rattle.std.specs.Prelude.{◌≡◌, ℕ, ◌<◌, ◌∷◌, [], None, nat_eq, if◌then◌else◌, reverse, false, IfOk, OnOk};
+ghost use Rattle.std.specs.BTreeMap.{get};
+ghost use Rattle.std.specs.Ordering.{nat_cmp};
 ghost use Rattle.ssim_schedule.specs.Building.{IsPlaced, name_place};
 
 use crate::leg_key::LegKey;
@@ -8,12 +10,20 @@ use ssim_records::{LegName, SegmentTail};
 use ssim_values::Memory;
 use std::alloc::Global;
 use std::collections::BTreeMap;
+use std::mem;
 
 /// For each leg the tails of the segment records that were met and whose leg record was not, the last of them first.
 #[derive(Drop)]
 pub(crate) struct Waiting {
-    tails: BTreeMap<LegKey, Vec<SegmentTail>>,
+    /// The leg of the latest segment record. Mostly its other segment records and its leg record come next.
+    latest: LegKey,
+    /// The tails of this leg. The room stays when they are taken out.
+    tails: Vec<SegmentTail>,
+    /// The tails of the other legs.
+    others: BTreeMap<LegKey, Vec<SegmentTail>>,
     alloc: Global,
+
+    ghost apart: { get nat_cmp others latest ≡ None },
 }
 
 impl Waiting {
@@ -24,7 +34,9 @@ impl Waiting {
         ensures { (place : ℕ) → waiting_at result place ≡ [] }
     {
         Waiting {
-            tails: BTreeMap::new(alloc),
+            latest: LegKey::first(),
+            tails: Vec::new(alloc),
+            others: BTreeMap::new(alloc),
             alloc,
         }
     }
@@ -34,24 +46,54 @@ impl Waiting {
         ensures ok { OnOk result ((place : ℕ) → waiting_at self.new place ≡ (if nat_eq place (name_place name) then tail ∷ waiting_at self.old place else waiting_at self.old place)) }
         ensures named { IsPlaced name }
     {
-        let key = LegKey::of(name);
-        let mut tails = match self.tails.remove(&key) {
-            Some(tails) => tails,
-            // Most legs have one segment record, if any.
-            None => Vec::with_capacity(self.alloc, 1)?,
-        };
-        tails.push(tail)?;
-        self.tails.insert(key, tails)?;
+        self.turn_to(LegKey::of(name))?;
+        self.tails.push(tail)?;
+        Ok(())
+    }
+
+    // Makes this leg the latest.
+    fn turn_to(&mut self, key: LegKey) -> Result<(), Memory>
+        ensures latest { OnOk result (self.new.latest ≡ key) }
+        ensures same { OnOk result ((place : ℕ) → waiting_at self.new place ≡ waiting_at self.old place) }
+    {
+        if key == self.latest {
+            return Ok(());
+        }
+        let tails = self.others.remove(&key);
+        if !self.tails.is_empty() {
+            let left = mem::replace(&mut self.tails, Vec::new(self.alloc));
+            self.others.insert(self.latest, left)?;
+        }
+        self.latest = key;
+        if let Some(tails) = tails {
+            self.tails = tails;
+        }
         Ok(())
     }
 
     /// The tails of a leg, in their order; none of it waits any more.
-    pub(crate) fn take(&mut self, name: LegName) -> Vec<SegmentTail>
-        ensures tails { result.items ≡ waiting_at self.old (name_place name) }
+    pub(crate) fn take(&mut self, name: LegName) -> Result<Vec<SegmentTail>, Memory>
+        ensures tails { IfOk result (λ tails. tails.items ≡ waiting_at self.old (name_place name)) }
         ensures named { IsPlaced name }
-        ensures others { (place : ℕ) → waiting_at self.new place ≡ (if nat_eq place (name_place name) then [] else waiting_at self.old place) }
+        ensures others { OnOk result ((place : ℕ) → waiting_at self.new place ≡ (if nat_eq place (name_place name) then [] else waiting_at self.old place)) }
     {
-        let mut tails = match self.tails.remove(&LegKey::of(name)) {
+        let key = LegKey::of(name);
+        if key != self.latest {
+            return Ok(self.take_other(key));
+        }
+        self.tails.reverse();
+        let tails = Vec::from_slice(self.alloc, &self.tails)?;
+        self.tails.clear();
+        Ok(tails)
+    }
+
+    // The tails of a leg that is not the latest.
+    fn take_other(&mut self, key: LegKey) -> Vec<SegmentTail>
+        requires { nat_eq key self.old.latest ≡ false }
+        ensures tails { result.items ≡ waiting_at self.old key }
+        ensures others { (place : ℕ) → waiting_at self.new place ≡ (if nat_eq place key then [] else waiting_at self.old place) }
+    {
+        let mut tails = match self.others.remove(&key) {
             Some(tails) => tails,
             None => Vec::new(self.alloc),
         };

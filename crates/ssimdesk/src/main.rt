@@ -1,7 +1,9 @@
 //! The program over the system's files and the standard streams.
 #![tactic(auto)]
 
+mod draft;
 mod files;
+mod reading;
 mod whole_file;
 
 use files::FileStore;
@@ -55,7 +57,9 @@ fn main(rt: HostRuntime) -> ExitCode {
     let Ok(mut out) = BufWriter::with_capacity(alloc, ROOM, rt.stdout()) else {
         return out_of_memory(&rt);
     };
-    let mut store = FileStore::new(&rt, alloc);
+    let Ok(mut store) = FileStore::new(&rt, alloc) else {
+        return out_of_memory(&rt);
+    };
     let mut err = rt.stderr();
     let status = run(alloc, texts.as_slice(), &mut store, &mut out, &mut err);
     // What is printed was flushed. Only after a failure is there more in the buffer, and then nothing more is written.

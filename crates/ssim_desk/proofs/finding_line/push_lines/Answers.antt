@@ -1,9 +1,9 @@
 use Rattle.std.proofs.Common.{◌≡◌, ◌<◌, ◌+◌, ◌∙◌, ◌++◌, suc, List, take, slice_get, Some, sym, ap, subst, append_assoc, arith}
 use Rattle.ssim_text.specs.Message.{MessageValue}
+use Rattle.ssim_held.proofs.Searching.{at_index}
 use Rattle.ssim_desk.specs.Desk.{entry_lines, sub_lines}
 use Rattle.ssim_desk.specs.declared.finding_line.FindingLine.{FindingLine}
 use Rattle.ssim_desk.proofs.Lines.{lines_more}
-use Rattle.ssim_desk.proofs.Searching.{at_index}
 use Rattle.ssim_desk.proofs.finding_line.push_lines.Goals as goal
 
 pub loop-place-preserved : goal.loop-place-preserved

@@ -1,14 +1,15 @@
 -- What the text spells is looked up among the messages.
-use Rattle.std.proofs.Common.{◌≡◌, Result, Err, IfErr, sym, subst, refl, rules}
-use Rattle.ssim_desk.specs.Fault.{message_refused, text_refused}
-use Rattle.ssim_desk.specs.Held.{DeskState}
-use Rattle.ssim_desk.specs.Kept.{Entry, map_of}
+use Rattle.std.proofs.Common.{◌≡◌, Result, Err, IfErr, sym, subst, rules}
+use Rattle.ssim_held.specs.Fault.{message_refused, text_refused}
+use Rattle.ssim_held.specs.Held.{DeskState}
+use Rattle.ssim_held.specs.Kept.{Entry, map_of}
+use Rattle.ssim_held.specs.declared.fault.DeskFault.{DeskFault}
 use Rattle.ssim_desk.specs.Private.{IsOffer}
 use Rattle.ssim_desk.specs.Steps.{RefusesText}
-use Rattle.ssim_desk.specs.declared.fault.DeskFault.{DeskFault}
 use Rattle.ssim_desk.specs.declared.offer.Offer.{Offer}
 use Rattle.ssim_desk.specs.declared.offer.Offer.TheVariants.{New}
-use Rattle.ssim_desk.proofs.Changes.{each_dated, in_conflict, is_entry, is_known, no_dates, no_text, says}
+use Rattle.ssim_held.proofs.Resolving.{each_dated}
+use Rattle.ssim_desk.proofs.Changes.{in_conflict, is_entry, is_known, no_dates, no_text, says}
 use Rattle.ssim_desk.proofs.offer.offer_of.Goals as goal
 
 pub returns-in_err-message-clause-err : goal.returns-in_err-message-clause-err

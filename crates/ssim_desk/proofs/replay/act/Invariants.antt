@@ -3,7 +3,7 @@ use Rattle.std.proofs.Common.{◌≡◌, ℕ, List, ◌++◌, drop}
 use Rattle.ssim_schedule.specs.Schedule.{Table, cuts_in}
 use Rattle.ssim_schedule.specs.Stations.{Row}
 use Rattle.ssim_schedule.specs.declared.finding.Finding.{Finding}
-use Rattle.ssim_desk.specs.Kept.{Entry}
+use Rattle.ssim_held.specs.Kept.{Entry}
 use Rattle.ssim_desk.specs.Private.{AddsSubPoints, Shows}
 use Rattle.ssim_desk.specs.Meaning.{Timetable, after_subs, subs_findings}
 use Rattle.ssim_values.specs.Flight.{FlightNumber, IsFlight}

@@ -3,8 +3,8 @@ use Rattle.std.proofs.lemmas.List.{take_all}
 use Rattle.std.proofs.lemmas.List.Elements.{All-map, All-more}
 use Rattle.ssim_schedule.specs.BaseSeen.{BaseSeen}
 use Rattle.ssim_schedule.specs.SavedBase.{IsBaseRecords}
-use Rattle.ssim_desk.specs.Held.{IsDesk}
-use Rattle.ssim_desk.specs.Kept.{DeskSeen, state_of}
+use Rattle.ssim_held.specs.Held.{IsDesk}
+use Rattle.ssim_held.specs.Kept.{DeskSeen, state_of}
 use Rattle.ssim_desk.proofs.OneRun.{is_desk}
 use Rattle.ssim_desk.proofs.steps.each_is_desk.Goals as goal
 

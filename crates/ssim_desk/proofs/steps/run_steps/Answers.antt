@@ -1,7 +1,7 @@
 use Rattle.std.proofs.Common.{◌≡◌, ◌+◌, ◌++◌, ◌∷◌, [], All, map, take, subst, sym, ◌∙◌, arith}
 use Rattle.std.proofs.lemmas.Grind.{common_steps}
 use Rattle.std.proofs.lemmas.List.{length-map, take_all}
-use Rattle.ssim_desk.specs.Kept.{state_of}
+use Rattle.ssim_held.specs.Kept.{state_of}
 use Rattle.ssim_desk.specs.Steps.{IsInRange, IsOwnMerge, LeavesIdle, Runs}
 use Rattle.ssim_desk.proofs.OneRun.{desks_agree}
 use Rattle.ssim_desk.proofs.StepLemmas.{idle_more, one_more}

@@ -1,5 +1,5 @@
 use Rattle.std.proofs.Common.{◌≡◌, ◌≤◌, All, length, map, take, vec_capacity, vec_len}
-use Rattle.ssim_desk.specs.Kept.{state_of}
+use Rattle.ssim_held.specs.Kept.{state_of}
 use Rattle.ssim_desk.specs.Steps.{IsOwnMerge, LeavesIdle, Runs}
 use Rattle.ssim_desk.proofs.steps.run_steps.Given as goal
 

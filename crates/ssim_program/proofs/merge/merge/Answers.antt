@@ -2,8 +2,8 @@
 use Rattle.std.proofs.Common.{◌≡◌, ◌∙◌, ℕ, List, length, Option, sym, ap, subst, inl, inr, refl, rules, Result, Ok, Err, IfErr, Some}
 use Rattle.std.proofs.KnownBytes.{Keeps-refl}
 use Rattle.ssim_schedule.proofs.SinkLemmas.{at_fault}
-use Rattle.ssim_desk.specs.File.{desk_file}
-use Rattle.ssim_desk.specs.Kept.{DeskSeen, Entry}
+use Rattle.ssim_held.specs.File.{desk_file}
+use Rattle.ssim_held.specs.Kept.{DeskSeen, Entry}
 use Rattle.ssim_program.specs.Desks.{ReadsDesk, held_line}
 use Rattle.ssim_program.specs.Files.{Files, with_kept}
 use Rattle.ssim_program.specs.Line.{Merge}

@@ -2,8 +2,8 @@
 use Rattle.std.proofs.Common.{◌≡◌, ◌∙◌, sym, ap, subst, inl, inr, rules, Result, Ok, Err, IfErr, Some}
 use Rattle.std.proofs.KnownBytes.{Keeps-refl}
 use Rattle.ssim_schedule.proofs.SinkLemmas.{at_fault}
-use Rattle.ssim_desk.specs.File.{desk_file}
-use Rattle.ssim_desk.specs.Kept.{DeskSeen}
+use Rattle.ssim_held.specs.File.{desk_file}
+use Rattle.ssim_held.specs.Kept.{DeskSeen}
 use Rattle.ssim_program.specs.Files.{with_kept}
 use Rattle.ssim_program.specs.Line.{Start}
 use Rattle.ssim_program.specs.Reasons.{Refuses}

@@ -1,7 +1,7 @@
 -- The desk is opened, the texts are taken, and the desk is kept.
 use Rattle.std.proofs.Common.{◌≡◌, ◌∙◌, ℕ, Option, map, sym, ap, subst, inl, inr, refl, rules, Result, Err, IfErr, Some}
 use Rattle.ssim_schedule.proofs.SinkLemmas.{at_fault, if_err, if_ok}
-use Rattle.ssim_desk.specs.File.{desk_file}
+use Rattle.ssim_held.specs.File.{desk_file}
 use Rattle.ssim_program.specs.Desks.{EndsTexts, LeavesTexts, PrintsTexts, RefusesTexts}
 use Rattle.ssim_program.specs.Effects.{Leaves}
 use Rattle.ssim_program.specs.Ends.{Ends}

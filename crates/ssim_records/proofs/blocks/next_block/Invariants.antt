@@ -12,8 +12,8 @@ pub record Goes {R : Type 0} (left : R → Option (List ℕ)) (came_of failures 
   pub no_failure : failures reader ≡ failures before
   pub few : length held + came0 ≤ length old + came
 
-abbrev pub invariant-loop-window : goal.invariant-loop-window
-invariant-loop-window g l = Goes g.R.Source.left g.R.Source.came g.R.Source.failures l.behind l.limit l.initial.came l.came l.initial.window l.window l.initial.reader l.reader
+abbrev pub invariant-loop-limit : goal.invariant-loop-limit
+invariant-loop-limit g l = Goes g.R.Source.left g.R.Source.came g.R.Source.failures l.behind l.limit l.initial.came l.came l.initial.window l.window l.initial.reader l.reader
 
-abbrev pub decreases-loop-window : goal.decreases-loop-window
-decreases-loop-window g l = l.limit + 1 - l.came
+abbrev pub decreases-loop-limit : goal.decreases-loop-limit
+decreases-loop-limit g l = l.limit + 1 - l.came

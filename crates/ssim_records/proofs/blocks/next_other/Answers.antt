@@ -1,5 +1,6 @@
 -- A block of fill is counted and passed over; any other answer is that of the blocks behind the fill.
-use Rattle.std.proofs.Common.{◌≡◌, ◌+◌, ◌∙◌, Ok, Err, Some, None, true, false, sym, refl, arith, rules}
+use Rattle.std.proofs.Common.{◌≡◌, ◌+◌, ◌∙◌, Ok, Err, Some, None, true, false, take, length, ap, sym, refl, arith, rules}
+use Rattle.std.proofs.lemmas.List.{length-drop}
 use Rattle.ssim_records.proofs.Framing.{one_more, counts_none, counts_twice, fetches_first, fetches_on, gives_other, none_skipped}
 use Rattle.ssim_records.proofs.blocks.next_other.Goals as goal
 
@@ -18,15 +19,16 @@ pub loop-more-preserved : goal.loop-more-preserved
 loop-more-preserved g c =
     let e : c.next_block.result ≡ Ok true = search rules in
     let b = rw e at c.next_block.ensures.block in
-    let few = rw e at c.next_block.ensures.few in
+    let long = c.next_block.ensures.long e in
+    let less = ap length c.skip.ensures in
     let fault = rw e at c.next_block.ensures.fault in
     let fetched = rw e at c.next_block.ensures.fetched in
     record {
       came_fits = c.next_block.ensures.came;
       not_less = omega (arith, c.loop-more.invariant.not_less);
-      counted = omega (arith, few, c.loop-more.invariant.counted);
-      skipped = one_more _ _ _ _ _ _ _ _ _ _ _ _ c.next_block.new.block c.loop-more.invariant.skipped b (sym c.is_fill.ensures ∙ c.if-not-is_fill.false);
-      fetched = fetches_on _ _ (c.loop-more.number + 1) 0 1 _ _ _ _ _ _ c.loop-more.invariant.fetched fetched (omega arith);
+      counted = omega (arith, c.next_block.ensures.held, long, less, length-drop 200 c.next_block.new.window, c.loop-more.invariant.counted);
+      skipped = rw c.skip.ensures (one_more _ _ _ _ _ _ _ _ _ _ _ _ (take 200 c.next_block.new.window) c.loop-more.invariant.skipped b (rw (← c.front.ensures) (sym c.is_fill.ensures ∙ c.if-not-is_fill.false)));
+      fetched = rw c.skip.ensures (fetches_on _ _ (c.loop-more.number + 1) 0 1 _ _ _ _ _ _ c.loop-more.invariant.fetched fetched (omega arith));
       counts = counts_twice _ _ _ _ _ _ _ _ _ c.loop-more.invariant.counts c.next_block.ensures.count;
       no_failure = fault ∙ c.loop-more.invariant.no_failure;
     }
@@ -48,15 +50,29 @@ pub returns-then-not-is_fill-clause-block : goal.returns-then-not-is_fill-clause
 returns-then-not-is_fill-clause-block g c =
     let e : c.next_block.result ≡ Ok true = search rules in
     let b = rw e at c.next_block.ensures.block in
-    gives_other _ _ _ _ _ _ _ _ _ _ _ _ _ (Ok (Some c.next_block.new.block)) c.loop-more.invariant.skipped b (refl, sym c.is_fill.ensures ∙ c.if-not-is_fill.true)
+    gives_other _ _ _ _ _ _ _ _ _ _ _ _ _ (Ok (Some (take 200 c.next_block.new.window))) c.loop-more.invariant.skipped b (refl, rw (← c.front.ensures) (sym c.is_fill.ensures ∙ c.if-not-is_fill.true))
+
+pub returns-then-not-is_fill-clause-counted : goal.returns-then-not-is_fill-clause-counted
+returns-then-not-is_fill-clause-counted g c =
+    let e : c.next_block.result ≡ Ok true = search rules in
+    omega (arith, c.next_block.ensures.held, c.next_block.ensures.long e, length-drop 200 c.next_block.new.window, c.loop-more.invariant.counted)
+
+pub returns-then-not-is_fill-clause-count : goal.returns-then-not-is_fill-clause-count
+returns-then-not-is_fill-clause-count g c = counts_twice _ _ _ _ _ _ _ _ _ c.loop-more.invariant.counts c.next_block.ensures.count
+
+pub loop-more-smaller : goal.loop-more-smaller
+loop-more-smaller g c =
+    let e : c.next_block.result ≡ Ok true = search rules in
+    omega (arith, c.next_block.ensures.held, c.next_block.ensures.came, c.next_block.ensures.long e, ap length c.skip.ensures, length-drop 200 c.next_block.new.window, c.loop-more.invariant.came_fits)
 
 -- ---- what was fetched
 
 pub returns-in_err-more-clause-fetched : goal.returns-in_err-more-clause-fetched
 returns-in_err-more-clause-fetched g c =
     let e : c.next_block.result ≡ Err c.in_err-more.field-0.0 = search rules in
+    let k : c.from_residual.result ≡ Err c.in_err-more.field-0.0 = search rules in
     let fetched = rw e at c.next_block.ensures.fetched in
-    fetches_on _ _ c.loop-more.number 0 0 _ _ _ _ _ _ c.loop-more.invariant.fetched fetched (omega arith)
+    rw k (fetches_on _ _ c.loop-more.number 0 0 _ _ _ _ _ _ c.loop-more.invariant.fetched fetched (omega arith))
 
 pub returns-then-not-more-clause-fetched : goal.returns-then-not-more-clause-fetched
 returns-then-not-more-clause-fetched g c =

@@ -1,12 +1,12 @@
 use Rattle.std.proofs.Common.{◌≡◌, ◌-◌, ◌∙◌, inl, length, List, All, take, drop, ap, sym, subst, arith}
 use Rattle.std.proofs.lemmas.Grind.{common_steps}
 use Rattle.ssim_schedule.specs.BaseSeen.{BaseSeen}
+use Rattle.ssim_held.specs.Kept.{AreEntries, DeskSeen, Entry, map_of, state_of}
+use Rattle.ssim_held.specs.Ordered.{IsFirstNew, IsMerged}
+use Rattle.ssim_held.proofs.Unions.{IsHeldIn, union_entries}
 use Rattle.ssim_desk.specs.Desk.{at_rest}
-use Rattle.ssim_desk.specs.Kept.{AreEntries, DeskSeen, Entry, map_of, state_of}
 use Rattle.ssim_desk.specs.Steps.{IsUnion}
-use Rattle.ssim_desk.specs.Private.{IsFirstNew, IsMerged}
 use Rattle.ssim_desk.proofs.Brought.{replayed_some, united_none, united_some}
-use Rattle.ssim_desk.proofs.Unions.{IsHeldIn, union_entries}
 use Rattle.ssim_desk.proofs.desk.Desk.bring.Goals as goal
 
 pub returns-in-None-clause-union : goal.returns-in-None-clause-union

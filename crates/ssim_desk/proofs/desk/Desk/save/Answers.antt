@@ -2,8 +2,8 @@
 use Rattle.std.proofs.Common.{OnOk, Result, Ok, Err, All, List, subst}
 use Rattle.ssim_schedule.specs.BaseSeen.{BaseSeen}
 use Rattle.ssim_schedule.specs.SavedBase.{IsBaseRecords}
-use Rattle.ssim_desk.specs.File.{CanBeSaved, IsRow, IsSpelled}
-use Rattle.ssim_desk.specs.Kept.{AreEntries, Entry}
+use Rattle.ssim_held.specs.File.{CanBeSaved, IsRow, IsSpelled}
+use Rattle.ssim_held.specs.Kept.{AreEntries, Entry}
 use Rattle.ssim_desk.proofs.desk.Desk.save.Goals as goal
 
 from_parts : {T E : Type 0} (r : Result T E) (base : BaseSeen) (entries : List Entry) → AreEntries base.records entries

@@ -1,16 +1,16 @@
 -- The text is known, or its message is put where it belongs.
 use Rattle.std.proofs.Common.{◌≡◌, List, Result, Err, drop, refl, sym, subst, rules}
 use Rattle.ssim_schedule.specs.BaseSeen.{BaseSeen}
+use Rattle.ssim_held.specs.Kept.{Entry, IsEntry, map_of, state_of}
+use Rattle.ssim_held.specs.declared.fault.DeskFault.{DeskFault}
+use Rattle.ssim_held.proofs.Entries.{not_held}
 use Rattle.ssim_desk.specs.Desk.{take_answer}
-use Rattle.ssim_desk.specs.Kept.{Entry, IsEntry, map_of, state_of}
 use Rattle.ssim_desk.specs.Private.{IsOffer}
 use Rattle.ssim_desk.specs.Steps.{RefusesText, Takes}
 use Rattle.ssim_desk.specs.declared.desk.Took.{Took}
-use Rattle.ssim_desk.specs.declared.fault.DeskFault.{DeskFault}
 use Rattle.ssim_desk.specs.declared.offer.Offer.{Offer}
 use Rattle.ssim_desk.specs.declared.offer.Offer.TheVariants.{Known, New}
 use Rattle.ssim_desk.proofs.Changes.{is_new, replayed}
-use Rattle.ssim_desk.proofs.Entries.{not_held}
 use Rattle.ssim_desk.proofs.desk.Desk.take.Goals as goal
 
 pub returns-in_err-offered-clause-takes : goal.returns-in_err-offered-clause-takes

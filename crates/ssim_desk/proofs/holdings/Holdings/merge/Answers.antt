@@ -1,11 +1,11 @@
 -- The messages of both are put together.
 use Rattle.std.proofs.Common.{◌≡◌, List, refl, sym, subst}
 use Rattle.ssim_schedule.specs.BaseSeen.{BaseSeen}
-use Rattle.ssim_desk.specs.Held.{Agree}
-use Rattle.ssim_desk.specs.Kept.{AreEntries, DeskSeen, Entry, map_of, state_of}
-use Rattle.ssim_desk.specs.Private.{IsMerged}
+use Rattle.ssim_held.specs.Held.{Agree}
+use Rattle.ssim_held.specs.Kept.{AreEntries, DeskSeen, Entry, map_of, state_of}
+use Rattle.ssim_held.specs.Ordered.{IsMerged}
+use Rattle.ssim_held.proofs.Unions.{whole_entries, whole_is}
 use Rattle.ssim_desk.specs.Steps.{IsUnion}
-use Rattle.ssim_desk.proofs.Unions.{whole_entries, whole_is}
 use Rattle.ssim_desk.proofs.holdings.Holdings.merge.Goals as goal
 
 pub invariant_of-self : goal.invariant_of-self

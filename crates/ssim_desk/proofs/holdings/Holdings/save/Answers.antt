@@ -1,8 +1,8 @@
 -- A prefix of the file was taken.
 use Rattle.std.proofs.Common.{OnErr, List, subst}
 use Rattle.ssim_schedule.specs.Sinks.{TakesFront}
-use Rattle.ssim_desk.specs.File.{desk_file}
-use Rattle.ssim_desk.specs.Kept.{DeskSeen, Entry}
+use Rattle.ssim_held.specs.File.{desk_file}
+use Rattle.ssim_held.specs.Kept.{DeskSeen, Entry}
 use Rattle.ssim_desk.proofs.holdings.Holdings.save.Goals as goal
 
 pub returns-clause-err : goal.returns-clause-err

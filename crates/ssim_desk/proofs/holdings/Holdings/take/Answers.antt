@@ -1,6 +1,6 @@
 -- The message of a text that is new is put where it belongs.
 use Rattle.std.proofs.Common.{List, subst}
-use Rattle.ssim_desk.specs.Kept.{AreRising, DeskSeen, Entry, map_of, state_of}
+use Rattle.ssim_held.specs.Kept.{AreRising, DeskSeen, Entry, map_of, state_of}
 use Rattle.ssim_desk.specs.Private.{IsOffer}
 use Rattle.ssim_desk.specs.declared.offer.Offer.{Offer}
 use Rattle.ssim_desk.specs.declared.offer.Offer.TheVariants.{New}

@@ -2,7 +2,7 @@ use Rattle.std.proofs.Common.{◌≡◌, ◌∷◌, [], List, sym, subst, arith}
 use Rattle.std.proofs.lemmas.Grind.{common_steps}
 use Rattle.ssim_schedule.specs.Schedule.{Table, cuts_in}
 use Rattle.ssim_schedule.specs.declared.finding.Finding.{Finding}
-use Rattle.ssim_desk.specs.Kept.{Entry}
+use Rattle.ssim_held.specs.Kept.{Entry}
 use Rattle.ssim_desk.specs.Private.{IsAfter, IsTrail}
 use Rattle.ssim_desk.proofs.Points.{begun_at}
 use Rattle.ssim_desk.proofs.Trails.{begun_trail}

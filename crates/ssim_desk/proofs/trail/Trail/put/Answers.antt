@@ -1,6 +1,6 @@
 use Rattle.std.proofs.Common.{◌≡◌, ◌+◌, ◌/◌, ◌++◌, ◌≤◌, ◌∙◌, List, sym, ap, subst, take, length, arith}
 use Rattle.std.proofs.lemmas.Grind.{common_steps}
-use Rattle.ssim_desk.specs.Kept.{DeskSeen, Entry}
+use Rattle.ssim_held.specs.Kept.{DeskSeen, Entry}
 use Rattle.ssim_desk.specs.Private.{AreCheckpoints, IsTail, IsTrail}
 use Rattle.ssim_desk.proofs.Trails.{found_in_place, kept_in_place}
 use Rattle.ssim_desk.proofs.trail.Trail.put.Goals as goal

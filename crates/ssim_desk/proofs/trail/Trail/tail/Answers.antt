@@ -1,5 +1,5 @@
 use Rattle.std.proofs.Common.{◌++◌, ◌≤◌, ◌-◌, ◌∙◌, List, ap, sym, refl, subst, take, drop, length, arith}
-use Rattle.ssim_desk.specs.Kept.{DeskSeen, Entry}
+use Rattle.ssim_held.specs.Kept.{DeskSeen, Entry}
 use Rattle.ssim_desk.specs.Private.{IsAfter, IsTail}
 use Rattle.ssim_desk.proofs.Trails.{length-front, split}
 use Rattle.ssim_desk.proofs.trail.Trail.tail.Goals as goal

@@ -1,12 +1,9 @@
 -- The records that were gathered are a base where none is missing.
-use Rattle.std.proofs.Common.{◌≡◌, List, reverse, Ok, Err, None, rules, ap, sym, subst, ◌∙◌}
-use Rattle.ssim_values.specs.Flight.{FlightNumber}
+use Rattle.std.proofs.Common.{◌≡◌, List, Ok, Err, None, rules, ap, sym, ◌∙◌}
 use Rattle.ssim_records.specs.declared.record.Record.{Record}
 use Rattle.ssim_schedule.specs.Base.{Done, Outcome}
-use Rattle.ssim_schedule.specs.BaseSeen.{AreFlights, WasRead}
 use Rattle.ssim_schedule.specs.declared.fault.BaseFault.TheVariants.{Refused}
 use Rattle.ssim_schedule.specs.declared.note.Note.{Note}
-use Rattle.ssim_schedule.proofs.LegTables.{flights-are}
 use Rattle.ssim_schedule.proofs.ReadingLemmas.{missing-outcome, of-all, whole-outcome}
 use Rattle.ssim_schedule.proofs.base.Base.finish.Goals as goal
 
@@ -15,21 +12,21 @@ returns-in-Some-clause-read c = λ limit told h.
     of-all limit told h.done c.args.number (Err (Refused c.args.number c.in-Some.refusal)) h.given
     (missing-outcome c.args.gathering h.earlier h.done c.args.number c.in-Some.refusal h.so_far (sym (c.missing.ensures h.earlier h.so_far.is_kept) ∙ c.in-Some.is))
 
-pub invariant_of-base : goal.invariant_of-base
-invariant_of-base c =
+pub of_kept-requires-clause-whole : goal.of_kept-requires-clause-whole
+of_kept-requires-clause-whole c =
     let r = c.requires.whole in
-    let items : c.shrink_to_fit.new.self.items ≡ reverse r.earlier = c.shrink_to_fit.ensures.items ∙ c.into_records-records.ensures r.earlier r.so_far.is_kept.records in
-    let none : c.missing.result ≡ None = search rules in (
-      subst (λ (rs : List Record). WasRead rs) (sym items) (record {
+    let none : c.missing.result ≡ None = search rules in
+    record {
+      earlier = r.earlier;
+      is_kept = r.so_far.is_kept;
+      was_read = record {
         ending = Done c.args.number;
         records = r.done;
         notes = c.args.gathering.notes.items;
         spelt = r.so_far.records;
         read = sym (whole-outcome c.args.gathering r.earlier r.done c.args.number r.so_far (sym (c.missing.ensures r.earlier r.so_far.is_kept) ∙ none));
-      }),
-      subst (λ (rs : List Record). AreFlights rs c.in_ok-flights.flights.items) (sym items)
-          (subst (λ (fs : List FlightNumber). AreFlights (reverse r.earlier) fs) (sym c.in_ok-flights.ensures) (flights-are c.args.gathering.kept.legs r.earlier r.so_far.is_kept.legs.flown)),
-    )
+      };
+    }
 
 abbrev outcome_of : List Record → List Note → Outcome
 outcome_of records notes = Ok (records, notes)
@@ -39,5 +36,5 @@ returns-clause-read c = λ limit told h.
     let none : c.missing.result ≡ None = search rules in
     of-all limit told h.done c.args.number _ h.given
     (ap (λ (rs : List Record). outcome_of rs c.args.gathering.notes.items)
-    (c.shrink_to_fit.ensures.items ∙ c.into_records-records.ensures h.earlier h.so_far.is_kept.records)
+    (c.in_ok-base.ensures.records h.earlier h.so_far.is_kept)
     ∙ whole-outcome c.args.gathering h.earlier h.done c.args.number h.so_far (sym (c.missing.ensures h.earlier h.so_far.is_kept) ∙ none))

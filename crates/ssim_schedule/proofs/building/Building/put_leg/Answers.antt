@@ -23,7 +23,7 @@ returns c =
     let r = c.args.leg.now in
     let old : Building = c.args.self.now in
     let opened : Building = c.open_group.new.self in
-    let new : Building = record { table = opened.table; group = c.add.new.self; waiting = c.take-tails.new.self; alloc = opened.alloc } in
+    let new : Building = record { table = opened.table; group = c.add.new.self; waiting = c.take.new.self; alloc = opened.alloc } in
     let name : c.name-name.result ≡ r.name = c.name-name.ensures in
     let last : r.last ≡ Some c.in-Some.last = sym c.last.ensures.value ∙ c.in-Some.is in
     let period : c.in-Ok.period ≡ period_of r =
@@ -37,15 +37,15 @@ returns c =
     let its : LegValue = record { sequence = r.name.sequence; columns = r.columns; tails = waiting_at old.waiting (name_place r.name) } in
     let leg : l ≡ its =
     same_leg_value l r.name.sequence r.columns (waiting_at old.waiting (name_place r.name)) _ _ _ c.new-placed.ensures (c.sequence-2.ensures.value ∙ ap (λ (n : Name). n.sequence) name) c.columns.ensures
-    (c.take-tails.ensures.tails ∙ ap (λ (w : Waiting). waiting_at w (name_place c.name-name.result)) opens.waiting ∙ ap (λ (n : Name). waiting_at old.waiting (name_place n)) name) in
+    (c.in_ok-tails.ensures.tails ∙ ap (λ (w : Waiting). waiting_at w (name_place c.name-name.result)) opens.waiting ∙ ap (λ (n : Name). waiting_at old.waiting (name_place n)) name) in
     on_ok c.add.result (λ added. record {
-      named = subst (λ (n : Name). IsPlaced n) name c.take-tails.ensures.named;
+      named = subst (λ (n : Name). IsPlaced n) name c.in_ok-tails.ensures.named;
       days = λ g.
           joined_days old opened new given l c.sequence.result opens refl added g
           ∙ ap (λ (h : Heading). if nat_eq (place_of h.flight) (place_of g) then changed_on (holds h.period) (placed l) 0 (days_with old g) else days_with old g) heading
           ∙ ap (λ (m : LegValue). if nat_eq (place_of r.name.flight) (place_of g) then changed_on (holds (period_of r)) (placed m) 0 (days_with old g) else days_with old g) leg;
       tails = λ place.
-          c.take-tails.ensures.others place
+          c.in_ok-tails.ensures.others place
           ∙ ap (λ (n : Name). if nat_eq place (name_place n) then [] else waiting_at opened.waiting place) name
           ∙ ap (λ (w : Waiting). if nat_eq place (name_place r.name) then [] else waiting_at w place) opens.waiting;
       cuts = λ g cut has. subst (λ (h : Heading). IsCut old g cut ⊎ IsBound (Some h) g cut) heading (joined_cuts old opened new given l c.sequence.result opens refl added g cut has);

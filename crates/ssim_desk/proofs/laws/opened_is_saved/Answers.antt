@@ -1,5 +1,0 @@
-use Rattle.ssim_desk.proofs.Files.{opens_as_saved, saves_as_opened}
-use Rattle.ssim_desk.proofs.laws.opened_is_saved.Goals as goal
-
-pub returns : goal.returns
-returns c = record { opens = opens_as_saved c.no_two_desks_have_one_file.ensures; saves = saves_as_opened }

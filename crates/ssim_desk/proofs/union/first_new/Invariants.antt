@@ -1,6 +1,0 @@
-use Rattle.std.proofs.Common.{All, take}
-use Rattle.ssim_desk.proofs.Unions.{IsHeldIn}
-use Rattle.ssim_desk.proofs.union.first_new.Given as goal
-
-abbrev pub invariant-loop-place : goal.invariant-loop-place
-invariant-loop-place l = All (IsHeldIn l.mine) (take l.place l.theirs)

@@ -1,0 +1,50 @@
+-- The numbers, names and printed texts of the faults of a desk, and which of them another fault becomes.
+use Rattle.std.specs.{Prelude.{ℕ, List, ◌++◌, codes}, Fmt.decimal}
+use Rattle.ssim_records.specs.Record.{fault_name, fault_number, fault_text}
+use Rattle.ssim_schedule.specs.{Fault.{resolve_fault_name, resolve_fault_text}, Resolve.resolve_fault_number}
+use Rattle.ssim_schedule.specs.declared.resolving.ResolveFault.{ResolveFault}
+use Rattle.ssim_text.specs.{Fault.{text_fault_name, text_fault_number, text_fault_text}, Reference.printed_reference}
+use Rattle.ssim_text.specs.declared.fault.TextFault.{TextFault}
+use Rattle.ssim_held.specs.declared.fault.DeskFault.{DeskFault}
+use Rattle.ssim_held.specs.declared.fault.DeskFault.TheVariants.{Memory, Text, Resolve, Conflict, OtherBase, Read, File}
+use Rattle.ssim_schedule.specs.declared.resolving.ResolveFault.TheVariants as resolve_fault
+use Rattle.ssim_text.specs.declared.fault.TextFault.TheVariants as text_fault
+
+-- the number by which a fault is known
+abbrev pub desk_fault_number : DeskFault → ℕ
+desk_fault_number Memory = 90
+desk_fault_number (Text fault) = text_fault_number fault
+desk_fault_number (Resolve fault) = resolve_fault_number fault
+desk_fault_number (Conflict reference) = 60
+desk_fault_number OtherBase = 61
+desk_fault_number (Read fault) = fault_number fault
+desk_fault_number (File offset) = 62
+
+-- the name by which a fault is known
+abbrev pub desk_fault_name : DeskFault → List ℕ
+desk_fault_name Memory = codes "Memory"
+desk_fault_name (Text fault) = text_fault_name fault
+desk_fault_name (Resolve fault) = resolve_fault_name fault
+desk_fault_name (Conflict reference) = codes "Conflict"
+desk_fault_name OtherBase = codes "OtherBase"
+desk_fault_name (Read fault) = fault_name fault
+desk_fault_name (File offset) = codes "DeskFile"
+
+-- the name, and the line, sub-message, reference, record or number of bytes that the fault names
+abbrev pub desk_fault_text : DeskFault → List ℕ
+desk_fault_text (Text fault) = text_fault_text fault
+desk_fault_text (Resolve fault) = resolve_fault_text fault
+desk_fault_text (Conflict reference) = codes "Conflict " ++ printed_reference reference
+desk_fault_text (Read fault) = fault_text fault
+desk_fault_text (File offset) = codes "DeskFile offset " ++ decimal offset
+desk_fault_text fault = desk_fault_name fault
+
+-- a text that is no message, or for which there is no memory
+abbrev pub text_refused : TextFault → DeskFault
+text_refused text_fault.Memory = Memory
+text_refused fault = Text fault
+
+-- a message that does not resolve, or for which there is no memory
+abbrev pub message_refused : ResolveFault → DeskFault
+message_refused resolve_fault.Memory = Memory
+message_refused fault = Resolve fault

@@ -1,0 +1,33 @@
+//! Messages held over a base, in order of reference, and the desk file that keeps them.
+//!
+//! - [`Held`]: a message that is held, with its reference, its canonical text and the full dates of its sub-messages.
+//! - [`look`]: looks a message up in a list in order of reference; [`Found`]: what is held under its reference.
+//! - [`first_conflict`], [`first_new`], [`merged`]: two such lists, compared and put together.
+//! - [`put_desk`]: writes the desk file of a base and the messages that are held over it; or [`WriteFault`], 52.
+//! - [`read_bytes`], [`read_desk`]: the base and the messages whose desk file the bytes are, or those of a reader; or [`DeskFault`].
+//! - [`laws`]: no two desks have one file, and what was opened is saved as it was.
+//!
+//! The definitions that the contracts cite are in `specs/`: `Held` (messages by reference, and what a desk is), `Kept` (the entries of a
+//! list), `Ordered` (where a message is in a list, and two lists put together), `File` and `Opening` (the bytes of a desk file, and what
+//! reading them returns), and `Fault`. Computed examples are in `proofs/Examples`.
+//!
+//! The promise: the list says exactly which message is held under which reference; and bytes are the file of one base and one list at
+//! most, which are read from them, and written as them again.
+#![tactic(auto)]
+
+mod fault;
+mod held;
+pub mod laws;
+mod lookup;
+mod opening;
+mod row_line;
+mod saving;
+mod union;
+
+pub use fault::DeskFault;
+pub use held::Held;
+pub use lookup::{Found, look};
+pub use opening::{read_bytes, read_desk};
+pub use saving::put_desk;
+pub use ssim_schedule::WriteFault;
+pub use union::{first_conflict, first_new, merged};

@@ -1,0 +1,28 @@
+//! What is kept in files.
+
+ghost use Rattle.std.specs.Prelude.{◌≡◌, List, ℕ, OnOk};
+ghost use Rattle.std.specs.Io.KnownBytes.{Appends};
+ghost use Rattle.ssim_held.specs.File.{desk_file};
+
+use ssim_desk::Holdings;
+use ssim_records::Sink;
+use ssim_schedule::WriteFault;
+
+/// What can be kept in a file. A store writes it straight to the file, so that its bytes need not be in memory at once.
+pub trait Content {
+    /// The bytes of the file.
+    ghost bytes: { Self → List ℕ };
+
+    /// Puts the bytes into the sink. Fails only if the sink fails.
+    fn put<W: Sink>(&self, out: &mut W) -> Result<(), WriteFault>
+        ensures { OnOk result (Appends (W.taken out.old) (W.taken out.new) (bytes self.now)) };
+}
+
+/// What a desk holds is kept as its desk file.
+impl Content for Holdings {
+    ghost bytes = { λ holdings. desk_file holdings.base holdings.held };
+
+    fn put<W: Sink>(&self, out: &mut W) -> Result<(), WriteFault> {
+        self.save(out)
+    }
+}

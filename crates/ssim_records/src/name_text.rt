@@ -1,0 +1,27 @@
+//! The name of a leg as records of types 3 and 4 have it.
+
+ghost use Rattle.std.specs.Prelude.{◌≡◌};
+ghost use Rattle.std.specs.List.{concat};
+ghost use Rattle.ssim_records.specs.Leg.{name_texts};
+
+use crate::columns::join;
+use crate::leg_name::LegName;
+use crate::number::{four_digits, two_digits};
+
+/// Columns 2 to 13 as they are written.
+pub fn name_text(name: LegName) -> [u8; 12]
+    ensures { result ≡ concat (name_texts name) }
+{
+    let mut text = [b' '; 12];
+    join(
+        &mut text,
+        &[
+            &[name.flight().suffix()],
+            &name.airline().write(),
+            &four_digits(name.flight().number() as u32),
+            &two_digits(name.variation() as u32),
+            &two_digits(name.sequence() as u32),
+        ],
+    );
+    text
+}

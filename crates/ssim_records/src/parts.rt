@@ -1,0 +1,85 @@
+//! The bytes of a file, in parts that are freed one after another.
+
+ghost use Rattle.std.specs.Prelude.{◌≡◌, ◌++◌, [], Ok, IfErr, OnErr, OnOk, Some};
+ghost use Rattle.std.specs.Io.{ReadsAtMost};
+ghost use Rattle.std.specs.Io.KnownBytes.{ReadConsumes};
+ghost use Rattle.ssim_records.specs.Device.{CountsFailure};
+
+use crate::device::{DeviceFault, Source};
+use ssim_values::Memory;
+use std::alloc::Global;
+use std::collections::VecDeque;
+use std::marker::Model;
+
+/// Bytes in parts, seen as those that are left. As a source it gives them in order, and frees each part when the next one begins: so
+/// what is made of the bytes grows in the memory that they leave.
+#[derive(Drop)]
+pub struct Parts {
+    /// The part that is being given, of which `used` bytes were.
+    front: Vec<u8>,
+    used: usize,
+    later: VecDeque<Vec<u8>>,
+}
+
+impl Model for Parts {
+    ghost use Rattle.std.specs.Prelude.{List, ℕ, ◌++◌, ◌≤◌, drop, length};
+    ghost use Rattle.std.specs.List.{flat_map};
+
+    ghost Value = { List ℕ };
+
+    ghost view = { λ p. drop p.used p.front.items ++ flat_map (λ part. part.items) p.later.items };
+
+    ghost invariant = { λ p. p.used ≤ length p.front.items };
+}
+
+impl Parts {
+    /// No bytes. It does not allocate.
+    pub fn new(alloc: Global) -> Parts
+        ensures { result ≡ [] }
+    {
+        Parts {
+            front: Vec::new(alloc),
+            used: 0,
+            later: VecDeque::new(alloc),
+        }
+    }
+
+    /// Adds a part after the others. If memory is out, the part is freed.
+    pub fn push(&mut self, part: Vec<u8>) -> Result<(), Memory>
+        ensures ok { OnOk result (self.new ≡ self.old ++ part.items) }
+        ensures err { OnErr result (self.new ≡ self.old) }
+    {
+        match self.later.push_back(part) {
+            Ok(()) => Ok(()),
+            Err(_) => Err(Memory),
+        }
+    }
+}
+
+/// Parts give their bytes in order, and never fail.
+impl Source for Parts {
+    ghost left = { λ p. Some p };
+
+    ghost came = { λ _. 0 };
+
+    ghost failures = { λ _. 0 };
+
+    fn fetch(&mut self, into: &mut [u8]) -> Result<usize, DeviceFault>
+        ensures bound { ReadsAtMost result into.new }
+        ensures bytes { ReadConsumes (Some self.old) (Some self.new) result into.new }
+        ensures failures { CountsFailure 0 0 result }
+    {
+        while self.used == self.front.len() {
+            let Some(next) = self.later.pop_front() else {
+                return Ok(0);
+            };
+            self.front = next;
+            self.used = 0;
+        }
+        let front = &self.front[self.used..];
+        let n = front.len().min(into.len());
+        into[..n].copy_from_slice(&front[..n]);
+        self.used += n;
+        Ok(n)
+    }
+}

@@ -1,0 +1,6 @@
+-- The two digits stand in the table.
+use Rattle.ssim_values.proofs.Pairs.{digits_at}
+use Rattle.ssim_values.proofs.digits.write_two_digits.Goals as goal
+
+pub returns : goal.returns
+returns c = digits_at c.args.n c.requires
