@@ -1,7 +1,7 @@
 -- Bytes that spell the records of a base are read as this base, unless the reader fails: their blocks are one, and each spells one record.
 use Rattle.std.proofs.Common.{◌≡◌, ◌⊎◌, ℕ, ◌+◌, ◌-◌, ◌≤◌, false, List, [], ◌∷◌, ◌++◌, length, map, Some, None, Ok, inl, inr, refl, sym, ap, subst, ◌∙◌, arith}
 use Rattle.ssim_records.specs.Frames.{Frames, FramesAreOne, others}
-use Rattle.ssim_records.specs.Record.{Spells, fault_of}
+use Rattle.ssim_records.specs.Record.{Spells}
 use Rattle.ssim_records.specs.declared.fault.RecordFault.{RecordFault}
 use Rattle.ssim_records.specs.declared.fault.RecordFault.TheVariants.{Short, BadType, BadColumn, ReadFault, ReaderNeverEnds}
 use Rattle.ssim_records.specs.declared.record.Record.{Record}

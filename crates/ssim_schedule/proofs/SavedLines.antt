@@ -1,6 +1,6 @@
 -- Lines are read as the records of a base, one after another: what is left of the lines after some records are the lines of records that
 -- complete these to a base, exactly if all lines are those of a base.
-use Rattle.std.proofs.Common.{◌≡◌, ℕ, ◌+◌, ◌<◌, List, [], ◌∷◌, ◌++◌, map, reverse, length, take, drop, Option, Result, IfErr, Some, None, Ok, Err, true, false, nat_eq, refl, sym, ap, subst, ◌∙◌, append_assoc, length-append, arith}
+use Rattle.std.proofs.Common.{◌≡◌, ℕ, ◌<◌, List, [], ◌∷◌, ◌++◌, map, reverse, length, take, drop, Option, Result, IfErr, Some, None, Ok, Err, true, false, nat_eq, refl, sym, ap, subst, ◌∙◌, append_assoc, length-append, arith}
 use Rattle.std.proofs.lemmas.Bool.Decides.{nat_tests}
 use Rattle.std.proofs.lemmas.List.{append_cancel_left, append-nil, reverse-append, take-append-drop}
 use Rattle.std.proofs.lemmas.List.Elements.{recursion_from_All, All-from_recursion}

@@ -1,5 +1,5 @@
 -- A segment record stands behind a leg record of its name.
-use Rattle.std.proofs.Common.{rules, refl, ap, subst, ◌∙◌}
+use Rattle.std.proofs.Common.{rules, refl, subst}
 use Rattle.ssim_records.specs.Segment.{SegmentFields}
 use Rattle.ssim_records.specs.declared.record.Record.TheVariants.{Segment}
 use Rattle.ssim_schedule.specs.KeptRecords.{AddsRecord}

@@ -1,5 +1,4 @@
 -- A leg or a segment that was accepted stands, since what is added to the records is its closed record.
-use Rattle.std.proofs.Common.{◌≡◌}
 use Rattle.ssim_records.specs.declared.record.Record.TheVariants.{Leg, Segment}
 use Rattle.ssim_schedule.specs.KeptRecords.{AddsRecord}
 use Rattle.ssim_schedule.proofs.kept.Kept.put_next.Goals.{in-Leg+in_ok-close_leg-in-Leg, in-Segment+in_ok-close_segment-in-Segment}

@@ -1,5 +1,5 @@
 -- The summary of the records that were gathered where none is missing.
-use Rattle.std.proofs.Common.{◌≡◌, List, length, reverse, Err, None, rules, ap, sym, subst, ◌∙◌}
+use Rattle.std.proofs.Common.{◌≡◌, List, reverse, Err, None, rules, sym, subst, ◌∙◌}
 use Rattle.std.proofs.lemmas.List.{length-reverse}
 use Rattle.ssim_values.specs.Flight.{FlightNumber}
 use Rattle.ssim_schedule.specs.BaseSeen.{AreFlights}
