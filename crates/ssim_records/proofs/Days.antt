@@ -9,7 +9,7 @@ use Rattle.std.specs.Cmp.Lexicographic.{pointwise}
 use Rattle.ssim_values.specs.Calendar.{day_limit}
 use Rattle.ssim_values.specs.Day.{day_of, day_text}
 use Rattle.ssim_values.specs.DayMask.{IsMask, places_of}
-use Rattle.ssim_values.proofs.DayLaws.{day_of-day_text, day_of-bound, day_of-sound}
+use Rattle.ssim_values.proofs.DayLaws.{day_of-day_text, day_of-bound, day_of-one_text, day_of-sound}
 use Rattle.ssim_values.proofs.DaysLemmas.{length-places_from}
 use Rattle.ssim_records.specs.Columns.{end_from, day_from}
 use Rattle.ssim_records.specs.Leg.{end_text, IsEnd}
@@ -75,6 +75,24 @@ is_end first t (Some n) h =
     elim (pick (bytes_eq t (codes "00XXX00"))) [
       | inl e ↦ (let k = simp e at h in absurd cc)
       | inr f ↦ (let k = simp f at h in let r = day_from_some first n (day_of t) k in (r.1, day_of-bound n t (day_of-sound n t r.0)))
+    ]
+
+-- an end has one text
+no_open_day : (first : ℕ) (o : Option ℕ) → day_from first o ≡ Some None → ⊥
+no_open_day first None h = absurd cc
+no_open_day first (Some m) h = elim (pick (nat_lt m first)) [ inl t ↦ (let k = simp t at h in absurd cc) | inr f ↦ (let k = simp f at h in absurd cc) ]
+
+pub end_from-one_text : (first : ℕ) (t : List ℕ) (o : Option ℕ) → end_from (Some first) t ≡ Some o → t ≡ end_text o
+unfolding end_from
+end_from-one_text first t None h =
+    elim (pick (bytes_eq t (codes "00XXX00"))) [
+      | inl e ↦ (bytes_eq-Decides t (codes "00XXX00")).0 e
+      | inr f ↦ (let k = simp f at h in absurd (no_open_day first (day_of t) k))
+    ]
+end_from-one_text first t (Some n) h =
+    elim (pick (bytes_eq t (codes "00XXX00"))) [
+      | inl e ↦ (let k = simp e at h in absurd cc)
+      | inr f ↦ (let k = simp f at h in day_of-one_text n t (day_from_some first n (day_of t) k).0)
     ]
 
 -- ---- days of operation are compared day by day

@@ -1,22 +1,23 @@
 -- A flight leg record: the bytes spell one leg, and what is written spells it.
-use Rattle.std.proofs.Common.{◌≡◌, ℕ, Bool, List, [], ◌∷◌, ◌++◌, length, take, drop, take_all, Option, Some, refl, sym, ap, ◌∙◌, arith, lit≤}
+use Rattle.std.proofs.Common.{◌≡◌, ℕ, Bool, List, [], ◌∷◌, ◌++◌, length, take, drop, take_all, Option, Some, refl, sym, ap, subst, ◌∙◌, arith, lit≤}
 use Rattle.std.specs.Prelude.{slice_range, codes}
 use Rattle.std.specs.List.{concat, AllZip}
 use Rattle.std.proofs.lemmas.List.{take-append-drop, drop-drop, append-nil, length-drop}
 use Rattle.ssim_values.specs.Day.{day_of, day_text}
 use Rattle.ssim_values.specs.DayMask.{days_of, places_of}
-use Rattle.ssim_values.proofs.DayLaws.{day_of-day_text}
+use Rattle.ssim_values.proofs.DayLaws.{day_of-day_text, day_of-one_text}
 use Rattle.ssim_values.proofs.DayMaskLaws.{days_of-places_of}
 use Rattle.ssim_records.specs.declared.field.Field.{Field}
 use Rattle.ssim_records.specs.declared.field.Kind.TheVariants.{Carried, Digits}
 use Rattle.ssim_records.specs.Numbers.{digits_of, digits}
 use Rattle.ssim_records.specs.Columns.{columns, field, fault_in, is_carried, end_from, EachStands}
-use Rattle.ssim_records.specs.Leg.{Name, LegFields, IsLeg, SpellsLeg, middle_table, spread, leg_texts, end_text, written_leg}
-use Rattle.ssim_records.proofs.Days.{length_day, length_end, length_places, end_from-end_text}
-use Rattle.ssim_records.proofs.Names.{one_name, NameLies, spells_name, name_stands, length_airline}
-use Rattle.ssim_records.proofs.Numbers.{digits_of-digits}
+use Rattle.ssim_records.specs.Heads.{HasDigits}
+use Rattle.ssim_records.specs.Leg.{Name, LegFields, IsLeg, SpellsLeg, middle_table, own_columns, spread, leg_texts, end_text, written_leg}
+use Rattle.ssim_records.proofs.Days.{length_day, length_end, length_places, end_from-end_text, end_from-one_text}
+use Rattle.ssim_records.proofs.Names.{one_name, NameLies, name_digits, name_lies, spells_name, name_stands, length_airline}
+use Rattle.ssim_records.proofs.Numbers.{digits_of-digits, digits_of-written}
 use Rattle.ssim_records.proofs.OwnColumns.{SameOwn, own_moves, spread_parts}
-use Rattle.ssim_records.proofs.Places.{all_placed, length_concat, dates_stand}
+use Rattle.ssim_records.proofs.Places.{all_placed, length_concat, dates_stand, placed_whole}
 use Rattle.ssim_records.proofs.Rows.{is_true, stands_as, front_stands, rest_stands, both_stand}
 use Rattle.ssim_records.proofs.Slices.{length_slice}
 
@@ -134,3 +135,45 @@ spells_leg r fits = spells r (written_leg r) fits (lies r fits)
 
 pub length_leg : (r : LegFields) → IsLeg r → length (written_leg r) ≡ 200
 length_leg r fits = length_concat (1 ∷ 1 ∷ 3 ∷ 4 ∷ 2 ∷ 2 ∷ 1 ∷ 7 ∷ 7 ∷ 7 ∷ 1 ∷ 91 ∷ 1 ∷ 66 ∷ 6 ∷ []) (leg_texts r) (texts_lie r fits) refl
+
+-- ---- bytes that spell a leg, and the leg as it is written
+
+-- where the parts of the own columns stand in the bytes
+own_parts : (b : List ℕ) (d : List ℕ) → length b ≡ 200 → own_columns b ≡ d → (columns 14 14 b ≡ slice_range d 0 1) × (columns 37 127 b ≡ slice_range d 1 92) × (columns 129 194 b ≡ slice_range d 92 158)
+own_parts b d len own =
+    let one = length_slice b 13 14 (lit≤ tt) (omega arith) in
+    let two = length_slice b 36 127 (lit≤ tt) (omega arith) in
+    let three = length_slice b 128 194 (lit≤ tt) (omega arith) in
+    let p = all_placed (1 ∷ 91 ∷ 66 ∷ []) (columns 14 14 b ∷ columns 37 127 b ∷ columns 129 194 b ∷ []) (one, (two, (three, tt))) in
+    (sym p.0 ∙ ap (λ (t : List ℕ). slice_range t 0 1) own, sym p.1.0 ∙ ap (λ (t : List ℕ). slice_range t 1 92) own, sym p.1.1.0 ∙ ap (λ (t : List ℕ). slice_range t 92 158) own)
+
+-- the days in their places, and the numbers without blanks
+leg_lies : (r : LegFields) (b : List ℕ) → length b ≡ 200 → SpellsLeg r b → HasDigits b → columns 29 35 b ≡ places_of r.days → Lies r b
+leg_lies r b len p has days =
+    let own = own_parts b r.columns len p.own in
+    let long : length (columns 195 200 b) ≡ 6 = length_slice b 194 200 (lit≤ tt) (omega (arith, len)) in
+    record {
+      kind = p.kind;
+      name = name_lies r.name b len p.name has;
+      service = own.0;
+      first = day_of-one_text r.first (columns 15 21 b) p.first;
+      last = end_from-one_text r.first (columns 22 28 b) r.last p.last;
+      days = days;
+      rate = p.rate;
+      middle = own.1;
+      overflow = p.overflow;
+      tail = own.2;
+      serial = digits_of-written (columns 195 200 b) r.serial p.serial ∙ ap (λ (w : ℕ). digits w r.serial) long;
+    }
+
+pub leg_is_written : (r : LegFields) (b : List ℕ) → length b ≡ 200 → SpellsLeg r b → HasDigits b → columns 29 35 b ≡ places_of r.days → b ≡ written_leg r
+leg_is_written r b len p has days =
+    let at = leg_lies r b len p has days in
+    placed_whole 0 (1 ∷ 1 ∷ 3 ∷ 4 ∷ 2 ∷ 2 ∷ 1 ∷ 7 ∷ 7 ∷ 7 ∷ 1 ∷ 91 ∷ 1 ∷ 66 ∷ 6 ∷ []) (leg_texts r) b refl len
+    (at.kind, (at.name.suffix, (at.name.airline, (at.name.number, (at.name.variation, (at.name.sequence, (at.service, (at.first, (at.last, (at.days, (at.rate, (at.middle, (at.overflow, (at.tail, (at.serial, tt)))))))))))))))
+
+-- what is written has its days in their places, and numbers without blanks
+pub written_leg_has : (r : LegFields) (b : List ℕ) → IsLeg r → b ≡ written_leg r → HasDigits b × (columns 29 35 b ≡ places_of r.days)
+written_leg_has r b fits is =
+    let at : Lies r b = subst (Lies r) (sym is) (lies r fits) in
+    (name_digits r.name b fits.name at.name, at.days)

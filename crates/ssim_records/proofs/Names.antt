@@ -1,6 +1,6 @@
 -- Which leg a record speaks of: columns 2 to 13 say one name, and what is written for it is read again.
-use Rattle.std.proofs.Common.{◌≡◌, ℕ, Bool, ◌&&◌, List, [], ◌∷◌, length, refl, sym, ap, ◌∙◌, arith, inl, inr}
-use Rattle.std.specs.Prelude.{IsTrue, ◌==◌}
+use Rattle.std.proofs.Common.{◌≡◌, ℕ, suc, ◌^◌, ◌<◌, Bool, ◌&&◌, List, [], ◌∷◌, length, Option, Some, None, refl, sym, ap, ◌∙◌, arith, inl, inr, lit≤}
+use Rattle.std.specs.Prelude.{IsSome, IsTrue, ◌==◌}
 use Rattle.std.specs.Bool.{Decides}
 use Rattle.std.specs.Str.{bytes_eq}
 use Rattle.std.proofs.lemmas.Bool.Decides.{nat_tests, Decides-and, Decides-eqb}
@@ -8,12 +8,14 @@ use Rattle.std.proofs.lemmas.Slice.Eq.{bytes_eq-Decides}
 use Rattle.ssim_values.specs.Airline.{is_airline}
 use Rattle.ssim_values.specs.Flight.{is_suffix}
 use Rattle.ssim_records.specs.declared.field.Kind.TheVariants.{Suffix, AirlineCode}
-use Rattle.ssim_records.specs.Numbers.{number_of, sequence_of, digits}
+use Rattle.ssim_records.specs.Numbers.{digits_of, from_one, number_of, sequence_of, digits}
 use Rattle.ssim_records.specs.Columns.{columns, fault_in, EachStands}
+use Rattle.ssim_records.specs.Heads.{HasDigits}
 use Rattle.ssim_records.specs.Leg.{Name, SpellsName, IsName, name_table}
 use Rattle.ssim_records.proofs.LineEnds.{pick}
-use Rattle.ssim_records.proofs.Numbers.{number_of-digits, sequence_of-digits}
+use Rattle.ssim_records.proofs.Numbers.{digits_alone, digits_of-digits, digits_of-written, number_of-digits, sequence_of-digits}
 use Rattle.ssim_records.proofs.Rows.{is_true, stands_by, stands_as}
+use Rattle.ssim_records.proofs.Slices.{length_slice}
 
 name_of : List ℕ → ℕ → ℕ → ℕ → ℕ → Name
 name_of airline number suffix variation sequence = record { airline = airline; flight = record { number = number; suffix = suffix }; variation = variation; sequence = sequence }
@@ -55,6 +57,47 @@ spells_name n b fits at =
       number = ap number_of at.number ∙ number_of-digits 3 n.flight.number (omega arith);
       variation = ap number_of at.variation ∙ number_of-digits 1 n.variation fits.variation;
       sequence = ap sequence_of at.sequence ∙ sequence_of-digits 1 n.sequence fits.sequence_from fits.sequence_to;
+    }
+
+-- a name whose numbers are digits alone stands as it is written
+number_written : (t : List ℕ) (w n : ℕ) → length t ≡ w → IsSome (digits_of t) → number_of t ≡ Some n → t ≡ digits w n
+number_written t w n len some read = by (digits_of t) refl some
+  where
+    by : (o : Option ℕ) → digits_of t ≡ o → IsSome o → t ≡ digits w n
+    by None e none = absurd cc
+    by (Some m) e some =
+        let same : Some m ≡ Some n = sym (digits_alone t m e) ∙ read in
+        let is : m ≡ n = cc in
+        digits_of-written t m e ∙ ap (λ (i : ℕ). digits i m) len ∙ ap (digits w) is
+
+sequence_number : (t : List ℕ) (n : ℕ) → sequence_of t ≡ Some n → number_of t ≡ Some n
+unfolding sequence_of
+sequence_number t n h = by (number_of t) h
+  where
+    by : (o : Option ℕ) → from_one o ≡ Some n → o ≡ Some n
+    by None e = absurd cc
+    by (Some m) e = elim (pick (m == 0)) [ inl z ↦ (let k = simp z at e in absurd cc) | inr z ↦ (let k = simp z at e in k) ]
+
+pub name_lies : (n : Name) (b : List ℕ) → length b ≡ 200 → SpellsName n b → HasDigits b → NameLies n b
+name_lies n b len p has = record {
+  suffix = p.suffix;
+  airline = p.airline;
+  number = number_written (columns 6 9 b) 4 n.flight.number (length_slice b 5 9 (lit≤ tt) (omega (arith, len))) has.number p.number;
+  variation = number_written (columns 10 11 b) 2 n.variation (length_slice b 9 11 (lit≤ tt) (omega (arith, len))) has.variation p.variation;
+  sequence = number_written (columns 12 13 b) 2 n.sequence (length_slice b 11 13 (lit≤ tt) (omega (arith, len))) has.sequence (sequence_number (columns 12 13 b) n.sequence p.sequence);
+}
+
+-- and only so
+digits_are_some : (t : List ℕ) (w n : ℕ) → n < 10 ^ suc w → t ≡ digits (suc w) n → IsSome (digits_of t)
+digits_are_some t w n low is = rw (ap digits_of is ∙ digits_of-digits w n low) refl
+
+pub name_digits : (n : Name) (b : List ℕ) → IsName n → NameLies n b → HasDigits b
+name_digits n b fits at =
+    let bound = fits.flight.number_to in
+    record {
+      number = digits_are_some (columns 6 9 b) 3 n.flight.number (omega arith) at.number;
+      variation = digits_are_some (columns 10 11 b) 1 n.variation fits.variation at.variation;
+      sequence = digits_are_some (columns 12 13 b) 1 n.sequence fits.sequence_to at.sequence;
     }
 
 pub name_stands : (n : Name) (b : List ℕ) → IsName n → SpellsName n b → EachStands b name_table

@@ -91,6 +91,34 @@ digits_alone t n h =
     let back : drop_blanks (reverse t) ≡ reverse t = first_kept (reverse t) (all_reversed t all) in
     rw (first_kept t all, back, reverse-reverse t) h
 
+-- digits are written as the bytes that were read, after those of the number before them
+digits_after-written : (w m : ℕ) (t : List ℕ) (n : ℕ) → digits_after m t ≡ Some n → digits (w + length t) n ≡ digits w m ++ t
+digits_after-written w m [] n h = let same : n ≡ m = cc in let none : w + 0 ≡ w = omega arith in rw same (ap (λ (i : ℕ). digits i m) none ∙ sym (append-nil (digits w m)))
+digits_after-written w m (b ∷ bs) n h =
+    elim (pick (is_digit b)) [
+      | inl d ↦ (
+          let k = simp d at h in
+          let low : (48 ≤ b) × (b ≤ 57) = digit_bounds b d in
+          let tens : (m * 10 + (b - 48)) / 10 ≡ m = omega (arith, low) in
+          let units : 48 + (m * 10 + (b - 48)) % 10 ≡ b = omega (arith, low) in
+          let count : w + length (b ∷ bs) ≡ suc w + length bs = omega arith in
+          let later : digits (suc w + length bs) n ≡ (digits w ((m * 10 + (b - 48)) / 10) ++ (48 + (m * 10 + (b - 48)) % 10) ∷ []) ++ bs = digits_after-written (suc w) (m * 10 + (b - 48)) bs n k in
+          ap (λ (i : ℕ). digits i n) count ∙ later
+          ∙ ap (λ (i : ℕ). (digits w i ++ (48 + (m * 10 + (b - 48)) % 10) ∷ []) ++ bs) tens
+          ∙ ap (λ (i : ℕ). (digits w m ++ i ∷ []) ++ bs) units
+          ∙ append_assoc (digits w m) (b ∷ []) bs
+          )
+      | inr f ↦ (let k = simp f at h in absurd cc)
+    ]
+  where
+    digit_bounds : (b : ℕ) → is_digit b ≡ true → (48 ≤ b) × (b ≤ 57)
+    digit_bounds b d = (grind (arith, nat_tests), grind (arith, nat_tests))
+
+pub digits_of-written : (t : List ℕ) (n : ℕ) → digits_of t ≡ Some n → t ≡ digits (length t) n
+unfolding digits_of
+digits_of-written [] n h = absurd cc
+digits_of-written (b ∷ bs) n h = let whole : 0 + length (b ∷ bs) ≡ length (b ∷ bs) = omega arith in sym (digits_after-written 0 0 (b ∷ bs) n h) ∙ ap (λ (i : ℕ). digits i n) whole
+
 pub sequence_of-digits : (w n : ℕ) → 0 < n → n < 10 ^ suc w → sequence_of (digits (suc w) n) ≡ Some n
 unfolding sequence_of
 sequence_of-digits w n low h = ap from_one (number_of-digits w n h) ∙ grind (arith, nat_tests)

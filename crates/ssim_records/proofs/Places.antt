@@ -2,7 +2,7 @@
 use Rattle.std.proofs.Common.{◌≡◌, ℕ, ◌+◌, ◌-◌, List, [], ◌∷◌, ◌++◌, length, take, drop, Option, Some, None, refl, sym, ap, ◌∙◌, append_assoc, arith}
 use Rattle.std.specs.Prelude.{slice_range}
 use Rattle.std.specs.List.{concat, AllZip}
-use Rattle.std.proofs.lemmas.List.{take_at, drop_at, drop-drop, drop-take, length-append}
+use Rattle.std.proofs.lemmas.List.{take_at, drop_at, drop_all, drop-drop, drop-take, length-append, take-append-drop}
 use Rattle.std.proofs.lemmas.List.Folds.{concat-append}
 use Rattle.ssim_values.specs.Day.{day_of}
 use Rattle.ssim_records.specs.declared.field.Kind.TheVariants.{Dates}
@@ -40,6 +40,17 @@ length_concat [] [] h e = refl
 length_concat [] (p ∷ ps) h e = absurd (omega (arith, e))
 length_concat (w ∷ ws) [] h e = absurd (omega (arith, e))
 length_concat (w ∷ ws) (p ∷ ps) h e = omega (arith, length-append p (concat ps), h.0, length_concat ws ps h.1 (omega (arith, e)))
+
+-- what has all parts in their places, and nothing after them, is these parts
+pub placed_whole : (n : ℕ) (ws : List ℕ) (ps : List (List ℕ)) (b : List ℕ) → length ws ≡ length ps → length b ≡ n + sum_of ws → Placed n ws ps b → drop n b ≡ concat ps
+placed_whole n [] [] b e len at = drop_all n b (omega (arith, len))
+placed_whole n [] (p ∷ ps) b e len at = absurd (omega (arith, e))
+placed_whole n (w ∷ ws) [] b e len at = absurd (omega (arith, e))
+placed_whole n (w ∷ ws) (p ∷ ps) b e len at =
+    let k : (n + w) - n ≡ w = omega arith in
+    let here : take w (drop n b) ≡ p = rw k at at.0 in
+    let rest : drop w (drop n b) ≡ concat ps = drop-drop w n b ∙ placed_whole (n + w) ws ps b (omega (arith, e)) (omega (arith, len)) at.1 in
+    sym (take-append-drop w (drop n b)) ∙ ap (λ (t : List ℕ). t ++ drop w (drop n b)) here ∙ ap (λ (t : List ℕ). p ++ t) rest
 
 -- parts that are joined first are joined as the others
 pub joined : (kind : List ℕ) (name front back : List (List ℕ)) → concat (concat (kind ∷ concat name ∷ front) ∷ back) ≡ concat (kind ∷ (name ++ (front ++ back)))

@@ -6,16 +6,17 @@ use Rattle.std.proofs.lemmas.List.{take-append-drop, append-nil, length-drop, le
 use Rattle.ssim_records.specs.declared.field.Kind.TheVariants.{Carried}
 use Rattle.ssim_records.specs.Numbers.{digits_of, digits}
 use Rattle.ssim_records.specs.Columns.{columns, fault_in, is_carried, EachStands}
+use Rattle.ssim_records.specs.Heads.{HasDigits}
 use Rattle.ssim_records.specs.Leg.{Name}
 use Rattle.ssim_records.specs.Segment.{SegmentFields, IsSegment, IsTail, SpellsSegment, segment_table, segment_texts, tail_of, spread_tail, tail_columns, written_segment}
 use Rattle.std.specs.Bool.{Decides}
 use Rattle.std.specs.Str.{bytes_eq}
 use Rattle.std.proofs.lemmas.Bool.Decides.{Decides-and, Decides-eqb}
 use Rattle.std.proofs.lemmas.Slice.Eq.{bytes_eq-Decides}
-use Rattle.ssim_records.proofs.Names.{names_decide, names_eq, one_name, NameLies, spells_name, name_stands, length_airline}
-use Rattle.ssim_records.proofs.Numbers.{digits_of-digits}
+use Rattle.ssim_records.proofs.Names.{names_decide, names_eq, one_name, NameLies, name_digits, name_lies, spells_name, name_stands, length_airline}
+use Rattle.ssim_records.proofs.Numbers.{digits_of-digits, digits_of-written}
 use Rattle.ssim_records.proofs.OwnColumns.{moved}
-use Rattle.ssim_records.proofs.Places.{all_placed, length_concat}
+use Rattle.ssim_records.proofs.Places.{all_placed, length_concat, placed_whole}
 use Rattle.ssim_records.proofs.Rows.{is_true, all_carried, none_other, both_true, stands_as}
 use Rattle.ssim_records.proofs.Slices.{length_slice}
 
@@ -167,3 +168,28 @@ spells_segment r fits = spells r (written_segment r) fits (lies r fits)
 
 pub length_segment : (r : SegmentFields) → IsSegment r → length (written_segment r) ≡ 200
 length_segment r fits = length_concat (1 ∷ 1 ∷ 3 ∷ 4 ∷ 2 ∷ 2 ∷ 1 ∷ 13 ∷ 1 ∷ 166 ∷ 6 ∷ []) (segment_texts r) (texts_lie r fits) refl
+
+-- ---- bytes that spell a segment, and the segment as it is written
+
+-- where the parts of the tail stand in the bytes
+tail_stands : (b : List ℕ) (d : List ℕ) → length b ≡ 200 → tail_of b ≡ d → (columns 15 27 b ≡ slice_range d 0 13) × (columns 29 194 b ≡ slice_range d 13 179)
+tail_stands b d len tail =
+    let one = length_slice b 14 27 (lit≤ tt) (omega arith) in
+    let two = length_slice b 28 194 (lit≤ tt) (omega arith) in
+    let p = all_placed (13 ∷ 166 ∷ []) (columns 15 27 b ∷ columns 29 194 b ∷ []) (one, (two, tt)) in
+    (sym p.0 ∙ ap (λ (t : List ℕ). slice_range t 0 13) tail, sym p.1.0 ∙ ap (λ (t : List ℕ). slice_range t 13 179) tail)
+
+pub segment_is_written : (r : SegmentFields) (b : List ℕ) → length b ≡ 200 → SpellsSegment r b → HasDigits b → b ≡ written_segment r
+segment_is_written r b len p has =
+    let tail = tail_stands b r.tail len p.tail in
+    let name = name_lies r.name b len p.name has in
+    let long : length (columns 195 200 b) ≡ 6 = length_slice b 194 200 (lit≤ tt) (omega (arith, len)) in
+    let serial : columns 195 200 b ≡ digits 6 r.serial = digits_of-written (columns 195 200 b) r.serial p.serial ∙ ap (λ (w : ℕ). digits w r.serial) long in
+    placed_whole 0 (1 ∷ 1 ∷ 3 ∷ 4 ∷ 2 ∷ 2 ∷ 1 ∷ 13 ∷ 1 ∷ 166 ∷ 6 ∷ []) (segment_texts r) b refl len
+    (p.kind, (name.suffix, (name.airline, (name.number, (name.variation, (name.sequence, (p.service, (tail.0, (p.overflow, (tail.1, (serial, tt)))))))))))
+
+-- what is written has numbers without blanks
+pub written_segment_has : (r : SegmentFields) (b : List ℕ) → IsSegment r → b ≡ written_segment r → HasDigits b
+written_segment_has r b fits is =
+    let at : Lies r b = subst (Lies r) (sym is) (lies r fits) in
+    name_digits r.name b fits.name at.name

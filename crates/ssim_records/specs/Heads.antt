@@ -1,5 +1,5 @@
 -- What is parsed of the columns of a flight leg or segment record.
-use Rattle.std.specs.Prelude.{ℕ, ◌≡◌, ◌<◌, List, Some}
+use Rattle.std.specs.Prelude.{ℕ, ◌≡◌, ◌<◌, List, Some, IsSome}
 use Rattle.ssim_values.specs.Day.{day_of}
 use Rattle.ssim_values.specs.DayMask.{days_of}
 use Rattle.ssim_records.specs.declared.leg_head.LegHead.{LegHead}
@@ -28,3 +28,9 @@ pub record IsSegmentHead (h : SegmentHead) (bytes : List ℕ) : Type 0 where
   pub is_name : IsName h.name
   pub serial : digits_of (columns 195 200 bytes) ≡ Some h.serial
   pub small : h.serial < 1000000
+
+-- the numbers of a name are digits alone, without blanks
+pub record HasDigits (bytes : List ℕ) : Type 0 where
+  pub number : IsSome (digits_of (columns 6 9 bytes))
+  pub variation : IsSome (digits_of (columns 10 11 bytes))
+  pub sequence : IsSome (digits_of (columns 12 13 bytes))

@@ -9,7 +9,7 @@ use crate::columns::{carried_at, end_text, join};
 use crate::leg_columns::{LegColumns, own_columns_at};
 use crate::leg_head::LegHead;
 use crate::leg_name::LegName;
-use crate::name_text::name_text;
+use crate::name_text::{has_digits, name_text};
 use crate::number::six_digits;
 use crate::segment::SegmentRecord;
 use crate::segment_tail::SegmentTail;
@@ -284,5 +284,16 @@ impl LegRecord {
             ],
         );
         bytes
+    }
+
+    /// Whether the bytes, which spell this record, are its written spelling: the numbers of the name have no blanks, and each day of
+    /// operation is in its place. The other columns are carried, or have one spelling.
+    pub(crate) fn is_written(&self, bytes: &[u8; 200]) -> bool
+        requires { SpellsLeg self.now bytes.now }
+        ensures same { IsTrue result ↔ (bytes.now ≡ written_leg self.now) }
+        ensures is_leg { IsLeg self.now }
+    {
+        let days = self.days.write();
+        has_digits(bytes) && &bytes[28..35] == days.as_slice()
     }
 }

@@ -1,12 +1,13 @@
 //! The name of a leg as records of types 3 and 4 have it.
 
-ghost use Rattle.std.specs.Prelude.{◌≡◌};
+ghost use Rattle.std.specs.Prelude.{◌≡◌, ◌↔◌, IsTrue};
 ghost use Rattle.std.specs.List.{concat};
+ghost use Rattle.ssim_records.specs.Heads.{HasDigits};
 ghost use Rattle.ssim_records.specs.Leg.{name_texts};
 
 use crate::columns::join;
 use crate::leg_name::LegName;
-use crate::number::{four_digits, two_digits};
+use crate::number::{digits_of, four_digits, two_digits};
 
 /// Columns 2 to 13 as they are written.
 pub fn name_text(name: LegName) -> [u8; 12]
@@ -24,4 +25,13 @@ pub fn name_text(name: LegName) -> [u8; 12]
         ],
     );
     text
+}
+
+/// Whether the numbers in columns 6 to 13 have no blanks. If these columns spell a name, they then are as it is written.
+pub fn has_digits(bytes: &[u8; 200]) -> bool
+    ensures { IsTrue result ↔ HasDigits bytes.now }
+{
+    digits_of(&bytes[5..9]).is_some()
+        && digits_of(&bytes[9..11]).is_some()
+        && digits_of(&bytes[11..13]).is_some()
 }

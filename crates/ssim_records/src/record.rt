@@ -120,6 +120,20 @@ impl Record {
         }
     }
 
+    /// Whether the bytes, which spell this record, are its one written spelling. Of a leg and a segment only the columns are looked at that
+    /// can be spelled in several ways.
+    pub fn is_written(&self, bytes: &[u8; 200]) -> bool
+        requires { Spells self.now bytes.now }
+        ensures same { IsTrue result ↔ (bytes.now ≡ written self.now) }
+        ensures is_record { IsRecord self.now }
+    {
+        match self {
+            Record::Leg(leg) => leg.is_written(bytes),
+            Record::Segment(segment) => segment.is_written(bytes),
+            _ => write_record(self).as_slice() == bytes.as_slice(),
+        }
+    }
+
     /// The serial that the record had.
     pub fn serial(&self) -> u32
         ensures value { result ≡ serial_of self.now }

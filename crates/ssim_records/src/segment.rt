@@ -7,7 +7,7 @@ ghost use Rattle.ssim_records.specs.Heads.{IsSegmentHead};
 
 use crate::columns::{carried_at, join};
 use crate::leg_name::LegName;
-use crate::name_text::name_text;
+use crate::name_text::{has_digits, name_text};
 use crate::number::six_digits;
 use crate::segment_head::SegmentHead;
 use crate::segment_tail::{SegmentTail, tail_at};
@@ -171,5 +171,16 @@ impl SegmentRecord {
             ],
         );
         bytes
+    }
+
+    /// Whether the bytes, which spell this record, are its written spelling: the numbers of the name have no blanks. The other columns
+    /// are carried, or have one spelling.
+    pub(crate) fn is_written(&self, bytes: &[u8; 200]) -> bool
+        requires { SpellsSegment self.now bytes.now }
+        ensures same { IsTrue result ↔ (bytes.now ≡ written_segment self.now) }
+        ensures is_segment { IsSegment self.now }
+    {
+        let _ = self.serial();
+        has_digits(bytes)
     }
 }

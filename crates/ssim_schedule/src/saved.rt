@@ -1,7 +1,6 @@
 //! The records of a base as they are saved: each as it is written, followed by LF.
 
 ghost use Rattle.std.specs.Prelude.{◌≡◌, ◌≢◌, ◌↔◌, ℕ, List, IfErr, IfNone, IfOk, IfSome, IsTrue};
-ghost use Rattle.ssim_records.specs.Record.{IsRecord, written};
 ghost use Rattle.ssim_records.specs.declared.record.Record.{Record};
 ghost use Rattle.ssim_schedule.specs.SavedBase.{IsBare, IsBaseRecords, IsLine, IsLineOf, IsWithin, saved};
 
@@ -10,7 +9,7 @@ use crate::fault::BaseFault;
 use crate::kept::Kept;
 use crate::kept_records::KeptRecords;
 use crate::stations::Stations;
-use ssim_records::{Record, read_into, write_record};
+use ssim_records::{Record, read_into};
 use ssim_values::Memory;
 use std::alloc::{AllocError, Global};
 
@@ -64,14 +63,6 @@ fn is_bare(one: &Record) -> bool
     }
 }
 
-// Whether the block is the record as it is written.
-fn is_written(one: &Record, block: &[u8; 200]) -> bool
-    ensures same { IsTrue result ↔ (block.now ≡ written one.now) }
-    ensures is_record { IsRecord one.now }
-{
-    write_record(one).as_slice() == block.as_slice()
-}
-
 // Puts the record of the first line into a place, if it is one that a base can have, and returns the bytes after the line.
 fn read_line<'a>(bytes: &'a [u8], into: &mut Option<Record>) -> Option<&'a [u8]>
     ensures some { IfSome result (λ rest. IsLineOf into.new bytes.now rest.now) }
@@ -83,7 +74,7 @@ fn read_line<'a>(bytes: &'a [u8], into: &mut Option<Record>) -> Option<&'a [u8]>
         return None;
     }
     match into {
-        Some(one) if is_bare(one) && is_written(one, block) => Some(rest),
+        Some(one) if is_bare(one) && one.is_written(block) => Some(rest),
         _ => None,
     }
 }

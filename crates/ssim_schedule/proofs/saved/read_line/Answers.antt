@@ -37,6 +37,11 @@ returns-in-Some-clause-some c =
     line-whole c.in-Some.one c.args.bytes.now c.in_ok-block.block.now c.in_ok-block.after.now c.in_ok-end.rest.now c.in_ok-end.end.now
     c.in_ok-block.ensures.cases.0 c.in_ok-block.ensures.cases.1 c.in_ok-end.ensures.cases.0 (omega arith) c.is_written.ensures.is_record (c.is_bare.ensures.0 c.if-is_bare.true) (c.is_written.ensures.same.0 c.if-is_written.true)
 
+pub is_written-requires : goal.is_written-requires
+is_written-requires c =
+    let spelt = read-ok (HasSpelt c.read_into.new.into c.in_ok-block.block.now) c.read_into.result (sym c.is_err.ensures.value ∙ c.if-is_err.false) c.read_into.ensures.ok in
+    rw c.in-Some.is at spelt
+
 pub returns-in_default-clause-none : goal.returns-in_default-clause-none
 returns-in_default-clause-none c = λ r rest line.
     let block = c.in_ok-block.block.now in
