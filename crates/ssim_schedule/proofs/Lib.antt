@@ -4,6 +4,7 @@ pub mod Bytes
 pub mod Calendars
 pub mod ChangeLemmas
 pub mod Each
+pub mod FlightSets
 pub mod Flown
 pub mod Lines
 pub mod Notes

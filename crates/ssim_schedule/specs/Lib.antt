@@ -15,6 +15,7 @@ pub mod Built
 pub mod Sinks
 pub mod Plan
 pub mod Dates
+pub mod FlightSet
 pub mod LegTable
 pub mod KeptRecords
 pub mod Kept

@@ -1,5 +1,6 @@
 -- What the records of a data set say, flight by flight and day by day.
 use Rattle.std.specs.Prelude.{ℕ, ◌<◌, Bool, ◌&&◌, nat_eq, nat_lt, if◌then◌else◌, List, [], ◌∷◌, slice_index_or, unwrap_or}
+use Rattle.std.specs.List.{list_any}
 use Rattle.ssim_values.specs.Flight.{FlightNumber}
 use Rattle.ssim_values.specs.Period.{DayRange}
 use Rattle.ssim_periods.specs.Calendar.{holds}
@@ -60,6 +61,14 @@ itinerary (Leg r ∷ later) flight day =
     if is_on r flight day then placed (leg_of r later) (itinerary later flight day) else itinerary later flight day
 itinerary (Segment r ∷ later) flight day = itinerary later flight day
 itinerary (Trailer r ∷ later) flight day = itinerary later flight day
+
+-- whether the flight is among these
+abbrev pub is_among : List FlightNumber → FlightNumber → Bool
+is_among flights flight = list_any (same_flight flight) flights
+
+-- the itinerary of a flight on a day if it is among these; none of any other flight
+abbrev pub itinerary_among : List FlightNumber → List Record → FlightNumber → ℕ → Legs
+itinerary_among flights records flight day = if is_among flights flight then itinerary records flight day else []
 
 -- a flight's itinerary on each day
 abbrev pub Days : Type 0

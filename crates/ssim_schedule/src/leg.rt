@@ -99,7 +99,7 @@ impl PlacedLeg {
     }
 
     /// An equal leg.
-    pub(crate) fn copy(&self, alloc: Global) -> Result<PlacedLeg, Memory>
+    pub fn copy(&self, alloc: Global) -> Result<PlacedLeg, Memory>
         ensures { IfOk result (λ copy. copy ≡ self.now) }
     {
         Ok(PlacedLeg {

@@ -29,6 +29,7 @@ mod fault;
 mod finding;
 mod flight_blocks;
 mod flight_legs;
+mod flight_set;
 mod flight_table;
 mod gathering;
 mod itinerary;
