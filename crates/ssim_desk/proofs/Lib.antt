@@ -13,6 +13,7 @@ pub mod Shown
 pub mod Points
 pub mod Trails
 pub mod Changes
+pub mod SomeFlights
 pub mod Meant
 pub mod Exports
 pub mod Brought

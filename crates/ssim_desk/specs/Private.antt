@@ -1,6 +1,6 @@
 -- Definitions that only private functions cite. No law and no public contract cites them, so nobody has to believe them.
-use Rattle.std.specs.Prelude.{◌≡◌, ◌⊎◌, ◌||◌, ℕ, ◌+◌, ◌*◌, ◌/◌, ◌%◌, ◌<◌, ◌≤◌, List, ◌++◌, length, take, slice_get, Contains, IsTrue, IfSome}
-use Rattle.std.specs.List.{list_any}
+use Rattle.std.specs.Prelude.{◌≡◌, ◌⊎◌, ◌||◌, ℕ, ◌+◌, ◌*◌, ◌/◌, ◌%◌, ◌<◌, ◌≤◌, List, ◌++◌, length, take, map, slice_get, Contains, IsTrue, IfSome}
+use Rattle.std.specs.List.{flat_map, list_any}
 use Rattle.ssim_periods.specs.Days.{each_day}
 use Rattle.ssim_schedule.specs.{BaseSeen.BaseSeen, Schedule.{Table, cuts_in, days_in}, Stations.Row, declared.finding.Finding.Finding}
 use Rattle.ssim_schedule.specs.declared.resolved.ResolvedSub.{ResolvedSub}
@@ -21,6 +21,10 @@ IsOffer desk held text (New at e) = Belongs held e.reference at at × IsEntry de
 -- a schedule has the timetable
 abbrev pub Shows : Table → Timetable → Type 0
 Shows schedule timetable = (g : FlightNumber) → IsFlight g → days_in schedule g ≡ each_day (timetable g)
+
+-- the flights of the sub-messages of messages
+abbrev pub flights_of : List Entry → List FlightNumber
+flights_of entries = flat_map (λ e. map (λ sub. sub.flight) e.dates) entries
 
 -- a flight's new cuts are old ones, or such days of these sub-messages or of a row
 abbrev pub AddsSubPoints : List Row → List ResolvedSub → FlightNumber → List ℕ → List ℕ → Type 0

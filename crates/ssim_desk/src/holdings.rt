@@ -7,20 +7,24 @@ ghost use Rattle.ssim_held.specs.File.{CanBeSaved, IsDeskFile, desk_file};
 ghost use Rattle.ssim_held.specs.Kept.{AreEntries, AreRising, IsEntry, map_of, state_of};
 ghost use Rattle.ssim_held.specs.Opening.{RefusesBytes};
 ghost use Rattle.ssim_held.specs.Ordered.{Belongs};
-ghost use Rattle.ssim_desk.specs.Desk.{merge_answer, take_answer};
+ghost use Rattle.ssim_desk.specs.Desk.{finding_lines, merge_answer, take_answer, timetable_of};
+ghost use Rattle.ssim_desk.specs.Meaning.{Finds, Means, Timetable, found_by};
 ghost use Rattle.ssim_desk.specs.Steps.{Merges, Takes};
 
 use crate::desk::Took;
+use crate::finding_line::{FindingLine, push_lines};
+use crate::flights::{found_by, legs_after};
 use crate::offer::{Offer, offer_of};
 use ssim_held::{DeskFault, Held, first_conflict, merged, put_desk, read_bytes};
 use ssim_records::Sink;
-use ssim_schedule::{Base, WriteFault};
-use ssim_values::Memory;
+use ssim_schedule::{Base, PlacedLeg, WriteFault};
+use ssim_values::{Day, Flight, Memory};
 use std::alloc::Global;
 use std::marker::Model;
 
 /// What a desk holds: a base, and messages in order of reference. It takes texts and merges as a desk does. It keeps no timetable, so it
-/// takes less time and memory than a desk where no timetable is asked for.
+/// takes less time and memory than a desk where no timetable is asked for, or once that of few flights: each such call makes the timetable of
+/// the flights that it needs.
 ///
 /// Contracts see it as a desk whose latest change applied no message.
 #[derive(Drop)]
@@ -124,6 +128,26 @@ impl Holdings {
         ensures device { W.device out.new ≡ W.device out.old }
     {
         put_desk(out, &self.base, &self.held)
+    }
+
+    /// The legs of a flight on a date of origin, by leg sequence; none if it does not fly. Reads all records of the base.
+    pub fn itinerary(&self, flight: &Flight, day: Day) -> Result<Vec<PlacedLeg>, Memory>
+        ensures value { IfOk result (λ legs. legs.items ≡ timetable_of self.now flight.now day) }
+        ensures means { Means (state_of self.now) (timetable_of self.now) }
+        ensures only { IfOk result (λ legs. (timetable : Timetable) → Means (state_of self.now) timetable → legs.items ≡ timetable flight.now day) }
+    {
+        legs_after(self.alloc, &self.base, &self.held, flight, day)
+    }
+
+    /// A line for each sub-message that is held, in order: what it found on the dates of its period. Reads all records of the base.
+    pub fn findings(&self) -> Result<Vec<FindingLine>, Memory>
+        ensures lines { IfOk result (λ lines. lines.items ≡ finding_lines self.now) }
+        ensures finds { IfOk result (λ lines. Finds (state_of self.now) (found_by self.now.base self.now.held)) }
+    {
+        let found = found_by(self.alloc, &self.base, &self.held)?;
+        let mut lines = Vec::new(self.alloc);
+        push_lines(&mut lines, &self.held, &found)?;
+        Ok(lines)
     }
 
     /// The base and the messages.

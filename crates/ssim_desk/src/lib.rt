@@ -18,6 +18,7 @@
 
 mod desk;
 mod finding_line;
+mod flights;
 mod holdings;
 pub mod laws;
 mod offer;

@@ -31,6 +31,13 @@ impl Model for Found {
 }
 
 impl Found {
+    /// What was found, in the order of the sub-messages.
+    pub(crate) fn new(findings: Vec<Finding>) -> Found
+        ensures { result ≡ findings.items }
+    {
+        Found { findings }
+    }
+
     /// In the order of the sub-messages.
     pub(crate) fn findings(&self) -> &[Finding]
         ensures { result.now ≡ self.now }

@@ -1,0 +1,19 @@
+-- The schedule shows the timetable of the flights that the messages name, in which they find what they find in the whole.
+use Rattle.std.proofs.Common.{List, Result, Ok, Err, IfOk, subst, ◌∙◌}
+use Rattle.ssim_values.specs.Flight.{FlightNumber}
+use Rattle.ssim_schedule.specs.Timetable.{itinerary_among}
+use Rattle.ssim_desk.specs.Private.{Shows, flights_of}
+use Rattle.ssim_desk.proofs.SomeFlights.{found_among}
+use Rattle.ssim_desk.proofs.flights.found_by.Goals as goal
+
+if_ok : {T E : Type 0} {P Q : T → Type 0} (r : Result T E) → ((x : T) → P x → Q x) → IfOk r P → IfOk r Q
+if_ok (Ok x) f p = f x p
+if_ok (Err e) f p = p
+
+pub returns : goal.returns
+returns c =
+    let base = c.args.base.now in
+    let messages = c.args.messages.now in
+    let named = c.deref.ensures.value ∙ c.in_ok-flights.ensures in
+    let shows = subst (λ (flights : List FlightNumber). Shows c.in_ok-schedule.schedule (itinerary_among flights base.records)) named c.in_ok-schedule.ensures in
+    if_ok c.act_all.result (λ found h. h (itinerary_among (flights_of messages) base.records) shows ∙ found_among base messages) c.act_all.ensures

@@ -1,0 +1,5 @@
+use Rattle.std.proofs.Common.{◌≡◌, ◌++◌, map, take}
+use Rattle.ssim_desk.proofs.flights.push_flights.Given as goal
+
+abbrev pub invariant-loop-sub : goal.invariant-loop-sub
+invariant-loop-sub l = l.flights.items ≡ l.initial.flights.items ++ map (λ sub. sub.flight) (take l.sub-index l.subs)
