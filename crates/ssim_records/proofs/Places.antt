@@ -61,6 +61,11 @@ joined kind name front back =
 pub name_joined : (kind : List ℕ) (name back : List (List ℕ)) → concat (kind ∷ concat name ∷ back) ≡ concat (kind ∷ (name ++ back))
 name_joined kind name back = ap (λ (t : List ℕ). kind ++ t) (sym (concat-append name back))
 
+pub period_joined : (kind : List ℕ) (name front dates back : List (List ℕ)) → concat (kind ∷ concat name ∷ (front ++ concat dates ∷ back)) ≡ concat (kind ∷ (name ++ (front ++ (dates ++ back))))
+period_joined kind name front dates back =
+    ap (λ (t : List ℕ). kind ++ (concat name ++ t)) (concat-append front (concat dates ∷ back) ∙ ap (λ (t : List ℕ). concat front ++ t) (sym (concat-append dates back)) ∙ sym (concat-append front (dates ++ back)))
+    ∙ ap (λ (t : List ℕ). kind ++ t) (sym (concat-append name (front ++ (dates ++ back))))
+
 -- ---- a start and an end
 
 pub first_day_in : (b : List ℕ) → take 7 (slice_range b 14 28) ≡ slice_range b 14 21

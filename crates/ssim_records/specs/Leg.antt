@@ -6,6 +6,7 @@ use Rattle.ssim_values.specs.Day.{day_of, day_text}
 use Rattle.ssim_values.specs.DayMask.{days_of, places_of, IsMask}
 use Rattle.ssim_values.specs.Airline.{is_airline}
 use Rattle.ssim_values.specs.Flight.{FlightNumber, IsFlight}
+use Rattle.ssim_values.specs.Period.{DayRange}
 use Rattle.ssim_records.specs.declared.field.Kind.TheVariants.{Suffix, AirlineCode, Carried, Days, Number, Sequence, Digits, Dates, StationCode, Time, PassengerTime, UtcVariation}
 use Rattle.ssim_records.specs.declared.field.Field.{Field}
 use Rattle.ssim_records.specs.Numbers.{digits_of, number_of, sequence_of, digits}
@@ -124,6 +125,10 @@ pub record SpellsLeg (r : LegFields) (bytes : List ℕ) : Type 0 where
 abbrev pub end_text : Option ℕ → List ℕ
 end_text None = codes "00XXX00"
 end_text (Some day) = day_text day
+
+-- the days of a period as they are written
+abbrev pub period_texts : DayRange → List (List ℕ)
+period_texts p = day_text p.first ∷ day_text p.last ∷ places_of p.days ∷ []
 
 -- its fields as they are written, in the order of the columns
 abbrev pub leg_texts : LegFields → List (List ℕ)

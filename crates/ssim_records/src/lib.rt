@@ -3,7 +3,8 @@
 //!
 //! - [`Record`]: a [`Header`], [`Carrier`], [`LegRecord`], [`SegmentRecord`] or [`Trailer`], read by [`read_record`] and
 //!   written by [`write_record`]. [`LegName`] identifies the leg of a record. [`LegColumns`] and [`SegmentTail`] are the
-//!   columns that a leg or a segment has of its own, with a reader for each field.
+//!   columns that a leg or a segment has of its own, with a reader for each field. [`NameText`] and [`PeriodText`] are texts that
+//!   several records have in common, so that they are written once.
 //! - [`LegStations`], [`LegTimes`] and [`LegEquipment`]: the parts of a new leg's columns, and what messages change in them.
 //! - [`Records`]: the records of a stream, one after another, from any [`Source`].
 //! - [`Source`] and [`Sink`]: devices that bytes come from and go to. Contracts know the bytes of a `&[u8]`, of [`Bytes`]
@@ -51,6 +52,7 @@ mod segment;
 mod segment_head;
 mod segment_tail;
 mod stream;
+mod texts;
 mod time_mode;
 mod trailer;
 mod window;
@@ -73,4 +75,5 @@ pub use segment::SegmentRecord;
 pub use segment_tail::SegmentTail;
 pub use ssim_values::TimeMode;
 pub use stream::{Input, Output};
+pub use texts::{NameText, PeriodText};
 pub use trailer::Trailer;

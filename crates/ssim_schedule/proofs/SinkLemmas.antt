@@ -38,7 +38,8 @@ start bytes t = ([], refl, appends-none t)
 pub then : (a b c : List ℕ) (t u v : Option (List ℕ)) → TakesUpTo a b t u → TakesUpTo b c u v → TakesUpTo a c t v
 then a b c t u v h k = (h.0 ++ k.0, h.1 ∙ ap (λ (bs : List ℕ). h.0 ++ bs) k.1 ∙ sym (append_assoc h.0 k.0 c), appends-then t u v h.0 k.0 h.2 k.2)
 
-more : (a b x : List ℕ) (t u : Option (List ℕ)) → TakesUpTo a b t u → TakesUpTo (a ++ x) (b ++ x) t u
+-- and more of them behind
+pub more : (a b x : List ℕ) (t u : Option (List ℕ)) → TakesUpTo a b t u → TakesUpTo (a ++ x) (b ++ x) t u
 more a b x t u h = (h.0, ap (λ (bs : List ℕ). bs ++ x) h.1 ∙ append_assoc h.0 b x, h.2)
 
 pub all_taken : (bytes : List ℕ) (t u : Option (List ℕ)) → TakesUpTo bytes [] t u → Appends t u bytes

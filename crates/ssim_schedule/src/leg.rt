@@ -61,6 +61,13 @@ impl PlacedLeg {
         self.columns
     }
 
+    /// The same, in their place.
+    pub(crate) fn columns_held(&self) -> &LegColumns
+        ensures { result.now ≡ self.now.columns }
+    {
+        &self.columns
+    }
+
     /// Its own columns become these.
     pub(crate) fn set_columns(&mut self, columns: LegColumns)
         ensures { self.new ≡ record self.old { columns = columns } }

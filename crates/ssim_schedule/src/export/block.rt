@@ -1,13 +1,15 @@
 //! A buffer of lines for a sink.
 
-ghost use Rattle.std.specs.Prelude.{◌≡◌, ◌↔◌, ◌≤◌, ◌+◌, ◌++◌, [], length, replicate, IsTrue, OnOk, OnErr};
+ghost use Rattle.std.specs.Prelude.{◌≡◌, ◌↔◌, ◌≤◌, ◌<◌, ◌+◌, ◌++◌, [], Some, length, replicate, slice_index, IsTrue, OnOk, OnErr};
 ghost use Rattle.std.specs.List.{flat_map};
 ghost use Rattle.std.specs.Io.KnownBytes.{Appends};
 ghost use Rattle.ssim_records.specs.Frames.{fill};
+ghost use Rattle.ssim_records.specs.Leg.{AreLegColumns, written_leg};
+ghost use Rattle.ssim_records.specs.Segment.{IsTail, written_segment};
 ghost use Rattle.ssim_schedule.specs.Export.{line};
 ghost use Rattle.ssim_schedule.specs.Sinks.{CountsFault, TakesFront, TakesUpTo};
 
-use ssim_records::Sink;
+use ssim_records::{LegColumns, NameText, PeriodText, SegmentTail, Sink};
 use std::error::Error;
 use std::fmt;
 use std::marker::Model;
@@ -97,6 +99,36 @@ impl Block {
         self.end = end + 1;
     }
 
+    fn push_leg(&mut self, name: &NameText, period: &PeriodText, columns: &LegColumns, serial: u32)
+        requires serial { serial < 1000000 }
+        requires room { length self.old + 201 ≤ 8040 }
+        ensures value { self.new ≡ self.old ++ line (written_leg (record { name = name.now; first = period.now.first; last = Some period.now.last; days = period.now.days; rate = 32; columns = columns.now; overflow = 32; serial = serial })) }
+        ensures columns { AreLegColumns columns.now }
+    {
+        let end = self.end + 200;
+        name.write_leg(period, columns, serial, &mut self.bytes[self.end..end]);
+        self.bytes[end] = b'\n';
+        self.end = end + 1;
+    }
+
+    fn push_segment(
+        &mut self,
+        name: &NameText,
+        columns: &LegColumns,
+        tail: &SegmentTail,
+        serial: u32,
+    )
+        requires serial { serial < 1000000 }
+        requires room { length self.old + 201 ≤ 8040 }
+        ensures value { self.new ≡ self.old ++ line (written_segment (record { name = name.now; service = slice_index columns.now 0; tail = tail.now; overflow = 32; serial = serial })) }
+        ensures tail { IsTail tail.now }
+    {
+        let end = self.end + 200;
+        name.write_segment(columns, tail, serial, &mut self.bytes[self.end..end]);
+        self.bytes[end] = b'\n';
+        self.end = end + 1;
+    }
+
     fn bytes(&self) -> &[u8]
         ensures { result.now ≡ self.now }
     {
@@ -142,6 +174,21 @@ pub fn flush<W: Sink>(out: &mut W, block: &mut Block) -> Result<(), WriteFault>
     Ok(())
 }
 
+// Makes room in the block for a record and LF: if it has none, its bytes are put into the sink. After a 52 the block is unchanged.
+fn make_room<W: Sink>(out: &mut W, block: &mut Block) -> Result<(), WriteFault>
+    ensures ok { OnOk result (TakesUpTo block.old block.new (W.taken out.old) (W.taken out.new)) }
+    ensures room { OnOk result (length block.new + 201 ≤ 8040) }
+    ensures err { OnErr result (TakesFront block.old (W.taken out.old) (W.taken out.new)) }
+    ensures unchanged { OnErr result (block.new ≡ block.old) }
+    ensures failures { CountsFault (W.failures out.old) (W.failures out.new) result }
+    ensures device { W.device out.new ≡ W.device out.old }
+{
+    if !block.has_room(201) {
+        flush(out, block)?;
+    }
+    Ok(())
+}
+
 /// Appends a record and LF to the block. If the block has no room for them, its bytes are put into the sink first. After a 52 the block is
 /// unchanged.
 pub fn put_line<W: Sink>(
@@ -155,10 +202,50 @@ pub fn put_line<W: Sink>(
     ensures failures { CountsFault (W.failures out.old) (W.failures out.new) result }
     ensures device { W.device out.new ≡ W.device out.old }
 {
-    if !block.has_room(201) {
-        flush(out, block)?;
-    }
+    make_room(out, block)?;
     block.push_line(bytes);
+    Ok(())
+}
+
+/// Puts the record of a leg in a period, with these columns.
+pub(crate) fn put_leg<W: Sink>(
+    out: &mut W,
+    block: &mut Block,
+    name: &NameText,
+    period: &PeriodText,
+    columns: &LegColumns,
+    serial: u32,
+) -> Result<(), WriteFault>
+    requires { serial < 1000000 }
+    ensures ok { OnOk result (TakesUpTo (block.old ++ line (written_leg (record { name = name.now; first = period.now.first; last = Some period.now.last; days = period.now.days; rate = 32; columns = columns.now; overflow = 32; serial = serial }))) block.new (W.taken out.old) (W.taken out.new)) }
+    ensures columns { OnOk result (AreLegColumns columns.now) }
+    ensures err { OnErr result (TakesFront (block.old ++ line (written_leg (record { name = name.now; first = period.now.first; last = Some period.now.last; days = period.now.days; rate = 32; columns = columns.now; overflow = 32; serial = serial }))) (W.taken out.old) (W.taken out.new)) }
+    ensures failures { CountsFault (W.failures out.old) (W.failures out.new) result }
+    ensures device { W.device out.new ≡ W.device out.old }
+{
+    make_room(out, block)?;
+    block.push_leg(name, period, columns, serial);
+    Ok(())
+}
+
+/// Puts the record of a segment with this tail that begins with a leg, which has these columns.
+pub(crate) fn put_segment<W: Sink>(
+    out: &mut W,
+    block: &mut Block,
+    name: &NameText,
+    columns: &LegColumns,
+    tail: &SegmentTail,
+    serial: u32,
+) -> Result<(), WriteFault>
+    requires { serial < 1000000 }
+    ensures ok { OnOk result (TakesUpTo (block.old ++ line (written_segment (record { name = name.now; service = slice_index columns.now 0; tail = tail.now; overflow = 32; serial = serial }))) block.new (W.taken out.old) (W.taken out.new)) }
+    ensures tail { OnOk result (IsTail tail.now) }
+    ensures err { OnErr result (TakesFront (block.old ++ line (written_segment (record { name = name.now; service = slice_index columns.now 0; tail = tail.now; overflow = 32; serial = serial }))) (W.taken out.old) (W.taken out.new)) }
+    ensures failures { CountsFault (W.failures out.old) (W.failures out.new) result }
+    ensures device { W.device out.new ≡ W.device out.old }
+{
+    make_room(out, block)?;
+    block.push_segment(name, columns, tail, serial);
     Ok(())
 }
 

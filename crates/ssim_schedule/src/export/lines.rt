@@ -10,12 +10,13 @@ ghost use Rattle.ssim_schedule.specs.Plan.{HasWritableLegs, HasWritablePieces, f
 ghost use Rattle.ssim_schedule.specs.ReadBack.{IsWritable};
 ghost use Rattle.ssim_schedule.specs.Sinks.{CountsFault, TakesFront, TakesUpTo};
 
-use crate::export::block::{Block, WriteFault, flush, put_fill, put_line};
+use crate::export::block::{Block, WriteFault, flush, put_fill, put_leg, put_line, put_segment};
 use crate::export::plan::FlightPieces;
 use crate::itinerary::Itinerary;
 use crate::leg::PlacedLeg;
 use ssim_records::{
-    Carrier, Header, LegName, LegRecord, Record, SegmentTail, Sink, Trailer, write_record,
+    Carrier, Header, LegColumns, LegName, NameText, PeriodText, Record, SegmentTail, Sink, Trailer,
+    write_record,
 };
 use ssim_values::{Airline, Flight, Period};
 
@@ -173,38 +174,37 @@ fn put_legs<W: Sink>(
     ensures failures { CountsFault (W.failures out.old) (W.failures out.new) result }
     ensures device { W.device out.new ≡ W.device out.old }
 {
+    let dates = PeriodText::new(period);
     let mut next = serial;
     for leg in legs {
-        let name = LegName::new(airline, flight, variation, leg.sequence());
-        let leg_record = LegRecord::new(name, period, leg.columns());
-        let bytes = write_record(&Record::Leg(leg_record.with_serial(next)));
-        put_line(out, block, &bytes)?;
-        next = put_tails(out, block, &leg_record, leg.tails(), next + 1)?;
+        let name = NameText::new(LegName::new(airline, flight, variation, leg.sequence()));
+        let columns = leg.columns_held();
+        put_leg(out, block, &name, &dates, columns, next)?;
+        next = put_tails(out, block, &name, columns, leg.tails(), next + 1)?;
     }
     Ok(next)
 }
 
-// Puts the tails of a leg. Returns the next serial.
+// Puts the tails of a leg with this name and these columns. Returns the next serial.
 fn put_tails<W: Sink>(
     out: &mut W,
     block: &mut Block,
-    leg: &LegRecord,
+    name: &NameText,
+    columns: &LegColumns,
     tails: &[SegmentTail],
     serial: u32,
 ) -> Result<u32, WriteFault>
-    requires columns { length leg.now.columns ≡ 158 }
-    requires room { serial + length tails.now ≤ 1000000 }
+    requires { serial + length tails.now ≤ 1000000 }
     ensures next { IfOk result (λ next. next ≡ serial + length tails.now) }
-    ensures ok { OnOk result (TakesUpTo (block.old ++ numbered_lines serial (map (tail_record leg.now.name (slice_index leg.now.columns 0)) tails.now)) block.new (W.taken out.old) (W.taken out.new)) }
+    ensures ok { OnOk result (TakesUpTo (block.old ++ numbered_lines serial (map (tail_record name.now (slice_index columns.now 0)) tails.now)) block.new (W.taken out.old) (W.taken out.new)) }
     ensures writable { OnOk result (All IsTail tails.now) }
-    ensures err { OnErr result (TakesFront (block.old ++ numbered_lines serial (map (tail_record leg.now.name (slice_index leg.now.columns 0)) tails.now)) (W.taken out.old) (W.taken out.new)) }
+    ensures err { OnErr result (TakesFront (block.old ++ numbered_lines serial (map (tail_record name.now (slice_index columns.now 0)) tails.now)) (W.taken out.old) (W.taken out.new)) }
     ensures failures { CountsFault (W.failures out.old) (W.failures out.new) result }
     ensures device { W.device out.new ≡ W.device out.old }
 {
     let mut next = serial;
     for tail in tails {
-        let segment = leg.segment(*tail).with_serial(next);
-        put_line(out, block, &write_record(&Record::Segment(segment)))?;
+        put_segment(out, block, name, columns, tail, next)?;
         next += 1;
     }
     Ok(next)

@@ -11,7 +11,7 @@ use Rattle.ssim_schedule.proofs.export.lines.put_tails.Given as goal
 abbrev pub invariant-loop-tail : goal.invariant-loop-tail
 invariant-loop-tail g l = record {
   next : l.next ≡ l.serial + l.tail-index;
-  bytes : TakesUpTo (l.fn.block ++ numbered_lines l.serial (map (tail_record l.leg.name (slice_index l.leg.columns 0)) l.tails)) (l.block ++ numbered_lines l.next (map (tail_record l.leg.name (slice_index l.leg.columns 0)) (drop l.tail-index l.tails))) (g.W.Sink.taken l.fn.out) (g.W.Sink.taken l.out);
+  bytes : TakesUpTo (l.fn.block ++ numbered_lines l.serial (map (tail_record l.name (slice_index l.columns 0)) l.tails)) (l.block ++ numbered_lines l.next (map (tail_record l.name (slice_index l.columns 0)) (drop l.tail-index l.tails))) (g.W.Sink.taken l.fn.out) (g.W.Sink.taken l.out);
   writable : All IsTail (take l.tail-index l.tails);
   failures : g.W.Sink.failures l.out ≡ g.W.Sink.failures l.fn.out;
   device : g.W.Sink.device l.out ≡ g.W.Sink.device l.fn.out;
