@@ -10,11 +10,11 @@ ghost use Rattle.ssim_program.specs.Printed.{counts_text, finding_text, sub_text
 ghost use Rattle.ssim_program.specs.Reasons.{Refuses};
 ghost use Rattle.ssim_program.specs.Shown.{findings_lines};
 
-use crate::desk_file::open;
+use crate::desk_file::open_holdings;
 use crate::printer::{Printer, print_all};
 use crate::refusal::Refusal;
 use crate::store::Store;
-use ssim_desk::{Desk, FindingLine};
+use ssim_desk::{FindingLine, Holdings};
 use ssim_schedule::Finding;
 use ssim_values::Memory;
 use std::alloc::Global;
@@ -34,7 +34,7 @@ pub(crate) fn findings<S: Store, O: Printer>(
     ensures device { O.device out.new ≡ O.device out.old }
     ensures flushed { OnOk result (O.flushed out.new ≡ true) }
 {
-    let desk = open(alloc, file, store)?;
+    let desk = open_holdings(alloc, file, store)?;
     let lines = lines_of(alloc, &desk)?;
     match print_all(out, &lines) {
         Ok(()) => Ok(()),
@@ -43,7 +43,7 @@ pub(crate) fn findings<S: Store, O: Printer>(
 }
 
 /// A line for each sub-message that the desk holds, in order.
-fn lines_of(alloc: Global, desk: &Desk) -> Result<Vec<u8>, Memory>
+fn lines_of(alloc: Global, desk: &Holdings) -> Result<Vec<u8>, Memory>
     ensures { IfOk result (λ lines. lines.items ≡ findings_lines (finding_lines desk.now)) }
 {
     let findings = desk.findings()?;

@@ -12,11 +12,11 @@ ghost use Rattle.ssim_program.specs.Line.{Show};
 ghost use Rattle.ssim_program.specs.Reasons.{Refuses};
 ghost use Rattle.ssim_program.specs.Shown.{columns_text, dotted, leg_line, shown, shown_flight};
 
-use crate::desk_file::open;
+use crate::desk_file::open_holdings;
 use crate::printer::{Printer, print_all};
 use crate::refusal::Refusal;
 use crate::store::Store;
-use ssim_desk::{Desk, DeskFault};
+use ssim_desk::{DeskFault, Holdings};
 use ssim_schedule::{PlacedLeg, ResolveFault};
 use ssim_values::{Day, Designator, Fault, Memory};
 use std::alloc::Global;
@@ -37,7 +37,7 @@ pub(crate) fn show_flight<S: Store, O: Printer>(
     ensures device { O.device out.new ≡ O.device out.old }
     ensures flushed { OnOk result (O.flushed out.new ≡ true) }
 {
-    let desk = open(alloc, file, store)?;
+    let desk = open_holdings(alloc, file, store)?;
     let lines = shown(alloc, &desk, flight, date)?;
     match print_all(out, &lines) {
         Ok(()) => Ok(()),
@@ -46,7 +46,7 @@ pub(crate) fn show_flight<S: Store, O: Printer>(
 }
 
 /// The lines of the flight that the words name.
-fn shown(alloc: Global, desk: &Desk, flight: &str, date: &str) -> Result<Vec<u8>, Refusal>
+fn shown(alloc: Global, desk: &Holdings, flight: &str, date: &str) -> Result<Vec<u8>, Refusal>
     ensures ok { IfOk result (λ lines. Shows desk.now flight.now date.now lines.items) }
     ensures err { IfErr result (RefusesFlight desk.now flight.now date.now) }
 {
@@ -55,8 +55,8 @@ fn shown(alloc: Global, desk: &Desk, flight: &str, date: &str) -> Result<Vec<u8>
     if designator.airline != desk.base().airline() {
         return Err(Refusal::from(DeskFault::Resolve(ResolveFault::Airline(0))));
     }
-    let legs = desk.itinerary(&designator.flight, day);
-    let lines = lines_of(alloc, designator, day, legs)?;
+    let legs = desk.itinerary(&designator.flight, day)?;
+    let lines = lines_of(alloc, designator, day, &legs)?;
     Ok(lines)
 }
 

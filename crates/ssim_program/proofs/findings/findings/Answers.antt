@@ -9,5 +9,5 @@ returns-clause-refused g c = inr (
   (c.in_ok-desk.desk, c.in_ok-desk.ensures.read, c.deref.ensures.value ∙ c.in_ok-lines.ensures, refl),
   c.in-Err.ensures.err,
   c.in-Err.ensures.failures,
-  c.open.ensures.same,
+  c.open_holdings.ensures.same,
 )

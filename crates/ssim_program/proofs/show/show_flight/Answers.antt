@@ -19,5 +19,5 @@ returns-clause-refused g c = inr (
   (c.in_ok-desk.desk, c.in_ok-desk.ensures.read, subst (Shows c.in_ok-desk.desk c.args.flight.now c.args.date.now) (sym c.deref.ensures.value) c.in_ok-lines.ensures.ok, refl),
   c.in-Err.ensures.err,
   c.in-Err.ensures.failures,
-  c.open.ensures.same,
+  c.open_holdings.ensures.same,
 )

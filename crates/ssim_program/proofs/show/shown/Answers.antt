@@ -11,5 +11,5 @@ returns-clause-ok c = record {
   day = c.in_ok-day.day;
   dated = c.in_ok-day.ensures.ok;
   airline = search rules;
-  printed_is = c.in_ok-lines.ensures ∙ ap (λ (ls : Legs). shown_flight c.in_ok-designator.designator c.in_ok-day.day ls) c.itinerary-legs.ensures.value;
+  printed_is = c.in_ok-lines.ensures ∙ ap (λ (ls : Legs). shown_flight c.in_ok-designator.designator c.in_ok-day.day ls) (c.deref.ensures.value ∙ c.in_ok-legs.ensures.value);
 }
