@@ -13,7 +13,7 @@ use crate::count::class_counts;
 use crate::entries::{copy_entries, meets_none, rows_of, shared_entries, value_at};
 use crate::entry_pieces::covers;
 use crate::range_rows::RangeRows;
-use crate::rows::{has_cut, place_of};
+use crate::rows::{is_last, place_of};
 use crate::{Change, Value};
 use ssim_values::{Day, Memory, Period};
 use std::alloc::Global;
@@ -210,10 +210,10 @@ fn add_day(cuts: &mut Vec<u32>, day: u32)
     ensures cuts { cuts.new.items ≡ with_cut cuts.old.items day }
     ensures capacity { vec_capacity cuts.old ≤ vec_capacity cuts.new }
 {
-    if has_cut(cuts, day) {
+    let place = place_of(cuts, day);
+    if is_last(cuts, place, day) {
         return;
     }
-    let place = place_of(cuts, day);
     if let Err(_) = cuts.insert(place, day) {
         unreachable!();
     }

@@ -26,11 +26,20 @@ pub(crate) fn has_cut(cuts: &[u32], day: u32) -> bool
     requires { IsStrictlyIncreasing cuts.now }
     ensures { result ≡ has_cut cuts.now day }
 {
-    let place = place_of(cuts, day);
-    if place == 0 {
+    is_last(cuts, place_of(cuts, day), day)
+}
+
+// Whether a day is a cut, given the number of cuts that are not after it.
+pub(crate) fn is_last(cuts: &[u32], count: usize, day: u32) -> bool
+    requires rising { IsStrictlyIncreasing cuts.now }
+    requires place { count ≡ place cuts.now day }
+    requires within { count ≤ length cuts.now }
+    ensures { result ≡ has_cut cuts.now day }
+{
+    if count == 0 {
         false
     } else {
-        cuts[place - 1] == day
+        cuts[count - 1] == day
     }
 }
 
