@@ -98,6 +98,14 @@ impl SegmentTail {
         self.bytes
     }
 
+    /// The same bytes, in their place.
+    pub(crate) fn bytes_held(&self) -> &[u8; 179]
+        ensures value { result.now ≡ self.now }
+        ensures is_tail { IsTail result.now }
+    {
+        &self.bytes
+    }
+
     /// Whether the two are equal.
     pub fn same(&self, other: &SegmentTail) -> bool
         ensures { result ≡ bytes_eq self.now other.now }

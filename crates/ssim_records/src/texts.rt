@@ -131,7 +131,7 @@ impl NameText {
         ensures tail { IsTail tail.now }
     {
         let service = columns.bytes()[0];
-        let own = tail.bytes();
+        let own = tail.bytes_held();
         join(
             out,
             &[

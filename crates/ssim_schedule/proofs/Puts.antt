@@ -6,14 +6,13 @@ use Rattle.std.proofs.lemmas.List.{drop_more}
 use Rattle.ssim_values.specs.Flight.{FlightNumber}
 use Rattle.ssim_values.specs.Period.{DayRange}
 use Rattle.ssim_records.specs.Frames.{fill}
-use Rattle.ssim_records.specs.Leg.{LegFields, Name, leg_columns}
+use Rattle.ssim_records.specs.Leg.{LegFields, Name}
 use Rattle.ssim_records.specs.Record.{written}
-use Rattle.ssim_records.specs.Segment.{SegmentFields}
 use Rattle.ssim_records.specs.Header.{HeaderFields}
 use Rattle.ssim_records.specs.Carrier.{CarrierFields}
 use Rattle.ssim_records.specs.Trailer.{TrailerFields}
 use Rattle.ssim_records.specs.declared.record.Record.{Record}
-use Rattle.ssim_records.specs.declared.record.Record.TheVariants.{Header, Carrier, Leg, Segment, Trailer}
+use Rattle.ssim_records.specs.declared.record.Record.TheVariants.{Header, Carrier, Leg, Trailer}
 use Rattle.ssim_schedule.specs.Timetable.{LegValue, Legs}
 use Rattle.ssim_schedule.specs.Export.{Piece, fill_count, leg_records, line, numbered, pieces_records, section_bytes, tail_record, with_serial}
 use Rattle.ssim_schedule.specs.Plan.{Planned, frame_from, legs_count, numbered_lines, pieces_count, plan_bytes, plan_count, plan_records}
@@ -71,22 +70,6 @@ line-split n one rest whole bytes split is =
     ap (λ (rs : List Record). numbered_lines n rs) split ∙ ap (λ (bs : List ℕ). line bs ++ numbered_lines (n + 1) rest) (sym is)
 
 -- ---- tails
-
-abbrev segment_from : Name → ℕ → List ℕ → ℕ → ℕ → SegmentFields
-segment_from name service tail overflow serial = record { name = name; service = service; tail = tail; overflow = overflow; serial = serial }
-
-service-is : (d : List ℕ) (s : ℕ) → length d ≡ 158 → leg_columns 14 14 d ≡ s ∷ [] → s ≡ slice_index d 0
-service-is [] s len h = absurd (omega arith)
-service-is (x ∷ d) s len h = let same : x ∷ [] ≡ s ∷ [] = h in cc
-
--- a segment record that a leg record makes of a tail
-pub segment-is : (s : SegmentFields) (name : Name) (columns tail : List ℕ) (n : ℕ) → length columns ≡ 158 → s.name ≡ name → leg_columns 14 14 columns ≡ s.service ∷ [] → s.tail ≡ tail → s.overflow ≡ 32
-    → Segment (record s { serial = n }) ≡ with_serial n (tail_record name (slice_index columns 0) tail)
-segment-is s name columns tail n len is-name is-service is-tail is-overflow =
-    ap (λ x. Segment (segment_from x s.service s.tail s.overflow n)) is-name
-    ∙ ap (λ x. Segment (segment_from name x s.tail s.overflow n)) (service-is columns s.service len is-service)
-    ∙ ap (λ x. Segment (segment_from name (slice_index columns 0) x s.overflow n)) is-tail
-    ∙ ap (λ x. Segment (segment_from name (slice_index columns 0) tail x n)) is-overflow
 
 pub tails-split : (name : Name) (service n : ℕ) (tail : List ℕ) (rest whole : List (List ℕ)) (bytes : List ℕ) → whole ≡ tail ∷ rest → bytes ≡ written (with_serial n (tail_record name service tail))
     → numbered_lines n (map (tail_record name service) whole) ≡ line bytes ++ numbered_lines (n + 1) (map (tail_record name service) rest)
