@@ -184,7 +184,7 @@ impl Building {
     fn put_segment(&mut self, segment: &SegmentRecord) -> Result<(), Memory>
         ensures { OnOk result (TakesSegment self.old self.new segment.now) }
     {
-        self.waiting.add(segment.name(), segment.tail())
+        self.waiting.add(segment)
     }
 
     fn put_leg(&mut self, leg: &LegRecord) -> Result<(), Memory>

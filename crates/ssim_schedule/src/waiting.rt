@@ -6,7 +6,7 @@ ghost use Rattle.std.specs.Ordering.{nat_cmp};
 ghost use Rattle.ssim_schedule.specs.Building.{IsPlaced, name_place};
 
 use crate::leg_key::LegKey;
-use ssim_records::{LegName, SegmentTail};
+use ssim_records::{LegName, SegmentRecord, SegmentTail};
 use ssim_values::Memory;
 use std::alloc::Global;
 use std::collections::BTreeMap;
@@ -41,13 +41,15 @@ impl Waiting {
         }
     }
 
-    /// One more tail, which stands before those of its leg that wait.
-    pub(crate) fn add(&mut self, name: LegName, tail: SegmentTail) -> Result<(), Memory>
-        ensures ok { OnOk result ((place : ℕ) → waiting_at self.new place ≡ (if nat_eq place (name_place name) then tail ∷ waiting_at self.old place else waiting_at self.old place)) }
-        ensures named { IsPlaced name }
+    /// The tail of one more segment record, which stands before those of its leg that wait.
+    pub(crate) fn add(&mut self, segment: &SegmentRecord) -> Result<(), Memory>
+        ensures ok { OnOk result ((place : ℕ) → waiting_at self.new place ≡ (if nat_eq place (name_place segment.now.name) then segment.now.tail ∷ waiting_at self.old place else waiting_at self.old place)) }
+        ensures named { IsPlaced segment.now.name }
     {
-        self.turn_to(LegKey::of(name))?;
-        self.tails.push(tail)?;
+        self.turn_to(LegKey::of(segment.name()))?;
+        // With the room made first, the tail is copied once.
+        self.tails.reserve(1)?;
+        self.tails.push_reserved(segment.tail());
         Ok(())
     }
 
