@@ -118,8 +118,8 @@ fn taken_from(alloc: Global, room: &mut Vec<PlacedLeg>) -> Result<Vec<PlacedLeg>
     ensures rest { OnOk result (room.new.items ≡ []) }
 {
     let mut legs = Vec::with_capacity(alloc, room.len())?;
-    while let Some(leg) = room.pop() {
-        legs.push(leg)?;
+    while !room.is_empty() {
+        legs.push_reserved(room.take_last());
     }
     Ok(legs)
 }

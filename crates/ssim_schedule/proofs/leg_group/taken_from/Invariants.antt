@@ -1,8 +1,13 @@
-use Rattle.std.proofs.Common.{◌≡◌, ◌++◌, reverse, length}
+-- The legs that were taken, and those that are left the other way round, are all of them; and there is room for those that are left.
+use Rattle.std.proofs.Common.{◌≡◌, ◌≤◌, ◌+◌, ◌++◌, reverse, length}
+use Rattle.std.specs.Prelude.{vec_capacity}
 use Rattle.ssim_schedule.proofs.leg_group.taken_from.Given as goal
 
-abbrev pub invariant-loop-leg : goal.invariant-loop-leg
-invariant-loop-leg l = l.legs.items ++ reverse l.room.items ≡ reverse l.initial.room.items
+abbrev pub invariant-loop-legs : goal.invariant-loop-legs
+invariant-loop-legs l = record {
+  legs : l.legs.items ++ reverse l.room.items ≡ reverse l.initial.room.items;
+  room : length l.legs.items + length l.room.items ≤ vec_capacity l.legs;
+}
 
-abbrev pub decreases-loop-leg : goal.decreases-loop-leg
-decreases-loop-leg l = length l.room.items
+abbrev pub decreases-loop-legs : goal.decreases-loop-legs
+decreases-loop-legs l = length l.room.items
