@@ -10,7 +10,7 @@ use Rattle.ssim_records.specs.Blocks.{SameAhead}
 use Rattle.ssim_records.proofs.Slices.{length_slice}
 use Rattle.ssim_records.proofs.LineEnds.{is_end}
 
-take_through : (F Y : List ℕ) (a n : ℕ) → length F ≡ a → take (a + n) (F ++ Y) ≡ F ++ take n Y
+pub take_through : (F Y : List ℕ) (a n : ℕ) → length F ≡ a → take (a + n) (F ++ Y) ≡ F ++ take n Y
 take_through [] Y a n h = let z : a + n ≡ n = omega (arith, h) in rw z refl
 take_through (x ∷ F) Y a n h =
     let e : a + n ≡ suc (length F + n) = omega (arith, h) in

@@ -1,6 +1,6 @@
 //! The bytes of a file, in parts that are freed one after another.
 
-ghost use Rattle.std.specs.Prelude.{◌≡◌, ◌++◌, [], Ok, IfErr, OnErr, OnOk, Some};
+ghost use Rattle.std.specs.Prelude.{◌≡◌, ◌↔◌, ◌++◌, ◌≤◌, [], IfErr, IsFalse, IsTrue, OnErr, OnOk, Ok, Some, length};
 ghost use Rattle.std.specs.Io.{ReadsAtMost};
 ghost use Rattle.std.specs.Io.KnownBytes.{ReadConsumes};
 ghost use Rattle.ssim_records.specs.Device.{CountsFailure};
@@ -19,17 +19,19 @@ pub struct Parts {
     front: Vec<u8>,
     used: usize,
     later: VecDeque<Vec<u8>>,
+    /// How many bytes are left.
+    len: usize,
 }
 
 impl Model for Parts {
-    ghost use Rattle.std.specs.Prelude.{List, ℕ, ◌++◌, ◌≤◌, drop, length};
+    ghost use Rattle.std.specs.Prelude.{List, ℕ, ◌≡◌, ◌++◌, ◌≤◌, drop, length};
     ghost use Rattle.std.specs.List.{flat_map};
 
     ghost Value = { List ℕ };
 
     ghost view = { λ p. drop p.used p.front.items ++ flat_map (λ part. part.items) p.later.items };
 
-    ghost invariant = { λ p. p.used ≤ length p.front.items };
+    ghost invariant = { λ p. (p.used ≤ length p.front.items) × (p.len ≡ length (drop p.used p.front.items ++ flat_map (λ part. part.items) p.later.items)) };
 }
 
 impl Parts {
@@ -41,7 +43,15 @@ impl Parts {
             front: Vec::new(alloc),
             used: 0,
             later: VecDeque::new(alloc),
+            len: 0,
         }
+    }
+
+    /// How many bytes are left.
+    pub fn len(&self) -> usize
+        ensures { result ≡ length self.now }
+    {
+        self.len
     }
 
     /// Adds a part after the others. If memory is out, the part is freed.
@@ -49,10 +59,36 @@ impl Parts {
         ensures ok { OnOk result (self.new ≡ self.old ++ part.items) }
         ensures err { OnErr result (self.new ≡ self.old) }
     {
+        let Some(len) = self.len.checked_add(part.len()) else {
+            return Err(Memory);
+        };
         match self.later.push_back(part) {
-            Ok(()) => Ok(()),
+            Ok(()) => {
+                self.len = len;
+                Ok(())
+            }
             Err(_) => Err(Memory),
         }
+    }
+
+    /// Takes the next bytes, as many as there is place for. If fewer are left, they stay.
+    pub fn fill(&mut self, into: &mut [u8]) -> bool
+        ensures full { IsTrue result → self.old ≡ into.new ++ self.new }
+        ensures short { IsTrue result ↔ length into.old ≤ length self.old }
+        ensures kept { IsFalse result → self.new ≡ self.old }
+        ensures len { length into.new ≡ length into.old }
+    {
+        if self.len < into.len() {
+            return false;
+        }
+        let mut done = 0;
+        while done < into.len() {
+            let Ok(n) = self.fetch(&mut into[done..]) else {
+                return false;
+            };
+            done += n;
+        }
+        true
     }
 }
 
@@ -80,6 +116,7 @@ impl Source for Parts {
         let n = front.len().min(into.len());
         into[..n].copy_from_slice(&front[..n]);
         self.used += n;
+        self.len -= n;
         Ok(n)
     }
 }

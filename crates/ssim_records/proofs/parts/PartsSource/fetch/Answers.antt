@@ -1,5 +1,5 @@
 -- The bytes that are copied are the first of the front, which has some unless nothing is left.
-use Rattle.std.proofs.Common.{◌≡◌, ◌<◌, ℕ, ◌+◌, ◌-◌, List, ◌++◌, min, length, take, drop, sym, ap, ◌∙◌, append_assoc, length-append, length-drop, arith}
+use Rattle.std.proofs.Common.{◌≡◌, ◌<◌, ◌≤◌, ℕ, ◌+◌, ◌-◌, List, ◌++◌, min, length, take, drop, sym, ap, ◌∙◌, append_assoc, length-append, length-drop, arith}
 use Rattle.std.proofs.Math.Seq.{take-length}
 use Rattle.std.proofs.lemmas.List.{drop-drop, length-take, length-take-le, take_at, take-append-drop}
 use Rattle.ssim_records.proofs.parts.PartsSource.fetch.Goals as goal
@@ -29,6 +29,20 @@ gives_some u n xs into copied inside n-is all none some =
     let k = length-drop u xs in
     absurd (omega (arith, few, l, t, m, k, all, none, some, inside))
 
+few_front : (u n : ℕ) (xs into : List ℕ) → u ≤ length xs → n ≡ min (length (take (length xs - u) (drop u xs))) (length into) → u + n ≤ length xs
+few_front u n xs into inside n-is =
+    let few : n ≡ min (length (drop u xs)) (length into) = n-is ∙ ap (λ (ys : List ℕ). min (length ys) (length into)) (rest_of u xs) in
+    let k = length-drop u xs in
+    omega (arith, few, k, inside)
+
+left_after : (u n len : ℕ) (xs later : List ℕ) → len ≡ length (drop u xs ++ later) → u + n ≤ length xs → (n ≤ len) × (len - n ≡ length (drop (u + n) xs ++ later))
+left_after u n len xs later is inside =
+    let a = length-append (drop u xs) later in
+    let b = length-append (drop (u + n) xs) later in
+    let k = length-drop u xs in
+    let m = length-drop (u + n) xs in
+    (omega (arith, is, a, k, inside), omega (arith, is, a, b, k, m, inside))
+
 pub returns-clause-bytes : goal.returns-clause-bytes
 returns-clause-bytes c =
     let i = c.loop-self.self-inside in
@@ -37,3 +51,21 @@ returns-clause-bytes c =
       rw (← c.deref.ensures.value) (gives_front i.used c.min-n.result c.deref.result.now c.args.into.now c.copy_from_slice.new.self _ c.args.self.now c.min-n.ensures c.copy_from_slice.ensures.after (rw c.deref.ensures.value (sym c.self.view_is ∙ sym c.loop-self.invariant.0))),
       λ none some. absurd (gives_some i.used c.min-n.result c.deref.result.now c.args.into.now c.copy_from_slice.new.self inside c.min-n.ensures c.copy_from_slice.ensures.len none some),
     )
+
+pub invariant_of-self : goal.invariant_of-self
+invariant_of-self c = rw (← c.in_default.ensures.items) (c.loop-self.invariant.1, c.loop-self.invariant.2 ∙ c.self.invariant.1 ∙ ap length (sym c.loop-self.invariant.0))
+
+pub overflow_sub-self : goal.overflow_sub-self
+overflow_sub-self c =
+    let i = c.loop-self.self-inside in
+    let n-is : c.min-n.result ≡ min (length (take (length i.front.items - i.used) (drop i.used i.front.items))) (length c.args.into.now) = rw c.deref.ensures.value at c.min-n.ensures in
+    let is = c.loop-self.invariant.2 ∙ c.self.invariant.1 ∙ ap length (sym c.loop-self.invariant.0) in
+    (left_after i.used c.min-n.result i.len i.front.items _ is (few_front i.used c.min-n.result i.front.items c.args.into.now c.loop-self.invariant.1 n-is)).0
+
+pub invariant_of-self-2 : goal.invariant_of-self-2
+invariant_of-self-2 c =
+    let i = c.loop-self.self-inside in
+    let n-is : c.min-n.result ≡ min (length (take (length i.front.items - i.used) (drop i.used i.front.items))) (length c.args.into.now) = rw c.deref.ensures.value at c.min-n.ensures in
+    let is = c.loop-self.invariant.2 ∙ c.self.invariant.1 ∙ ap length (sym c.loop-self.invariant.0) in
+    let few = few_front i.used c.min-n.result i.front.items c.args.into.now c.loop-self.invariant.1 n-is in
+    (few, (left_after i.used c.min-n.result i.len i.front.items _ is few).1)

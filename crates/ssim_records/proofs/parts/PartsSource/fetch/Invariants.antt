@@ -8,6 +8,7 @@ invariant-loop-self l =
     (drop l.self-inside.used l.self-inside.front.items ++ flat_map (λ part. part.items) l.self-inside.later.items
     ≡ drop l.initial.self-inside.used l.initial.self-inside.front.items ++ flat_map (λ part. part.items) l.initial.self-inside.later.items)
     × (l.self-inside.used ≤ length l.self-inside.front.items)
+    × (l.self-inside.len ≡ l.initial.self-inside.len)
 
 abbrev pub decreases-loop-self : goal.decreases-loop-self
 decreases-loop-self l = length l.self-inside.later.items
