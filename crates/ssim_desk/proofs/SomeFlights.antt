@@ -1,7 +1,7 @@
 -- What a message does to a flight, and what it finds, is read from that flight alone. So timetables that agree at flights agree there after
 -- the same messages.
 use Rattle.std.proofs.Common.{◌≡◌, ℕ, ◌+◌, ◌<◌, Bool, true, false, ◌&&◌, ◌||◌, if◌then◌else◌, List, [], ◌∷◌, ◌++◌, map, length, take, get_or, refl, sym, ap, subst, ◌∙◌, append_assoc}
-use Rattle.std.proofs.lemmas.List.{append-nil, take_more}
+use Rattle.std.proofs.lemmas.List.{take_more}
 use Rattle.std.proofs.lemmas.List.Folds.{list_any-append}
 use Rattle.std.specs.List.{list_any}
 use Rattle.ssim_periods.specs.Calendar.{holds}
@@ -19,7 +19,7 @@ use Rattle.ssim_text.specs.declared.action.Sub.{Sub}
 use Rattle.ssim_values.specs.Flight.{FlightNumber}
 use Rattle.ssim_held.specs.Kept.{Entry}
 use Rattle.ssim_desk.specs.Desk.{is_sub_of}
-use Rattle.ssim_desk.specs.Meaning.{Timetable, after_entries, after_entry, after_one, after_subs, entries_findings, found_by, left_by, subs_findings}
+use Rattle.ssim_desk.specs.Meaning.{Timetable, after_entries, after_entry, after_one, after_subs, entries_findings, found_by, subs_findings}
 use Rattle.ssim_desk.specs.Private.{flights_of}
 use Rattle.ssim_desk.proofs.Trails.{after_entries-++, findings-++}
 

@@ -15,8 +15,8 @@ use crate::desk::Took;
 use crate::finding_line::{FindingLine, push_lines};
 use crate::flights::{found_by, legs_after};
 use crate::offer::{Offer, offer_of};
-use ssim_held::{DeskFault, Held, first_conflict, merged, put_desk, read_bytes};
-use ssim_records::Sink;
+use ssim_held::{DeskFault, Held, first_conflict, merged, put_desk, read_bytes, read_parts};
+use ssim_records::{Parts, Sink};
 use ssim_schedule::{Base, PlacedLeg, WriteFault};
 use ssim_values::{Day, Flight, Memory};
 use std::alloc::Global;
@@ -65,6 +65,16 @@ impl Holdings {
         ensures err { IfErr result (RefusesBytes bytes.now) }
     {
         let (base, held) = read_bytes(alloc, bytes)?;
+        Ok(Holdings { base, held, alloc })
+    }
+
+    /// The same of bytes in parts, which are freed as they are read.
+    pub fn open_parts(alloc: Global, parts: Parts) -> Result<Holdings, DeskFault>
+        ensures ok { IfOk result (λ holdings. IsDeskFile parts holdings.base holdings.held) }
+        ensures applied { IfOk result (λ holdings. holdings.applied ≡ 0) }
+        ensures err { IfErr result (RefusesBytes parts) }
+    {
+        let (base, held) = read_parts(alloc, parts)?;
         Ok(Holdings { base, held, alloc })
     }
 

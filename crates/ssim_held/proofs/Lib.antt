@@ -1,4 +1,5 @@
 pub mod MapLemmas
+pub mod NextLines
 pub mod References
 pub mod Resolving
 pub mod Entries

@@ -2,9 +2,13 @@
 use Rattle.std.proofs.Common.{◌≡◌, ℕ, ◌+◌, ◌<◌, ◌≤◌, true, List, [], ◌∷◌, ◌++◌, length, take, drop, get_or, append_assoc, length-append, refl, sym, ap, subst, ◌∙◌, arith, nat_eq, ◌*◌}
 use Rattle.std.specs.List.{AllByRecursion as Each, flat_map}
 use Rattle.std.specs.Prelude.{IfSome, IsSomeAnd, Option, Some, None}
+use Rattle.std.proofs.lemmas.Bool.Decides.{nat_tests}
 use Rattle.std.proofs.lemmas.List.{append_cancel_left, drop_all, drop_more, take_all, take_more}
-use Rattle.ssim_schedule.proofs.SavedLines.{no_bytes}
 use Rattle.ssim_held.specs.File.{counted}
+
+no_bytes : (rest : List ℕ) → nat_eq (length rest) 0 ≡ true → rest ≡ []
+no_bytes [] h = refl
+no_bytes (b ∷ rest) h = let none : length (b ∷ rest) ≡ 0 = grind (arith, nat_tests) in absurd (omega (arith, none))
 
 -- the bytes are all elements exactly if the rest is those from a position on
 pub record Meets {X : Type 0} (f : X → List ℕ) (xs : List X) (bytes : List ℕ) (i : ℕ) (rest : List ℕ) : Type 0 where

@@ -4,7 +4,8 @@ use Rattle.std.specs.List.{All, AllByRecursion as Each, flat_map}
 use Rattle.std.proofs.lemmas.List.Elements.{All-from_recursion, recursion_from_All}
 use Rattle.ssim_records.specs.declared.record.Record.{Record}
 use Rattle.ssim_schedule.specs.BaseSeen.{BaseSeen}
-use Rattle.ssim_schedule.specs.SavedBase.{SavedIsOne, saved}
+use Rattle.ssim_schedule.specs.SavedBase.{IsBaseRecords, SavedIsOne, saved}
+use Rattle.ssim_schedule.specs.Stations.{Row}
 use Rattle.ssim_text.specs.Spelling.{EqualWhereWrittenEqual}
 use Rattle.ssim_held.specs.File.{CanBeSaved, IsDeskFile, IsFileOf, IsRow, IsSpelled, after_first_line, counted, end_line, records_part, row_line, rows_part, text_element, texts_part}
 use Rattle.ssim_held.specs.Kept.{Entry, IsEntry}
@@ -106,6 +107,23 @@ small_base one two base is e short =
     let two_size = rows_size base.rows is.1 in
     (omega (arith, whole, first, records, one_size, short), omega (arith, whole, first, second, rows, two_size, short))
 
+pub small_records : (one two : List ℕ) (records : List Record) → IsBaseRecords records → one ≡ records_part records ++ two → length one < 2 ^ 64 → length records < 2 ^ 64
+small_records one two records is e short =
+    let whole = ap length e in
+    let first = length-append (records_part records) two in
+    let part = length-append (counted (codes "RECORDS") (length records)) (saved records) in
+    let size = records_size records is in
+    omega (arith, whole, first, part, size, short)
+
+-- the records, and then the rows, are a base
+pub both_read : (one two after later : List ℕ) (base other : BaseSeen) (rows : List Row) → other.records ≡ base.records → other.rows ≡ rows → IsBaseRecords base.records → All IsRow rows
+    → one ≡ records_part base.records ++ two → after ≡ two → after ≡ rows_part rows ++ later → IsBase other × (one ≡ records_part other.records ++ (rows_part other.rows ++ later))
+both_read one two after later base other rows a b is all e f g = (
+  (subst IsBaseRecords (sym a) is, subst (All IsRow) (sym b) all),
+  e ∙ ap (λ (rs : List Record). records_part rs ++ two) (sym a)
+      ∙ ap (λ (xs : List ℕ). records_part other.records ++ xs) (sym f ∙ g ∙ ap (λ (rs : List Row). rows_part rs ++ later) (sym b)),
+)
+
 pub small_texts : (two three : List ℕ) (es : List Entry) → two ≡ texts_part es ++ three → length two < 2 ^ 64 → length es < 2 ^ 64
 small_texts two three es e short =
     let whole = ap length e in
@@ -130,6 +148,16 @@ module _ (once : SavedIsOne) (equal : EqualWhereWrittenEqual) (bytes one : List 
   before_base base es file =
       let f = file_in bytes base es small_file file in
       (f.records, f.rows, (version_is bytes one version base es f first).1)
+
+  -- after its records its rows
+  pub after_records : (two : List ℕ) (records : List Record) → IsBaseRecords records → one ≡ records_part records ++ two → (base : BaseSeen) (es : List Entry) → IsDeskFile bytes base es
+      → two ≡ rows_part base.rows ++ (texts_part es ++ end_line)
+  after_records two records are e base es file =
+      let f = file_in bytes base es small_file file in
+      let v = version_is bytes one version base es f first in
+      let short = shorter bytes (first_line version) one first small_file in
+      let few = small_records one two records are e short in
+      (records_first once equal (record { records = records; rows = [] }) base [] [] two (rows_part base.rows ++ (texts_part es ++ end_line)) are file.saved.is_base few f.records (sym e ∙ v.1)).1
 
   -- and after a base that was read, its messages
   pub after_base : (two : List ℕ) (other : BaseSeen) → IsBase other → one ≡ records_part other.records ++ (rows_part other.rows ++ two) → (base : BaseSeen) (es : List Entry) → IsDeskFile bytes base es → IsAfterBase version other.records two es

@@ -43,13 +43,6 @@ rows_split bytes later rows e = e ∙ append_assoc (counted (codes "STATIONS") (
 pub records_size : (records : List Record) → IsBaseRecords records → length (saved records) ≡ length records * 201
 records_size records is = length_all record_line 201 records (record_length records (recursion_from_All IsRecord records is.each_written))
 
-pub records_found : (bytes rest lines after later : List ℕ) (base : BaseSeen) (rows : List Row) (count : Option ℕ) → IfSome count (λ n. bytes ≡ counted (codes "RECORDS") n ++ rest) → IsSomeAnd count (λ n. length lines ≡ n * 201)
-    → rest ≡ lines ++ after → IsBaseRecords base.records → lines ≡ saved base.records → base.rows ≡ rows → after ≡ rows_part rows ++ later
-    → bytes ≡ records_part base.records ++ (rows_part base.rows ++ later)
-records_found bytes rest lines after later base rows count a b c is d same e =
-    part_is record_line (codes "RECORDS") bytes rest lines after base.records 201 count (λ n h. let size = records_size base.records is in omega (arith, h, size)) a b c d
-    ∙ ap (λ (xs : List ℕ). records_part base.records ++ xs) (e ∙ ap (λ (rs : List Row). rows_part rs ++ later) (sym same))
-
 pub records_split : (bytes later : List ℕ) (records : List Record) → bytes ≡ records_part records ++ later → bytes ≡ counted (codes "RECORDS") (length records) ++ (saved records ++ later)
 records_split bytes later records e = e ∙ append_assoc (counted (codes "RECORDS") (length records)) (saved records) later
 

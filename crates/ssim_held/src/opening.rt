@@ -1,6 +1,6 @@
 //! A desk file as it is read: its parts, one after another.
 
-ghost use Rattle.std.specs.Prelude.{◌≡◌, ◌≢◌, ◌<◌, ◌^◌, IfErr, IfOk, List, ℕ, length, OnErr, OnOk};
+ghost use Rattle.std.specs.Prelude.{◌≡◌, ◌≢◌, IfErr, IfOk, List, OnErr, OnOk};
 ghost use Rattle.ssim_schedule.specs.BaseSeen.{BaseSeen};
 ghost use Rattle.ssim_held.specs.File.{IsDeskFile, end_line};
 ghost use Rattle.ssim_schedule.specs.Reading.{Came};
@@ -9,7 +9,6 @@ ghost use Rattle.ssim_held.specs.Kept.{Entry};
 
 mod count_line;
 mod fault;
-mod saved_base;
 mod saved_records;
 mod saved_rows;
 mod saved_texts;
@@ -20,14 +19,15 @@ use crate::fault::DeskFault;
 use crate::held::Held;
 use count_line::after_prefix;
 use fault::PartFault;
-use saved_base::read_base;
+use saved_records::read_records;
+use saved_rows::read_rows;
 use saved_texts::read_texts;
-use ssim_records::Source;
+use ssim_records::{Parts, Source};
 use ssim_schedule::Base;
 use ssim_schedule::laws::saved_records_are_read;
 use ssim_text::laws::equal_where_written_equal;
 use std::alloc::Global;
-use version::read_version;
+use version::take_version;
 use whole_input::read_whole;
 
 /// The last line, with nothing after it.
@@ -42,38 +42,73 @@ fn read_end(bytes: &[u8]) -> Result<(), PartFault>
     }
 }
 
+/// The bytes that are left.
+fn rest_of(alloc: Global, parts: &mut Parts) -> Result<Vec<u8>, PartFault>
+    ensures ok { IfOk result (λ bytes. bytes.items ≡ parts.old) }
+    ensures err { IfErr result (λ e. e ≡ PartFault.Memory) }
+{
+    match read_whole(alloc, parts, u64::MAX) {
+        Ok(bytes) => Ok(bytes),
+        Err(_) => Err(PartFault::Memory),
+    }
+}
+
 /// The base and the messages whose desk file the bytes are.
 ///
 /// The error names the first element that is invalid, by the number of the bytes from it on.
-fn read_file(alloc: Global, bytes: &[u8]) -> Result<(Base, Vec<Held>), PartFault>
-    requires { length bytes.now < 2 ^ 64 }
-    ensures ok { IfOk result (λ desk. IsDeskFile bytes.now desk.0 desk.1.items) }
-    ensures err { IfErr result (λ e. e ≢ PartFault.Memory → (base : BaseSeen) (entries : List Entry) → IsDeskFile bytes.now base entries → ⊥) }
+fn read_file(alloc: Global, mut parts: Parts) -> Result<(Base, Vec<Held>), PartFault>
+    ensures ok { IfOk result (λ desk. IsDeskFile parts desk.0 desk.1.items) }
+    ensures err { IfErr result (λ e. e ≢ PartFault.Memory → (base : BaseSeen) (entries : List Entry) → IsDeskFile parts base entries → ⊥) }
 {
     saved_records_are_read();
     equal_where_written_equal();
-    let Some((version, rest)) = read_version(bytes) else {
-        return Err(PartFault::Invalid(bytes.len()));
+    let all = parts.len();
+    let Some(version) = take_version(&mut parts) else {
+        return Err(PartFault::Invalid(all));
     };
-    let (base, rest) = read_base(alloc, rest)?;
+    let records = read_records(alloc, &mut parts)?;
+    let after = rest_of(alloc, &mut parts)?;
+    let (stations, rest) = read_rows(alloc, &after)?;
+    let base = records.with_rows(stations);
     let (held, rest) = read_texts(alloc, &base, version, rest)?;
     read_end(rest)?;
     Ok((base, held))
 }
 
-/// The base and the messages whose desk file the bytes are. The errors are 90, and 62 with the number of the bytes before the first
-/// element that is invalid.
+/// The base and the messages whose desk file the bytes are, which are freed as they are read. The errors are 90, and 62 with the
+/// number of the bytes before the first element that is invalid.
+pub fn read_parts(alloc: Global, parts: Parts) -> Result<(Base, Vec<Held>), DeskFault>
+    ensures ok { IfOk result (λ desk. IsDeskFile parts desk.0 desk.1.items) }
+    ensures err { IfErr result (RefusesBytes parts) }
+{
+    let all = parts.len();
+    match read_file(alloc, parts) {
+        Ok(desk) => Ok(desk),
+        Err(PartFault::Memory) => Err(DeskFault::Memory),
+        Err(PartFault::Invalid(left)) => Err(DeskFault::File(all.saturating_sub(left) as u64)),
+    }
+}
+
+/// The same of bytes in one list.
+fn read_one(alloc: Global, bytes: Vec<u8>) -> Result<(Base, Vec<Held>), DeskFault>
+    ensures ok { IfOk result (λ desk. IsDeskFile bytes.items desk.0 desk.1.items) }
+    ensures err { IfErr result (RefusesBytes bytes.items) }
+{
+    let mut parts = Parts::new(alloc);
+    match parts.push(bytes) {
+        Ok(()) => read_parts(alloc, parts),
+        Err(_) => Err(DeskFault::Memory),
+    }
+}
+
+/// The same of a copy of the bytes.
 pub fn read_bytes(alloc: Global, bytes: &[u8]) -> Result<(Base, Vec<Held>), DeskFault>
     ensures ok { IfOk result (λ desk. IsDeskFile bytes.now desk.0 desk.1.items) }
     ensures err { IfErr result (RefusesBytes bytes.now) }
 {
-    match read_file(alloc, bytes) {
-        Ok(desk) => Ok(desk),
-        Err(PartFault::Memory) => Err(DeskFault::Memory),
-        Err(PartFault::Invalid(left)) => {
-            let offset = bytes.len().saturating_sub(left);
-            Err(DeskFault::File(offset as u64))
-        }
+    match Vec::from_slice(alloc, bytes) {
+        Ok(copy) => read_one(alloc, copy),
+        Err(_) => Err(DeskFault::Memory),
     }
 }
 
@@ -90,5 +125,5 @@ pub fn read_desk<R: Source>(
     ensures never_ends { IfErr result (λ e. NeverEnds limit (Came (R.left reader.old) (R.left reader.new) (R.came reader.old) (R.came reader.new)) e) }
 {
     let bytes = read_whole(alloc, reader, limit)?;
-    read_bytes(alloc, &bytes)
+    read_one(alloc, bytes)
 }

@@ -34,7 +34,11 @@ pub(crate) fn load_file<S: Store>(
 }
 
 /// Loads the file of this name in parts. Returns 91 if there is no such file within the limit.
-fn load_parts<S: Store>(alloc: Global, name: &str, store: &mut S) -> Result<Parts, Refusal>
+pub(crate) fn load_parts<S: Store>(
+    alloc: Global,
+    name: &str,
+    store: &mut S,
+) -> Result<Parts, Refusal>
     ensures bytes { IfOk result (λ parts. HasFile (S.files store.old) name.now parts) }
     ensures within { IfOk result (λ parts. length parts ≤ file_limit) }
     ensures refused { IfErr result (RefusesLoad (S.files store.old) name.now) }

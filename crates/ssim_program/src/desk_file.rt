@@ -5,7 +5,7 @@ ghost use Rattle.ssim_held.specs.File.{desk_file};
 ghost use Rattle.ssim_program.specs.Desks.{ReadsDesk, RefusesDeskFile, RefusesKeep};
 ghost use Rattle.ssim_program.specs.Files.{with_kept};
 
-use crate::data_set::load_file;
+use crate::data_set::load_parts;
 use crate::refusal::Refusal;
 use crate::store::{Store, StoreFault};
 use ssim_desk::{Desk, Holdings};
@@ -24,7 +24,7 @@ pub(crate) fn open<S: Store>(alloc: Global, name: &str, store: &mut S) -> Result
     }
 }
 
-/// What the desk in the file of this name holds. The file's bytes are freed.
+/// What the desk in the file of this name holds. The file's bytes are freed as they are read.
 pub(crate) fn open_holdings<S: Store>(
     alloc: Global,
     name: &str,
@@ -34,8 +34,8 @@ pub(crate) fn open_holdings<S: Store>(
     ensures refused { IfErr result (RefusesDeskFile (S.files store.old) name.now) }
     ensures same { S.files store.new ≡ S.files store.old }
 {
-    let bytes = load_file(alloc, name, store)?;
-    match Holdings::open(alloc, &bytes) {
+    let parts = load_parts(alloc, name, store)?;
+    match Holdings::open_parts(alloc, parts) {
         Ok(holdings) => Ok(holdings),
         Err(fault) => Err(Refusal::from(fault)),
     }

@@ -1,7 +1,6 @@
--- Lines are read as the records of a base, one after another: what is left of the lines after some records are the lines of records that
--- complete these to a base, exactly if all lines are those of a base.
-use Rattle.std.proofs.Common.{◌≡◌, ℕ, ◌<◌, List, [], ◌∷◌, ◌++◌, map, reverse, length, take, drop, Option, Result, IfErr, Some, None, Ok, Err, true, false, nat_eq, refl, sym, ap, subst, ◌∙◌, append_assoc, length-append, arith}
-use Rattle.std.proofs.lemmas.Bool.Decides.{nat_tests}
+-- Lines are read as the records of a base, one after another: what is left after some records begins with the lines of records that
+-- complete these to a base, exactly if the bytes begin with the lines of a base.
+use Rattle.std.proofs.Common.{◌≡◌, ℕ, ◌+◌, ◌<◌, List, [], ◌∷◌, ◌++◌, map, reverse, length, take, drop, Option, Result, IfErr, Some, None, Ok, Err, true, false, refl, sym, ap, subst, ◌∙◌, append_assoc, length-append, arith}
 use Rattle.std.proofs.lemmas.List.{append_cancel_left, append-nil, reverse-append, take-append-drop}
 use Rattle.std.proofs.lemmas.List.Elements.{recursion_from_All, All-from_recursion}
 use Rattle.std.proofs.Math.Seq.{drop-append_seam, take-append_seam}
@@ -92,39 +91,43 @@ one-line r x rest more is are e =
     let parts = same-front (written r) (written x) (10 ∷ rest) (10 ∷ more) lengths (sym (append_assoc (written r) (10 ∷ []) rest) ∙ e ∙ append_assoc (written x) (10 ∷ []) more) in
     (same_record r x (spells_written r is) (spells_written x are) parts.0, append_cancel_left (10 ∷ []) rest more parts.1)
 
--- no bytes are no line
-pub line-empty : (r : Record) (rest : List ℕ) → [] ≡ (written r ++ 10 ∷ []) ++ rest → ⊥
-line-empty r rest e =
-    let whole = length-append (written r ++ 10 ∷ []) rest in
-    let line = length-append (written r) (10 ∷ []) in
-    let none : length ((written r ++ 10 ∷ []) ++ rest) ≡ 0 = ap length (sym e) in
-    omega (arith, whole, line, none)
-
 -- ---- what is left of the lines
 
--- what is left after these records, the latest of which comes first, are lines that complete a base exactly if the lines are those of a base
-pub record IsLeft (lines rest : List ℕ) (earlier : List Record) : Type 0 where
-  pub whole : (later : List Record) → rest ≡ saved later → Completes earlier later → (lines ≡ saved (in_order earlier later)) × Completes [] (in_order earlier later)
-  pub only : (records : List Record) → lines ≡ saved records → Completes [] records → (later : List Record) × (rest ≡ saved later) × Completes earlier later
+-- what is left after these records, the latest of which comes first, begins with the lines of records that complete a base of so many,
+-- exactly if the bytes begin with the lines of such a base
+pub record IsLeft (bytes rest : List ℕ) (count : ℕ) (earlier : List Record) : Type 0 where
+  pub whole : (later : List Record) (tail : List ℕ) → rest ≡ saved later ++ tail → Completes earlier later → (bytes ≡ saved (in_order earlier later) ++ tail) × Completes [] (in_order earlier later)
+  pub only : (records : List Record) (tail : List ℕ) → bytes ≡ saved records ++ tail → length records ≡ count → Completes [] records
+      → (later : List Record) × (rest ≡ saved later ++ tail) × (length earlier + length later ≡ count) × Completes earlier later
 
-pub left-more : (lines rest after : List ℕ) (earlier : List Record) (r : Record) → IsLeft lines rest earlier → IsLine r rest after → refusal_at earlier r ≡ None → IsLeft lines after (r ∷ earlier)
-left-more lines rest after earlier r left line stands = record {
-  whole = λ later e c.
-      left.whole (r ∷ later) (line.written_is ∙ ap (λ bs. (written r ++ 10 ∷ []) ++ bs) e) (record {
+pub left-first : (bytes : List ℕ) (count : ℕ) → IsLeft bytes bytes count []
+left-first bytes count = record { whole = λ later tail e c. (e, c); only = λ records tail e n c. (records, e, omega (arith, n), c) }
+
+-- the lines of a record and others
+first-line : (x : Record) (more : List Record) (tail : List ℕ) → saved (x ∷ more) ++ tail ≡ (written x ++ 10 ∷ []) ++ (saved more ++ tail)
+first-line x more tail = append_assoc (written x ++ 10 ∷ []) (saved more) tail
+
+pub left-more : (bytes rest after : List ℕ) (count : ℕ) (earlier : List Record) (r : Record) → IsLeft bytes rest count earlier → IsLine r rest after → refusal_at earlier r ≡ None → (length earlier ≡ count → ⊥)
+    → IsLeft bytes after count (r ∷ earlier)
+left-more bytes rest after count earlier r left line stands few = record {
+  whole = λ later tail e c.
+      left.whole (r ∷ later) tail (line.written_is ∙ ap (λ bs. (written r ++ 10 ∷ []) ++ bs) e ∙ sym (first-line r later tail)) (record {
         each_record = (line.is_record, c.each_record);
         each_bare = (line.bare, c.each_bare);
         stand = (stands, subst (λ k. StandsTo (k ∷ earlier) later (λ d. missing d ≡ None)) (sym (kept-bare earlier r line.bare)) c.stand);
       });
-  only = λ records e c. let found = left.only records e c in behind found.0 found.1 found.2;
+  only = λ records tail e n c. let found = left.only records tail e n c in behind tail found.0 found.1 found.2 found.3;
 }
   where
-    behind : (later : List Record) → rest ≡ saved later → Completes earlier later → (more : List Record) × (after ≡ saved more) × Completes (r ∷ earlier) more
-    behind [] e c = absurd (line-empty r after (sym e ∙ line.written_is))
-    behind (x ∷ more) e c =
-        let same = one-line r x after (saved more) line.is_record c.each_record.0 (sym line.written_is ∙ e) in
+    behind : (tail : List ℕ) (later : List Record) → rest ≡ saved later ++ tail → length earlier + length later ≡ count → Completes earlier later
+        → (more : List Record) × (after ≡ saved more ++ tail) × (length (r ∷ earlier) + length more ≡ count) × Completes (r ∷ earlier) more
+    behind tail [] e n c = absurd (few (omega (arith, n)))
+    behind tail (x ∷ more) e n c =
+        let same = one-line r x after (saved more ++ tail) line.is_record c.each_record.0 (sym line.written_is ∙ e ∙ first-line x more tail) in
         let bare = subst IsBare (sym same.0) c.each_bare.0 in (
           more,
           same.1,
+          omega (arith, n),
           record {
             each_record = c.each_record.1;
             each_bare = c.each_bare.1;
@@ -132,24 +135,37 @@ left-more lines rest after earlier r left line stands = record {
           },
         )
 
--- where no record of a base can come next, the lines are those of no base
-pub left-none : (lines rest : List ℕ) (earlier : List Record) → IsLeft lines rest earlier → (missing earlier ≡ None → rest ≡ [] → ⊥)
-    → ((r : Record) (after : List ℕ) → IsLine r rest after → refusal_at earlier r ≡ None → ⊥)
-    → (records : List Record) → IsBaseRecords records → lines ≡ saved records → ⊥
-left-none lines rest earlier left ended none records is e =
-    let found = left.only records e (base-completes records is) in
-    by found.0 found.1 found.2
-  where
-    by : (later : List Record) → rest ≡ saved later → Completes earlier later → ⊥
-    by [] e c = ended c.stand e
-    by (x ∷ more) e c = none x (saved more) (record { is_record = c.each_record.0; bare = c.each_bare.0; written_is = e }) c.stand.0
+module _ (bytes rest : List ℕ) (count : ℕ) (earlier : List Record) (left : IsLeft bytes rest count earlier) where
+  -- where no record of a base can come next, and more are to come, the bytes begin with no such base
+  pub left-none : (length earlier ≡ count → ⊥) → ((r : Record) (after : List ℕ) → IsLine r rest after → refusal_at earlier r ≡ None → ⊥)
+      → (records : List Record) (tail : List ℕ) → IsBaseRecords records → length records ≡ count → bytes ≡ saved records ++ tail → ⊥
+  left-none few none records tail is n e =
+      let found = left.only records tail e n (base-completes records is) in
+      by found.0 found.1 found.2 found.3
+    where
+      by : (later : List Record) → rest ≡ saved later ++ tail → length earlier + length later ≡ count → Completes earlier later → ⊥
+      by [] e n c = few (omega (arith, n))
+      by (x ∷ more) e n c = none x (saved more ++ tail) (record { is_record = c.each_record.0; bare = c.each_bare.0; written_is = e ∙ first-line x more tail }) c.stand.0
 
--- at the end the records are those of a base
-pub left-end : (lines : List ℕ) (earlier : List Record) → IsLeft lines [] earlier → missing earlier ≡ None → (lines ≡ saved (reverse earlier)) × WasRead (reverse earlier)
-left-end lines earlier left whole =
-    let all = left.whole [] refl (record { each_record = tt; each_bare = tt; stand = whole }) in
-    let order : in_order earlier [] ≡ reverse earlier = order-reverse earlier [] ∙ append-nil (reverse earlier) in
-    (all.0 ∙ ap saved order, subst WasRead order (complete-read (in_order earlier []) all.1))
+  -- after the last line nothing is missing
+  pub end-whole : (lacking : Option BaseRefusal) → lacking ≡ missing earlier → is_some lacking ≡ false → (bytes ≡ saved (reverse earlier) ++ rest) × WasRead (reverse earlier)
+  end-whole None is whole =
+      let all = left.whole [] rest refl (record { each_record = tt; each_bare = tt; stand = sym is }) in
+      let order : in_order earlier [] ≡ reverse earlier = order-reverse earlier [] ∙ append-nil (reverse earlier) in
+      (all.0 ∙ ap (λ rs. saved rs ++ rest) order, subst WasRead order (complete-read (in_order earlier []) all.1))
+  end-whole (Some refusal) is whole = absurd cc
+
+  -- or something is
+  pub end-lacks : length earlier ≡ count → (lacking : Option BaseRefusal) → lacking ≡ missing earlier → is_some lacking ≡ true
+      → (records : List Record) (tail : List ℕ) → IsBaseRecords records → length records ≡ count → bytes ≡ saved records ++ tail → ⊥
+  end-lacks all None is some records tail are n e = absurd cc
+  end-lacks all (Some refusal) is some records tail are n e =
+      let found = left.only records tail e n (base-completes records are) in
+      by found.0 found.2 found.3
+    where
+      by : (later : List Record) → length earlier + length later ≡ count → Completes earlier later → ⊥
+      by [] n c = let apart = is ∙ c.stand in absurd cc
+      by (x ∷ more) n c = absurd (omega (arith, all, n))
 
 -- ---- the parts of a line
 
@@ -216,18 +232,38 @@ next-refused one r rest after more earlier refusal line other refused stands =
     let both = ap (refusal_at earlier) same.0 in
     absurd cc
 
-pub no_bytes : (rest : List ℕ) → nat_eq (length rest) 0 ≡ true → rest ≡ []
-no_bytes [] h = refl
-no_bytes (b ∷ rest) h = let none : length (b ∷ rest) ≡ 0 = grind (arith, nat_tests) in absurd (omega (arith, none))
+-- ---- a line of 201 bytes
 
-module _ (lines rest : List ℕ) (earlier : List Record) (left : IsLeft lines rest earlier) (ended : nat_eq (length rest) 0 ≡ true) where
-  -- nothing is missing after the last line
-  pub end-whole : (lacking : Option BaseRefusal) → lacking ≡ missing earlier → is_some lacking ≡ false → (lines ≡ saved (reverse earlier)) × WasRead (reverse earlier)
-  end-whole None is whole = left-end lines earlier (subst (λ (bs : List ℕ). IsLeft lines bs earlier) (no_bytes rest ended) left) (sym is)
-  end-whole (Some refusal) is whole = absurd cc
+-- A line of 201 bytes is the line of a record and nothing else.
+pub whole-line : (r : Record) (line rest old new : List ℕ) → length line ≡ 201 → old ≡ line ++ new → IsLine r line rest → IsLine r old new
+whole-line r line rest old new long is one =
+    let whole = ap length one.written_is in
+    let a = length-append (written r ++ 10 ∷ []) rest in
+    let b = length-append (written r) (10 ∷ []) in
+    let w = length_written r one.is_record in
+    let none : rest ≡ [] = no-bytes rest (omega (arith, long, whole, a, b, w)) in
+    record {
+      is_record = one.is_record;
+      bare = one.bare;
+      written_is = is ∙ ap (λ bs. bs ++ new) (one.written_is ∙ ap (λ bs. (written r ++ 10 ∷ []) ++ bs) none ∙ append-nil (written r ++ 10 ∷ []));
+    }
+  where
+    no-bytes : (bs : List ℕ) → length bs ≡ 0 → bs ≡ []
+    no-bytes [] h = refl
+    no-bytes (b ∷ bs) h = absurd (omega (arith, h))
 
-  -- something is
-  pub end-lacks : (lacking : Option BaseRefusal) → lacking ≡ missing earlier → is_some lacking ≡ true → (records : List Record) → IsBaseRecords records → lines ≡ saved records → ⊥
-  end-lacks None is some = absurd cc
-  end-lacks (Some refusal) is some =
-      left-none lines rest earlier left (λ none e. let apart = is ∙ none in absurd cc) (λ r after line stands. line-empty r after (sym (no_bytes rest ended) ∙ line.written_is))
+pub line-first : (r : Record) (line rest old new : List ℕ) → length line ≡ 201 → old ≡ line ++ new → IsLine r old rest → IsLine r line []
+line-first r line rest old new long is one =
+    let b = length-append (written r) (10 ∷ []) in
+    let w = length_written r one.is_record in
+    let same = same-front (written r ++ 10 ∷ []) line rest new (omega (arith, long, b, w)) (sym one.written_is ∙ is) in
+    record { is_record = one.is_record; bare = one.bare; written_is = sym same.0 ∙ sym (append-nil (written r ++ 10 ∷ [])) }
+
+-- fewer bytes begin with no line
+pub few-bytes : (r : Record) (old rest : List ℕ) → length old < 201 → IsLine r old rest → ⊥
+few-bytes r old rest few one =
+    let whole = ap length one.written_is in
+    let a = length-append (written r ++ 10 ∷ []) rest in
+    let b = length-append (written r) (10 ∷ []) in
+    let w = length_written r one.is_record in
+    omega (arith, whole, a, b, w, few)

@@ -125,6 +125,25 @@ impl Base {
         })
     }
 
+    /// The same records with these rows.
+    pub fn with_rows(self, stations: Stations) -> Base
+        ensures records { result.records ≡ self.records }
+        ensures rows { result.rows ≡ stations }
+    {
+        let Base {
+            records,
+            flights,
+            alloc,
+            ..
+        } = self;
+        Base {
+            records,
+            stations,
+            flights,
+            alloc,
+        }
+    }
+
     /// The same base.
     pub fn copy(&self) -> Result<Base, Memory>
         ensures { IfOk result (λ copy. copy ≡ self.now) }

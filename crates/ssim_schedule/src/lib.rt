@@ -3,7 +3,7 @@
 //! - [`Stations`]: which UTC variation a station has on a day, read from a table of [`StationRow`]s.
 //! - [`Base`]: a data set as it was read, record by record, with a station table; or a [`BaseFault`], which names the first invalid
 //!   record. What is unusual but not refused is a [`Note`].
-//! - [`read_saved`]: the base whose records were saved as lines, or a [`SavedFault`].
+//! - [`read_saved`]: the base whose records the next lines of a file are, or a [`SavedFault`].
 //! - [`Summary`]: how many records and flights a data set has, and its notes. It is read as a base is, but no record is kept.
 //! - [`Schedule`]: the itinerary of each flight on each date, which is its [`PlacedLeg`]s in order. `of` makes it from a base, `of_flights`
 //!   that of some flights alone, `export` writes it as chapter 7 in the one canonical division, or answers an [`ExportFault`].

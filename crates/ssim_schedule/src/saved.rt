@@ -1,6 +1,6 @@
 //! The records of a base as they are saved: each as it is written, followed by LF.
 
-ghost use Rattle.std.specs.Prelude.{◌≡◌, ◌≢◌, ◌↔◌, ℕ, List, IfErr, IfNone, IfOk, IfSome, IsTrue};
+ghost use Rattle.std.specs.Prelude.{◌≡◌, ◌≢◌, ◌↔◌, ◌++◌, ℕ, List, IfErr, IfNone, IfOk, IfSome, IsFalse, IsTrue, length};
 ghost use Rattle.ssim_records.specs.declared.record.Record.{Record};
 ghost use Rattle.ssim_schedule.specs.SavedBase.{IsBare, IsBaseRecords, IsLine, IsLineOf, IsWithin, saved};
 
@@ -9,7 +9,7 @@ use crate::fault::BaseFault;
 use crate::kept::Kept;
 use crate::kept_records::KeptRecords;
 use crate::stations::Stations;
-use ssim_records::{Record, read_into};
+use ssim_records::{Parts, Record, read_into};
 use ssim_values::Memory;
 use std::alloc::{AllocError, Global};
 
@@ -79,34 +79,49 @@ fn read_line<'a>(bytes: &'a [u8], into: &mut Option<Record>) -> Option<&'a [u8]>
     }
 }
 
-/// The base whose records these lines are, with these rows. The lines are read once: what a line spells is compared with it as
-/// it is written, and kept.
+// Takes the next line, and puts its record into a place, if it is one that a base can have.
+fn next_line(parts: &mut Parts, into: &mut Option<Record>) -> bool
+    ensures some { IsTrue result → IsLineOf into.new parts.old parts.new }
+    ensures none { IsFalse result → (r : Record) (rest : List ℕ) → IsLine r parts.old rest → ⊥ }
+{
+    let mut line = [0; RECORD_LINE];
+    parts.fill(&mut line) && read_line(&line, into).is_some()
+}
+
+/// The base whose records the next `count` lines of the parts are, with these rows. Each line is read once: what it spells is compared
+/// with it as it is written, and kept.
 ///
 /// The error names the first line that is no record as a base has it, or at which the base is invalid. A base without header, carrier
-/// or trailer is invalid at the end of the lines.
-pub fn read_saved(alloc: Global, lines: &[u8], stations: Stations) -> Result<Base, SavedFault>
-    ensures ok { IfOk result (λ base. IsBaseRecords base.records × (lines.now ≡ saved base.records) × (base.rows ≡ stations)) }
-    ensures err { IfErr result (λ e. e ≢ SavedFault.Memory → (records : List Record) → IsBaseRecords records → lines.now ≡ saved records → ⊥) }
-    ensures within { IfErr result (λ e. IsWithin lines.now e) }
+/// or trailer is invalid after its lines.
+pub fn read_saved(
+    alloc: Global,
+    count: usize,
+    parts: &mut Parts,
+    stations: Stations,
+) -> Result<Base, SavedFault>
+    ensures ok { IfOk result (λ base. IsBaseRecords base.records × (length base.records ≡ count) × (parts.old ≡ saved base.records ++ parts.new) × (base.rows ≡ stations)) }
+    ensures err { IfErr result (λ e. e ≢ SavedFault.Memory → (records : List Record) (later : List ℕ) → IsBaseRecords records → length records ≡ count → parts.old ≡ saved records ++ later → ⊥) }
+    ensures within { IfErr result (λ e. IsWithin parts.old e) }
 {
-    let records = Vec::with_capacity(alloc, lines.len() / RECORD_LINE)?;
+    let records = Vec::with_capacity(alloc, count.min(parts.len() / RECORD_LINE))?;
     let mut kept = Kept::new(alloc, KeptRecords::All(records));
     let mut next = None;
-    let mut rest = lines;
-    while !rest.is_empty() {
-        let Some(after) = read_line(rest, &mut next) else {
-            return Err(SavedFault::Invalid(rest.len()));
-        };
+    let mut done = 0;
+    while done < count {
+        let left = parts.len();
+        if !next_line(parts, &mut next) {
+            return Err(SavedFault::Invalid(left));
+        }
         let Some(one) = &mut next else { unreachable!() };
         // A refusal has the number that is given here; the place is the number of bytes that are left.
         match kept.put(0, one) {
-            Ok(()) => rest = after,
-            Err(BaseFault::Refused(_, _)) => return Err(SavedFault::Invalid(rest.len())),
+            Ok(()) => done += 1,
+            Err(BaseFault::Refused(_, _)) => return Err(SavedFault::Invalid(left)),
             Err(_) => return Err(SavedFault::Memory),
         }
     }
     if kept.missing().is_some() {
-        return Err(SavedFault::Invalid(0));
+        return Err(SavedFault::Invalid(parts.len()));
     }
     Ok(Base::of_kept(alloc, kept, stations)?)
 }

@@ -1,42 +1,90 @@
 //! The records of a base as a desk file has them.
 
-ghost use Rattle.std.specs.Prelude.{◌≡◌, ◌≢◌, ◌+◌, ◌<◌, ◌^◌, List, length, IfErr, IfOk};
+ghost use Rattle.std.specs.Prelude.{◌≡◌, ◌≢◌, ◌++◌, ◌∷◌, [], ◌<◌, ◌^◌, List, ℕ, codes, length, IfErr, IfNone, IfOk, IfSome, IsSomeAnd, Some};
 ghost use Rattle.ssim_records.specs.declared.record.Record.{Record};
 ghost use Rattle.ssim_schedule.specs.SavedBase.{IsBaseRecords, saved};
+ghost use Rattle.ssim_text.specs.Bytes.{before, from};
+ghost use Rattle.ssim_held.specs.File.{counted, records_part};
 
+use crate::opening::count_line::{Count, count_line};
 use crate::opening::fault::PartFault;
-use ssim_schedule::{Base, SavedFault, Stations, read_saved};
+use crate::opening::saved_rows::no_rows;
+use ssim_records::Parts;
+use ssim_schedule::{Base, SavedFault, read_saved};
 use std::alloc::Global;
 
-/// The number of bytes of a record and its LF.
-pub(crate) const RECORD_LINE: usize = 201;
-
-/// The base whose records are these lines, with these rows. More bytes follow the lines.
-///
-/// The error names the first line that is no record as a base has it, or at which the base is invalid. A base without header, carrier
-/// or trailer is invalid at the end of the lines.
-pub(crate) fn read_records(
-    alloc: Global,
-    lines: &[u8],
-    more: usize,
-    stations: Stations,
-) -> Result<Base, PartFault>
-    requires { length lines.now + more < 2 ^ 64 }
-    ensures ok { IfOk result (λ base. IsBaseRecords base.records × (lines.now ≡ saved base.records) × (base.rows ≡ stations)) }
-    ensures err { IfErr result (λ e. e ≢ PartFault.Memory → (records : List Record) → IsBaseRecords records → lines.now ≡ saved records → ⊥) }
+/// The next line with its LF, if an LF follows.
+fn take_line(alloc: Global, parts: &mut Parts) -> Result<Option<Vec<u8>>, PartFault>
+    ensures some { IfOk result (λ read. IfSome read (λ line. (line.items ≡ before 10 parts.old ++ 10 ∷ []) × (parts.old ≡ line.items ++ parts.new))) }
+    ensures none { IfOk result (λ read. IfNone read (from 10 parts.old ≡ [])) }
+    ensures err { IfErr result (λ e. e ≡ PartFault.Memory) }
 {
-    match read_saved(alloc, lines, stations) {
-        Ok(base) => Ok(base),
-        Err(SavedFault::Memory) => Err(PartFault::Memory),
-        Err(SavedFault::Invalid(left)) => Err(PartFault::Invalid(left + more)),
+    let mut line = Vec::new(alloc);
+    let mut byte = [0];
+    while parts.fill(&mut byte) {
+        line.push(byte[0])?;
+        if byte[0] == b'\n' {
+            return Ok(Some(line));
+        }
+    }
+    Ok(None)
+}
+
+/// The number of records that a line says.
+fn records_line(line: &[u8]) -> Option<Count>
+    ensures some { IfSome result (λ count. IfSome count (λ n. line.now ≡ counted (codes "RECORDS") n)) }
+    ensures only { (n : ℕ) → n < 2 ^ 64 → line.now ≡ counted (codes "RECORDS") n → result ≡ Some (Some n) }
+{
+    match count_line(b"RECORDS", line)? {
+        (count, []) => Some(count),
+        _ => None,
     }
 }
 
-/// Why lines are no base if the last of them is cut.
-pub(crate) fn cut_records(alloc: Global, bytes: &[u8], stations: Stations) -> PartFault {
-    let cut = bytes.len() % RECORD_LINE;
-    match read_records(alloc, &bytes[..bytes.len() - cut], cut, stations) {
-        Ok(_) => PartFault::Invalid(cut),
-        Err(fault) => fault,
+/// The number of records that the next line says.
+fn take_count(alloc: Global, parts: &mut Parts) -> Result<Option<Count>, PartFault>
+    ensures some { IfOk result (λ read. IfSome read (λ count. IfSome count (λ n. parts.old ≡ counted (codes "RECORDS") n ++ parts.new))) }
+    ensures only { (n : ℕ) (later : List ℕ) → n < 2 ^ 64 → parts.old ≡ counted (codes "RECORDS") n ++ later → IfOk result (λ read. (read ≡ Some (Some n)) × (parts.new ≡ later)) }
+    ensures err { IfErr result (λ e. e ≡ PartFault.Memory) }
+{
+    match take_line(alloc, parts)? {
+        Some(line) => Ok(records_line(&line)),
+        None => Ok(None),
+    }
+}
+
+/// The base whose records the next lines are, without rows.
+fn read_lines(alloc: Global, count: Count, parts: &mut Parts) -> Result<Base, PartFault>
+    ensures ok { IfOk result (λ base. IsBaseRecords base.records × (count ≡ Some (length base.records)) × (parts.old ≡ saved base.records ++ parts.new)) }
+    ensures err { IfErr result (λ e. e ≢ PartFault.Memory → (records : List Record) (later : List ℕ) → IsBaseRecords records → count ≡ Some (length records) → parts.old ≡ saved records ++ later → ⊥) }
+{
+    let lines = match count {
+        Some(lines) => lines,
+        None => usize::MAX,
+    };
+    match read_saved(alloc, lines, parts, no_rows(alloc)?) {
+        Ok(base) => {
+            if count.is_none() {
+                return Err(PartFault::Invalid(parts.len()));
+            }
+            Ok(base)
+        }
+        Err(SavedFault::Memory) => Err(PartFault::Memory),
+        Err(SavedFault::Invalid(left)) => Err(PartFault::Invalid(left)),
+    }
+}
+
+/// The base whose records come next, with their number before them. It has no rows.
+///
+/// The error names the line of the number, or the first line that is no record as a base has it, or at which the base is invalid. A
+/// base without header, carrier or trailer is invalid after its lines.
+pub(crate) fn read_records(alloc: Global, parts: &mut Parts) -> Result<Base, PartFault>
+    ensures ok { IfOk result (λ base. IsBaseRecords base.records × (parts.old ≡ records_part base.records ++ parts.new)) }
+    ensures err { IfErr result (λ e. e ≢ PartFault.Memory → (records : List Record) (later : List ℕ) → length records < 2 ^ 64 → IsBaseRecords records → parts.old ≡ records_part records ++ later → ⊥) }
+{
+    let left = parts.len();
+    match take_count(alloc, parts)? {
+        Some(count) => read_lines(alloc, count, parts),
+        None => Err(PartFault::Invalid(left)),
     }
 }

@@ -7,6 +7,7 @@ ghost use Rattle.ssim_held.specs.declared.opening.version.FileVersion.{FileVersi
 
 use crate::held::Held;
 use crate::opening::count_line::after_prefix;
+use ssim_records::Parts;
 
 /// The version of a desk file, which its first line says.
 #[derive(Clone, Copy, Debug, PartialEq, Eq)]
@@ -30,7 +31,7 @@ impl FileVersion {
 }
 
 /// The version that the first line says, and the bytes after the line.
-pub(crate) fn read_version(bytes: &[u8]) -> Option<(FileVersion, &[u8])>
+fn read_version(bytes: &[u8]) -> Option<(FileVersion, &[u8])>
     ensures some { IfSome result (λ read. bytes.now ≡ first_line read.0 ++ read.1.now) }
     ensures none { IfNone result ((version : FileVersion) (rest : List ℕ) → bytes.now ≡ first_line version ++ rest → ⊥) }
 {
@@ -39,4 +40,19 @@ pub(crate) fn read_version(bytes: &[u8]) -> Option<(FileVersion, &[u8])>
     }
     let rest = after_prefix(b"SSIMDESK 1\n", bytes)?;
     Some((FileVersion::One, rest))
+}
+
+/// The version that the next 11 bytes say.
+pub(crate) fn take_version(parts: &mut Parts) -> Option<FileVersion>
+    ensures some { IfSome result (λ version. parts.old ≡ first_line version ++ parts.new) }
+    ensures none { IfNone result ((version : FileVersion) (rest : List ℕ) → parts.old ≡ first_line version ++ rest → ⊥) }
+{
+    let mut line = [0; 11];
+    if !parts.fill(&mut line) {
+        return None;
+    }
+    match read_version(&line) {
+        Some((version, _)) => Some(version),
+        None => None,
+    }
 }

@@ -1,5 +1,5 @@
 -- Both files are loaded and the table is read, so a refusal of the data set is that of its bytes, or memory ran out.
-use Rattle.std.proofs.Common.{◌≡◌, List, ℕ, Option, Err, inl, inr, refl}
+use Rattle.std.proofs.Common.{List, ℕ, Option, Err, inl, inr, refl}
 use Rattle.ssim_schedule.specs.Reading.{Answers, IsReadAs}
 use Rattle.ssim_schedule.specs.Stations.{Row}
 use Rattle.ssim_schedule.specs.declared.fault.BaseFault.{BaseFault}

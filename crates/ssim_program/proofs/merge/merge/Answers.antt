@@ -1,14 +1,11 @@
 -- Two desks are opened and merged, the merged one is kept, and then the line is printed.
-use Rattle.std.proofs.Common.{◌≡◌, ◌∙◌, ℕ, List, length, Option, sym, ap, subst, inl, inr, refl, rules, Result, Ok, Err, IfErr, Some}
+use Rattle.std.proofs.Common.{◌∙◌, List, length, Option, ap, subst, inl, inr, refl, Some}
 use Rattle.std.proofs.KnownBytes.{Keeps-refl}
 use Rattle.ssim_schedule.proofs.SinkLemmas.{at_fault}
 use Rattle.ssim_held.specs.File.{desk_file}
-use Rattle.ssim_held.specs.Kept.{DeskSeen, Entry}
+use Rattle.ssim_held.specs.Kept.{Entry}
 use Rattle.ssim_program.specs.Desks.{ReadsDesk, held_line}
 use Rattle.ssim_program.specs.Files.{Files, with_kept}
-use Rattle.ssim_program.specs.Line.{Merge}
-use Rattle.ssim_program.specs.Reasons.{Refuses}
-use Rattle.ssim_program.specs.declared.refusal.Refusal.{Refusal}
 use Rattle.ssim_program.proofs.merge.merge.Goals as goal
 
 pub returns-in-Err-clause-why : goal.returns-in-Err-clause-why

@@ -1,5 +1,5 @@
 -- The lines of 52 and 90 are written out.
-use Rattle.std.proofs.Common.{◌≡◌, ◌∙◌, ℕ, List, ap, inl, inr, subst, sym, true, false, true≢false}
+use Rattle.std.proofs.Common.{◌∙◌, ℕ, List, ap, inl, inr, subst, sym, true≢false}
 use Rattle.ssim_schedule.specs.Export.{line}
 use Rattle.ssim_program.specs.Printing.{PrintsOrFails}
 use Rattle.ssim_program.specs.Refusal.{refusal_text}

@@ -1,5 +1,5 @@
 -- The base is read, its desk is kept, and then the line is printed.
-use Rattle.std.proofs.Common.{◌≡◌, ◌∙◌, sym, ap, subst, inl, inr, rules, Result, Ok, Err, IfErr, Some}
+use Rattle.std.proofs.Common.{◌≡◌, ◌∙◌, sym, ap, subst, inl, inr, rules, Result, Err, IfErr, Some}
 use Rattle.std.proofs.KnownBytes.{Keeps-refl}
 use Rattle.ssim_schedule.proofs.SinkLemmas.{at_fault}
 use Rattle.ssim_held.specs.File.{desk_file}

@@ -1,5 +1,5 @@
 -- One text more is taken and its line printed, or it is refused.
-use Rattle.std.proofs.Common.{◌≡◌, ◌∙◌, map, ap}
+use Rattle.std.proofs.Common.{◌∙◌, map, ap}
 use Rattle.std.specs.Option.{option_map}
 use Rattle.std.proofs.lemmas.Option.{slice_get-get_or, slice_get-map}
 use Rattle.ssim_program.proofs.Texts.{ends_more, leaves_more, prints_more, refuses_more}

@@ -1,5 +1,5 @@
--- The records so far are kept, and what is left of the lines can only be those of records that complete a base.
-use Rattle.std.proofs.Common.{◌≡◌, ◌≤◌, ℕ, true, List, length}
+-- The records so far are kept, and what is left can only begin with the lines of records that complete a base.
+use Rattle.std.proofs.Common.{◌≡◌, ◌≤◌, ◌-◌, ℕ, true, List, length}
 use Rattle.ssim_records.specs.declared.record.Record.{Record}
 use Rattle.ssim_schedule.specs.Kept.{IsKept}
 use Rattle.ssim_schedule.specs.KeptRecords.{keeps}
@@ -7,15 +7,17 @@ use Rattle.ssim_schedule.specs.declared.kept.Kept.{Kept}
 use Rattle.ssim_schedule.proofs.SavedLines.{IsLeft}
 use Rattle.ssim_schedule.proofs.saved.read_saved.Given as goal
 
-pub record Goes (lines rest : List ℕ) (kept : Kept) : Type 0 where
+pub record Goes (bytes rest : List ℕ) (count done : ℕ) (kept : Kept) : Type 0 where
   pub earlier : List Record
   pub is_kept : IsKept kept earlier
-  pub is_left : IsLeft lines rest earlier
+  pub is_left : IsLeft bytes rest count earlier
   pub keeps_is : keeps kept.records ≡ true
-  pub within : length rest ≤ length lines
+  pub number : length earlier ≡ done
+  pub few : done ≤ count
+  pub within : length rest ≤ length bytes
 
-abbrev pub invariant-loop-rest : goal.invariant-loop-rest
-invariant-loop-rest l = Goes l.lines l.rest l.kept
+abbrev pub invariant-loop-done : goal.invariant-loop-done
+invariant-loop-done l = Goes l.initial.parts l.parts l.count l.done l.kept
 
-abbrev pub decreases-loop-rest : goal.decreases-loop-rest
-decreases-loop-rest l = length l.rest
+abbrev pub decreases-loop-done : goal.decreases-loop-done
+decreases-loop-done l = l.count - l.done

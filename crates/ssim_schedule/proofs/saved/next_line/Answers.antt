@@ -1,0 +1,35 @@
+-- The next 201 bytes are the line of a record, or no line is next.
+use Rattle.std.proofs.Common.{◌≡◌, ◌++◌, ◌<◌, ◌≤◌, ℕ, List, length, Option, Some, None, IfNone, IfSome, true, false, refl, sym, ◌∙◌, arith}
+use Rattle.std.specs.Prelude.{is_some}
+use Rattle.ssim_records.specs.declared.record.Record.{Record}
+use Rattle.ssim_schedule.specs.SavedBase.{IsLine, IsLineOf}
+use Rattle.ssim_schedule.proofs.SavedLines.{few-bytes, line-first, whole-line}
+use Rattle.ssim_schedule.proofs.saved.next_line.Goals as goal
+
+line_of : (into : Option Record) (line rest old new : List ℕ) → length line ≡ 201 → old ≡ line ++ new → IsLineOf into line rest → IsLineOf into old new
+line_of None line rest old new long is never = never
+line_of (Some r) line rest old new long is one = whole-line r line rest old new long is one
+
+was_read : {A : Type 0} (P : Type 0) (Q : A → Type 0) (read : Option A) → is_some read ≡ true → IfSome read Q → ((a : A) → Q a → P) → P
+was_read P Q (Some a) some holds f = f a holds
+was_read P Q None some holds f = absurd cc
+
+was_not : {A : Type 0} (P : Type 0) (read : Option A) → is_some read ≡ false → IfNone read P → P
+was_not P None none holds = holds
+was_not P (Some a) none holds = absurd cc
+
+pub returns-then-fill-clause-some : goal.returns-then-fill-clause-some
+returns-then-fill-clause-some c = λ some.
+    was_read (IsLineOf c.read_line.new.into c.args.parts.now c.fill.new.self) (λ rest. IsLineOf c.read_line.new.into c.fill.new.into rest.now) c.read_line.result (sym c.is_some.ensures ∙ some) c.read_line.ensures.some
+    (λ rest one. line_of c.read_line.new.into c.fill.new.into rest.now c.args.parts.now c.fill.new.self c.fill.ensures.len (c.if-fill.ensures.full refl) one)
+
+pub returns-then-fill-clause-none : goal.returns-then-fill-clause-none
+returns-then-fill-clause-none c = λ none r rest one.
+    was_not ((s : Record) (more : List ℕ) → IsLine s c.fill.new.into more → ⊥) c.read_line.result (sym c.is_some.ensures ∙ none) c.read_line.ensures.none r _
+    (line-first r c.fill.new.into rest c.args.parts.now c.fill.new.self c.fill.ensures.len (c.if-fill.ensures.full refl) one)
+
+less_than : (m n : ℕ) → (n ≤ m → ⊥) → m < n
+less_than m n h = omega (arith, h)
+
+pub returns-else-fill-clause-none : goal.returns-else-fill-clause-none
+returns-else-fill-clause-none c = λ no r rest one. few-bytes r c.args.parts.now rest (less_than (length c.args.parts.now) 201 (λ enough. let never : false ≡ true = c.if-fill.ensures.short.1 enough in absurd cc)) one
