@@ -1,6 +1,6 @@
 //! Flight leg records, type 3.
 
-ghost use Rattle.std.specs.Prelude.{◌≡◌, ◌↔◌, IsTrue, ◌≤◌, ◌<◌, ◌∷◌, [], Some};
+ghost use Rattle.std.specs.Prelude.{◌≡◌, ◌↔◌, IsTrue, ◌≤◌, ◌<◌, ◌∷◌, [], Some, length};
 ghost use Rattle.ssim_records.specs.Columns.{columns};
 ghost use Rattle.ssim_records.specs.Leg.{IsLeg, IsEnd, SpellsLeg, leg_columns, written_leg};
 ghost use Rattle.ssim_records.specs.Heads.{IsLegHead};
@@ -252,16 +252,15 @@ impl LegRecord {
         self.columns.same(&other.columns)
     }
 
-    /// The one written spelling.
-    pub(crate) fn written(&self) -> [u8; 200]
-        ensures value { result ≡ written_leg self.now }
+    /// Writes the one written spelling over 200 bytes.
+    pub(crate) fn write_over(&self, out: &mut [u8])
+        requires { length out.old ≡ 200 }
+        ensures value { out.new ≡ written_leg self.now }
         ensures is_leg { IsLeg self.now }
-        ensures spells { SpellsLeg self.now result }
     {
         let columns = self.columns.bytes();
-        let mut head = [b' '; 36];
         join(
-            &mut head,
+            out,
             &[
                 b"3",
                 &name_text(self.name),
@@ -270,19 +269,22 @@ impl LegRecord {
                 &end_text(self.last),
                 &self.days.write(),
                 &[self.rate],
-            ],
-        );
-        let mut bytes = [b' '; 200];
-        join(
-            &mut bytes,
-            &[
-                &head,
                 &columns[1..92],
                 &[self.overflow],
                 &columns[92..158],
                 &six_digits(self.serial),
             ],
         );
+    }
+
+    /// The one written spelling.
+    pub(crate) fn written(&self) -> [u8; 200]
+        ensures value { result ≡ written_leg self.now }
+        ensures is_leg { IsLeg self.now }
+        ensures spells { SpellsLeg self.now result }
+    {
+        let mut bytes = [b' '; 200];
+        self.write_over(&mut bytes);
         bytes
     }
 

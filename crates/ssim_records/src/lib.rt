@@ -2,7 +2,7 @@
 //! and the devices that they come from and go to.
 //!
 //! - [`Record`]: a [`Header`], [`Carrier`], [`LegRecord`], [`SegmentRecord`] or [`Trailer`], read by [`read_record`] and
-//!   written by [`write_record`]. [`LegName`] identifies the leg of a record. [`LegColumns`] and [`SegmentTail`] are the
+//!   written by [`write_record`] and [`write_over`]. [`LegName`] identifies the leg of a record. [`LegColumns`] and [`SegmentTail`] are the
 //!   columns that a leg or a segment has of its own, with a reader for each field. [`NameText`] and [`PeriodText`] are texts that
 //!   several records have in common, so that they are written once.
 //! - [`LegStations`], [`LegTimes`] and [`LegEquipment`]: the parts of a new leg's columns, and what messages change in them.
@@ -69,7 +69,7 @@ pub use leg_columns::LegColumns;
 pub use leg_name::LegName;
 pub use leg_parts::{LegEquipment, LegStations, LegTimes};
 pub use parts::Parts;
-pub use record::{Record, read_into, read_record, write_record};
+pub use record::{Record, read_into, read_record, write_over, write_record};
 pub use records::Records;
 pub use segment::SegmentRecord;
 pub use segment_tail::SegmentTail;

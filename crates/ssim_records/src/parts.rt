@@ -1,6 +1,6 @@
 //! The bytes of a file, in parts that are freed one after another.
 
-ghost use Rattle.std.specs.Prelude.{◌≡◌, ◌↔◌, ◌++◌, ◌≤◌, [], IfErr, IsFalse, IsTrue, OnErr, OnOk, Ok, Some, length};
+ghost use Rattle.std.specs.Prelude.{◌≡◌, ◌↔◌, ◌++◌, ◌≤◌, [], IfErr, IfSome, IsFalse, IsTrue, OnErr, OnOk, Ok, Some, drop, length, take};
 ghost use Rattle.std.specs.Io.{ReadsAtMost};
 ghost use Rattle.std.specs.Io.KnownBytes.{ReadConsumes};
 ghost use Rattle.ssim_records.specs.Device.{CountsFailure};
@@ -68,6 +68,42 @@ impl Parts {
                 Ok(())
             }
             Err(_) => Err(Memory),
+        }
+    }
+
+    /// The next `count` bytes in their place, if they are all in one part.
+    pub fn front(&self, count: usize) -> Option<&[u8]>
+        ensures { IfSome result (λ bytes. (length bytes.now ≡ count) × (bytes.now ≡ take count self.now)) }
+    {
+        let front = &self.front[self.used..];
+        if count <= front.len() {
+            Some(&front[..count])
+        } else {
+            None
+        }
+    }
+
+    /// Skips the next `count` bytes.
+    pub fn skip(&mut self, count: usize)
+        requires { count ≤ length self.old }
+        ensures { self.new ≡ drop count self.old }
+    {
+        if count <= self.front.len() - self.used {
+            self.used += count;
+            self.len -= count;
+        } else {
+            self.skip_far(count);
+        }
+    }
+
+    // `skip` where the bytes are in several parts.
+    fn skip_far(&mut self, count: usize)
+        requires { count ≤ length self.old }
+        ensures { self.new ≡ drop count self.old }
+    {
+        let mut byte = [0];
+        for _ in 0..count {
+            self.fill(&mut byte);
         }
     }
 

@@ -1,6 +1,6 @@
 //! A record of any type.
 
-ghost use Rattle.std.specs.Prelude.{◌≡◌, ◌<◌, ◌↔◌, ◌∷◌, ℕ, [], Ok, Some, IfOk, IfErr, OnOk, IsTrue, false};
+ghost use Rattle.std.specs.Prelude.{◌≡◌, ◌<◌, ◌↔◌, ◌∷◌, ℕ, [], Ok, Some, IfOk, IfErr, OnOk, IsTrue, false, length};
 ghost use Rattle.ssim_records.specs.Columns.{columns};
 ghost use Rattle.ssim_records.specs.declared.record.Record.{Record};
 ghost use Rattle.ssim_records.specs.Record.{Spells, HasSpelt, IsRecord, written, fault_of, with_serial, serial_of};
@@ -105,6 +105,19 @@ pub fn write_record(value: &Record) -> [u8; 200]
         Record::Leg(leg) => leg.written(),
         Record::Segment(segment) => segment.written(),
         Record::Trailer(trailer) => trailer.written(),
+    }
+}
+
+/// Writes the one written spelling of a record over 200 bytes, as `write_record` gives it.
+pub fn write_over(value: &Record, out: &mut [u8])
+    requires { length out.old ≡ 200 }
+    ensures value { out.new ≡ written value.now }
+    ensures is_record { IsRecord value.now }
+{
+    match value {
+        Record::Leg(leg) => leg.write_over(out),
+        Record::Segment(segment) => segment.write_over(out),
+        _ => out.copy_from_slice(&write_record(value)),
     }
 }
 

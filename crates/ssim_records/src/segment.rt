@@ -1,6 +1,6 @@
 //! Segment data records, type 4.
 
-ghost use Rattle.std.specs.Prelude.{◌≡◌, ◌↔◌, ◌<◌, ◌∷◌, [], IsTrue};
+ghost use Rattle.std.specs.Prelude.{◌≡◌, ◌↔◌, ◌<◌, ◌∷◌, [], IsTrue, length};
 ghost use Rattle.ssim_records.specs.Columns.{columns, is_carried};
 ghost use Rattle.ssim_records.specs.Segment.{IsSegment, SpellsSegment, written_segment};
 ghost use Rattle.ssim_records.specs.Heads.{IsSegmentHead};
@@ -150,16 +150,15 @@ impl SegmentRecord {
         self == other
     }
 
-    /// The one written spelling.
-    pub(crate) fn written(&self) -> [u8; 200]
-        ensures value { result ≡ written_segment self.now }
+    /// Writes the one written spelling over 200 bytes.
+    pub(crate) fn write_over(&self, out: &mut [u8])
+        requires { length out.old ≡ 200 }
+        ensures value { out.new ≡ written_segment self.now }
         ensures is_segment { IsSegment self.now }
-        ensures spells { SpellsSegment self.now result }
     {
-        let tail = self.tail.bytes();
-        let mut bytes = [b' '; 200];
+        let tail = self.tail.bytes_held();
         join(
-            &mut bytes,
+            out,
             &[
                 b"4",
                 &name_text(self.name),
@@ -170,6 +169,16 @@ impl SegmentRecord {
                 &six_digits(self.serial),
             ],
         );
+    }
+
+    /// The one written spelling.
+    pub(crate) fn written(&self) -> [u8; 200]
+        ensures value { result ≡ written_segment self.now }
+        ensures is_segment { IsSegment self.now }
+        ensures spells { SpellsSegment self.now result }
+    {
+        let mut bytes = [b' '; 200];
+        self.write_over(&mut bytes);
         bytes
     }
 

@@ -1,24 +1,6 @@
--- The joined parts are the written spelling, which spells the record.
-use Rattle.std.proofs.Common.{[], ◌∷◌}
-use Rattle.std.specs.Prelude.{codes, slice_range}
-use Rattle.ssim_values.specs.Day.{day_text}
-use Rattle.ssim_values.specs.DayMask.{places_of}
-use Rattle.ssim_records.specs.Leg.{name_texts, end_text}
-use Rattle.ssim_records.specs.Numbers.{digits}
+-- The written spelling spells the record.
 use Rattle.ssim_records.proofs.Legs.{spells_leg}
-use Rattle.ssim_records.proofs.Places.{joined}
 use Rattle.ssim_records.proofs.leg.LegRecord.written.Goals as goal
 
-pub returns-clause-value : goal.returns-clause-value
-returns-clause-value c =
-    let i = c.self.inside in
-    let front = slice_range i.columns 0 1 ∷ day_text i.first ∷ end_text i.last ∷ places_of i.days ∷ (i.rate ∷ []) ∷ [] in
-    let back = slice_range i.columns 1 92 ∷ (i.overflow ∷ []) ∷ slice_range i.columns 92 158 ∷ digits 6 i.serial ∷ [] in
-    rw (c.join-2.ensures, c.join.ensures, c.name_text.ensures, c.write.ensures.value, c.end_text.ensures, c.write-2.ensures.places, c.bytes-columns.ensures.value, c.six_digits.ensures, ← c.self.view_is)
-    (joined (codes "3") (name_texts i.name) front back)
-
 pub returns-clause-spells : goal.returns-clause-spells
-returns-clause-spells c = rw (returns-clause-value c, ← c.self.view_is) (spells_leg _ c.self.invariant)
-
-pub returns-clause-is_leg : goal.returns-clause-is_leg
-returns-clause-is_leg c = rw (← c.self.view_is) c.self.invariant
+returns-clause-spells c = rw c.write_over.ensures.value (spells_leg _ c.write_over.ensures.is_leg)

@@ -1,17 +1,6 @@
--- The joined parts are the written spelling, which spells the record.
-use Rattle.std.proofs.Common.{[], ◌∷◌}
-use Rattle.std.specs.Prelude.{codes, slice_range}
-use Rattle.ssim_records.specs.Leg.{name_texts}
-use Rattle.ssim_records.specs.Numbers.{digits}
-use Rattle.ssim_records.proofs.Places.{name_joined}
+-- The written spelling spells the record.
 use Rattle.ssim_records.proofs.Segments.{spells_segment}
 use Rattle.ssim_records.proofs.segment.SegmentRecord.written.Goals as goal
 
-pub returns-clause-value : goal.returns-clause-value
-returns-clause-value c =
-    let i = c.self.inside in
-    let back = (i.service ∷ []) ∷ slice_range i.tail 0 13 ∷ (i.overflow ∷ []) ∷ slice_range i.tail 13 179 ∷ digits 6 i.serial ∷ [] in
-    rw (c.join.ensures, c.name_text.ensures, c.bytes-tail.ensures.value, c.six_digits.ensures, ← c.self.view_is) (name_joined (codes "4") (name_texts i.name) back)
-
 pub returns-clause-spells : goal.returns-clause-spells
-returns-clause-spells c = rw (returns-clause-value c, ← c.self.view_is) (spells_segment _ c.self.invariant)
+returns-clause-spells c = rw c.write_over.ensures.value (spells_segment _ c.write_over.ensures.is_segment)

@@ -1,0 +1,19 @@
+-- The joined parts are the written spelling.
+use Rattle.std.proofs.Common.{[], ◌∷◌}
+use Rattle.std.specs.Prelude.{codes, slice_range}
+use Rattle.ssim_values.specs.Day.{day_text}
+use Rattle.ssim_values.specs.DayMask.{places_of}
+use Rattle.ssim_records.specs.Leg.{name_texts, end_text}
+use Rattle.ssim_records.specs.Numbers.{digits}
+use Rattle.ssim_records.proofs.Places.{name_joined}
+use Rattle.ssim_records.proofs.leg.LegRecord.write_over.Goals as goal
+
+pub returns-clause-value : goal.returns-clause-value
+returns-clause-value c =
+    let i = c.self.inside in
+    let back = slice_range i.columns 0 1 ∷ day_text i.first ∷ end_text i.last ∷ places_of i.days ∷ (i.rate ∷ []) ∷ slice_range i.columns 1 92 ∷ (i.overflow ∷ []) ∷ slice_range i.columns 92 158 ∷ digits 6 i.serial ∷ [] in
+    rw (c.join.ensures, c.name_text.ensures, c.write.ensures.value, c.end_text.ensures, c.write-2.ensures.places, c.bytes-columns.ensures.value, c.six_digits.ensures, ← c.self.view_is)
+    (name_joined (codes "3") (name_texts i.name) back)
+
+pub returns-clause-is_leg : goal.returns-clause-is_leg
+returns-clause-is_leg c = rw (← c.self.view_is) c.self.invariant
