@@ -10,8 +10,8 @@ ghost use Rattle.ssim_held.specs.File.{IsRow, IsSpelled, desk_file, records_part
 use crate::held::Held;
 use crate::row_line::write_row;
 use itoa::Buffer;
-use ssim_records::{Record, Sink, write_record};
-use ssim_schedule::{Base, Block, StationRow, WriteFault, flush, put_bytes, put_line};
+use ssim_records::{Record, Sink};
+use ssim_schedule::{Base, Block, StationRow, WriteFault, flush, put_bytes, put_record};
 
 /// Puts the desk file of a base and the messages that are held.
 pub fn put_desk<W: Sink>(out: &mut W, base: &Base, held: &[Held]) -> Result<(), WriteFault>
@@ -63,7 +63,7 @@ fn put_records<W: Sink>(
 {
     put_counted(out, block, b"RECORDS ", records.len())?;
     for record in records {
-        put_line(out, block, &write_record(record))?;
+        put_record(out, block, record)?;
     }
     Ok(())
 }

@@ -7,6 +7,7 @@ pub mod Each
 pub mod FlightSets
 pub mod Flown
 pub mod Lines
+pub mod NextLines
 pub mod Notes
 pub mod Parts
 pub mod Pieces

@@ -7,7 +7,7 @@
 //! - [`Summary`]: how many records and flights a data set has, and its notes. It is read as a base is, but no record is kept.
 //! - [`Schedule`]: the itinerary of each flight on each date, which is its [`PlacedLeg`]s in order. `of` makes it from a base, `of_flights`
 //!   that of some flights alone, `export` writes it as chapter 7 in the one canonical division, or answers an [`ExportFault`].
-//! - [`Block`]: bytes for a sink, filled by [`put_line`] and [`put_bytes`] and emptied by [`flush`], or [`WriteFault`].
+//! - [`Block`]: bytes for a sink, filled by [`put_record`] and [`put_bytes`] and emptied by [`flush`], or [`WriteFault`].
 //! - [`resolve`]: resolves a message against a base: its reference with its year, its sub-messages with full dates, or a [`ResolveFault`].
 //! - `Schedule::apply_sub`: a [`Resolved`] sub-message acts on each date of its period by itself; a [`Finding`] counts the dates by
 //!   what they got.
@@ -59,7 +59,7 @@ mod waiting;
 
 pub use base::{Base, BaseRead};
 pub use export::ExportFault;
-pub use export::block::{Block, WriteFault, flush, put_bytes, put_line};
+pub use export::block::{Block, WriteFault, flush, put_bytes, put_record};
 pub use fault::{BaseFault, BaseRefusal};
 pub use finding::Finding;
 pub use flight_table::FlightPeriods;

@@ -79,8 +79,22 @@ fn read_line<'a>(bytes: &'a [u8], into: &mut Option<Record>) -> Option<&'a [u8]>
     }
 }
 
-// Takes the next line, and puts its record into a place, if it is one that a base can have.
+// Takes the next line, and puts its record into a place, if it is one that a base can have. Nearly every line is all in one part, and is
+// read in its place.
 fn next_line(parts: &mut Parts, into: &mut Option<Record>) -> bool
+    ensures some { IsTrue result → IsLineOf into.new parts.old parts.new }
+    ensures none { IsFalse result → (r : Record) (rest : List ℕ) → IsLine r parts.old rest → ⊥ }
+{
+    let Some(line) = parts.front(RECORD_LINE) else {
+        return next_line_copied(parts, into);
+    };
+    let is_line = read_line(line, into).is_some();
+    parts.skip(RECORD_LINE);
+    is_line
+}
+
+// The same of a line that may go on in the next part.
+fn next_line_copied(parts: &mut Parts, into: &mut Option<Record>) -> bool
     ensures some { IsTrue result → IsLineOf into.new parts.old parts.new }
     ensures none { IsFalse result → (r : Record) (rest : List ℕ) → IsLine r parts.old rest → ⊥ }
 {

@@ -5,17 +5,18 @@ ghost use Rattle.std.specs.List.{flat_map};
 ghost use Rattle.std.specs.Io.KnownBytes.{Appends};
 ghost use Rattle.ssim_records.specs.Frames.{fill};
 ghost use Rattle.ssim_records.specs.Leg.{AreLegColumns, written_leg};
+ghost use Rattle.ssim_records.specs.Record.{written};
 ghost use Rattle.ssim_records.specs.Segment.{IsTail, written_segment};
 ghost use Rattle.ssim_schedule.specs.Export.{line};
 ghost use Rattle.ssim_schedule.specs.Sinks.{CountsFault, TakesFront, TakesUpTo};
 
-use ssim_records::{LegColumns, NameText, PeriodText, SegmentTail, Sink};
+use ssim_records::{LegColumns, NameText, PeriodText, Record, SegmentTail, Sink, write_over};
 use std::error::Error;
 use std::fmt;
 use std::marker::Model;
 
-/// The size of a block: forty lines.
-const ROOM: usize = 8040;
+/// The size of a block: 320 lines.
+const ROOM: usize = 64_320;
 
 /// A record of fill.
 const FILL: [u8; 200] = [b'0'; 200];
@@ -46,7 +47,7 @@ impl fmt::Display for WriteFault {
 
 impl Error for WriteFault {}
 
-/// Bytes for a sink, seen as their list; at most 8,040. The buffer is an array, so writing allocates nothing.
+/// Bytes for a sink, seen as their list; at most 64,320. The buffer is an array, so writing allocates nothing.
 #[derive(Drop)]
 pub struct Block {
     bytes: [u8; ROOM],
@@ -60,7 +61,7 @@ impl Model for Block {
 
     ghost view = { λ b. take b.end b.bytes };
 
-    ghost invariant = { λ b. b.end ≤ 8040 };
+    ghost invariant = { λ b. b.end ≤ 64320 };
 }
 
 impl Block {
@@ -75,13 +76,13 @@ impl Block {
     }
 
     fn has_room(&self, count: usize) -> bool
-        ensures { IsTrue result ↔ (length self.now + count ≤ 8040) }
+        ensures { IsTrue result ↔ (length self.now + count ≤ 64320) }
     {
         count <= ROOM - self.end
     }
 
     fn push(&mut self, bytes: &[u8])
-        requires { length self.old + length bytes.now ≤ 8040 }
+        requires { length self.old + length bytes.now ≤ 64320 }
         ensures { self.new ≡ self.old ++ bytes.now }
     {
         let end = self.end + bytes.len();
@@ -90,7 +91,7 @@ impl Block {
     }
 
     fn push_line(&mut self, bytes: &[u8; 200])
-        requires { length self.old + 201 ≤ 8040 }
+        requires { length self.old + 201 ≤ 64320 }
         ensures { self.new ≡ self.old ++ line bytes.now }
     {
         let end = self.end + 200;
@@ -99,9 +100,19 @@ impl Block {
         self.end = end + 1;
     }
 
+    fn push_record(&mut self, one: &Record)
+        requires { length self.old + 201 ≤ 64320 }
+        ensures { self.new ≡ self.old ++ line (written one.now) }
+    {
+        let end = self.end + 200;
+        write_over(one, &mut self.bytes[self.end..end]);
+        self.bytes[end] = b'\n';
+        self.end = end + 1;
+    }
+
     fn push_leg(&mut self, name: &NameText, period: &PeriodText, columns: &LegColumns, serial: u32)
         requires serial { serial < 1000000 }
-        requires room { length self.old + 201 ≤ 8040 }
+        requires room { length self.old + 201 ≤ 64320 }
         ensures value { self.new ≡ self.old ++ line (written_leg (record { name = name.now; first = period.now.first; last = Some period.now.last; days = period.now.days; rate = 32; columns = columns.now; overflow = 32; serial = serial })) }
         ensures columns { AreLegColumns columns.now }
     {
@@ -119,7 +130,7 @@ impl Block {
         serial: u32,
     )
         requires serial { serial < 1000000 }
-        requires room { length self.old + 201 ≤ 8040 }
+        requires room { length self.old + 201 ≤ 64320 }
         ensures value { self.new ≡ self.old ++ line (written_segment (record { name = name.now; service = slice_index columns.now 0; tail = tail.now; overflow = 32; serial = serial })) }
         ensures tail { IsTail tail.now }
     {
@@ -177,7 +188,7 @@ pub fn flush<W: Sink>(out: &mut W, block: &mut Block) -> Result<(), WriteFault>
 // Makes room in the block for a record and LF: if it has none, its bytes are put into the sink. After a 52 the block is unchanged.
 fn make_room<W: Sink>(out: &mut W, block: &mut Block) -> Result<(), WriteFault>
     ensures ok { OnOk result (TakesUpTo block.old block.new (W.taken out.old) (W.taken out.new)) }
-    ensures room { OnOk result (length block.new + 201 ≤ 8040) }
+    ensures room { OnOk result (length block.new + 201 ≤ 64320) }
     ensures err { OnErr result (TakesFront block.old (W.taken out.old) (W.taken out.new)) }
     ensures unchanged { OnErr result (block.new ≡ block.old) }
     ensures failures { CountsFault (W.failures out.old) (W.failures out.new) result }
@@ -191,11 +202,7 @@ fn make_room<W: Sink>(out: &mut W, block: &mut Block) -> Result<(), WriteFault>
 
 /// Appends a record and LF to the block. If the block has no room for them, its bytes are put into the sink first. After a 52 the block is
 /// unchanged.
-pub fn put_line<W: Sink>(
-    out: &mut W,
-    block: &mut Block,
-    bytes: &[u8; 200],
-) -> Result<(), WriteFault>
+fn put_line<W: Sink>(out: &mut W, block: &mut Block, bytes: &[u8; 200]) -> Result<(), WriteFault>
     ensures ok { OnOk result (TakesUpTo (block.old ++ line bytes.now) block.new (W.taken out.old) (W.taken out.new)) }
     ensures err { OnErr result (TakesFront (block.old ++ line bytes.now) (W.taken out.old) (W.taken out.new)) }
     ensures unchanged { OnErr result (block.new ≡ block.old) }
@@ -204,6 +211,19 @@ pub fn put_line<W: Sink>(
 {
     make_room(out, block)?;
     block.push_line(bytes);
+    Ok(())
+}
+
+/// Appends a record as it is written, and LF, to the block, as `put_line` does.
+pub fn put_record<W: Sink>(out: &mut W, block: &mut Block, one: &Record) -> Result<(), WriteFault>
+    ensures ok { OnOk result (TakesUpTo (block.old ++ line (written one.now)) block.new (W.taken out.old) (W.taken out.new)) }
+    ensures err { OnErr result (TakesFront (block.old ++ line (written one.now)) (W.taken out.old) (W.taken out.new)) }
+    ensures unchanged { OnErr result (block.new ≡ block.old) }
+    ensures failures { CountsFault (W.failures out.old) (W.failures out.new) result }
+    ensures device { W.device out.new ≡ W.device out.old }
+{
+    make_room(out, block)?;
+    block.push_record(one);
     Ok(())
 }
 

@@ -10,13 +10,12 @@ ghost use Rattle.ssim_schedule.specs.Plan.{HasWritableLegs, HasWritablePieces, f
 ghost use Rattle.ssim_schedule.specs.ReadBack.{IsWritable};
 ghost use Rattle.ssim_schedule.specs.Sinks.{CountsFault, TakesFront, TakesUpTo};
 
-use crate::export::block::{Block, WriteFault, flush, put_fill, put_leg, put_line, put_segment};
+use crate::export::block::{Block, WriteFault, flush, put_fill, put_leg, put_record, put_segment};
 use crate::export::plan::FlightPieces;
 use crate::itinerary::Itinerary;
 use crate::leg::PlacedLeg;
 use ssim_records::{
     Carrier, Header, LegColumns, LegName, NameText, PeriodText, Record, SegmentTail, Sink, Trailer,
-    write_record,
 };
 use ssim_values::{Airline, Flight, Period};
 
@@ -55,7 +54,7 @@ fn put_alone<W: Sink>(out: &mut W, block: &mut Block, one: &Record) -> Result<()
     ensures failures { CountsFault (W.failures out.old) (W.failures out.new) result }
     ensures device { W.device out.new ≡ W.device out.old }
 {
-    put_line(out, block, &write_record(one))?;
+    put_record(out, block, one)?;
     put_fill(out, block, 4)
 }
 

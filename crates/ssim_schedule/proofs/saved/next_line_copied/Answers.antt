@@ -3,20 +3,9 @@ use Rattle.std.proofs.Common.{◌≡◌, ◌++◌, ◌<◌, ◌≤◌, ℕ, List
 use Rattle.std.specs.Prelude.{is_some}
 use Rattle.ssim_records.specs.declared.record.Record.{Record}
 use Rattle.ssim_schedule.specs.SavedBase.{IsLine, IsLineOf}
-use Rattle.ssim_schedule.proofs.SavedLines.{few-bytes, line-first, whole-line}
-use Rattle.ssim_schedule.proofs.saved.next_line.Goals as goal
-
-line_of : (into : Option Record) (line rest old new : List ℕ) → length line ≡ 201 → old ≡ line ++ new → IsLineOf into line rest → IsLineOf into old new
-line_of None line rest old new long is never = never
-line_of (Some r) line rest old new long is one = whole-line r line rest old new long is one
-
-was_read : {A : Type 0} (P : Type 0) (Q : A → Type 0) (read : Option A) → is_some read ≡ true → IfSome read Q → ((a : A) → Q a → P) → P
-was_read P Q (Some a) some holds f = f a holds
-was_read P Q None some holds f = absurd cc
-
-was_not : {A : Type 0} (P : Type 0) (read : Option A) → is_some read ≡ false → IfNone read P → P
-was_not P None none holds = holds
-was_not P (Some a) none holds = absurd cc
+use Rattle.ssim_schedule.proofs.NextLines.{line_of, was_not, was_read}
+use Rattle.ssim_schedule.proofs.SavedLines.{few-bytes, line-first}
+use Rattle.ssim_schedule.proofs.saved.next_line_copied.Goals as goal
 
 pub returns-then-fill-clause-some : goal.returns-then-fill-clause-some
 returns-then-fill-clause-some c = λ some.
