@@ -8,7 +8,7 @@ use std::alloc::Global;
 use std::io::{BufWriter, Error, ErrorKind, Write};
 
 /// The size of the buffer of a file that is written.
-const ROOM: usize = 65_536;
+const ROOM: usize = 32_768;
 
 /// Why a file was not read or written.
 pub(crate) fn fault_of(error: &Error) -> StoreFault {

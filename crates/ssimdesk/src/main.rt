@@ -14,7 +14,7 @@ use std::io::{BufWriter, ErrorKind};
 use std::process::ExitCode;
 
 /// The size of the buffer of the standard output.
-const ROOM: usize = 65_536;
+const ROOM: usize = 32_768;
 
 /// The words as texts.
 fn texts_of(alloc: Global, words: &[String]) -> Result<Vec<&str>, AllocError> {
