@@ -23,3 +23,4 @@ pub mod Readings
 pub mod FrameLaws
 pub mod Examples
 pub mod ReadOnce
+pub mod SameColumns

@@ -14,3 +14,4 @@ pub mod Reading
 pub mod Worked
 pub mod LegPoints
 pub mod Heads
+pub mod Latest

@@ -6,11 +6,9 @@ ghost use Rattle.ssim_records.specs.Leg.{leg_table};
 ghost use Rattle.ssim_records.specs.Heads.{IsLegHead};
 
 use crate::columns::{days_at, digits_at, first_day_at, last_day_at};
-use crate::field::{
-    Field, Kind, all_carried, arrival_is_valid, day_of, days_of, departure_is_valid, end_from,
-    first_fault,
-};
-use crate::leg_name::{LegName, name_at, read_name};
+use crate::field::{Field, Kind, all_carried, arrival_is_valid, departure_is_valid, first_fault};
+use crate::latest::Latest;
+use crate::leg_name::{LegName, name_at};
 use crate::number::digits_of;
 use ssim_values::{Day, DayMask};
 
@@ -76,7 +74,7 @@ fn head_of(bytes: &[u8; 200]) -> LegHead
 
 // The head of a flight leg all of whose fields are valid, each field read once, or none; then the
 // table names the invalid field.
-fn head_in(bytes: &[u8; 200]) -> Option<LegHead>
+fn head_in(bytes: &[u8; 200], latest: &mut Latest) -> Option<LegHead>
     ensures { IfSome result (λ head. IsLegHead head bytes.now) }
 {
     if !all_carried(bytes) {
@@ -88,26 +86,24 @@ fn head_in(bytes: &[u8; 200]) -> Option<LegHead>
     if !arrival_is_valid(bytes) {
         return None;
     }
-    let name = read_name(bytes)?;
-    let first = day_of(&bytes[14..21])?;
-    let last = end_from(first, &bytes[21..28])?;
-    let days = days_of(&bytes[28..35])?;
+    let name = latest.name_in(bytes)?;
+    let dates = latest.dates_in(bytes)?;
     let serial = digits_of(&bytes[194..200])?;
     Some(LegHead {
         name,
-        first,
-        last,
-        days,
+        first: dates.first,
+        last: dates.last,
+        days: dates.days,
         serial,
     })
 }
 
 /// The head of a flight leg all of whose fields are valid, or the first column of the first invalid field.
-pub(crate) fn read_leg_head(bytes: &[u8; 200]) -> Result<LegHead, usize>
+pub(crate) fn read_leg_head(bytes: &[u8; 200], latest: &mut Latest) -> Result<LegHead, usize>
     ensures ok { IfOk result (λ head. IsLegHead head bytes.now) }
     ensures err { IfErr result (λ column. first_fault bytes.now leg_table ≡ Some column) }
 {
-    if let Some(head) = head_in(bytes) {
+    if let Some(head) = head_in(bytes, latest) {
         return Ok(head);
     }
     match leg_fault(bytes) {

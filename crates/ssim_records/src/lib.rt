@@ -1,7 +1,7 @@
 //! The 200-byte records of a schedule data set, as chapter 7 of IATA's Standard Schedules Information Manual has them,
 //! and the devices that they come from and go to.
 //!
-//! - [`Record`]: a [`Header`], [`Carrier`], [`LegRecord`], [`SegmentRecord`] or [`Trailer`], read by [`read_record`] and
+//! - [`Record`]: a [`Header`], [`Carrier`], [`LegRecord`], [`SegmentRecord`] or [`Trailer`], read by [`read_record`] or a [`RecordReader`] and
 //!   written by [`write_record`] and [`write_over`]. [`LegName`] identifies the leg of a record. [`LegColumns`] and [`SegmentTail`] are the
 //!   columns that a leg or a segment has of its own, with a reader for each field. [`NameText`] and [`PeriodText`] are texts that
 //!   several records have in common, so that they are written once.
@@ -37,6 +37,7 @@ mod end_code;
 mod fault;
 mod field;
 mod header;
+mod latest;
 mod laws;
 mod leg;
 mod leg_columns;
@@ -69,7 +70,7 @@ pub use leg_columns::LegColumns;
 pub use leg_name::LegName;
 pub use leg_parts::{LegEquipment, LegStations, LegTimes};
 pub use parts::Parts;
-pub use record::{Record, read_into, read_record, write_over, write_record};
+pub use record::{Record, RecordReader, read_into, read_record, write_over, write_record};
 pub use records::Records;
 pub use segment::SegmentRecord;
 pub use segment_tail::SegmentTail;

@@ -8,6 +8,7 @@ ghost use Rattle.ssim_records.specs.Record.{Spells, HasSpelt, IsRecord, written,
 use crate::carrier::{Carrier, read_carrier};
 use crate::fault::RecordFault;
 use crate::header::{Header, read_header};
+use crate::latest::Latest;
 use crate::leg::{LegRecord, leg_with};
 use crate::leg_head::read_leg_head;
 use crate::segment::{SegmentRecord, segment_with};
@@ -37,7 +38,11 @@ fn kind_of(bytes: &[u8; 200]) -> u8
 
 // Puts the record of its type into a place, or returns the first column of the first invalid field. Says whether there is
 // such a type.
-fn put_record(bytes: &[u8; 200], into: &mut Option<Record>) -> Result<bool, usize>
+fn put_record(
+    bytes: &[u8; 200],
+    latest: &mut Latest,
+    into: &mut Option<Record>,
+) -> Result<bool, usize>
     ensures ok { IfOk result (λ known. IsTrue known → HasSpelt into.new bytes.now) }
     ensures none { IfOk result (λ known. known ≡ false → (number : ℕ) → fault_of number bytes.now ≡ Some (RecordFault.BadType number)) }
     ensures err { IfErr result (λ column. (number : ℕ) → fault_of number bytes.now ≡ Some (RecordFault.BadColumn number column)) }
@@ -46,17 +51,54 @@ fn put_record(bytes: &[u8; 200], into: &mut Option<Record>) -> Result<bool, usiz
         b'1' => *into = Some(Record::Header(read_header(bytes)?)),
         b'2' => *into = Some(Record::Carrier(read_carrier(bytes)?)),
         b'3' => {
-            let head = read_leg_head(bytes)?;
+            let head = read_leg_head(bytes, latest)?;
             *into = Some(Record::Leg(leg_with(bytes, &head)));
         }
         b'4' => {
-            let head = read_segment_head(bytes)?;
+            let head = read_segment_head(bytes, latest)?;
             *into = Some(Record::Segment(segment_with(bytes, &head)));
         }
         b'5' => *into = Some(Record::Trailer(read_trailer(bytes)?)),
         _ => return Ok(false),
     }
     Ok(true)
+}
+
+/// A reader of records one after another, which takes note of the latest name and dates: the same columns are not parsed
+/// again.
+#[derive(Drop)]
+pub struct RecordReader {
+    latest: Latest,
+}
+
+impl RecordReader {
+    /// A reader before the first record.
+    pub fn new() -> RecordReader {
+        RecordReader {
+            latest: Latest::new(),
+        }
+    }
+
+    /// Puts the record that 200 bytes spell into a place, or returns the fault at this record number. After a fault the
+    /// place may have any record or none.
+    pub fn read_into(
+        &mut self,
+        bytes: &[u8; 200],
+        number: u64,
+        into: &mut Option<Record>,
+    ) -> Result<(), RecordFault>
+        ensures ok { OnOk result (HasSpelt into.new bytes.now) }
+        ensures err { IfErr result (λ e. fault_of number bytes.now ≡ Some e) }
+    {
+        match put_record(bytes, &mut self.latest, into) {
+            Ok(true) => Ok(()),
+            Ok(false) => Err(RecordFault::BadType { record: number }),
+            Err(column) => Err(RecordFault::BadColumn {
+                record: number,
+                column,
+            }),
+        }
+    }
 }
 
 /// Puts the record that 200 bytes spell into a place, or returns the fault at this record number. After a fault the place
@@ -69,14 +111,7 @@ pub fn read_into(
     ensures ok { OnOk result (HasSpelt into.new bytes.now) }
     ensures err { IfErr result (λ e. fault_of number bytes.now ≡ Some e) }
 {
-    match put_record(bytes, into) {
-        Ok(true) => Ok(()),
-        Ok(false) => Err(RecordFault::BadType { record: number }),
-        Err(column) => Err(RecordFault::BadColumn {
-            record: number,
-            column,
-        }),
-    }
+    RecordReader::new().read_into(bytes, number, into)
 }
 
 /// The record that 200 bytes spell. A refusal is 11 `BadType` or 12 `BadColumn`, with record number 0.

@@ -7,7 +7,7 @@ ghost use Rattle.ssim_records.specs.Reading.{Counts, FailsAs, FetchesNext, Gives
 use crate::blocks::{Stop, next_other};
 use crate::device::Source;
 use crate::fault::RecordFault;
-use crate::record::{Record, read_into};
+use crate::record::{Record, RecordReader};
 use crate::window::Window;
 use std::marker::Model;
 
@@ -33,6 +33,8 @@ pub struct Records {
     number: u64,
     /// The bytes that came and are not used.
     window: Window,
+    /// What reads the records.
+    records: RecordReader,
     /// How the reading ended; the same result is returned again.
     ended: Option<Ending>,
 }
@@ -58,6 +60,7 @@ impl Records {
             came: 0,
             number: 0,
             window: Window::new(),
+            records: RecordReader::new(),
             ended: None,
         }
     }
@@ -99,7 +102,9 @@ impl Records {
                 Ok(self.number)
             }
             Ok(true) => {
-                let read = read_into(self.window.front(), self.number, into);
+                let read = self
+                    .records
+                    .read_into(self.window.front(), self.number, into);
                 self.window.skip();
                 match read {
                     Ok(()) => Ok(self.number),

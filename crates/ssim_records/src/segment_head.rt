@@ -7,7 +7,8 @@ ghost use Rattle.ssim_records.specs.Heads.{IsSegmentHead};
 
 use crate::columns::digits_at;
 use crate::field::{Field, Kind, all_carried, first_fault};
-use crate::leg_name::{LegName, name_at, read_name};
+use crate::latest::Latest;
+use crate::leg_name::{LegName, name_at};
 use crate::number::digits_of;
 
 const TABLE: [Field; 10] = [
@@ -50,23 +51,26 @@ fn head_of(bytes: &[u8; 200]) -> SegmentHead
 
 // The head of segment data all of whose fields are valid, each field read once, or none; then the
 // table names the invalid field.
-fn head_in(bytes: &[u8; 200]) -> Option<SegmentHead>
+fn head_in(bytes: &[u8; 200], latest: &mut Latest) -> Option<SegmentHead>
     ensures { IfSome result (λ head. IsSegmentHead head bytes.now) }
 {
     if !all_carried(bytes) {
         return None;
     }
-    let name = read_name(bytes)?;
+    let name = latest.name_in(bytes)?;
     let serial = digits_of(&bytes[194..200])?;
     Some(SegmentHead { name, serial })
 }
 
 /// The head of segment data all of whose fields are valid, or the first column of the first invalid field.
-pub(crate) fn read_segment_head(bytes: &[u8; 200]) -> Result<SegmentHead, usize>
+pub(crate) fn read_segment_head(
+    bytes: &[u8; 200],
+    latest: &mut Latest,
+) -> Result<SegmentHead, usize>
     ensures ok { IfOk result (λ head. IsSegmentHead head bytes.now) }
     ensures err { IfErr result (λ column. first_fault bytes.now segment_table ≡ Some column) }
 {
-    if let Some(head) = head_in(bytes) {
+    if let Some(head) = head_in(bytes, latest) {
         return Ok(head);
     }
     match segment_fault(bytes) {

@@ -9,7 +9,7 @@ use crate::fault::BaseFault;
 use crate::kept::Kept;
 use crate::kept_records::KeptRecords;
 use crate::stations::Stations;
-use ssim_records::{Parts, Record, read_into};
+use ssim_records::{Parts, Record, RecordReader};
 use ssim_values::Memory;
 use std::alloc::{AllocError, Global};
 
@@ -64,13 +64,13 @@ fn is_bare(one: &Record) -> bool
 }
 
 // Puts the record of the first line into a place, if it is one that a base can have, and returns the bytes after the line.
-fn read_line<'a>(bytes: &'a [u8], into: &mut Option<Record>) -> Option<&'a [u8]>
+fn read_line<'a>(reader: &mut RecordReader, bytes: &'a [u8], into: &mut Option<Record>) -> Option<&'a [u8]>
     ensures some { IfSome result (λ rest. IsLineOf into.new bytes.now rest.now) }
     ensures none { IfNone result ((r : Record) (rest : List ℕ) → IsLine r bytes.now rest → ⊥) }
 {
     let (block, after) = bytes.split_first_chunk::<200>()?;
     let (end, rest) = after.split_first()?;
-    if *end != b'\n' || read_into(block, 0, into).is_err() {
+    if *end != b'\n' || reader.read_into(block, 0, into).is_err() {
         return None;
     }
     match into {
@@ -81,25 +81,25 @@ fn read_line<'a>(bytes: &'a [u8], into: &mut Option<Record>) -> Option<&'a [u8]>
 
 // Takes the next line, and puts its record into a place, if it is one that a base can have. Nearly every line is all in one part, and is
 // read in its place.
-fn next_line(parts: &mut Parts, into: &mut Option<Record>) -> bool
+fn next_line(reader: &mut RecordReader, parts: &mut Parts, into: &mut Option<Record>) -> bool
     ensures some { IsTrue result → IsLineOf into.new parts.old parts.new }
     ensures none { IsFalse result → (r : Record) (rest : List ℕ) → IsLine r parts.old rest → ⊥ }
 {
     let Some(line) = parts.front(RECORD_LINE) else {
-        return next_line_copied(parts, into);
+        return next_line_copied(reader, parts, into);
     };
-    let is_line = read_line(line, into).is_some();
+    let is_line = read_line(reader, line, into).is_some();
     parts.skip(RECORD_LINE);
     is_line
 }
 
 // The same of a line that may go on in the next part.
-fn next_line_copied(parts: &mut Parts, into: &mut Option<Record>) -> bool
+fn next_line_copied(reader: &mut RecordReader, parts: &mut Parts, into: &mut Option<Record>) -> bool
     ensures some { IsTrue result → IsLineOf into.new parts.old parts.new }
     ensures none { IsFalse result → (r : Record) (rest : List ℕ) → IsLine r parts.old rest → ⊥ }
 {
     let mut line = [0; RECORD_LINE];
-    parts.fill(&mut line) && read_line(&line, into).is_some()
+    parts.fill(&mut line) && read_line(reader, &line, into).is_some()
 }
 
 /// The base whose records the next `count` lines of the parts are, with these rows. Each line is read once: what it spells is compared
@@ -119,11 +119,12 @@ pub fn read_saved(
 {
     let records = Vec::with_capacity(alloc, count.min(parts.len() / RECORD_LINE))?;
     let mut kept = Kept::new(alloc, KeptRecords::All(records));
+    let mut reader = RecordReader::new();
     let mut next = None;
     let mut done = 0;
     while done < count {
         let left = parts.len();
-        if !next_line(parts, &mut next) {
+        if !next_line(&mut reader, parts, &mut next) {
             return Err(SavedFault::Invalid(left));
         }
         let Some(one) = &mut next else { unreachable!() };

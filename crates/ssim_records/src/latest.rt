@@ -1,0 +1,178 @@
+//! What the latest records had in columns that are parsed. Mostly the next record has the same, and it is not parsed again.
+
+ghost use Rattle.std.specs.Prelude.{◌≡◌, IfSome, IsTrue, length};
+ghost use Rattle.ssim_records.specs.Leg.{IsName, SpellsName};
+ghost use Rattle.ssim_records.specs.Latest.{SpellsDates};
+
+use crate::field::{day_of, days_of, end_from};
+use crate::leg_name::{LegName, read_name};
+use ssim_values::{Day, DayMask};
+use std::marker::Model;
+
+/// A name, and the bytes of columns 2 to 9 and 6 to 13 that spell it.
+#[derive(Drop)]
+struct NameRead {
+    front: [u8; 8],
+    back: [u8; 8],
+    name: LegName,
+}
+
+impl Model for NameRead {
+    ghost use Rattle.ssim_records.specs.Latest.{IsNameRead};
+
+    ghost Value = { Rattle.ssim_records.specs.Latest.NameRead };
+
+    ghost view = { λ r. record { front = r.front; back = r.back; name = r.name } };
+
+    ghost invariant = { λ r. IsNameRead (record { front = r.front; back = r.back; name = r.name }) };
+}
+
+/// Columns 15 to 35 of a leg: the first day of its period, its last day, or none if it is open, and the days of operation.
+#[derive(Clone, Copy, Debug)]
+pub(crate) struct LegDates {
+    pub(crate) first: Day,
+    pub(crate) last: Option<Day>,
+    pub(crate) days: DayMask,
+}
+
+/// Dates, and the bytes of columns 15 to 22, 22 to 29 and 28 to 35 that spell them.
+#[derive(Drop)]
+struct DatesRead {
+    first: [u8; 8],
+    last: [u8; 8],
+    days: [u8; 8],
+    dates: LegDates,
+}
+
+impl Model for DatesRead {
+    ghost use Rattle.ssim_records.specs.Latest.{AreDatesRead};
+
+    ghost Value = { Rattle.ssim_records.specs.Latest.DatesRead };
+
+    ghost view = { λ r. record { first = r.first; last = r.last; days = r.days; dates = r.dates } };
+
+    ghost invariant = { λ r. AreDatesRead (record { first = r.first; last = r.last; days = r.days; dates = r.dates }) };
+}
+
+fn eight(text: &[u8]) -> [u8; 8]
+    requires { length text.now ≡ 8 }
+    ensures { result ≡ text.now }
+{
+    let mut bytes = [0; 8];
+    bytes.copy_from_slice(text);
+    bytes
+}
+
+// Whether eight bytes are these. They are compared as one number.
+fn are_same(text: &[u8], other: &[u8; 8]) -> bool
+    requires { length text.now ≡ 8 }
+    ensures { IsTrue result → text.now ≡ other.now }
+{
+    u64::from_le_bytes(eight(text)) == u64::from_le_bytes(*other)
+}
+
+impl NameRead {
+    fn new(bytes: &[u8; 200], name: LegName) -> NameRead
+        requires spells { SpellsName name bytes.now }
+        requires is_name { IsName name }
+    {
+        NameRead {
+            front: eight(&bytes[1..9]),
+            back: eight(&bytes[5..13]),
+            name,
+        }
+    }
+
+    // The name, if the record has the same columns.
+    fn name_in(&self, bytes: &[u8; 200]) -> Option<LegName>
+        ensures spells { IfSome result (λ name. SpellsName name bytes.now) }
+        ensures is_name { IfSome result (λ name. IsName name) }
+    {
+        if are_same(&bytes[1..9], &self.front) && are_same(&bytes[5..13], &self.back) {
+            Some(self.name)
+        } else {
+            None
+        }
+    }
+}
+
+impl DatesRead {
+    fn new(bytes: &[u8; 200], dates: &LegDates) -> DatesRead
+        requires { SpellsDates dates.now bytes.now }
+    {
+        DatesRead {
+            first: eight(&bytes[14..22]),
+            last: eight(&bytes[21..29]),
+            days: eight(&bytes[27..35]),
+            dates: *dates,
+        }
+    }
+
+    // The dates, if the record has the same columns.
+    fn dates_in(&self, bytes: &[u8; 200]) -> Option<LegDates>
+        ensures { IfSome result (λ dates. SpellsDates dates bytes.now) }
+    {
+        if are_same(&bytes[14..22], &self.first)
+            && are_same(&bytes[21..29], &self.last)
+            && are_same(&bytes[27..35], &self.days)
+        {
+            Some(self.dates)
+        } else {
+            None
+        }
+    }
+}
+
+fn read_dates(bytes: &[u8; 200]) -> Option<LegDates>
+    ensures { IfSome result (λ dates. SpellsDates dates bytes.now) }
+{
+    let first = day_of(&bytes[14..21])?;
+    let last = end_from(first, &bytes[21..28])?;
+    let days = days_of(&bytes[28..35])?;
+    Some(LegDates { first, last, days })
+}
+
+/// The latest name and the latest dates of the records so far.
+#[derive(Drop)]
+pub(crate) struct Latest {
+    name: Option<NameRead>,
+    dates: Option<DatesRead>,
+}
+
+impl Latest {
+    pub(crate) fn new() -> Latest {
+        Latest {
+            name: None,
+            dates: None,
+        }
+    }
+
+    /// The name in columns 2 to 13, if they spell one.
+    pub(crate) fn name_in(&mut self, bytes: &[u8; 200]) -> Option<LegName>
+        ensures spells { IfSome result (λ name. SpellsName name bytes.now) }
+        ensures is_name { IfSome result (λ name. IsName name) }
+    {
+        if let Some(read) = &self.name {
+            if let Some(name) = read.name_in(bytes) {
+                return Some(name);
+            }
+        }
+        let name = read_name(bytes)?;
+        self.name = Some(NameRead::new(bytes, name));
+        Some(name)
+    }
+
+    /// The dates in columns 15 to 35, if they spell some.
+    pub(crate) fn dates_in(&mut self, bytes: &[u8; 200]) -> Option<LegDates>
+        ensures { IfSome result (λ dates. SpellsDates dates bytes.now) }
+    {
+        if let Some(read) = &self.dates {
+            if let Some(dates) = read.dates_in(bytes) {
+                return Some(dates);
+            }
+        }
+        let dates = read_dates(bytes)?;
+        self.dates = Some(DatesRead::new(bytes, &dates));
+        Some(dates)
+    }
+}
