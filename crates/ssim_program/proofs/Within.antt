@@ -5,7 +5,7 @@ use Rattle.ssim_records.specs.declared.fault.RecordFault.{RecordFault}
 use Rattle.ssim_records.specs.declared.fault.RecordFault.TheVariants.{Short, BadType, BadColumn, ReadFault, ReaderNeverEnds}
 use Rattle.ssim_records.specs.declared.record.Record.{Record}
 use Rattle.ssim_schedule.specs.Base.{Ending, Done, Broken, at_record, first_refusal, kept, missing, refusal_at, unless_refused}
-use Rattle.ssim_schedule.specs.Reading.{Answers, FailsAs, Gives, IsReadAs}
+use Rattle.ssim_schedule.specs.Reading.{Answers, AnswersRecords, FailsAs, Gives, IsReadAs}
 use Rattle.ssim_schedule.specs.Summary.{Sums}
 use Rattle.ssim_schedule.specs.declared.base.BaseRead.{BaseRead}
 use Rattle.ssim_schedule.specs.declared.fault.BaseFault.{BaseFault}
@@ -62,6 +62,13 @@ of_bytes (Ok x) limit bytes within read failed = tt
 of_bytes (Err fault.Memory) limit bytes within read failed = tt
 of_bytes (Err (Read f)) limit bytes within read failed = of_fault f limit bytes within read failed
 of_bytes (Err (Refused n why)) limit bytes within read failed = tt
+
+-- and so are its records alone
+pub records_of_bytes : (r : Result (List Record) BaseFault) (limit : ℕ) (bytes : List ℕ) → length bytes ≤ limit → AnswersRecords r (IsReadAs limit bytes) → IfErr r (FailsAs 0 0) → IfErr r IsOfBytes
+records_of_bytes (Ok x) limit bytes within read failed = tt
+records_of_bytes (Err fault.Memory) limit bytes within read failed = tt
+records_of_bytes (Err (Read f)) limit bytes within read failed = of_fault f limit bytes within read failed
+records_of_bytes (Err (Refused n why)) limit bytes within read failed = tt
 
 -- and so is the summary of its bytes
 pub sums_of_bytes : (r : Result Summary BaseFault) (limit : ℕ) (bytes : List ℕ) → length bytes ≤ limit → Sums limit (Some bytes) r → IfErr r (FailsAs 0 0) → IfErr r IsOfBytes

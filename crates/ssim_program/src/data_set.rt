@@ -1,15 +1,16 @@
 //! Files of the store: any file, the data set in a file, and a base from a data set and a station table.
 
-ghost use Rattle.std.specs.Prelude.{◌≡◌, ◌≤◌, IfErr, IfOk, Ok, Some, length};
-ghost use Rattle.ssim_schedule.specs.Reading.{Answers, IsReadAs};
+ghost use Rattle.std.specs.Prelude.{◌≡◌, ◌≤◌, List, IfErr, IfOk, Ok, Some, length};
+ghost use Rattle.ssim_schedule.specs.Reading.{Answers, AnswersRecords, IsReadAs};
 ghost use Rattle.ssim_schedule.specs.Stations.{Row};
+ghost use Rattle.ssim_schedule.specs.declared.note.Note.{Note};
 ghost use Rattle.ssim_schedule.specs.Summary.{Sums};
 ghost use Rattle.ssim_program.specs.Made.{HasFile, IsOfBytes, ReadsBase, ReadsFile, RefusesBase, RefusesFile, RefusesLoad, SumsFile, file_limit};
 
 use crate::refusal::Refusal;
 use crate::store::{Store, StoreFault};
 use ssim_records::Parts;
-use ssim_schedule::{Base, BaseFault, BaseRead, Stations, Summary};
+use ssim_schedule::{Base, BaseFault, BaseRead, DataSet, Stations, Summary};
 use std::alloc::Global;
 
 /// The most bytes that a file may have.
@@ -51,15 +52,15 @@ pub(crate) fn load_parts<S: Store>(
     }
 }
 
-/// Reads the data set in the file of this name, with an empty station table. The file's bytes are freed while they are read.
-pub(crate) fn load<S: Store>(alloc: Global, name: &str, store: &mut S) -> Result<BaseRead, Refusal>
-    ensures read { IfOk result (λ read. ReadsFile (S.files store.old) name.now (Ok (read.base.records, read.notes.items))) }
+/// Reads the data set in the file of this name, to be exported. The file's bytes are freed while they are read.
+pub(crate) fn load<S: Store>(alloc: Global, name: &str, store: &mut S) -> Result<DataSet, Refusal>
+    ensures read { IfOk result (λ read. (notes : List Note) × ReadsFile (S.files store.old) name.now (Ok (read, notes))) }
     ensures refused { IfErr result (RefusesFile (S.files store.old) name.now) }
     ensures same { S.files store.new ≡ S.files store.old }
 {
     match load_parts(alloc, name, store) {
-        Ok(parts) => match read_alone(alloc, parts) {
-            Ok(read) => Ok(read),
+        Ok(parts) => match read_set(alloc, parts) {
+            Ok(data_set) => Ok(data_set),
             Err(fault) => Err(Refusal::from(fault)),
         },
         Err(refusal) => Err(refusal),
@@ -118,16 +119,14 @@ fn read_with(alloc: Global, bytes: &[u8], stations: Stations) -> Result<BaseRead
     Base::read(alloc, &mut left, stations, LIMIT)
 }
 
-/// Reads a data set in parts with an empty station table.
-fn read_alone(alloc: Global, parts: Parts) -> Result<BaseRead, BaseFault>
+/// Reads a data set in parts, to be exported.
+fn read_set(alloc: Global, parts: Parts) -> Result<DataSet, BaseFault>
     requires { length parts ≤ file_limit }
-    ensures read { Answers result (IsReadAs file_limit parts) }
+    ensures read { AnswersRecords result (IsReadAs file_limit parts) }
     ensures whole { IfErr result IsOfBytes }
 {
-    let Ok(stations) = Stations::read(alloc, b"") else {
-        return Err(BaseFault::Memory);
-    };
-    read_parts(alloc, parts, stations)
+    let mut left = parts;
+    DataSet::read(alloc, &mut left, LIMIT)
 }
 
 /// Reads a data set in parts with a station table.

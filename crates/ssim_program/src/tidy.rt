@@ -14,8 +14,14 @@ use crate::printer::Printer;
 use crate::refusal::Refusal;
 use crate::store::Store;
 use ssim_records::Sink;
-use ssim_schedule::{Base, BaseRead, ExportFault};
+use ssim_schedule::{DataSet, ExportFault};
 use std::alloc::Global;
+
+// The bytes that a block is filled with at a time.
+const CHUNK: usize = 4_096;
+
+// So many of them are more than a part of a file, which has 1,048,576 bytes.
+const CHUNKS: usize = 270;
 
 /// Writes the canonical export of the data set in the file of this name.
 pub(crate) fn tidy<S: Store, O: Printer>(
@@ -33,10 +39,11 @@ pub(crate) fn tidy<S: Store, O: Printer>(
     ensures device { O.device out.new ≡ O.device out.old }
     ensures flushed { OnOk result (O.flushed out.new ≡ true) }
 {
+    keep_parts_in_the_heap(alloc);
     match load(alloc, name, store) {
-        Ok(BaseRead { base, .. }) => {
-            let airline = base.airline();
-            match export(base, out) {
+        Ok(data_set) => {
+            let airline = data_set.airline();
+            match export(data_set, out) {
                 Ok(()) => Ok(()),
                 Err(fault) => Err(Refusal::of_export(airline, fault)),
             }
@@ -45,32 +52,47 @@ pub(crate) fn tidy<S: Store, O: Printer>(
     }
 }
 
-/// Writes the canonical export of a base, and flushes `out`.
-fn export<O: Printer>(base: Base, out: &mut O) -> Result<(), ExportFault>
-    ensures ok { OnOk result (Exports base.records (O.taken out.old) (O.taken out.new)) }
+/// Writes the canonical export of a data set, and flushes `out`.
+fn export<O: Printer>(data_set: DataSet, out: &mut O) -> Result<(), ExportFault>
+    ensures ok { OnOk result (Exports data_set (O.taken out.old) (O.taken out.new)) }
     ensures again { OnOk result (GrowsByItself (O.taken out.old) (O.taken out.new)) }
-    ensures why { IfErr result (HasNoExport base.records (days_of base.records) (O.failures out.old) (O.failures out.new)) }
+    ensures why { IfErr result (HasNoExport data_set (days_of data_set) (O.failures out.old) (O.failures out.new)) }
     ensures counts { IfErr result (CountsExport (O.failures out.old) (O.failures out.new)) }
-    ensures err { OnErr result (LeavesExport base.records (O.taken out.old) (O.taken out.new) (O.failures out.old) (O.failures out.new)) }
+    ensures err { OnErr result (LeavesExport data_set (O.taken out.old) (O.taken out.new) (O.failures out.old) (O.failures out.new)) }
     ensures device { O.device out.new ≡ O.device out.old }
     ensures flushed { OnOk result (O.flushed out.new ≡ true) }
 {
-    export_into(base, out)?;
+    export_into(data_set, out)?;
     match out.flush() {
         Ok(()) => Ok(()),
         Err(_) => Err(ExportFault::WriteFault),
     }
 }
 
-/// Writes the canonical export of a base.
-fn export_into<W: Sink>(base: Base, out: &mut W) -> Result<(), ExportFault>
-    ensures ok { OnOk result (Exports base.records (W.taken out.old) (W.taken out.new)) }
+/// Writes the canonical export of a data set.
+fn export_into<W: Sink>(data_set: DataSet, out: &mut W) -> Result<(), ExportFault>
+    ensures ok { OnOk result (Exports data_set (W.taken out.old) (W.taken out.new)) }
     ensures again { OnOk result (GrowsByItself (W.taken out.old) (W.taken out.new)) }
-    ensures why { IfErr result (HasNoExport base.records (days_of base.records) (W.failures out.old) (W.failures out.new)) }
+    ensures why { IfErr result (HasNoExport data_set (days_of data_set) (W.failures out.old) (W.failures out.new)) }
     ensures counts { IfErr result (CountsExport (W.failures out.old) (W.failures out.new)) }
-    ensures err { OnErr result (LeavesExport base.records (W.taken out.old) (W.taken out.new) (W.failures out.old) (W.failures out.new)) }
+    ensures err { OnErr result (LeavesExport data_set (W.taken out.old) (W.taken out.new) (W.failures out.old) (W.failures out.new)) }
     ensures count { OnOk result (W.failures out.new ≡ W.failures out.old) }
     ensures device { W.device out.new ≡ W.device out.old }
 {
-    base.export(out)
+    data_set.export(out)
+}
+
+/// Takes one block that is larger than a part of a file, and frees it. The C library takes blocks of 128 KiB and more from the system, and
+/// gives each back when it is freed, until a larger one was freed: from then on blocks up to that size stay with the program. So the records
+/// are put into the memory that the parts leave, and no new memory is asked for, which would have to be cleared first.
+///
+/// The block grows while it is filled, since the compiler removes one that is only taken and freed. If there is no memory for it, the command
+/// only takes longer.
+fn keep_parts_in_the_heap(alloc: Global) {
+    let mut block: Vec<u8> = Vec::new(alloc);
+    for _ in 0..CHUNKS {
+        if block.extend_from_slice(&[0; CHUNK]).is_err() {
+            return;
+        }
+    }
 }

@@ -89,6 +89,13 @@ Answers (Err fault.Memory) P = Unit {0}
 Answers (Err (fault.Read f)) P = P (Err (fault.Read f))
 Answers (Err (fault.Refused number refusal)) P = P (Err (fault.Refused number refusal))
 
+-- the same of the records alone of a data set, where its notes are not told
+abbrev pub AnswersRecords : Result (List Record) BaseFault → (Outcome → Type 0) → Type 0
+AnswersRecords (Ok records) P = (notes : List Note) × P (Ok (records, notes))
+AnswersRecords (Err fault.Memory) P = Unit {0}
+AnswersRecords (Err (fault.Read f)) P = P (Err (fault.Read f))
+AnswersRecords (Err (fault.Refused number refusal)) P = P (Err (fault.Refused number refusal))
+
 -- a failure of the reader was counted exactly where it is answered
 abbrev pub FailsAs : ℕ → ℕ → BaseFault → Type 0
 FailsAs old new fault.Memory = new ≡ old

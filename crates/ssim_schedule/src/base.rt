@@ -1,6 +1,6 @@
 //! The base: the records of a data set and its station table.
 
-ghost use Rattle.std.specs.Prelude.{◌≡◌, ◌↔◌, ℕ, List, Option, IsTrue, IfOk, IfErr, reverse, true};
+ghost use Rattle.std.specs.Prelude.{◌≡◌, ◌↔◌, ℕ, List, Option, IsTrue, IfOk, IfErr, reverse};
 ghost use Rattle.std.specs.List.{All};
 ghost use Rattle.ssim_schedule.specs.Base.{airline_of};
 ghost use Rattle.ssim_schedule.specs.BaseSeen.{AreFlights};
@@ -57,7 +57,7 @@ pub struct BaseRead {
 impl Base {
     ghost use Rattle.ssim_schedule.specs.Gathering.{HasRead, IsWhole};
     ghost use Rattle.ssim_schedule.specs.Kept.{IsKept, IsWholeBase};
-    ghost use Rattle.ssim_schedule.specs.KeptRecords.{keeps};
+    ghost use Rattle.ssim_schedule.specs.KeptRecords.{InList, keeps};
 
     /// Reads a data set, record by record, and keeps the station table with it. At most `limit` bytes and one more are fetched.
     ///
@@ -91,7 +91,7 @@ impl Base {
         stations: Stations,
     ) -> Result<BaseRead, BaseFault>
         requires whole { IsWhole gathering }
-        requires keeps { keeps gathering.kept.records ≡ true }
+        requires keeps { keeps gathering.kept.records ≡ InList }
         ensures read { (limit : ℕ) (told : Option (List ℕ)) → HasRead limit told gathering number → Answers result (IsReadOf limit told) }
         ensures rows { IfOk result (λ read. read.base.rows ≡ stations) }
         ensures failure { (n : ℕ) → IfErr result (λ e. FailsAs n n e) }
@@ -109,7 +109,7 @@ impl Base {
     /// The base of the records that are kept, which are those of a base.
     pub(crate) fn of_kept(alloc: Global, kept: Kept, stations: Stations) -> Result<Base, Memory>
         requires whole { IsWholeBase kept }
-        requires keeps { keeps kept.records ≡ true }
+        requires keeps { keeps kept.records ≡ InList }
         ensures records { (earlier : List Record) → IsKept kept earlier → IfOk result (λ base. base.records ≡ reverse earlier) }
         ensures rows { IfOk result (λ base. base.rows ≡ stations) }
     {
@@ -216,14 +216,6 @@ impl Base {
         ensures in_order { AreInOrder (days_of result.now) }
     {
         &self.records
-    }
-
-    /// The records, and the flights of the leg records.
-    pub(crate) fn into_parts(self) -> (Vec<Record>, Vec<Flight>)
-        ensures value { result.0.items ≡ self.records }
-        ensures closed { All IsClosed result.0.items }
-    {
-        (self.records, self.flights)
     }
 
     /// The rows of the station table, in order.

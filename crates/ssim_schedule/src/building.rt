@@ -1,7 +1,7 @@
 //! The timetable of records, built from the last record to the first, so that each tail comes before its leg.
 
 ghost use Rattle.std.specs.Prelude.{◌≡◌, ◌∷◌, ◌++◌, [], List, IfOk, OnOk, Some, filter};
-ghost use Rattle.std.specs.List.{All};
+ghost use Rattle.std.specs.List.{All, flat_map};
 ghost use Rattle.ssim_values.specs.Flight.{FlightNumber, IsFlight};
 ghost use Rattle.ssim_periods.specs.Days.{each_day};
 ghost use Rattle.ssim_records.specs.declared.record.Record.{Record};
@@ -12,6 +12,7 @@ ghost use Rattle.ssim_schedule.specs.Schedule.{cuts_in, days_in};
 ghost use Rattle.ssim_schedule.specs.Timetable.{days_of, itinerary_among};
 
 use crate::base::Base;
+use crate::data_set::DataSet;
 use crate::flight_blocks::FlightBlocks;
 use crate::flight_set::FlightSet;
 use crate::leg::PlacedLeg;
@@ -29,9 +30,6 @@ const LEAST: usize = 32;
 
 // A flight with at least `LEAST` and fewer than so many cuts has its itineraries shared each time that the records go on to another flight.
 const FEW: usize = 256;
-
-// The number of records that are freed at a time.
-const FREED: usize = 65_536;
 
 /// The timetable of some records at the end of a base, and the tails whose leg record is not among them.
 #[derive(Drop)]
@@ -68,14 +66,14 @@ impl Schedule {
     }
 }
 
-impl Base {
-    /// The timetable of the base. The records are freed while it is made.
+impl DataSet {
+    /// The timetable of the data set. The records are freed while it is made.
     pub(crate) fn into_table(self) -> Result<FlightBlocks, Memory>
-        ensures { IfOk result (λ s. (g : FlightNumber) → IsFlight g → days_in s g ≡ days_of self.records g) }
+        ensures { IfOk result (λ s. (g : FlightNumber) → IsFlight g → days_in s g ≡ days_of self g) }
     {
         let alloc = self.allocator();
-        let (records, flights) = self.into_parts();
-        let mut table = timetable_from(alloc, records)?;
+        let (pieces, flights) = self.into_parts()?;
+        let mut table = timetable_from(alloc, pieces)?;
         table.share_where(&flights, FEW)?;
         Ok(table)
     }
@@ -108,18 +106,15 @@ fn timetable_of(
     Ok(building.table)
 }
 
-/// The timetable of records, which are freed as they are put into it. So the two never take the memory of both.
-fn timetable_from(alloc: Global, records: Vec<Record>) -> Result<FlightBlocks, Memory>
-    requires closed { All IsClosed records.items }
-    ensures { IfOk result (λ s. (g : FlightNumber) → IsFlight g → days_in s g ≡ days_of records.items g) }
+/// The timetable of records in pieces, each of which is freed as soon as it is put into it. So the two never take the memory of both.
+fn timetable_from(alloc: Global, pieces: Vec<Vec<Record>>) -> Result<FlightBlocks, Memory>
+    requires closed { All IsClosed (flat_map (λ piece. piece.items) pieces.items) }
+    ensures { IfOk result (λ s. (g : FlightNumber) → IsFlight g → days_in s g ≡ days_of (flat_map (λ piece. piece.items) pieces.items) g) }
 {
     let mut building = Building::new(alloc)?;
-    let mut left = records;
-    while !left.is_empty() {
-        let from = left.len().saturating_sub(FREED);
-        building.put_all(&left[from..])?;
-        left.truncate(from);
-        left.shrink_to_fit();
+    let mut left = pieces;
+    while let Some(piece) = left.pop() {
+        building.put_all(&piece)?;
     }
     building.put_group(None)?;
     Ok(building.table)

@@ -12,6 +12,7 @@ mod lines;
 mod plan;
 
 use crate::base::Base;
+use crate::data_set::DataSet;
 use crate::export::lines::put_export;
 use crate::export::plan::{divide, measure};
 use crate::flight_blocks::FlightBlocks;
@@ -125,16 +126,16 @@ impl Schedule {
     }
 }
 
-impl Base {
-    /// Writes the canonical export of the base's timetable, as `Schedule::of` and `Schedule::export` do. The records are freed while the
+impl DataSet {
+    /// Writes the canonical export of the data set's timetable, as `Schedule::of` and `Schedule::export` do. The records are freed while the
     /// timetable is made, so it takes the memory of one of the two. 90 can also mean that there is no memory for the timetable.
     pub fn export<W: Sink>(self, out: &mut W) -> Result<(), ExportFault>
-        ensures ok { OnOk result (WritesBase W.taken W.failures self.records (days_of self.records) out.old out.new) }
-        ensures err { IfErr result (λ fault. RefusesBase W.taken W.failures self.records (days_of self.records) out.old out.new fault) }
+        ensures ok { OnOk result (WritesBase W.taken W.failures self (days_of self) out.old out.new) }
+        ensures err { IfErr result (λ fault. RefusesBase W.taken W.failures self (days_of self) out.old out.new fault) }
         ensures device { W.device out.new ≡ W.device out.old }
 
         // The bytes read back to the same itinerary on each date, and the export of what was read is the same bytes.
-        ensures reads_back { OnOk result (ReadsBackBase W.taken self.records (days_of self.records) out.old out.new) }
+        ensures reads_back { OnOk result (ReadsBackBase W.taken self (days_of self) out.old out.new) }
     {
         export_reads_back();
         export_bytes_read_back();

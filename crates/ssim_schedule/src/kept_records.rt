@@ -1,9 +1,10 @@
 //! The records that are kept of a data set, or how many there are.
 
-ghost use Rattle.std.specs.Prelude.{◌≡◌, true, List, OnOk, length, reverse};
+ghost use Rattle.std.specs.Prelude.{◌≡◌, List, OnOk, length, reverse};
 ghost use Rattle.ssim_records.specs.declared.record.Record.{Record};
-ghost use Rattle.ssim_schedule.specs.KeptRecords.{AddsRecord, AreKept, keeps};
+ghost use Rattle.ssim_schedule.specs.KeptRecords.{AddsRecord, AreKept, InList, InPieces, keeps};
 
+use crate::record_pieces::RecordPieces;
 use ssim_records::Record;
 use ssim_values::Memory;
 
@@ -12,6 +13,8 @@ use ssim_values::Memory;
 pub(crate) enum KeptRecords {
     /// The records, in order.
     All(Vec<Record>),
+    /// The records, in order, in pieces.
+    Pieces(RecordPieces),
     /// Their number alone.
     Count(usize),
 }
@@ -27,6 +30,7 @@ impl KeptRecords {
                 records.push(*one)?;
                 Ok(())
             }
+            KeptRecords::Pieces(records) => records.push(one),
             KeptRecords::Count(count) => match count.checked_add(1) {
                 Some(more) => {
                     *count = more;
@@ -37,14 +41,25 @@ impl KeptRecords {
         }
     }
 
-    /// The records that were kept.
+    /// The records that were kept in one list.
     pub(crate) fn into_records(self) -> Vec<Record>
-        requires { keeps self ≡ true }
+        requires { keeps self ≡ InList }
         ensures { (earlier : List Record) → AreKept self earlier → result.items ≡ reverse earlier }
     {
         match self {
             KeptRecords::All(records) => records,
-            KeptRecords::Count(_) => unreachable!(),
+            KeptRecords::Pieces(_) | KeptRecords::Count(_) => unreachable!(),
+        }
+    }
+
+    /// The records that were kept in pieces.
+    pub(crate) fn into_pieces(self) -> RecordPieces
+        requires { keeps self ≡ InPieces }
+        ensures { (earlier : List Record) → AreKept self earlier → result ≡ reverse earlier }
+    {
+        match self {
+            KeptRecords::Pieces(records) => records,
+            KeptRecords::All(_) | KeptRecords::Count(_) => unreachable!(),
         }
     }
 
@@ -54,6 +69,7 @@ impl KeptRecords {
     {
         match self {
             KeptRecords::All(records) => records.len(),
+            KeptRecords::Pieces(records) => records.len(),
             KeptRecords::Count(count) => *count,
         }
     }

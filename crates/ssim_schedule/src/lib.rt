@@ -4,6 +4,7 @@
 //! - [`Base`]: a data set as it was read, record by record, with a station table; or a [`BaseFault`], which names the first invalid
 //!   record. What is unusual but not refused is a [`Note`].
 //! - [`read_saved`]: the base whose records the next lines of a file are, or a [`SavedFault`].
+//! - [`DataSet`]: a data set that is read to be exported, its records in pieces that are freed while its timetable is made.
 //! - [`Summary`]: how many records and flights a data set has, and its notes. It is read as a base is, but no record is kept.
 //! - [`Schedule`]: the itinerary of each flight on each date, which is its [`PlacedLeg`]s in order. `of` makes it from a base, `of_flights`
 //!   that of some flights alone, `export` writes it as chapter 7 in the one canonical division, or answers an [`ExportFault`].
@@ -22,6 +23,7 @@ mod applying;
 mod base;
 mod building;
 mod columns;
+mod data_set;
 mod day_set;
 mod divided;
 mod export;
@@ -46,6 +48,7 @@ mod note;
 mod points;
 mod put;
 mod reading;
+mod record_pieces;
 mod resolved;
 mod resolving;
 mod saved;
@@ -58,6 +61,7 @@ mod used_dates;
 mod waiting;
 
 pub use base::{Base, BaseRead};
+pub use data_set::DataSet;
 pub use export::ExportFault;
 pub use export::block::{Block, WriteFault, flush, put_bytes, put_record};
 pub use fault::{BaseFault, BaseRefusal};

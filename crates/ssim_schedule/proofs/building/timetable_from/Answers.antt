@@ -1,39 +1,43 @@
--- From the last records to the first: those that are left and those that are built are all.
-use Rattle.std.proofs.Common.{◌≡◌, ◌-◌, List, ◌++◌, take, drop, length, sym, ap, subst, ◌∙◌}
-use Rattle.std.proofs.Math.Seq.{take-append_seam}
-use Rattle.std.proofs.lemmas.List.{append_assoc, take-append-drop, take_rest}
+-- From the last piece to the first: those that are left and the records that are built are all.
+use Rattle.std.proofs.Common.{◌≡◌, List, [], ◌∷◌, ◌++◌, take, drop, length, sym, ap, subst, ◌∙◌}
+use Rattle.std.proofs.Math.Seq.{drop-append_seam, take-append_seam}
+use Rattle.std.proofs.lemmas.List.{append_assoc, flat_map_more}
 use Rattle.std.proofs.lemmas.List.Elements.{All-drop, All-take}
-use Rattle.std.specs.List.{All}
+use Rattle.std.specs.List.{All, flat_map}
 use Rattle.ssim_records.specs.declared.record.Record.{Record}
 use Rattle.ssim_schedule.specs.Building.{IsClosed}
 use Rattle.ssim_schedule.specs.Built.{IsBuilt}
 use Rattle.ssim_schedule.proofs.building.timetable_from.Goals as goal
 
--- those that are left are closed
-closed_front : (left done all : List Record) → left ++ done ≡ all → All IsClosed all → All IsClosed left
-closed_front left done all is closed =
-    subst (λ (rs : List Record). All IsClosed rs) (ap (λ (rs : List Record). take (length left) rs) (sym is) ∙ take-append_seam left done) (All-take IsClosed (length left) all closed)
+-- a piece that is taken from the end comes before those that are built
+taken : {X : Type 0} (f : X → List Record) (left rest : List X) (x : X) (done all : List Record) → left ≡ rest ++ x ∷ [] → flat_map f left ++ done ≡ all
+    → flat_map f rest ++ (f x ++ done) ≡ all
+taken f left rest x done all is h =
+    sym (append_assoc (flat_map f rest) (f x) done)
+    ∙ ap (λ (rs : List Record). rs ++ done) (flat_map_more f [] rest x ∙ sym (ap (flat_map f) is))
+    ∙ h
+
+-- those between others are closed
+closed_between : (front mid done all : List Record) → front ++ (mid ++ done) ≡ all → All IsClosed all → All IsClosed mid
+closed_between front mid done all is closed =
+    let later : drop (length front) all ≡ mid ++ done = ap (λ (rs : List Record). drop (length front) rs) (sym is) ∙ drop-append_seam front (mid ++ done) in
+    subst (λ (rs : List Record). All IsClosed rs) (ap (λ (rs : List Record). take (length mid) rs) later ∙ take-append_seam mid done)
+    (All-take IsClosed (length mid) (drop (length front) all) (All-drop IsClosed (length front) all closed))
 
 pub put_all-requires : goal.put_all-requires
 put_all-requires c =
-    let left = c.loop-left.left.items in
-    let value : c.deref.result.now ≡ left = c.deref.ensures.value in
-    let from = c.saturating_sub-from.result in
-    subst (λ (rs : List Record). All IsClosed (take (length rs - from) (drop from rs))) (sym value)
-    (subst (λ (rs : List Record). All IsClosed rs) (sym (take_rest left from))
-    (All-drop IsClosed from left (closed_front left c.loop-left.invariant.0 c.args.records.items c.loop-left.invariant.1 c.requires.closed)))
+    let i = c.loop-piece.invariant in
+    let all = flat_map (λ piece. piece.items) c.args.pieces.items in
+    let front = flat_map (λ piece. piece.items) c.pop.new.self.items in
+    subst (λ (rs : List Record). All IsClosed rs) (sym c.deref.ensures.value)
+    (closed_between front c.in-Some.piece.items i.0 all (taken (λ piece. piece.items) c.loop-piece.left.items c.pop.new.self.items c.in-Some.piece i.0 all c.in-Some.ensures.items i.1) c.requires.closed)
 
-pub loop-left-preserved : goal.loop-left-preserved
-loop-left-preserved c =
-    let left = c.loop-left.left.items in
-    let done = c.loop-left.invariant.0 in
-    let value : c.deref.result.now ≡ left = c.deref.ensures.value in
-    let from = c.saturating_sub-from.result in
-    let part : take (length c.deref.result.now - from) (drop from c.deref.result.now) ≡ drop from left = ap (λ (rs : List Record). take (length rs - from) (drop from rs)) value ∙ take_rest left from in (
-      drop from left ++ done,
-      ap (λ (rs : List Record). rs ++ (drop from left ++ done)) (c.shrink_to_fit.ensures.items ∙ c.truncate.ensures.items)
-          ∙ sym (append_assoc (take from left) (drop from left) done)
-          ∙ ap (λ (rs : List Record). rs ++ done) (take-append-drop from left)
-          ∙ c.loop-left.invariant.1,
-      subst (λ (rs : List Record). IsBuilt c.put_all.new.self (rs ++ done)) part (c.in_ok-put_all.ensures done c.loop-left.invariant.2),
+pub loop-piece-preserved : goal.loop-piece-preserved
+loop-piece-preserved c =
+    let i = c.loop-piece.invariant in
+    let all = flat_map (λ piece. piece.items) c.args.pieces.items in
+    let done = c.in-Some.piece.items ++ i.0 in (
+      done,
+      taken (λ piece. piece.items) c.loop-piece.left.items c.pop.new.self.items c.in-Some.piece i.0 all c.in-Some.ensures.items i.1,
+      subst (λ (rs : List Record). IsBuilt c.put_all.new.self (rs ++ i.0)) c.deref.ensures.value (c.in_ok-put_all.ensures i.0 i.2),
     )

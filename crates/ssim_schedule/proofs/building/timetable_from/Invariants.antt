@@ -1,11 +1,13 @@
 -- What is not left is built.
 use Rattle.std.proofs.Common.{◌≡◌, ◌++◌, List, length}
+use Rattle.std.specs.List.{flat_map}
 use Rattle.ssim_records.specs.declared.record.Record.{Record}
 use Rattle.ssim_schedule.specs.Built.{IsBuilt}
 use Rattle.ssim_schedule.proofs.building.timetable_from.Given as goal
 
-abbrev pub invariant-loop-left : goal.invariant-loop-left
-invariant-loop-left l = (done : List Record) × (l.left.items ++ done ≡ l.fn.records.items) × IsBuilt l.building done
+abbrev pub invariant-loop-piece : goal.invariant-loop-piece
+invariant-loop-piece l =
+    (done : List Record) × (flat_map (λ piece. piece.items) l.left.items ++ done ≡ flat_map (λ piece. piece.items) l.fn.pieces.items) × IsBuilt l.building done
 
-abbrev pub decreases-loop-left : goal.decreases-loop-left
-decreases-loop-left l = length l.left.items
+abbrev pub decreases-loop-piece : goal.decreases-loop-piece
+decreases-loop-piece l = length l.left.items

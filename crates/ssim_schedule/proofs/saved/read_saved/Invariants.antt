@@ -1,8 +1,8 @@
 -- The records so far are kept, and what is left can only begin with the lines of records that complete a base.
-use Rattle.std.proofs.Common.{◌≡◌, ◌≤◌, ◌-◌, ℕ, true, List, length}
+use Rattle.std.proofs.Common.{◌≡◌, ◌≤◌, ◌-◌, ℕ, List, length}
 use Rattle.ssim_records.specs.declared.record.Record.{Record}
 use Rattle.ssim_schedule.specs.Kept.{IsKept}
-use Rattle.ssim_schedule.specs.KeptRecords.{keeps}
+use Rattle.ssim_schedule.specs.KeptRecords.{InList, keeps}
 use Rattle.ssim_schedule.specs.declared.kept.Kept.{Kept}
 use Rattle.ssim_schedule.proofs.SavedLines.{IsLeft}
 use Rattle.ssim_schedule.proofs.saved.read_saved.Given as goal
@@ -11,7 +11,7 @@ pub record Goes (bytes rest : List ℕ) (count done : ℕ) (kept : Kept) : Type 
   pub earlier : List Record
   pub is_kept : IsKept kept earlier
   pub is_left : IsLeft bytes rest count earlier
-  pub keeps_is : keeps kept.records ≡ true
+  pub keeps_is : keeps kept.records ≡ InList
   pub number : length earlier ≡ done
   pub few : done ≤ count
   pub within : length rest ≤ length bytes

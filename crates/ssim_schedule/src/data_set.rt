@@ -1,0 +1,152 @@
+//! A data set that is read to be exported: its records in pieces.
+
+ghost use Rattle.std.specs.Prelude.{◌≡◌, ℕ, List, Option, IfOk, IfErr, reverse};
+ghost use Rattle.std.specs.List.{All, flat_map};
+ghost use Rattle.ssim_records.specs.declared.record.Record.{Record};
+ghost use Rattle.ssim_schedule.specs.Base.{airline_of};
+ghost use Rattle.ssim_schedule.specs.Building.{IsClosed};
+ghost use Rattle.ssim_schedule.specs.Export.{Frame};
+ghost use Rattle.ssim_schedule.specs.ReadBack.{CanExport, HasFrame};
+ghost use Rattle.ssim_schedule.specs.Reading.{AnswersRecords, Came, FailsAfter, FailsAs, IsReadOf, NeverEnds};
+
+use crate::fault::BaseFault;
+use crate::gathering::Gathering;
+use crate::kept::Kept;
+use crate::kept_records::KeptRecords;
+use crate::reading::gather;
+use crate::record_pieces::RecordPieces;
+use ssim_records::{Carrier, Header, Record, Source, Trailer};
+use ssim_values::{Airline, Flight, Memory};
+use std::alloc::Global;
+use std::marker::Model;
+
+/// A data set that was read to be exported, without a station table. It is seen as the records of its base, and these are kept in pieces
+/// that are freed while the timetable is made.
+#[derive(Drop)]
+pub struct DataSet {
+    records: RecordPieces,
+    /// The flights of the leg records, each once, by number and suffix.
+    flights: Vec<Flight>,
+    alloc: Global,
+}
+
+impl Model for DataSet {
+    ghost use Rattle.std.specs.Prelude.{List};
+    ghost use Rattle.ssim_records.specs.declared.record.Record.{Record};
+    ghost use Rattle.ssim_schedule.specs.BaseSeen.{AreFlights, WasRead};
+
+    ghost Value = { List Record };
+
+    ghost view = { λ read. read.records };
+
+    ghost invariant = { λ read. WasRead read.records × AreFlights read.records read.flights.items };
+}
+
+impl DataSet {
+    ghost use Rattle.ssim_schedule.specs.Gathering.{HasRead, IsWhole};
+    ghost use Rattle.ssim_schedule.specs.Kept.{IsKept, IsWholeBase};
+    ghost use Rattle.ssim_schedule.specs.KeptRecords.{InPieces, keeps};
+
+    /// Reads a data set, record by record. At most `limit` bytes and one more are fetched. The refusals are those of `Base::read`.
+    pub fn read<R: Source>(alloc: Global, reader: &mut R, limit: u64) -> Result<DataSet, BaseFault>
+        ensures read { AnswersRecords result (IsReadOf limit (R.left reader.old)) }
+        ensures no_failure { IfOk result (λ _. R.failures reader.new ≡ R.failures reader.old) }
+        ensures failure { IfErr result (λ e. FailsAs (R.failures reader.old) (R.failures reader.new) e) }
+        ensures fails_after { IfErr result (λ e. FailsAfter (R.left reader.old) (R.left reader.new) e) }
+        ensures never_ends { IfErr result (λ e. NeverEnds limit (Came (R.left reader.old) (R.left reader.new) (R.came reader.old) (R.came reader.new)) e) }
+    {
+        let records = KeptRecords::Pieces(RecordPieces::new(alloc));
+        let (gathering, number) = gather(alloc, records, reader, limit)?;
+        DataSet::finish(alloc, gathering, number)
+    }
+
+    // The data set of the records that were gathered, if none is missing after them.
+    fn finish(alloc: Global, gathering: Gathering, number: u64) -> Result<DataSet, BaseFault>
+        requires whole { IsWhole gathering }
+        requires keeps { keeps gathering.kept.records ≡ InPieces }
+        ensures read { (limit : ℕ) (told : Option (List ℕ)) → HasRead limit told gathering number → AnswersRecords result (IsReadOf limit told) }
+        ensures failure { (n : ℕ) → IfErr result (λ e. FailsAs n n e) }
+        ensures fails_after { (all left : Option (List ℕ)) → IfErr result (λ e. FailsAfter all left e) }
+        ensures never_ends { (limit old new : ℕ) (left others : Option (List ℕ)) → IfErr result (λ e. NeverEnds limit (Came left others old new) e) }
+    {
+        let Gathering { kept, .. } = gathering;
+        if let Some(refusal) = kept.missing() {
+            return Err(BaseFault::Refused(number, refusal));
+        }
+        let data_set = DataSet::of_kept(alloc, kept)?;
+        Ok(data_set)
+    }
+
+    // The data set of the records that are kept, which are those of a base.
+    fn of_kept(alloc: Global, kept: Kept) -> Result<DataSet, Memory>
+        requires whole { IsWholeBase kept }
+        requires keeps { keeps kept.records ≡ InPieces }
+        ensures records { (earlier : List Record) → IsKept kept earlier → IfOk result (λ read. read ≡ reverse earlier) }
+    {
+        let flights = kept.legs.flights()?;
+        let records = kept.records.into_pieces();
+        Ok(DataSet {
+            records,
+            flights,
+            alloc,
+        })
+    }
+
+    /// The airline whose schedule it is.
+    pub fn airline(&self) -> Airline
+        ensures { result ≡ airline_of self.now }
+    {
+        self.carrier().airline()
+    }
+
+    /// The allocator of the timetable that is made from it.
+    pub(crate) fn allocator(&self) -> Global {
+        self.alloc
+    }
+
+    /// The header, which is the first record.
+    pub(crate) fn header(&self) -> &Header
+        ensures { (frame : Frame) → HasFrame frame self.now → result.now ≡ frame.header }
+    {
+        match self.records.at(0) {
+            Record::Header(header) => header,
+            _ => unreachable!(),
+        }
+    }
+
+    /// The carrier record, which is the second.
+    pub(crate) fn carrier(&self) -> &Carrier
+        ensures carrier { (frame : Frame) → HasFrame frame self.now → result.now ≡ frame.carrier }
+        ensures exists { (frame : Frame) × HasFrame frame self.now }
+        ensures exports { CanExport self.now }
+    {
+        match self.records.at(1) {
+            Record::Carrier(carrier) => carrier,
+            _ => unreachable!(),
+        }
+    }
+
+    /// The trailer, which is the last.
+    pub(crate) fn trailer(&self) -> &Trailer
+        ensures { (frame : Frame) → HasFrame frame self.now → result.now ≡ frame.trailer }
+    {
+        match self.records.at(self.records.len() - 1) {
+            Record::Trailer(trailer) => trailer,
+            _ => unreachable!(),
+        }
+    }
+
+    /// The records in pieces, and the flights of the leg records.
+    pub(crate) fn into_parts(self) -> Result<(Vec<Vec<Record>>, Vec<Flight>), Memory>
+        ensures value { IfOk result (λ parts. flat_map (λ piece. piece.items) parts.0.items ≡ self) }
+        ensures closed { IfOk result (λ parts. All IsClosed (flat_map (λ piece. piece.items) parts.0.items)) }
+    {
+        let DataSet {
+            records,
+            flights,
+            ..
+        } = self;
+        let pieces = records.into_pieces()?;
+        Ok((pieces, flights))
+    }
+}

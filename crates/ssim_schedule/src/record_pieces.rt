@@ -1,0 +1,127 @@
+//! Records in pieces, which are freed one after another.
+
+ghost use Rattle.std.specs.Prelude.{◌≡◌, ◌<◌, ◌∷◌, ◌++◌, [], IfOk, OnOk, length, slice_index_or};
+ghost use Rattle.std.specs.List.{flat_map};
+
+use ssim_records::Record;
+use ssim_values::Memory;
+use std::alloc::Global;
+use std::marker::Model;
+
+// The number of records of a piece.
+const PIECE: usize = 1_024;
+
+/// Records in pieces, seen as one list. A piece never grows, so it fits into memory that parts of a file leave, and the records that are
+/// there are never copied.
+#[derive(Drop)]
+pub(crate) struct RecordPieces {
+    /// The pieces before the last one.
+    full: Vec<Vec<Record>>,
+    last: Vec<Record>,
+    /// The number of all records.
+    len: usize,
+    alloc: Global,
+}
+
+impl Model for RecordPieces {
+    ghost use Rattle.std.specs.Prelude.{List, ◌≡◌, ◌++◌, length};
+    ghost use Rattle.std.specs.List.{flat_map};
+    ghost use Rattle.ssim_records.specs.declared.record.Record.{Record};
+
+    ghost Value = { List Record };
+
+    ghost view = { λ p. flat_map (λ piece. piece.items) p.full.items ++ p.last.items };
+
+    ghost invariant = { λ p. p.len ≡ length (flat_map (λ piece. piece.items) p.full.items ++ p.last.items) };
+}
+
+impl RecordPieces {
+    /// No record. It does not allocate.
+    pub(crate) fn new(alloc: Global) -> RecordPieces
+        ensures { result ≡ [] }
+    {
+        RecordPieces {
+            full: Vec::new(alloc),
+            last: Vec::new(alloc),
+            len: 0,
+            alloc,
+        }
+    }
+
+    /// The number of the records.
+    pub(crate) fn len(&self) -> usize
+        ensures { result ≡ length self.now }
+    {
+        self.len
+    }
+
+    /// One more record. Out of memory is returned also if there are more records than a `usize` counts.
+    pub(crate) fn push(&mut self, one: &Record) -> Result<(), Memory>
+        ensures { OnOk result (self.new ≡ self.old ++ one.now ∷ []) }
+    {
+        let Some(len) = self.len.checked_add(1) else {
+            return Err(Memory);
+        };
+        if self.last.len() == self.last.capacity() {
+            self.begin()?;
+        }
+        match self.last.push(*one) {
+            Ok(()) => {
+                self.len = len;
+                Ok(())
+            }
+            Err(_) => Err(Memory),
+        }
+    }
+
+    // Begins another piece.
+    fn begin(&mut self) -> Result<(), Memory>
+        ensures kept { self.new ≡ self.old }
+    {
+        let next = Vec::with_capacity(self.alloc, PIECE)?;
+        let piece = std::mem::replace(&mut self.last, next);
+        match self.full.push(piece) {
+            Ok(()) => Ok(()),
+            Err(refused) => {
+                self.last = refused.value;
+                Err(Memory)
+            }
+        }
+    }
+
+    /// The record at this place.
+    pub(crate) fn at(&self, place: usize) -> &Record
+        requires { place < length self.now }
+        ensures { result.now ≡ slice_index_or self.now place result.now }
+    {
+        record_at(&self.full, &self.last, place)
+    }
+
+    /// The pieces, in order.
+    pub(crate) fn into_pieces(self) -> Result<Vec<Vec<Record>>, Memory>
+        ensures { IfOk result (λ pieces. flat_map (λ piece. piece.items) pieces.items ≡ self) }
+    {
+        let RecordPieces { full, last, .. } = self;
+        let mut pieces = full;
+        pieces.push(last)?;
+        Ok(pieces)
+    }
+}
+
+// The record at this place of some pieces and the last one.
+fn record_at<'a>(full: &'a [Vec<Record>], last: &'a [Record], place: usize) -> &'a Record
+    requires { place < length (flat_map (λ piece. piece.items) full.now ++ last.now) }
+    ensures { result.now ≡ slice_index_or (flat_map (λ piece. piece.items) full.now ++ last.now) place result.now }
+{
+    let mut left = place;
+    let mut number = 0;
+    while number < full.len() {
+        let piece = &full[number];
+        if left < piece.len() {
+            return &piece[left];
+        }
+        left -= piece.len();
+        number += 1;
+    }
+    &last[left]
+}
