@@ -64,7 +64,11 @@ fn is_bare(one: &Record) -> bool
 }
 
 // Puts the record of the first line into a place, if it is one that a base can have, and returns the bytes after the line.
-fn read_line<'a>(reader: &mut RecordReader, bytes: &'a [u8], into: &mut Option<Record>) -> Option<&'a [u8]>
+fn read_line<'a>(
+    reader: &mut RecordReader,
+    bytes: &'a [u8],
+    into: &mut Option<Record>,
+) -> Option<&'a [u8]>
     ensures some { IfSome result (λ rest. IsLineOf into.new bytes.now rest.now) }
     ensures none { IfNone result ((r : Record) (rest : List ℕ) → IsLine r bytes.now rest → ⊥) }
 {

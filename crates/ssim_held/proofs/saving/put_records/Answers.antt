@@ -1,5 +1,6 @@
 -- A record more is put.
-use Rattle.std.proofs.Common.{◌+◌, ◌++◌, codes, drop, length, ap, ◌∙◌}
+use Rattle.std.proofs.Common.{◌+◌, ◌++◌, codes, drop, length, refl, ◌∙◌}
+use Rattle.ssim_records.specs.Record.{written}
 use Rattle.ssim_schedule.specs.Export.{line}
 use Rattle.ssim_schedule.specs.SavedBase.{saved}
 use Rattle.ssim_schedule.proofs.SinkLemmas.{at_fault, halt, step}
@@ -11,24 +12,24 @@ pub returns-in_err-put_counted-clause-err : goal.returns-in_err-put_counted-clau
 returns-in_err-put_counted-clause-err g c =
     at_fault c.from_residual.result (first_fails c.args.block.now (counted (codes "RECORDS") (length c.args.records.now)) (saved c.args.records.now) (g.W.Sink.taken c.args.out.now) (g.W.Sink.taken c.put_counted.new.out) c.in_err-put_counted.ensures.err)
 
-pub returns-in_err-put_line-clause-err : goal.returns-in_err-put_line-clause-err
-returns-in_err-put_line-clause-err g c =
+pub returns-in_err-put_record-clause-err : goal.returns-in_err-put_record-clause-err
+returns-in_err-put_record-clause-err g c =
     let records = c.args.records.now in
     let i = c.loop-record.record-index in
-    let bytes = c.write_record.result in
-    let whole = element record_line records i c.record-item.result (line bytes) c.loop-record-test.true c.record-item.is (ap line c.write_record.ensures.value) in
-    at_fault c.from_residual-in_err-put_line.result (halt (c.args.block.now ++ records_part records) c.loop-record.block (line bytes) (saved (drop (i + 1) records)) (saved (drop i records))
-    (g.W.Sink.taken c.args.out.now) (g.W.Sink.taken c.loop-record.out) (g.W.Sink.taken c.put_line.new.out) whole c.loop-record.invariant.bytes c.in_err-put_line.ensures.err)
+    let bytes = written c.record-item.result in
+    let whole = element record_line records i c.record-item.result (line bytes) c.loop-record-test.true c.record-item.is refl in
+    at_fault c.from_residual-in_err-put_record.result (halt (c.args.block.now ++ records_part records) c.loop-record.block (line bytes) (saved (drop (i + 1) records)) (saved (drop i records))
+    (g.W.Sink.taken c.args.out.now) (g.W.Sink.taken c.loop-record.out) (g.W.Sink.taken c.put_record.new.out) whole c.loop-record.invariant.bytes c.in_err-put_record.ensures.err)
 
 pub loop-record-preserved : goal.loop-record-preserved
 loop-record-preserved g c =
     let records = c.args.records.now in
     let i = c.loop-record.record-index in
-    let bytes = c.write_record.result in
-    let whole = element record_line records i c.record-item.result (line bytes) c.loop-record-test.true c.record-item.is (ap line c.write_record.ensures.value) in
+    let bytes = written c.record-item.result in
+    let whole = element record_line records i c.record-item.result (line bytes) c.loop-record-test.true c.record-item.is refl in
     record {
-      bytes = step (c.args.block.now ++ records_part records) c.loop-record.block (line bytes) (saved (drop (i + 1) records)) c.put_line.new.block (saved (drop i records))
-          (g.W.Sink.taken c.args.out.now) (g.W.Sink.taken c.loop-record.out) (g.W.Sink.taken c.put_line.new.out) whole c.loop-record.invariant.bytes c.in_ok-put_line.ensures.ok;
-      failures = c.in_ok-put_line.ensures.failures ∙ c.loop-record.invariant.failures;
-      device = c.in_ok-put_line.ensures.device ∙ c.loop-record.invariant.device;
+      bytes = step (c.args.block.now ++ records_part records) c.loop-record.block (line bytes) (saved (drop (i + 1) records)) c.put_record.new.block (saved (drop i records))
+          (g.W.Sink.taken c.args.out.now) (g.W.Sink.taken c.loop-record.out) (g.W.Sink.taken c.put_record.new.out) whole c.loop-record.invariant.bytes c.in_ok-put_record.ensures.ok;
+      failures = c.in_ok-put_record.ensures.failures ∙ c.loop-record.invariant.failures;
+      device = c.in_ok-put_record.ensures.device ∙ c.loop-record.invariant.device;
     }
