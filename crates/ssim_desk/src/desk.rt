@@ -21,7 +21,7 @@ use crate::finding_line::{FindingLine, push_lines};
 use crate::holdings::Holdings;
 use crate::offer::{Offer, offer_of};
 use crate::trail::Trail;
-use ssim_held::{DeskFault, Held, first_conflict, first_new, merged, put_desk, read_desk};
+use ssim_held::{DeskFault, Held, Opened, first_conflict, first_new, merged, put_desk, read_desk};
 use ssim_records::{Sink, Source};
 use ssim_schedule::{Base, ExportFault, PlacedLeg, WriteFault};
 use ssim_values::{Day, Flight, Memory};
@@ -80,7 +80,12 @@ impl Desk {
         ensures failure { IfErr result (λ e. FailsAs (R.failures reader.old) (R.failures reader.new) e) }
         ensures never_ends { IfErr result (λ e. NeverEnds limit (Came (R.left reader.old) (R.left reader.new) (R.came reader.old) (R.came reader.new)) e) }
     {
-        let (base, held) = read_desk(alloc, reader, limit)?;
+        let Opened {
+            data_set,
+            stations,
+            held,
+        } = read_desk(alloc, reader, limit)?;
+        let base = data_set.into_base(stations)?;
         let desk = Desk::with(alloc, base, held)?;
         Ok(desk)
     }
@@ -89,7 +94,7 @@ impl Desk {
     pub fn of(alloc: Global, holdings: Holdings) -> Result<Desk, Memory>
         ensures { IfOk result (λ desk. desk ≡ record holdings { applied = length holdings.held }) }
     {
-        let (base, held) = holdings.into_parts();
+        let (base, held) = holdings.into_parts()?;
         Desk::with(alloc, base, held)
     }
 

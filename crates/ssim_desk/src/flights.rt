@@ -2,6 +2,7 @@
 
 ghost use Rattle.std.specs.Prelude.{◌≡◌, ◌++◌, map, IfOk, OnOk};
 ghost use Rattle.std.specs.List.{list_any};
+ghost use Rattle.ssim_schedule.specs.BaseSeen.{base_with};
 ghost use Rattle.ssim_desk.specs.Desk.{is_sub_of};
 ghost use Rattle.ssim_desk.specs.Meaning.{Timetable, after_entries, entries_findings, found_by, left_by};
 ghost use Rattle.ssim_desk.specs.Private.{Shows, flights_of};
@@ -9,37 +10,43 @@ ghost use Rattle.ssim_desk.specs.Private.{Shows, flights_of};
 use crate::replay::act;
 use crate::tail::Found;
 use ssim_held::Held;
-use ssim_schedule::{Base, PlacedLeg, ResolvedSub, Schedule};
+use ssim_schedule::{DataSet, PlacedLeg, ResolvedSub, Schedule, StationRow};
 use ssim_values::{Day, Flight, Memory};
 use std::alloc::Global;
 
-/// The legs of a flight on a date of origin that messages, in this order, leave of the base's timetable. Of this timetable only the
+/// The legs of a flight on a date of origin that messages, in this order, leave of the timetable of a data set. Of this timetable only the
 /// flight's is made, and only the messages that name the flight act.
 pub(crate) fn legs_after(
     alloc: Global,
-    base: &Base,
+    data_set: &DataSet,
+    rows: &[StationRow],
     messages: &[Held],
     flight: &Flight,
     day: Day,
 ) -> Result<Vec<PlacedLeg>, Memory>
-    ensures { IfOk result (λ legs. legs.items ≡ left_by base.now messages.now flight.now day) }
+    ensures { IfOk result (λ legs. legs.items ≡ left_by (base_with data_set.now rows.now) messages.now flight.now day) }
 {
     // No effect at run time. The proof reads from these uses that the flight and the day exist.
     let _ = flight.number();
     let _ = flight.suffix();
     let _ = day.number();
-    let mut schedule = Schedule::of_flights(base, &[*flight])?;
-    act_on(alloc, base, &mut schedule, *flight, messages)?;
+    let mut schedule = Schedule::of_flights(data_set, &[*flight])?;
+    act_on(alloc, rows, &mut schedule, *flight, messages)?;
     copies(alloc, schedule.itinerary(flight, day))
 }
 
-/// What each of these messages finds in this order. Of the base's timetable only the flights are made that the messages name.
-pub(crate) fn found_by(alloc: Global, base: &Base, messages: &[Held]) -> Result<Vec<Found>, Memory>
-    ensures { IfOk result (λ found. found.items ≡ found_by base.now messages.now) }
+/// What each of these messages finds in this order. Of the data set's timetable only the flights are made that the messages name.
+pub(crate) fn found_by(
+    alloc: Global,
+    data_set: &DataSet,
+    rows: &[StationRow],
+    messages: &[Held],
+) -> Result<Vec<Found>, Memory>
+    ensures { IfOk result (λ found. found.items ≡ found_by (base_with data_set.now rows.now) messages.now) }
 {
     let flights = flights_of(alloc, messages)?;
-    let mut schedule = Schedule::of_flights(base, &flights)?;
-    act_all(alloc, base, &mut schedule, messages)
+    let mut schedule = Schedule::of_flights(data_set, &flights)?;
+    act_all(alloc, rows, &mut schedule, messages)
 }
 
 // The flights of the sub-messages, in their order.
@@ -65,15 +72,15 @@ fn push_flights(flights: &mut Vec<Flight>, subs: &[ResolvedSub]) -> Result<(), M
 // The messages act in their order. Returns what each found.
 fn act_all(
     alloc: Global,
-    base: &Base,
+    rows: &[StationRow],
     schedule: &mut Schedule,
     messages: &[Held],
 ) -> Result<Vec<Found>, Memory>
-    ensures { IfOk result (λ found. (before : Timetable) → Shows schedule.old before → found.items ≡ entries_findings base.now.rows messages.now before) }
+    ensures { IfOk result (λ found. (before : Timetable) → Shows schedule.old before → found.items ≡ entries_findings rows.now messages.now before) }
 {
     let mut found = Vec::new(alloc);
     for held in messages {
-        found.push(Found::new(act(alloc, base, schedule, held)?))?;
+        found.push(Found::new(act(alloc, rows, schedule, held)?))?;
     }
     Ok(found)
 }
@@ -81,16 +88,16 @@ fn act_all(
 // Those messages that name the flight act in their order.
 fn act_on(
     alloc: Global,
-    base: &Base,
+    rows: &[StationRow],
     schedule: &mut Schedule,
     flight: Flight,
     messages: &[Held],
 ) -> Result<(), Memory>
-    ensures { OnOk result ((before : Timetable) → Shows schedule.old before → (after : Timetable) × Shows schedule.new after × (after flight ≡ after_entries base.now.rows messages.now before flight)) }
+    ensures { OnOk result ((before : Timetable) → Shows schedule.old before → (after : Timetable) × Shows schedule.new after × (after flight ≡ after_entries rows.now messages.now before flight)) }
 {
     for held in messages {
         if names(held, flight) {
-            act(alloc, base, schedule, held)?;
+            act(alloc, rows, schedule, held)?;
         }
     }
     Ok(())

@@ -1,7 +1,8 @@
 //! What a desk holds, without the timetable that it leaves.
 
-ghost use Rattle.std.specs.Prelude.{◌≡◌, ◌++◌, [], ◌∷◌, take, drop, Ok, IfErr, IfOk, OnErr, OnOk};
+ghost use Rattle.std.specs.Prelude.{◌≡◌, ◌↔◌, ◌++◌, [], IsTrue, ◌∷◌, take, drop, Ok, IfErr, IfOk, OnErr, OnOk};
 ghost use Rattle.std.specs.Io.KnownBytes.{Appends};
+ghost use Rattle.ssim_schedule.specs.BaseSeen.{base_with};
 ghost use Rattle.ssim_schedule.specs.Sinks.{CountsFault, TakesFront};
 ghost use Rattle.ssim_held.specs.File.{CanBeSaved, IsDeskFile, desk_file};
 ghost use Rattle.ssim_held.specs.Kept.{AreEntries, AreRising, IsEntry, map_of, state_of};
@@ -14,10 +15,12 @@ ghost use Rattle.ssim_desk.specs.Steps.{Merges, Takes};
 use crate::desk::Took;
 use crate::finding_line::{FindingLine, push_lines};
 use crate::flights::{found_by, legs_after};
-use crate::offer::{Offer, offer_of};
-use ssim_held::{DeskFault, Held, first_conflict, merged, put_desk, read_bytes, read_parts};
+use crate::offer::{Offer, offer_over};
+use ssim_held::{
+    DeskFault, Held, Opened, first_conflict, merged, put_data_set, read_bytes, read_parts,
+};
 use ssim_records::{Parts, Sink};
-use ssim_schedule::{Base, PlacedLeg, WriteFault};
+use ssim_schedule::{Base, DataSet, PlacedLeg, Stations, WriteFault};
 use ssim_values::{Day, Flight, Memory};
 use std::alloc::Global;
 use std::marker::Model;
@@ -29,28 +32,31 @@ use std::marker::Model;
 /// Contracts see it as a desk whose latest change applied no message.
 #[derive(Drop)]
 pub struct Holdings {
-    base: Base,
+    data_set: DataSet,
+    stations: Stations,
     held: Vec<Held>,
     alloc: Global,
 }
 
 impl Model for Holdings {
+    ghost use Rattle.ssim_schedule.specs.BaseSeen.{base_with};
     ghost use Rattle.ssim_held.specs.Kept.{AreEntries, DeskSeen};
 
     ghost Value = { DeskSeen };
 
-    ghost view = { λ h. record { base = h.base; held = h.held.items; applied = 0 } };
+    ghost view = { λ h. record { base = base_with h.data_set h.stations; held = h.held.items; applied = 0 } };
 
-    ghost invariant = { λ h. AreEntries h.base.records h.held.items };
+    ghost invariant = { λ h. AreEntries h.data_set h.held.items };
 }
 
 impl Holdings {
-    /// A base and no message. It does not allocate.
-    pub fn start(alloc: Global, base: Base) -> Holdings
-        ensures { result ≡ record { base = base; held = []; applied = 0 } }
+    /// The base of a data set with a station table, and no message. It does not allocate.
+    pub fn start(alloc: Global, data_set: DataSet, stations: Stations) -> Holdings
+        ensures { result ≡ record { base = base_with data_set stations; held = []; applied = 0 } }
     {
         Holdings {
-            base,
+            data_set,
+            stations,
             held: Vec::new(alloc),
             alloc,
         }
@@ -64,8 +70,8 @@ impl Holdings {
         ensures applied { IfOk result (λ holdings. holdings.applied ≡ 0) }
         ensures err { IfErr result (RefusesBytes bytes.now) }
     {
-        let (base, held) = read_bytes(alloc, bytes)?;
-        Ok(Holdings { base, held, alloc })
+        let opened = read_bytes(alloc, bytes)?;
+        Ok(Holdings::of(alloc, opened))
     }
 
     /// The same of bytes in parts, which are freed as they are read.
@@ -74,15 +80,15 @@ impl Holdings {
         ensures applied { IfOk result (λ holdings. holdings.applied ≡ 0) }
         ensures err { IfErr result (RefusesBytes parts) }
     {
-        let (base, held) = read_parts(alloc, parts)?;
-        Ok(Holdings { base, held, alloc })
+        let opened = read_parts(alloc, parts)?;
+        Ok(Holdings::of(alloc, opened))
     }
 
-    /// The base. No call changes it.
-    pub fn base(&self) -> &Base
-        ensures { result.now ≡ self.now.base }
+    /// The data set of the base. No call changes it.
+    pub fn data_set(&self) -> &DataSet
+        ensures { result.now ≡ self.now.base.records }
     {
-        &self.base
+        &self.data_set
     }
 
     /// The messages that are held, in order of reference.
@@ -101,7 +107,7 @@ impl Holdings {
         ensures repeated { result ≡ Ok Took.Repeated → self.new ≡ self.old }
         ensures err { OnErr result (self.new ≡ self.old) }
     {
-        let offered = offer_of(self.alloc, &self.base, &self.held, text)?;
+        let offered = offer_over(self.alloc, &self.data_set, &self.held, text)?;
         match offered {
             Offer::Known => Ok(Took::Repeated),
             Offer::New(at, new) => {
@@ -117,7 +123,12 @@ impl Holdings {
         ensures base { self.new.base ≡ self.old.base }
         ensures err { OnErr result (self.new ≡ self.old) }
     {
-        if !self.base.same(&other.base) {
+        if !same_base(
+            &self.data_set,
+            &self.stations,
+            &other.data_set,
+            &other.stations,
+        ) {
             return Err(DeskFault::OtherBase);
         }
         if let Some(reference) = first_conflict(&self.held, &other.held) {
@@ -137,7 +148,7 @@ impl Holdings {
         ensures failures { CountsFault (W.failures out.old) (W.failures out.new) result }
         ensures device { W.device out.new ≡ W.device out.old }
     {
-        put_desk(out, &self.base, &self.held)
+        put_data_set(out, &self.data_set, self.stations.rows(), &self.held)
     }
 
     /// The legs of a flight on a date of origin, by leg sequence; none if it does not fly. Reads all records of the base.
@@ -146,7 +157,14 @@ impl Holdings {
         ensures means { Means (state_of self.now) (timetable_of self.now) }
         ensures only { IfOk result (λ legs. (timetable : Timetable) → Means (state_of self.now) timetable → legs.items ≡ timetable flight.now day) }
     {
-        legs_after(self.alloc, &self.base, &self.held, flight, day)
+        legs_after(
+            self.alloc,
+            &self.data_set,
+            self.stations.rows(),
+            &self.held,
+            flight,
+            day,
+        )
     }
 
     /// A line for each sub-message that is held, in order: what it found on the dates of its period. Reads all records of the base.
@@ -154,19 +172,49 @@ impl Holdings {
         ensures lines { IfOk result (λ lines. lines.items ≡ finding_lines self.now) }
         ensures finds { IfOk result (λ lines. Finds (state_of self.now) (found_by self.now.base self.now.held)) }
     {
-        let found = found_by(self.alloc, &self.base, &self.held)?;
+        let found = found_by(
+            self.alloc,
+            &self.data_set,
+            self.stations.rows(),
+            &self.held,
+        )?;
         let mut lines = Vec::new(self.alloc);
         push_lines(&mut lines, &self.held, &found)?;
         Ok(lines)
     }
 
-    /// The base and the messages.
-    pub(crate) fn into_parts(self) -> (Base, Vec<Held>)
-        ensures base { result.0 ≡ self.base }
-        ensures held { result.1.items ≡ self.held }
+    /// The base, made in one list, and the messages.
+    pub(crate) fn into_parts(self) -> Result<(Base, Vec<Held>), Memory>
+        ensures base { IfOk result (λ parts. parts.0 ≡ self.base) }
+        ensures held { IfOk result (λ parts. parts.1.items ≡ self.held) }
         ensures kept { AreEntries self.base.records self.held }
     {
-        (self.base, self.held)
+        let Holdings {
+            data_set,
+            stations,
+            held,
+            ..
+        } = self;
+        let base = data_set.into_base(stations)?;
+        Ok((base, held))
+    }
+
+    // What a desk file has.
+    fn of(alloc: Global, opened: Opened) -> Holdings
+        requires { AreEntries opened.data_set opened.held.items }
+        ensures { result ≡ record { base = base_with opened.data_set opened.stations; held = opened.held.items; applied = 0 } }
+    {
+        let Opened {
+            data_set,
+            stations,
+            held,
+        } = opened;
+        Holdings {
+            data_set,
+            stations,
+            held,
+            alloc,
+        }
     }
 
     // Puts a new message where it belongs.
@@ -180,4 +228,11 @@ impl Holdings {
         self.held.insert(at, new)?;
         Ok(())
     }
+}
+
+// Whether two data sets with their station tables are the same base.
+fn same_base(mine: &DataSet, rows: &Stations, theirs: &DataSet, their_rows: &Stations) -> bool
+    ensures { IsTrue result ↔ (base_with mine.now rows.now ≡ base_with theirs.now their_rows.now) }
+{
+    mine.same(theirs) && rows.same(their_rows)
 }

@@ -9,42 +9,42 @@ ghost use Rattle.ssim_desk.specs.Private.{AddsSubPoints, Shows};
 ghost use Rattle.ssim_desk.specs.Meaning.{Timetable, after_entry, after_one, subs_findings};
 
 use ssim_held::Held;
-use ssim_schedule::{Base, Finding, ResolvedSub, Schedule};
+use ssim_schedule::{Finding, ResolvedSub, Schedule, StationRow};
 use ssim_text::Sub;
 use ssim_values::Memory;
 use std::alloc::Global;
 
 // A sub-message acts on its dates.
 fn act_one(
-    base: &Base,
+    rows: &[StationRow],
     schedule: &mut Schedule,
     sub: &Sub,
     dated: ResolvedSub,
 ) -> Result<Finding, Memory>
-    ensures shows { OnOk result ((before : Timetable) → Shows schedule.old before → Shows schedule.new (after_one base.now.rows sub.now.action dated before)) }
-    ensures found { IfOk result (λ found. (before : Timetable) → Shows schedule.old before → found ≡ finding_of base.now.rows sub.now.action dated.period (each_day (before dated.flight))) }
-    ensures cuts { OnOk result ((g : FlightNumber) → IsFlight g → AddsSubPoints base.now.rows (dated ∷ []) g (cuts_in schedule.old g) (cuts_in schedule.new g)) }
+    ensures shows { OnOk result ((before : Timetable) → Shows schedule.old before → Shows schedule.new (after_one rows.now sub.now.action dated before)) }
+    ensures found { IfOk result (λ found. (before : Timetable) → Shows schedule.old before → found ≡ finding_of rows.now sub.now.action dated.period (each_day (before dated.flight))) }
+    ensures cuts { OnOk result ((g : FlightNumber) → IsFlight g → AddsSubPoints rows.now (dated ∷ []) g (cuts_in schedule.old g) (cuts_in schedule.new g)) }
 {
     // No effect at run time. The proof reads from these uses that the flight is one.
     let _ = dated.flight.number();
     let _ = dated.flight.suffix();
-    schedule.apply_sub(base, &dated.with(&sub.action))
+    schedule.apply_by(rows, &dated.with(&sub.action))
 }
 
 /// The sub-messages of a message act in their order. Returns what each found.
 pub(crate) fn act(
     alloc: Global,
-    base: &Base,
+    rows: &[StationRow],
     schedule: &mut Schedule,
     held: &Held,
 ) -> Result<Vec<Finding>, Memory>
-    ensures shows { OnOk result ((before : Timetable) → Shows schedule.old before → Shows schedule.new (after_entry base.now.rows held.now before)) }
-    ensures found { IfOk result (λ found. (before : Timetable) → Shows schedule.old before → found.items ≡ subs_findings base.now.rows held.now.message.subs held.now.dates before) }
-    ensures cuts { OnOk result ((g : FlightNumber) → IsFlight g → AddsSubPoints base.now.rows held.now.dates g (cuts_in schedule.old g) (cuts_in schedule.new g)) }
+    ensures shows { OnOk result ((before : Timetable) → Shows schedule.old before → Shows schedule.new (after_entry rows.now held.now before)) }
+    ensures found { IfOk result (λ found. (before : Timetable) → Shows schedule.old before → found.items ≡ subs_findings rows.now held.now.message.subs held.now.dates before) }
+    ensures cuts { OnOk result ((g : FlightNumber) → IsFlight g → AddsSubPoints rows.now held.now.dates g (cuts_in schedule.old g) (cuts_in schedule.new g)) }
 {
     let mut found = Vec::new(alloc);
     for (place, sub) in held.message().subs().iter().enumerate() {
-        found.push(act_one(base, schedule, sub, held.dates()[place])?)?;
+        found.push(act_one(rows, schedule, sub, held.dates()[place])?)?;
     }
     Ok(found)
 }

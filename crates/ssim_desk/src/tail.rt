@@ -82,7 +82,7 @@ impl Tail {
         ensures counted { IsCounted self.new }
         ensures applied { OnOk result ((before : List Entry) (from : ℕ) → IsTail base.now before from self.old → IsTail base.now (before ++ held.now ∷ []) from self.new) }
     {
-        let findings = act(alloc, base, &mut self.latest, held)?;
+        let findings = act(alloc, base.rows(), &mut self.latest, held)?;
         self.found.push(Found { findings })?;
         self.applied += 1;
         self.since = (self.since + 1) % STEP;

@@ -3,7 +3,7 @@ use Rattle.std.proofs.Common.{◌≡◌, inl, inr, ℕ, ◌<◌, ◌^◌, List, 
 use Rattle.std.specs.List.{All, AllByRecursion as Each, flat_map}
 use Rattle.std.proofs.lemmas.List.Elements.{All-from_recursion, recursion_from_All}
 use Rattle.ssim_records.specs.declared.record.Record.{Record}
-use Rattle.ssim_schedule.specs.BaseSeen.{BaseSeen}
+use Rattle.ssim_schedule.specs.BaseSeen.{BaseSeen, base_with}
 use Rattle.ssim_schedule.specs.SavedBase.{IsBaseRecords, SavedIsOne, saved}
 use Rattle.ssim_schedule.specs.Stations.{Row}
 use Rattle.ssim_text.specs.Spelling.{EqualWhereWrittenEqual}
@@ -116,13 +116,9 @@ small_records one two records is e short =
     omega (arith, whole, first, part, size, short)
 
 -- the records, and then the rows, are a base
-pub both_read : (one two after later : List ℕ) (base other : BaseSeen) (rows : List Row) → other.records ≡ base.records → other.rows ≡ rows → IsBaseRecords base.records → All IsRow rows
-    → one ≡ records_part base.records ++ two → after ≡ two → after ≡ rows_part rows ++ later → IsBase other × (one ≡ records_part other.records ++ (rows_part other.rows ++ later))
-both_read one two after later base other rows a b is all e f g = (
-  (subst IsBaseRecords (sym a) is, subst (All IsRow) (sym b) all),
-  e ∙ ap (λ (rs : List Record). records_part rs ++ two) (sym a)
-      ∙ ap (λ (xs : List ℕ). records_part other.records ++ xs) (sym f ∙ g ∙ ap (λ (rs : List Row). rows_part rs ++ later) (sym b)),
-)
+pub both_read : (one two after later : List ℕ) (records : List Record) (rows : List Row) → IsBaseRecords records → All IsRow rows
+    → one ≡ records_part records ++ two → after ≡ two → after ≡ rows_part rows ++ later → IsBase (base_with records rows) × (one ≡ records_part records ++ (rows_part rows ++ later))
+both_read one two after later records rows is all e f g = ((is, all), e ∙ ap (λ (xs : List ℕ). records_part records ++ xs) (sym f ∙ g))
 
 pub small_texts : (two three : List ℕ) (es : List Entry) → two ≡ texts_part es ++ three → length two < 2 ^ 64 → length es < 2 ^ 64
 small_texts two three es e short =

@@ -1,7 +1,7 @@
 //! A desk file as it is read: its parts, one after another.
 
 ghost use Rattle.std.specs.Prelude.{◌≡◌, ◌≢◌, IfErr, IfOk, List, OnErr, OnOk};
-ghost use Rattle.ssim_schedule.specs.BaseSeen.{BaseSeen};
+ghost use Rattle.ssim_schedule.specs.BaseSeen.{BaseSeen, base_with};
 ghost use Rattle.ssim_held.specs.File.{IsDeskFile, end_line};
 ghost use Rattle.ssim_schedule.specs.Reading.{Came};
 ghost use Rattle.ssim_held.specs.Opening.{FailsAs, NeverEnds, Opens, RefusesBytes, RefusesFile};
@@ -23,12 +23,20 @@ use saved_records::read_records;
 use saved_rows::read_rows;
 use saved_texts::read_texts;
 use ssim_records::{Parts, Source};
-use ssim_schedule::Base;
+use ssim_schedule::{DataSet, Stations};
 use ssim_schedule::laws::saved_records_are_read;
 use ssim_text::laws::equal_where_written_equal;
 use std::alloc::Global;
 use version::take_version;
 use whole_input::read_whole;
+
+/// What a desk file has: a base, which is a data set with a station table, and messages in order of reference.
+#[derive(Drop)]
+pub struct Opened {
+    pub data_set: DataSet,
+    pub stations: Stations,
+    pub held: Vec<Held>,
+}
 
 /// The last line, with nothing after it.
 fn read_end(bytes: &[u8]) -> Result<(), PartFault>
@@ -56,8 +64,8 @@ fn rest_of(alloc: Global, parts: &mut Parts) -> Result<Vec<u8>, PartFault>
 /// The base and the messages whose desk file the bytes are.
 ///
 /// The error names the first element that is invalid, by the number of the bytes from it on.
-fn read_file(alloc: Global, mut parts: Parts) -> Result<(Base, Vec<Held>), PartFault>
-    ensures ok { IfOk result (λ desk. IsDeskFile parts desk.0 desk.1.items) }
+fn read_file(alloc: Global, mut parts: Parts) -> Result<Opened, PartFault>
+    ensures ok { IfOk result (λ desk. IsDeskFile parts (base_with desk.data_set desk.stations) desk.held.items) }
     ensures err { IfErr result (λ e. e ≢ PartFault.Memory → (base : BaseSeen) (entries : List Entry) → IsDeskFile parts base entries → ⊥) }
 {
     saved_records_are_read();
@@ -66,19 +74,22 @@ fn read_file(alloc: Global, mut parts: Parts) -> Result<(Base, Vec<Held>), PartF
     let Some(version) = take_version(&mut parts) else {
         return Err(PartFault::Invalid(all));
     };
-    let records = read_records(alloc, &mut parts)?;
+    let data_set = read_records(alloc, &mut parts)?;
     let after = rest_of(alloc, &mut parts)?;
     let (stations, rest) = read_rows(alloc, &after)?;
-    let base = records.with_rows(stations);
-    let (held, rest) = read_texts(alloc, &base, version, rest)?;
+    let (held, rest) = read_texts(alloc, &data_set, version, rest)?;
     read_end(rest)?;
-    Ok((base, held))
+    Ok(Opened {
+        data_set,
+        stations,
+        held,
+    })
 }
 
 /// The base and the messages whose desk file the bytes are, which are freed as they are read. The errors are 90, and 62 with the
 /// number of the bytes before the first element that is invalid.
-pub fn read_parts(alloc: Global, parts: Parts) -> Result<(Base, Vec<Held>), DeskFault>
-    ensures ok { IfOk result (λ desk. IsDeskFile parts desk.0 desk.1.items) }
+pub fn read_parts(alloc: Global, parts: Parts) -> Result<Opened, DeskFault>
+    ensures ok { IfOk result (λ desk. IsDeskFile parts (base_with desk.data_set desk.stations) desk.held.items) }
     ensures err { IfErr result (RefusesBytes parts) }
 {
     let all = parts.len();
@@ -90,8 +101,8 @@ pub fn read_parts(alloc: Global, parts: Parts) -> Result<(Base, Vec<Held>), Desk
 }
 
 /// The same of bytes in one list.
-fn read_one(alloc: Global, bytes: Vec<u8>) -> Result<(Base, Vec<Held>), DeskFault>
-    ensures ok { IfOk result (λ desk. IsDeskFile bytes.items desk.0 desk.1.items) }
+fn read_one(alloc: Global, bytes: Vec<u8>) -> Result<Opened, DeskFault>
+    ensures ok { IfOk result (λ desk. IsDeskFile bytes.items (base_with desk.data_set desk.stations) desk.held.items) }
     ensures err { IfErr result (RefusesBytes bytes.items) }
 {
     let mut parts = Parts::new(alloc);
@@ -102,8 +113,8 @@ fn read_one(alloc: Global, bytes: Vec<u8>) -> Result<(Base, Vec<Held>), DeskFaul
 }
 
 /// The same of a copy of the bytes.
-pub fn read_bytes(alloc: Global, bytes: &[u8]) -> Result<(Base, Vec<Held>), DeskFault>
-    ensures ok { IfOk result (λ desk. IsDeskFile bytes.now desk.0 desk.1.items) }
+pub fn read_bytes(alloc: Global, bytes: &[u8]) -> Result<Opened, DeskFault>
+    ensures ok { IfOk result (λ desk. IsDeskFile bytes.now (base_with desk.data_set desk.stations) desk.held.items) }
     ensures err { IfErr result (RefusesBytes bytes.now) }
 {
     match Vec::from_slice(alloc, bytes) {
@@ -117,8 +128,8 @@ pub fn read_desk<R: Source>(
     alloc: Global,
     reader: &mut R,
     limit: u64,
-) -> Result<(Base, Vec<Held>), DeskFault>
-    ensures ok { IfOk result (λ desk. Opens limit (R.left reader.old) desk.0 desk.1.items) }
+) -> Result<Opened, DeskFault>
+    ensures ok { IfOk result (λ desk. Opens limit (R.left reader.old) (base_with desk.data_set desk.stations) desk.held.items) }
     ensures err { IfErr result (RefusesFile limit (R.left reader.old)) }
     ensures no_failure { IfOk result (λ _. R.failures reader.new ≡ R.failures reader.old) }
     ensures failure { IfErr result (λ e. FailsAs (R.failures reader.old) (R.failures reader.new) e) }

@@ -1,8 +1,9 @@
 //! The desk file, written from a base and the messages that are held.
 
-ghost use Rattle.std.specs.Prelude.{◌≡◌, ◌++◌, ◌∷◌, [], decimal, OnOk, OnErr};
+ghost use Rattle.std.specs.Prelude.{◌≡◌, ◌++◌, ◌∷◌, [], decimal, length, OnOk, OnErr};
 ghost use Rattle.std.specs.Io.KnownBytes.{Appends};
 ghost use Rattle.std.specs.List.{All};
+ghost use Rattle.ssim_schedule.specs.BaseSeen.{base_with};
 ghost use Rattle.ssim_schedule.specs.SavedBase.{IsBaseRecords};
 ghost use Rattle.ssim_schedule.specs.Sinks.{CountsFault, TakesFront, TakesUpTo};
 ghost use Rattle.ssim_held.specs.File.{IsRow, IsSpelled, desk_file, records_part, rows_part, text_element, texts_part};
@@ -10,8 +11,10 @@ ghost use Rattle.ssim_held.specs.File.{IsRow, IsSpelled, desk_file, records_part
 use crate::held::Held;
 use crate::row_line::write_row;
 use itoa::Buffer;
-use ssim_records::{Record, Sink};
-use ssim_schedule::{Base, Block, StationRow, WriteFault, flush, put_bytes, put_record};
+use ssim_records::Sink;
+use ssim_schedule::{
+    Base, Block, DataSet, RecordsLeft, StationRow, WriteFault, flush, put_bytes, put_record,
+};
 
 /// Puts the desk file of a base and the messages that are held.
 pub fn put_desk<W: Sink>(out: &mut W, base: &Base, held: &[Held]) -> Result<(), WriteFault>
@@ -23,10 +26,54 @@ pub fn put_desk<W: Sink>(out: &mut W, base: &Base, held: &[Held]) -> Result<(), 
     ensures failures { CountsFault (W.failures out.old) (W.failures out.new) result }
     ensures device { W.device out.new ≡ W.device out.old }
 {
+    let records = base.records();
+    put_file(
+        out,
+        records.len(),
+        RecordsLeft::of(records),
+        base.rows(),
+        held,
+    )
+}
+
+/// The same of a base whose records are a data set, with these rows.
+pub fn put_data_set<W: Sink>(
+    out: &mut W,
+    data_set: &DataSet,
+    rows: &[StationRow],
+    held: &[Held],
+) -> Result<(), WriteFault>
+    ensures ok { OnOk result (Appends (W.taken out.old) (W.taken out.new) (desk_file (base_with data_set.now rows.now) held.now)) }
+    ensures is_base { OnOk result (IsBaseRecords data_set.now) }
+    ensures rows { OnOk result (All IsRow rows.now) }
+    ensures spelled { OnOk result (All IsSpelled held.now) }
+    ensures err { OnErr result (TakesFront (desk_file (base_with data_set.now rows.now) held.now) (W.taken out.old) (W.taken out.new)) }
+    ensures failures { CountsFault (W.failures out.old) (W.failures out.new) result }
+    ensures device { W.device out.new ≡ W.device out.old }
+{
+    put_file(out, data_set.len(), data_set.records(), rows, held)
+}
+
+// Puts the desk file of so many records, rows and messages that are held.
+fn put_file<W: Sink>(
+    out: &mut W,
+    count: usize,
+    records: RecordsLeft<'_>,
+    rows: &[StationRow],
+    held: &[Held],
+) -> Result<(), WriteFault>
+    requires { count ≡ length records }
+    ensures ok { OnOk result (Appends (W.taken out.old) (W.taken out.new) (desk_file (base_with records.entry rows.now) held.now)) }
+    ensures rows { OnOk result (All IsRow rows.now) }
+    ensures spelled { OnOk result (All IsSpelled held.now) }
+    ensures err { OnErr result (TakesFront (desk_file (base_with records.entry rows.now) held.now) (W.taken out.old) (W.taken out.new)) }
+    ensures failures { CountsFault (W.failures out.old) (W.failures out.new) result }
+    ensures device { W.device out.new ≡ W.device out.old }
+{
     let mut block = Block::new();
     put_counted(out, &mut block, b"SSIMDESK ", 2)?;
-    put_records(out, &mut block, base.records())?;
-    put_rows(out, &mut block, base.rows())?;
+    put_records(out, &mut block, count, records)?;
+    put_rows(out, &mut block, rows)?;
     put_texts(out, &mut block, held)?;
     put_bytes(out, &mut block, b"END\n")?;
     flush(out, &mut block)
@@ -54,15 +101,17 @@ fn put_counted<W: Sink>(
 fn put_records<W: Sink>(
     out: &mut W,
     block: &mut Block,
-    records: &[Record],
+    count: usize,
+    mut records: RecordsLeft<'_>,
 ) -> Result<(), WriteFault>
-    ensures ok { OnOk result (TakesUpTo (block.old ++ records_part records.now) block.new (W.taken out.old) (W.taken out.new)) }
-    ensures err { OnErr result (TakesFront (block.old ++ records_part records.now) (W.taken out.old) (W.taken out.new)) }
+    requires { count ≡ length records }
+    ensures ok { OnOk result (TakesUpTo (block.old ++ records_part records.entry) block.new (W.taken out.old) (W.taken out.new)) }
+    ensures err { OnErr result (TakesFront (block.old ++ records_part records.entry) (W.taken out.old) (W.taken out.new)) }
     ensures failures { CountsFault (W.failures out.old) (W.failures out.new) result }
     ensures device { W.device out.new ≡ W.device out.old }
 {
-    put_counted(out, block, b"RECORDS ", records.len())?;
-    for record in records {
+    put_counted(out, block, b"RECORDS ", count)?;
+    while let Some(record) = records.next() {
         put_record(out, block, record)?;
     }
     Ok(())

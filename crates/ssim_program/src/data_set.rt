@@ -1,6 +1,7 @@
 //! Files of the store: any file, the data set in a file, and a base from a data set and a station table.
 
 ghost use Rattle.std.specs.Prelude.{◌≡◌, ◌≤◌, List, IfErr, IfOk, Ok, Some, length};
+ghost use Rattle.ssim_schedule.specs.BaseSeen.{base_with};
 ghost use Rattle.ssim_schedule.specs.Reading.{Answers, AnswersRecords, IsReadAs};
 ghost use Rattle.ssim_schedule.specs.Stations.{Row};
 ghost use Rattle.ssim_schedule.specs.declared.note.Note.{Note};
@@ -129,17 +130,6 @@ fn read_set(alloc: Global, parts: Parts) -> Result<DataSet, BaseFault>
     DataSet::read(alloc, &mut left, LIMIT)
 }
 
-/// Reads a data set in parts with a station table.
-fn read_parts(alloc: Global, parts: Parts, stations: Stations) -> Result<BaseRead, BaseFault>
-    requires { length parts ≤ file_limit }
-    ensures read { Answers result (IsReadAs file_limit parts) }
-    ensures rows { IfOk result (λ read. read.base.rows ≡ stations) }
-    ensures whole { IfErr result IsOfBytes }
-{
-    let mut left = parts;
-    Base::read(alloc, &mut left, stations, LIMIT)
-}
-
 /// Reads the data set in one file, with the station table in another. Both files are loaded first, the data set's before the
 /// table's; then the table is read, and then the data set.
 pub(crate) fn load_base<S: Store>(
@@ -147,16 +137,16 @@ pub(crate) fn load_base<S: Store>(
     dataset: &str,
     stations: &str,
     store: &mut S,
-) -> Result<BaseRead, Refusal>
-    ensures read { IfOk result (λ read. ReadsBase (S.files store.old) dataset.now stations.now read.base read.notes.items) }
+) -> Result<(DataSet, Stations), Refusal>
+    ensures read { IfOk result (λ read. (notes : List Note) × ReadsBase (S.files store.old) dataset.now stations.now (base_with read.0 read.1) notes) }
     ensures refused { IfErr result (RefusesBase (S.files store.old) dataset.now stations.now) }
     ensures same { S.files store.new ≡ S.files store.old }
 {
     let parts = load_parts(alloc, dataset, store)?;
     let table = load_file(alloc, stations, store)?;
     let stations = Stations::read(alloc, &table)?;
-    match read_parts(alloc, parts, stations) {
-        Ok(read) => Ok(read),
+    match read_set(alloc, parts) {
+        Ok(data_set) => Ok((data_set, stations)),
         Err(fault) => Err(Refusal::from(fault)),
     }
 }

@@ -17,7 +17,6 @@ use crate::rehearse::line::bytes_of;
 use crate::rehearse::lines::rehearsal_of;
 use crate::rehearse::texts::load_steps;
 use crate::store::Store;
-use ssim_schedule::BaseRead;
 use std::alloc::Global;
 
 /// The bytes of the lines of a rehearsal.
@@ -32,7 +31,8 @@ fn rehearsal<S: Store>(
     ensures err { IfErr result (RefusesLines (S.files store.old) dataset.now stations.now script.now) }
     ensures same { S.files store.new ≡ S.files store.old }
 {
-    let BaseRead { base, .. } = load_base(alloc, dataset, stations, store)?;
+    let (data_set, stations) = load_base(alloc, dataset, stations, store)?;
+    let base = data_set.into_base(stations)?;
     let (count, steps) = load_steps(alloc, script, store)?;
     let lines = rehearsal_of(alloc, &base, count, &steps)?;
     let bytes = bytes_of(alloc, &lines)?;

@@ -52,7 +52,7 @@ fn shown(alloc: Global, desk: &Holdings, flight: &str, date: &str) -> Result<Vec
 {
     let designator = Designator::parse(flight.as_bytes())?;
     let day = day_in(date)?;
-    if designator.airline != desk.base().airline() {
+    if designator.airline != desk.data_set().airline() {
         return Err(Refusal::from(DeskFault::Resolve(ResolveFault::Airline(0))));
     }
     let legs = desk.itinerary(&designator.flight, day)?;

@@ -32,8 +32,8 @@ pub(crate) fn start<S: Store, O: Printer>(
     ensures device { O.device out.new ≡ O.device out.old }
     ensures flushed { OnOk result (O.flushed out.new ≡ true) }
 {
-    let read = load_base(alloc, dataset, stations, store)?;
-    let desk = Holdings::start(alloc, read.base);
+    let (data_set, stations) = load_base(alloc, dataset, stations, store)?;
+    let desk = Holdings::start(alloc, data_set, stations);
     let line = held_line(alloc, 0)?;
     keep(alloc, &desk, name, store)?;
     match print_all(out, &line) {

@@ -1,6 +1,8 @@
 //! The command `take`: a desk takes texts, one after another.
 
-ghost use Rattle.std.specs.Prelude.{◌≡◌, true, Err, IfErr, IfOk, IfSome, Ok, OnErr, OnOk, map};
+ghost use Rattle.std.specs.Prelude.{◌≡◌, true, List, Err, IfErr, IfOk, IfSome, Ok, OnErr, OnOk, map};
+ghost use Rattle.ssim_schedule.specs.BaseSeen.{base_with};
+ghost use Rattle.ssim_schedule.specs.Stations.{Row};
 ghost use Rattle.ssim_text.specs.Message.{MessageValue};
 ghost use Rattle.ssim_held.specs.Held.{Says};
 ghost use Rattle.ssim_held.specs.Kept.{state_of};
@@ -18,7 +20,7 @@ use crate::printer::{Printer, flush_all, print_all};
 use crate::refusal::Refusal;
 use crate::store::Store;
 use ssim_desk::{DeskFault, Holdings, Took};
-use ssim_schedule::{Base, resolve};
+use ssim_schedule::DataSet;
 use ssim_text::{Reference, decode};
 use ssim_values::Memory;
 use std::alloc::Global;
@@ -99,7 +101,7 @@ fn take_one(alloc: Global, desk: &mut Holdings, text: &[u8]) -> Result<(Took, Re
     ensures done { IfOk result (λ r. IsTaken desk.old text.now r.0 r.1 desk.new) }
     ensures refused { IfErr result (RefusesText (state_of desk.old) text.now) }
 {
-    let reference = reference_in(alloc, desk.base(), text);
+    let reference = reference_in(alloc, desk.data_set(), text);
     let took = desk.take(text)?;
     match reference {
         Some(reference) => Ok((took, reference)),
@@ -108,13 +110,13 @@ fn take_one(alloc: Global, desk: &mut Holdings, text: &[u8]) -> Result<(Took, Re
 }
 
 /// The reference of the message that the text spells; none if it spells no message with a reference, or memory ran out.
-pub(crate) fn reference_in(alloc: Global, base: &Base, text: &[u8]) -> Option<Reference>
-    ensures { IfSome result (λ reference. (message : MessageValue) × Says base.now text.now reference message) }
+fn reference_in(alloc: Global, data_set: &DataSet, text: &[u8]) -> Option<Reference>
+    ensures { (rows : List Row) → IfSome result (λ reference. (message : MessageValue) × Says (base_with data_set.now rows) text.now reference message) }
 {
     let Ok(message) = decode(alloc, text) else {
         return None;
     };
-    match resolve(base, &message) {
+    match data_set.resolve(&message) {
         Ok(resolved) => Some(resolved.reference),
         Err(_) => None,
     }

@@ -17,12 +17,6 @@ use ssim_records::Sink;
 use ssim_schedule::{DataSet, ExportFault};
 use std::alloc::Global;
 
-// The bytes that a block is filled with at a time.
-const CHUNK: usize = 4_096;
-
-// So many of them are more than a part of a file, which has 1,048,576 bytes.
-const CHUNKS: usize = 270;
-
 /// Writes the canonical export of the data set in the file of this name.
 pub(crate) fn tidy<S: Store, O: Printer>(
     alloc: Global,
@@ -39,7 +33,6 @@ pub(crate) fn tidy<S: Store, O: Printer>(
     ensures device { O.device out.new ≡ O.device out.old }
     ensures flushed { OnOk result (O.flushed out.new ≡ true) }
 {
-    keep_parts_in_the_heap(alloc);
     match load(alloc, name, store) {
         Ok(data_set) => {
             let airline = data_set.airline();
@@ -80,19 +73,4 @@ fn export_into<W: Sink>(data_set: DataSet, out: &mut W) -> Result<(), ExportFaul
     ensures device { W.device out.new ≡ W.device out.old }
 {
     data_set.export(out)
-}
-
-/// Takes one block that is larger than a part of a file, and frees it. The C library takes blocks of 128 KiB and more from the system, and
-/// gives each back when it is freed, until a larger one was freed: from then on blocks up to that size stay with the program. So the records
-/// are put into the memory that the parts leave, and no new memory is asked for, which would have to be cleared first.
-///
-/// The block grows while it is filled, since the compiler removes one that is only taken and freed. If there is no memory for it, the command
-/// only takes longer.
-fn keep_parts_in_the_heap(alloc: Global) {
-    let mut block: Vec<u8> = Vec::new(alloc);
-    for _ in 0..CHUNKS {
-        if block.extend_from_slice(&[0; CHUNK]).is_err() {
-            return;
-        }
-    }
 }

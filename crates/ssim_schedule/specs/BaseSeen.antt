@@ -16,6 +16,10 @@ pub record BaseSeen : Type 0 where
   pub records : List Record
   pub rows : List Row
 
+-- the base of these records with these rows
+abbrev pub base_with : List Record → List Row → BaseSeen
+base_with records rows = record { records = records; rows = rows }
+
 -- these are the records of a base: what some records, each of which can be spelt, are read as
 pub record WasRead (base : List Record) : Type 0 where
   pub ending : Ending

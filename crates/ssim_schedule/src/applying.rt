@@ -48,12 +48,28 @@ impl Schedule {
         ensures each_date { OnOk result ((g : FlightNumber) (n : ℕ) → IsFlight g → n < day_count → on_day (days_in self.new g) n ≡ itinerary_after base.now.rows sub.now.action.now sub.now.flight sub.now.period g n (on_day (days_in self.old g) n)) }
         ensures err { OnErr result (self.new ≡ self.old) }
     {
+        self.apply_by(base.rows(), sub)
+    }
+
+    /// The same by these rows of a station table.
+    pub fn apply_by(&mut self, rows: &[StationRow], sub: &Resolved) -> Result<Finding, Memory>
+        ensures days { OnOk result ((g : FlightNumber) → days_in self.new g ≡ after_sub rows.now sub.now.action.now sub.now.flight sub.now.period self.old g) }
+        ensures finding { IfOk result (λ finding. finding ≡ finding_of rows.now sub.now.action.now sub.now.period (days_in self.old sub.now.flight)) }
+
+        // A new cut is the first day or the day after the last of the period, or of a row whose station the new legs have.
+        ensures cuts { OnOk result ((g : FlightNumber) → AddsPointsOf sub.now.flight rows.now sub.now.action.now sub.now.period g (cuts_in self.old g) (cuts_in self.new g)) }
+
+        // The itinerary of a date afterwards is the action's effect if the sub-message names the flight and its period holds the
+        // date, else the itinerary before.
+        ensures each_date { OnOk result ((g : FlightNumber) (n : ℕ) → IsFlight g → n < day_count → on_day (days_in self.new g) n ≡ itinerary_after rows.now sub.now.action.now sub.now.flight sub.now.period g n (on_day (days_in self.old g) n)) }
+        ensures err { OnErr result (self.new ≡ self.old) }
+    {
         // No effect at run time. The proof reads from these uses that there are at most twenty new legs, and that the flight is one.
         let _ = lines_of(sub.action);
         let _ = place(sub.flight);
         let counts = self
             .table
-            .act(base.rows(), sub.action, sub.flight, &sub.period)?;
+            .act(rows, sub.action, sub.flight, &sub.period)?;
         Ok(Finding::of(&counts))
     }
 }

@@ -3,7 +3,7 @@
 ghost use Rattle.std.specs.Prelude.{◌≡◌, ◌↔◌, ℕ, List, Option, IsTrue, IfOk, IfErr, reverse};
 ghost use Rattle.std.specs.List.{All};
 ghost use Rattle.ssim_schedule.specs.Base.{airline_of};
-ghost use Rattle.ssim_schedule.specs.BaseSeen.{AreFlights};
+ghost use Rattle.ssim_schedule.specs.BaseSeen.{AreFlights, WasRead};
 ghost use Rattle.ssim_schedule.specs.Building.{IsClosed};
 ghost use Rattle.ssim_records.specs.declared.record.Record.{Record};
 ghost use Rattle.ssim_schedule.specs.Export.{Frame};
@@ -18,6 +18,7 @@ use crate::kept::Kept;
 use crate::kept_records::KeptRecords;
 use crate::note::Note;
 use crate::reading::gather;
+use crate::records_left::{RecordsLeft, are_same};
 use crate::stations::{StationRow, Stations};
 use ssim_records::{Carrier, Header, Record, Source, Trailer};
 use ssim_values::{Airline, Flight, Memory};
@@ -125,17 +126,18 @@ impl Base {
         })
     }
 
-    /// The same records with these rows.
-    pub fn with_rows(self, stations: Stations) -> Base
-        ensures records { result.records ≡ self.records }
+    /// The base of records that were read, with their flights and these rows.
+    pub(crate) fn of_parts(
+        alloc: Global,
+        records: Vec<Record>,
+        flights: Vec<Flight>,
+        stations: Stations,
+    ) -> Base
+        requires read { WasRead records.items }
+        requires flights { AreFlights records.items flights.items }
+        ensures records { result.records ≡ records.items }
         ensures rows { result.rows ≡ stations }
     {
-        let Base {
-            records,
-            flights,
-            alloc,
-            ..
-        } = self;
         Base {
             records,
             stations,
@@ -160,7 +162,10 @@ impl Base {
     pub fn same(&self, other: &Base) -> bool
         ensures { IsTrue result ↔ (self.now ≡ other.now) }
     {
-        same_records(&self.records, &other.records) && self.stations.same(&other.stations)
+        are_same(
+            RecordsLeft::of(&self.records),
+            RecordsLeft::of(&other.records),
+        ) && self.stations.same(&other.stations)
     }
 
     /// The airline whose schedule it is.
@@ -231,19 +236,4 @@ impl Base {
     {
         &self.flights
     }
-}
-
-// Whether the two lists have the same records.
-fn same_records(mine: &[Record], theirs: &[Record]) -> bool
-    ensures { IsTrue result ↔ (mine.now ≡ theirs.now) }
-{
-    if mine.len() != theirs.len() {
-        return false;
-    }
-    for (place, record) in mine.iter().enumerate() {
-        if !record.same(&theirs[place]) {
-            return false;
-        }
-    }
-    true
 }

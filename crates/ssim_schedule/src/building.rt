@@ -54,14 +54,15 @@ impl Schedule {
         Ok(Schedule { table })
     }
 
-    /// The timetable of these flights of a base, as in `of`. No other flight flies on any date. It takes less time and memory than the
+    /// The timetable of these flights of a data set, as in `of`. No other flight flies on any date. It takes less time and memory than the
     /// whole timetable where the flights are few.
-    pub fn of_flights(base: &Base, flights: &[Flight]) -> Result<Schedule, Memory>
-        ensures { IfOk result (λ s. (g : FlightNumber) → IsFlight g → days_in s g ≡ each_day (itinerary_among flights.now base.now.records g)) }
+    pub fn of_flights(data_set: &DataSet, flights: &[Flight]) -> Result<Schedule, Memory>
+        ensures { IfOk result (λ s. (g : FlightNumber) → IsFlight g → days_in s g ≡ each_day (itinerary_among flights.now data_set.now g)) }
     {
-        let alloc = base.allocator();
+        let alloc = data_set.allocator();
         let set = FlightSet::of(alloc, flights)?;
-        let table = timetable_of(alloc, &set, base.records())?;
+        let (pieces, last) = data_set.pieces();
+        let table = timetable_of(alloc, &set, pieces, last)?;
         Ok(Schedule { table })
     }
 }
@@ -91,17 +92,19 @@ fn timetable(alloc: Global, records: &[Record]) -> Result<FlightBlocks, Memory>
     Ok(building.table)
 }
 
-/// The timetable of those records that are of a flight of a set.
+/// The timetable of those records in pieces that are of a flight of a set.
 fn timetable_of(
     alloc: Global,
     flights: &FlightSet,
-    records: &[Record],
+    pieces: &[Vec<Record>],
+    last: &[Record],
 ) -> Result<FlightBlocks, Memory>
-    requires { All IsClosed records.now }
-    ensures { IfOk result (λ s. (g : FlightNumber) → IsFlight g → days_in s g ≡ days_of (filter (is_record_of (is_marked flights.now.marks.items)) records.now) g) }
+    requires { All IsClosed (flat_map (λ piece. piece.items) pieces.now ++ last.now) }
+    ensures { IfOk result (λ s. (g : FlightNumber) → IsFlight g → days_in s g ≡ days_of (filter (is_record_of (is_marked flights.now.marks.items)) (flat_map (λ piece. piece.items) pieces.now ++ last.now)) g) }
 {
     let mut building = Building::new(alloc)?;
-    building.put_those_of(flights, records)?;
+    building.put_those_of(flights, last)?;
+    building.put_pieces_of(flights, pieces)?;
     building.put_group(None)?;
     Ok(building.table)
 }
@@ -160,6 +163,19 @@ impl Building {
             if flights.has_flight_of(one) {
                 self.put(one)?;
             }
+        }
+        Ok(())
+    }
+
+    /// The same of records in pieces, from the last piece to the first.
+    fn put_pieces_of(&mut self, flights: &FlightSet, pieces: &[Vec<Record>]) -> Result<(), Memory>
+        requires { All IsClosed (flat_map (λ piece. piece.items) pieces.now) }
+        ensures { OnOk result ((done : List Record) → IsBuilt self.old done → IsBuilt self.new (filter (is_record_of (is_marked flights.now.marks.items)) (flat_map (λ piece. piece.items) pieces.now) ++ done)) }
+    {
+        let mut place = pieces.len();
+        while place > 0 {
+            place -= 1;
+            self.put_those_of(flights, &pieces[place])?;
         }
         Ok(())
     }

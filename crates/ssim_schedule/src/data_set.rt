@@ -1,27 +1,32 @@
-//! A data set that is read to be exported: its records in pieces.
+//! The records of a base in pieces.
 
-ghost use Rattle.std.specs.Prelude.{◌≡◌, ℕ, List, Option, IfOk, IfErr, reverse};
+ghost use Rattle.std.specs.Prelude.{◌≡◌, ◌↔◌, ◌++◌, ℕ, List, Option, IsTrue, IfOk, IfErr, length, reverse};
 ghost use Rattle.std.specs.List.{All, flat_map};
 ghost use Rattle.ssim_records.specs.declared.record.Record.{Record};
 ghost use Rattle.ssim_schedule.specs.Base.{airline_of};
 ghost use Rattle.ssim_schedule.specs.Building.{IsClosed};
 ghost use Rattle.ssim_schedule.specs.Export.{Frame};
-ghost use Rattle.ssim_schedule.specs.ReadBack.{CanExport, HasFrame};
+ghost use Rattle.ssim_schedule.specs.ReadBack.{AreInOrder, CanExport, HasFrame};
 ghost use Rattle.ssim_schedule.specs.Reading.{AnswersRecords, Came, FailsAfter, FailsAs, IsReadOf, NeverEnds};
+ghost use Rattle.ssim_schedule.specs.SavedBase.{IsBaseRecords};
+ghost use Rattle.ssim_schedule.specs.Timetable.{days_of};
 
+use crate::base::Base;
 use crate::fault::BaseFault;
 use crate::gathering::Gathering;
 use crate::kept::Kept;
 use crate::kept_records::KeptRecords;
 use crate::reading::gather;
 use crate::record_pieces::RecordPieces;
+use crate::records_left::{RecordsLeft, are_same};
+use crate::stations::Stations;
 use ssim_records::{Carrier, Header, Record, Source, Trailer};
 use ssim_values::{Airline, Flight, Memory};
 use std::alloc::Global;
 use std::marker::Model;
 
-/// A data set that was read to be exported, without a station table. It is seen as the records of its base, and these are kept in pieces
-/// that are freed while the timetable is made.
+/// A data set as it was read, without a station table. It is seen as the records of a base, and these are kept in pieces. So they fit into
+/// the memory that the parts of a file leave, and are freed while the timetable is made.
 #[derive(Drop)]
 pub struct DataSet {
     records: RecordPieces,
@@ -77,8 +82,8 @@ impl DataSet {
         Ok(data_set)
     }
 
-    // The data set of the records that are kept, which are those of a base.
-    fn of_kept(alloc: Global, kept: Kept) -> Result<DataSet, Memory>
+    /// The data set of the records that are kept, which are those of a base.
+    pub(crate) fn of_kept(alloc: Global, kept: Kept) -> Result<DataSet, Memory>
         requires whole { IsWholeBase kept }
         requires keeps { keeps kept.records ≡ InPieces }
         ensures records { (earlier : List Record) → IsKept kept earlier → IfOk result (λ read. read ≡ reverse earlier) }
@@ -134,6 +139,52 @@ impl DataSet {
             Record::Trailer(trailer) => trailer,
             _ => unreachable!(),
         }
+    }
+
+    /// The number of the records.
+    pub fn len(&self) -> usize
+        ensures { result ≡ length self.now }
+    {
+        self.records.len()
+    }
+
+    /// The records, in order, as `Base::records` has them.
+    pub fn records(&self) -> RecordsLeft<'_>
+        ensures value { result ≡ self.now }
+        ensures is_base { IsBaseRecords self.now }
+    {
+        let (pieces, last) = self.records.pieces();
+        RecordsLeft::of_pieces(pieces, last)
+    }
+
+    /// The pieces before the last one, in order, and the last one.
+    pub(crate) fn pieces(&self) -> (&[Vec<Record>], &[Record])
+        ensures value { flat_map (λ piece. piece.items) result.0.now ++ result.1.now ≡ self.now }
+        ensures closed { All IsClosed self.now }
+        ensures in_order { AreInOrder (days_of self.now) }
+    {
+        self.records.pieces()
+    }
+
+    /// Whether two data sets have the same records.
+    pub fn same(&self, other: &DataSet) -> bool
+        ensures { IsTrue result ↔ (self.now ≡ other.now) }
+    {
+        are_same(self.records(), other.records())
+    }
+
+    /// The base with the same records, in one list, and with these rows.
+    pub fn into_base(self, stations: Stations) -> Result<Base, Memory>
+        ensures records { IfOk result (λ base. base.records ≡ self) }
+        ensures rows { IfOk result (λ base. base.rows ≡ stations) }
+    {
+        let DataSet {
+            records,
+            flights,
+            alloc,
+        } = self;
+        let list = records.into_list()?;
+        Ok(Base::of_parts(alloc, list, flights, stations))
     }
 
     /// The records in pieces, and the flights of the leg records.

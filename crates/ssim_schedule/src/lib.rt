@@ -3,14 +3,14 @@
 //! - [`Stations`]: which UTC variation a station has on a day, read from a table of [`StationRow`]s.
 //! - [`Base`]: a data set as it was read, record by record, with a station table; or a [`BaseFault`], which names the first invalid
 //!   record. What is unusual but not refused is a [`Note`].
-//! - [`read_saved`]: the base whose records the next lines of a file are, or a [`SavedFault`].
-//! - [`DataSet`]: a data set that is read to be exported, its records in pieces that are freed while its timetable is made.
+//! - [`DataSet`]: the records of a base in pieces, which are freed while its timetable is made. [`RecordsLeft`] reads them in order.
+//! - [`read_saved`]: the data set whose records the next lines of a file are, or a [`SavedFault`].
 //! - [`Summary`]: how many records and flights a data set has, and its notes. It is read as a base is, but no record is kept.
 //! - [`Schedule`]: the itinerary of each flight on each date, which is its [`PlacedLeg`]s in order. `of` makes it from a base, `of_flights`
-//!   that of some flights alone, `export` writes it as chapter 7 in the one canonical division, or answers an [`ExportFault`].
+//!   that of some flights of a data set, `export` writes it as chapter 7 in the one canonical division, or answers an [`ExportFault`].
 //! - [`Block`]: bytes for a sink, filled by [`put_record`] and [`put_bytes`] and emptied by [`flush`], or [`WriteFault`].
-//! - [`resolve`]: resolves a message against a base: its reference with its year, its sub-messages with full dates, or a [`ResolveFault`].
-//! - `Schedule::apply_sub`: a [`Resolved`] sub-message acts on each date of its period by itself; a [`Finding`] counts the dates by
+//! - [`resolve`] and `DataSet::resolve`: resolve a message against a base: its reference with its year, its sub-messages with full dates, or a [`ResolveFault`].
+//! - `Schedule::apply_sub` and `apply_by`: a [`Resolved`] sub-message acts on each date of its period by itself; a [`Finding`] counts the dates by
 //!   what they got.
 //! - [`laws`]: an export reads back to its timetable, byte for byte; saved records read back; a message has one outcome.
 //!
@@ -49,6 +49,7 @@ mod points;
 mod put;
 mod reading;
 mod record_pieces;
+mod records_left;
 mod resolved;
 mod resolving;
 mod saved;
@@ -70,6 +71,7 @@ pub use flight_table::FlightPeriods;
 pub use itinerary::Itinerary;
 pub use leg::PlacedLeg;
 pub use note::Note;
+pub use records_left::RecordsLeft;
 pub use resolved::{Resolved, ResolvedSub};
 pub use resolving::{ResolveFault, ResolvedText, resolve};
 pub use saved::{SavedFault, read_saved};

@@ -97,6 +97,26 @@ impl RecordPieces {
         record_at(&self.full, &self.last, place)
     }
 
+    /// The pieces before the last one, in order, and the last one.
+    pub(crate) fn pieces(&self) -> (&[Vec<Record>], &[Record])
+        ensures { flat_map (λ piece. piece.items) result.0.now ++ result.1.now ≡ self.now }
+    {
+        (&self.full, &self.last)
+    }
+
+    /// The records in one list.
+    pub(crate) fn into_list(self) -> Result<Vec<Record>, Memory>
+        ensures { IfOk result (λ list. list.items ≡ self) }
+    {
+        let RecordPieces {
+            full,
+            last,
+            len,
+            alloc,
+        } = self;
+        list_of(alloc, len, &full, &last)
+    }
+
     /// The pieces, in order.
     pub(crate) fn into_pieces(self) -> Result<Vec<Vec<Record>>, Memory>
         ensures { IfOk result (λ pieces. flat_map (λ piece. piece.items) pieces.items ≡ self) }
@@ -124,4 +144,21 @@ fn record_at<'a>(full: &'a [Vec<Record>], last: &'a [Record], place: usize) -> &
         number += 1;
     }
     &last[left]
+}
+
+// The records of some pieces and of the last one in one list, which is made for so many.
+fn list_of(
+    alloc: Global,
+    len: usize,
+    full: &[Vec<Record>],
+    last: &[Record],
+) -> Result<Vec<Record>, Memory>
+    ensures { IfOk result (λ list. list.items ≡ flat_map (λ piece. piece.items) full.now ++ last.now) }
+{
+    let mut list = Vec::with_capacity(alloc, len)?;
+    for piece in full {
+        list.extend_from_slice(piece)?;
+    }
+    list.extend_from_slice(last)?;
+    Ok(list)
 }

@@ -4,11 +4,11 @@ ghost use Rattle.std.specs.Prelude.{◌≡◌, ◌≢◌, ◌↔◌, ◌++◌, �
 ghost use Rattle.ssim_records.specs.declared.record.Record.{Record};
 ghost use Rattle.ssim_schedule.specs.SavedBase.{IsBare, IsBaseRecords, IsLine, IsLineOf, IsWithin, saved};
 
-use crate::base::Base;
+use crate::data_set::DataSet;
 use crate::fault::BaseFault;
 use crate::kept::Kept;
 use crate::kept_records::KeptRecords;
-use crate::stations::Stations;
+use crate::record_pieces::RecordPieces;
 use ssim_records::{Parts, Record, RecordReader};
 use ssim_values::Memory;
 use std::alloc::{AllocError, Global};
@@ -106,23 +106,17 @@ fn next_line_copied(reader: &mut RecordReader, parts: &mut Parts, into: &mut Opt
     parts.fill(&mut line) && read_line(reader, &line, into).is_some()
 }
 
-/// The base whose records the next `count` lines of the parts are, with these rows. Each line is read once: what it spells is compared
-/// with it as it is written, and kept.
+/// The data set whose records the next `count` lines of the parts are. Each line is read once: what it spells is compared with it as it is
+/// written, and kept.
 ///
 /// The error names the first line that is no record as a base has it, or at which the base is invalid. A base without header, carrier
 /// or trailer is invalid after its lines.
-pub fn read_saved(
-    alloc: Global,
-    count: usize,
-    parts: &mut Parts,
-    stations: Stations,
-) -> Result<Base, SavedFault>
-    ensures ok { IfOk result (λ base. IsBaseRecords base.records × (length base.records ≡ count) × (parts.old ≡ saved base.records ++ parts.new) × (base.rows ≡ stations)) }
+pub fn read_saved(alloc: Global, count: usize, parts: &mut Parts) -> Result<DataSet, SavedFault>
+    ensures ok { IfOk result (λ read. IsBaseRecords read × (length read ≡ count) × (parts.old ≡ saved read ++ parts.new)) }
     ensures err { IfErr result (λ e. e ≢ SavedFault.Memory → (records : List Record) (later : List ℕ) → IsBaseRecords records → length records ≡ count → parts.old ≡ saved records ++ later → ⊥) }
     ensures within { IfErr result (λ e. IsWithin parts.old e) }
 {
-    let records = Vec::with_capacity(alloc, count.min(parts.len() / RECORD_LINE))?;
-    let mut kept = Kept::new(alloc, KeptRecords::All(records));
+    let mut kept = Kept::new(alloc, KeptRecords::Pieces(RecordPieces::new(alloc)));
     let mut reader = RecordReader::new();
     let mut next = None;
     let mut done = 0;
@@ -142,5 +136,5 @@ pub fn read_saved(
     if kept.missing().is_some() {
         return Err(SavedFault::Invalid(parts.len()));
     }
-    Ok(Base::of_kept(alloc, kept, stations)?)
+    Ok(DataSet::of_kept(alloc, kept)?)
 }

@@ -234,7 +234,7 @@ impl Stations {
     }
 
     /// Whether two tables have the same rows.
-    pub(crate) fn same(&self, other: &Stations) -> bool
+    pub fn same(&self, other: &Stations) -> bool
         ensures { IsTrue result ↔ (self.now ≡ other.now) }
     {
         same_rows(&self.rows, &other.rows)

@@ -11,6 +11,12 @@ use std::io::{ErrorKind, Read};
 /// The size of a part of a file.
 const PART: usize = 1_048_576;
 
+/// The bytes that a block is filled with at a time.
+const CHUNK: usize = 4_096;
+
+/// So many of them are more than a part of a file.
+const CHUNKS: usize = 270;
+
 /// Reads bytes after those that are there, through `chunk`, until there are `most` of them or the reader ends.
 fn fill<R: Read>(
     reader: &mut R,
@@ -89,6 +95,24 @@ pub(crate) fn read_parts_within<R: Read + Drop>(
         }
         if count < PART {
             return Ok(parts);
+        }
+        if parts.len() == PART {
+            keep_parts_in_the_heap(alloc);
+        }
+    }
+}
+
+/// Takes one block that is larger than a part of a file, and frees it. The C library takes blocks of 128 KiB and more from the system, and
+/// gives each back when it is freed, until a larger one was freed: from then on blocks up to that size stay with the program. So what is
+/// made of the parts is put into the memory that they leave, and no new memory is asked for, which would have to be cleared first.
+///
+/// The block grows while it is filled, since the compiler removes one that is only taken and freed. If there is no memory for it, reading
+/// only takes longer.
+fn keep_parts_in_the_heap(alloc: Global) {
+    let mut block: Vec<u8> = Vec::new(alloc);
+    for _ in 0..CHUNKS {
+        if block.extend_from_slice(&[0; CHUNK]).is_err() {
+            return;
         }
     }
 }

@@ -8,9 +8,8 @@ ghost use Rattle.ssim_held.specs.File.{counted, records_part};
 
 use crate::opening::count_line::{Count, count_line};
 use crate::opening::fault::PartFault;
-use crate::opening::saved_rows::no_rows;
 use ssim_records::Parts;
-use ssim_schedule::{Base, SavedFault, read_saved};
+use ssim_schedule::{DataSet, SavedFault, read_saved};
 use std::alloc::Global;
 
 /// The next line with its LF, if an LF follows.
@@ -53,33 +52,33 @@ fn take_count(alloc: Global, parts: &mut Parts) -> Result<Option<Count>, PartFau
     }
 }
 
-/// The base whose records the next lines are, without rows.
-fn read_lines(alloc: Global, count: Count, parts: &mut Parts) -> Result<Base, PartFault>
-    ensures ok { IfOk result (λ base. IsBaseRecords base.records × (count ≡ Some (length base.records)) × (parts.old ≡ saved base.records ++ parts.new)) }
+/// The data set whose records the next lines are.
+fn read_lines(alloc: Global, count: Count, parts: &mut Parts) -> Result<DataSet, PartFault>
+    ensures ok { IfOk result (λ read. IsBaseRecords read × (count ≡ Some (length read)) × (parts.old ≡ saved read ++ parts.new)) }
     ensures err { IfErr result (λ e. e ≢ PartFault.Memory → (records : List Record) (later : List ℕ) → IsBaseRecords records → count ≡ Some (length records) → parts.old ≡ saved records ++ later → ⊥) }
 {
     let lines = match count {
         Some(lines) => lines,
         None => usize::MAX,
     };
-    match read_saved(alloc, lines, parts, no_rows(alloc)?) {
-        Ok(base) => {
+    match read_saved(alloc, lines, parts) {
+        Ok(data_set) => {
             if count.is_none() {
                 return Err(PartFault::Invalid(parts.len()));
             }
-            Ok(base)
+            Ok(data_set)
         }
         Err(SavedFault::Memory) => Err(PartFault::Memory),
         Err(SavedFault::Invalid(left)) => Err(PartFault::Invalid(left)),
     }
 }
 
-/// The base whose records come next, with their number before them. It has no rows.
+/// The data set whose records come next, with their number before them.
 ///
 /// The error names the line of the number, or the first line that is no record as a base has it, or at which the base is invalid. A
 /// base without header, carrier or trailer is invalid after its lines.
-pub(crate) fn read_records(alloc: Global, parts: &mut Parts) -> Result<Base, PartFault>
-    ensures ok { IfOk result (λ base. IsBaseRecords base.records × (parts.old ≡ records_part base.records ++ parts.new)) }
+pub(crate) fn read_records(alloc: Global, parts: &mut Parts) -> Result<DataSet, PartFault>
+    ensures ok { IfOk result (λ read. IsBaseRecords read × (parts.old ≡ records_part read ++ parts.new)) }
     ensures err { IfErr result (λ e. e ≢ PartFault.Memory → (records : List Record) (later : List ℕ) → length records < 2 ^ 64 → IsBaseRecords records → parts.old ≡ records_part records ++ later → ⊥) }
 {
     let left = parts.len();

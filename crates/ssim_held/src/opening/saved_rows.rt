@@ -48,16 +48,6 @@ fn read_lines(alloc: Global, lines: &[u8]) -> Result<Option<Stations>, PartFault
     }
 }
 
-/// A station table without rows.
-pub(crate) fn no_rows(alloc: Global) -> Result<Stations, PartFault>
-    ensures { IfErr result (λ e. e ≡ PartFault.Memory) }
-{
-    match Stations::read(alloc, b"") {
-        Ok(stations) => Ok(stations),
-        Err(_) => Err(PartFault::Memory),
-    }
-}
-
 /// The error that names the first line that is no row.
 fn invalid_row(alloc: Global, bytes: &[u8]) -> PartFault {
     let mut rest = bytes;

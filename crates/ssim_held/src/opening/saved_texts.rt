@@ -16,7 +16,7 @@ use crate::opening::count_line::{count_line, elements};
 use crate::opening::fault::PartFault;
 use crate::opening::version::FileVersion;
 use ssim_schedule::laws::resolving_has_one_outcome;
-use ssim_schedule::{Base, ResolveFault, ResolvedText, resolve};
+use ssim_schedule::{DataSet, ResolveFault, ResolvedText};
 use ssim_text::laws::equal_where_written_equal;
 use ssim_text::{Message, TextFault, decode};
 use std::alloc::Global;
@@ -41,13 +41,13 @@ fn read_canonical(alloc: Global, text: &[u8]) -> Result<Option<Message>, PartFau
 }
 
 /// A message with its year and full dates, if it resolves.
-fn resolve_if(base: &Base, message: &Message) -> Result<Option<ResolvedText>, PartFault>
-    ensures some { IfOk result (λ read. IfSome read (ResolvesIn base.now.records message.now)) }
-    ensures none { IfOk result (λ read. IfNone read ((text : ResolvedText) → ResolvesIn base.now.records message.now text → ⊥)) }
+fn resolve_if(data_set: &DataSet, message: &Message) -> Result<Option<ResolvedText>, PartFault>
+    ensures some { IfOk result (λ read. IfSome read (ResolvesIn data_set.now message.now)) }
+    ensures none { IfOk result (λ read. IfNone read ((text : ResolvedText) → ResolvesIn data_set.now message.now text → ⊥)) }
     ensures err { IfErr result (λ e. e ≡ PartFault.Memory) }
 {
     resolving_has_one_outcome();
-    match resolve(base, message) {
+    match data_set.resolve(message) {
         Ok(resolved) => Ok(Some(resolved)),
         Err(fault) => match fault {
             ResolveFault::Memory => Err(PartFault::Memory),
@@ -57,16 +57,16 @@ fn resolve_if(base: &Base, message: &Message) -> Result<Option<ResolvedText>, Pa
 }
 
 /// The message of a text, if the text is canonical and the message resolves.
-fn read_message(alloc: Global, base: &Base, text: &[u8]) -> Result<Option<Held>, PartFault>
-    ensures some { IfOk result (λ read. IfSome read (IsTextOf base.now.records text.now)) }
-    ensures none { IfOk result (λ read. IfNone read ((e : Entry) → IsTextOf base.now.records text.now e → ⊥)) }
+fn read_message(alloc: Global, data_set: &DataSet, text: &[u8]) -> Result<Option<Held>, PartFault>
+    ensures some { IfOk result (λ read. IfSome read (IsTextOf data_set.now text.now)) }
+    ensures none { IfOk result (λ read. IfNone read ((e : Entry) → IsTextOf data_set.now text.now e → ⊥)) }
     ensures err { IfErr result (λ e. e ≡ PartFault.Memory) }
 {
     equal_where_written_equal();
     let Some(message) = read_canonical(alloc, text)? else {
         return Ok(None);
     };
-    let Some(resolved) = resolve_if(base, &message)? else {
+    let Some(resolved) = resolve_if(data_set, &message)? else {
         return Ok(None);
     };
     let held = Held::of(alloc, resolved.reference, message, resolved.subs)?;
@@ -90,18 +90,18 @@ fn follows(held: &[Held], next: &Held) -> bool
 /// The message of a text that a file may hold after others.
 fn read_next(
     alloc: Global,
-    base: &Base,
+    data_set: &DataSet,
     version: FileVersion,
     held: &[Held],
     text: &[u8],
 ) -> Result<Option<Held>, PartFault>
     requires { AreRising held.now }
-    ensures some { IfOk result (λ read. IfSome read (λ e. IsNextText version base.now.records held.now e × IsTextOf base.now.records text.now e)) }
-    ensures none { IfOk result (λ read. IfNone read ((e : Entry) → IsNextText version base.now.records held.now e → IsTextOf base.now.records text.now e → ⊥)) }
+    ensures some { IfOk result (λ read. IfSome read (λ e. IsNextText version data_set.now held.now e × IsTextOf data_set.now text.now e)) }
+    ensures none { IfOk result (λ read. IfNone read ((e : Entry) → IsNextText version data_set.now held.now e → IsTextOf data_set.now text.now e → ⊥)) }
     ensures err { IfErr result (λ e. e ≡ PartFault.Memory) }
 {
     equal_where_written_equal();
-    match read_message(alloc, base, text)? {
+    match read_message(alloc, data_set, text)? {
         Some(next) => {
             if follows(held, &next) && version.allows(&next) {
                 Ok(Some(next))
@@ -116,15 +116,15 @@ fn read_next(
 /// The length of a text and the text, which a file may hold after others, and the bytes after it.
 fn read_text<'a>(
     alloc: Global,
-    base: &Base,
+    data_set: &DataSet,
     version: FileVersion,
     held: &[Held],
     bytes: &'a [u8],
 ) -> Result<(Held, &'a [u8]), PartFault>
     requires { AreRising held.now }
-    ensures ok { IfOk result (λ read. IsNextText version base.now.records held.now read.0 × (bytes.now ≡ text_element read.0 ++ read.1.now)) }
+    ensures ok { IfOk result (λ read. IsNextText version data_set.now held.now read.0 × (bytes.now ≡ text_element read.0 ++ read.1.now)) }
     ensures shorter { IfOk result (λ read. length read.1.now < length bytes.now) }
-    ensures err { IfErr result (λ e. e ≢ PartFault.Memory → (next : Entry) (later : List ℕ) → IsNextText version base.now.records held.now next → bytes.now ≡ text_element next ++ later → ⊥) }
+    ensures err { IfErr result (λ e. e ≢ PartFault.Memory → (next : Entry) (later : List ℕ) → IsNextText version data_set.now held.now next → bytes.now ≡ text_element next ++ later → ⊥) }
 {
     let Some((count, rest)) = count_line(b"TEXT", bytes) else {
         return Err(PartFault::Invalid(bytes.len()));
@@ -132,7 +132,7 @@ fn read_text<'a>(
     let Some((text, after)) = elements(count, 1, rest) else {
         return Err(PartFault::Invalid(rest.len()));
     };
-    match read_next(alloc, base, version, held, text)? {
+    match read_next(alloc, data_set, version, held, text)? {
         Some(next) => Ok((next, after)),
         None => Err(PartFault::Invalid(rest.len())),
     }
@@ -144,12 +144,12 @@ fn read_text<'a>(
 /// not follow the one before, or an originator in version 1.
 pub(crate) fn read_texts<'a>(
     alloc: Global,
-    base: &Base,
+    data_set: &DataSet,
     version: FileVersion,
     bytes: &'a [u8],
 ) -> Result<(Vec<Held>, &'a [u8]), PartFault>
-    ensures ok { IfOk result (λ read. AreHeld version base.now.records read.0.items × (bytes.now ≡ texts_part read.0.items ++ read.1.now)) }
-    ensures err { IfErr result (λ e. e ≢ PartFault.Memory → (entries : List Entry) (later : List ℕ) → length entries < 2 ^ 64 → AreHeld version base.now.records entries → bytes.now ≡ texts_part entries ++ later → ⊥) }
+    ensures ok { IfOk result (λ read. AreHeld version data_set.now read.0.items × (bytes.now ≡ texts_part read.0.items ++ read.1.now)) }
+    ensures err { IfErr result (λ e. e ≢ PartFault.Memory → (entries : List Entry) (later : List ℕ) → length entries < 2 ^ 64 → AreHeld version data_set.now entries → bytes.now ≡ texts_part entries ++ later → ⊥) }
 {
     equal_where_written_equal();
     let Some((count, mut rest)) = count_line(b"TEXTS", bytes) else {
@@ -157,7 +157,7 @@ pub(crate) fn read_texts<'a>(
     };
     let mut held: Vec<Held> = Vec::new(alloc);
     while count != Some(held.len()) {
-        let (next, after) = read_text(alloc, base, version, &held, rest)?;
+        let (next, after) = read_text(alloc, data_set, version, &held, rest)?;
         held.push(next)?;
         rest = after;
     }

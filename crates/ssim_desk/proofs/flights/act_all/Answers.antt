@@ -8,7 +8,7 @@ use Rattle.ssim_desk.proofs.flights.act_all.Goals as goal
 
 pub loop-held-preserved : goal.loop-held-preserved
 loop-held-preserved c = λ before shows.
-    let rows = c.args.base.now.rows in
+    let rows = c.args.rows.now in
     let messages = c.args.messages.now in
     let k = c.loop-held.held-index in
     let e = c.held-item.result in

@@ -13,4 +13,4 @@ pub record HaveActed (rows : List Row) (messages : List Entry) (before : Timetab
   pub found_is : found ≡ entries_findings rows messages before
 
 abbrev pub invariant-loop-held : goal.invariant-loop-held
-invariant-loop-held l = (before : Timetable) → Shows l.initial.schedule before → HaveActed l.base.rows (take l.held-index l.messages) before l.schedule l.found.items
+invariant-loop-held l = (before : Timetable) → Shows l.initial.schedule before → HaveActed l.rows (take l.held-index l.messages) before l.schedule l.found.items

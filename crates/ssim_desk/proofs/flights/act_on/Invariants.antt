@@ -12,4 +12,4 @@ abbrev pub HaveActedOn : List Row → List Entry → FlightNumber → Timetable 
 HaveActedOn rows messages flight before now = (after : Timetable) × Shows now after × (after flight ≡ after_entries rows messages before flight)
 
 abbrev pub invariant-loop-held : goal.invariant-loop-held
-invariant-loop-held l = (before : Timetable) → Shows l.initial.schedule before → HaveActedOn l.base.rows (take l.held-index l.messages) l.flight before l.schedule
+invariant-loop-held l = (before : Timetable) → Shows l.initial.schedule before → HaveActedOn l.rows (take l.held-index l.messages) l.flight before l.schedule

@@ -1,6 +1,7 @@
 -- The schedule shows the timetable of the flights that the messages name, in which they find what they find in the whole.
 use Rattle.std.proofs.Common.{List, Result, Ok, Err, IfOk, subst, ◌∙◌}
 use Rattle.ssim_values.specs.Flight.{FlightNumber}
+use Rattle.ssim_schedule.specs.BaseSeen.{base_with}
 use Rattle.ssim_schedule.specs.Timetable.{itinerary_among}
 use Rattle.ssim_desk.specs.Private.{Shows, flights_of}
 use Rattle.ssim_desk.proofs.SomeFlights.{found_among}
@@ -12,7 +13,7 @@ if_ok (Err e) f p = p
 
 pub returns : goal.returns
 returns c =
-    let base = c.args.base.now in
+    let base = base_with c.args.data_set.now c.args.rows.now in
     let messages = c.args.messages.now in
     let named = c.deref.ensures.value ∙ c.in_ok-flights.ensures in
     let shows = subst (λ (flights : List FlightNumber). Shows c.in_ok-schedule.schedule (itinerary_among flights base.records)) named c.in_ok-schedule.ensures in

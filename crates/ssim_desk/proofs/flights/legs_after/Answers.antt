@@ -4,6 +4,7 @@ use Rattle.std.specs.Prelude.{IsTrue, slice_index_or}
 use Rattle.ssim_periods.proofs.DayLemmas.{day_count-is}
 use Rattle.ssim_values.specs.Flight.{IsFlight, is_suffix}
 use Rattle.ssim_schedule.proofs.Calendars.{at-each_day}
+use Rattle.ssim_schedule.specs.BaseSeen.{base_with}
 use Rattle.ssim_schedule.specs.Timetable.{Legs, itinerary, itinerary_among}
 use Rattle.ssim_desk.specs.Meaning.{left_by}
 use Rattle.ssim_desk.proofs.SomeFlights.{among_is, entries_agree, is_among_one}
@@ -15,7 +16,7 @@ if_ok (Err e) f p = p
 
 pub returns : goal.returns
 returns c =
-    let base = c.args.base.now in
+    let base = base_with c.args.data_set.now c.args.rows.now in
     let messages = c.args.messages.now in
     let g = c.args.flight.now in
     let exists : IsFlight g = record {

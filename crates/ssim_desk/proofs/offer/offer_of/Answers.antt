@@ -1,4 +1,4 @@
--- What the text spells is looked up among the messages.
+-- What the text spells is offered as it resolves.
 use Rattle.std.proofs.Common.{◌≡◌, Result, Err, IfErr, sym, subst, rules}
 use Rattle.ssim_held.specs.Fault.{message_refused, text_refused}
 use Rattle.ssim_held.specs.Held.{DeskState}
@@ -26,21 +26,14 @@ returns-in_err-resolved-clause-err c =
     subst (λ (r : Result Offer DeskFault). IfErr r (RefusesText state text)) (sym refusal)
     (no_dates state text c.in_ok-message.message c.in_err-resolved.field-0.0 c.in_ok-message.ensures.found c.in_err-resolved.ensures.err)
 
-pub of-requires : goal.of-requires
-of-requires c = each_dated c.args.base.now.records c.in_ok-message.message c.in_ok-resolved.resolved c.in_ok-resolved.ensures.ok
+pub offer_resolved-requires-clause-rising : goal.offer_resolved-requires-clause-rising
+offer_resolved-requires-clause-rising c = c.requires.rising
 
-pub returns-in-Same-clause-ok : goal.returns-in-Same-clause-ok
-returns-in-Same-clause-ok c =
-    let state : DeskState = record { base = c.args.base.now; held = map_of c.args.held.now } in
-    is_known state c.args.text.now c.in_ok-message.message c.in_ok-resolved.resolved c.in_ok-message.ensures.found c.in_ok-resolved.ensures.ok c.in-Same.ensures
+pub offer_resolved-requires-clause-dated : goal.offer_resolved-requires-clause-dated
+offer_resolved-requires-clause-dated c = each_dated c.args.base.now.records c.in_ok-message.message c.in_ok-resolved.resolved c.in_ok-resolved.ensures.ok
 
-pub returns-in-Other-clause-err : goal.returns-in-Other-clause-err
-returns-in-Other-clause-err c =
-    let state : DeskState = record { base = c.args.base.now; held = map_of c.args.held.now } in let found = c.in-Other.ensures in
-    in_conflict state c.args.text.now c.in_ok-message.message c.in_ok-resolved.resolved c.in_ok-message.ensures.found c.in_ok-resolved.ensures.ok found.0 found.1 found.2
+pub returns-clause-ok : goal.returns-clause-ok
+returns-clause-ok c = c.offer_resolved.ensures.ok c.args.base.now c.args.text.now c.in_ok-message.ensures.found c.in_ok-resolved.ensures.ok
 
-pub returns-in_ok-new-in-Absent-clause-ok : goal.returns-in_ok-new-in-Absent-clause-ok
-returns-in_ok-new-in-Absent-clause-ok c =
-    let state : DeskState = record { base = c.args.base.now; held = map_of c.args.held.now } in let text = c.args.text.now in let m = c.in_ok-message.message in let resolved = c.in_ok-resolved.resolved in
-    subst (λ (e : Entry). IsOffer state c.args.held.now text (New c.in-Absent.at e)) (sym c.in_ok-new-in-Absent.ensures)
-    (c.in-Absent.ensures, is_entry state text m resolved c.in_ok-message.ensures.found c.in_ok-resolved.ensures.ok, says state text m resolved c.in_ok-message.ensures.found c.in_ok-resolved.ensures.ok)
+pub returns-clause-err : goal.returns-clause-err
+returns-clause-err c = c.offer_resolved.ensures.err c.args.base.now c.args.text.now c.in_ok-message.ensures.found c.in_ok-resolved.ensures.ok

@@ -13,13 +13,13 @@ use Rattle.ssim_desk.proofs.replay.act.Goals as goal
 
 pub loop-place-init : goal.loop-place-init
 loop-place-init c = record {
-  left = λ before shows. record { between = before; shows = shows; leads = refl; finds = ap (λ found. found ++ subs_findings c.args.base.now.rows c.args.held.now.message.subs c.args.held.now.dates before) c.new-found.ensures.items };
-  cuts = λ g is. adds_none c.args.base.now.rows c.args.held.now.dates g (cuts_in c.args.schedule.now g);
+  left = λ before shows. record { between = before; shows = shows; leads = refl; finds = ap (λ found. found ++ subs_findings c.args.rows.now c.args.held.now.message.subs c.args.held.now.dates before) c.new-found.ensures.items };
+  cuts = λ g is. adds_none c.args.rows.now c.args.held.now.dates g (cuts_in c.args.schedule.now g);
 }
 
 pub loop-place-preserved : goal.loop-place-preserved
 loop-place-preserved c =
-    let held = c.args.held.now in let rows = c.args.base.now.rows in let place = c.loop-place.place in
+    let held = c.args.held.now in let rows = c.args.rows.now in let place = c.loop-place.place in
     let are : c.subs-sub-items.result.now ≡ held.message.subs = c.subs-sub-items.ensures.value ∙ ap (λ (m : MessageValue). m.subs) c.message.ensures in
     let within : place < length c.dates.result.now = subst (λ n. place < n) (ap length are ∙ sym c.dates.ensures.each) c.loop-place-test.true in
     let subs = splits c.subs-sub-items.result.now held.message.subs place c.sub-item.result are c.loop-place-test.true c.sub-item.is in
@@ -54,10 +54,10 @@ none_left c =
 pub returns-clause-shows : goal.returns-clause-shows
 returns-clause-shows c before shows =
     let l = c.loop-place.invariant.left before shows in
-    subst (Shows c.loop-place.schedule) (sym (ap (λ subs. after_subs c.args.base.now.rows subs (drop c.loop-place.place c.args.held.now.dates) l.between) (none_left c)) ∙ l.leads) l.shows
+    subst (Shows c.loop-place.schedule) (sym (ap (λ subs. after_subs c.args.rows.now subs (drop c.loop-place.place c.args.held.now.dates) l.between) (none_left c)) ∙ l.leads) l.shows
 
 pub returns-clause-found : goal.returns-clause-found
 returns-clause-found c before shows =
     let l = c.loop-place.invariant.left before shows in
     sym (append-nil c.loop-place.found.items)
-    ∙ sym (ap (λ subs. c.loop-place.found.items ++ subs_findings c.args.base.now.rows subs (drop c.loop-place.place c.args.held.now.dates) l.between) (none_left c)) ∙ l.finds
+    ∙ sym (ap (λ subs. c.loop-place.found.items ++ subs_findings c.args.rows.now subs (drop c.loop-place.place c.args.held.now.dates) l.between) (none_left c)) ∙ l.finds

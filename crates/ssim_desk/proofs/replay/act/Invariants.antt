@@ -17,6 +17,6 @@ pub record Left (rows : List Row) (e : Entry) (place : ℕ) (before : Timetable)
 
 abbrev pub invariant-loop-place : goal.invariant-loop-place
 invariant-loop-place l = record {
-  left : (before : Timetable) → Shows l.initial.schedule before → Left l.base.rows l.held l.place before l.schedule l.found.items;
-  cuts : (g : FlightNumber) → IsFlight g → AddsSubPoints l.base.rows l.held.dates g (cuts_in l.initial.schedule g) (cuts_in l.schedule g);
+  left : (before : Timetable) → Shows l.initial.schedule before → Left l.rows l.held l.place before l.schedule l.found.items;
+  cuts : (g : FlightNumber) → IsFlight g → AddsSubPoints l.rows l.held.dates g (cuts_in l.initial.schedule g) (cuts_in l.schedule g);
 }

@@ -1,6 +1,6 @@
 -- Part by part, what was read is the file's, and what was not read is of no desk.
 use Rattle.std.proofs.Common.{rules, ◌≡◌, ◌++◌, ◌<◌, ◌^◌, ◌∙◌, List, ℕ, length, Err, arith}
-use Rattle.ssim_schedule.specs.BaseSeen.{BaseSeen}
+use Rattle.ssim_schedule.specs.BaseSeen.{BaseSeen, base_with}
 use Rattle.ssim_held.specs.File.{IsDeskFile, end_line, rows_part, texts_part}
 use Rattle.ssim_held.specs.Kept.{Entry}
 use Rattle.ssim_held.proofs.PartFaults.{handed_on}
@@ -17,14 +17,14 @@ returns-in_default-clause-err c = λ invalid base es file.
     let f = file_in c.args.parts base es short file in
     c.in_default.ensures.none f.version _ f.is
 
-pub returns-in_err-records-clause-err : goal.returns-in_err-records-clause-err
-returns-in_err-records-clause-err c =
+pub returns-in_err-data_set-clause-err : goal.returns-in_err-data_set-clause-err
+returns-in_err-data_set-clause-err c =
     let short : length c.args.parts < 2 ^ 64 = omega (arith, c.len-all.ensures, c.len-all.type_inv) in
-    let k : c.from_residual.result ≡ Err c.in_err-records.field-0.0 = search rules in
-    handed_on c.from_residual.result c.in_err-records.field-0.0 (NoDesk c.args.parts) k
+    let k : c.from_residual.result ≡ Err c.in_err-data_set.field-0.0 = search rules in
+    handed_on c.from_residual.result c.in_err-data_set.field-0.0 (NoDesk c.args.parts) k
     (λ invalid base es file.
     let f = before_base c.saved_records_are_read.ensures.one c.equal_where_written_equal.ensures c.args.parts c.take_version.new.parts c.in-Some.version short c.in-Some.ensures.some base es file in
-    c.in_err-records.ensures.err invalid base.records (rows_part base.rows ++ (texts_part es ++ end_line)) f.0 file.saved.is_base f.2)
+    c.in_err-data_set.ensures.err invalid base.records (rows_part base.rows ++ (texts_part es ++ end_line)) f.0 file.saved.is_base f.2)
 
 pub returns-in_err-stations-clause-err : goal.returns-in_err-stations-clause-err
 returns-in_err-stations-clause-err c =
@@ -34,36 +34,36 @@ returns-in_err-stations-clause-err c =
     (λ invalid base es file.
     let f = before_base c.saved_records_are_read.ensures.one c.equal_where_written_equal.ensures c.args.parts c.take_version.new.parts c.in-Some.version short c.in-Some.ensures.some base es file in
     let a = after_records c.saved_records_are_read.ensures.one c.equal_where_written_equal.ensures c.args.parts c.take_version.new.parts c.in-Some.version short c.in-Some.ensures.some
-    c.read_records.new.parts c.in_ok-records.records.records c.in_ok-records.ensures.ok.0 c.in_ok-records.ensures.ok.1 base es file in
+    c.read_records.new.parts c.in_ok-data_set.data_set c.in_ok-data_set.ensures.ok.0 c.in_ok-data_set.ensures.ok.1 base es file in
     c.in_err-stations.ensures.err invalid base.rows (texts_part es ++ end_line) f.1 file.saved.rows (c.deref.ensures.value ∙ c.in_ok-after.ensures.ok ∙ a))
 
 pub returns-in_err-held-clause-err : goal.returns-in_err-held-clause-err
 returns-in_err-held-clause-err c =
     let short : length c.args.parts < 2 ^ 64 = omega (arith, c.len-all.ensures, c.len-all.type_inv) in
-    let both = both_read c.take_version.new.parts c.read_records.new.parts c.deref.result.now c.in_ok-stations.rest.now c.in_ok-records.records c.with_rows-base.result c.in_ok-stations.stations
-    c.with_rows-base.ensures.records c.with_rows-base.ensures.rows c.in_ok-records.ensures.ok.0 c.in_ok-stations.ensures.ok.0 c.in_ok-records.ensures.ok.1 (c.deref.ensures.value ∙ c.in_ok-after.ensures.ok) c.in_ok-stations.ensures.ok.1 in
+    let both = both_read c.take_version.new.parts c.read_records.new.parts c.deref.result.now c.in_ok-stations.rest.now c.in_ok-data_set.data_set c.in_ok-stations.stations
+    c.in_ok-data_set.ensures.ok.0 c.in_ok-stations.ensures.ok.0 c.in_ok-data_set.ensures.ok.1 (c.deref.ensures.value ∙ c.in_ok-after.ensures.ok) c.in_ok-stations.ensures.ok.1 in
     let k : c.from_residual-in_err-held.result ≡ Err c.in_err-held.field-0.0 = search rules in
     handed_on c.from_residual-in_err-held.result c.in_err-held.field-0.0 (NoDesk c.args.parts) k
     (λ invalid base es file.
     let a = after_base c.saved_records_are_read.ensures.one c.equal_where_written_equal.ensures c.args.parts c.take_version.new.parts c.in-Some.version short c.in-Some.ensures.some
-    c.in_ok-stations.rest.now c.with_rows-base.result both.0 both.1 base es file in
+    c.in_ok-stations.rest.now (base_with c.in_ok-data_set.data_set c.in_ok-stations.stations) both.0 both.1 base es file in
     c.in_err-held.ensures.err invalid es end_line a.texts a.held a.read)
 
 pub returns-in_err-read_end-clause-err : goal.returns-in_err-read_end-clause-err
 returns-in_err-read_end-clause-err c =
     let short : length c.args.parts < 2 ^ 64 = omega (arith, c.len-all.ensures, c.len-all.type_inv) in
-    let both = both_read c.take_version.new.parts c.read_records.new.parts c.deref.result.now c.in_ok-stations.rest.now c.in_ok-records.records c.with_rows-base.result c.in_ok-stations.stations
-    c.with_rows-base.ensures.records c.with_rows-base.ensures.rows c.in_ok-records.ensures.ok.0 c.in_ok-stations.ensures.ok.0 c.in_ok-records.ensures.ok.1 (c.deref.ensures.value ∙ c.in_ok-after.ensures.ok) c.in_ok-stations.ensures.ok.1 in
+    let both = both_read c.take_version.new.parts c.read_records.new.parts c.deref.result.now c.in_ok-stations.rest.now c.in_ok-data_set.data_set c.in_ok-stations.stations
+    c.in_ok-data_set.ensures.ok.0 c.in_ok-stations.ensures.ok.0 c.in_ok-data_set.ensures.ok.1 (c.deref.ensures.value ∙ c.in_ok-after.ensures.ok) c.in_ok-stations.ensures.ok.1 in
     let k : c.from_residual-in_err-read_end.result ≡ Err c.in_err-read_end.field-0.0 = search rules in
     handed_on c.from_residual-in_err-read_end.result c.in_err-read_end.field-0.0 (NoDesk c.args.parts) k
     (λ invalid base es file.
     c.in_err-read_end.ensures.err
     (after_texts c.saved_records_are_read.ensures.one c.equal_where_written_equal.ensures c.args.parts c.take_version.new.parts c.in-Some.version short c.in-Some.ensures.some
-    c.in_ok-stations.rest.now c.in_ok-held.rest.now c.with_rows-base.result c.in_ok-held.held.items both.0 both.1 c.in_ok-held.ensures.ok.0 c.in_ok-held.ensures.ok.1 base es file))
+    c.in_ok-stations.rest.now c.in_ok-held.rest.now (base_with c.in_ok-data_set.data_set c.in_ok-stations.stations) c.in_ok-held.held.items both.0 both.1 c.in_ok-held.ensures.ok.0 c.in_ok-held.ensures.ok.1 base es file))
 
 pub returns-clause-ok : goal.returns-clause-ok
 returns-clause-ok c =
-    let both = both_read c.take_version.new.parts c.read_records.new.parts c.deref.result.now c.in_ok-stations.rest.now c.in_ok-records.records c.with_rows-base.result c.in_ok-stations.stations
-    c.with_rows-base.ensures.records c.with_rows-base.ensures.rows c.in_ok-records.ensures.ok.0 c.in_ok-stations.ensures.ok.0 c.in_ok-records.ensures.ok.1 (c.deref.ensures.value ∙ c.in_ok-after.ensures.ok) c.in_ok-stations.ensures.ok.1 in
-    file_found c.in-Some.version c.args.parts c.take_version.new.parts c.in_ok-stations.rest.now c.in_ok-held.rest.now c.with_rows-base.result c.in_ok-held.held.items
+    let both = both_read c.take_version.new.parts c.read_records.new.parts c.deref.result.now c.in_ok-stations.rest.now c.in_ok-data_set.data_set c.in_ok-stations.stations
+    c.in_ok-data_set.ensures.ok.0 c.in_ok-stations.ensures.ok.0 c.in_ok-data_set.ensures.ok.1 (c.deref.ensures.value ∙ c.in_ok-after.ensures.ok) c.in_ok-stations.ensures.ok.1 in
+    file_found c.in-Some.version c.args.parts c.take_version.new.parts c.in_ok-stations.rest.now c.in_ok-held.rest.now (base_with c.in_ok-data_set.data_set c.in_ok-stations.stations) c.in_ok-held.held.items
     c.in-Some.ensures.some both.0 both.1 c.in_ok-held.ensures.ok.0 c.in_ok-held.ensures.ok.1 c.in_ok-read_end.ensures.ok

@@ -1,13 +1,16 @@
--- What was put, and the elements that are left, is all of the part.
-use Rattle.std.proofs.Common.{◌≡◌, ◌++◌, drop}
-use Rattle.std.specs.List.{flat_map}
+-- What was put, and the records that are left, is all of the part.
+use Rattle.std.proofs.Common.{◌≡◌, ◌++◌, length}
+use Rattle.ssim_schedule.specs.SavedBase.{saved}
 use Rattle.ssim_schedule.specs.Sinks.{TakesUpTo}
-use Rattle.ssim_held.specs.File.{record_line, records_part}
+use Rattle.ssim_held.specs.File.{records_part}
 use Rattle.ssim_held.proofs.saving.put_records.Given as goal
 
 abbrev pub invariant-loop-record : goal.invariant-loop-record
 invariant-loop-record g l = record {
-  bytes : TakesUpTo (l.fn.block ++ records_part l.records) (l.block ++ flat_map record_line (drop l.record-index l.records)) (g.W.Sink.taken l.fn.out) (g.W.Sink.taken l.out);
+  bytes : TakesUpTo (l.fn.block ++ records_part l.fn.records) (l.block ++ saved l.records) (g.W.Sink.taken l.fn.out) (g.W.Sink.taken l.out);
   failures : g.W.Sink.failures l.out ≡ g.W.Sink.failures l.fn.out;
   device : g.W.Sink.device l.out ≡ g.W.Sink.device l.fn.out;
 }
+
+abbrev pub decreases-loop-record : goal.decreases-loop-record
+decreases-loop-record g l = length l.records

@@ -1,12 +1,11 @@
 -- From the last piece to the first: those that are left and the records that are built are all.
-use Rattle.std.proofs.Common.{◌≡◌, List, [], ◌∷◌, ◌++◌, take, drop, length, sym, ap, subst, ◌∙◌}
-use Rattle.std.proofs.Math.Seq.{drop-append_seam, take-append_seam}
+use Rattle.std.proofs.Common.{◌≡◌, List, [], ◌∷◌, ◌++◌, length, sym, ap, subst, ◌∙◌}
 use Rattle.std.proofs.lemmas.List.{append_assoc, flat_map_more}
-use Rattle.std.proofs.lemmas.List.Elements.{All-drop, All-take}
 use Rattle.std.specs.List.{All, flat_map}
 use Rattle.ssim_records.specs.declared.record.Record.{Record}
 use Rattle.ssim_schedule.specs.Building.{IsClosed}
 use Rattle.ssim_schedule.specs.Built.{IsBuilt}
+use Rattle.ssim_schedule.proofs.BuildingLemmas.{closed_between}
 use Rattle.ssim_schedule.proofs.building.timetable_from.Goals as goal
 
 -- a piece that is taken from the end comes before those that are built
@@ -16,13 +15,6 @@ taken f left rest x done all is h =
     sym (append_assoc (flat_map f rest) (f x) done)
     ∙ ap (λ (rs : List Record). rs ++ done) (flat_map_more f [] rest x ∙ sym (ap (flat_map f) is))
     ∙ h
-
--- those between others are closed
-closed_between : (front mid done all : List Record) → front ++ (mid ++ done) ≡ all → All IsClosed all → All IsClosed mid
-closed_between front mid done all is closed =
-    let later : drop (length front) all ≡ mid ++ done = ap (λ (rs : List Record). drop (length front) rs) (sym is) ∙ drop-append_seam front (mid ++ done) in
-    subst (λ (rs : List Record). All IsClosed rs) (ap (λ (rs : List Record). take (length mid) rs) later ∙ take-append_seam mid done)
-    (All-take IsClosed (length mid) (drop (length front) all) (All-drop IsClosed (length front) all closed))
 
 pub put_all-requires : goal.put_all-requires
 put_all-requires c =

@@ -1,13 +1,9 @@
 -- The carrier record is that of the base.
-use Rattle.std.proofs.Common.{Result, Ok, Err, IfErr, subst}
+use Rattle.std.proofs.Common.{subst}
 use Rattle.ssim_records.specs.Carrier.{CarrierFields}
 use Rattle.ssim_schedule.specs.Resolve.{IsRefused, Resolves}
-use Rattle.ssim_schedule.proofs.ChangeLemmas.{if_ok}
+use Rattle.ssim_schedule.proofs.ChangeLemmas.{if_fault, if_ok}
 use Rattle.ssim_schedule.proofs.resolving.resolve.Goals as goal
-
-if_err : {T E : Type 0} (r : Result T E) (P Q : E → Type 0) → ((e : E) → P e → Q e) → IfErr r P → IfErr r Q
-if_err (Ok x) P Q f h = h
-if_err (Err e) P Q f h = f e h
 
 pub returns-clause-ok : goal.returns-clause-ok
 returns-clause-ok c =
@@ -17,4 +13,4 @@ returns-clause-ok c =
 pub returns-clause-err : goal.returns-clause-err
 returns-clause-err c =
     let f = c.carrier.ensures.exists in
-    if_err c.resolve_by.result _ _ (λ e h. (f.0, f.1, subst (λ (k : CarrierFields). IsRefused k c.args.message.now e) (c.carrier.ensures.carrier f.0 f.1) h)) c.resolve_by.ensures.err
+    if_fault c.resolve_by.result (λ e h. (f.0, f.1, subst (λ (k : CarrierFields). IsRefused k c.args.message.now e) (c.carrier.ensures.carrier f.0 f.1) h)) c.resolve_by.ensures.err

@@ -62,5 +62,4 @@ returns-clause-ok c =
       subst (λ (rs : List Record). IsBaseRecords rs) (sym are) (base-records (reverse i.earlier) whole.1),
       ap (λ (rs : List Record). length rs) are ∙ length-reverse i.earlier ∙ omega (arith, i.number, i.few, c.loop-done-test.false),
       whole.0 ∙ ap (λ (rs : List Record). saved rs ++ c.loop-done.parts) (sym are),
-      c.in_ok-of_kept.ensures.rows,
     )

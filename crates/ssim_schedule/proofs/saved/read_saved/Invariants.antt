@@ -2,7 +2,7 @@
 use Rattle.std.proofs.Common.{◌≡◌, ◌≤◌, ◌-◌, ℕ, List, length}
 use Rattle.ssim_records.specs.declared.record.Record.{Record}
 use Rattle.ssim_schedule.specs.Kept.{IsKept}
-use Rattle.ssim_schedule.specs.KeptRecords.{InList, keeps}
+use Rattle.ssim_schedule.specs.KeptRecords.{InPieces, keeps}
 use Rattle.ssim_schedule.specs.declared.kept.Kept.{Kept}
 use Rattle.ssim_schedule.proofs.SavedLines.{IsLeft}
 use Rattle.ssim_schedule.proofs.saved.read_saved.Given as goal
@@ -11,7 +11,7 @@ pub record Goes (bytes rest : List ℕ) (count done : ℕ) (kept : Kept) : Type 
   pub earlier : List Record
   pub is_kept : IsKept kept earlier
   pub is_left : IsLeft bytes rest count earlier
-  pub keeps_is : keeps kept.records ≡ InList
+  pub keeps_is : keeps kept.records ≡ InPieces
   pub number : length earlier ≡ done
   pub few : done ≤ count
   pub within : length rest ≤ length bytes

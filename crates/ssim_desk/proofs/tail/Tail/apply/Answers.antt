@@ -9,7 +9,7 @@ use Rattle.ssim_desk.proofs.tail.Tail.apply.Goals as goal
 pub returns-in_ok-push-2-clause-applied : goal.returns-in_ok-push-2-clause-applied
 returns-in_ok-push-2-clause-applied c before from tail =
     let base = c.args.base.now in let e = c.args.held.now in
-    let acts = c.in_ok-findings.ensures in
+    let acts = rw c.rows.ensures at c.in_ok-findings.ensures in
     let latest = after_more base before e c.args.self.now.latest c.act.new.schedule tail.latest_is (acts.shows (left_by base before) tail.latest_is.shows) acts.cuts in
     let on : (length before + 1) % 32 ≡ 0 = omega (arith, tail.since_is, c.if-self-eq0.true) in
     record {
@@ -26,7 +26,7 @@ returns-in_ok-push-2-clause-applied c before from tail =
 pub returns-else-self-eq0-clause-applied : goal.returns-else-self-eq0-clause-applied
 returns-else-self-eq0-clause-applied c before from tail =
     let base = c.args.base.now in let e = c.args.held.now in
-    let acts = c.in_ok-findings.ensures in
+    let acts = rw c.rows.ensures at c.in_ok-findings.ensures in
     let off : (length before + 1) % 32 ≢ 0 = λ z. c.if-self-eq0.false (omega (arith, tail.since_is, z)) in
     record {
       within = omega (arith, tail.within, length-append before (e ∷ []));

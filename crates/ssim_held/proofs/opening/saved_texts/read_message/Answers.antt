@@ -16,7 +16,7 @@ IsOfText text m = SpellsMessage m (canonical m) × (text ≡ canonical m)
 
 pub returns-in_default-2-clause-none : goal.returns-in_default-2-clause-none
 returns-in_default-2-clause-none c = λ e h.
-    let records = c.args.base.now.records in
+    let records = c.args.data_set.now in
     let m = c.in-Some.message in
     let is = subst (λ (o : Option MessageValue). IfSome o (IsOfText c.args.text.now)) c.in-Some.is c.in_ok-message.ensures.some in
     let none = subst (λ (o : Option ResolvedText). IfNone o ((t : ResolvedText) → ResolvesIn records m t → ⊥)) c.in_default-2.is c.in_ok-resolved.ensures.none in
@@ -24,13 +24,13 @@ returns-in_default-2-clause-none c = λ e h.
 
 pub of-requires : goal.of-requires
 of-requires c =
-    let records = c.args.base.now.records in
+    let records = c.args.data_set.now in
     let m = c.in-Some.message in
     each_dated records m c.in-Some-2.resolved (subst (λ (o : Option ResolvedText). IfSome o (ResolvesIn records m)) c.in-Some-2.is c.in_ok-resolved.ensures.some)
 
 pub returns-clause-some : goal.returns-clause-some
 returns-clause-some c =
-    let records = c.args.base.now.records in
+    let records = c.args.data_set.now in
     let m = c.in-Some.message in
     let is = subst (λ (o : Option MessageValue). IfSome o (IsOfText c.args.text.now)) c.in-Some.is c.in_ok-message.ensures.some in
     let resolves = subst (λ (o : Option ResolvedText). IfSome o (ResolvesIn records m)) c.in-Some-2.is c.in_ok-resolved.ensures.some in

@@ -9,7 +9,7 @@ use Rattle.ssim_held.proofs.opening.saved_texts.read_next.Goals.{else-follows-vi
 
 pub returns-else-follows-clause-none : goal.returns-else-follows-clause-none
 returns-else-follows-clause-none c = λ e is its.
-    let records = c.args.base.now.records in
+    let records = c.args.data_set.now in
     let mine = subst (λ (o : Option Entry). IfSome o (IsTextOf records c.args.text.now)) c.in-Some.is c.in_ok-next.ensures.some in
     let same = same_text c.equal_where_written_equal.ensures records c.args.text.now e c.in-Some.next its mine in
     elim c.else-follows.branch [

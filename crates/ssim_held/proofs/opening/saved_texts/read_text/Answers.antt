@@ -15,7 +15,7 @@ returns-in_default-elements-clause-err c = λ invalid next later is e.
 
 pub returns-in-None-clause-err : goal.returns-in-None-clause-err
 returns-in-None-clause-err c = λ invalid next later is e.
-    let records = c.args.base.now.records in
+    let records = c.args.data_set.now in
     let text = canonical next.message in
     let line = c.in-Some.ensures.only (length text) (text ++ later) (short_text next is.spelled) (element_parts c.args.bytes.now later next e) in
     let parts = c.in-Some-elements.ensures.only (length text) text later line.0 (omega arith) line.1 in

@@ -10,7 +10,7 @@ use Rattle.ssim_held.proofs.opening.saved_texts.read_texts.Goals as goal
 
 pub loop-alloc-preserved : goal.loop-alloc-preserved
 loop-alloc-preserved c =
-    let records = c.args.base.now.records in
+    let records = c.args.data_set.now in
     let held = c.loop-alloc.held.items in
     let pushed : c.push.new.self.items ≡ held ++ c.in_ok-next.next ∷ [] = c.in_ok-push.ensures.items in
     let size : c.len.result ≡ length held = omega (arith, c.len.ensures, c.loop-alloc.held.ok.0) in
@@ -21,7 +21,7 @@ loop-alloc-preserved c =
 
 pub returns-in_err-next-clause-err : goal.returns-in_err-next-clause-err
 returns-in_err-next-clause-err c =
-    let records = c.args.base.now.records in
+    let records = c.args.data_set.now in
     let held = c.loop-alloc.held.items in
     let size : c.len.result ≡ length held = omega (arith, c.len.ensures, c.loop-alloc.held.ok.0) in
     let more : c.in-Some.count ≡ Some (length held) → ⊥ = not_all c.in-Some.count c.len.result (length held) c.ne.result c.ne.ensures c.loop-alloc-test.true size in
@@ -35,7 +35,7 @@ returns-in_err-next-clause-err c =
 
 pub returns-clause-ok : goal.returns-clause-ok
 returns-clause-ok c =
-    let records = c.args.base.now.records in
+    let records = c.args.data_set.now in
     let held = c.loop-alloc.held.items in
     let size : c.len.result ≡ length held = omega (arith, c.len.ensures, c.loop-alloc.held.ok.0) in
     let whole : c.in-Some.count ≡ Some (length held) = all_read c.in-Some.count c.len.result (length held) c.ne.result c.ne.ensures c.loop-alloc-test.false size in (

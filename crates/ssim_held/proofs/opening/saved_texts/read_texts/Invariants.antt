@@ -4,7 +4,7 @@ use Rattle.ssim_held.proofs.SavedParts.{Goes}
 use Rattle.ssim_held.proofs.opening.saved_texts.read_texts.Given as goal
 
 abbrev pub invariant-loop-alloc : goal.invariant-loop-alloc
-invariant-loop-alloc l = Goes l.version l.base.records l.initial.rest l.count l.held.items l.rest
+invariant-loop-alloc l = Goes l.version l.data_set l.initial.rest l.count l.held.items l.rest
 
 abbrev pub decreases-loop-alloc : goal.decreases-loop-alloc
 decreases-loop-alloc l = length l.rest

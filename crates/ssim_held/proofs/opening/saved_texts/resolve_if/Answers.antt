@@ -3,4 +3,4 @@ use Rattle.ssim_held.proofs.SavedTexts.{refused_none}
 use Rattle.ssim_held.proofs.opening.saved_texts.resolve_if.Goals as goal
 
 pub returns-in_default-clause-none : goal.returns-in_default-clause-none
-returns-in_default-clause-none c = refused_none c.resolving_has_one_outcome.ensures c.args.base.now.records c.args.message.now c.in-Err.fault c.in_default.not-Memory c.in-Err.ensures.err
+returns-in_default-clause-none c = refused_none c.resolving_has_one_outcome.ensures c.args.data_set.now c.args.message.now c.in-Err.fault c.in_default.not-Memory c.in-Err.ensures.err

@@ -6,13 +6,13 @@ use Rattle.ssim_schedule.specs.Stations.{Row}
 use Rattle.ssim_schedule.proofs.SinkLemmas.{at_fault, if_err, if_ok}
 use Rattle.ssim_held.specs.File.{counted, end_line, records_part, rows_part, texts_part}
 use Rattle.ssim_held.proofs.FileParts.{after_6, break_1, break_2, break_3, break_4, break_5, break_6}
-use Rattle.ssim_held.proofs.saving.put_desk.Goals as goal
+use Rattle.ssim_held.proofs.saving.put_file.Goals as goal
 
 pub returns-in_err-put_counted-clause-err : goal.returns-in_err-put_counted-clause-err
 returns-in_err-put_counted-clause-err g c =
     let x1 = counted (codes "SSIMDESK") 2 in
-    let x2 = records_part c.args.base.now.records in
-    let x3 = rows_part c.args.base.now.rows in
+    let x2 = records_part c.args.records in
+    let x3 = rows_part c.args.rows.now in
     let x4 = texts_part c.args.held.now in
     let h0 = c.new-block.result in
     let t0 = g.W.Sink.taken c.args.out.now in
@@ -22,21 +22,21 @@ returns-in_err-put_counted-clause-err g c =
 pub returns-in_err-put_records-clause-err : goal.returns-in_err-put_records-clause-err
 returns-in_err-put_records-clause-err g c =
     let x1 = counted (codes "SSIMDESK") 2 in
-    let x2 = records_part c.args.base.now.records in
-    let x3 = rows_part c.args.base.now.rows in
+    let x2 = records_part c.args.records in
+    let x3 = rows_part c.args.rows.now in
     let x4 = texts_part c.args.held.now in
     let h0 = c.new-block.result in
     let t0 = g.W.Sink.taken c.args.out.now in
     let h1 = c.put_counted.new.block in
     let t1 = g.W.Sink.taken c.put_counted.new.out in
     let t2 = g.W.Sink.taken c.put_records.new.out in
-    at_fault c.from_residual-in_err-put_records.result (break_2 x1 x2 x3 x4 end_line h0 t0 c.new-block.ensures h1 t1 c.in_ok-put_counted.ensures.ok t2 (subst (λ (rs : List Record). TakesFront (h1 ++ records_part rs) t1 t2) c.records.ensures.value c.in_err-put_records.ensures.err))
+    at_fault c.from_residual-in_err-put_records.result (break_2 x1 x2 x3 x4 end_line h0 t0 c.new-block.ensures h1 t1 c.in_ok-put_counted.ensures.ok t2 c.in_err-put_records.ensures.err)
 
 pub returns-in_err-put_rows-clause-err : goal.returns-in_err-put_rows-clause-err
 returns-in_err-put_rows-clause-err g c =
     let x1 = counted (codes "SSIMDESK") 2 in
-    let x2 = records_part c.args.base.now.records in
-    let x3 = rows_part c.args.base.now.rows in
+    let x2 = records_part c.args.records in
+    let x3 = rows_part c.args.rows.now in
     let x4 = texts_part c.args.held.now in
     let h0 = c.new-block.result in
     let t0 = g.W.Sink.taken c.args.out.now in
@@ -44,15 +44,15 @@ returns-in_err-put_rows-clause-err g c =
     let t1 = g.W.Sink.taken c.put_counted.new.out in
     let h2 = c.put_records.new.block in
     let t2 = g.W.Sink.taken c.put_records.new.out in
-    let two = subst (λ (rs : List Record). TakesUpTo (h1 ++ records_part rs) h2 t1 t2) c.records.ensures.value c.in_ok-put_records.ensures.ok in
+    let two = c.in_ok-put_records.ensures.ok in
     let t3 = g.W.Sink.taken c.put_rows.new.out in
-    at_fault c.from_residual-in_err-put_rows.result (break_3 x1 x2 x3 x4 end_line h0 t0 c.new-block.ensures h1 t1 c.in_ok-put_counted.ensures.ok h2 t2 two t3 (subst (λ (rs : List Row). TakesFront (h2 ++ rows_part rs) t2 t3) c.rows.ensures c.in_err-put_rows.ensures.err))
+    at_fault c.from_residual-in_err-put_rows.result (break_3 x1 x2 x3 x4 end_line h0 t0 c.new-block.ensures h1 t1 c.in_ok-put_counted.ensures.ok h2 t2 two t3 c.in_err-put_rows.ensures.err)
 
 pub returns-in_err-put_texts-clause-err : goal.returns-in_err-put_texts-clause-err
 returns-in_err-put_texts-clause-err g c =
     let x1 = counted (codes "SSIMDESK") 2 in
-    let x2 = records_part c.args.base.now.records in
-    let x3 = rows_part c.args.base.now.rows in
+    let x2 = records_part c.args.records in
+    let x3 = rows_part c.args.rows.now in
     let x4 = texts_part c.args.held.now in
     let h0 = c.new-block.result in
     let t0 = g.W.Sink.taken c.args.out.now in
@@ -60,18 +60,18 @@ returns-in_err-put_texts-clause-err g c =
     let t1 = g.W.Sink.taken c.put_counted.new.out in
     let h2 = c.put_records.new.block in
     let t2 = g.W.Sink.taken c.put_records.new.out in
-    let two = subst (λ (rs : List Record). TakesUpTo (h1 ++ records_part rs) h2 t1 t2) c.records.ensures.value c.in_ok-put_records.ensures.ok in
+    let two = c.in_ok-put_records.ensures.ok in
     let h3 = c.put_rows.new.block in
     let t3 = g.W.Sink.taken c.put_rows.new.out in
-    let three = subst (λ (rs : List Row). TakesUpTo (h2 ++ rows_part rs) h3 t2 t3) c.rows.ensures c.in_ok-put_rows.ensures.ok in
+    let three = c.in_ok-put_rows.ensures.ok in
     let t4 = g.W.Sink.taken c.put_texts.new.out in
     at_fault c.from_residual-in_err-put_texts.result (break_4 x1 x2 x3 x4 end_line h0 t0 c.new-block.ensures h1 t1 c.in_ok-put_counted.ensures.ok h2 t2 two h3 t3 three t4 c.in_err-put_texts.ensures.err)
 
 pub returns-in_err-put_bytes-clause-err : goal.returns-in_err-put_bytes-clause-err
 returns-in_err-put_bytes-clause-err g c =
     let x1 = counted (codes "SSIMDESK") 2 in
-    let x2 = records_part c.args.base.now.records in
-    let x3 = rows_part c.args.base.now.rows in
+    let x2 = records_part c.args.records in
+    let x3 = rows_part c.args.rows.now in
     let x4 = texts_part c.args.held.now in
     let h0 = c.new-block.result in
     let t0 = g.W.Sink.taken c.args.out.now in
@@ -79,10 +79,10 @@ returns-in_err-put_bytes-clause-err g c =
     let t1 = g.W.Sink.taken c.put_counted.new.out in
     let h2 = c.put_records.new.block in
     let t2 = g.W.Sink.taken c.put_records.new.out in
-    let two = subst (λ (rs : List Record). TakesUpTo (h1 ++ records_part rs) h2 t1 t2) c.records.ensures.value c.in_ok-put_records.ensures.ok in
+    let two = c.in_ok-put_records.ensures.ok in
     let h3 = c.put_rows.new.block in
     let t3 = g.W.Sink.taken c.put_rows.new.out in
-    let three = subst (λ (rs : List Row). TakesUpTo (h2 ++ rows_part rs) h3 t2 t3) c.rows.ensures c.in_ok-put_rows.ensures.ok in
+    let three = c.in_ok-put_rows.ensures.ok in
     let h4 = c.put_texts.new.block in
     let t4 = g.W.Sink.taken c.put_texts.new.out in
     let t5 = g.W.Sink.taken c.put_bytes.new.out in
@@ -91,8 +91,8 @@ returns-in_err-put_bytes-clause-err g c =
 pub returns-clause-ok : goal.returns-clause-ok
 returns-clause-ok g c =
     let x1 = counted (codes "SSIMDESK") 2 in
-    let x2 = records_part c.args.base.now.records in
-    let x3 = rows_part c.args.base.now.rows in
+    let x2 = records_part c.args.records in
+    let x3 = rows_part c.args.rows.now in
     let x4 = texts_part c.args.held.now in
     let h0 = c.new-block.result in
     let t0 = g.W.Sink.taken c.args.out.now in
@@ -100,10 +100,10 @@ returns-clause-ok g c =
     let t1 = g.W.Sink.taken c.put_counted.new.out in
     let h2 = c.put_records.new.block in
     let t2 = g.W.Sink.taken c.put_records.new.out in
-    let two = subst (λ (rs : List Record). TakesUpTo (h1 ++ records_part rs) h2 t1 t2) c.records.ensures.value c.in_ok-put_records.ensures.ok in
+    let two = c.in_ok-put_records.ensures.ok in
     let h3 = c.put_rows.new.block in
     let t3 = g.W.Sink.taken c.put_rows.new.out in
-    let three = subst (λ (rs : List Row). TakesUpTo (h2 ++ rows_part rs) h3 t2 t3) c.rows.ensures c.in_ok-put_rows.ensures.ok in
+    let three = c.in_ok-put_rows.ensures.ok in
     let h4 = c.put_texts.new.block in
     let t4 = g.W.Sink.taken c.put_texts.new.out in
     let h5 = c.put_bytes.new.block in
@@ -114,8 +114,8 @@ returns-clause-ok g c =
 pub returns-clause-err : goal.returns-clause-err
 returns-clause-err g c =
     let x1 = counted (codes "SSIMDESK") 2 in
-    let x2 = records_part c.args.base.now.records in
-    let x3 = rows_part c.args.base.now.rows in
+    let x2 = records_part c.args.records in
+    let x3 = rows_part c.args.rows.now in
     let x4 = texts_part c.args.held.now in
     let h0 = c.new-block.result in
     let t0 = g.W.Sink.taken c.args.out.now in
@@ -123,10 +123,10 @@ returns-clause-err g c =
     let t1 = g.W.Sink.taken c.put_counted.new.out in
     let h2 = c.put_records.new.block in
     let t2 = g.W.Sink.taken c.put_records.new.out in
-    let two = subst (λ (rs : List Record). TakesUpTo (h1 ++ records_part rs) h2 t1 t2) c.records.ensures.value c.in_ok-put_records.ensures.ok in
+    let two = c.in_ok-put_records.ensures.ok in
     let h3 = c.put_rows.new.block in
     let t3 = g.W.Sink.taken c.put_rows.new.out in
-    let three = subst (λ (rs : List Row). TakesUpTo (h2 ++ rows_part rs) h3 t2 t3) c.rows.ensures c.in_ok-put_rows.ensures.ok in
+    let three = c.in_ok-put_rows.ensures.ok in
     let h4 = c.put_texts.new.block in
     let t4 = g.W.Sink.taken c.put_texts.new.out in
     let h5 = c.put_bytes.new.block in
