@@ -1,12 +1,12 @@
 //! The blocks of a stream of bytes, one after another.
 
-ghost use Rattle.std.specs.Prelude.{◌≡◌, ◌<◌, ◌≤◌, ◌+◌, ◌*◌, [], length, nat_lt, Ok, Err, true, false};
+ghost use Rattle.std.specs.Prelude.{◌≡◌, ◌<◌, ◌≤◌, ◌+◌, ◌*◌, [], IfSome, length, nat_lt, Ok, Err, true, false};
 ghost use Rattle.ssim_records.specs.declared.blocks.Stop.TheVariants.{ReaderNeverEnds};
 ghost use Rattle.ssim_records.specs.Frames.{is_fill};
-ghost use Rattle.ssim_records.specs.Blocks.{behind_front, with_front, GivesBlock, GivesOther, FailsOnce, CountsOn, Fetches, HoldsFew, block_count};
+ghost use Rattle.ssim_records.specs.Blocks.{behind_front, with_front, GivesBlock, GivesOther, FailsOnce, CountsOn, Fetches, HoldsFew, StandsFirst, block_count};
 
 use crate::device::Source;
-use crate::window::Window;
+use crate::window::{Window, trimmed};
 use std::marker::Model;
 
 /// Why no block came.
@@ -81,6 +81,19 @@ fn is_fill(block: &[u8; 200]) -> bool
         return false;
     }
     block.as_slice() == FILL.as_slice()
+}
+
+/// The block that stands first in bytes, and how many bytes it takes with the line ends in front of it. There is none if it is cut, is
+/// fill, or ends after the first `most` bytes.
+pub fn first_block(bytes: &[u8], behind: bool, most: u128) -> Option<(&[u8; 200], usize)>
+    ensures { IfSome result (λ found. StandsFirst behind bytes.now found.0.now found.1 × (found.1 ≤ most)) }
+{
+    let (block, rest) = trimmed(bytes, behind).split_first_chunk()?;
+    let count = bytes.len() - rest.len();
+    if count as u128 > most || is_fill(block) {
+        return None;
+    }
+    Some((block, count))
 }
 
 /// Brings the next block that is not fill to the beginning of the window, of all that the window holds and the reader has

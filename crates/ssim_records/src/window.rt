@@ -27,6 +27,17 @@ fn after_line_ends(bytes: &[u8]) -> &[u8]
     }
 }
 
+/// The bytes after the line ends at the beginning, if these follow a block.
+pub fn trimmed(bytes: &[u8], behind: bool) -> &[u8]
+    ensures { result.now ≡ trim behind bytes.now }
+{
+    if behind {
+        after_line_ends(bytes)
+    } else {
+        bytes
+    }
+}
+
 /// Bytes that came and are not used yet, seen as their list. They are held inline, since reading does not allocate.
 #[derive(Drop)]
 pub struct Window {
