@@ -48,6 +48,8 @@ fn next_block<R: Source>(
     ensures fault { FailsOnce (R.failures reader.old) (R.failures reader.new) (with_front window.new result) }
     ensures count { CountsOn (R.left reader.old) (R.left reader.new) (R.came reader.old) (R.came reader.new) came.old came.new }
 {
+    // Of a reader with bytes at hand only this block is fetched: the blocks after it can be read where they are.
+    let near = !reader.at_hand().is_empty();
     loop {
         window.trim(behind);
         if window.len() >= needed(*came, limit) {
@@ -56,7 +58,8 @@ fn next_block<R: Source>(
         if *came > limit as u128 {
             return Err(Stop::ReaderNeverEnds);
         }
-        let room = (limit as u128 + 1 - *came).min(16384) as usize;
+        let most = if near { 200 - window.len() } else { 16384 };
+        let room = (limit as u128 + 1 - *came).min(most as u128) as usize;
         match window.fetch(reader, room) {
             Err(_) => return Err(Stop::ReadFault),
             Ok(0) => {

@@ -9,7 +9,7 @@ ghost use Rattle.ssim_records.specs.Blocks.{SameAhead};
 use crate::device::{DeviceFault, Source};
 use std::marker::Model;
 
-/// How many bytes a window has room for: a fetch asks for this many, but for a rest below a block.
+/// How many bytes a window has room for. A fetch asks for this many, but for a rest below a block, if the source has no bytes at hand.
 const ROOM: usize = 16384;
 
 /// The bytes after the line ends at the beginning.
