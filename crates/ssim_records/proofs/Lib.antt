@@ -24,3 +24,4 @@ pub mod FrameLaws
 pub mod Examples
 pub mod ReadOnce
 pub mod SameColumns
+pub mod AtHand

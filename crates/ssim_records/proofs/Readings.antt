@@ -1,5 +1,5 @@
 -- The answer of a reading, from the next block that is not fill.
-use Rattle.std.proofs.Common.{◌≡◌, ℕ, List, Option, Some, None, Ok, Err, refl}
+use Rattle.std.proofs.Common.{◌≡◌, ℕ, ◌+◌, ◌*◌, ◌<◌, ◌≤◌, List, Option, Some, None, Ok, Err, refl}
 use Rattle.std.specs.Prelude.{Result, slice_index}
 use Rattle.ssim_records.specs.declared.blocks.Stop.{Stop}
 use Rattle.ssim_records.specs.declared.blocks.Stop.TheVariants as stop
@@ -10,7 +10,7 @@ use Rattle.ssim_records.specs.declared.record.Record.{Record}
 use Rattle.ssim_records.specs.Columns.{first_fault}
 use Rattle.ssim_records.specs.Blocks.{GivesOther}
 use Rattle.ssim_records.specs.Record.{Spells, HasSpelt, fault_of, fault_by, column_fault, table_of}
-use Rattle.ssim_records.specs.Reading.{Reading, IsAhead, Answers, GivesNext, given, IsRefused, HasNumber, FailsAs, NeverEnds, HoldsFew}
+use Rattle.ssim_records.specs.Reading.{Reading, IsAhead, Answers, Counts, GivesNext, given, IsRefused, HasNumber, FailsAs, NeverEnds, HoldsFew}
 
 -- ---- the faults of a block
 
@@ -102,6 +102,10 @@ gives_refusal old new None l' block e g p = tt
 gives_refusal old new (Some x) None block e g p = g
 gives_refusal old new (Some x) (Some y) block e g p =
     (g.0, λ blocks rest h. let t = g.1 blocks rest h in refused old new x blocks rest (λ later. IsAhead new y later rest) e (block_fault new.number block e p) (block, t.0, (t.1, t.2), p))
+
+pub counts_given : (old new : Reading) (into : Option Record) (n : ℕ) → old.number < new.number → 200 * new.number ≤ new.limit + 1 → Counts old new (given into (Ok n))
+counts_given old new None n more few = tt
+counts_given old new (Some r) n more few = (more, few)
 
 pub gives_short : (old new : Reading) (l l' : Option (List ℕ)) (n : ℕ) → Gives old l new l' (Err stop.Short) → GivesNext old l new l' (Err (Short n))
 gives_short old new None l' n g = tt

@@ -2,7 +2,7 @@
 use Rattle.std.specs.Prelude.{ℕ, ◌≡◌, ◌+◌, ◌-◌, ◌%◌, ◌^◌, ◌<◌, ◌≤◌, Bool, true, false, List, [], ◌∷◌, ◌++◌, length, take, drop, nat_lt, Option, Some, None, Result, Ok, Err}
 use Rattle.ssim_records.specs.declared.blocks.Stop.{Stop}
 use Rattle.ssim_records.specs.declared.blocks.Stop.TheVariants.{Short, ReadFault, ReaderNeverEnds}
-use Rattle.ssim_records.specs.Frames.{trim, Frames, others}
+use Rattle.ssim_records.specs.Frames.{trim, Frames, is_fill, others}
 
 -- What is held, followed by what is left, stays the same, where it is told.
 abbrev pub SameAhead : List ℕ → Option (List ℕ) → List ℕ → Option (List ℕ) → Type 0
@@ -62,6 +62,10 @@ abbrev pub block_count : Result (Option (List ℕ)) Stop → ℕ
 block_count (Ok None) = 0
 block_count (Ok (Some block)) = 1
 block_count (Err stop) = 0
+
+-- The first `count` of the bytes are a block that is not fill, and line ends in front of it if they are behind a block.
+abbrev pub StandsFirst : Bool → List ℕ → List ℕ → ℕ → Type 0
+StandsFirst behind bytes block count = (length block ≡ 200) × (count ≤ length bytes) × (trim behind (take count bytes) ≡ block) × (is_fill block ≡ false)
 
 -- a reader that failed left too few bytes for a block
 abbrev pub HoldsFew : List ℕ → Result (Option (List ℕ)) Stop → Type 0

@@ -1,12 +1,12 @@
 //! The blocks of a stream of bytes, one after another.
 
-ghost use Rattle.std.specs.Prelude.{◌≡◌, ◌<◌, ◌≤◌, ◌+◌, ◌*◌, [], length, nat_lt, Ok, Err, true, false};
+ghost use Rattle.std.specs.Prelude.{◌≡◌, ◌<◌, ◌≤◌, ◌+◌, ◌*◌, [], IfSome, length, nat_lt, Ok, Err, true, false};
 ghost use Rattle.ssim_records.specs.declared.blocks.Stop.TheVariants.{ReaderNeverEnds};
 ghost use Rattle.ssim_records.specs.Frames.{is_fill};
-ghost use Rattle.ssim_records.specs.Blocks.{behind_front, with_front, GivesBlock, GivesOther, FailsOnce, CountsOn, Fetches, HoldsFew, block_count};
+ghost use Rattle.ssim_records.specs.Blocks.{behind_front, with_front, GivesBlock, GivesOther, FailsOnce, CountsOn, Fetches, HoldsFew, StandsFirst, block_count};
 
 use crate::device::Source;
-use crate::window::Window;
+use crate::window::{Window, trimmed};
 use std::marker::Model;
 
 /// Why no block came.
@@ -48,6 +48,8 @@ fn next_block<R: Source>(
     ensures fault { FailsOnce (R.failures reader.old) (R.failures reader.new) (with_front window.new result) }
     ensures count { CountsOn (R.left reader.old) (R.left reader.new) (R.came reader.old) (R.came reader.new) came.old came.new }
 {
+    // Of a reader with bytes at hand only this block is fetched: the blocks after it can be read where they are.
+    let near = !reader.at_hand().is_empty();
     loop {
         window.trim(behind);
         if window.len() >= needed(*came, limit) {
@@ -56,7 +58,8 @@ fn next_block<R: Source>(
         if *came > limit as u128 {
             return Err(Stop::ReaderNeverEnds);
         }
-        let room = (limit as u128 + 1 - *came).min(16384) as usize;
+        let most = if near { 200 - window.len() } else { 16384 };
+        let room = (limit as u128 + 1 - *came).min(most as u128) as usize;
         match window.fetch(reader, room) {
             Err(_) => return Err(Stop::ReadFault),
             Ok(0) => {
@@ -81,6 +84,19 @@ fn is_fill(block: &[u8; 200]) -> bool
         return false;
     }
     block.as_slice() == FILL.as_slice()
+}
+
+/// The block that stands first in bytes, and how many bytes it takes with the line ends in front of it. There is none if it is cut, is
+/// fill, or ends after the first `most` bytes.
+pub fn first_block(bytes: &[u8], behind: bool, most: u128) -> Option<(&[u8; 200], usize)>
+    ensures { IfSome result (λ found. StandsFirst behind bytes.now found.0.now found.1 × (found.1 ≤ most)) }
+{
+    let (block, rest) = trimmed(bytes, behind).split_first_chunk()?;
+    let count = bytes.len() - rest.len();
+    if count as u128 > most || is_fill(block) {
+        return None;
+    }
+    Some((block, count))
 }
 
 /// Brings the next block that is not fill to the beginning of the window, of all that the window holds and the reader has

@@ -4,7 +4,7 @@ ghost use Rattle.std.specs.Prelude.{◌≡◌, ◌≤◌, ◌<◌, ◌+◌, ◌*
 ghost use Rattle.ssim_records.specs.Blocks.{CountsOn};
 ghost use Rattle.ssim_records.specs.Reading.{Counts, FailsAs, FetchesNext, GivesNext, HasNumber, HoldsFew, NeverEnds, given, last_answer, ending_of};
 
-use crate::blocks::{Stop, next_other};
+use crate::blocks::{Stop, first_block, next_other};
 use crate::device::Source;
 use crate::fault::RecordFault;
 use crate::record::{Record, RecordReader};
@@ -73,8 +73,43 @@ impl Records {
         self.number
     }
 
-    // What `next_into` returns before the end.
+    // What `next_into` returns before the end. A block that the reader has at hand is read where it is.
     fn answer<R: Source>(
+        &mut self,
+        reader: &mut R,
+        into: &mut Option<Record>,
+    ) -> Result<u64, RecordFault>
+        ensures limit { self.new.limit ≡ self.old.limit }
+        ensures record { GivesNext self.old (R.left reader.old) self.new (R.left reader.new) (given into.new result) }
+        ensures number { HasNumber self.new.number (given into.new result) }
+        ensures counts { Counts self.old self.new (given into.new result) }
+        ensures never_ends { NeverEnds self.new (given into.new result) }
+        ensures fetched { FetchesNext self.old (R.left reader.old) self.new (R.left reader.new) }
+        ensures few_left { HoldsFew self.new.held (given into.new result) }
+        ensures fault { FailsAs (R.failures reader.old) (R.failures reader.new) (given into.new result) }
+        ensures count { CountsOn (R.left reader.old) (R.left reader.new) (R.came reader.old) (R.came reader.new) self.old.came self.new.came }
+        ensures returned { IfOk result (λ number. number ≡ self.new.number) }
+    {
+        if self.window.len() == 0 {
+            let most = (self.limit as u128).saturating_sub(self.came);
+            let found = first_block(reader.at_hand(), self.number > 0, most);
+            if let Some((block, count)) = found {
+                let read = self.records.read_into(block, self.number + 1, into);
+                if reader.skip_at_hand(count) {
+                    self.came += count as u128;
+                    self.number += 1;
+                    return match read {
+                        Ok(()) => Ok(self.number),
+                        Err(fault) => Err(fault),
+                    };
+                }
+            }
+        }
+        self.fetched_answer(reader, into)
+    }
+
+    // `answer` where the next block is brought into the window.
+    fn fetched_answer<R: Source>(
         &mut self,
         reader: &mut R,
         into: &mut Option<Record>,

@@ -9,7 +9,7 @@ ghost use Rattle.ssim_records.specs.Blocks.{SameAhead};
 use crate::device::{DeviceFault, Source};
 use std::marker::Model;
 
-/// How many bytes a window has room for: a fetch asks for this many, but for a rest below a block.
+/// How many bytes a window has room for. A fetch asks for this many, but for a rest below a block, if the source has no bytes at hand.
 const ROOM: usize = 16384;
 
 /// The bytes after the line ends at the beginning.
@@ -24,6 +24,17 @@ fn after_line_ends(bytes: &[u8]) -> &[u8]
             [b'\r', b'\n', after @ ..] => after,
             _ => return rest,
         };
+    }
+}
+
+/// The bytes after the line ends at the beginning, if these follow a block.
+pub fn trimmed(bytes: &[u8], behind: bool) -> &[u8]
+    ensures { result.now ≡ trim behind bytes.now }
+{
+    if behind {
+        after_line_ends(bytes)
+    } else {
+        bytes
     }
 }
 

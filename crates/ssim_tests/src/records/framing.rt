@@ -1,6 +1,8 @@
 //! Blocks, line ends, fill and the rest.
 
 use super::*;
+use std::alloc::Global;
+use std::test::Fail;
 
 #[test]
 fn record_refusals(rt: HostRuntime) {
@@ -59,6 +61,34 @@ fn cut_at_each_byte(rt: HostRuntime) {
         };
         check(&rt, front(&a, len), 1000, (complete, ending));
     }
+}
+
+/// Reads the bytes of two parts. The first is begun before, so that its bytes are at hand.
+fn outcome_in_parts(
+    alloc: Global,
+    first: &[u8],
+    second: &[u8],
+) -> Result<(u64, Option<RecordFault>), Fail> {
+    let mut begun = Vec::new(alloc);
+    begun.push(b'\n')?;
+    begun.extend_from_slice(first)?;
+    let mut later = Vec::new(alloc);
+    later.extend_from_slice(second)?;
+    let mut parts = Parts::new(alloc);
+    parts.push(begun)?;
+    parts.push(later)?;
+    parts.fill(&mut [0]);
+    Ok(outcome(&mut parts, 804))
+}
+
+#[test]
+fn parts_that_end_at_each_byte(rt: HostRuntime) -> Result<(), Fail> {
+    let a = data_set();
+    for len in 0..=804 {
+        let (first, second) = a.split_at(len);
+        assert_eq!(rt; outcome_in_parts(rt.alloc(), first, second)?, (4, None));
+    }
+    Ok(())
 }
 
 #[test]
