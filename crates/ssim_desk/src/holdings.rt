@@ -172,12 +172,7 @@ impl Holdings {
         ensures lines { IfOk result (λ lines. lines.items ≡ finding_lines self.now) }
         ensures finds { IfOk result (λ lines. Finds (state_of self.now) (found_by self.now.base self.now.held)) }
     {
-        let found = found_by(
-            self.alloc,
-            &self.data_set,
-            self.stations.rows(),
-            &self.held,
-        )?;
+        let found = found_by(self.alloc, &self.data_set, self.stations.rows(), &self.held)?;
         let mut lines = Vec::new(self.alloc);
         push_lines(&mut lines, &self.held, &found)?;
         Ok(lines)

@@ -23,8 +23,8 @@ use saved_records::read_records;
 use saved_rows::read_rows;
 use saved_texts::read_texts;
 use ssim_records::{Parts, Source};
-use ssim_schedule::{DataSet, Stations};
 use ssim_schedule::laws::saved_records_are_read;
+use ssim_schedule::{DataSet, Stations};
 use ssim_text::laws::equal_where_written_equal;
 use std::alloc::Global;
 use version::take_version;
@@ -124,11 +124,7 @@ pub fn read_bytes(alloc: Global, bytes: &[u8]) -> Result<Opened, DeskFault>
 }
 
 /// Reads all bytes of a reader, and then the base and the messages whose desk file they are.
-pub fn read_desk<R: Source>(
-    alloc: Global,
-    reader: &mut R,
-    limit: u64,
-) -> Result<Opened, DeskFault>
+pub fn read_desk<R: Source>(alloc: Global, reader: &mut R, limit: u64) -> Result<Opened, DeskFault>
     ensures ok { IfOk result (λ desk. Opens limit (R.left reader.old) (base_with desk.data_set desk.stations) desk.held.items) }
     ensures err { IfErr result (RefusesFile limit (R.left reader.old)) }
     ensures no_failure { IfOk result (λ _. R.failures reader.new ≡ R.failures reader.old) }

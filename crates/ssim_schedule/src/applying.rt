@@ -67,9 +67,7 @@ impl Schedule {
         // No effect at run time. The proof reads from these uses that there are at most twenty new legs, and that the flight is one.
         let _ = lines_of(sub.action);
         let _ = place(sub.flight);
-        let counts = self
-            .table
-            .act(rows, sub.action, sub.flight, &sub.period)?;
+        let counts = self.table.act(rows, sub.action, sub.flight, &sub.period)?;
         Ok(Finding::of(&counts))
     }
 }
