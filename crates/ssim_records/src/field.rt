@@ -16,6 +16,7 @@ ghost use Rattle.ssim_records.specs.Columns.{is_carried, is_title, end_from, pas
 
 use crate::end_code::end_code_of;
 use crate::number::{digits_of, number_of, sequence_of};
+use crate::same::are_same_seven;
 use crate::time_mode::time_mode_of;
 use ssim_values::{Airline, Clock, Day, DayMask, Station, Variation};
 
@@ -271,7 +272,7 @@ pub fn end_from(start: Day, text: &[u8]) -> Option<Option<Day>>
     requires { length text.now ≡ 7 }
     ensures { result ≡ end_from (Some start) text.now }
 {
-    if text == b"00XXX00".as_slice() {
+    if are_same_seven(seven(text), *b"00XXX00") {
         return Some(None);
     }
     match day_of(text) {

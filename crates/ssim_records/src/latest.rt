@@ -1,11 +1,12 @@
 //! What the latest records had in columns that are parsed. Mostly the next record has the same, and it is not parsed again.
 
-ghost use Rattle.std.specs.Prelude.{◌≡◌, IfSome, IsTrue, length};
+ghost use Rattle.std.specs.Prelude.{IfSome};
 ghost use Rattle.ssim_records.specs.Leg.{IsName, SpellsName};
 ghost use Rattle.ssim_records.specs.Latest.{SpellsDates};
 
 use crate::field::{day_of, days_of, end_from};
 use crate::leg_name::{LegName, read_name};
+use crate::same::{are_same, eight};
 use ssim_values::{Day, DayMask};
 use std::marker::Model;
 
@@ -52,23 +53,6 @@ impl Model for DatesRead {
     ghost view = { λ r. record { first = r.first; last = r.last; days = r.days; dates = r.dates } };
 
     ghost invariant = { λ r. AreDatesRead (record { first = r.first; last = r.last; days = r.days; dates = r.dates }) };
-}
-
-fn eight(text: &[u8]) -> [u8; 8]
-    requires { length text.now ≡ 8 }
-    ensures { result ≡ text.now }
-{
-    let mut bytes = [0; 8];
-    bytes.copy_from_slice(text);
-    bytes
-}
-
-// Whether eight bytes are these. They are compared as one number.
-fn are_same(text: &[u8], other: &[u8; 8]) -> bool
-    requires { length text.now ≡ 8 }
-    ensures { IsTrue result → text.now ≡ other.now }
-{
-    u64::from_le_bytes(eight(text)) == u64::from_le_bytes(*other)
 }
 
 impl NameRead {

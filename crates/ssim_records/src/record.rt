@@ -156,6 +156,16 @@ pub fn write_over(value: &Record, out: &mut [u8])
     }
 }
 
+// Whether the bytes are the written spelling of a record. It is not put into its caller, which would fill the room for this spelling for each
+// leg too.
+#[inline(never)]
+fn is_written_whole(value: &Record, bytes: &[u8; 200]) -> bool
+    ensures same { IsTrue result ↔ (bytes.now ≡ written value.now) }
+    ensures is_record { IsRecord value.now }
+{
+    write_record(value).as_slice() == bytes.as_slice()
+}
+
 impl Record {
     /// Whether two records are the same. Those of a frame are compared by their spellings, since each spelling is of one record.
     pub fn same(&self, other: &Record) -> bool
@@ -178,7 +188,7 @@ impl Record {
         match self {
             Record::Leg(leg) => leg.is_written(bytes),
             Record::Segment(segment) => segment.is_written(bytes),
-            _ => write_record(self).as_slice() == bytes.as_slice(),
+            _ => is_written_whole(self, bytes),
         }
     }
 
