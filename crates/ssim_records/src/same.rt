@@ -3,6 +3,8 @@
 ghost use Rattle.std.specs.Prelude.{◌≡◌, ◌↔◌, ◌++◌, ◌∷◌, [], IsTrue, length};
 ghost use Rattle.std.specs.Str.{bytes_eq};
 
+use crate::field::four;
+
 pub fn eight(text: &[u8]) -> [u8; 8]
     requires { length text.now ≡ 8 }
     ensures { result ≡ text.now }
@@ -10,6 +12,15 @@ pub fn eight(text: &[u8]) -> [u8; 8]
     let mut bytes = [0; 8];
     bytes.copy_from_slice(text);
     bytes
+}
+
+/// Whether two texts of four bytes are the same.
+pub fn are_same_four(text: &[u8], other: &[u8]) -> bool
+    requires text { length text.now ≡ 4 }
+    requires other { length other.now ≡ 4 }
+    ensures { IsTrue result → text.now ≡ other.now }
+{
+    u32::from_le_bytes(four(text)) == u32::from_le_bytes(four(other))
 }
 
 /// Whether eight bytes are these.
