@@ -1,10 +1,11 @@
 -- What the latest records had in columns that are parsed, with the bytes of these columns.
-use Rattle.std.specs.Prelude.{ℕ, ◌≡◌, List, Some}
+use Rattle.std.specs.Prelude.{ℕ, ◌≡◌, List, [], ◌∷◌, Some, slice_range}
 use Rattle.ssim_values.specs.Day.{day_of}
 use Rattle.ssim_values.specs.DayMask.{days_of}
 use Rattle.ssim_records.specs.declared.latest.LegDates.{LegDates}
+use Rattle.ssim_records.specs.declared.leg_name.AirlineFlight.{AirlineFlight}
 use Rattle.ssim_records.specs.Columns.{columns, end_from}
-use Rattle.ssim_records.specs.Leg.{Name, IsName, SpellsName}
+use Rattle.ssim_records.specs.Numbers.{number_of}
 
 -- columns 15 to 35 say these dates
 pub record SpellsDates (d : LegDates) (bytes : List ℕ) : Type 0 where
@@ -12,10 +13,15 @@ pub record SpellsDates (d : LegDates) (bytes : List ℕ) : Type 0 where
   pub last : end_from (Some d.first) (columns 22 28 bytes) ≡ Some d.last
   pub days : days_of (columns 29 35 bytes) ≡ Some d.days
 
-pub record NameRead : Type 0 where
-  pub front : List ℕ
-  pub back : List ℕ
-  pub name : Name
+-- columns 2 to 9 say this flight of an airline
+pub record SpellsFlight (f : AirlineFlight) (bytes : List ℕ) : Type 0 where
+  pub suffix : columns 2 2 bytes ≡ f.flight.suffix ∷ []
+  pub airline : columns 3 5 bytes ≡ f.airline
+  pub number : number_of (columns 6 9 bytes) ≡ Some f.flight.number
+
+pub record FlightRead : Type 0 where
+  pub columns : List ℕ
+  pub named : AirlineFlight
 
 pub record DatesRead : Type 0 where
   pub first : List ℕ
@@ -23,9 +29,9 @@ pub record DatesRead : Type 0 where
   pub days : List ℕ
   pub dates : LegDates
 
--- each record with these bytes in columns 2 to 9 and 6 to 13 has this name
-abbrev pub IsNameRead : NameRead → Type 0
-IsNameRead r = IsName r.name × ((bytes : List ℕ) → columns 2 9 bytes ≡ r.front → columns 6 13 bytes ≡ r.back → SpellsName r.name bytes)
+-- each record with these bytes in columns 2 to 9 has this flight
+abbrev pub IsFlightRead : FlightRead → Type 0
+IsFlightRead r = (bytes : List ℕ) → slice_range bytes 1 9 ≡ r.columns → SpellsFlight r.named bytes
 
 -- each record with these bytes in columns 15 to 22, 22 to 29 and 28 to 35 has these dates
 abbrev pub AreDatesRead : DatesRead → Type 0

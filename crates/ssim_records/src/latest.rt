@@ -2,30 +2,29 @@
 
 ghost use Rattle.std.specs.Prelude.{IfSome};
 ghost use Rattle.ssim_records.specs.Leg.{IsName, SpellsName};
-ghost use Rattle.ssim_records.specs.Latest.{SpellsDates};
+ghost use Rattle.ssim_records.specs.Latest.{SpellsDates, SpellsFlight};
 
 use crate::field::{day_of, days_of, end_from};
-use crate::leg_name::{LegName, read_name};
+use crate::leg_name::{AirlineFlight, LegName, read_flight, read_name};
 use crate::same::{are_same, eight};
 use ssim_values::{Day, DayMask};
 use std::marker::Model;
 
-/// A name, and the bytes of columns 2 to 9 and 6 to 13 that spell it.
+/// A flight, and the bytes of columns 2 to 9 that spell it.
 #[derive(Drop)]
-struct NameRead {
-    front: [u8; 8],
-    back: [u8; 8],
-    name: LegName,
+struct FlightRead {
+    columns: [u8; 8],
+    named: AirlineFlight,
 }
 
-impl Model for NameRead {
-    ghost use Rattle.ssim_records.specs.Latest.{IsNameRead};
+impl Model for FlightRead {
+    ghost use Rattle.ssim_records.specs.Latest.{IsFlightRead};
 
-    ghost Value = { Rattle.ssim_records.specs.Latest.NameRead };
+    ghost Value = { Rattle.ssim_records.specs.Latest.FlightRead };
 
-    ghost view = { λ r. record { front = r.front; back = r.back; name = r.name } };
+    ghost view = { λ r. record { columns = r.columns; named = r.named } };
 
-    ghost invariant = { λ r. IsNameRead (record { front = r.front; back = r.back; name = r.name }) };
+    ghost invariant = { λ r. IsFlightRead (record { columns = r.columns; named = r.named }) };
 }
 
 /// Columns 15 to 35 of a leg: the first day of its period, its last day, or none if it is open, and the days of operation.
@@ -55,25 +54,22 @@ impl Model for DatesRead {
     ghost invariant = { λ r. AreDatesRead (record { first = r.first; last = r.last; days = r.days; dates = r.dates }) };
 }
 
-impl NameRead {
-    fn new(bytes: &[u8; 200], name: LegName) -> NameRead
-        requires spells { SpellsName name bytes.now }
-        requires is_name { IsName name }
+impl FlightRead {
+    fn new(bytes: &[u8; 200], named: &AirlineFlight) -> FlightRead
+        requires { SpellsFlight named.now bytes.now }
     {
-        NameRead {
-            front: eight(&bytes[1..9]),
-            back: eight(&bytes[5..13]),
-            name,
+        FlightRead {
+            columns: eight(&bytes[1..9]),
+            named: *named,
         }
     }
 
-    // The name, if the record has the same columns.
-    fn name_in(&self, bytes: &[u8; 200]) -> Option<LegName>
-        ensures spells { IfSome result (λ name. SpellsName name bytes.now) }
-        ensures is_name { IfSome result (λ name. IsName name) }
+    // The flight, if the record has the same columns.
+    fn flight_in(&self, bytes: &[u8; 200]) -> Option<AirlineFlight>
+        ensures { IfSome result (λ named. SpellsFlight named bytes.now) }
     {
-        if are_same(&bytes[1..9], &self.front) && are_same(&bytes[5..13], &self.back) {
-            Some(self.name)
+        if are_same(&bytes[1..9], &self.columns) {
+            Some(self.named)
         } else {
             None
         }
@@ -116,19 +112,33 @@ fn read_dates(bytes: &[u8; 200]) -> Option<LegDates>
     Some(LegDates { first, last, days })
 }
 
-/// The latest name and the latest dates of the records so far.
+/// The latest flight and the latest dates of the records so far.
 #[derive(Drop)]
 pub(crate) struct Latest {
-    name: Option<NameRead>,
+    flight: Option<FlightRead>,
     dates: Option<DatesRead>,
 }
 
 impl Latest {
     pub(crate) fn new() -> Latest {
         Latest {
-            name: None,
+            flight: None,
             dates: None,
         }
+    }
+
+    // The flight in columns 2 to 9, if they spell one.
+    fn flight_in(&mut self, bytes: &[u8; 200]) -> Option<AirlineFlight>
+        ensures { IfSome result (λ named. SpellsFlight named bytes.now) }
+    {
+        if let Some(read) = &self.flight {
+            if let Some(named) = read.flight_in(bytes) {
+                return Some(named);
+            }
+        }
+        let named = read_flight(bytes)?;
+        self.flight = Some(FlightRead::new(bytes, &named));
+        Some(named)
     }
 
     /// The name in columns 2 to 13, if they spell one.
@@ -136,14 +146,8 @@ impl Latest {
         ensures spells { IfSome result (λ name. SpellsName name bytes.now) }
         ensures is_name { IfSome result (λ name. IsName name) }
     {
-        if let Some(read) = &self.name {
-            if let Some(name) = read.name_in(bytes) {
-                return Some(name);
-            }
-        }
-        let name = read_name(bytes)?;
-        self.name = Some(NameRead::new(bytes, name));
-        Some(name)
+        let named = self.flight_in(bytes)?;
+        read_name(bytes, named)
     }
 
     /// The dates in columns 15 to 35, if they spell some.
