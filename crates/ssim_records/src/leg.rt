@@ -260,7 +260,7 @@ impl LegRecord {
         ensures value { out.new ≡ written_leg self.now }
         ensures is_leg { IsLeg self.now }
     {
-        let columns = self.columns.bytes();
+        let columns = self.columns.bytes_held();
         join(
             out,
             &[
