@@ -1,12 +1,11 @@
--- Records with the same bytes in columns that are parsed have the same flight, and the same dates.
+-- Records with the same bytes in columns that are parsed have the same flight, and the same ends of a period.
 use Rattle.std.proofs.Common.{◌≡◌, ℕ, ◌+◌, ◌≤◌, List, sym, ap, ◌∙◌, lit≤}
 use Rattle.std.specs.Prelude.{slice_range, Some}
 use Rattle.ssim_values.specs.Day.{day_of}
-use Rattle.ssim_values.specs.DayMask.{days_of}
-use Rattle.ssim_records.specs.declared.latest.LegDates.{LegDates}
+use Rattle.ssim_records.specs.declared.latest.LegEnds.{LegEnds}
 use Rattle.ssim_records.specs.declared.leg_name.AirlineFlight.{AirlineFlight}
 use Rattle.ssim_records.specs.Columns.{columns, end_from}
-use Rattle.ssim_records.specs.Latest.{SpellsDates, SpellsFlight}
+use Rattle.ssim_records.specs.Latest.{SpellsEnds, SpellsFlight}
 use Rattle.ssim_records.specs.Numbers.{number_of}
 use Rattle.ssim_records.proofs.Slices.{slice_in}
 
@@ -20,9 +19,8 @@ same_flight f a b e s = record {
   number = ap number_of (same_part a b 1 9 4 8 e (lit≤ tt) (lit≤ tt)) ∙ s.number;
 }
 
-pub same_dates : (d : LegDates) (a b : List ℕ) → columns 15 22 b ≡ columns 15 22 a → columns 22 29 b ≡ columns 22 29 a → columns 28 35 b ≡ columns 28 35 a → SpellsDates d a → SpellsDates d b
-same_dates d a b e f g s = record {
+pub same_ends : (l : LegEnds) (a b : List ℕ) → columns 15 22 b ≡ columns 15 22 a → columns 21 28 b ≡ columns 21 28 a → SpellsEnds l a → SpellsEnds l b
+same_ends l a b e f s = record {
   first = ap day_of (same_part a b 14 22 0 7 e (lit≤ tt) (lit≤ tt)) ∙ s.first;
-  last = ap (end_from (Some d.first)) (same_part a b 21 29 0 7 f (lit≤ tt) (lit≤ tt)) ∙ s.last;
-  days = ap days_of (same_part a b 27 35 1 8 g (lit≤ tt) (lit≤ tt)) ∙ s.days;
+  last = ap (end_from (Some l.first)) (same_part a b 20 28 1 8 f (lit≤ tt) (lit≤ tt)) ∙ s.last;
 }

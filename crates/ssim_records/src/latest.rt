@@ -2,7 +2,7 @@
 
 ghost use Rattle.std.specs.Prelude.{IfSome};
 ghost use Rattle.ssim_records.specs.Leg.{IsName, SpellsName};
-ghost use Rattle.ssim_records.specs.Latest.{SpellsDates, SpellsFlight};
+ghost use Rattle.ssim_records.specs.Latest.{SpellsDates, SpellsEnds, SpellsFlight};
 
 use crate::field::{day_of, days_of, end_from};
 use crate::leg_name::{AirlineFlight, LegName, read_flight, read_name};
@@ -35,23 +35,29 @@ pub(crate) struct LegDates {
     pub(crate) days: DayMask,
 }
 
-/// Dates, and the bytes of columns 15 to 22, 22 to 29 and 28 to 35 that spell them.
-#[derive(Drop)]
-struct DatesRead {
-    first: [u8; 8],
-    last: [u8; 8],
-    days: [u8; 8],
-    dates: LegDates,
+/// Columns 15 to 28 of a leg.
+#[derive(Clone, Copy, Debug)]
+struct LegEnds {
+    first: Day,
+    last: Option<Day>,
 }
 
-impl Model for DatesRead {
-    ghost use Rattle.ssim_records.specs.Latest.{AreDatesRead};
+/// The ends of a period, and the bytes of columns 15 to 22 and 21 to 28 that spell them.
+#[derive(Drop)]
+struct EndsRead {
+    first: [u8; 8],
+    last: [u8; 8],
+    ends: LegEnds,
+}
 
-    ghost Value = { Rattle.ssim_records.specs.Latest.DatesRead };
+impl Model for EndsRead {
+    ghost use Rattle.ssim_records.specs.Latest.{AreEndsRead};
 
-    ghost view = { λ r. record { first = r.first; last = r.last; days = r.days; dates = r.dates } };
+    ghost Value = { Rattle.ssim_records.specs.Latest.EndsRead };
 
-    ghost invariant = { λ r. AreDatesRead (record { first = r.first; last = r.last; days = r.days; dates = r.dates }) };
+    ghost view = { λ r. record { first = r.first; last = r.last; ends = r.ends } };
+
+    ghost invariant = { λ r. AreEndsRead (record { first = r.first; last = r.last; ends = r.ends }) };
 }
 
 impl FlightRead {
@@ -76,54 +82,49 @@ impl FlightRead {
     }
 }
 
-impl DatesRead {
-    fn new(bytes: &[u8; 200], dates: &LegDates) -> DatesRead
-        requires { SpellsDates dates.now bytes.now }
+impl EndsRead {
+    fn new(bytes: &[u8; 200], ends: &LegEnds) -> EndsRead
+        requires { SpellsEnds ends.now bytes.now }
     {
-        DatesRead {
+        EndsRead {
             first: eight(&bytes[14..22]),
-            last: eight(&bytes[21..29]),
-            days: eight(&bytes[27..35]),
-            dates: *dates,
+            last: eight(&bytes[20..28]),
+            ends: *ends,
         }
     }
 
-    // The dates, if the record has the same columns.
-    fn dates_in(&self, bytes: &[u8; 200]) -> Option<LegDates>
-        ensures { IfSome result (λ dates. SpellsDates dates bytes.now) }
+    // The ends, if the record has the same columns.
+    fn ends_in(&self, bytes: &[u8; 200]) -> Option<LegEnds>
+        ensures { IfSome result (λ ends. SpellsEnds ends bytes.now) }
     {
-        if are_same(&bytes[14..22], &self.first)
-            && are_same(&bytes[21..29], &self.last)
-            && are_same(&bytes[27..35], &self.days)
-        {
-            Some(self.dates)
+        if are_same(&bytes[14..22], &self.first) && are_same(&bytes[20..28], &self.last) {
+            Some(self.ends)
         } else {
             None
         }
     }
 }
 
-fn read_dates(bytes: &[u8; 200]) -> Option<LegDates>
-    ensures { IfSome result (λ dates. SpellsDates dates bytes.now) }
+fn read_ends(bytes: &[u8; 200]) -> Option<LegEnds>
+    ensures { IfSome result (λ ends. SpellsEnds ends bytes.now) }
 {
     let first = day_of(&bytes[14..21])?;
     let last = end_from(first, &bytes[21..28])?;
-    let days = days_of(&bytes[28..35])?;
-    Some(LegDates { first, last, days })
+    Some(LegEnds { first, last })
 }
 
-/// The latest flight and the latest dates of the records so far.
+/// The latest flight and the latest ends of a period of the records so far.
 #[derive(Drop)]
 pub(crate) struct Latest {
     flight: Option<FlightRead>,
-    dates: Option<DatesRead>,
+    ends: Option<EndsRead>,
 }
 
 impl Latest {
     pub(crate) fn new() -> Latest {
         Latest {
             flight: None,
-            dates: None,
+            ends: None,
         }
     }
 
@@ -150,17 +151,26 @@ impl Latest {
         read_name(bytes, named)
     }
 
+    // The ends of the period in columns 15 to 28, if they spell some.
+    fn ends_in(&mut self, bytes: &[u8; 200]) -> Option<LegEnds>
+        ensures { IfSome result (λ ends. SpellsEnds ends bytes.now) }
+    {
+        if let Some(read) = &self.ends {
+            if let Some(ends) = read.ends_in(bytes) {
+                return Some(ends);
+            }
+        }
+        let ends = read_ends(bytes)?;
+        self.ends = Some(EndsRead::new(bytes, &ends));
+        Some(ends)
+    }
+
     /// The dates in columns 15 to 35, if they spell some.
     pub(crate) fn dates_in(&mut self, bytes: &[u8; 200]) -> Option<LegDates>
         ensures { IfSome result (λ dates. SpellsDates dates bytes.now) }
     {
-        if let Some(read) = &self.dates {
-            if let Some(dates) = read.dates_in(bytes) {
-                return Some(dates);
-            }
-        }
-        let dates = read_dates(bytes)?;
-        self.dates = Some(DatesRead::new(bytes, &dates));
-        Some(dates)
+        let LegEnds { first, last } = self.ends_in(bytes)?;
+        let days = days_of(&bytes[28..35])?;
+        Some(LegDates { first, last, days })
     }
 }
