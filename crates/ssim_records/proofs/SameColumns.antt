@@ -1,7 +1,8 @@
--- Records with the same bytes in columns that are parsed have the same flight, and the same ends of a period.
-use Rattle.std.proofs.Common.{◌≡◌, ℕ, ◌+◌, ◌≤◌, List, sym, ap, ◌∙◌, lit≤}
+-- Records with the same bytes in columns that are parsed have the same flight, the same ends of a period, and the same days.
+use Rattle.std.proofs.Common.{◌≡◌, ℕ, Bool, ◌+◌, ◌≤◌, List, sym, ap, ◌∙◌, lit≤}
 use Rattle.std.specs.Prelude.{slice_range, Some}
 use Rattle.ssim_values.specs.Day.{day_of}
+use Rattle.ssim_values.specs.DayMask.{days_of}
 use Rattle.ssim_records.specs.declared.latest.LegEnds.{LegEnds}
 use Rattle.ssim_records.specs.declared.leg_name.AirlineFlight.{AirlineFlight}
 use Rattle.ssim_records.specs.Columns.{columns, end_from}
@@ -24,3 +25,6 @@ same_ends l a b e f s = record {
   first = ap day_of (same_part a b 14 22 0 7 e (lit≤ tt) (lit≤ tt)) ∙ s.first;
   last = ap (end_from (Some l.first)) (same_part a b 20 28 1 8 f (lit≤ tt) (lit≤ tt)) ∙ s.last;
 }
+
+pub same_days : (d : List Bool) (a b : List ℕ) → columns 28 35 b ≡ columns 28 35 a → days_of (columns 29 35 a) ≡ Some d → days_of (columns 29 35 b) ≡ Some d
+same_days d a b e s = ap days_of (same_part a b 27 35 1 8 e (lit≤ tt) (lit≤ tt)) ∙ s

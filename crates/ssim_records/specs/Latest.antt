@@ -1,5 +1,5 @@
 -- What the latest records had in columns that are parsed, with the bytes of these columns.
-use Rattle.std.specs.Prelude.{ℕ, ◌≡◌, List, [], ◌∷◌, Some, slice_range}
+use Rattle.std.specs.Prelude.{ℕ, Bool, ◌≡◌, List, [], ◌∷◌, Some, slice_range}
 use Rattle.ssim_values.specs.Day.{day_of}
 use Rattle.ssim_values.specs.DayMask.{days_of}
 use Rattle.ssim_records.specs.declared.latest.LegDates.{LegDates}
@@ -41,3 +41,11 @@ IsFlightRead r = (bytes : List ℕ) → slice_range bytes 1 9 ≡ r.columns → 
 -- each record with these bytes in columns 15 to 22 and 21 to 28 has these ends
 abbrev pub AreEndsRead : EndsRead → Type 0
 AreEndsRead r = (bytes : List ℕ) → columns 15 22 bytes ≡ r.first → columns 21 28 bytes ≡ r.last → SpellsEnds r.ends bytes
+
+pub record DaysRead : Type 0 where
+  pub columns : List ℕ
+  pub days : List Bool
+
+-- each record with these bytes in columns 28 to 35 has these days
+abbrev pub AreDaysRead : DaysRead → Type 0
+AreDaysRead r = (bytes : List ℕ) → slice_range bytes 27 35 ≡ r.columns → days_of (slice_range bytes 28 35) ≡ Some r.days

@@ -1,6 +1,8 @@
 //! What the latest records had in columns that are parsed. Mostly the next record has the same, and it is not parsed again.
 
-ghost use Rattle.std.specs.Prelude.{IfSome};
+ghost use Rattle.std.specs.Prelude.{◌≡◌, IfSome, Some};
+ghost use Rattle.ssim_values.specs.DayMask.{days_of};
+ghost use Rattle.ssim_records.specs.Columns.{columns};
 ghost use Rattle.ssim_records.specs.Leg.{IsName, SpellsName};
 ghost use Rattle.ssim_records.specs.Latest.{SpellsDates, SpellsEnds, SpellsFlight};
 
@@ -60,6 +62,23 @@ impl Model for EndsRead {
     ghost invariant = { λ r. AreEndsRead (record { first = r.first; last = r.last; ends = r.ends }) };
 }
 
+/// Days of operation, and the bytes of columns 28 to 35 that spell them.
+#[derive(Drop)]
+struct DaysRead {
+    columns: [u8; 8],
+    days: DayMask,
+}
+
+impl Model for DaysRead {
+    ghost use Rattle.ssim_records.specs.Latest.{AreDaysRead};
+
+    ghost Value = { Rattle.ssim_records.specs.Latest.DaysRead };
+
+    ghost view = { λ r. record { columns = r.columns; days = r.days } };
+
+    ghost invariant = { λ r. AreDaysRead (record { columns = r.columns; days = r.days }) };
+}
+
 impl FlightRead {
     fn new(bytes: &[u8; 200], named: &AirlineFlight) -> FlightRead
         requires { SpellsFlight named.now bytes.now }
@@ -113,11 +132,34 @@ fn read_ends(bytes: &[u8; 200]) -> Option<LegEnds>
     Some(LegEnds { first, last })
 }
 
-/// The latest flight and the latest ends of a period of the records so far.
+impl DaysRead {
+    fn new(bytes: &[u8; 200], days: DayMask) -> DaysRead
+        requires { days_of (columns 29 35 bytes.now) ≡ Some days }
+    {
+        DaysRead {
+            columns: eight(&bytes[27..35]),
+            days,
+        }
+    }
+
+    // The days, if the record has the same columns.
+    fn days_in(&self, bytes: &[u8; 200]) -> Option<DayMask>
+        ensures { IfSome result (λ days. days_of (columns 29 35 bytes.now) ≡ Some days) }
+    {
+        if are_same(&bytes[27..35], &self.columns) {
+            Some(self.days)
+        } else {
+            None
+        }
+    }
+}
+
+/// The latest flight, the latest ends of a period and the latest days of operation of the records so far.
 #[derive(Drop)]
 pub(crate) struct Latest {
     flight: Option<FlightRead>,
     ends: Option<EndsRead>,
+    days: Option<DaysRead>,
 }
 
 impl Latest {
@@ -125,6 +167,7 @@ impl Latest {
         Latest {
             flight: None,
             ends: None,
+            days: None,
         }
     }
 
@@ -165,12 +208,26 @@ impl Latest {
         Some(ends)
     }
 
+    // The days of operation in columns 29 to 35, if they spell some.
+    fn days_in(&mut self, bytes: &[u8; 200]) -> Option<DayMask>
+        ensures { IfSome result (λ days. days_of (columns 29 35 bytes.now) ≡ Some days) }
+    {
+        if let Some(read) = &self.days {
+            if let Some(days) = read.days_in(bytes) {
+                return Some(days);
+            }
+        }
+        let days = days_of(&bytes[28..35])?;
+        self.days = Some(DaysRead::new(bytes, days));
+        Some(days)
+    }
+
     /// The dates in columns 15 to 35, if they spell some.
     pub(crate) fn dates_in(&mut self, bytes: &[u8; 200]) -> Option<LegDates>
         ensures { IfSome result (λ dates. SpellsDates dates bytes.now) }
     {
         let LegEnds { first, last } = self.ends_in(bytes)?;
-        let days = days_of(&bytes[28..35])?;
+        let days = self.days_in(bytes)?;
         Some(LegDates { first, last, days })
     }
 }
