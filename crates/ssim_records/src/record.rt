@@ -79,7 +79,7 @@ fn put_record(
     Ok(true)
 }
 
-/// A reader of records one after another, which takes note of the latest name and dates: the same columns are not parsed
+/// A reader of records one after another, which takes note of the latest flight and dates: the same columns are not parsed
 /// again.
 #[derive(Drop)]
 pub struct RecordReader {
