@@ -1,6 +1,6 @@
 -- Numbers in digits: what is written is read again.
 use Rattle.std.proofs.Common.{◌≡◌, ℕ, zero, suc, ◌+◌, ◌-◌, ◌*◌, ◌/◌, ◌%◌, ◌^◌, ◌<◌, ◌≤◌, true, false, List, [], ◌∷◌, ◌++◌, length, reverse, Option, Some, None, refl, sym, ap, ◌∙◌, append_assoc, arith, inl, inr, lit<}
-use Rattle.std.specs.Prelude.{IfSome}
+use Rattle.std.specs.Prelude.{IfSome, IsSome}
 use Rattle.std.specs.List.{list_all}
 use Rattle.std.proofs.Math.Nat.{pow-le-pow_right, mul_assoc, pow-suc, pow-succ'}
 use Rattle.std.proofs.lemmas.Bool.Decides.{nat_tests}
@@ -79,6 +79,21 @@ digits_of_all : (t : List ℕ) (n : ℕ) → digits_of t ≡ Some n → list_all
 unfolding digits_of
 digits_of_all [] n h = absurd cc
 digits_of_all (b ∷ bs) n h = digits_after_all 0 (b ∷ bs) n h
+
+-- digits alone are all that spells a number
+digits_after_some : (m : ℕ) (t : List ℕ) → list_all is_digit t ≡ true → IsSome (digits_after m t)
+digits_after_some m [] h = refl
+digits_after_some m (b ∷ bs) h = elim (pick (is_digit b)) [ inl d ↦ (let k = simp d at h in rw d (digits_after_some (m * 10 + (b - 48)) bs k)) | inr f ↦ (let k = simp f at h in absurd cc) ]
+
+pub digits_some : (t : List ℕ) → 0 < length t → list_all is_digit t ≡ true → IsSome (digits_of t)
+digits_some t long all = rw (digits_of-some t long) (digits_after_some 0 t all)
+
+pub some_digits : (t : List ℕ) → IsSome (digits_of t) → list_all is_digit t ≡ true
+some_digits t h = by (digits_of t) refl h
+  where
+    by : (o : Option ℕ) → digits_of t ≡ o → IsSome o → list_all is_digit t ≡ true
+    by None e none = absurd cc
+    by (Some n) e some = digits_of_all t n e
 
 all_reversed : (t : List ℕ) → list_all is_digit t ≡ true → list_all is_digit (reverse t) ≡ true
 all_reversed [] h = refl

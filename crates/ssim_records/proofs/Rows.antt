@@ -3,8 +3,10 @@ use Rattle.std.proofs.Common.{◌≡◌, ℕ, ◌+◌, ◌-◌, ◌<◌, ◌≤�
 use Rattle.std.specs.Prelude.{slice_range}
 use Rattle.ssim_records.specs.declared.field.Field.{Field}
 use Rattle.std.specs.List.{list_all}
-use Rattle.std.specs.Prelude.{is_some, IsTrue}
-use Rattle.ssim_records.specs.Columns.{columns, is_carried, place_of_other, fault_in, first_fault, field_fault, column_after, or_else, unless, EachStands}
+use Rattle.std.specs.Prelude.{is_some, option_map, IsTrue}
+use Rattle.ssim_values.specs.Clock.{clock_of}
+use Rattle.ssim_records.specs.Numbers.{is_blank}
+use Rattle.ssim_records.specs.Columns.{columns, is_carried, passenger_time_of, place_of_other, fault_in, first_fault, field_fault, column_after, or_else, unless, EachStands}
 use Rattle.ssim_records.proofs.LineEnds.{pick}
 use Rattle.ssim_records.proofs.Slices.{slice_in}
 
@@ -90,3 +92,12 @@ stands_as o a h = rw h refl
 
 pub no_other : (o p : Option ℕ) (n : ℕ) → o ≡ p → p ≡ None → o ≡ Some n → ⊥
 no_other o p n h k e = absurd cc
+
+-- a time is a passenger time
+pub passenger_time : (t : List ℕ) → IsTrue (is_some (clock_of t)) → is_some (passenger_time_of t) ≡ true
+unfolding passenger_time_of
+passenger_time t h = elim (pick (list_all is_blank t)) [ inl b ↦ rw b refl | inr f ↦ rw f (by (clock_of t) h) ]
+  where
+    by : (o : Option ℕ) → IsTrue (is_some o) → is_some (option_map (λ n. Some n) o) ≡ true
+    by None none = absurd cc
+    by (Some n) some = refl

@@ -1,10 +1,12 @@
 -- What the latest records had in columns that are parsed, with the bytes of these columns.
-use Rattle.std.specs.Prelude.{ℕ, ◌≡◌, List, Some}
+use Rattle.std.specs.Prelude.{ℕ, Bool, ◌≡◌, List, [], ◌∷◌, Some, slice_range}
 use Rattle.ssim_values.specs.Day.{day_of}
 use Rattle.ssim_values.specs.DayMask.{days_of}
 use Rattle.ssim_records.specs.declared.latest.LegDates.{LegDates}
+use Rattle.ssim_records.specs.declared.latest.LegEnds.{LegEnds}
+use Rattle.ssim_records.specs.declared.leg_name.AirlineFlight.{AirlineFlight}
 use Rattle.ssim_records.specs.Columns.{columns, end_from}
-use Rattle.ssim_records.specs.Leg.{Name, IsName, SpellsName}
+use Rattle.ssim_records.specs.Numbers.{number_of}
 
 -- columns 15 to 35 say these dates
 pub record SpellsDates (d : LegDates) (bytes : List ℕ) : Type 0 where
@@ -12,21 +14,38 @@ pub record SpellsDates (d : LegDates) (bytes : List ℕ) : Type 0 where
   pub last : end_from (Some d.first) (columns 22 28 bytes) ≡ Some d.last
   pub days : days_of (columns 29 35 bytes) ≡ Some d.days
 
-pub record NameRead : Type 0 where
-  pub front : List ℕ
-  pub back : List ℕ
-  pub name : Name
+-- columns 15 to 28 say these ends of a period
+pub record SpellsEnds (e : LegEnds) (bytes : List ℕ) : Type 0 where
+  pub first : day_of (columns 15 21 bytes) ≡ Some e.first
+  pub last : end_from (Some e.first) (columns 22 28 bytes) ≡ Some e.last
 
-pub record DatesRead : Type 0 where
+-- columns 2 to 9 say this flight of an airline
+pub record SpellsFlight (f : AirlineFlight) (bytes : List ℕ) : Type 0 where
+  pub suffix : columns 2 2 bytes ≡ f.flight.suffix ∷ []
+  pub airline : columns 3 5 bytes ≡ f.airline
+  pub number : number_of (columns 6 9 bytes) ≡ Some f.flight.number
+
+pub record FlightRead : Type 0 where
+  pub columns : List ℕ
+  pub named : AirlineFlight
+
+pub record EndsRead : Type 0 where
   pub first : List ℕ
   pub last : List ℕ
-  pub days : List ℕ
-  pub dates : LegDates
+  pub ends : LegEnds
 
--- each record with these bytes in columns 2 to 9 and 6 to 13 has this name
-abbrev pub IsNameRead : NameRead → Type 0
-IsNameRead r = IsName r.name × ((bytes : List ℕ) → columns 2 9 bytes ≡ r.front → columns 6 13 bytes ≡ r.back → SpellsName r.name bytes)
+-- each record with these bytes in columns 2 to 9 has this flight
+abbrev pub IsFlightRead : FlightRead → Type 0
+IsFlightRead r = (bytes : List ℕ) → slice_range bytes 1 9 ≡ r.columns → SpellsFlight r.named bytes
 
--- each record with these bytes in columns 15 to 22, 22 to 29 and 28 to 35 has these dates
-abbrev pub AreDatesRead : DatesRead → Type 0
-AreDatesRead r = (bytes : List ℕ) → columns 15 22 bytes ≡ r.first → columns 22 29 bytes ≡ r.last → columns 28 35 bytes ≡ r.days → SpellsDates r.dates bytes
+-- each record with these bytes in columns 15 to 22 and 21 to 28 has these ends
+abbrev pub AreEndsRead : EndsRead → Type 0
+AreEndsRead r = (bytes : List ℕ) → columns 15 22 bytes ≡ r.first → columns 21 28 bytes ≡ r.last → SpellsEnds r.ends bytes
+
+pub record DaysRead : Type 0 where
+  pub columns : List ℕ
+  pub days : List Bool
+
+-- each record with these bytes in columns 28 to 35 has these days
+abbrev pub AreDaysRead : DaysRead → Type 0
+AreDaysRead r = (bytes : List ℕ) → slice_range bytes 27 35 ≡ r.columns → days_of (slice_range bytes 28 35) ≡ Some r.days

@@ -16,6 +16,7 @@ ghost use Rattle.ssim_records.specs.Columns.{is_carried, is_title, end_from, pas
 
 use crate::end_code::end_code_of;
 use crate::number::{digits_of, number_of, sequence_of};
+use crate::same::{are_same_four, are_same_seven};
 use crate::time_mode::time_mode_of;
 use ssim_values::{Airline, Clock, Day, DayMask, Station, Variation};
 
@@ -271,7 +272,7 @@ pub fn end_from(start: Day, text: &[u8]) -> Option<Option<Day>>
     requires { length text.now ≡ 7 }
     ensures { result ≡ end_from (Some start) text.now }
 {
-    if text == b"00XXX00".as_slice() {
+    if are_same_seven(seven(text), *b"00XXX00") {
         return Some(None);
     }
     match day_of(text) {
@@ -338,15 +339,28 @@ fn fault_in(kind: Kind, text: &[u8]) -> Option<usize>
     }
 }
 
-/// Whether each byte of a record can be carried. All are looked at together.
+/// Whether each byte of a record can be carried. No byte ends the loop, so that many are looked at together.
 pub fn all_carried(bytes: &[u8; 200]) -> bool
     ensures { result ≡ list_all is_carried bytes.now }
 {
-    let mut all = true;
+    let mut least = 255;
+    let mut deletes = false;
     for byte in bytes {
-        all &= is_carried(*byte);
+        least = least.min(*byte);
+        deletes |= *byte == 127;
     }
-    all
+    least >= 32 && !deletes
+}
+
+// Whether a text is a time or blank. Mostly it is the aircraft time, which is a time.
+#[tactic(auto, using(crate::proofs::Rows::passenger_time))]
+fn is_passenger_time(text: &[u8], aircraft_time: &[u8]) -> bool
+    requires text { length text.now ≡ 4 }
+    requires aircraft_time { length aircraft_time.now ≡ 4 }
+    requires is_time { IsTrue (is_some (clock_of aircraft_time.now)) }
+    ensures { result ≡ is_some (passenger_time_of text.now) }
+{
+    are_same_four(text, aircraft_time) || passenger_time_of(text).is_some()
 }
 
 /// Whether columns 37 to 52 of a leg are valid: its departure.
@@ -357,10 +371,10 @@ pub fn departure_is_valid(bytes: &[u8; 200]) -> bool
     if !is_station(&bytes[36..39]) {
         return false;
     }
-    if passenger_time_of(&bytes[39..43]).is_none() {
+    if clock_of(&bytes[43..47]).is_none() {
         return false;
     }
-    if clock_of(&bytes[43..47]).is_none() {
+    if !is_passenger_time(&bytes[39..43], &bytes[43..47]) {
         return false;
     }
     utc_variation_of(&bytes[47..52]).is_some()
@@ -377,7 +391,7 @@ pub fn arrival_is_valid(bytes: &[u8; 200]) -> bool
     if clock_of(&bytes[57..61]).is_none() {
         return false;
     }
-    if passenger_time_of(&bytes[61..65]).is_none() {
+    if !is_passenger_time(&bytes[61..65], &bytes[57..61]) {
         return false;
     }
     utc_variation_of(&bytes[65..70]).is_some()

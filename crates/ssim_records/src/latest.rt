@@ -1,30 +1,32 @@
 //! What the latest records had in columns that are parsed. Mostly the next record has the same, and it is not parsed again.
 
-ghost use Rattle.std.specs.Prelude.{◌≡◌, IfSome, IsTrue, length};
+ghost use Rattle.std.specs.Prelude.{◌≡◌, IfSome, Some};
+ghost use Rattle.ssim_values.specs.DayMask.{days_of};
+ghost use Rattle.ssim_records.specs.Columns.{columns};
 ghost use Rattle.ssim_records.specs.Leg.{IsName, SpellsName};
-ghost use Rattle.ssim_records.specs.Latest.{SpellsDates};
+ghost use Rattle.ssim_records.specs.Latest.{SpellsDates, SpellsEnds, SpellsFlight};
 
 use crate::field::{day_of, days_of, end_from};
-use crate::leg_name::{LegName, read_name};
+use crate::leg_name::{AirlineFlight, LegName, read_flight, read_name};
+use crate::same::{are_same, eight};
 use ssim_values::{Day, DayMask};
 use std::marker::Model;
 
-/// A name, and the bytes of columns 2 to 9 and 6 to 13 that spell it.
+/// A flight, and the bytes of columns 2 to 9 that spell it.
 #[derive(Drop)]
-struct NameRead {
-    front: [u8; 8],
-    back: [u8; 8],
-    name: LegName,
+struct FlightRead {
+    columns: [u8; 8],
+    named: AirlineFlight,
 }
 
-impl Model for NameRead {
-    ghost use Rattle.ssim_records.specs.Latest.{IsNameRead};
+impl Model for FlightRead {
+    ghost use Rattle.ssim_records.specs.Latest.{IsFlightRead};
 
-    ghost Value = { Rattle.ssim_records.specs.Latest.NameRead };
+    ghost Value = { Rattle.ssim_records.specs.Latest.FlightRead };
 
-    ghost view = { λ r. record { front = r.front; back = r.back; name = r.name } };
+    ghost view = { λ r. record { columns = r.columns; named = r.named } };
 
-    ghost invariant = { λ r. IsNameRead (record { front = r.front; back = r.back; name = r.name }) };
+    ghost invariant = { λ r. IsFlightRead (record { columns = r.columns; named = r.named }) };
 }
 
 /// Columns 15 to 35 of a leg: the first day of its period, its last day, or none if it is open, and the days of operation.
@@ -35,116 +37,152 @@ pub(crate) struct LegDates {
     pub(crate) days: DayMask,
 }
 
-/// Dates, and the bytes of columns 15 to 22, 22 to 29 and 28 to 35 that spell them.
+/// Columns 15 to 28 of a leg.
+#[derive(Clone, Copy, Debug)]
+struct LegEnds {
+    first: Day,
+    last: Option<Day>,
+}
+
+/// The ends of a period, and the bytes of columns 15 to 22 and 21 to 28 that spell them.
 #[derive(Drop)]
-struct DatesRead {
+struct EndsRead {
     first: [u8; 8],
     last: [u8; 8],
-    days: [u8; 8],
-    dates: LegDates,
+    ends: LegEnds,
 }
 
-impl Model for DatesRead {
-    ghost use Rattle.ssim_records.specs.Latest.{AreDatesRead};
+impl Model for EndsRead {
+    ghost use Rattle.ssim_records.specs.Latest.{AreEndsRead};
 
-    ghost Value = { Rattle.ssim_records.specs.Latest.DatesRead };
+    ghost Value = { Rattle.ssim_records.specs.Latest.EndsRead };
 
-    ghost view = { λ r. record { first = r.first; last = r.last; days = r.days; dates = r.dates } };
+    ghost view = { λ r. record { first = r.first; last = r.last; ends = r.ends } };
 
-    ghost invariant = { λ r. AreDatesRead (record { first = r.first; last = r.last; days = r.days; dates = r.dates }) };
+    ghost invariant = { λ r. AreEndsRead (record { first = r.first; last = r.last; ends = r.ends }) };
 }
 
-fn eight(text: &[u8]) -> [u8; 8]
-    requires { length text.now ≡ 8 }
-    ensures { result ≡ text.now }
-{
-    let mut bytes = [0; 8];
-    bytes.copy_from_slice(text);
-    bytes
+/// Days of operation, and the bytes of columns 28 to 35 that spell them.
+#[derive(Drop)]
+struct DaysRead {
+    columns: [u8; 8],
+    days: DayMask,
 }
 
-// Whether eight bytes are these. They are compared as one number.
-fn are_same(text: &[u8], other: &[u8; 8]) -> bool
-    requires { length text.now ≡ 8 }
-    ensures { IsTrue result → text.now ≡ other.now }
-{
-    u64::from_le_bytes(eight(text)) == u64::from_le_bytes(*other)
+impl Model for DaysRead {
+    ghost use Rattle.ssim_records.specs.Latest.{AreDaysRead};
+
+    ghost Value = { Rattle.ssim_records.specs.Latest.DaysRead };
+
+    ghost view = { λ r. record { columns = r.columns; days = r.days } };
+
+    ghost invariant = { λ r. AreDaysRead (record { columns = r.columns; days = r.days }) };
 }
 
-impl NameRead {
-    fn new(bytes: &[u8; 200], name: LegName) -> NameRead
-        requires spells { SpellsName name bytes.now }
-        requires is_name { IsName name }
+impl FlightRead {
+    fn new(bytes: &[u8; 200], named: &AirlineFlight) -> FlightRead
+        requires { SpellsFlight named.now bytes.now }
     {
-        NameRead {
-            front: eight(&bytes[1..9]),
-            back: eight(&bytes[5..13]),
-            name,
+        FlightRead {
+            columns: eight(&bytes[1..9]),
+            named: *named,
         }
     }
 
-    // The name, if the record has the same columns.
-    fn name_in(&self, bytes: &[u8; 200]) -> Option<LegName>
-        ensures spells { IfSome result (λ name. SpellsName name bytes.now) }
-        ensures is_name { IfSome result (λ name. IsName name) }
+    // The flight, if the record has the same columns.
+    fn flight_in(&self, bytes: &[u8; 200]) -> Option<AirlineFlight>
+        ensures { IfSome result (λ named. SpellsFlight named bytes.now) }
     {
-        if are_same(&bytes[1..9], &self.front) && are_same(&bytes[5..13], &self.back) {
-            Some(self.name)
+        if are_same(&bytes[1..9], &self.columns) {
+            Some(self.named)
         } else {
             None
         }
     }
 }
 
-impl DatesRead {
-    fn new(bytes: &[u8; 200], dates: &LegDates) -> DatesRead
-        requires { SpellsDates dates.now bytes.now }
+impl EndsRead {
+    fn new(bytes: &[u8; 200], ends: &LegEnds) -> EndsRead
+        requires { SpellsEnds ends.now bytes.now }
     {
-        DatesRead {
+        EndsRead {
             first: eight(&bytes[14..22]),
-            last: eight(&bytes[21..29]),
-            days: eight(&bytes[27..35]),
-            dates: *dates,
+            last: eight(&bytes[20..28]),
+            ends: *ends,
         }
     }
 
-    // The dates, if the record has the same columns.
-    fn dates_in(&self, bytes: &[u8; 200]) -> Option<LegDates>
-        ensures { IfSome result (λ dates. SpellsDates dates bytes.now) }
+    // The ends, if the record has the same columns.
+    fn ends_in(&self, bytes: &[u8; 200]) -> Option<LegEnds>
+        ensures { IfSome result (λ ends. SpellsEnds ends bytes.now) }
     {
-        if are_same(&bytes[14..22], &self.first)
-            && are_same(&bytes[21..29], &self.last)
-            && are_same(&bytes[27..35], &self.days)
-        {
-            Some(self.dates)
+        if are_same(&bytes[14..22], &self.first) && are_same(&bytes[20..28], &self.last) {
+            Some(self.ends)
         } else {
             None
         }
     }
 }
 
-fn read_dates(bytes: &[u8; 200]) -> Option<LegDates>
-    ensures { IfSome result (λ dates. SpellsDates dates bytes.now) }
+fn read_ends(bytes: &[u8; 200]) -> Option<LegEnds>
+    ensures { IfSome result (λ ends. SpellsEnds ends bytes.now) }
 {
     let first = day_of(&bytes[14..21])?;
     let last = end_from(first, &bytes[21..28])?;
-    let days = days_of(&bytes[28..35])?;
-    Some(LegDates { first, last, days })
+    Some(LegEnds { first, last })
 }
 
-/// The latest name and the latest dates of the records so far.
+impl DaysRead {
+    fn new(bytes: &[u8; 200], days: DayMask) -> DaysRead
+        requires { days_of (columns 29 35 bytes.now) ≡ Some days }
+    {
+        DaysRead {
+            columns: eight(&bytes[27..35]),
+            days,
+        }
+    }
+
+    // The days, if the record has the same columns.
+    fn days_in(&self, bytes: &[u8; 200]) -> Option<DayMask>
+        ensures { IfSome result (λ days. days_of (columns 29 35 bytes.now) ≡ Some days) }
+    {
+        if are_same(&bytes[27..35], &self.columns) {
+            Some(self.days)
+        } else {
+            None
+        }
+    }
+}
+
+/// The latest flight, the latest ends of a period and the latest days of operation of the records so far.
 #[derive(Drop)]
 pub(crate) struct Latest {
-    name: Option<NameRead>,
-    dates: Option<DatesRead>,
+    flight: Option<FlightRead>,
+    ends: Option<EndsRead>,
+    days: Option<DaysRead>,
 }
 
 impl Latest {
     pub(crate) fn new() -> Latest {
         Latest {
-            name: None,
-            dates: None,
+            flight: None,
+            ends: None,
+            days: None,
         }
+    }
+
+    // The flight in columns 2 to 9, if they spell one.
+    fn flight_in(&mut self, bytes: &[u8; 200]) -> Option<AirlineFlight>
+        ensures { IfSome result (λ named. SpellsFlight named bytes.now) }
+    {
+        if let Some(read) = &self.flight {
+            if let Some(named) = read.flight_in(bytes) {
+                return Some(named);
+            }
+        }
+        let named = read_flight(bytes)?;
+        self.flight = Some(FlightRead::new(bytes, &named));
+        Some(named)
     }
 
     /// The name in columns 2 to 13, if they spell one.
@@ -152,27 +190,44 @@ impl Latest {
         ensures spells { IfSome result (λ name. SpellsName name bytes.now) }
         ensures is_name { IfSome result (λ name. IsName name) }
     {
-        if let Some(read) = &self.name {
-            if let Some(name) = read.name_in(bytes) {
-                return Some(name);
+        let named = self.flight_in(bytes)?;
+        read_name(bytes, named)
+    }
+
+    // The ends of the period in columns 15 to 28, if they spell some.
+    fn ends_in(&mut self, bytes: &[u8; 200]) -> Option<LegEnds>
+        ensures { IfSome result (λ ends. SpellsEnds ends bytes.now) }
+    {
+        if let Some(read) = &self.ends {
+            if let Some(ends) = read.ends_in(bytes) {
+                return Some(ends);
             }
         }
-        let name = read_name(bytes)?;
-        self.name = Some(NameRead::new(bytes, name));
-        Some(name)
+        let ends = read_ends(bytes)?;
+        self.ends = Some(EndsRead::new(bytes, &ends));
+        Some(ends)
+    }
+
+    // The days of operation in columns 29 to 35, if they spell some.
+    fn days_in(&mut self, bytes: &[u8; 200]) -> Option<DayMask>
+        ensures { IfSome result (λ days. days_of (columns 29 35 bytes.now) ≡ Some days) }
+    {
+        if let Some(read) = &self.days {
+            if let Some(days) = read.days_in(bytes) {
+                return Some(days);
+            }
+        }
+        let days = days_of(&bytes[28..35])?;
+        self.days = Some(DaysRead::new(bytes, days));
+        Some(days)
     }
 
     /// The dates in columns 15 to 35, if they spell some.
     pub(crate) fn dates_in(&mut self, bytes: &[u8; 200]) -> Option<LegDates>
         ensures { IfSome result (λ dates. SpellsDates dates bytes.now) }
     {
-        if let Some(read) = &self.dates {
-            if let Some(dates) = read.dates_in(bytes) {
-                return Some(dates);
-            }
-        }
-        let dates = read_dates(bytes)?;
-        self.dates = Some(DatesRead::new(bytes, &dates));
-        Some(dates)
+        let LegEnds { first, last } = self.ends_in(bytes)?;
+        let days = self.days_in(bytes)?;
+        Some(LegDates { first, last, days })
     }
 }

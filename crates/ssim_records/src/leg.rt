@@ -6,11 +6,13 @@ ghost use Rattle.ssim_records.specs.Leg.{IsLeg, IsEnd, SpellsLeg, leg_columns, w
 ghost use Rattle.ssim_records.specs.Heads.{IsLegHead};
 
 use crate::columns::{carried_at, end_text, join};
+use crate::field::seven;
 use crate::leg_columns::{LegColumns, own_columns_at};
 use crate::leg_head::LegHead;
 use crate::leg_name::LegName;
 use crate::name_text::{has_digits, name_text};
 use crate::number::six_digits;
+use crate::same::are_same_seven;
 use crate::segment::SegmentRecord;
 use crate::segment_tail::SegmentTail;
 use ssim_values::{Airline, Day, DayMask, Flight, Period};
@@ -258,7 +260,7 @@ impl LegRecord {
         ensures value { out.new ≡ written_leg self.now }
         ensures is_leg { IsLeg self.now }
     {
-        let columns = self.columns.bytes();
+        let columns = self.columns.bytes_held();
         join(
             out,
             &[
@@ -295,7 +297,6 @@ impl LegRecord {
         ensures same { IsTrue result ↔ (bytes.now ≡ written_leg self.now) }
         ensures is_leg { IsLeg self.now }
     {
-        let days = self.days.write();
-        has_digits(bytes) && &bytes[28..35] == days.as_slice()
+        has_digits(bytes) && are_same_seven(seven(&bytes[28..35]), self.days.write())
     }
 }

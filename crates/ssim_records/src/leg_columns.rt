@@ -210,6 +210,14 @@ impl LegColumns {
         self.bytes
     }
 
+    /// The same bytes, in their place.
+    pub(crate) fn bytes_held(&self) -> &[u8; 158]
+        ensures value { result.now ≡ self.now }
+        ensures stands { AreLegColumns result.now }
+    {
+        &self.bytes
+    }
+
     /// Whether the two are equal.
     pub fn same(&self, other: &LegColumns) -> bool
         ensures { result ≡ bytes_eq self.now other.now }

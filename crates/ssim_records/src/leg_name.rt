@@ -2,6 +2,7 @@
 
 ghost use Rattle.std.specs.Prelude.{◌≡◌, ◌<◌, IsSome, IfSome, length};
 ghost use Rattle.ssim_records.specs.Columns.{EachStands};
+ghost use Rattle.ssim_records.specs.Latest.{SpellsFlight};
 ghost use Rattle.ssim_records.specs.Leg.{Name, IsName, SpellsName, name_table};
 
 use crate::columns::{airline_at, number_at, sequence_at, suffix_at};
@@ -52,16 +53,36 @@ pub(crate) fn name_at(bytes: &[u8; 200]) -> LegName
     }
 }
 
-/// The name in columns 2 to 13, if they spell one.
-pub(crate) fn read_name(bytes: &[u8; 200]) -> Option<LegName>
+/// A flight of an airline: columns 2 to 9.
+#[derive(Clone, Copy, Debug)]
+pub(crate) struct AirlineFlight {
+    pub(crate) airline: Airline,
+    pub(crate) flight: Flight,
+}
+
+/// The flight in columns 2 to 9, if they spell one.
+pub(crate) fn read_flight(bytes: &[u8; 200]) -> Option<AirlineFlight>
+    ensures { IfSome result (λ named. SpellsFlight named bytes.now) }
+{
+    let number = number_of(&bytes[5..9])?;
+    let airline = airline_of(&bytes[2..5])?;
+    let flight = Flight::new(number as u16, bytes[1])?;
+    Some(AirlineFlight { airline, flight })
+}
+
+/// The name of a leg of this flight, if columns 10 to 13 spell its itinerary variation and its leg sequence.
+pub(crate) fn read_name(bytes: &[u8; 200], named: AirlineFlight) -> Option<LegName>
+    requires { SpellsFlight named bytes.now }
     ensures spells { IfSome result (λ name. SpellsName name bytes.now) }
     ensures is_name { IfSome result (λ name. IsName name) }
 {
-    let number = number_of(&bytes[5..9])?;
+    let AirlineFlight { airline, flight } = named;
+    // No effect at run time. The proof reads from these uses that the parts are valid.
+    let _ = airline.write();
+    let _ = flight.number();
+    let _ = flight.suffix();
     let variation = number_of(&bytes[9..11])?;
     let sequence = sequence_of(&bytes[11..13])?;
-    let airline = airline_of(&bytes[2..5])?;
-    let flight = Flight::new(number as u16, bytes[1])?;
     Some(LegName {
         airline,
         flight,

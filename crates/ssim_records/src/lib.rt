@@ -49,6 +49,7 @@ mod number;
 mod parts;
 mod record;
 mod records;
+mod same;
 mod segment;
 mod segment_head;
 mod segment_tail;

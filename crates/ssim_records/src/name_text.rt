@@ -7,7 +7,7 @@ ghost use Rattle.ssim_records.specs.Leg.{name_texts};
 
 use crate::columns::join;
 use crate::leg_name::LegName;
-use crate::number::{digits_of, four_digits, two_digits};
+use crate::number::{are_digits, four_digits, two_digits};
 
 /// Columns 2 to 13 as they are written.
 pub fn name_text(name: LegName) -> [u8; 12]
@@ -31,7 +31,5 @@ pub fn name_text(name: LegName) -> [u8; 12]
 pub fn has_digits(bytes: &[u8; 200]) -> bool
     ensures { IsTrue result ↔ HasDigits bytes.now }
 {
-    digits_of(&bytes[5..9]).is_some()
-        && digits_of(&bytes[9..11]).is_some()
-        && digits_of(&bytes[11..13]).is_some()
+    are_digits(&bytes[5..13])
 }

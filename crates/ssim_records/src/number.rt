@@ -1,6 +1,7 @@
 //! Numbers in the columns of a record.
 
 ghost use Rattle.std.specs.Prelude.{◌≡◌, ◌≤◌, ◌<◌, ◌+◌, ◌%◌, ◌^◌, length, IfSome};
+ghost use Rattle.std.specs.List.{list_all};
 ghost use Rattle.ssim_values.specs.Characters.{is_digit};
 ghost use Rattle.ssim_records.specs.Numbers.{digits_of, drop_blanks, drop_blanks_at_end, number_of, sequence_of, digits};
 
@@ -10,6 +11,17 @@ fn is_digit(byte: u8) -> bool
     ensures { result ≡ is_digit byte }
 {
     byte.is_ascii_digit()
+}
+
+/// Whether each byte is a digit. No byte ends the loop, so that many are looked at together.
+pub fn are_digits(text: &[u8]) -> bool
+    ensures { result ≡ list_all is_digit text.now }
+{
+    let mut all = true;
+    for byte in text {
+        all &= is_digit(*byte);
+    }
+    all
 }
 
 /// The number that digits alone spell.

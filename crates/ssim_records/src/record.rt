@@ -1,6 +1,6 @@
 //! A record of any type.
 
-ghost use Rattle.std.specs.Prelude.{◌≡◌, ◌<◌, ◌↔◌, ◌∷◌, ℕ, [], Ok, Some, IfOk, IfErr, OnOk, IsTrue, false, length};
+ghost use Rattle.std.specs.Prelude.{◌≡◌, ◌≢◌, ◌<◌, ◌↔◌, ◌∷◌, ℕ, [], Ok, Some, IfOk, IfErr, OnOk, IsTrue, false, length};
 ghost use Rattle.ssim_records.specs.Columns.{columns};
 ghost use Rattle.ssim_records.specs.declared.record.Record.{Record};
 ghost use Rattle.ssim_records.specs.Record.{Spells, HasSpelt, IsRecord, written, fault_of, with_serial, serial_of};
@@ -36,6 +36,24 @@ fn kind_of(bytes: &[u8; 200]) -> u8
     bytes[0]
 }
 
+// `put_record` for the other types. It is not put into its caller, which would fill the room for these records for each leg too.
+#[inline(never)]
+fn put_other(bytes: &[u8; 200], into: &mut Option<Record>) -> Result<bool, usize>
+    requires leg { columns 1 1 bytes.now ≢ 51 ∷ [] }
+    requires segment { columns 1 1 bytes.now ≢ 52 ∷ [] }
+    ensures ok { IfOk result (λ known. IsTrue known → HasSpelt into.new bytes.now) }
+    ensures none { IfOk result (λ known. known ≡ false → (number : ℕ) → fault_of number bytes.now ≡ Some (RecordFault.BadType number)) }
+    ensures err { IfErr result (λ column. (number : ℕ) → fault_of number bytes.now ≡ Some (RecordFault.BadColumn number column)) }
+{
+    match kind_of(bytes) {
+        b'1' => *into = Some(Record::Header(read_header(bytes)?)),
+        b'2' => *into = Some(Record::Carrier(read_carrier(bytes)?)),
+        b'5' => *into = Some(Record::Trailer(read_trailer(bytes)?)),
+        _ => return Ok(false),
+    }
+    Ok(true)
+}
+
 // Puts the record of its type into a place, or returns the first column of the first invalid field. Says whether there is
 // such a type.
 fn put_record(
@@ -48,8 +66,6 @@ fn put_record(
     ensures err { IfErr result (λ column. (number : ℕ) → fault_of number bytes.now ≡ Some (RecordFault.BadColumn number column)) }
 {
     match kind_of(bytes) {
-        b'1' => *into = Some(Record::Header(read_header(bytes)?)),
-        b'2' => *into = Some(Record::Carrier(read_carrier(bytes)?)),
         b'3' => {
             let head = read_leg_head(bytes, latest)?;
             *into = Some(Record::Leg(leg_with(bytes, &head)));
@@ -58,13 +74,12 @@ fn put_record(
             let head = read_segment_head(bytes, latest)?;
             *into = Some(Record::Segment(segment_with(bytes, &head)));
         }
-        b'5' => *into = Some(Record::Trailer(read_trailer(bytes)?)),
-        _ => return Ok(false),
+        _ => return put_other(bytes, into),
     }
     Ok(true)
 }
 
-/// A reader of records one after another, which takes note of the latest name and dates: the same columns are not parsed
+/// A reader of records one after another, which takes note of the latest flight and dates: the same columns are not parsed
 /// again.
 #[derive(Drop)]
 pub struct RecordReader {
@@ -156,6 +171,16 @@ pub fn write_over(value: &Record, out: &mut [u8])
     }
 }
 
+// Whether the bytes are the written spelling of a record. It is not put into its caller, which would fill the room for this spelling for each
+// leg too.
+#[inline(never)]
+fn is_written_whole(value: &Record, bytes: &[u8; 200]) -> bool
+    ensures same { IsTrue result ↔ (bytes.now ≡ written value.now) }
+    ensures is_record { IsRecord value.now }
+{
+    write_record(value).as_slice() == bytes.as_slice()
+}
+
 impl Record {
     /// Whether two records are the same. Those of a frame are compared by their spellings, since each spelling is of one record.
     pub fn same(&self, other: &Record) -> bool
@@ -178,7 +203,7 @@ impl Record {
         match self {
             Record::Leg(leg) => leg.is_written(bytes),
             Record::Segment(segment) => segment.is_written(bytes),
-            _ => write_record(self).as_slice() == bytes.as_slice(),
+            _ => is_written_whole(self, bytes),
         }
     }
 

@@ -130,7 +130,7 @@ impl NameText {
         ensures value { out.new ≡ written_segment (record { name = self.now; service = slice_index columns.now 0; tail = tail.now; overflow = 32; serial = serial }) }
         ensures tail { IsTail tail.now }
     {
-        let service = columns.bytes()[0];
+        let service = columns.bytes_held()[0];
         let own = tail.bytes_held();
         join(
             out,

@@ -12,7 +12,7 @@ pub returns-clause-value : goal.returns-clause-value
 returns-clause-value c =
     let i = c.self.inside in
     let back = slice_range i.columns 0 1 ∷ day_text i.first ∷ end_text i.last ∷ places_of i.days ∷ (i.rate ∷ []) ∷ slice_range i.columns 1 92 ∷ (i.overflow ∷ []) ∷ slice_range i.columns 92 158 ∷ digits 6 i.serial ∷ [] in
-    rw (c.join.ensures, c.name_text.ensures, c.write.ensures.value, c.end_text.ensures, c.write-2.ensures.places, c.bytes-columns.ensures.value, c.six_digits.ensures, ← c.self.view_is)
+    rw (c.join.ensures, c.name_text.ensures, c.write.ensures.value, c.end_text.ensures, c.write-2.ensures.places, c.bytes_held-columns.ensures.value, c.six_digits.ensures, ← c.self.view_is)
     (name_joined (codes "3") (name_texts i.name) back)
 
 pub returns-clause-is_leg : goal.returns-clause-is_leg

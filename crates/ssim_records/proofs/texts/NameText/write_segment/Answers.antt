@@ -10,4 +10,4 @@ pub returns-clause-value : goal.returns-clause-value
 returns-clause-value c =
     let own = c.args.tail.now in
     let back = (slice_index c.args.columns.now 0 ∷ []) ∷ slice_range own 0 13 ∷ (32 ∷ []) ∷ slice_range own 13 179 ∷ digits 6 c.args.serial ∷ [] in
-    rw (c.join.ensures, c.self.invariant, c.bytes.ensures.value, c.bytes_held-own.ensures.value, c.six_digits.ensures, ← c.self.view_is) (name_joined (codes "4") (name_texts c.self.inside.name) back)
+    rw (c.join.ensures, c.self.invariant, c.bytes_held.ensures.value, c.bytes_held-own.ensures.value, c.six_digits.ensures, ← c.self.view_is) (name_joined (codes "4") (name_texts c.self.inside.name) back)

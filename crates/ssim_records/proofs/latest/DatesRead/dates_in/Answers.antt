@@ -1,5 +1,0 @@
--- The columns are those that were read.
-use Rattle.ssim_records.proofs.latest.DatesRead.dates_in.Goals as goal
-
-pub returns-then-are_same-3 : goal.returns-then-are_same-3
-returns-then-are_same-3 c = c.self.invariant c.args.bytes.now (c.are_same.ensures c.if-are_same.true) (c.are_same-then-are_same.ensures c.if-are_same-2.true) (c.are_same-then-are_same-2.ensures c.if-are_same-3.true)

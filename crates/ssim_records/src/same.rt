@@ -1,0 +1,47 @@
+//! Short texts that are compared as numbers, in place of a walk over slices.
+
+ghost use Rattle.std.specs.Prelude.{◌≡◌, ◌↔◌, ◌++◌, ◌∷◌, [], IsTrue, length};
+ghost use Rattle.std.specs.Str.{bytes_eq};
+
+use crate::field::four;
+
+pub fn eight(text: &[u8]) -> [u8; 8]
+    requires { length text.now ≡ 8 }
+    ensures { result ≡ text.now }
+{
+    let mut bytes = [0; 8];
+    bytes.copy_from_slice(text);
+    bytes
+}
+
+/// Whether two texts of four bytes are the same.
+pub fn are_same_four(text: &[u8], other: &[u8]) -> bool
+    requires text { length text.now ≡ 4 }
+    requires other { length other.now ≡ 4 }
+    ensures { IsTrue result → text.now ≡ other.now }
+{
+    u32::from_le_bytes(four(text)) == u32::from_le_bytes(four(other))
+}
+
+/// Whether eight bytes are these.
+pub fn are_same(text: &[u8], other: &[u8; 8]) -> bool
+    requires { length text.now ≡ 8 }
+    ensures { IsTrue result ↔ (text.now ≡ other.now) }
+{
+    u64::from_le_bytes(eight(text)) == u64::from_le_bytes(*other)
+}
+
+// Seven bytes and a zero.
+fn with_zero(text: [u8; 7]) -> [u8; 8]
+    ensures { result ≡ text ++ 0 ∷ [] }
+{
+    let [a, b, c, d, e, f, g] = text;
+    [a, b, c, d, e, f, g, 0]
+}
+
+/// Whether seven bytes are these.
+pub fn are_same_seven(text: [u8; 7], other: [u8; 7]) -> bool
+    ensures { result ≡ bytes_eq text other }
+{
+    are_same(&with_zero(text), &with_zero(other))
+}
