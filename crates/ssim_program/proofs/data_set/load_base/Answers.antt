@@ -22,8 +22,8 @@ returns-clause-refused g c =
     let rows = rw c.deref.ensures.value at c.in_ok-stations.ensures.ok in
     rw c.from.ensures (refused _ _ _ _ (_, (_, table, rows)) c.in-Err.fault c.in_ok-parts.ensures.bytes c.in-Err.ensures.whole c.in-Err.ensures.read)
 
-pub returns-clause-read : goal.returns-clause-read
-returns-clause-read g c =
+pub returns-in-Ok-clause-read : goal.returns-in-Ok-clause-read
+returns-in-Ok-clause-read g c =
     let table = rw c.in_ok-parts.ensures.same at c.in_ok-table.ensures.bytes in
     let rows = rw c.deref.ensures.value at c.in_ok-stations.ensures.ok in
     let read = c.in-Ok.ensures.read in
