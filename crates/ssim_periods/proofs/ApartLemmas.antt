@@ -1,9 +1,10 @@
 -- Values given to periods without a common day: what each day has, when one more period comes, and when the period is divided at a cut.
-use Rattle.std.proofs.Common.{◌≡◌, ◌≢◌, ℕ, zero, suc, ◌+◌, ◌<◌, ◌≤◌, ◌&&◌, max, min, Bool, true, false, if◌then◌else◌, nat_le, nat_eq, List, [], ◌∷◌, ◌++◌, length, take, map, slice_get, slice_index_or, Some, refl, ap, subst, sym, ◌∙◌, arith, inl, inr, IsTrue, ◌↔◌}
+use Rattle.std.proofs.Common.{◌≡◌, ◌≢◌, ℕ, zero, suc, ◌+◌, ◌<◌, ◌≤◌, ◌&&◌, max, min, Bool, true, false, if◌then◌else◌, nat_le, nat_eq, List, [], ◌∷◌, ◌++◌, length, take, map, slice_get, slice_index_or, Some, refl, ap, subst, sym, ◌∙◌, arith, ◌⊎◌, inl, inr, IsTrue, ◌↔◌}
 use Rattle.std.specs.List.{All, Contains}
 use Rattle.std.proofs.Math.Path.{fun_ext}
 use Rattle.std.proofs.lemmas.Bool.Decides.{nat_tests}
 use Rattle.std.proofs.lemmas.List.{take_more}
+use Rattle.std.proofs.lemmas.List.Elements.{All-contains}
 use Rattle.ssim_values.specs.Calendar.{weekday}
 use Rattle.ssim_values.specs.Period.{DayRange, Holds}
 use Rattle.ssim_periods.specs.Apart.{empty_week, value_in, AreDivided, AreApart}
@@ -12,7 +13,7 @@ use Rattle.ssim_periods.specs.Days.{AddsOnly, each_day, changed_on, count_on, co
 use Rattle.ssim_periods.specs.Pieces.{held_on}
 use Rattle.ssim_periods.specs.Rows.{value_on, AreRows}
 use Rattle.ssim_periods.specs.Splits.{with_cut}
-use Rattle.ssim_periods.proofs.ApplyLemmas.{All-with_cut, with_cut-keeps, with_cut-own}
+use Rattle.ssim_periods.proofs.ApplyLemmas.{All-with_cut, with_cut-keeps, with_cut-own, outside-before, outside-after}
 use Rattle.ssim_periods.proofs.CutLemmas.{rising-with_cut}
 use Rattle.ssim_periods.proofs.CoverLemmas.{le_or_lt}
 use Rattle.ssim_periods.proofs.DayLemmas.{each_day-same, changed_on-each_day, get-each_day, index-each_day, length-each_day, holds-Holds, Holds-holds}
@@ -60,6 +61,20 @@ none-more xs i x n lt is off so =
     ∙ ap (λ vs. vs ++ held_on (slice_index_or xs i x ∷ []) n) so
     ∙ ap (λ y. held_on (y ∷ []) n) (sym is)
     ∙ ap (λ b. if b then x.1 ∷ [] else []) off
+
+-- no period of a list holds a day of one that is before all cuts, or after them
+pub outside-none : {V : Type 0} (xs : List (DayRange × V)) (cuts : List ℕ) (p : DayRange) (first last n : ℕ) → AreDivided cuts xs → first ≡ p.first → last ≡ p.last → All (λ cut. last < cut) cuts ⊎ All (λ cut. cut ≤ first) cuts → holds p n ≡ true → held_on xs n ≡ []
+outside-none [] cuts p first last n ends f l out h = refl
+outside-none {V} (x ∷ xs) cuts p first last n ends f l out h =
+    ap (λ b. if b then x.1 ∷ held_on xs n else held_on xs n) off ∙ outside-none xs cuts p first last n (λ k d i. ends (suc k) d (omega arith)) f l out h
+  where
+    off : holds x.0 n ≡ false
+    off =
+        let own = ends 0 x (omega arith) in let held = holds-Holds p n h in let from = held.0 in let to = held.1 in
+        elim out [
+          | inl all ↦ let lt = All-contains (λ cut. last < cut) cuts x.0.first all own.0 in outside-before x.0.first x.0.last n x.0.days (omega arith)
+          | inr all ↦ let le = All-contains (λ cut. cut ≤ first) cuts (x.0.last + 1) all own.1 in outside-after x.0.first x.0.last n x.0.days (omega arith)
+        ]
 
 -- ---- the value of a day
 

@@ -2,8 +2,8 @@
 use Rattle.std.specs.List.Sorted.{IsStrictlyIncreasing, IsNonDecreasingBy}
 use Rattle.std.proofs.lemmas.List.Sorted.{IsNonDecreasingBy-from_all_adjacent}
 use Rattle.ssim_periods.proofs.RowLemmas.{index-default}
-use Rattle.std.proofs.Common.{zero, suc, ◌&&◌, slice_index_or, sym, ◌≡◌, ℕ, ◌+◌, ◌-◌, ◌<◌, ◌≤◌, true, false, if◌then◌else◌, nat_lt, nat_eq, List, [], ◌∷◌, length, refl, ap, ◌∙◌, arith, add-one}
-use Rattle.std.specs.List.{insert}
+use Rattle.std.proofs.Common.{zero, suc, ◌&&◌, slice_index_or, sym, ◌≡◌, ℕ, ◌+◌, ◌-◌, ◌<◌, ◌≤◌, true, false, if◌then◌else◌, nat_lt, nat_eq, List, [], ◌∷◌, ◌++◌, length, refl, ap, ◌∙◌, arith, add-one}
+use Rattle.std.specs.List.{insert, All}
 use Rattle.std.proofs.lemmas.Bool.Decides.{nat_tests}
 use Rattle.ssim_periods.specs.Rows.{place, row_on}
 use Rattle.ssim_periods.specs.Splits.{has_cut, with_cut, with_row}
@@ -190,3 +190,33 @@ place-between (cut ∷ cuts) day (suc p) l low high =
 
 pub non_decreasing : (cuts : List ℕ) → IsStrictlyIncreasing cuts → IsNonDecreasingBy (λ cut. cut) cuts
 non_decreasing cuts h = IsNonDecreasingBy-from_all_adjacent (λ cut. cut) cuts (λ k d l. let f = h k l in let a = index-default cuts k d 0 (omega arith) in let b = index-default cuts (k + 1) d 0 l in omega arith)
+
+-- ---- cuts on one side of a day
+
+rising-to : (cuts : List ℕ) (k j : ℕ) → IsStrictlyIncreasing cuts → k + j < length cuts → slice_index_or cuts k 0 ≤ slice_index_or cuts (k + j) 0
+rising-to cuts k zero h l = let e : k + 0 ≡ k = omega arith in let f = ap (λ i. slice_index_or cuts i 0) e in omega arith
+rising-to cuts k (suc j) h l =
+    let ih = rising-to cuts k j h (omega arith) in let s = h (k + j) (omega arith) in
+    let e : k + suc j ≡ k + j + 1 = omega arith in let f = ap (λ i. slice_index_or cuts i 0) e in omega arith
+
+-- no cut is before the first one
+pub from-first : (cuts : List ℕ) → IsStrictlyIncreasing cuts → All (λ cut. slice_index_or cuts 0 0 ≤ cut) cuts
+from-first cuts h k d l =
+    let e : 0 + k ≡ k = omega arith in let f = ap (λ i. slice_index_or cuts i 0) e in
+    let r = rising-to cuts 0 k h (omega arith) in let g = index-default cuts k d 0 l in omega arith
+
+-- and none is after the last one
+pub upto-last : (cuts : List ℕ) → IsStrictlyIncreasing cuts → All (λ cut. cut ≤ slice_index_or cuts (length cuts - 1) 0) cuts
+upto-last cuts h k d l =
+    let e : k + (length cuts - 1 - k) ≡ length cuts - 1 = omega arith in let f = ap (λ i. slice_index_or cuts i 0) e in
+    let r = rising-to cuts k (length cuts - 1 - k) h (omega arith) in let g = index-default cuts k d 0 l in omega arith
+
+Above-push : (b : ℕ) (cuts : List ℕ) (day : ℕ) → Above b cuts → All (λ cut. cut < day) cuts → b ≤ day → Above b (cuts ++ day ∷ [])
+Above-push b [] day a all h = (h, tt)
+Above-push b (cut ∷ cuts) day a all h =
+    let lt : cut < day = all 0 0 (omega arith) in
+    (a.0, Above-push (cut + 1) cuts day a.1 (λ k d l. all (suc k) d (omega arith)) (omega arith))
+
+-- a day after all cuts is the last of those that rise
+pub rising-push : (cuts : List ℕ) (day : ℕ) → IsStrictlyIncreasing cuts → All (λ cut. cut < day) cuts → IsStrictlyIncreasing (cuts ++ day ∷ [])
+rising-push cuts day h all = rising-from 0 (cuts ++ day ∷ []) (Above-push 0 cuts day (Above-all cuts h) all (omega arith))

@@ -3,24 +3,24 @@ ghost use Rattle.std.specs.Prelude.{◌≡◌, ◌≢◌, ℕ, ◌+◌, ◌<◌,
 ghost use Rattle.std.specs.List.{All, Contains};
 ghost use Rattle.std.specs.List.Sorted.{IsStrictlyIncreasing};
 ghost use Rattle.ssim_values.specs.Calendar.{weekday};
-ghost use Rattle.ssim_periods.specs.Apart.{empty_week};
+ghost use Rattle.ssim_periods.specs.Apart.{empty_week, AreDivided};
 ghost use Rattle.ssim_periods.specs.Calendar.{day_count, holds};
 ghost use Rattle.ssim_periods.specs.Days.{each_day, changed_on, counts_on, AddsOnly};
-ghost use Rattle.ssim_periods.specs.Pieces.{pieces_of};
+ghost use Rattle.ssim_periods.specs.Pieces.{pieces_of, held_on};
 ghost use Rattle.ssim_periods.specs.Splits.{with_cut};
 
 use crate::count::class_counts;
 use crate::entries::{copy_entries, meets_none, rows_of, shared_entries, value_at};
 use crate::entry_pieces::covers;
 use crate::range_rows::RangeRows;
-use crate::rows::{is_last, place_of};
+use crate::rows::{is_after_cuts, is_before_cuts, is_last, place_of};
 use crate::{Change, Value};
 use ssim_values::{Day, Memory, Period};
 use std::alloc::Global;
 use std::marker::Model;
 
-/// The most periods in a list. Each new period is compared with all of them.
-const MOST: usize = 48;
+/// The most periods in a list. A new period between the others is compared with all of them.
+const MOST: usize = 512;
 
 /// A value for each day, as a list of periods with values.
 #[derive(Drop)]
@@ -73,7 +73,7 @@ impl<V: Value> ApartPeriods<V> {
     pub(crate) fn has_room_for(&self, period: &Period) -> bool
         ensures { IsTrue result → (n : ℕ) → holds period.now n ≡ true → slice_index_or self.now.days n V.nothing ≡ V.nothing }
     {
-        self.entries.len() < MOST && meets_none(&self.entries, period)
+        self.entries.len() < MOST && is_free(&self.entries, &self.cuts, period)
     }
 
     /// Gives the days of the period, which have the empty value, the outcome of the change for it. Returns for each class the number of
@@ -201,6 +201,20 @@ fn empty_counts<V: Value, C: Change<V>>(empty: &[V; 7], period: &Period, change:
     let last = period.last().number() as u32;
     let mask = period.mask().days();
     class_counts(empty, &[], &[], first, last, &mask, change)
+}
+
+// Whether a period has no day in common with any of a list. One before all of them or after all of them is not compared with each.
+fn is_free<V: Value>(entries: &[(Period, V)], cuts: &[u32], period: &Period) -> bool
+    requires rising { IsStrictlyIncreasing cuts.now }
+    requires divided { AreDivided cuts.now entries.now }
+    ensures { IsTrue result → (n : ℕ) → holds period.now n ≡ true → held_on entries.now n ≡ [] }
+{
+    let first = period.first().number() as u32;
+    let last = period.last().number() as u32;
+    if is_before_cuts(cuts, last) || is_after_cuts(cuts, first) {
+        return true;
+    }
+    meets_none(entries, period)
 }
 
 // Adds a cut, unless there is one.

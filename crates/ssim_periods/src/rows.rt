@@ -1,5 +1,6 @@
 //! Cuts and rows: the first row holds up to the first cut, each other row from its cut to the next.
-ghost use Rattle.std.specs.Prelude.{◌≡◌, ℕ, ◌+◌, ◌-◌, ◌<◌, ◌≤◌, ◌&&◌, Bool, false, nat_lt, List, ◌∷◌, length, IfOk, slice_index, slice_index_or, is_none, IfSome, if◌then◌else◌};
+ghost use Rattle.std.specs.Prelude.{◌≡◌, ℕ, ◌+◌, ◌-◌, ◌<◌, ◌≤◌, ◌&&◌, Bool, false, nat_lt, List, ◌∷◌, length, IfOk, slice_index, slice_index_or, is_none, IfSome, IsTrue, if◌then◌else◌};
+ghost use Rattle.std.specs.List.{All};
 ghost use Rattle.std.specs.List.Sorted.{IsStrictlyIncreasing};
 ghost use Rattle.ssim_periods.specs.Rows.{place, row_on};
 ghost use Rattle.ssim_periods.specs.Splits.{has_cut};
@@ -19,6 +20,29 @@ pub(crate) fn place_of(cuts: &[u32], day: u32) -> usize
     ensures within { result ≤ length cuts.now }
 {
     cuts.partition_point(|cut| *cut <= day)
+}
+
+// Whether each cut is after the day.
+pub(crate) fn is_before_cuts(cuts: &[u32], day: u32) -> bool
+    requires { IsStrictlyIncreasing cuts.now }
+    ensures { IsTrue result → All (λ cut. day < cut) cuts.now }
+{
+    if cuts.is_empty() {
+        return true;
+    }
+    day < cuts[0]
+}
+
+// Whether no cut is after the day.
+pub(crate) fn is_after_cuts(cuts: &[u32], day: u32) -> bool
+    requires { IsStrictlyIncreasing cuts.now }
+    ensures { IsTrue result → All (λ cut. cut ≤ day) cuts.now }
+{
+    let count = cuts.len();
+    if count == 0 {
+        return true;
+    }
+    cuts[count - 1] <= day
 }
 
 // Whether a day is a cut.
