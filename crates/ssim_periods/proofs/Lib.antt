@@ -17,3 +17,4 @@ pub mod WorkedLemmas
 pub mod ApartLemmas
 pub mod TrimLemmas
 pub mod ListPieces
+pub mod MarkLemmas

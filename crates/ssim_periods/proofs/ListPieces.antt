@@ -204,26 +204,31 @@ on-own {V} alike exact xs x n none = by (holds x.0 n) refl
 
 -- ---- marks in place of values
 
--- a mark for one more period with the value
-marked-same : {V : Type 0} (alike : V → V → Bool) (xs : List (DayRange × V)) (x : DayRange × V) (v : V) (n : ℕ) → alike v x.1 ≡ true → (if holds x.0 n then 1 else marked alike xs v n) ≡ marked alike (xs ++ x ∷ []) v n
-marked-same {V} alike xs x v n same = by (holds x.0 n) refl
+-- a mark for one more period with the value, put before the others
+marked-same : {V : Type 0} (alike : V → V → Bool) (x : DayRange × V) (xs : List (DayRange × V)) (v : V) (n : ℕ) → alike v x.1 ≡ true → (if holds x.0 n then 1 else marked alike xs v n) ≡ marked alike (x ∷ xs) v n
+marked-same {V} alike x xs v n same = by (holds x.0 n)
   where
-    by : (b : Bool) → holds x.0 n ≡ b → (if b then 1 else marked alike xs v n) ≡ marked alike (xs ++ x ∷ []) v n
-    by true e = sym (ap (λ c. if c then 1 else 0) (on-last alike xs x v n true e ∙ ap (λ c. given_on alike xs v n || (c || false)) same ∙ or-true (given_on alike xs v n)))
-    by false e = sym (ap (λ c. if c then 1 else 0) (on-last alike xs x v n false e ∙ or-false (given_on alike xs v n)))
+    by : (b : Bool) → (if b then 1 else marked alike xs v n) ≡ (if list_any (alike v) (if b then x.1 ∷ held_on xs n else held_on xs n) then 1 else 0)
+    by true = sym (ap (λ c. if c || list_any (alike v) (held_on xs n) then 1 else 0) same)
+    by false = refl
 
-pub marks-same : {V : Type 0} (alike : V → V → Bool) (xs : List (DayRange × V)) (x : DayRange × V) (v : V) (old new : List ℕ) → alike v x.1 ≡ true → old ≡ each_day (marked alike xs v) → new ≡ changed_on (holds x.0) (λ _. 1) 0 old → new ≡ each_day (marked alike (xs ++ x ∷ []) v)
-marks-same alike xs x v old new same so put =
+pub marks-same : {V : Type 0} (alike : V → V → Bool) (x : DayRange × V) (xs : List (DayRange × V)) (v : V) (old new : List ℕ) → alike v x.1 ≡ true → old ≡ each_day (marked alike xs v) → new ≡ changed_on (holds x.0) (λ _. 1) 0 old → new ≡ each_day (marked alike (x ∷ xs) v)
+marks-same alike x xs v old new same so put =
     put ∙ ap (changed_on (holds x.0) (λ _. 1) 0) so ∙ changed_on-each_day (holds x.0) (λ _. 1) (marked alike xs v)
-    ∙ each_day-same (λ n. if holds x.0 n then 1 else marked alike xs v n) (marked alike (xs ++ x ∷ []) v) (λ n l. marked-same alike xs x v n same)
+    ∙ each_day-same (λ n. if holds x.0 n then 1 else marked alike xs v n) (marked alike (x ∷ xs) v) (λ n l. marked-same alike x xs v n same)
 
 -- and for one without it
-pub marks-other : {V : Type 0} (alike : V → V → Bool) (xs : List (DayRange × V)) (x : DayRange × V) (v : V) → alike v x.1 ≡ false → each_day (marked alike xs v) ≡ each_day (marked alike (xs ++ x ∷ []) v)
-marks-other {V} alike xs x v other = each_day-same (marked alike xs v) (marked alike (xs ++ x ∷ []) v) (λ n l. by n (holds x.0 n) refl)
+pub marks-other : {V : Type 0} (alike : V → V → Bool) (x : DayRange × V) (xs : List (DayRange × V)) (v : V) → alike v x.1 ≡ false → each_day (marked alike xs v) ≡ each_day (marked alike (x ∷ xs) v)
+marks-other {V} alike x xs v other = each_day-same (marked alike xs v) (marked alike (x ∷ xs) v) (λ n l. by n (holds x.0 n))
   where
-    by : (n : ℕ) (b : Bool) → holds x.0 n ≡ b → marked alike xs v n ≡ marked alike (xs ++ x ∷ []) v n
-    by n true e = sym (ap (λ c. if c then 1 else 0) (on-last alike xs x v n true e ∙ ap (λ c. given_on alike xs v n || (c || false)) other ∙ or-false (given_on alike xs v n)))
-    by n false e = sym (ap (λ c. if c then 1 else 0) (on-last alike xs x v n false e ∙ or-false (given_on alike xs v n)))
+    by : (n : ℕ) (b : Bool) → marked alike xs v n ≡ (if list_any (alike v) (if b then x.1 ∷ held_on xs n else held_on xs n) then 1 else 0)
+    by n true = sym (ap (λ c. if c || list_any (alike v) (held_on xs n) then 1 else 0) other)
+    by n false = refl
+
+-- the periods from one on
+pub rest-next : {V : Type 0} (xs : List V) (i j : ℕ) (x : V) (end : List V) → j + 1 ≡ i → j < length xs → x ≡ slice_index_or xs j x → drop j xs ++ end ≡ x ∷ drop i xs ++ end
+rest-next xs i j x end next lt is =
+    ap (λ ys. ys ++ end) (drop_more xs j x lt ∙ ap (λ k. slice_index_or xs j x ∷ drop k xs) next ∙ ap (λ y. y ∷ drop i xs) (sym is))
 
 -- the list up to the next period
 pub upto-next : {X : Type 0} (xs : List X) (i : ℕ) (x : X) → i < length xs → x ≡ slice_index_or xs i x → take (i + 1) xs ≡ take i xs ++ x ∷ []

@@ -85,8 +85,8 @@ fn shared_value<V: Value>(alloc: Global, copies: &[(Period, V)], value: &V) -> R
 
 // The change that gives each day one value.
 #[derive(Drop)]
-struct SetTo<'a, V: Value> {
-    value: &'a V,
+pub(crate) struct SetTo<'a, V: Value> {
+    pub(crate) value: &'a V,
 }
 
 impl<'a, V: Value> Change<V> for SetTo<'a, V> {
@@ -118,7 +118,8 @@ pub(crate) fn rows_of<V: Value>(
     Ok(rows)
 }
 
-// The rows with 1 on each day of the value of a period and of the earlier ones that have it, and 0 on each other day.
+// The rows with 1 on each day of the value of a period and of the earlier ones that have it, and 0 on each other day. The periods mostly
+// come from the last to the first, and are marked from the first to the last.
 pub(crate) fn rows_of_value<V: Value>(
     alloc: Global,
     earlier: &[(Period, V)],
@@ -126,13 +127,15 @@ pub(crate) fn rows_of_value<V: Value>(
 ) -> Result<RangeRows<ValueNumber>, Memory>
     ensures { IfOk result (λ rows. rows.days ≡ each_day (marked V.alike (earlier.now ++ entry.now ∷ []) entry.now.1)) }
 {
-    let one = ValueNumber { number: 1 };
     let mut rows = RangeRows::new(alloc);
-    for other in earlier {
+    rows.mark(&entry.0)?;
+    let mut place = earlier.len();
+    while place > 0 {
+        place -= 1;
+        let other = &earlier[place];
         if entry.1.same(&other.1) {
-            rows.apply(&other.0, &SetTo { value: &one })?;
+            rows.mark(&other.0)?;
         }
     }
-    rows.apply(&entry.0, &SetTo { value: &one })?;
     Ok(rows)
 }

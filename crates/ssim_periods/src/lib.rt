@@ -27,6 +27,7 @@ mod count;
 mod cover;
 mod entries;
 mod entry_pieces;
+mod marks;
 mod numbers;
 mod patches;
 mod periods;
