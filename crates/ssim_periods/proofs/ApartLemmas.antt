@@ -1,9 +1,9 @@
 -- Values given to periods without a common day: what each day has, when one more period comes, and when the period is divided at a cut.
-use Rattle.std.proofs.Common.{◌≡◌, ◌≢◌, ℕ, zero, suc, ◌+◌, ◌<◌, ◌≤◌, ◌&&◌, max, min, Bool, true, false, if◌then◌else◌, nat_le, nat_eq, List, [], ◌∷◌, ◌++◌, length, take, map, slice_get, slice_index_or, Some, refl, ap, subst, sym, ◌∙◌, arith, ◌⊎◌, inl, inr, IsTrue, ◌↔◌}
+use Rattle.std.proofs.Common.{◌≡◌, ◌≢◌, ℕ, zero, suc, ◌+◌, ◌<◌, ◌≤◌, ◌&&◌, max, min, Bool, true, false, if◌then◌else◌, nat_le, nat_eq, List, [], ◌∷◌, ◌++◌, length, take, drop, map, slice_get, slice_index_or, Some, refl, ap, subst, sym, ◌∙◌, arith, ◌⊎◌, inl, inr, IsTrue, ◌↔◌}
 use Rattle.std.specs.List.{All, Contains}
 use Rattle.std.proofs.Math.Path.{fun_ext}
 use Rattle.std.proofs.lemmas.Bool.Decides.{nat_tests}
-use Rattle.std.proofs.lemmas.List.{take_more}
+use Rattle.std.proofs.lemmas.List.{take_more, drop_more}
 use Rattle.std.proofs.lemmas.List.Elements.{All-contains}
 use Rattle.ssim_values.specs.Calendar.{weekday}
 use Rattle.ssim_values.specs.Period.{DayRange, Holds}
@@ -118,10 +118,34 @@ value_in-earlier nothing xs i j x day v next lt is so =
 
 -- ---- the list as rows
 
-pub rows-more : {V : Type 0} (nothing : V) (xs : List (DayRange × V)) (i : ℕ) (x : DayRange × V) (days new : List V) → i < length xs → x ≡ slice_index_or xs i x → days ≡ each_day (value_in nothing (take i xs)) → new ≡ changed_on (holds x.0) (λ _. x.1) 0 days → new ≡ each_day (value_in nothing (take (i + 1) xs))
-rows-more nothing xs i x days new lt is so put =
-    put ∙ ap (changed_on (holds x.0) (λ _. x.1) 0) so ∙ changed_on-each_day (holds x.0) (λ _. x.1) (value_in nothing (take i xs))
-    ∙ each_day-same (λ n. if holds x.0 n then x.1 else value_in nothing (take i xs) n) (value_in nothing (take (i + 1) xs)) (λ n l. sym (value_in-more nothing xs i x n lt is))
+few-later : {V : Type 0} (xs : List (DayRange × V)) (i n : ℕ) → length (held_on xs n) ≤ 1 → length (held_on (drop i xs) n) ≤ 1
+few-later xs zero n once = once
+few-later [] (suc i) n once = once
+few-later {V} (x ∷ xs) (suc i) n once = few-later xs i n (by (holds x.0 n) once)
+  where
+    by : (b : Bool) → length (if b then x.1 ∷ held_on xs n else held_on xs n) ≤ 1 → length (held_on xs n) ≤ 1
+    by true few = omega arith
+    by false few = few
+
+value_in-first : {V : Type 0} (nothing : V) (x : DayRange × V) (xs : List (DayRange × V)) (n : ℕ) → length (held_on (x ∷ xs) n) ≤ 1 → value_in nothing (x ∷ xs) n ≡ (if holds x.0 n then x.1 else value_in nothing xs n)
+value_in-first {V} nothing x xs n once = by (holds x.0 n) once
+  where
+    none : (vs : List V) → length (x.1 ∷ vs) ≤ 1 → vs ≡ []
+    none [] few = refl
+    none (v ∷ vs) few = absurd (omega arith)
+
+    by : (b : Bool) → length (if b then x.1 ∷ held_on xs n else held_on xs n) ≤ 1 → value_in (if b then x.1 else nothing) xs n ≡ (if b then x.1 else value_in nothing xs n)
+    by true few = value_in-none x.1 xs n (none (held_on xs n) few)
+    by false few = refl
+
+-- one more period, put before those from a place on
+pub rows-more : {V : Type 0} (nothing : V) (xs : List (DayRange × V)) (i j : ℕ) (x : DayRange × V) (days new : List V) → j + 1 ≡ i → j < length xs → x ≡ slice_index_or xs j x → ((n : ℕ) → length (held_on xs n) ≤ 1) → days ≡ each_day (value_in nothing (drop i xs)) → new ≡ changed_on (holds x.0) (λ _. x.1) 0 days → new ≡ each_day (value_in nothing (drop j xs))
+rows-more nothing xs i j x days new next lt is once so put =
+    let rest : drop j xs ≡ x ∷ drop i xs = drop_more xs j x lt ∙ ap (λ k. slice_index_or xs j x ∷ drop k xs) next ∙ ap (λ y. y ∷ drop i xs) (sym is) in
+    put ∙ ap (changed_on (holds x.0) (λ _. x.1) 0) so ∙ changed_on-each_day (holds x.0) (λ _. x.1) (value_in nothing (drop i xs))
+    ∙ each_day-same (λ n. if holds x.0 n then x.1 else value_in nothing (drop i xs) n) (value_in nothing (x ∷ drop i xs))
+    (λ n l. sym (value_in-first nothing x (drop i xs) n (subst (λ ys. length (held_on ys n) ≤ 1) rest (few-later xs j n (once n)))))
+    ∙ sym (ap (λ ys. each_day (value_in nothing ys)) rest)
 
 pub cuts-more : {V : Type 0} (xs : List (DayRange × V)) (i : ℕ) (x : DayRange × V) (old new cuts : List ℕ) → i < length xs → x ≡ slice_index_or xs i x → AreDivided cuts xs → AddsOnly old new x.0.first (x.0.last + 1) → ((cut : ℕ) → Contains old cut → Contains cuts cut) → (cut : ℕ) → Contains new cut → Contains cuts cut
 cuts-more {V} xs i x old new cuts lt is ends adds so cut h =

@@ -1,5 +1,5 @@
 //! Lists of periods with values.
-ghost use Rattle.std.specs.Prelude.{◌≡◌, ◌++◌, ◌∷◌, ℕ, List, [], true, IfOk, IsTrue};
+ghost use Rattle.std.specs.Prelude.{◌≡◌, ◌≤◌, ◌++◌, ◌∷◌, ℕ, List, [], true, length, IfOk, IsTrue};
 ghost use Rattle.std.specs.List.{Contains};
 ghost use Rattle.ssim_periods.specs.Apart.{marked, value_in, AreDivided};
 ghost use Rattle.ssim_periods.specs.Calendar.{holds};
@@ -103,23 +103,28 @@ impl<'a, V: Value> Change<V> for SetTo<'a, V> {
     }
 }
 
-// The rows with these values. Their cuts are those that divide the periods.
+// The rows with these values, if no day is held twice. Their cuts are those that divide the periods. The periods mostly come from the
+// last day to the first. So they are put in from the end of the list: each then lies after those before it.
 pub(crate) fn rows_of<V: Value>(
     alloc: Global,
     entries: &[(Period, V)],
 ) -> Result<RangeRows<V>, Memory>
+    requires once { (n : ℕ) → length (held_on entries.now n) ≤ 1 }
     ensures days { IfOk result (λ rows. rows.days ≡ each_day (value_in V.nothing entries.now)) }
     ensures cuts { IfOk result (λ rows. (cuts : List ℕ) → AreDivided cuts entries.now → (cut : ℕ) → Contains rows.cuts cut → Contains cuts cut) }
 {
     let mut rows = RangeRows::new(alloc);
-    for entry in entries {
+    let mut place = entries.len();
+    while place > 0 {
+        place -= 1;
+        let entry = &entries[place];
         rows.apply(&entry.0, &SetTo { value: &entry.1 })?;
     }
     Ok(rows)
 }
 
-// The rows with 1 on each day of the value of a period and of the earlier ones that have it, and 0 on each other day. The periods mostly
-// come from the last to the first, and are marked from the first to the last.
+// The rows with 1 on each day of the value of a period and of the earlier ones that have it, and 0 on each other day. The periods are
+// marked from the end of the list, so that most lie after those before them.
 pub(crate) fn rows_of_value<V: Value>(
     alloc: Global,
     earlier: &[(Period, V)],

@@ -1,9 +1,13 @@
 -- Each cut of the rows divides a period of the list.
-use Rattle.std.proofs.Common.{ap, subst, sym}
+use Rattle.std.proofs.Common.{◌≤◌, length, ap, subst, sym, rules}
 use Rattle.std.proofs.lemmas.Result.{IfOk-weaker}
 use Rattle.std.specs.List.{Contains}
 use Rattle.ssim_periods.specs.Apart.{AreDivided}
+use Rattle.ssim_periods.specs.Pieces.{held_on}
 use Rattle.ssim_periods.proofs.apart_periods.ApartPeriods.to_rows.Goals as goal
+
+pub rows_of-requires : goal.rows_of-requires
+rows_of-requires g c = (search rules, λ n. subst (λ xs. length (held_on xs n) ≤ 1) (sym c.deref.ensures.value) (c.self.invariant.1.once n))
 
 pub returns-clause-cuts : goal.returns-clause-cuts
 returns-clause-cuts g c =
