@@ -25,3 +25,4 @@ pub mod Examples
 pub mod ReadOnce
 pub mod SameColumns
 pub mod AtHand
+pub mod Eights

@@ -13,6 +13,7 @@ use crate::field::{
     Field, Kind, clock_of, first_fault, passenger_time_of, three, twenty, two, utc_variation_of,
 };
 use crate::leg_parts::{LegEquipment, LegStations, LegTimes};
+use crate::same::are_same_texts;
 use ssim_values::{Clock, Station, Variation};
 use std::marker::Model;
 
@@ -222,7 +223,7 @@ impl LegColumns {
     pub fn same(&self, other: &LegColumns) -> bool
         ensures { result ≡ bytes_eq self.now other.now }
     {
-        self.bytes.as_slice() == other.bytes.as_slice()
+        are_same_texts(&self.bytes, &other.bytes)
     }
 
     /// Column 14: the service type.

@@ -8,6 +8,7 @@ ghost use Rattle.ssim_records.specs.Segment.{IsTail, tail_of, tail_columns, new_
 use crate::columns::{join, put, put_filled};
 use crate::field::{are_carried, three, two};
 use crate::number::three_digits;
+use crate::same::are_same_texts;
 use ssim_values::Station;
 use std::marker::Model;
 
@@ -110,7 +111,7 @@ impl SegmentTail {
     pub fn same(&self, other: &SegmentTail) -> bool
         ensures { result ≡ bytes_eq self.now other.now }
     {
-        self.bytes.as_slice() == other.bytes.as_slice()
+        are_same_texts(&self.bytes, &other.bytes)
     }
 
     /// Columns 15 to 27, carried.
