@@ -12,7 +12,7 @@ ghost use Rattle.ssim_values.specs.Flight.{is_suffix};
 ghost use Rattle.ssim_values.specs.Calendar.{day_limit};
 ghost use Rattle.ssim_records.specs.Numbers.{is_blank};
 ghost use Rattle.ssim_records.specs.LegPoints.{arrival_is_valid, departure_is_valid};
-ghost use Rattle.ssim_records.specs.Columns.{is_carried, is_title, end_from, passenger_time_of, utc_variation_of, time_mode_of, end_code_of, unless, dates_fault, place_of_other, fault_in, fits_kind, first_fault, are_fields};
+ghost use Rattle.ssim_records.specs.Columns.{columns, is_carried, is_printed, is_title, end_from, passenger_time_of, utc_variation_of, time_mode_of, end_code_of, unless, dates_fault, place_of_other, fault_in, fits_kind, first_fault, are_fields};
 
 use crate::end_code::end_code_of;
 use crate::number::{digits_of, number_of, sequence_of};
@@ -339,17 +339,24 @@ fn fault_in(kind: Kind, text: &[u8]) -> Option<usize>
     }
 }
 
-/// Whether each byte of a record can be carried. No byte ends the loop, so that many are looked at together.
-pub fn all_carried(bytes: &[u8; 200]) -> bool
-    ensures { result ≡ list_all is_carried bytes.now }
+// Whether each byte is from 32 to 126. No byte ends the loop, so that many are looked at together.
+fn are_printed(text: &[u8]) -> bool
+    ensures { result ≡ list_all is_printed text.now }
 {
-    let mut least = 255;
-    let mut deletes = false;
-    for byte in bytes {
-        least = least.min(*byte);
-        deletes |= *byte == 127;
+    let mut most = 0;
+    for byte in text {
+        most = most.max(byte.wrapping_sub(b' '));
     }
-    least >= 32 && !deletes
+    most < 95
+}
+
+/// Whether each byte of columns 3 to 194 can be carried. Mostly each is from 32 to 126.
+#[tactic(auto, using(crate::proofs::Rows::all_printed))]
+pub fn middle_is_carried(bytes: &[u8; 200]) -> bool
+    ensures { result ≡ list_all is_carried (columns 3 194 bytes.now) }
+{
+    let middle = &bytes[2..194];
+    are_printed(middle) || are_carried(middle)
 }
 
 // Whether a text is a time or blank. Mostly it is the aircraft time, which is a time.
