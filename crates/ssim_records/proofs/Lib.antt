@@ -26,3 +26,4 @@ pub mod ReadOnce
 pub mod SameColumns
 pub mod AtHand
 pub mod Eights
+pub mod Clocks
