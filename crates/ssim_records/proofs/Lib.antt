@@ -27,3 +27,4 @@ pub mod SameColumns
 pub mod AtHand
 pub mod Eights
 pub mod Clocks
+pub mod Serials

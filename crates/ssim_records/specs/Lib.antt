@@ -16,3 +16,4 @@ pub mod LegPoints
 pub mod Heads
 pub mod Latest
 pub mod Clocks
+pub mod Serials

@@ -11,7 +11,6 @@ use crate::field::{
 };
 use crate::latest::Latest;
 use crate::leg_name::{LegName, name_at};
-use crate::number::digits_of;
 use ssim_values::{Day, DayMask};
 
 const TABLE: [Field; 22] = [
@@ -90,7 +89,7 @@ fn head_in(bytes: &[u8; 200], latest: &mut Latest) -> Option<LegHead>
     }
     let name = latest.name_in(bytes)?;
     let dates = latest.dates_in(bytes)?;
-    let serial = digits_of(&bytes[194..200])?;
+    let serial = latest.serial_in(bytes)?;
     Some(LegHead {
         name,
         first: dates.first,

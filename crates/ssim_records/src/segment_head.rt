@@ -9,7 +9,6 @@ use crate::columns::digits_at;
 use crate::field::{Field, Kind, first_fault, middle_is_carried};
 use crate::latest::Latest;
 use crate::leg_name::{LegName, name_at};
-use crate::number::digits_of;
 
 const TABLE: [Field; 10] = [
     field!(2 2 Suffix),
@@ -58,7 +57,7 @@ fn head_in(bytes: &[u8; 200], latest: &mut Latest) -> Option<SegmentHead>
         return None;
     }
     let name = latest.name_in(bytes)?;
-    let serial = digits_of(&bytes[194..200])?;
+    let serial = latest.serial_in(bytes)?;
     Some(SegmentHead { name, serial })
 }
 

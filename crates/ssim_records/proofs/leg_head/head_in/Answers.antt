@@ -15,16 +15,15 @@ returns c =
     let all : IsTrue (list_all is_carried (columns 3 194 b)) = simp (c.middle_is_carried.ensures) at c.if-not-middle_is_carried.false in
     let departure : IsTrue (departure_is_valid b) = simp (c.departure_is_valid.ensures) at c.if-not-departure_is_valid.false in
     let arrival : IsTrue (arrival_is_valid b) = simp (c.arrival_is_valid.ensures) at c.if-not-arrival_is_valid.false in
-    let len : length (slice_range b 194 200) ≡ 6 = length_slice b 194 200 (lit≤ tt) (omega (arith, c.told-bytes)) in
     let dates = c.in_ok-dates.ensures in
     record {
-      stands = leg_stands b c.in_ok-name.name c.in_ok-dates.dates.first c.in_ok-dates.dates.last c.in_ok-dates.dates.days c.in_ok-serial.serial all departure arrival c.in_ok-name.ensures.is_name c.in_ok-name.ensures.spells dates.first dates.last dates.days (sym c.in_ok-serial.ensures.value);
+      stands = leg_stands b c.in_ok-name.name c.in_ok-dates.dates.first c.in_ok-dates.dates.last c.in_ok-dates.dates.days c.in_ok-serial.serial all departure arrival c.in_ok-name.ensures.is_name c.in_ok-name.ensures.spells dates.first dates.last dates.days c.in_ok-serial.ensures.value;
       name = c.in_ok-name.ensures.spells;
       is_name = c.in_ok-name.ensures.is_name;
       first = dates.first;
       last = dates.last;
       is_end = is_end c.in_ok-dates.dates.first _ c.in_ok-dates.dates.last dates.last;
       days = dates.days;
-      serial = sym c.in_ok-serial.ensures.value;
-      small = subst (λ (n : ℕ). c.in_ok-serial.serial < 10 ^ n) len c.in_ok-serial.ensures.below;
+      serial = c.in_ok-serial.ensures.value;
+      small = c.in_ok-serial.ensures.below;
     }
