@@ -219,6 +219,18 @@ impl LegColumns {
         &self.bytes
     }
 
+    /// The leg's own columns of a record, over those before.
+    pub(crate) fn put(&mut self, bytes: &[u8; 200])
+        requires { EachStands bytes.now leg_table }
+        ensures value { own_columns bytes.now ≡ self.new }
+        ensures stands { AreLegColumns self.new }
+    {
+        join(
+            &mut self.bytes,
+            &[&bytes[13..14], &bytes[36..127], &bytes[128..194]],
+        );
+    }
+
     /// Whether the two are equal.
     pub fn same(&self, other: &LegColumns) -> bool
         ensures { result ≡ bytes_eq self.now other.now }

@@ -107,6 +107,15 @@ impl SegmentTail {
         &self.bytes
     }
 
+    /// The tail in a record, over the one before.
+    pub(crate) fn put(&mut self, bytes: &[u8; 200])
+        requires { EachStands bytes.now segment_table }
+        ensures value { tail_of bytes.now ≡ self.new }
+        ensures is_tail { IsTail self.new }
+    {
+        join(&mut self.bytes, &[&bytes[14..27], &bytes[28..194]]);
+    }
+
     /// Whether the two are equal.
     pub fn same(&self, other: &SegmentTail) -> bool
         ensures { result ≡ bytes_eq self.now other.now }
