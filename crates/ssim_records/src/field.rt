@@ -386,6 +386,7 @@ fn is_other_variation(text: &[u8]) -> bool
 }
 
 // Whether a text is a UTC variation or blank.
+#[inline(always)]
 fn is_variation(text: &[u8]) -> bool
     requires { length text.now ≡ 5 }
     ensures { result ≡ is_some (utc_variation_of text.now) }

@@ -282,7 +282,18 @@ impl Latest {
         Some(LegDates { first, last, days })
     }
 
+    // `serial_in` where the first digits are others. It is not put into its caller, which mostly finds the same.
+    #[inline(never)]
+    fn other_serial_in(&mut self, bytes: &[u8; 200]) -> Option<u32>
+        ensures below { IfSome result (λ serial. serial < 1000000) }
+        ensures value { IfSome result (λ serial. digits_of (columns 195 200 bytes.now) ≡ Some serial) }
+    {
+        self.serial = SerialRead::read(bytes)?;
+        self.serial.serial_in(bytes)
+    }
+
     /// The serial in columns 195 to 200, if they spell one.
+    #[inline(always)]
     pub(crate) fn serial_in(&mut self, bytes: &[u8; 200]) -> Option<u32>
         ensures below { IfSome result (λ serial. serial < 1000000) }
         ensures value { IfSome result (λ serial. digits_of (columns 195 200 bytes.now) ≡ Some serial) }
@@ -290,7 +301,6 @@ impl Latest {
         if let Some(serial) = self.serial.serial_in(bytes) {
             return Some(serial);
         }
-        self.serial = SerialRead::read(bytes)?;
-        self.serial.serial_in(bytes)
+        self.other_serial_in(bytes)
     }
 }

@@ -1,12 +1,10 @@
 -- The fields that were read are those of the table.
-use Rattle.std.proofs.Common.{◌≡◌, ◌<◌, ◌^◌, ℕ, length, sym, subst, arith, lit≤}
-use Rattle.std.specs.Prelude.{IsTrue, slice_range}
+use Rattle.std.specs.Prelude.{IsTrue}
 use Rattle.std.specs.List.{list_all}
 use Rattle.ssim_records.specs.Columns.{columns, is_carried}
 use Rattle.ssim_records.specs.LegPoints.{departure_is_valid, arrival_is_valid}
 use Rattle.ssim_records.proofs.Days.{is_end}
 use Rattle.ssim_records.proofs.ReadOnce.{leg_stands}
-use Rattle.ssim_records.proofs.Slices.{length_slice}
 use Rattle.ssim_records.proofs.leg_head.head_in.Goals as goal
 
 pub returns : goal.returns
