@@ -25,3 +25,6 @@ pub mod Examples
 pub mod ReadOnce
 pub mod SameColumns
 pub mod AtHand
+pub mod Eights
+pub mod Clocks
+pub mod Serials

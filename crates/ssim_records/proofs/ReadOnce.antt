@@ -1,5 +1,5 @@
 -- The rows of a table follow from carried bytes, and from fields that were read.
-use Rattle.std.proofs.Common.{◌≡◌, ℕ, zero, suc, ◌-◌, List, [], ◌∷◌, take, drop, Bool, Option, None, Some, refl}
+use Rattle.std.proofs.Common.{◌≡◌, ℕ, ◌+◌, ◌-◌, ◌≤◌, List, Bool, Option, None, Some, arith, lit≤}
 use Rattle.std.specs.Prelude.{IsTrue, slice_range, is_some}
 use Rattle.std.specs.List.{list_all}
 use Rattle.ssim_values.specs.Day.{day_of}
@@ -12,24 +12,19 @@ use Rattle.ssim_records.specs.Columns.{columns, is_carried, fault_in, end_from, 
 use Rattle.ssim_records.specs.Leg.{Name, IsName, SpellsName, leg_table}
 use Rattle.ssim_records.specs.LegPoints.{departure_is_valid, arrival_is_valid}
 use Rattle.ssim_records.specs.Segment.{segment_table}
+use Rattle.ssim_records.proofs.CarriedTexts.{carried_within}
 use Rattle.ssim_records.proofs.Names.{name_stands}
 use Rattle.ssim_records.proofs.Places.{dates_stand}
-use Rattle.ssim_records.proofs.Rows.{both_true, is_true, none_other, stands_as, stands_by}
+use Rattle.ssim_records.proofs.Rows.{both_true, none_other, stands_as, stands_by}
 
 -- ---- carried columns
 
-all_drop : (n : ℕ) (t : List ℕ) → IsTrue (list_all is_carried t) → IsTrue (list_all is_carried (drop n t))
-all_drop zero t h = h
-all_drop (suc n) [] h = h
-all_drop (suc n) (b ∷ bs) h = all_drop n bs (both_true (is_carried b) (list_all is_carried bs) h).1
-
-all_take : (n : ℕ) (t : List ℕ) → IsTrue (list_all is_carried t) → IsTrue (list_all is_carried (take n t))
-all_take zero t h = refl
-all_take (suc n) [] h = h
-all_take (suc n) (b ∷ bs) h = let both = both_true (is_carried b) (list_all is_carried bs) h in rw (is_true (is_carried b) both.0) (all_take n bs both.1)
-
-carried_in : (b : List ℕ) (i j : ℕ) → IsTrue (list_all is_carried b) → fault_in Carried (columns i j b) ≡ None
-carried_in b i j h = none_other 0 (slice_range b (i - 1) j) (all_take (j - (i - 1)) (drop (i - 1) b) (all_drop (i - 1) b h))
+carried_in : (b : List ℕ) (i j : ℕ) → 3 ≤ i → i ≤ j → j ≤ 194 → IsTrue (list_all is_carried (columns 3 194 b)) → fault_in Carried (columns i j b) ≡ None
+carried_in b i j from le to h =
+    let first : 2 + (i - 3) ≡ i - 1 = omega arith in
+    let last : 2 + (j - 2) ≡ j = omega arith in
+    let part : IsTrue (list_all is_carried (slice_range b (2 + (i - 3)) (2 + (j - 2)))) = carried_within b 2 194 (i - 3) (j - 2) (omega arith) (omega arith) h in
+    none_other 0 (columns i j b) (rw (first, last) at part)
 
 -- ---- departure and arrival
 
@@ -63,7 +58,7 @@ arrival_rows b h =
 
 -- ---- tables
 
-pub leg_stands : (b : List ℕ) (n : Name) (first : ℕ) (last : Option ℕ) (days : List Bool) (serial : ℕ) → IsTrue (list_all is_carried b) → IsTrue (departure_is_valid b) → IsTrue (arrival_is_valid b) → IsName n → SpellsName n b → day_of (columns 15 21 b) ≡ Some first → end_from (Some first) (columns 22 28 b) ≡ Some last → days_of (columns 29 35 b) ≡ Some days → digits_of (columns 195 200 b) ≡ Some serial → EachStands b leg_table
+pub leg_stands : (b : List ℕ) (n : Name) (first : ℕ) (last : Option ℕ) (days : List Bool) (serial : ℕ) → IsTrue (list_all is_carried (columns 3 194 b)) → IsTrue (departure_is_valid b) → IsTrue (arrival_is_valid b) → IsName n → SpellsName n b → day_of (columns 15 21 b) ≡ Some first → end_from (Some first) (columns 22 28 b) ≡ Some last → days_of (columns 29 35 b) ≡ Some days → digits_of (columns 195 200 b) ≡ Some serial → EachStands b leg_table
 leg_stands b m first last days serial all departure arrival fits name p q r s =
     let n = name_stands m b fits name in
     let d = departure_rows b departure in
@@ -78,13 +73,13 @@ leg_stands b m first last days serial all departure arrival fits name p q r s =
             (
               n.1.1.1.1.0,
               (
-                carried_in b 14 14 all,
+                carried_in b 14 14 (lit≤ tt) (lit≤ tt) (lit≤ tt) all,
                 (
                   dates_stand b first last p q,
                   (
                     stands_as (days_of (columns 29 35 b)) days r,
                     (
-                      carried_in b 36 36 all,
+                      carried_in b 36 36 (lit≤ tt) (lit≤ tt) (lit≤ tt) all,
                       (
                         stands_by _ d.station,
                         (
@@ -94,7 +89,7 @@ leg_stands b m first last days serial all departure arrival fits name p q r s =
                             (
                               stands_by _ d.variation,
                               (
-                                carried_in b 53 54 all,
+                                carried_in b 53 54 (lit≤ tt) (lit≤ tt) (lit≤ tt) all,
                                 (
                                   stands_by _ a.station,
                                   (
@@ -103,7 +98,7 @@ leg_stands b m first last days serial all departure arrival fits name p q r s =
                                       stands_by _ a.passenger,
                                       (
                                         stands_by _ a.variation,
-                                        (carried_in b 71 127 all, (carried_in b 128 128 all, (carried_in b 129 194 all, (stands_as (digits_of (columns 195 200 b)) serial s, tt)))),
+                                        (carried_in b 71 127 (lit≤ tt) (lit≤ tt) (lit≤ tt) all, (carried_in b 128 128 (lit≤ tt) (lit≤ tt) (lit≤ tt) all, (carried_in b 129 194 (lit≤ tt) (lit≤ tt) (lit≤ tt) all, (stands_as (digits_of (columns 195 200 b)) serial s, tt)))),
                                       ),
                                     ),
                                   ),
@@ -123,7 +118,7 @@ leg_stands b m first last days serial all departure arrival fits name p q r s =
       ),
     )
 
-pub segment_stands : (b : List ℕ) (n : Name) (serial : ℕ) → IsTrue (list_all is_carried b) → IsName n → SpellsName n b → digits_of (columns 195 200 b) ≡ Some serial → EachStands b segment_table
+pub segment_stands : (b : List ℕ) (n : Name) (serial : ℕ) → IsTrue (list_all is_carried (columns 3 194 b)) → IsName n → SpellsName n b → digits_of (columns 195 200 b) ≡ Some serial → EachStands b segment_table
 segment_stands b m serial all fits name s =
     let n = name_stands m b fits name in (
       n.0,
@@ -135,7 +130,7 @@ segment_stands b m serial all fits name s =
             n.1.1.1.0,
             (
               n.1.1.1.1.0,
-              (carried_in b 14 14 all, (carried_in b 15 27 all, (carried_in b 28 28 all, (carried_in b 29 194 all, (stands_as (digits_of (columns 195 200 b)) serial s, tt))))),
+              (carried_in b 14 14 (lit≤ tt) (lit≤ tt) (lit≤ tt) all, (carried_in b 15 27 (lit≤ tt) (lit≤ tt) (lit≤ tt) all, (carried_in b 28 28 (lit≤ tt) (lit≤ tt) (lit≤ tt) all, (carried_in b 29 194 (lit≤ tt) (lit≤ tt) (lit≤ tt) all, (stands_as (digits_of (columns 195 200 b)) serial s, tt))))),
             ),
           ),
         ),

@@ -4,9 +4,10 @@ use Rattle.std.specs.Prelude.{slice_range}
 use Rattle.ssim_records.specs.declared.field.Field.{Field}
 use Rattle.std.specs.List.{list_all}
 use Rattle.std.specs.Prelude.{is_some, option_map, IsTrue}
+use Rattle.std.proofs.lemmas.Bool.Decides.{nat_tests}
 use Rattle.ssim_values.specs.Clock.{clock_of}
 use Rattle.ssim_records.specs.Numbers.{is_blank}
-use Rattle.ssim_records.specs.Columns.{columns, is_carried, passenger_time_of, place_of_other, fault_in, first_fault, field_fault, column_after, or_else, unless, EachStands}
+use Rattle.ssim_records.specs.Columns.{columns, is_carried, is_printed, passenger_time_of, place_of_other, fault_in, first_fault, field_fault, column_after, or_else, unless, EachStands}
 use Rattle.ssim_records.proofs.LineEnds.{pick}
 use Rattle.ssim_records.proofs.Slices.{slice_in}
 
@@ -80,6 +81,13 @@ is_true b h = h
 pub none_other : (n : ℕ) (t : List ℕ) → IsTrue (list_all is_carried t) → place_of_other is_carried n t ≡ None
 none_other n [] h = refl
 none_other n (b ∷ bs) h = let both = both_true (is_carried b) (list_all is_carried bs) h in rw (is_true (is_carried b) both.0) (none_other (n + 1) bs both.1)
+
+printed : (b : ℕ) → IsTrue (is_printed b) → is_carried b ≡ true
+printed b h = grind (arith, nat_tests)
+
+pub all_printed : (t : List ℕ) → IsTrue (list_all is_printed t) → list_all is_carried t ≡ true
+all_printed [] h = refl
+all_printed (b ∷ bs) h = let both = both_true (is_printed b) (list_all is_printed bs) h in rw (printed b both.0, all_printed bs both.1) refl
 
 -- ---- fields that say a value
 

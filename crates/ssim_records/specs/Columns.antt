@@ -26,6 +26,10 @@ columns first last bytes = slice_range bytes (first - 1) last
 abbrev pub is_carried : ℕ → Bool
 is_carried b = nat_le 32 b && not (b == 127)
 
+-- 32 to 126: a byte that is carried, and below 128
+abbrev pub is_printed : ℕ → Bool
+is_printed b = nat_le 32 b && nat_lt b 127
+
 -- ---- what is written
 
 -- the byte, or a blank for a byte that no record carries

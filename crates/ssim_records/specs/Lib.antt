@@ -15,3 +15,5 @@ pub mod Worked
 pub mod LegPoints
 pub mod Heads
 pub mod Latest
+pub mod Clocks
+pub mod Serials

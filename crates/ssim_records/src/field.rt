@@ -12,8 +12,9 @@ ghost use Rattle.ssim_values.specs.Flight.{is_suffix};
 ghost use Rattle.ssim_values.specs.Calendar.{day_limit};
 ghost use Rattle.ssim_records.specs.Numbers.{is_blank};
 ghost use Rattle.ssim_records.specs.LegPoints.{arrival_is_valid, departure_is_valid};
-ghost use Rattle.ssim_records.specs.Columns.{is_carried, is_title, end_from, passenger_time_of, utc_variation_of, time_mode_of, end_code_of, unless, dates_fault, place_of_other, fault_in, fits_kind, first_fault, are_fields};
+ghost use Rattle.ssim_records.specs.Columns.{columns, is_carried, is_printed, is_title, end_from, passenger_time_of, utc_variation_of, time_mode_of, end_code_of, unless, dates_fault, place_of_other, fault_in, fits_kind, first_fault, are_fields};
 
+use crate::clock_digits::is_clock_to;
 use crate::end_code::end_code_of;
 use crate::number::{digits_of, number_of, sequence_of};
 use crate::same::{are_same_four, are_same_seven};
@@ -339,17 +340,58 @@ fn fault_in(kind: Kind, text: &[u8]) -> Option<usize>
     }
 }
 
-/// Whether each byte of a record can be carried. No byte ends the loop, so that many are looked at together.
-pub fn all_carried(bytes: &[u8; 200]) -> bool
-    ensures { result ≡ list_all is_carried bytes.now }
+// Whether each byte is from 32 to 126. No byte ends the loop, so that many are looked at together.
+fn are_printed(text: &[u8]) -> bool
+    ensures { result ≡ list_all is_printed text.now }
 {
-    let mut least = 255;
-    let mut deletes = false;
-    for byte in bytes {
-        least = least.min(*byte);
-        deletes |= *byte == 127;
+    let mut most = 0;
+    for byte in text {
+        most = most.max(byte.wrapping_sub(b' '));
     }
-    least >= 32 && !deletes
+    most < 95
+}
+
+/// Whether each byte of columns 3 to 194 can be carried. Mostly each is from 32 to 126.
+#[tactic(auto, using(crate::proofs::Rows::all_printed))]
+pub fn middle_is_carried(bytes: &[u8; 200]) -> bool
+    ensures { result ≡ list_all is_carried (columns 3 194 bytes.now) }
+{
+    let middle = &bytes[2..194];
+    are_printed(middle) || are_carried(middle)
+}
+
+// Whether a text is a time.
+fn is_time(text: &[u8]) -> bool
+    requires { length text.now ≡ 4 }
+    ensures { result ≡ is_some (clock_of text.now) }
+{
+    is_clock_to(text, 24) || clock_of(text).is_some()
+}
+
+// Whether a text is a sign, and hours and minutes up to 1500.
+fn is_signed_clock(text: &[u8]) -> bool
+    requires { length text.now ≡ 5 }
+    ensures { IsTrue result → IsTrue (is_some (utc_variation_of text.now)) }
+{
+    (text[0] == b'+' || text[0] == b'-') && is_clock_to(&text[1..5], 15)
+}
+
+// `is_variation` for the other texts. It is not put into its caller, which looks at most texts as numbers.
+#[inline(never)]
+fn is_other_variation(text: &[u8]) -> bool
+    requires { length text.now ≡ 5 }
+    ensures { result ≡ is_some (utc_variation_of text.now) }
+{
+    utc_variation_of(text).is_some()
+}
+
+// Whether a text is a UTC variation or blank.
+#[inline(always)]
+fn is_variation(text: &[u8]) -> bool
+    requires { length text.now ≡ 5 }
+    ensures { result ≡ is_some (utc_variation_of text.now) }
+{
+    is_signed_clock(text) || is_other_variation(text)
 }
 
 // Whether a text is a time or blank. Mostly it is the aircraft time, which is a time.
@@ -371,13 +413,13 @@ pub fn departure_is_valid(bytes: &[u8; 200]) -> bool
     if !is_station(&bytes[36..39]) {
         return false;
     }
-    if clock_of(&bytes[43..47]).is_none() {
+    if !is_time(&bytes[43..47]) {
         return false;
     }
     if !is_passenger_time(&bytes[39..43], &bytes[43..47]) {
         return false;
     }
-    utc_variation_of(&bytes[47..52]).is_some()
+    is_variation(&bytes[47..52])
 }
 
 /// Whether columns 55 to 70 of a leg are valid: its arrival.
@@ -388,13 +430,13 @@ pub fn arrival_is_valid(bytes: &[u8; 200]) -> bool
     if !is_station(&bytes[54..57]) {
         return false;
     }
-    if clock_of(&bytes[57..61]).is_none() {
+    if !is_time(&bytes[57..61]) {
         return false;
     }
     if !is_passenger_time(&bytes[61..65], &bytes[57..61]) {
         return false;
     }
-    utc_variation_of(&bytes[65..70]).is_some()
+    is_variation(&bytes[65..70])
 }
 
 /// The first column of the first invalid field.

@@ -1,14 +1,16 @@
 //! What the latest records had in columns that are parsed. Mostly the next record has the same, and it is not parsed again.
 
-ghost use Rattle.std.specs.Prelude.{◌≡◌, IfSome, Some};
+ghost use Rattle.std.specs.Prelude.{◌≡◌, ◌<◌, IfSome, Some};
 ghost use Rattle.ssim_values.specs.DayMask.{days_of};
 ghost use Rattle.ssim_records.specs.Columns.{columns};
 ghost use Rattle.ssim_records.specs.Leg.{IsName, SpellsName};
 ghost use Rattle.ssim_records.specs.Latest.{SpellsDates, SpellsEnds, SpellsFlight};
+ghost use Rattle.ssim_records.specs.Numbers.{digits_of};
 
-use crate::field::{day_of, days_of, end_from};
+use crate::field::{day_of, days_of, end_from, four};
 use crate::leg_name::{AirlineFlight, LegName, read_flight, read_name};
-use crate::same::{are_same, eight};
+use crate::number::digits_of;
+use crate::same::{are_same, are_same_four, eight};
 use ssim_values::{Day, DayMask};
 use std::marker::Model;
 
@@ -77,6 +79,23 @@ impl Model for DaysRead {
     ghost view = { λ r. record { columns = r.columns; days = r.days } };
 
     ghost invariant = { λ r. AreDaysRead (record { columns = r.columns; days = r.days }) };
+}
+
+/// The bytes of columns 195 to 198, the first four digits of a serial, and the number that they spell.
+#[derive(Drop)]
+struct SerialRead {
+    columns: [u8; 4],
+    number: u32,
+}
+
+impl Model for SerialRead {
+    ghost use Rattle.ssim_records.specs.Serials.{IsSerialRead};
+
+    ghost Value = { Rattle.ssim_records.specs.Serials.SerialRead };
+
+    ghost view = { λ r. record { columns = r.columns; number = r.number } };
+
+    ghost invariant = { λ r. IsSerialRead (record { columns = r.columns; number = r.number }) };
 }
 
 impl FlightRead {
@@ -154,12 +173,43 @@ impl DaysRead {
     }
 }
 
-/// The latest flight, the latest ends of a period and the latest days of operation of the records so far.
+impl SerialRead {
+    // Of the serials below 100.
+    fn new() -> SerialRead {
+        SerialRead {
+            columns: *b"0000",
+            number: 0,
+        }
+    }
+
+    // Of the record's serial, if it begins with four digits.
+    fn read(bytes: &[u8; 200]) -> Option<SerialRead> {
+        let columns = four(&bytes[194..198]);
+        let number = digits_of(&columns)?;
+        Some(SerialRead { columns, number })
+    }
+
+    // The serial in columns 195 to 200, if it begins with the same digits.
+    fn serial_in(&self, bytes: &[u8; 200]) -> Option<u32>
+        ensures below { IfSome result (λ serial. serial < 1000000) }
+        ensures value { IfSome result (λ serial. digits_of (columns 195 200 bytes.now) ≡ Some serial) }
+    {
+        if !are_same_four(&bytes[194..198], &self.columns) {
+            return None;
+        }
+        let last = digits_of(&bytes[198..200])?;
+        Some(self.number * 100 + last)
+    }
+}
+
+/// The latest flight, the latest ends of a period, the latest days of operation and the first digits of the latest serial of the
+/// records so far.
 #[derive(Drop)]
 pub(crate) struct Latest {
     flight: Option<FlightRead>,
     ends: Option<EndsRead>,
     days: Option<DaysRead>,
+    serial: SerialRead,
 }
 
 impl Latest {
@@ -168,6 +218,7 @@ impl Latest {
             flight: None,
             ends: None,
             days: None,
+            serial: SerialRead::new(),
         }
     }
 
@@ -229,5 +280,27 @@ impl Latest {
         let LegEnds { first, last } = self.ends_in(bytes)?;
         let days = self.days_in(bytes)?;
         Some(LegDates { first, last, days })
+    }
+
+    // `serial_in` where the first digits are others. It is not put into its caller, which mostly finds the same.
+    #[inline(never)]
+    fn other_serial_in(&mut self, bytes: &[u8; 200]) -> Option<u32>
+        ensures below { IfSome result (λ serial. serial < 1000000) }
+        ensures value { IfSome result (λ serial. digits_of (columns 195 200 bytes.now) ≡ Some serial) }
+    {
+        self.serial = SerialRead::read(bytes)?;
+        self.serial.serial_in(bytes)
+    }
+
+    /// The serial in columns 195 to 200, if they spell one.
+    #[inline(always)]
+    pub(crate) fn serial_in(&mut self, bytes: &[u8; 200]) -> Option<u32>
+        ensures below { IfSome result (λ serial. serial < 1000000) }
+        ensures value { IfSome result (λ serial. digits_of (columns 195 200 bytes.now) ≡ Some serial) }
+    {
+        if let Some(serial) = self.serial.serial_in(bytes) {
+            return Some(serial);
+        }
+        self.other_serial_in(bytes)
     }
 }

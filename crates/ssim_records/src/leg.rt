@@ -226,6 +226,24 @@ impl LegRecord {
         SegmentRecord::new(self.name, self.columns.service_type(), tail)
     }
 
+    /// The flight leg becomes the one that a record spells, as `leg_with` gives it.
+    pub(crate) fn put(&mut self, bytes: &[u8; 200], head: &LegHead)
+        requires kind { columns 1 1 bytes.now ≡ 51 ∷ [] }
+        requires head { IsLegHead head.now bytes.now }
+        ensures { SpellsLeg self.new bytes.now }
+    {
+        let _ = head.first.number();
+        let _ = head.days.days();
+        self.name = head.name;
+        self.first = head.first;
+        self.last = head.last;
+        self.days = head.days;
+        self.rate = carried_at(bytes, 36);
+        self.columns.put(bytes);
+        self.overflow = carried_at(bytes, 128);
+        self.serial = head.serial;
+    }
+
     /// Whether two legs are the same.
     pub(crate) fn same(&self, other: &LegRecord) -> bool
         ensures { IsTrue result ↔ (self.now ≡ other.now) }

@@ -13,6 +13,7 @@ use crate::field::{
     Field, Kind, clock_of, first_fault, passenger_time_of, three, twenty, two, utc_variation_of,
 };
 use crate::leg_parts::{LegEquipment, LegStations, LegTimes};
+use crate::same::are_same_texts;
 use ssim_values::{Clock, Station, Variation};
 use std::marker::Model;
 
@@ -218,11 +219,23 @@ impl LegColumns {
         &self.bytes
     }
 
+    /// The leg's own columns of a record, over those before.
+    pub(crate) fn put(&mut self, bytes: &[u8; 200])
+        requires { EachStands bytes.now leg_table }
+        ensures value { own_columns bytes.now ≡ self.new }
+        ensures stands { AreLegColumns self.new }
+    {
+        join(
+            &mut self.bytes,
+            &[&bytes[13..14], &bytes[36..127], &bytes[128..194]],
+        );
+    }
+
     /// Whether the two are equal.
     pub fn same(&self, other: &LegColumns) -> bool
         ensures { result ≡ bytes_eq self.now other.now }
     {
-        self.bytes.as_slice() == other.bytes.as_slice()
+        are_same_texts(&self.bytes, &other.bytes)
     }
 
     /// Column 14: the service type.

@@ -6,10 +6,11 @@ ghost use Rattle.ssim_records.specs.Leg.{leg_table};
 ghost use Rattle.ssim_records.specs.Heads.{IsLegHead};
 
 use crate::columns::{days_at, digits_at, first_day_at, last_day_at};
-use crate::field::{Field, Kind, all_carried, arrival_is_valid, departure_is_valid, first_fault};
+use crate::field::{
+    Field, Kind, arrival_is_valid, departure_is_valid, first_fault, middle_is_carried,
+};
 use crate::latest::Latest;
 use crate::leg_name::{LegName, name_at};
-use crate::number::digits_of;
 use ssim_values::{Day, DayMask};
 
 const TABLE: [Field; 22] = [
@@ -77,7 +78,7 @@ fn head_of(bytes: &[u8; 200]) -> LegHead
 fn head_in(bytes: &[u8; 200], latest: &mut Latest) -> Option<LegHead>
     ensures { IfSome result (λ head. IsLegHead head bytes.now) }
 {
-    if !all_carried(bytes) {
+    if !middle_is_carried(bytes) {
         return None;
     }
     if !departure_is_valid(bytes) {
@@ -88,7 +89,7 @@ fn head_in(bytes: &[u8; 200], latest: &mut Latest) -> Option<LegHead>
     }
     let name = latest.name_in(bytes)?;
     let dates = latest.dates_in(bytes)?;
-    let serial = digits_of(&bytes[194..200])?;
+    let serial = latest.serial_in(bytes)?;
     Some(LegHead {
         name,
         first: dates.first,

@@ -31,6 +31,7 @@ macro_rules! field {
 mod blocks;
 mod bytes;
 mod carrier;
+mod clock_digits;
 mod columns;
 mod device;
 mod end_code;

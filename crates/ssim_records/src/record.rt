@@ -54,6 +54,38 @@ fn put_other(bytes: &[u8; 200], into: &mut Option<Record>) -> Result<bool, usize
     Ok(true)
 }
 
+// Puts a flight leg into a place. Where there is one already, it is overwritten, which copies its columns once.
+fn put_leg(bytes: &[u8; 200], latest: &mut Latest, into: &mut Option<Record>) -> Result<(), usize>
+    requires { columns 1 1 bytes.now ≡ 51 ∷ [] }
+    ensures ok { OnOk result (HasSpelt into.new bytes.now) }
+    ensures err { IfErr result (λ column. (number : ℕ) → fault_of number bytes.now ≡ Some (RecordFault.BadColumn number column)) }
+{
+    let head = read_leg_head(bytes, latest)?;
+    match into {
+        Some(Record::Leg(leg)) => leg.put(bytes, &head),
+        _ => *into = Some(Record::Leg(leg_with(bytes, &head))),
+    }
+    Ok(())
+}
+
+// Puts segment data into a place. Where there are some already, they are overwritten.
+fn put_segment(
+    bytes: &[u8; 200],
+    latest: &mut Latest,
+    into: &mut Option<Record>,
+) -> Result<(), usize>
+    requires { columns 1 1 bytes.now ≡ 52 ∷ [] }
+    ensures ok { OnOk result (HasSpelt into.new bytes.now) }
+    ensures err { IfErr result (λ column. (number : ℕ) → fault_of number bytes.now ≡ Some (RecordFault.BadColumn number column)) }
+{
+    let head = read_segment_head(bytes, latest)?;
+    match into {
+        Some(Record::Segment(segment)) => segment.put(bytes, &head),
+        _ => *into = Some(Record::Segment(segment_with(bytes, &head))),
+    }
+    Ok(())
+}
+
 // Puts the record of its type into a place, or returns the first column of the first invalid field. Says whether there is
 // such a type.
 fn put_record(
@@ -66,14 +98,8 @@ fn put_record(
     ensures err { IfErr result (λ column. (number : ℕ) → fault_of number bytes.now ≡ Some (RecordFault.BadColumn number column)) }
 {
     match kind_of(bytes) {
-        b'3' => {
-            let head = read_leg_head(bytes, latest)?;
-            *into = Some(Record::Leg(leg_with(bytes, &head)));
-        }
-        b'4' => {
-            let head = read_segment_head(bytes, latest)?;
-            *into = Some(Record::Segment(segment_with(bytes, &head)));
-        }
+        b'3' => put_leg(bytes, latest, into)?,
+        b'4' => put_segment(bytes, latest, into)?,
         _ => return put_other(bytes, into),
     }
     Ok(true)

@@ -1,6 +1,6 @@
 //! Short texts that are compared as numbers, in place of a walk over slices.
 
-ghost use Rattle.std.specs.Prelude.{◌≡◌, ◌↔◌, ◌++◌, ◌∷◌, [], IsTrue, length};
+ghost use Rattle.std.specs.Prelude.{◌≡◌, ◌≤◌, ◌↔◌, ◌++◌, ◌∷◌, [], IsTrue, length};
 ghost use Rattle.std.specs.Str.{bytes_eq};
 
 use crate::field::four;
@@ -44,4 +44,21 @@ pub fn are_same_seven(text: [u8; 7], other: [u8; 7]) -> bool
     ensures { result ≡ bytes_eq text other }
 {
     are_same(&with_zero(text), &with_zero(other))
+}
+
+/// Whether two texts of one length are the same: eight bytes at a time, and the last eight at the end.
+pub fn are_same_texts(text: &[u8], other: &[u8]) -> bool
+    requires some { 8 ≤ length text.now }
+    requires same_length { length other.now ≡ length text.now }
+    ensures { result ≡ bytes_eq text.now other.now }
+{
+    let last = text.len() - 8;
+    let mut place = 0;
+    while place < last {
+        if !are_same(&text[place..place + 8], &eight(&other[place..place + 8])) {
+            return false;
+        }
+        place += 8;
+    }
+    are_same(&text[last..last + 8], &eight(&other[last..last + 8]))
 }

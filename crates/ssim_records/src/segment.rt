@@ -143,6 +143,19 @@ impl SegmentRecord {
         self.serial = 0;
     }
 
+    /// The segment becomes the one that a record spells, as `segment_with` gives it.
+    pub(crate) fn put(&mut self, bytes: &[u8; 200], head: &SegmentHead)
+        requires kind { columns 1 1 bytes.now ≡ 52 ∷ [] }
+        requires head { IsSegmentHead head.now bytes.now }
+        ensures { SpellsSegment self.new bytes.now }
+    {
+        self.name = head.name;
+        self.service = carried_at(bytes, 14);
+        self.tail.put(bytes);
+        self.overflow = carried_at(bytes, 28);
+        self.serial = head.serial;
+    }
+
     /// Whether two segments are the same.
     pub(crate) fn same(&self, other: &SegmentRecord) -> bool
         ensures { IsTrue result ↔ (self.now ≡ other.now) }

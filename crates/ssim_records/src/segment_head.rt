@@ -6,10 +6,9 @@ ghost use Rattle.ssim_records.specs.Segment.{segment_table};
 ghost use Rattle.ssim_records.specs.Heads.{IsSegmentHead};
 
 use crate::columns::digits_at;
-use crate::field::{Field, Kind, all_carried, first_fault};
+use crate::field::{Field, Kind, first_fault, middle_is_carried};
 use crate::latest::Latest;
 use crate::leg_name::{LegName, name_at};
-use crate::number::digits_of;
 
 const TABLE: [Field; 10] = [
     field!(2 2 Suffix),
@@ -54,11 +53,11 @@ fn head_of(bytes: &[u8; 200]) -> SegmentHead
 fn head_in(bytes: &[u8; 200], latest: &mut Latest) -> Option<SegmentHead>
     ensures { IfSome result (λ head. IsSegmentHead head bytes.now) }
 {
-    if !all_carried(bytes) {
+    if !middle_is_carried(bytes) {
         return None;
     }
     let name = latest.name_in(bytes)?;
-    let serial = digits_of(&bytes[194..200])?;
+    let serial = latest.serial_in(bytes)?;
     Some(SegmentHead { name, serial })
 }
 

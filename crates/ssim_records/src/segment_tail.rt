@@ -8,6 +8,7 @@ ghost use Rattle.ssim_records.specs.Segment.{IsTail, tail_of, tail_columns, new_
 use crate::columns::{join, put, put_filled};
 use crate::field::{are_carried, three, two};
 use crate::number::three_digits;
+use crate::same::are_same_texts;
 use ssim_values::Station;
 use std::marker::Model;
 
@@ -106,11 +107,20 @@ impl SegmentTail {
         &self.bytes
     }
 
+    /// The tail in a record, over the one before.
+    pub(crate) fn put(&mut self, bytes: &[u8; 200])
+        requires { EachStands bytes.now segment_table }
+        ensures value { tail_of bytes.now ≡ self.new }
+        ensures is_tail { IsTail self.new }
+    {
+        join(&mut self.bytes, &[&bytes[14..27], &bytes[28..194]]);
+    }
+
     /// Whether the two are equal.
     pub fn same(&self, other: &SegmentTail) -> bool
         ensures { result ≡ bytes_eq self.now other.now }
     {
-        self.bytes.as_slice() == other.bytes.as_slice()
+        are_same_texts(&self.bytes, &other.bytes)
     }
 
     /// Columns 15 to 27, carried.

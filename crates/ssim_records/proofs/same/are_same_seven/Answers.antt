@@ -1,14 +1,9 @@
 -- Texts are the same where they are with a zero behind them.
-use Rattle.std.proofs.Common.{◌≡◌, [], ◌∷◌, ◌++◌, IsTrue, Bool, true, false, refl, sym, ap, ◌∙◌}
+use Rattle.std.proofs.Common.{[], ◌∷◌, ◌++◌, sym, ap, ◌∙◌}
 use Rattle.std.proofs.lemmas.List.{append_cancel_right}
 use Rattle.std.proofs.lemmas.Slice.Eq.{bytes_eq-Decides}
+use Rattle.ssim_records.proofs.Eights.{one_test}
 use Rattle.ssim_records.proofs.same.are_same_seven.Goals as goal
-
-one_test : (a b : Bool) → (IsTrue a → IsTrue b) → (IsTrue b → IsTrue a) → a ≡ b
-one_test true true p q = refl
-one_test true false p q = sym (p refl)
-one_test false true p q = q refl
-one_test false false p q = refl
 
 pub returns : goal.returns
 returns c =

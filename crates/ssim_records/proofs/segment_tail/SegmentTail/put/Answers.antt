@@ -1,0 +1,9 @@
+-- The carried columns of a record are carried apart from it.
+use Rattle.ssim_records.proofs.Segments.{is_tail}
+use Rattle.ssim_records.proofs.segment_tail.SegmentTail.put.Goals as goal
+
+pub invariant_of-self : goal.invariant_of-self
+invariant_of-self c = rw c.join.ensures (is_tail c.args.bytes.now c.told-bytes c.requires)
+
+pub returns-clause-is_tail : goal.returns-clause-is_tail
+returns-clause-is_tail c = rw c.join.ensures (is_tail c.args.bytes.now c.told-bytes c.requires)
