@@ -239,10 +239,6 @@ same_period p r last first end' days some =
     let masks : record { first = r.first; last = unwrap_or r.last 0; days = p.days } ≡ period_of r = ap (λ (d : List Bool). record { first = r.first; last = unwrap_or r.last 0; days = d }) days in
     firsts ∙ lasts ∙ masks
 
-pub same_leg_value : (l : LegValue) (sequence : ℕ) (columns : List ℕ) (tails : List (List ℕ)) (s : ℕ) (c : List ℕ) (t : List (List ℕ)) → l ≡ record { sequence = s; columns = c; tails = t }
-    → s ≡ sequence → c ≡ columns → t ≡ tails → l ≡ record { sequence = sequence; columns = columns; tails = tails }
-same_leg_value l sequence columns tails s c t made a b d = made ∙ rw (a, b, d) refl
-
 -- ---- records in pieces
 
 -- those between others are closed

@@ -1,5 +1,5 @@
 -- The next line of a desk file, of which 201 bytes were read.
-use Rattle.std.proofs.Common.{◌≡◌, ◌++◌, ◌≤◌, ℕ, List, length, length-take, take, drop, Option, Some, None, IfNone, IfSome, true, false, sym, ap, ◌∙◌, arith}
+use Rattle.std.proofs.Common.{◌≡◌, ◌++◌, ◌≤◌, ℕ, List, length, length-take, take, drop, Option, Some, None, IfNone, IfSome, true, false, sym, ap, arith}
 use Rattle.std.specs.Prelude.{is_some}
 use Rattle.std.proofs.lemmas.List.{take-append-drop}
 use Rattle.ssim_records.specs.declared.record.Record.{Record}

@@ -15,7 +15,6 @@ use crate::base::Base;
 use crate::data_set::DataSet;
 use crate::flight_blocks::FlightBlocks;
 use crate::flight_set::FlightSet;
-use crate::leg::PlacedLeg;
 use crate::leg_group::LegGroup;
 use crate::put::Put;
 use crate::schedule::Schedule;
@@ -211,8 +210,7 @@ impl Building {
         };
         self.open_group(name.flight(), period, name.sequence())?;
         let tails = self.waiting.take(name)?;
-        let placed = PlacedLeg::new(name.sequence(), leg.columns(), tails);
-        self.group.add(placed)
+        self.group.add(leg, tails)
     }
 
     /// Has a group that a leg with this flight, period and leg sequence can join: puts the group into the table if it is another one.

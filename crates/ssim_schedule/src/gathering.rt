@@ -42,6 +42,9 @@ impl Gathering {
     }
 
     /// Accepts one more record, with its number, or refuses it. It may be changed.
+    ///
+    /// This and what it calls for each record are put into the loop that reads the records.
+    #[inline(always)]
     pub(crate) fn take(&mut self, number: u64, one: &mut Record) -> Result<(), BaseFault>
         ensures stood { OnOk result ((earlier : List Record) → IsKept self.old.kept earlier → Stood self.new.kept earlier one.old) }
         ensures keeps { OnOk result (keeps self.new.kept.records ≡ keeps self.old.kept.records) }

@@ -61,6 +61,7 @@ impl Kept {
     }
 
     /// Accepts one more record, with its number, or refuses it. It may be changed.
+    #[inline(always)]
     pub(crate) fn put(&mut self, number: u64, one: &mut Record) -> Result<(), BaseFault>
         ensures stood { OnOk result ((earlier : List Record) → IsKept self.old earlier → Stood self.new earlier one.old) }
         ensures keeps { OnOk result (keeps self.new.records ≡ keeps self.old.records) }
@@ -75,6 +76,7 @@ impl Kept {
     }
 
     // Accepts a record after the carrier, or refuses it. A leg and a segment are closed where they stand, and then copied.
+    #[inline(always)]
     fn put_next(&mut self, number: u64, heading: Heading, one: &mut Record) -> Result<(), BaseFault>
         requires { self.old.place ≡ place.Legs heading }
         ensures stood { OnOk result ((earlier : List Record) → IsKept self.old earlier → Stood self.new earlier one.old) }

@@ -21,6 +21,7 @@ pub(crate) enum KeptRecords {
 
 impl KeptRecords {
     /// One more record. Out of memory is returned also if there are more records than a `usize` counts.
+    #[inline(always)]
     pub(crate) fn push(&mut self, one: &Record) -> Result<(), Memory>
         ensures kept { OnOk result (AddsRecord self.old self.new one.now) }
         ensures keeps { OnOk result (keeps self.new ≡ keeps self.old) }

@@ -12,10 +12,10 @@ use std::marker::Model;
 /// A leg of an itinerary: its leg sequence, its own columns, and its tails, the segment data that begin with it.
 #[derive(Drop)]
 pub struct PlacedLeg {
-    /// 1 to 99.
-    sequence: u8,
     /// Columns 14, 37 to 127 and 129 to 194 of its record.
     columns: LegColumns,
+    /// 1 to 99.
+    sequence: u8,
     /// Columns 15 to 27 and 29 to 194 of each of its segment records, in their order.
     tails: Vec<SegmentTail>,
 }

@@ -5,6 +5,7 @@ ghost use Rattle.ssim_schedule.specs.Group.{no_group};
 ghost use Rattle.ssim_schedule.specs.Put.{IsOrdered, StartsFrom};
 
 use crate::leg::PlacedLeg;
+use ssim_records::{LegRecord, SegmentTail};
 use ssim_values::{Flight, Memory, Period};
 use std::alloc::Global;
 use std::marker::Model;
@@ -89,12 +90,14 @@ impl LegGroup {
         self.heading = Some(Heading { flight, period });
     }
 
-    /// Adds a leg before the others.
-    pub(crate) fn add(&mut self, leg: PlacedLeg) -> Result<(), Memory>
-        requires { StartsFrom leg.sequence self.old.legs }
-        ensures { OnOk result (self.new ≡ record self.old { legs = leg ∷ self.old.legs }) }
+    /// Adds the leg of a record, with these tails, before the others.
+    pub(crate) fn add(&mut self, leg: &LegRecord, tails: Vec<SegmentTail>) -> Result<(), Memory>
+        requires { StartsFrom leg.now.name.sequence self.old.legs }
+        ensures { OnOk result (self.new ≡ record self.old { legs = record { sequence = leg.now.name.sequence; columns = leg.now.columns; tails = tails.items } ∷ self.old.legs }) }
     {
-        self.legs.push(leg)?;
+        // With the room made first, the columns are copied once.
+        self.legs.reserve(1)?;
+        self.legs.push_reserved(PlacedLeg::new(leg.name().sequence(), leg.columns(), tails));
         Ok(())
     }
 

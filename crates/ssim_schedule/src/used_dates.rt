@@ -1,6 +1,6 @@
 //! The dates that the leg records of one flight and leg sequence have.
 
-ghost use Rattle.std.specs.Prelude.{◌≡◌, ℕ, ◌<◌, ◌≤◌, ◌||◌, ◌∷◌, [], false, vec_len, OnOk, IfOk};
+ghost use Rattle.std.specs.Prelude.{◌≡◌, ℕ, ◌<◌, ◌≤◌, ◌||◌, ◌∷◌, [], true, false, vec_len, OnOk, IfOk};
 ghost use Rattle.std.specs.List.{list_any};
 ghost use Rattle.ssim_periods.specs.Calendar.{holds, slot};
 ghost use Rattle.ssim_schedule.specs.Base.{meet};
@@ -14,6 +14,9 @@ use std::alloc::Global;
 /// The most periods that are kept as a list. A flight rarely has as many itinerary variations, and a set of dates takes as much
 /// memory as 380 periods.
 const MOST: usize = 64;
+
+/// The number of periods for which a list first has room. A leg with two itinerary variations mostly has some more.
+const FIRST_ROOM: usize = 8;
 
 /// The dates that leg records have.
 #[derive(Drop)]
@@ -69,11 +72,11 @@ impl UsedDates {
     }
 }
 
-// A list of two periods.
+// A list of two periods, with room for more.
 fn pair(alloc: Global, one: &Period, other: &Period) -> Result<Vec<Period>, Memory>
     ensures { IfOk result (λ both. both.items ≡ one.now ∷ other.now ∷ []) }
 {
-    let mut both = Vec::new(alloc);
+    let mut both = Vec::with_capacity(alloc, FIRST_ROOM)?;
     both.push(*one)?;
     both.push(*other)?;
     Ok(both)
@@ -94,7 +97,21 @@ fn set_of(alloc: Global, periods: &[Period]) -> Result<DaySet, Memory>
 fn any_meets(periods: &[Period], period: &Period) -> bool
     ensures { result ≡ list_any (λ earlier. meet period.now earlier) periods.now }
 {
-    periods.iter().any(|earlier| meets(period, earlier))
+    periods.iter().any(|earlier| meets_by_ends(period, earlier))
+}
+
+// The same as `meets`, for many periods of one leg: most of them lie apart, so their ends are looked at first.
+fn meets_by_ends(one: &Period, other: &Period) -> bool
+    ensures { result ≡ meet one.now other.now }
+{
+    !are_apart(one, other) && meets(one, other)
+}
+
+// Whether one period ends before the other begins.
+fn are_apart(one: &Period, other: &Period) -> bool
+    ensures { result ≡ true → meet one.now other.now ≡ false }
+{
+    other.last().number() < one.first().number() || one.last().number() < other.first().number()
 }
 
 // Whether two periods have a date in common.

@@ -1,5 +1,5 @@
 -- From the last piece to the first: those that are left and the records that are built are all.
-use Rattle.std.proofs.Common.{◌≡◌, List, [], ◌∷◌, ◌++◌, length, sym, ap, subst, ◌∙◌}
+use Rattle.std.proofs.Common.{◌≡◌, List, [], ◌∷◌, ◌++◌, sym, ap, subst, ◌∙◌}
 use Rattle.std.proofs.lemmas.List.{append_assoc, flat_map_more}
 use Rattle.std.specs.List.{All, flat_map}
 use Rattle.ssim_records.specs.declared.record.Record.{Record}

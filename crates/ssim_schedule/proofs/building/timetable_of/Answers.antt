@@ -1,5 +1,5 @@
 -- The last piece is put first, and then the pieces before it.
-use Rattle.std.proofs.Common.{◌≡◌, ◌++◌, List, [], refl, ap, subst, ◌∙◌}
+use Rattle.std.proofs.Common.{◌++◌, List, [], refl, ap, subst, ◌∙◌}
 use Rattle.std.proofs.lemmas.List.{append-nil}
 use Rattle.std.specs.List.{filter, flat_map}
 use Rattle.ssim_records.specs.declared.record.Record.{Record}

@@ -1,6 +1,5 @@
 -- The next 201 bytes are the line of a record, or no line is next.
-use Rattle.std.proofs.Common.{◌≡◌, ◌++◌, ◌<◌, ◌≤◌, ℕ, List, length, Option, Some, None, IfNone, IfSome, true, false, refl, sym, ◌∙◌, arith}
-use Rattle.std.specs.Prelude.{is_some}
+use Rattle.std.proofs.Common.{◌≡◌, ◌<◌, ◌≤◌, ℕ, List, length, true, false, refl, sym, ◌∙◌, arith}
 use Rattle.ssim_records.specs.declared.record.Record.{Record}
 use Rattle.ssim_schedule.specs.SavedBase.{IsLine, IsLineOf}
 use Rattle.ssim_schedule.proofs.NextLines.{line_of, was_not, was_read}

@@ -14,7 +14,7 @@ use Rattle.ssim_schedule.specs.Waiting.{waiting_at}
 use Rattle.ssim_schedule.specs.declared.building.Building.{Building}
 use Rattle.ssim_schedule.specs.declared.leg_group.Heading.{Heading}
 use Rattle.ssim_schedule.specs.declared.waiting.Waiting.{Waiting}
-use Rattle.ssim_schedule.proofs.BuildingLemmas.{joined_cuts, joined_days, same_leg_value, same_period}
+use Rattle.ssim_schedule.proofs.BuildingLemmas.{joined_cuts, joined_days, same_period}
 use Rattle.ssim_schedule.proofs.ChangeLemmas.{on_ok}
 use Rattle.ssim_schedule.proofs.building.Building.put_leg.Goals as goal
 
@@ -33,10 +33,10 @@ returns c =
     let heading : given ≡ record { flight = r.name.flight; period = period_of r } =
     ap (λ (f : FlightNumber). record { flight = f; period = c.in-Ok.period }) flight ∙ ap (λ (p : DayRange). record { flight = r.name.flight; period = p }) period in
     let opens = c.in_ok-open_group.ensures in
-    let l : LegValue = c.new-placed.result in
+    let l : LegValue = record { sequence = r.name.sequence; columns = r.columns; tails = c.in_ok-tails.tails.items } in
     let its : LegValue = record { sequence = r.name.sequence; columns = r.columns; tails = waiting_at old.waiting (name_place r.name) } in
     let leg : l ≡ its =
-    same_leg_value l r.name.sequence r.columns (waiting_at old.waiting (name_place r.name)) _ _ _ c.new-placed.ensures (c.sequence-2.ensures.value ∙ ap (λ (n : Name). n.sequence) name) c.columns.ensures
+    ap (λ ts. record { sequence = r.name.sequence; columns = r.columns; tails = ts })
     (c.in_ok-tails.ensures.tails ∙ ap (λ (w : Waiting). waiting_at w (name_place c.name-name.result)) opens.waiting ∙ ap (λ (n : Name). waiting_at old.waiting (name_place n)) name) in
     on_ok c.add.result (λ added. record {
       named = subst (λ (n : Name). IsPlaced n) name c.in_ok-tails.ensures.named;
