@@ -72,6 +72,8 @@ def flight_records(rng, airline, number, suffix, season, carrier_end):
     first, total = season
     if total > 100 and rng.random() < 0.05:
         return single_dates(rng, flight, first)
+    if rng.random() < 0.03:
+        return many_dates(rng, flight, first)
     found = []
     for sequence in rng.choice([[1], [1], [1, 2], [1, 2, 3], [2, 5], [3, 1], [99, 1, 7]]):
         found += sequence_records(rng, flight, sequence, first, total, carrier_end)
@@ -85,6 +87,19 @@ def single_dates(rng, flight, first):
         day = date(first + datetime.timedelta(days=place))
         columns = leg_columns(rng) + [(40, f"{place // 60:02}{place % 60:02}")]
         found.append(leg(flight, "01", "01", day, day, "1234567", columns))
+    return found
+
+
+def many_dates(rng, flight, first):
+    """A date each, of a few legs in turn: fewer dates than a list of periods may have, or more; rising, falling or in any order."""
+    legs = [leg_columns(rng) for _ in range(rng.choice([1, 2, 3]))]
+    run = rng.choice([1, 7, 45])
+    places = list(range(rng.choice([47, 49, 120, 511, 513, 560])))
+    rng.choice([lambda: None, places.reverse, lambda: rng.shuffle(places)])()
+    found = []
+    for place in places:
+        day = date(first + datetime.timedelta(days=place))
+        found.append(leg(flight, "01", "01", day, day, "1234567", legs[place // run % len(legs)]))
     return found
 
 
