@@ -4,8 +4,9 @@
 A data set of 900,000 records (or RECORDS) is made in FOLDER where it is not there yet, and 1,000 texts (or TEXTS), each of
 which changes the equipment of a flight in one week. Each command runs five times with each program, in turn; the best time
 and the greatest peak memory of each count. `start` and `take` of both programs write the same files, which is checked. `cp`
-of the desk file stands beside the commands that write it. Opening a desk file alone is a `take` that is refused at its text.
-GNU time (`/usr/bin/time`) reads the memory.
+of the desk file stands beside the commands that write it. Opening a desk file alone is a `take` that is refused at its text. Opening
+and saving run 25 times in turn, and the mean of the five best times counts, since saving is the difference of the two. GNU time
+(`/usr/bin/time`) reads the memory.
 """
 import filecmp
 import os
@@ -14,6 +15,9 @@ import sys
 import tempfile
 
 from measure import HERE, RUNS, best, once
+
+# Runs of opening and saving: the difference of two times wants more of them.
+MANY = 25
 
 
 def write_texts(folder, dataset, count):
@@ -33,18 +37,31 @@ def write_texts(folder, dataset, count):
     return names, designator
 
 
-def compare(title, lines, folder, status=0):
-    """The best of each command line, run in turn; they end with this status."""
-    runs = [[] for _ in lines]
-    for _ in range(RUNS):
-        for line, found in zip(lines, runs):
-            found.append(once(line[0], line[1:], folder, status))
-    found = [best(found) for found in runs]
-    (seconds, peak), (other_seconds, other_peak) = found[:2]
-    more = "".join(f"  cp {copied:.3f} s" for copied, _ in found[2:])
+def in_turn(lines, folder, runs):
+    """The seconds and peak bytes of each command line, run in turn. A line is the status that it ends with, and its words."""
+    found = [[] for _ in lines]
+    for _ in range(runs):
+        for (status, (program, *words)), one in zip(lines, found):
+            one.append(once(program, words, folder, status))
+    return found
+
+
+def mean_of_best(runs):
+    """The mean of the five best times, and the greatest peak."""
+    return sum(sorted(seconds for seconds, _ in runs)[:5]) / 5, max(peak for _, peak in runs)
+
+
+def report(title, ours, other, more=()):
+    (seconds, peak), (other_seconds, other_peak) = ours, other
+    copies = "".join(f"  cp {copied:.3f} s" for copied, _ in more)
     print(f"{title:14} {seconds:8.3f} {other_seconds:8.3f} {seconds / other_seconds:6.2f} "
-          f"{peak / 2**20:10.1f} {other_peak / 2**20:10.1f} {peak / other_peak:6.2f}{more}", flush=True)
-    return seconds, other_seconds
+          f"{peak / 2**20:10.1f} {other_peak / 2**20:10.1f} {peak / other_peak:6.2f}{copies}", flush=True)
+
+
+def compare(title, lines, folder):
+    """The best of each command line."""
+    found = [best(runs) for runs in in_turn([(0, line) for line in lines], folder, RUNS)]
+    report(title, *found[:2], found[2:])
 
 
 def compare_file(both, folder):
@@ -52,9 +69,13 @@ def compare_file(both, folder):
     text that is held. The time of saving is their difference."""
     with open(os.path.join(folder, "no-message"), "w") as text:
         text.write("no message\n")
-    opened = compare("open", both(["take", "desk.@", "again.@", "no-message"]), folder, status=1)
-    kept = compare("open and save", [*both(["take", "desk.@", "again.@", "text0000"]), ["/bin/cp", "desk.a", "copy"]], folder)
-    saved, other_saved = kept[0] - opened[0], kept[1] - opened[1]
+    lines = [(1, line) for line in both(["take", "desk.@", "again.@", "no-message"])]
+    lines += [(0, line) for line in both(["take", "desk.@", "again.@", "text0000"])]
+    lines.append((0, ["/bin/cp", "desk.a", "copy"]))
+    opened, other_opened, kept, other_kept, copied = [mean_of_best(runs) for runs in in_turn(lines, folder, MANY)]
+    report("open", opened, other_opened)
+    report("open and save", kept, other_kept, [copied])
+    saved, other_saved = kept[0] - opened[0], other_kept[0] - other_opened[0]
     print(f"{'save':14} {saved:8.3f} {other_saved:8.3f} {saved / other_saved:6.2f}", flush=True)
 
 
