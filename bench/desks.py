@@ -52,6 +52,7 @@ def mean_of_best(runs):
 
 
 def report(title, ours, other, more=()):
+    """Prints the seconds and the peaks of the two programs, and the seconds of `cp` if it ran."""
     (seconds, peak), (other_seconds, other_peak) = ours, other
     copies = "".join(f"  cp {copied:.3f} s" for copied, _ in more)
     print(f"{title:14} {seconds:8.3f} {other_seconds:8.3f} {seconds / other_seconds:6.2f} "
