@@ -3,8 +3,8 @@ use Rattle.std.proofs.Common.{◌≡◌, ℕ, ◌+◌, ◌-◌, ◌≤◌, Bool,
 use Rattle.std.specs.Prelude.{slice_range, nat_le}
 use Rattle.std.specs.List.{concat}
 use Rattle.std.proofs.lemmas.Bool.Decides.{nat_tests}
-use Rattle.std.proofs.Math.Seq.{take-add}
-use Rattle.std.proofs.lemmas.List.{drop_all, drop_at, drop-drop, length-append, length-drop, length-take-le, take-append-drop, take_at}
+use Rattle.std.proofs.Math.Seq.{take-add, take-length}
+use Rattle.std.proofs.lemmas.List.{drop_all, drop_at, drop-drop, length-append, length-drop, length-take-le, take-append-drop, take_at, append-nil}
 use Rattle.ssim_records.specs.Columns.{over}
 use Rattle.ssim_records.proofs.LineEnds.{pick}
 use Rattle.ssim_records.proofs.Places.{Placed, part_at, sum_of}
@@ -20,6 +20,19 @@ over_same at w text d len le = part_at (take at d) text (drop (at + length text)
 
 take_over : (at : ℕ) (text d : List ℕ) → at ≤ length d → take at (over at text d) ≡ take at d
 take_over at text d le = take_at (take at d) (text ++ drop (at + length text) d) at (length-take-le at d le)
+
+-- the text ends the part up to its end
+pub text_added : (at : ℕ) (text d rest : List ℕ) → at + length text ≤ length d → take (at + length text) (over at text d) ++ rest ≡ take at d ++ (text ++ rest)
+text_added at text d rest le =
+    let front : length (take at d ++ text) ≡ at + length text = omega (arith, length-append (take at d) text, length-take-le at d (omega (arith, le))) in
+    let behind = drop (at + length text) d in
+    ap (λ (t : List ℕ). take (at + length text) t ++ rest) (sym (append_assoc (take at d) text behind))
+    ∙ ap (λ (t : List ℕ). t ++ rest) (take_at (take at d ++ text) behind (at + length text) front)
+    ∙ append_assoc (take at d) text rest
+
+-- the parts up to the end of a list are the list
+pub all_added : (at : ℕ) (d : List ℕ) → at ≡ length d → d ≡ take at d ++ []
+all_added at d is = sym (append-nil (take at d) ∙ ap (λ n. take n d) is ∙ take-length d)
 
 drop_over : (at w : ℕ) (text d : List ℕ) → length text ≡ w → at + w ≤ length d → drop (at + w) (over at text d) ≡ drop (at + w) d
 drop_over at w text d len le =

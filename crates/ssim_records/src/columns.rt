@@ -1,6 +1,6 @@
 //! The value in valid columns of a record, and the columns of a record that is written.
 
-ghost use Rattle.std.specs.Prelude.{◌≡◌, ◌≤◌, ◌<◌, ◌+◌, ◌-◌, ◌^◌, ◌∷◌, [], length, Some, None, IsTrue, IfSome};
+ghost use Rattle.std.specs.Prelude.{◌≡◌, ◌≤◌, ◌<◌, ◌+◌, ◌-◌, ◌^◌, ◌∷◌, ◌++◌, ℕ, List, [], length, take, Some, None, IsTrue, IfSome};
 ghost use Rattle.std.specs.List.{flat_map, list_all};
 ghost use Rattle.ssim_values.specs.Calendar.{day_limit};
 ghost use Rattle.ssim_values.specs.Day.{day_of};
@@ -26,6 +26,18 @@ pub fn join(out: &mut [u8], parts: &[&[u8]])
         out[at..at + part.len()].copy_from_slice(part);
         at += part.len();
     }
+}
+
+/// Writes a part from a place on, and returns the place after it. A record of parts whose lengths are known is written so in less time
+/// than by `join`.
+pub fn append(out: &mut [u8], at: usize, part: &[u8]) -> usize
+    requires { at + length part.now ≤ length out.old }
+    ensures place { result ≡ at + length part.now }
+    ensures room { length out.new ≡ length out.old }
+    ensures value { (rest : List ℕ) → take result out.new ++ rest ≡ take at out.old ++ (part.now ++ rest) }
+{
+    put(out, at, part);
+    at + part.len()
 }
 
 /// Writes the text over the bytes from a place on.

@@ -5,7 +5,7 @@ ghost use Rattle.ssim_records.specs.Columns.{columns};
 ghost use Rattle.ssim_records.specs.Leg.{IsLeg, IsEnd, SpellsLeg, leg_columns, written_leg};
 ghost use Rattle.ssim_records.specs.Heads.{IsLegHead};
 
-use crate::columns::{carried_at, end_text, join};
+use crate::columns::{append, carried_at, end_text};
 use crate::field::seven;
 use crate::leg_columns::{LegColumns, own_columns_at};
 use crate::leg_head::LegHead;
@@ -279,22 +279,17 @@ impl LegRecord {
         ensures is_leg { IsLeg self.now }
     {
         let columns = self.columns.bytes_held();
-        join(
-            out,
-            &[
-                b"3",
-                &name_text(self.name),
-                &columns[0..1],
-                &self.first.write(),
-                &end_text(self.last),
-                &self.days.write(),
-                &[self.rate],
-                &columns[1..92],
-                &[self.overflow],
-                &columns[92..158],
-                &six_digits(self.serial),
-            ],
-        );
+        let at = append(out, 0, b"3");
+        let at = append(out, at, &name_text(self.name));
+        let at = append(out, at, &columns[0..1]);
+        let at = append(out, at, &self.first.write());
+        let at = append(out, at, &end_text(self.last));
+        let at = append(out, at, &self.days.write());
+        let at = append(out, at, &[self.rate]);
+        let at = append(out, at, &columns[1..92]);
+        let at = append(out, at, &[self.overflow]);
+        let at = append(out, at, &columns[92..158]);
+        append(out, at, &six_digits(self.serial));
     }
 
     /// The one written spelling.

@@ -124,6 +124,10 @@ pub fn four_digits(number: u32) -> [u8; 4]
 pub fn six_digits(number: u32) -> [u8; 6]
     ensures { result ≡ digits 6 number }
 {
+    // A desk keeps its records with the serial zero.
+    if number == 0 {
+        return *b"000000";
+    }
     let hundreds = number / 10 / 10;
     let [d1, d2] = two_digits(hundreds / 10 / 10);
     let [d3, d4] = two_digits(hundreds);

@@ -5,7 +5,7 @@ ghost use Rattle.ssim_records.specs.Columns.{columns, is_carried};
 ghost use Rattle.ssim_records.specs.Segment.{IsSegment, SpellsSegment, written_segment};
 ghost use Rattle.ssim_records.specs.Heads.{IsSegmentHead};
 
-use crate::columns::{carried_at, join};
+use crate::columns::{append, carried_at};
 use crate::leg_name::LegName;
 use crate::name_text::{has_digits, name_text};
 use crate::number::six_digits;
@@ -170,18 +170,13 @@ impl SegmentRecord {
         ensures is_segment { IsSegment self.now }
     {
         let tail = self.tail.bytes_held();
-        join(
-            out,
-            &[
-                b"4",
-                &name_text(self.name),
-                &[self.service],
-                &tail[0..13],
-                &[self.overflow],
-                &tail[13..179],
-                &six_digits(self.serial),
-            ],
-        );
+        let at = append(out, 0, b"4");
+        let at = append(out, at, &name_text(self.name));
+        let at = append(out, at, &[self.service]);
+        let at = append(out, at, &tail[0..13]);
+        let at = append(out, at, &[self.overflow]);
+        let at = append(out, at, &tail[13..179]);
+        append(out, at, &six_digits(self.serial));
     }
 
     /// The one written spelling.
