@@ -13,12 +13,22 @@ use std::alloc::Global;
 /// The number of days from 1 January 2000 to 31 December 2099.
 pub(crate) const DAYS: u32 = 36_525;
 
-// The number of cuts that are not after the day: the place of its row.
+// The number of cuts that are not after the day: the place of its row. Periods mostly come from the last to the first, so the first cuts
+// are looked at before the others.
 pub(crate) fn place_of(cuts: &[u32], day: u32) -> usize
     requires { IsStrictlyIncreasing cuts.now }
     ensures place { result ≡ place cuts.now day }
     ensures within { result ≤ length cuts.now }
 {
+    if cuts.is_empty() || day < cuts[0] {
+        return 0;
+    }
+    if cuts.len() == 1 || day < cuts[1] {
+        return 1;
+    }
+    if cuts.len() == 2 || day < cuts[2] {
+        return 2;
+    }
     cuts.partition_point(|cut| *cut <= day)
 }
 
