@@ -16,18 +16,17 @@ use crate::data_set::DataSet;
 use crate::flight_blocks::FlightBlocks;
 use crate::flight_set::FlightSet;
 use crate::leg_group::LegGroup;
-use crate::put::Put;
 use crate::schedule::Schedule;
 use crate::waiting::Waiting;
 use ssim_records::{LegRecord, Record, SegmentRecord};
 use ssim_values::{Flight, Memory, Period};
 use std::alloc::Global;
 
-// A flight with fewer cuts is not searched for equal itineraries: the search would take more time than the memory is worth. The dates of
-// one group of legs share their itinerary anyway.
+// A flight for which fewer itineraries were made is not searched for equal ones: the search would take more time than the memory is
+// worth. The dates of one group of legs share their itinerary anyway, and so do groups in turn with equal legs.
 const LEAST: usize = 32;
 
-// A flight with at least `LEAST` and fewer than so many cuts has its itineraries shared each time that the records go on to another flight.
+// A flight with fewer cuts has its itineraries shared each time that the records go on to another flight, if `LEAST` or more were made.
 const FEW: usize = 256;
 
 /// The timetable of some records at the end of a base, and the tails whose leg record is not among them.
@@ -230,17 +229,16 @@ impl Building {
         ensures { OnOk result (PutsGroup self.old self.new) }
     {
         let heading = self.group.heading();
-        let legs = self.group.take()?;
+        let put = self.group.take()?;
         let Some(heading) = heading else {
             return Ok(());
         };
-        let put = Put::new(self.alloc, legs)?;
         self.table.change(heading.flight, &heading.period, &put)?;
         self.leave(heading.flight, next)
     }
 
-    /// If the next flight is another one, shares the itineraries of this flight unless it has very few cuts, or many. Files go from flight
-    /// to flight, so a flight is mostly shared once, and one that comes many times costs only its cuts each time.
+    /// If the next flight is another one, shares the itineraries of this flight unless very few were made, or it has many cuts. Files go
+    /// from flight to flight, so a flight is mostly shared once, and one that comes many times costs only its cuts each time.
     fn leave(&mut self, flight: Flight, next: Option<Flight>) -> Result<(), Memory>
         ensures table { self.new.table ≡ self.old.table }
         ensures group { self.new.group ≡ self.old.group }
@@ -249,8 +247,8 @@ impl Building {
         if next == Some(flight) {
             return Ok(());
         }
-        let cuts = self.table.cuts(&flight).len();
-        if LEAST <= cuts && cuts < FEW {
+        let made = self.group.take_made();
+        if LEAST <= made && self.table.cuts(&flight).len() < FEW {
             self.table.share(flight)?;
         }
         Ok(())

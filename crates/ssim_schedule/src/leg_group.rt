@@ -1,10 +1,12 @@
 //! Legs of one flight and one period, which are put into the timetable together.
 
-ghost use Rattle.std.specs.Prelude.{◌≡◌, ◌∷◌, [], true, IfOk, OnOk, Some, reverse};
+ghost use Rattle.std.specs.Prelude.{◌≡◌, ◌∷◌, [], true, IfOk, IfSome, OnOk, Some, reverse};
+ghost use Rattle.ssim_schedule.specs.Export.{same_itinerary};
 ghost use Rattle.ssim_schedule.specs.Group.{no_group};
 ghost use Rattle.ssim_schedule.specs.Put.{IsOrdered, StartsFrom};
 
 use crate::leg::PlacedLeg;
+use crate::put::Put;
 use ssim_records::{LegRecord, SegmentTail};
 use ssim_values::{Flight, Memory, Period};
 use std::alloc::Global;
@@ -34,6 +36,10 @@ pub(crate) struct LegGroup {
     heading: Option<Heading>,
     /// The last leg first. The room stays when the legs are taken out, for the next group.
     legs: Vec<PlacedLeg>,
+    /// The change of the latest group. Where each record is of one date, the next group mostly has the same legs.
+    latest: Option<Put>,
+    /// How many itineraries were made since they were last counted.
+    made: usize,
     alloc: Global,
 }
 
@@ -57,6 +63,8 @@ impl LegGroup {
         LegGroup {
             heading: None,
             legs: Vec::new(alloc),
+            latest: None,
+            made: 0,
             alloc,
         }
     }
@@ -101,17 +109,63 @@ impl LegGroup {
         Ok(())
     }
 
-    /// Takes the legs out, in the order of their records. No group is left.
-    pub(crate) fn take(&mut self) -> Result<Vec<PlacedLeg>, Memory>
-        ensures legs { IfOk result (λ legs. legs.items ≡ self.old.legs) }
-        ensures ordered { IfOk result (λ legs. IsOrdered legs.items) }
+    /// Takes the legs out, as the change that puts them, in the order of their records. No group is left.
+    pub(crate) fn take(&mut self) -> Result<Put, Memory>
+        ensures put { IfOk result (λ put. put ≡ self.old.legs) }
         ensures rest { OnOk result (self.new ≡ no_group) }
     {
         self.heading = None;
+        match self.repeated()? {
+            Some(put) => {
+                self.legs.clear();
+                Ok(put)
+            }
+            None => self.take_new(),
+        }
+    }
+
+    /// The latest change, with its legs shared, if it puts these legs.
+    fn repeated(&self) -> Result<Option<Put>, Memory>
+        ensures { IfOk result (λ repeated. IfSome repeated (λ put. put ≡ self.now.legs)) }
+    {
+        match &self.latest {
+            Some(put) if are_reversed(&self.legs, put.legs()) => Ok(Some(put.copy(self.alloc)?)),
+            _ => Ok(None),
+        }
+    }
+
+    /// Takes the legs out, as a change with an itinerary of its own, which is the latest then.
+    fn take_new(&mut self) -> Result<Put, Memory>
+        ensures put { IfOk result (λ put. put ≡ self.old.legs) }
+        ensures rest { OnOk result (self.new ≡ record self.old { legs = [] }) }
+    {
         let mut room = mem::replace(&mut self.legs, Vec::new(self.alloc));
         let legs = taken_from(self.alloc, &mut room)?;
         self.legs = room;
-        Ok(legs)
+        let put = Put::new(self.alloc, legs)?;
+        self.latest = Some(put.copy(self.alloc)?);
+        self.made = self.made.saturating_add(1);
+        Ok(put)
+    }
+
+    /// How many itineraries were made since the last call.
+    pub(crate) fn take_made(&mut self) -> usize
+        ensures { self.new ≡ self.old }
+    {
+        mem::replace(&mut self.made, 0)
+    }
+}
+
+/// Whether the legs in the room, from the last to the first, are these.
+fn are_reversed(room: &[PlacedLeg], legs: &[PlacedLeg]) -> bool
+    ensures { result ≡ same_itinerary (reverse room.now) legs.now }
+{
+    match room.split_last() {
+        None => legs.is_empty(),
+        Some((leg, rest)) => match legs.split_first() {
+            None => false,
+            Some((other, others)) => leg.same(other) && are_reversed(rest, others),
+        },
     }
 }
 

@@ -38,6 +38,22 @@ impl Put {
             group: Itinerary::of(alloc, legs)?,
         })
     }
+
+    /// The legs that it puts.
+    pub(crate) fn legs(&self) -> &[PlacedLeg]
+        ensures { result.now ≡ self.now }
+    {
+        self.group.legs()
+    }
+
+    /// The change that puts the same legs, which the two share.
+    pub(crate) fn copy(&self, alloc: Global) -> Result<Put, Memory>
+        ensures { IfOk result (λ copy. copy ≡ self.now) }
+    {
+        Ok(Put {
+            group: self.group.copy(alloc)?,
+        })
+    }
 }
 
 impl Change<Itinerary> for Put {

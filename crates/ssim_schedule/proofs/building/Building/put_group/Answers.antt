@@ -15,7 +15,7 @@ returns c =
     let old = c.args.self.now in
     let h : Heading = c.in-Some.heading in
     let heading : old.group.heading ≡ Some h = sym c.heading-heading.ensures ∙ c.in-Some.is in
-    let legs : c.in_ok-put.put ≡ old.group.legs = c.in_ok-put.ensures ∙ c.in_ok-legs.ensures.legs in
+    let legs : c.in_ok-put.put ≡ old.group.legs = c.in_ok-put.ensures.put in
     always c.leave.result (record {
       days = λ g.
           ap (λ (t : Table). days_in t g) c.leave.ensures.table
@@ -25,6 +25,6 @@ returns c =
       cuts = λ g cut has.
           subst (λ (o : Option Heading). Contains (cuts_in old.table g) cut ⊎ IsBound o g cut) (sym heading)
           (c.in_ok-change.ensures.cuts g cut (subst (λ (t : Table). Contains (cuts_in t g) cut) c.leave.ensures.table has));
-      group = c.leave.ensures.group ∙ c.in_ok-legs.ensures.rest;
+      group = c.leave.ensures.group ∙ c.in_ok-put.ensures.rest;
       waiting = c.leave.ensures.waiting;
     })
