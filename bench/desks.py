@@ -14,7 +14,7 @@ import subprocess
 import sys
 import tempfile
 
-from measure import HERE, RUNS, best, once
+from measure import HERE, RUNS, best, in_turn, once
 
 # Runs of opening and saving: the difference of two times wants more of them.
 MANY = 25
@@ -35,15 +35,6 @@ def write_texts(folder, dataset, count):
         with open(os.path.join(folder, names[-1]), "w") as text:
             text.write(f"SSM\nUTC\n01JUN{number:05}E001\nEQT\n{designator}\n01JUL25 07JUL25 1234567\nJ 319 CY\n")
     return names, designator
-
-
-def in_turn(lines, folder, runs):
-    """The seconds and peak bytes of each command line, run in turn. A line is the status that it ends with, and its words."""
-    found = [[] for _ in lines]
-    for _ in range(runs):
-        for (status, (program, *words)), one in zip(lines, found):
-            one.append(once(program, words, folder, status))
-    return found
 
 
 def mean_of_best(runs):

@@ -33,13 +33,18 @@ def best(runs):
     return min(seconds for seconds, _ in runs), max(peak for _, peak in runs)
 
 
+def in_turn(lines, folder, runs):
+    """The seconds and peak bytes of each command line, run in turn. A line is the status that it ends with, and its words."""
+    found = [[] for _ in lines]
+    for _ in range(runs):
+        for (status, (program, *words)), one in zip(lines, found):
+            one.append(once(program, words, folder, status))
+    return found
+
+
 def row(command, name, programs, folder):
-    """The best of each program, run in turn."""
-    runs = [[] for _ in programs]
-    for _ in range(RUNS):
-        for program, found in zip(programs, runs):
-            found.append(once(program, [command, name], folder))
-    return [best(found) for found in runs]
+    """The best of each program."""
+    return [best(runs) for runs in in_turn([(0, [program, command, name]) for program in programs], folder, RUNS)]
 
 
 def main():

@@ -74,6 +74,8 @@ def flight_records(rng, airline, number, suffix, season, carrier_end):
         return single_dates(rng, flight, first)
     if rng.random() < 0.03:
         return many_dates(rng, flight, first)
+    if rng.random() < 0.05:
+        return repeated_legs(rng, flight, first)
     found = []
     for sequence in rng.choice([[1], [1], [1, 2], [1, 2, 3], [2, 5], [3, 1], [99, 1, 7]]):
         found += sequence_records(rng, flight, sequence, first, total, carrier_end)
@@ -100,6 +102,23 @@ def many_dates(rng, flight, first):
     for place in places:
         day = date(first + datetime.timedelta(days=place))
         found.append(leg(flight, "01", "01", day, day, "1234567", legs[place // run % len(legs)]))
+    return found
+
+
+def repeated_legs(rng, flight, first):
+    """A date each, of legs that mostly repeat those of the date before: else with a leg fewer, a leg of other columns or another segment."""
+    legs = [(sequence, leg_columns(rng), [segment_columns(rng) for _ in range(rng.choice([0, 1, 2]))]) for sequence in (1, 2, 5)]
+    found = []
+    for place in range(rng.choice([3, 20, 70])):
+        day = date(first + datetime.timedelta(days=place))
+        change, changed = rng.choice(["none"] * 6 + ["fewer", "columns", "segment"]), rng.randrange(3)
+        for index, (sequence, columns, segments) in enumerate(legs):
+            if (change, index) == ("fewer", changed):
+                continue
+            here = leg_columns(rng) if (change, index) == ("columns", changed) else columns
+            found.append(leg(flight, "01", f"{sequence:02}", day, day, "1234567", here))
+            more = [segment_columns(rng)] if (change, index) == ("segment", changed) else []
+            found += [segment(flight, "01", f"{sequence:02}", one) for one in segments + more]
     return found
 
 
