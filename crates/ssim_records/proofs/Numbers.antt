@@ -144,3 +144,6 @@ last_two n =
     let tens : n % 100 / 10 ≡ n / 10 % 10 = omega arith in
     let units : n % 100 % 10 ≡ n % 10 = omega arith in
     rw (tens, units) refl
+
+pub two_alone : (n : ℕ) → n < 100 → two_digits n ≡ digits 2 n
+two_alone n h = let e : n % 100 ≡ n = omega (arith, h) in rw e at (last_two n)

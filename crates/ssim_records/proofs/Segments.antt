@@ -1,5 +1,5 @@
 -- A segment data record: the bytes spell one segment, and what is written spells it.
-use Rattle.std.proofs.Common.{◌≡◌, ℕ, Bool, ◌&&◌, ◌+◌, ◌-◌, ◌≤◌, List, [], ◌∷◌, ◌++◌, length, take, drop, take_all, Some, refl, sym, ap, subst, ◌∙◌, arith, lit≤}
+use Rattle.std.proofs.Common.{◌≡◌, ℕ, Bool, ◌&&◌, ◌+◌, ◌-◌, ◌≤◌, List, [], ◌∷◌, ◌++◌, length, take, drop, take_all, Some, refl, sym, ap, subst, ◌∙◌, append_assoc, arith, lit≤}
 use Rattle.std.specs.Prelude.{slice_range, codes, IsTrue, replicate, ◌==◌}
 use Rattle.std.specs.List.{list_all, AllZip}
 use Rattle.std.proofs.lemmas.List.{take-append-drop, append-nil, length-drop, length-append}
@@ -16,6 +16,7 @@ use Rattle.std.proofs.lemmas.Slice.Eq.{bytes_eq-Decides}
 use Rattle.ssim_records.proofs.Names.{names_decide, names_eq, one_name, NameLies, name_digits, name_lies, spells_name, name_stands, length_airline}
 use Rattle.ssim_records.proofs.Numbers.{digits_of-digits, digits_of-written}
 use Rattle.ssim_records.proofs.OwnColumns.{moved}
+use Rattle.ssim_records.proofs.Overwriting.{slice_cut}
 use Rattle.ssim_records.proofs.Places.{all_placed, length_concat, placed_whole}
 use Rattle.ssim_records.proofs.Rows.{is_true, all_carried, none_other, both_true, stands_as}
 use Rattle.ssim_records.proofs.Slices.{length_slice}
@@ -77,6 +78,16 @@ is_tail b len h =
     let back = all_carried 0 (columns 29 194 b) h.1.1.1.1.1.1.1.1.0 in
     let all : length (tail_of b) ≡ 179 = simp (length-append, one, two) in
     record { len = all; carried = join_carried (columns 15 27 b) (columns 29 194 b ++ []) front (join_carried (columns 29 194 b) [] back refl) }
+
+-- a tail in parts
+pub tail_cut : (b : List ℕ) → columns 15 27 b ++ (slice_range b 28 111 ++ (slice_range b 111 194 ++ [])) ≡ tail_of b
+tail_cut b =
+    ap (λ (t : List ℕ). columns 15 27 b ++ t)
+    (sym (append_assoc (slice_range b 28 111) (slice_range b 111 194) []) ∙ ap (λ (t : List ℕ). t ++ []) (sym (slice_cut b 28 111 194 (lit≤ tt) (lit≤ tt))))
+
+pub own_cut : (d more : List ℕ) → slice_range d 13 96 ++ (slice_range d 96 179 ++ more) ≡ slice_range d 13 179 ++ more
+own_cut d more =
+    sym (append_assoc (slice_range d 13 96) (slice_range d 96 179) more) ∙ ap (λ (t : List ℕ). t ++ more) (sym (slice_cut d 13 96 179 (lit≤ tt) (lit≤ tt)))
 
 -- columns of a tail, in its bytes
 spread_parts : (d : List ℕ) → length d ≡ 179 → (slice_range d 0 13 ≡ slice_range (spread_tail d) 14 27) × (slice_range d 13 179 ≡ slice_range (spread_tail d) 28 194)

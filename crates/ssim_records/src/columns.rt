@@ -16,6 +16,16 @@ use crate::field::{day_of, days_of, end_from, three};
 use crate::number::{digits_of, number_of, sequence_of};
 use ssim_values::{Airline, Day, DayMask};
 
+/// The bytes of a text by value. They overlap nothing, so a part that is written from them is copied in whole words.
+pub fn bytes_of<const N: usize>(text: &[u8]) -> [u8; N]
+    requires { length text.now ≡ N }
+    ensures { result ≡ text.now }
+{
+    let mut bytes = [0; N];
+    bytes.copy_from_slice(text);
+    bytes
+}
+
 /// Writes the parts one after another.
 pub fn join(out: &mut [u8], parts: &[&[u8]])
     requires { length (flat_map (λ part. part.now) parts.now) ≡ length out.old }

@@ -5,7 +5,7 @@ ghost use Rattle.ssim_records.specs.Columns.{columns};
 ghost use Rattle.ssim_records.specs.Leg.{IsLeg, IsEnd, SpellsLeg, leg_columns, written_leg};
 ghost use Rattle.ssim_records.specs.Heads.{IsLegHead};
 
-use crate::columns::{append, carried_at, end_text};
+use crate::columns::{append, bytes_of, carried_at, end_text};
 use crate::field::seven;
 use crate::leg_columns::{LegColumns, own_columns_at};
 use crate::leg_head::LegHead;
@@ -286,9 +286,9 @@ impl LegRecord {
         let at = append(out, at, &end_text(self.last));
         let at = append(out, at, &self.days.write());
         let at = append(out, at, &[self.rate]);
-        let at = append(out, at, &columns[1..92]);
+        let at = append(out, at, &bytes_of::<91>(&columns[1..92]));
         let at = append(out, at, &[self.overflow]);
-        let at = append(out, at, &columns[92..158]);
+        let at = append(out, at, &bytes_of::<66>(&columns[92..158]));
         append(out, at, &six_digits(self.serial));
     }
 

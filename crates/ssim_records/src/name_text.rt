@@ -7,7 +7,7 @@ ghost use Rattle.ssim_records.specs.Leg.{name_texts};
 
 use crate::columns::join;
 use crate::leg_name::LegName;
-use crate::number::{are_digits, four_digits, two_digits};
+use crate::number::{are_digits, both_digits, four_digits};
 
 /// Columns 2 to 13 as they are written.
 pub fn name_text(name: LegName) -> [u8; 12]
@@ -20,8 +20,8 @@ pub fn name_text(name: LegName) -> [u8; 12]
             &[name.flight().suffix()],
             &name.airline().write(),
             &four_digits(name.flight().number() as u32),
-            &two_digits(name.variation() as u32),
-            &two_digits(name.sequence() as u32),
+            &both_digits(name.variation()),
+            &both_digits(name.sequence()),
         ],
     );
     text

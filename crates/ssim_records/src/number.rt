@@ -113,10 +113,21 @@ pub fn three_digits(number: u32) -> [u8; 3]
     [digit(number / 10 / 10), digit(number / 10), digit(number)]
 }
 
+/// The two digits of a number that has no more.
+#[tactic(auto, using(crate::proofs::Numbers::two_alone))]
+pub fn both_digits(number: u8) -> [u8; 2]
+    requires { number < 100 }
+    ensures { result ≡ digits 2 number }
+{
+    write_two_digits(number)
+}
+
+/// The four digits of a number that has no more.
 pub fn four_digits(number: u32) -> [u8; 4]
+    requires { number < 10000 }
     ensures { result ≡ digits 4 number }
 {
-    let [d1, d2] = two_digits(number / 10 / 10);
+    let [d1, d2] = both_digits((number / 10 / 10) as u8);
     let [d3, d4] = two_digits(number);
     [d1, d2, d3, d4]
 }

@@ -184,6 +184,16 @@ pub fn write_record(value: &Record) -> [u8; 200]
     }
 }
 
+// `write_over` for the other types. It is not put into its caller, which would fill the room for this spelling for each leg too.
+#[inline(never)]
+fn write_other_over(value: &Record, out: &mut [u8])
+    requires { length out.old ≡ 200 }
+    ensures value { out.new ≡ written value.now }
+    ensures is_record { IsRecord value.now }
+{
+    out.copy_from_slice(&write_record(value))
+}
+
 /// Writes the one written spelling of a record over 200 bytes, as `write_record` gives it.
 pub fn write_over(value: &Record, out: &mut [u8])
     requires { length out.old ≡ 200 }
@@ -193,7 +203,7 @@ pub fn write_over(value: &Record, out: &mut [u8])
     match value {
         Record::Leg(leg) => leg.write_over(out),
         Record::Segment(segment) => segment.write_over(out),
-        _ => out.copy_from_slice(&write_record(value)),
+        _ => write_other_over(value, out),
     }
 }
 

@@ -5,7 +5,7 @@ ghost use Rattle.ssim_records.specs.Columns.{columns, is_carried};
 ghost use Rattle.ssim_records.specs.Segment.{IsSegment, SpellsSegment, written_segment};
 ghost use Rattle.ssim_records.specs.Heads.{IsSegmentHead};
 
-use crate::columns::{append, carried_at};
+use crate::columns::{append, bytes_of, carried_at};
 use crate::leg_name::LegName;
 use crate::name_text::{has_digits, name_text};
 use crate::number::six_digits;
@@ -173,9 +173,10 @@ impl SegmentRecord {
         let at = append(out, 0, b"4");
         let at = append(out, at, &name_text(self.name));
         let at = append(out, at, &[self.service]);
-        let at = append(out, at, &tail[0..13]);
+        let at = append(out, at, &bytes_of::<13>(&tail[0..13]));
         let at = append(out, at, &[self.overflow]);
-        let at = append(out, at, &tail[13..179]);
+        let at = append(out, at, &bytes_of::<83>(&tail[13..96]));
+        let at = append(out, at, &bytes_of::<83>(&tail[96..179]));
         append(out, at, &six_digits(self.serial));
     }
 

@@ -26,7 +26,7 @@ returns-clause-value c =
     ∙ c.append-at-3.ensures.value _
     ∙ c.append-at-2.ensures.value _
     ∙ c.append-at.ensures.value _ in
-    rw (parts, c.name_text.ensures, c.write.ensures.value, c.end_text.ensures, c.write-2.ensures.places, c.bytes_held-columns.ensures.value, c.six_digits.ensures, ← c.self.view_is)
+    rw (parts, c.name_text.ensures, c.write.ensures.value, c.end_text.ensures, c.write-2.ensures.places, c.bytes_of.ensures, c.bytes_of-2.ensures, c.bytes_held-columns.ensures.value, c.six_digits.ensures, ← c.self.view_is)
     (name_joined (codes "3") (name_texts i.name) back)
 
 pub returns-clause-is_leg : goal.returns-clause-is_leg
