@@ -1,12 +1,13 @@
 -- What the latest records had in columns that are parsed, with the bytes of these columns.
-use Rattle.std.specs.Prelude.{ℕ, Bool, ◌≡◌, List, [], ◌∷◌, Some, slice_range}
+use Rattle.std.specs.Prelude.{ℕ, Bool, ◌≡◌, ◌<◌, List, [], ◌∷◌, Some, slice_range}
 use Rattle.ssim_values.specs.Day.{day_of}
 use Rattle.ssim_values.specs.DayMask.{days_of}
 use Rattle.ssim_records.specs.declared.latest.LegDates.{LegDates}
 use Rattle.ssim_records.specs.declared.latest.LegEnds.{LegEnds}
 use Rattle.ssim_records.specs.declared.leg_name.AirlineFlight.{AirlineFlight}
+use Rattle.ssim_records.specs.declared.leg_name.FlightLeg.{FlightLeg}
 use Rattle.ssim_records.specs.Columns.{columns, end_from}
-use Rattle.ssim_records.specs.Numbers.{number_of}
+use Rattle.ssim_records.specs.Numbers.{number_of, sequence_of}
 
 -- columns 15 to 35 say these dates
 pub record SpellsDates (d : LegDates) (bytes : List ℕ) : Type 0 where
@@ -25,9 +26,21 @@ pub record SpellsFlight (f : AirlineFlight) (bytes : List ℕ) : Type 0 where
   pub airline : columns 3 5 bytes ≡ f.airline
   pub number : number_of (columns 6 9 bytes) ≡ Some f.flight.number
 
+-- columns 10 to 13 say this leg of a flight
+pub record SpellsFlightLeg (l : FlightLeg) (bytes : List ℕ) : Type 0 where
+  pub variation : number_of (columns 10 11 bytes) ≡ Some l.variation
+  pub sequence : sequence_of (columns 12 13 bytes) ≡ Some l.sequence
+  pub variation_to : l.variation < 100
+  pub sequence_from : 0 < l.sequence
+  pub sequence_to : l.sequence < 100
+
 pub record FlightRead : Type 0 where
   pub columns : List ℕ
   pub named : AirlineFlight
+
+pub record FlightLegRead : Type 0 where
+  pub columns : List ℕ
+  pub leg : FlightLeg
 
 pub record EndsRead : Type 0 where
   pub first : List ℕ
@@ -37,6 +50,10 @@ pub record EndsRead : Type 0 where
 -- each record with these bytes in columns 2 to 9 has this flight
 abbrev pub IsFlightRead : FlightRead → Type 0
 IsFlightRead r = (bytes : List ℕ) → slice_range bytes 1 9 ≡ r.columns → SpellsFlight r.named bytes
+
+-- each record with these bytes in columns 10 to 13 has this leg of a flight
+abbrev pub IsFlightLegRead : FlightLegRead → Type 0
+IsFlightLegRead r = (bytes : List ℕ) → slice_range bytes 9 13 ≡ r.columns → SpellsFlightLeg r.leg bytes
 
 -- each record with these bytes in columns 15 to 22 and 21 to 28 has these ends
 abbrev pub AreEndsRead : EndsRead → Type 0

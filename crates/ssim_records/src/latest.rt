@@ -4,11 +4,11 @@ ghost use Rattle.std.specs.Prelude.{◌≡◌, ◌<◌, IfSome, Some};
 ghost use Rattle.ssim_values.specs.DayMask.{days_of};
 ghost use Rattle.ssim_records.specs.Columns.{columns};
 ghost use Rattle.ssim_records.specs.Leg.{IsName, SpellsName};
-ghost use Rattle.ssim_records.specs.Latest.{SpellsDates, SpellsEnds, SpellsFlight};
+ghost use Rattle.ssim_records.specs.Latest.{SpellsDates, SpellsEnds, SpellsFlight, SpellsFlightLeg};
 ghost use Rattle.ssim_records.specs.Numbers.{digits_of};
 
 use crate::field::{day_of, days_of, end_from, four};
-use crate::leg_name::{AirlineFlight, LegName, read_flight, read_name};
+use crate::leg_name::{AirlineFlight, FlightLeg, LegName, name_with, read_flight, read_flight_leg};
 use crate::number::digits_of;
 use crate::same::{are_same, are_same_four, eight};
 use ssim_values::{Day, DayMask};
@@ -98,6 +98,23 @@ impl Model for SerialRead {
     ghost invariant = { λ r. IsSerialRead (record { columns = r.columns; number = r.number }) };
 }
 
+/// A leg of a flight, and the bytes of columns 10 to 13 that spell it.
+#[derive(Drop)]
+struct FlightLegRead {
+    columns: [u8; 4],
+    leg: FlightLeg,
+}
+
+impl Model for FlightLegRead {
+    ghost use Rattle.ssim_records.specs.Latest.{IsFlightLegRead};
+
+    ghost Value = { Rattle.ssim_records.specs.Latest.FlightLegRead };
+
+    ghost view = { λ r. record { columns = r.columns; leg = r.leg } };
+
+    ghost invariant = { λ r. IsFlightLegRead (record { columns = r.columns; leg = r.leg }) };
+}
+
 impl FlightRead {
     fn new(bytes: &[u8; 200], named: &AirlineFlight) -> FlightRead
         requires { SpellsFlight named.now bytes.now }
@@ -114,6 +131,28 @@ impl FlightRead {
     {
         if are_same(&bytes[1..9], &self.columns) {
             Some(self.named)
+        } else {
+            None
+        }
+    }
+}
+
+impl FlightLegRead {
+    fn new(bytes: &[u8; 200], leg: FlightLeg) -> FlightLegRead
+        requires { SpellsFlightLeg leg bytes.now }
+    {
+        FlightLegRead {
+            columns: four(&bytes[9..13]),
+            leg,
+        }
+    }
+
+    // The leg, if the record has the same columns.
+    fn leg_in(&self, bytes: &[u8; 200]) -> Option<FlightLeg>
+        ensures { IfSome result (λ leg. SpellsFlightLeg leg bytes.now) }
+    {
+        if are_same_four(&bytes[9..13], &self.columns) {
+            Some(self.leg)
         } else {
             None
         }
@@ -202,11 +241,12 @@ impl SerialRead {
     }
 }
 
-/// The latest flight, the latest ends of a period, the latest days of operation and the first digits of the latest serial of the
-/// records so far.
+/// The latest flight, its latest leg, the latest ends of a period, the latest days of operation and the first digits of the latest
+/// serial of the records so far.
 #[derive(Drop)]
 pub(crate) struct Latest {
     flight: Option<FlightRead>,
+    leg: Option<FlightLegRead>,
     ends: Option<EndsRead>,
     days: Option<DaysRead>,
     serial: SerialRead,
@@ -216,13 +256,25 @@ impl Latest {
     pub(crate) fn new() -> Latest {
         Latest {
             flight: None,
+            leg: None,
             ends: None,
             days: None,
             serial: SerialRead::new(),
         }
     }
 
+    // `flight_in` where the flight is another. It is not put into its caller, which mostly finds the same.
+    #[inline(never)]
+    fn other_flight_in(&mut self, bytes: &[u8; 200]) -> Option<AirlineFlight>
+        ensures { IfSome result (λ named. SpellsFlight named bytes.now) }
+    {
+        let named = read_flight(bytes)?;
+        self.flight = Some(FlightRead::new(bytes, &named));
+        Some(named)
+    }
+
     // The flight in columns 2 to 9, if they spell one.
+    #[inline(always)]
     fn flight_in(&mut self, bytes: &[u8; 200]) -> Option<AirlineFlight>
         ensures { IfSome result (λ named. SpellsFlight named bytes.now) }
     {
@@ -231,18 +283,33 @@ impl Latest {
                 return Some(named);
             }
         }
-        let named = read_flight(bytes)?;
-        self.flight = Some(FlightRead::new(bytes, &named));
-        Some(named)
+        self.other_flight_in(bytes)
+    }
+
+    // The leg of a flight in columns 10 to 13, if they spell one. A segment has that of the record before it.
+    #[inline(always)]
+    fn leg_in(&mut self, bytes: &[u8; 200]) -> Option<FlightLeg>
+        ensures { IfSome result (λ leg. SpellsFlightLeg leg bytes.now) }
+    {
+        if let Some(read) = &self.leg {
+            if let Some(leg) = read.leg_in(bytes) {
+                return Some(leg);
+            }
+        }
+        let leg = read_flight_leg(bytes)?;
+        self.leg = Some(FlightLegRead::new(bytes, leg));
+        Some(leg)
     }
 
     /// The name in columns 2 to 13, if they spell one.
+    #[inline(always)]
     pub(crate) fn name_in(&mut self, bytes: &[u8; 200]) -> Option<LegName>
         ensures spells { IfSome result (λ name. SpellsName name bytes.now) }
         ensures is_name { IfSome result (λ name. IsName name) }
     {
         let named = self.flight_in(bytes)?;
-        read_name(bytes, named)
+        let leg = self.leg_in(bytes)?;
+        Some(name_with(bytes, named, leg))
     }
 
     // The ends of the period in columns 15 to 28, if they spell some.

@@ -2,7 +2,7 @@
 
 ghost use Rattle.std.specs.Prelude.{◌≡◌, ◌<◌, IsSome, IfSome, length};
 ghost use Rattle.ssim_records.specs.Columns.{EachStands};
-ghost use Rattle.ssim_records.specs.Latest.{SpellsFlight};
+ghost use Rattle.ssim_records.specs.Latest.{SpellsFlight, SpellsFlightLeg};
 ghost use Rattle.ssim_records.specs.Leg.{Name, IsName, SpellsName, name_table};
 
 use crate::columns::{airline_at, number_at, sequence_at, suffix_at};
@@ -70,25 +70,43 @@ pub(crate) fn read_flight(bytes: &[u8; 200]) -> Option<AirlineFlight>
     Some(AirlineFlight { airline, flight })
 }
 
-/// The name of a leg of this flight, if columns 10 to 13 spell its itinerary variation and its leg sequence.
-pub(crate) fn read_name(bytes: &[u8; 200], named: AirlineFlight) -> Option<LegName>
-    requires { SpellsFlight named bytes.now }
-    ensures spells { IfSome result (λ name. SpellsName name bytes.now) }
-    ensures is_name { IfSome result (λ name. IsName name) }
+/// A leg of a flight: columns 10 to 13.
+#[derive(Clone, Copy, Debug)]
+pub(crate) struct FlightLeg {
+    pub(crate) variation: u8,
+    pub(crate) sequence: u8,
+}
+
+/// The leg of a flight in columns 10 to 13, if they spell an itinerary variation and a leg sequence.
+pub(crate) fn read_flight_leg(bytes: &[u8; 200]) -> Option<FlightLeg>
+    ensures { IfSome result (λ leg. SpellsFlightLeg leg bytes.now) }
+{
+    let variation = number_of(&bytes[9..11])?;
+    let sequence = sequence_of(&bytes[11..13])?;
+    Some(FlightLeg {
+        variation: variation as u8,
+        sequence: sequence as u8,
+    })
+}
+
+/// The name of a leg of a flight, both of which a record spells.
+pub(crate) fn name_with(bytes: &[u8; 200], named: AirlineFlight, leg: FlightLeg) -> LegName
+    requires flight { SpellsFlight named bytes.now }
+    requires leg { SpellsFlightLeg leg bytes.now }
+    ensures spells { SpellsName result bytes.now }
+    ensures is_name { IsName result }
 {
     let AirlineFlight { airline, flight } = named;
     // No effect at run time. The proof reads from these uses that the parts are valid.
     let _ = airline.write();
     let _ = flight.number();
     let _ = flight.suffix();
-    let variation = number_of(&bytes[9..11])?;
-    let sequence = sequence_of(&bytes[11..13])?;
-    Some(LegName {
+    LegName {
         airline,
         flight,
-        variation: variation as u8,
-        sequence: sequence as u8,
-    })
+        variation: leg.variation,
+        sequence: leg.sequence,
+    }
 }
 
 fn airline_of(text: &[u8]) -> Option<Airline>

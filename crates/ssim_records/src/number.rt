@@ -67,6 +67,17 @@ fn drop_blanks_at_end(text: &[u8]) -> &[u8]
     text
 }
 
+// `number_of` where there are other bytes than digits. It is not put into its caller, which mostly finds digits alone.
+#[inline(never)]
+#[tactic(auto, unfolding(crate::specs::Numbers::number_of))]
+fn number_beside_blanks(text: &[u8]) -> Option<u32>
+    requires { length text.now ≤ 6 }
+    ensures below { IfSome result (λ number. number < 10 ^ length text.now) }
+    ensures value { result ≡ number_of text.now }
+{
+    digits_of(drop_blanks_at_end(drop_blanks(text)))
+}
+
 /// The number that digits spell, with blanks before or after.
 // Mostly there are digits alone.
 #[tactic(auto, unfolding(crate::specs::Numbers::number_of), using(crate::proofs::Numbers::digits_alone))]
@@ -78,7 +89,7 @@ pub fn number_of(text: &[u8]) -> Option<u32>
     if let Some(number) = digits_of(text) {
         return Some(number);
     }
-    digits_of(drop_blanks_at_end(drop_blanks(text)))
+    number_beside_blanks(text)
 }
 
 /// The same from 1.

@@ -1,6 +1,0 @@
-use Rattle.std.proofs.Common.{arith}
-use Rattle.ssim_records.proofs.Numbers.{below_more}
-use Rattle.ssim_records.proofs.number.number_of.Goals as goal
-
-pub returns-clause-below : goal.returns-clause-below
-returns-clause-below c = below_more _ _ _ (omega arith) c.digits_of-2.ensures.below
