@@ -1,5 +1,6 @@
 -- Line ends at the front of bytes, passed over in one go or in two.
-use Rattle.std.proofs.Common.{◌≡◌, ℕ, ◌≤◌, ◌==◌, Bool, true, false, ◌&&◌, List, [], ◌∷◌, ◌++◌, length, refl, sym, ap, ◌∙◌, arith, ◌⊎◌, inl, inr}
+use Rattle.std.proofs.Common.{◌≡◌, ℕ, ◌<◌, ◌≤◌, ◌==◌, Bool, true, false, ◌&&◌, List, [], ◌∷◌, ◌++◌, length, refl, sym, ap, ◌∙◌, arith, ◌⊎◌, inl, inr}
+use Rattle.std.proofs.lemmas.Bool.Decides.{nat_tests}
 use Rattle.std.proofs.lemmas.List.{length-append, append-nil}
 use Rattle.ssim_records.specs.Frames.{drop_line_ends, trim}
 
@@ -43,6 +44,14 @@ drops_less P = let r = is_end P in omega (arith, ap length r.1, length-append r.
 
 pub less_after : (P new : List ℕ) → new ≡ drop_line_ends P → length new ≤ length P
 less_after P new is = rw is (drops_less P)
+
+-- a byte above CR begins no line end
+no_line_end : (b : ℕ) (more : List ℕ) → 13 < b → drop_line_ends (b ∷ more) ≡ b ∷ more
+no_line_end b [] h = let lf : (b == 10) ≡ false = grind (arith, nat_tests) in simp lf
+no_line_end b (c ∷ bs) h = let lf : (b == 10) ≡ false = grind (arith, nat_tests) in let cr : (b == 13) ≡ false = grind (arith, nat_tests) in simp (lf, cr)
+
+pub one_line_end : (b : ℕ) (more : List ℕ) → 13 < b → drop_line_ends (10 ∷ b ∷ more) ≡ b ∷ more
+one_line_end b more h = no_line_end b more h
 
 -- ---- behind a block or not
 

@@ -88,6 +88,7 @@ fn is_fill(block: &[u8; 200]) -> bool
 
 /// The block that stands first in bytes, and how many bytes it takes with the line ends in front of it. There is none if it is cut, is
 /// fill, or ends after the first `most` bytes.
+#[inline(always)]
 pub fn first_block(bytes: &[u8], behind: bool, most: u128) -> Option<(&[u8; 200], usize)>
     ensures { IfSome result (λ found. StandsFirst behind bytes.now found.0.now found.1 × (found.1 ≤ most)) }
 {

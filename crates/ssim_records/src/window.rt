@@ -1,6 +1,6 @@
 //! Bytes that came and are not used yet.
 
-ghost use Rattle.std.specs.Prelude.{◌≡◌, ◌<◌, ◌≤◌, ◌+◌, [], length, take, drop, IfOk, OnErr, Ok};
+ghost use Rattle.std.specs.Prelude.{◌≡◌, ◌<◌, ◌≤◌, ◌+◌, [], length, take, drop, IfOk, IfSome, OnErr, Ok};
 ghost use Rattle.std.specs.Io.KnownBytes.{IsAtEnd};
 ghost use Rattle.ssim_records.specs.Device.{CountsBytes, CountsFailure};
 ghost use Rattle.ssim_records.specs.Frames.{drop_line_ends, trim};
@@ -12,7 +12,8 @@ use std::marker::Model;
 /// How many bytes a window has room for. A fetch asks for this many, but for a rest below a block, if the source has no bytes at hand.
 const ROOM: usize = 16384;
 
-/// The bytes after the line ends at the beginning.
+/// The bytes after the line ends at the beginning. It is not put into its callers, which mostly find one line end.
+#[inline(never)]
 fn after_line_ends(bytes: &[u8]) -> &[u8]
     ensures len { length result.now ≤ length bytes.now }
     ensures value { result.now ≡ drop_line_ends bytes.now }
@@ -27,14 +28,30 @@ fn after_line_ends(bytes: &[u8]) -> &[u8]
     }
 }
 
+// `after_line_ends` where there is one LF and then the type of a record.
+#[tactic(auto, using(crate::proofs::LineEnds::one_line_end))]
+fn after_one_line_end(bytes: &[u8]) -> Option<&[u8]>
+    ensures { IfSome result (λ rest. rest.now ≡ drop_line_ends bytes.now) }
+{
+    match bytes {
+        [b'\n', rest @ ..] => match rest {
+            [byte, ..] if *byte > b'\r' => Some(rest),
+            _ => None,
+        },
+        _ => None,
+    }
+}
+
 /// The bytes after the line ends at the beginning, if these follow a block.
 pub fn trimmed(bytes: &[u8], behind: bool) -> &[u8]
     ensures { result.now ≡ trim behind bytes.now }
 {
-    if behind {
-        after_line_ends(bytes)
-    } else {
-        bytes
+    if !behind {
+        return bytes;
+    }
+    match after_one_line_end(bytes) {
+        Some(rest) => rest,
+        None => after_line_ends(bytes),
     }
 }
 
