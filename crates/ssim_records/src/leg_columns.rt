@@ -8,7 +8,7 @@ ghost use Rattle.ssim_records.specs.Columns.{fault_in, is_carried, passenger_tim
 ghost use Rattle.ssim_records.specs.Leg.{AreLegColumns, leg_columns, leg_table, own_table, own_columns, spread};
 ghost use Rattle.ssim_records.specs.LegParts.{ChangesEquipment, ChangesTimes, equipment_fields, new_leg, with_equipment, with_times};
 
-use crate::columns::join;
+use crate::columns::{append, bytes_of, join};
 use crate::field::{
     Field, Kind, clock_of, first_fault, passenger_time_of, three, twenty, two, utc_variation_of,
 };
@@ -77,6 +77,15 @@ fn own_fault(own: &[u8; 158]) -> Option<usize>
     first_fault(&TABLE, &spread(own))
 }
 
+// Writes the leg's own columns of a record, each part in whole words.
+fn put_own(out: &mut [u8; 158], bytes: &[u8; 200])
+    ensures { out.new ≡ own_columns bytes.now }
+{
+    let at = append(out, 0, &bytes[13..14]);
+    let at = append(out, at, &bytes_of::<91>(&bytes[36..127]));
+    append(out, at, &bytes_of::<66>(&bytes[128..194]));
+}
+
 /// The leg's own columns of a record.
 pub(crate) fn own_columns_at(bytes: &[u8; 200]) -> LegColumns
     requires { EachStands bytes.now leg_table }
@@ -84,10 +93,7 @@ pub(crate) fn own_columns_at(bytes: &[u8; 200]) -> LegColumns
     ensures stands { AreLegColumns result }
 {
     let mut own = [0; 158];
-    join(
-        &mut own,
-        &[&bytes[13..14], &bytes[36..127], &bytes[128..194]],
-    );
+    put_own(&mut own, bytes);
     LegColumns { bytes: own }
 }
 
@@ -225,10 +231,7 @@ impl LegColumns {
         ensures value { own_columns bytes.now ≡ self.new }
         ensures stands { AreLegColumns self.new }
     {
-        join(
-            &mut self.bytes,
-            &[&bytes[13..14], &bytes[36..127], &bytes[128..194]],
-        );
+        put_own(&mut self.bytes, bytes);
     }
 
     /// Whether the two are equal.

@@ -11,7 +11,7 @@ use crate::header::{Header, read_header};
 use crate::latest::Latest;
 use crate::leg::{LegRecord, leg_with};
 use crate::leg_head::read_leg_head;
-use crate::segment::{SegmentRecord, segment_with};
+use crate::segment::SegmentRecord;
 use crate::segment_head::read_segment_head;
 use crate::trailer::{Trailer, read_trailer};
 
@@ -68,7 +68,8 @@ fn put_leg(bytes: &[u8; 200], latest: &mut Latest, into: &mut Option<Record>) ->
     Ok(())
 }
 
-// Puts segment data into a place. Where there are some already, they are overwritten.
+// Puts segment data into a place. Where there are none, blank ones are put first: all are overwritten in the place, which copies their
+// columns once.
 fn put_segment(
     bytes: &[u8; 200],
     latest: &mut Latest,
@@ -80,8 +81,12 @@ fn put_segment(
 {
     let head = read_segment_head(bytes, latest)?;
     match into {
+        Some(Record::Segment(_)) => {}
+        _ => *into = Some(Record::Segment(SegmentRecord::blank(head.name))),
+    }
+    match into {
         Some(Record::Segment(segment)) => segment.put(bytes, &head),
-        _ => *into = Some(Record::Segment(segment_with(bytes, &head))),
+        _ => unreachable!(),
     }
     Ok(())
 }

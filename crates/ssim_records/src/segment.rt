@@ -10,7 +10,7 @@ use crate::leg_name::LegName;
 use crate::name_text::{has_digits, name_text};
 use crate::number::six_digits;
 use crate::segment_head::SegmentHead;
-use crate::segment_tail::{SegmentTail, tail_at};
+use crate::segment_tail::SegmentTail;
 use ssim_values::Airline;
 use std::marker::Model;
 
@@ -41,21 +41,6 @@ impl Model for SegmentRecord {
     ghost inverse = { λ v. record { name = v.name; service = v.service; tail = v.tail; overflow = v.overflow; serial = v.serial } };
 }
 
-/// The segment data that a record spells, of the columns that were parsed. The other columns are copied.
-pub(crate) fn segment_with(bytes: &[u8; 200], head: &SegmentHead) -> SegmentRecord
-    requires kind { columns 1 1 bytes.now ≡ 52 ∷ [] }
-    requires head { IsSegmentHead head.now bytes.now }
-    ensures { SpellsSegment result bytes.now }
-{
-    SegmentRecord {
-        name: head.name,
-        service: carried_at(bytes, 14),
-        tail: tail_at(bytes),
-        overflow: carried_at(bytes, 28),
-        serial: head.serial,
-    }
-}
-
 impl SegmentRecord {
     /// The record of a tail, with a blank for overflow, and the serial 0.
     pub fn new(name: LegName, service: u8, tail: SegmentTail) -> SegmentRecord
@@ -71,6 +56,11 @@ impl SegmentRecord {
             overflow: b' ',
             serial: 0,
         }
+    }
+
+    /// A record with blanks in all other columns.
+    pub(crate) fn blank(name: LegName) -> SegmentRecord {
+        SegmentRecord::new(name, b' ', SegmentTail::blank())
     }
 
     /// Which leg it belongs to.
@@ -143,7 +133,7 @@ impl SegmentRecord {
         self.serial = 0;
     }
 
-    /// The segment becomes the one that a record spells, as `segment_with` gives it.
+    /// The segment becomes the one that a record spells. The columns that were not parsed are copied.
     pub(crate) fn put(&mut self, bytes: &[u8; 200], head: &SegmentHead)
         requires kind { columns 1 1 bytes.now ≡ 52 ∷ [] }
         requires head { IsSegmentHead head.now bytes.now }

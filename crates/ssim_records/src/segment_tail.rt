@@ -5,7 +5,7 @@ ghost use Rattle.std.specs.Str.{bytes_eq};
 ghost use Rattle.ssim_records.specs.Columns.{EachStands};
 ghost use Rattle.ssim_records.specs.Segment.{IsTail, tail_of, tail_columns, new_tail, segment_table};
 
-use crate::columns::{join, put, put_filled};
+use crate::columns::{append, bytes_of, put, put_filled};
 use crate::field::{are_carried, three, two};
 use crate::number::three_digits;
 use crate::same::are_same_texts;
@@ -35,15 +35,13 @@ impl Model for SegmentTail {
     ghost inverse = { λ v. record { bytes = v } };
 }
 
-/// The tail in a record.
-pub(crate) fn tail_at(bytes: &[u8; 200]) -> SegmentTail
-    requires { EachStands bytes.now segment_table }
-    ensures value { tail_of bytes.now ≡ result }
-    ensures is_tail { IsTail result }
+// Writes the tail in a record, in parts that are short enough to be copied in whole words.
+fn put_tail(out: &mut [u8; 179], bytes: &[u8; 200])
+    ensures { out.new ≡ tail_of bytes.now }
 {
-    let mut tail = [0; 179];
-    join(&mut tail, &[&bytes[14..27], &bytes[28..194]]);
-    SegmentTail { bytes: tail }
+    let at = append(out, 0, &bytes_of::<13>(&bytes[14..27]));
+    let at = append(out, at, &bytes_of::<83>(&bytes[28..111]));
+    append(out, at, &bytes_of::<83>(&bytes[111..194]));
 }
 
 /// Columns from 29 to 194.
@@ -77,6 +75,11 @@ impl SegmentTail {
         put(&mut bytes, 37 - FRONT, &off.write());
         put_filled(&mut bytes, 40 - FRONT, 155, text);
         SegmentTail { bytes }
+    }
+
+    /// A tail of blanks.
+    pub(crate) fn blank() -> SegmentTail {
+        SegmentTail { bytes: [b' '; 179] }
     }
 
     /// The tail, if a record can carry each of its bytes.
@@ -113,7 +116,7 @@ impl SegmentTail {
         ensures value { tail_of bytes.now ≡ self.new }
         ensures is_tail { IsTail self.new }
     {
-        join(&mut self.bytes, &[&bytes[14..27], &bytes[28..194]]);
+        put_tail(&mut self.bytes, bytes);
     }
 
     /// Whether the two are equal.
