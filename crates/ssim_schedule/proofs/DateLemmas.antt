@@ -1,5 +1,5 @@
 -- Sets of dates: as periods and as bits, and whether two of them have a date in common.
-use Rattle.std.proofs.Common.{◌≡◌, ◌≢◌, ℕ, zero, suc, ◌+◌, ◌*◌, ◌/◌, ◌%◌, ◌^◌, ◌<◌, ◌≤◌, bit_or, max, min, slice_set, w64, Bool, true, false, ◌&&◌, ◌||◌, nat_eq, nat_le, nat_lt, List, [], ◌∷◌, length, replicate, slice_index, slice_index_or, refl, sym, ap, ◌∙◌, arith}
+use Rattle.std.proofs.Common.{◌≡◌, ◌≢◌, ℕ, zero, suc, ◌+◌, ◌*◌, ◌/◌, ◌%◌, ◌^◌, ◌<◌, ◌≤◌, bit_or, max, min, slice_set, w64, Bool, true, false, not, ◌&&◌, ◌||◌, nat_eq, nat_le, nat_lt, List, [], ◌∷◌, length, replicate, slice_index, slice_index_or, refl, sym, ap, ◌∙◌, arith}
 use Rattle.std.proofs.Math.Bool.{and-false, and-true}
 use Rattle.std.proofs.lemmas.Bool.Decides.{nat_tests}
 use Rattle.std.proofs.lemmas.List.{get_or-set_other, get_or-set_same}
@@ -247,6 +247,41 @@ holds-between p days n b from to same on =
     let first : nat_le p.first n ≡ true = grind (arith, nat_tests) in
     let last : nat_le n p.last ≡ true = grind (arith, nat_tests) in
     rw (first, last) (ap (λ ds. slice_index_or ds (slot n) false) (sym same) ∙ on)
+
+-- none of seven tests holds
+none-of-seven : (a b c d e f g : Bool) → not ((((((a || b) || c) || d) || e) || f) || g) ≡ true
+    → (a ≡ false) × (b ≡ false) × (c ≡ false) × (d ≡ false) × (e ≡ false) × (f ≡ false) × (g ≡ false)
+none-of-seven true b c d e f g h = absurd cc
+none-of-seven false true c d e f g h = absurd cc
+none-of-seven false false true d e f g h = absurd cc
+none-of-seven false false false true e f g h = absurd cc
+none-of-seven false false false false true f g h = absurd cc
+none-of-seven false false false false false true g h = absurd cc
+none-of-seven false false false false false false true h = absurd cc
+none-of-seven false false false false false false false h = (refl, refl, refl, refl, refl, refl, refl)
+
+abbrev on_both : List Bool → List Bool → ℕ → Bool
+on_both days others w = slice_index_or days w false && slice_index_or others w false
+
+-- a weekday is not in both of two masks where none is
+pub no-weekday : (days others : List Bool) (w : ℕ)
+    → not ((((((on_both days others 0 || on_both days others 1) || on_both days others 2) || on_both days others 3) || on_both days others 4) || on_both days others 5) || on_both days others 6) ≡ true
+    → w < 7 → (slice_index_or days w false && slice_index_or others w false) ≡ false
+no-weekday days others w h = by w
+  where
+    none : (on_both days others 0 ≡ false) × (on_both days others 1 ≡ false) × (on_both days others 2 ≡ false) × (on_both days others 3 ≡ false) × (on_both days others 4 ≡ false) × (on_both days others 5 ≡ false)
+        × (on_both days others 6 ≡ false)
+    none = none-of-seven (on_both days others 0) (on_both days others 1) (on_both days others 2) (on_both days others 3) (on_both days others 4) (on_both days others 5) (on_both days others 6) h
+
+    by : (w : ℕ) → w < 7 → on_both days others w ≡ false
+    by zero l = none.0
+    by (suc zero) l = none.1
+    by (suc (suc zero)) l = none.2
+    by (suc (suc (suc zero))) l = none.3
+    by (suc (suc (suc (suc zero)))) l = none.4
+    by (suc (suc (suc (suc (suc zero))))) l = none.5
+    by (suc (suc (suc (suc (suc (suc zero)))))) l = none.6
+    by (suc (suc (suc (suc (suc (suc (suc w))))))) l = absurd (omega arith)
 
 -- the weekdays of two periods that a day of both has
 inside : (a b c d x y : Bool) → (a ≡ true → b ≡ true → c ≡ true → d ≡ true → (x && y) ≡ false) → (((a && b) && x) && ((c && d) && y)) ≡ false

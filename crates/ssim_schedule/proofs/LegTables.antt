@@ -48,7 +48,7 @@ apart : (k place : ℕ) → k ≢ place → k / 27 ≡ place / 27 → k % 27 ≢
 apart k place other same equal = other (omega arith)
 
 -- one more leg record of the flight at a place, where the list of its number was there
-pub adds-at : (old new : LegTable) (grown : List (Vec FlightLegs Global)) (row more : Vec FlightLegs Global) (place s v : ℕ) (p : DayRange)
+adds-at : (old new : LegTable) (grown : List (Vec FlightLegs Global)) (row more : Vec FlightLegs Global) (place s v : ℕ) (p : DayRange)
     → ((k : ℕ) → flights_of (slice_get grown k) ≡ flights_of (slice_get old.numbers.items k)) → place / 27 < length grown → flights_of (slice_get grown (place / 27)) ≡ row.items
     → new.numbers.items ≡ set grown (place / 27) more
     → AddsLeg (legs_in row.items (place % 27)) (legs_in more.items (place % 27)) s v p
@@ -78,6 +78,22 @@ adds-at old new grown row more place s v p same there its changed adds others = 
         ap (λ ns. legs_in (flights_of (slice_get ns (k / 27))) (k % 27)) changed
         ∙ ap (λ o. legs_in (flights_of o) (k % 27)) (get-set_other grown (place / 27) (k / 27) more number)
         ∙ ap (λ fs. legs_in fs (k % 27)) (same (k / 27))
+
+-- the same where the number and the suffix of the place are known by themselves
+pub adds-in : (old new : LegTable) (grown : List (Vec FlightLegs Global)) (row more : Vec FlightLegs Global) (place number suffix s v : ℕ) (p : DayRange)
+    → number ≡ place / 27 → suffix ≡ place % 27
+    → ((k : ℕ) → flights_of (slice_get grown k) ≡ flights_of (slice_get old.numbers.items k)) → number < length grown → flights_of (slice_get grown number) ≡ row.items
+    → new.numbers.items ≡ set grown number more
+    → AddsLeg (legs_in row.items suffix) (legs_in more.items suffix) s v p
+    → ((k : ℕ) → k ≢ suffix → legs_in more.items k ≡ legs_in row.items k)
+    → AddsLegAt old new place s v p
+adds-in old new grown row more place number suffix s v p is_number is_suffix same there its changed adds others =
+    adds-at old new grown row more place s v p same
+    (subst (λ n. n < length grown) is_number there)
+    (subst (λ n. flights_of (slice_get grown n) ≡ row.items) is_number its)
+    (subst (λ n. new.numbers.items ≡ set grown n more) is_number changed)
+    (subst (λ n. AddsLeg (legs_in row.items n) (legs_in more.items n) s v p) is_suffix adds)
+    (subst (λ n. (k : ℕ) → k ≢ n → legs_in more.items k ≡ legs_in row.items k) is_suffix others)
 
 -- ---- the flights that have leg records
 

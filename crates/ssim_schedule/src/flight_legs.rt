@@ -65,6 +65,7 @@ impl FlightLegs {
     }
 
     // The same as `add` for a leg sequence that has no entry yet.
+    #[inline(never)]
     fn add_first(
         &mut self,
         alloc: Global,

@@ -1,6 +1,6 @@
 //! The records accepted so far, with the notes on them.
 
-ghost use Rattle.std.specs.Prelude.{◌≡◌, ◌++◌, [], List, IfErr, OnOk};
+ghost use Rattle.std.specs.Prelude.{◌≡◌, ◌∷◌, ◌++◌, [], List, IfErr, OnOk};
 ghost use Rattle.ssim_records.specs.Record.{IsRecord, serial_of};
 ghost use Rattle.ssim_records.specs.declared.record.Record.{Record};
 
@@ -59,6 +59,7 @@ impl Gathering {
     }
 
     // Adds the notes on a record.
+    #[inline(always)]
     fn note(&mut self, number: u64, one: &Record) -> Result<(), Memory>
         ensures noted { OnOk result (self.new.notes.items ≡ self.old.notes.items ++ notes_at number self.old.previous one.now) }
         ensures previous { OnOk result (self.new.previous ≡ serial_of one.now) }
@@ -67,14 +68,25 @@ impl Gathering {
     {
         let serial = one.serial();
         if serial as u64 != self.previous as u64 + 1 {
-            self.notes.push(Note::Serial(number))?;
+            self.add_note(Note::Serial(number))?;
         }
         if let Record::Trailer(trailer) = one {
             if trailer.check() != self.previous {
-                self.notes.push(Note::CheckReference(number))?;
+                self.add_note(Note::CheckReference(number))?;
             }
         }
         self.previous = serial;
+        Ok(())
+    }
+
+    // Adds a note. Few records have one.
+    #[inline(never)]
+    fn add_note(&mut self, note: Note) -> Result<(), Memory>
+        ensures noted { OnOk result (self.new.notes.items ≡ self.old.notes.items ++ note ∷ []) }
+        ensures previous { self.new.previous ≡ self.old.previous }
+        ensures kept { self.new.kept ≡ self.old.kept }
+    {
+        self.notes.push(note)?;
         Ok(())
     }
 }

@@ -157,6 +157,7 @@ impl Kept {
     }
 
     // Enters a leg that is accepted into the table of legs, and closes its record.
+    #[inline(always)]
     fn close_leg(
         &mut self,
         number: u64,
@@ -177,6 +178,7 @@ impl Kept {
     }
 
     // Closes the record of a segment that is accepted.
+    #[inline(always)]
     fn close_segment(
         &self,
         number: u64,

@@ -9,7 +9,6 @@ ghost use Rattle.ssim_schedule.specs.LegTable.{AddsLeg, AddsLegAt, flights_in, f
 ghost use Rattle.ssim_schedule.specs.ReadBack.{place_of};
 
 use crate::flight_legs::FlightLegs;
-use crate::flight_table::place;
 use ssim_records::LegName;
 use ssim_values::{Flight, Memory, Period};
 use std::alloc::Global;
@@ -47,16 +46,9 @@ impl LegTable {
         ensures met { IfOk result (λ met. met ≡ have_common_date (holds period.now) (uses_date (legs_at self.old (place_of name.flight)) name.sequence)) }
         ensures flight { IsFlight name.flight }
     {
-        let place = place(name.flight()) as usize;
-        let number = place / SUFFIXES;
+        let (number, suffix) = indexes(name.flight());
         grow_numbers(self.alloc, &mut self.numbers, number)?;
-        add_to(
-            self.alloc,
-            &mut self.numbers[number],
-            place % SUFFIXES,
-            name,
-            period,
-        )
+        add_to(self.alloc, &mut self.numbers[number], suffix, name, period)
     }
 
     /// Whether a leg record has this name.
@@ -64,9 +56,8 @@ impl LegTable {
         ensures value { result ≡ names_leg (legs_at self.now (place_of name.flight)) name.sequence name.variation }
         ensures flight { IsFlight name.flight }
     {
-        let place = place(name.flight()) as usize;
-        let number = place / SUFFIXES;
-        number < self.numbers.len() && has_in(&self.numbers[number], place % SUFFIXES, name)
+        let (number, suffix) = indexes(name.flight());
+        number < self.numbers.len() && has_in(&self.numbers[number], suffix, name)
     }
 
     /// The flights of the leg records, each once, by number and suffix.
@@ -80,8 +71,41 @@ impl LegTable {
     }
 }
 
-// Makes a list of flights be there for a flight number.
+// The index of the list of a flight's number, and the index of the flight in that list. To divide its place would take longer.
+fn indexes(flight: Flight) -> (usize, usize)
+    ensures number { result.0 ≡ place_of flight / 27 }
+    ensures number_to { result.0 < 10000 }
+    ensures suffix { result.1 ≡ place_of flight % 27 }
+    ensures suffix_to { result.1 < 27 }
+    ensures flight { IsFlight flight }
+{
+    let suffix = match flight.suffix() {
+        b' ' => 0,
+        letter => letter as usize - 64,
+    };
+    (flight.number() as usize, suffix)
+}
+
+// Makes a list of flights be there for a flight number. Mostly it is there.
+#[inline(always)]
 fn grow_numbers(
+    alloc: Global,
+    numbers: &mut Vec<Vec<FlightLegs>>,
+    number: usize,
+) -> Result<(), Memory>
+    requires { number < 10000 }
+    ensures there { OnOk result (number < length numbers.new.items) }
+    ensures same { OnOk result ((k : ℕ) → flights_of (slice_get numbers.new.items k) ≡ flights_of (slice_get numbers.old.items k)) }
+{
+    if number < numbers.len() {
+        return Ok(());
+    }
+    push_numbers(alloc, numbers, number)
+}
+
+// The same where the list is not there.
+#[inline(never)]
+fn push_numbers(
     alloc: Global,
     numbers: &mut Vec<Vec<FlightLegs>>,
     number: usize,
@@ -113,8 +137,22 @@ fn add_to(
     flights[suffix].add(alloc, name.sequence(), name.variation(), period)
 }
 
-// Makes a flight be there at an index.
+// Makes a flight be there at an index. Mostly it is there.
+#[inline(always)]
 fn grow_flights(alloc: Global, flights: &mut Vec<FlightLegs>, suffix: usize) -> Result<(), Memory>
+    requires { suffix < 27 }
+    ensures there { OnOk result (suffix < length flights.new.items) }
+    ensures same { OnOk result ((k : ℕ) → legs_in flights.new.items k ≡ legs_in flights.old.items k) }
+{
+    if suffix < flights.len() {
+        return Ok(());
+    }
+    push_missing(alloc, flights, suffix)
+}
+
+// The same where the flight is not there.
+#[inline(never)]
+fn push_missing(alloc: Global, flights: &mut Vec<FlightLegs>, suffix: usize) -> Result<(), Memory>
     requires { suffix < 27 }
     ensures there { OnOk result (suffix < length flights.new.items) }
     ensures same { OnOk result ((k : ℕ) → legs_in flights.new.items k ≡ legs_in flights.old.items k) }

@@ -1,6 +1,6 @@
 //! Records in pieces, which are freed one after another.
 
-ghost use Rattle.std.specs.Prelude.{◌≡◌, ◌<◌, ◌∷◌, ◌++◌, [], IfOk, OnOk, length, slice_index_or};
+ghost use Rattle.std.specs.Prelude.{◌≡◌, ◌<◌, ◌∷◌, ◌++◌, [], IfOk, OnOk, length, slice_index_or, vec_capacity, vec_len};
 ghost use Rattle.std.specs.List.{flat_map};
 
 use ssim_records::Record;
@@ -62,31 +62,11 @@ impl RecordPieces {
         let Some(len) = self.len.checked_add(1) else {
             return Err(Memory);
         };
-        if self.last.len() == self.last.capacity() {
-            self.begin()?;
-        }
-        match self.last.push(*one) {
-            Ok(()) => {
-                self.len = len;
-                Ok(())
-            }
-            Err(_) => Err(Memory),
-        }
-    }
-
-    // Begins another piece.
-    fn begin(&mut self) -> Result<(), Memory>
-        ensures kept { self.new ≡ self.old }
-    {
-        let next = Vec::with_capacity(self.alloc, PIECE)?;
-        let piece = std::mem::replace(&mut self.last, next);
-        match self.full.push(piece) {
-            Ok(()) => Ok(()),
-            Err(refused) => {
-                self.last = refused.value;
-                Err(Memory)
-            }
-        }
+        make_room(self.alloc, &mut self.full, &mut self.last)?;
+        // There is room now, so this cannot fail.
+        self.last.push_reserved(*one);
+        self.len = len;
+        Ok(())
     }
 
     /// The record at this place.
@@ -125,6 +105,43 @@ impl RecordPieces {
         let mut pieces = full;
         pieces.push(last)?;
         Ok(pieces)
+    }
+}
+
+// Makes room for a record in the last piece. Mostly it is there.
+#[inline(always)]
+fn make_room(
+    alloc: Global,
+    full: &mut Vec<Vec<Record>>,
+    last: &mut Vec<Record>,
+) -> Result<(), Memory>
+    ensures kept { flat_map (λ piece. piece.items) full.new.items ++ last.new.items ≡ flat_map (λ piece. piece.items) full.old.items ++ last.old.items }
+    ensures room { OnOk result (vec_len last.new < vec_capacity last.new) }
+{
+    if last.len() < last.capacity() {
+        return Ok(());
+    }
+    begin_piece(alloc, full, last)
+}
+
+// Begins another piece, which has room for a record.
+#[inline(never)]
+fn begin_piece(
+    alloc: Global,
+    full: &mut Vec<Vec<Record>>,
+    last: &mut Vec<Record>,
+) -> Result<(), Memory>
+    ensures kept { flat_map (λ piece. piece.items) full.new.items ++ last.new.items ≡ flat_map (λ piece. piece.items) full.old.items ++ last.old.items }
+    ensures room { OnOk result (vec_len last.new < vec_capacity last.new) }
+{
+    let next = Vec::with_capacity(alloc, PIECE)?;
+    let piece = std::mem::replace(last, next);
+    match full.push(piece) {
+        Ok(()) => Ok(()),
+        Err(refused) => {
+            *last = refused.value;
+            Err(Memory)
+        }
     }
 }
 

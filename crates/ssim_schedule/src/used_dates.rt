@@ -45,6 +45,22 @@ impl UsedDates {
         ensures days { OnOk result ((n : ℕ) → is_used self.new n ≡ (holds period.now n || is_used self.old n)) }
         ensures met { IfOk result (λ met. met ≡ have_common_date (holds period.now) (is_used self.old)) }
     {
+        if let UsedDates::Few(periods) = self {
+            if periods.len() < MOST {
+                let met = any_meets(periods, period);
+                periods.push(*period)?;
+                return Ok(met);
+            }
+        }
+        self.take_in_next_form(alloc, period)
+    }
+
+    // The same as `take`, where the dates are kept in another form afterwards, or as a set. It stands apart, so that `take` stays short.
+    #[inline(never)]
+    fn take_in_next_form(&mut self, alloc: Global, period: &Period) -> Result<bool, Memory>
+        ensures days { OnOk result ((n : ℕ) → is_used self.new n ≡ (holds period.now n || is_used self.old n)) }
+        ensures met { IfOk result (λ met. met ≡ have_common_date (holds period.now) (is_used self.old)) }
+    {
         match self {
             UsedDates::Empty => {
                 *self = UsedDates::One(*period);
@@ -57,16 +73,10 @@ impl UsedDates {
             }
             UsedDates::Many(set) => Ok(set.add_period(period)),
             UsedDates::Few(periods) => {
-                if periods.len() < MOST {
-                    let met = any_meets(periods, period);
-                    periods.push(*period)?;
-                    Ok(met)
-                } else {
-                    let mut set = set_of(alloc, periods)?;
-                    let met = set.add_period(period);
-                    *self = UsedDates::Many(set);
-                    Ok(met)
-                }
+                let mut set = set_of(alloc, periods)?;
+                let met = set.add_period(period);
+                *self = UsedDates::Many(set);
+                Ok(met)
             }
         }
     }
@@ -114,8 +124,32 @@ fn are_apart(one: &Period, other: &Period) -> bool
     other.last().number() < one.first().number() || one.last().number() < other.first().number()
 }
 
-// Whether two periods have a date in common.
+// Whether two periods have a date in common. Mostly periods that do not lie apart are of other weekdays.
 fn meets(one: &Period, other: &Period) -> bool
+    ensures { result ≡ meet one.now other.now }
+{
+    !are_of_other_weekdays(one, other) && meet_on_a_weekday(one, other)
+}
+
+// Whether two periods have no weekday in common. Every weekday is looked at, since a branch at each would often be foreseen wrongly.
+fn are_of_other_weekdays(one: &Period, other: &Period) -> bool
+    ensures { result ≡ true → meet one.now other.now ≡ false }
+{
+    let days = one.mask().days();
+    let others = other.mask().days();
+    let common = (days[0] & others[0])
+        | (days[1] & others[1])
+        | (days[2] & others[2])
+        | (days[3] & others[3])
+        | (days[4] & others[4])
+        | (days[5] & others[5])
+        | (days[6] & others[6]);
+    !common
+}
+
+// The same as `meets`, weekday by weekday.
+#[inline(never)]
+fn meet_on_a_weekday(one: &Period, other: &Period) -> bool
     ensures { result ≡ meet one.now other.now }
 {
     let first = one.first().number().max(other.first().number()) as usize;

@@ -1,24 +1,19 @@
 -- Among few periods a date is used that one of them holds.
 use Rattle.std.proofs.Common.{List, sym, ap, ◌∙◌}
-use Rattle.std.specs.List.{list_any, range_with_len}
+use Rattle.std.specs.List.{list_any}
 use Rattle.ssim_values.specs.Period.{DayRange}
-use Rattle.ssim_periods.specs.Calendar.{day_count, holds}
+use Rattle.ssim_periods.specs.Calendar.{holds}
 use Rattle.ssim_schedule.specs.Base.{meet}
 use Rattle.ssim_schedule.specs.Dates.{have_common_date}
 use Rattle.ssim_schedule.specs.LegTable.{is_used}
 use Rattle.ssim_schedule.specs.declared.used_dates.UsedDates.{UsedDates}
-use Rattle.ssim_schedule.proofs.DateLemmas.{any-none, meets-any}
+use Rattle.ssim_schedule.proofs.DateLemmas.{meets-any}
 use Rattle.ssim_schedule.proofs.used_dates.UsedDates.take.Goals as goal
 
-pub returns-in_ok-push-in-Few-clause-met : goal.returns-in_ok-push-in-Few-clause-met
-returns-in_ok-push-in-Few-clause-met c =
+pub returns-then-len-lt-MOST-clause-met : goal.returns-then-len-lt-MOST-clause-met
+returns-then-len-lt-MOST-clause-met c =
     let p = c.args.period.now in
     c.any_meets-met.ensures
     ∙ ap (λ (earlier : List DayRange). list_any (λ q. meet p q) earlier) c.deref.ensures.value
     ∙ meets-any p c.in-Few.periods.items
     ∙ ap (λ (dates : UsedDates). have_common_date (holds p) (is_used dates)) (sym c.in-Few.is)
-
-pub returns-in-Empty-clause-met : goal.returns-in-Empty-clause-met
-returns-in-Empty-clause-met c =
-    let p = c.args.period.now in
-    sym (any-none (holds p) (range_with_len 0 day_count)) ∙ ap (λ (dates : UsedDates). have_common_date (holds p) (is_used dates)) (sym c.in-Empty.is)

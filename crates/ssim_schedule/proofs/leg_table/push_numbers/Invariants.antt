@@ -1,7 +1,7 @@
 -- As many lists as were counted, and no flight more.
 use Rattle.std.proofs.Common.{◌≡◌, ℕ, length, slice_get}
 use Rattle.ssim_schedule.specs.LegTable.{flights_of}
-use Rattle.ssim_schedule.proofs.leg_table.grow_numbers.Given as goal
+use Rattle.ssim_schedule.proofs.leg_table.push_numbers.Given as goal
 
 abbrev pub invariant-loop : goal.invariant-loop
 invariant-loop l = record {

@@ -2,7 +2,7 @@
 use Rattle.std.proofs.Common.{◌≡◌, ℕ, ◌≤◌, true, false, slice_index_or, ap, refl, sym, ◌∙◌, arith}
 use Rattle.ssim_periods.specs.Calendar.{holds}
 use Rattle.ssim_schedule.proofs.DateLemmas.{common-date, holds-between, meet-none}
-use Rattle.ssim_schedule.proofs.used_dates.meets.Goals as goal
+use Rattle.ssim_schedule.proofs.used_dates.meet_on_a_weekday.Goals as goal
 
 pub returns-then-last-first : goal.returns-then-last-first
 returns-then-last-first c =

@@ -1,7 +1,7 @@
 -- As many flights as were counted, and no leg record more.
 use Rattle.std.proofs.Common.{◌≡◌, ℕ, length}
 use Rattle.ssim_schedule.specs.LegTable.{legs_in}
-use Rattle.ssim_schedule.proofs.leg_table.grow_flights.Given as goal
+use Rattle.ssim_schedule.proofs.leg_table.push_missing.Given as goal
 
 abbrev pub invariant-loop : goal.invariant-loop
 invariant-loop l = record {
