@@ -1,8 +1,8 @@
 -- A fact of each element of lists that are joined, mapped, flattened, and gone over one by one.
-use Rattle.std.proofs.Common.{◌≡◌, ◌≤◌, ◌<◌, ℕ, ◌+◌, List, [], ◌∷◌, ◌++◌, map, length, take, get_or, subst}
+use Rattle.std.proofs.Common.{◌≡◌, ◌≤◌, ◌<◌, ℕ, ◌+◌, List, [], ◌∷◌, ◌++◌, map, length, take, get_or, refl, sym, subst, arith}
 use Rattle.std.specs.List.{flat_map, All, AllByRecursion as Each}
 use Rattle.std.proofs.lemmas.List.{take_all}
-use Rattle.std.proofs.lemmas.List.Elements.{All-more}
+use Rattle.std.proofs.lemmas.List.Elements.{All-from_recursion, All-more, recursion_from_All}
 
 pub each-any : {X : Type 0} (P : X → Type 0) (xs : List X) → ((x : X) → P x) → Each P xs
 each-any P [] h = tt
@@ -27,6 +27,15 @@ each-both P Q (x ∷ xs) a b = ((a.0, b.0), each-both P Q xs a.1 b.1)
 -- the element at hand, behind those before it
 pub all_more : {X : Type 0} (P : X → Type 0) (xs : List X) (i : ℕ) (x : X) → i < length xs → x ≡ get_or xs i x → All P (take i xs) → P x → All P (take (i + 1) xs)
 all_more P xs i x less is before one = All-more P xs i x less before (subst P is one)
+
+-- what follows from a fact of all that are left follows from that of all but the first, of which it is known
+pub all_left : {X : Type 0} (P : X → Type 0) (G : Type 0) (left rest : List X) (x : X) → left ≡ x ∷ rest → P x → (All P left → G) → All P rest → G
+all_left P G left rest x is one all others = all (subst (λ xs. All P xs) (sym is) (All-from_recursion P (x ∷ rest) (one, recursion_from_All P rest others)))
+
+-- nothing is left
+pub none_left : {X : Type 0} (left : List X) → length left ≡ 0 → left ≡ []
+none_left [] h = refl
+none_left (x ∷ left) h = absurd (omega arith)
 
 -- at the end these are all
 pub all_done : {X : Type 0} (P : X → Type 0) (xs : List X) (i : ℕ) → length xs ≤ i → All P (take i xs) → All P xs

@@ -1,9 +1,9 @@
 -- A plan says of a schedule's flights what the definition says of all flights.
-use Rattle.std.proofs.Common.{◌≡◌, ◌≤◌, ◌<◌, ℕ, suc, ◌+◌, Bool, true, false, ◌||◌, nat_eq, if◌then◌else◌, List, [], ◌∷◌, ◌++◌, map, length, take, get_or, Option, Some, None, Result, Ok, Err, refl, sym, ap, subst, ◌∙◌, arith}
+use Rattle.std.proofs.Common.{◌≡◌, ◌≤◌, ◌<◌, ℕ, suc, ◌+◌, Bool, true, false, ◌||◌, nat_eq, if◌then◌else◌, List, [], ◌∷◌, ◌++◌, map, length, get_or, Option, Some, None, Result, Ok, Err, refl, sym, ap, subst, ◌∙◌, arith}
 use Rattle.std.specs.Prelude.{◌&&◌, nat_lt}
 use Rattle.std.specs.List.{All, list_any, AllByRecursion as Each}
 use Rattle.std.proofs.lemmas.Bool.Decides.{nat_tests}
-use Rattle.std.proofs.lemmas.List.{append_assoc, append-nil, take_more, get_or_default}
+use Rattle.std.proofs.lemmas.List.{append_assoc, get_or_default}
 use Rattle.std.proofs.lemmas.List.Elements.{All-append, recursion_from_All, All-from_recursion}
 use Rattle.ssim_values.specs.Flight.{FlightNumber, IsFlight}
 use Rattle.ssim_periods.specs.Days.{each_day}
@@ -34,31 +34,24 @@ plan-append : (xs ys : Table) → plan_of (xs ++ ys) ≡ plan_of xs ++ plan_of y
 plan-append [] ys = refl
 plan-append (x ∷ xs) ys = ap (λ (ps : List Planned). planned x ∷ ps) (plan-append xs ys)
 
-pub planned_more : (entries : Table) (i : ℕ) (f : FlightPeriods) (first plan new : List Planned) (ps : List Piece) → i < length entries → f ≡ get_or entries i f
-    → plan ≡ first ++ plan_of (take i entries) → ps ≡ pieces f.periods.days → new ≡ plan ++ (f.flight, ps) ∷ [] → new ≡ first ++ plan_of (take (i + 1) entries)
-planned_more entries i f first plan new ps less is before its push =
-    let front : take (i + 1) entries ≡ take i entries ++ f ∷ [] = take_more entries i f less ∙ ap (λ (x : FlightPeriods). take i entries ++ x ∷ []) (sym is) in
-    push ∙ ap (λ (xs : List Piece). plan ++ (f.flight, xs) ∷ []) its ∙ ap (λ (xs : List Planned). xs ++ planned f ∷ []) before ∙ append_assoc first (plan_of (take i entries)) (planned f ∷ [])
-    ∙ ap (λ (xs : List Planned). first ++ xs) (sym (plan-append (take i entries) (f ∷ [])) ∙ ap plan_of (sym front))
+-- a flight is planned, of those that are left
+pub planned_left : (left rest : Table) (f : FlightPeriods) (plan new all : List Planned) (ps : List Piece) → left ≡ f ∷ rest → ps ≡ pieces f.periods.days → new ≡ plan ++ (f.flight, ps) ∷ []
+    → plan ++ plan_of left ≡ all → new ++ plan_of rest ≡ all
+planned_left left rest f plan new all ps is its push before =
+    ap (λ (xs : List Planned). xs ++ plan_of rest) (push ∙ ap (λ (xs : List Piece). plan ++ (f.flight, xs) ∷ []) its) ∙ append_assoc plan (planned f ∷ []) (plan_of rest)
+    ∙ ap (λ (xs : Table). plan ++ plan_of xs) (sym is) ∙ before
 
-joined-append : (a b : List Table) → joined (a ++ b) ≡ joined a ++ joined b
-joined-append [] b = refl
-joined-append (t ∷ a) b = ap (λ (xs : Table). t ++ xs) (joined-append a b) ∙ sym (append_assoc t (joined a) (joined b))
+-- a block is planned, of those that are left
+pub planned_block : (left rest : List Table) (b : Table) (plan new all : List Planned) → left ≡ b ∷ rest → new ≡ plan ++ plan_of b → plan ++ plan_of (joined left) ≡ all → new ++ plan_of (joined rest) ≡ all
+planned_block left rest b plan new all is added before =
+    ap (λ (xs : List Planned). xs ++ plan_of (joined rest)) added ∙ append_assoc plan (plan_of b) (plan_of (joined rest))
+    ∙ ap (λ (xs : List Planned). plan ++ xs) (sym (plan-append b (joined rest)) ∙ ap (λ (ts : List Table). plan_of (joined ts)) (sym is)) ∙ before
 
--- a block more
-joined-more : (blocks : List Table) (i : ℕ) (b : Table) → i < length blocks → b ≡ get_or blocks i b → joined (take (i + 1) blocks) ≡ joined (take i blocks) ++ b
-joined-more blocks i b less is =
-    ap joined (take_more blocks i b less ∙ ap (λ (t : Table). take i blocks ++ t ∷ []) (sym is)) ∙ joined-append (take i blocks) (b ∷ []) ∙ ap (λ (t : Table). joined (take i blocks) ++ t) (append-nil b)
-
-pub planned_block : (blocks : List Table) (i : ℕ) (b : Table) (plan new : List Planned) → i < length blocks → b ≡ get_or blocks i b → plan ≡ plan_of (joined (take i blocks)) → new ≡ plan ++ plan_of b
-    → new ≡ plan_of (joined (take (i + 1) blocks))
-planned_block blocks i b plan new less is before added =
-    added ∙ ap (λ (xs : List Planned). xs ++ plan_of b) before ∙ sym (plan-append (joined (take i blocks)) b) ∙ ap plan_of (sym (joined-more blocks i b less is))
-
-pub block_exists : (blocks : List Table) (i : ℕ) (b : Table) → i < length blocks → b ≡ get_or blocks i b → All (λ f. IsFlight f.flight) (joined (take i blocks)) → All (λ f. IsFlight f.flight) b
-    → All (λ f. IsFlight f.flight) (joined (take (i + 1) blocks))
-block_exists blocks i b less is before here =
-    subst (λ (t : Table). All (λ f. IsFlight f.flight) t) (sym (joined-more blocks i b less is)) (All-append (λ (f : FlightPeriods). IsFlight f.flight) (joined (take i blocks)) b before here)
+-- the flights of the block at hand exist, and those of the blocks behind it
+pub block_exists : (G : Type 0) (left rest : List Table) (b : Table) → left ≡ b ∷ rest → All (λ f. IsFlight f.flight) b → (All (λ f. IsFlight f.flight) (joined left) → G)
+    → All (λ f. IsFlight f.flight) (joined rest) → G
+block_exists G left rest b is here all others =
+    all (subst (λ (ts : List Table). All (λ f. IsFlight f.flight) (joined ts)) (sym is) (All-append (λ (f : FlightPeriods). IsFlight f.flight) b (joined rest) here others))
 
 abbrev Exists : FlightPeriods → Type 0
 Exists f = IsFlight f.flight

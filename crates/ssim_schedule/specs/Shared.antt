@@ -1,13 +1,19 @@
 -- What contracts see of a shared itinerary, its legs; and the hash that it keeps of them.
-use Rattle.std.specs.Prelude.{ℕ, ◌+◌, ◌*◌, ◌%◌, List, [], ◌∷◌, length, slice_index_or, Option, Some, None}
-use Rattle.std.specs.declared.vec.Vec.{Vec}
-use Rattle.std.specs.declared.rc.Rc.{Rc}
-use Rattle.std.specs.declared.alloc.Global.{Global}
+use Rattle.std.specs.Prelude.{◌≡◌, ℕ, ◌+◌, ◌*◌, ◌%◌, ◌<◌, ◌≤◌, [], ◌∷◌, length, slice_index_or, List}
+use Rattle.ssim_schedule.specs.Plan.{legs_count}
 use Rattle.ssim_schedule.specs.Timetable.{LegValue, Legs}
+use Rattle.ssim_schedule.specs.declared.itinerary.SharedLegs.{SharedLegs}
+use Rattle.ssim_schedule.specs.declared.itinerary.SharedLegs.TheVariants.{None, One, Two, More}
 
-abbrev pub legs_of : Option (Rc (Vec LegValue Global) Global) → Legs
+abbrev pub legs_of : SharedLegs → Legs
 legs_of None = []
-legs_of (Some legs) = legs.value.items
+legs_of (One legs) = legs.value
+legs_of (Two legs) = legs.value
+legs_of (More legs) = legs.value.items
+
+-- a count of the records of legs: it says how many there are if it is less than 999,999
+abbrev pub CountsRecords : ℕ → Legs → Type 0
+CountsRecords count legs = (count ≤ legs_count legs) × (count < 999999 → count ≡ legs_count legs)
 
 -- the number that four bytes spell, the first as its highest digit
 abbrev pub four_bytes : List ℕ → ℕ → ℕ

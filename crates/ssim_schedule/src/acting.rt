@@ -126,9 +126,21 @@ fn retimed(alloc: Global, lines: &[LegLine], old: &Itinerary) -> Result<Itinerar
     if !have_all(old.legs(), lines) {
         return old.copy(alloc);
     }
-    let mut legs = copy_legs(alloc, old.legs())?;
-    set_all_times(&mut legs, lines);
+    let legs = retimed_legs(alloc, lines, old.legs())?;
     Itinerary::of(alloc, legs)
+}
+
+// Copies of legs, with the times of each line at the first that fits it.
+fn retimed_legs(
+    alloc: Global,
+    lines: &[LegLine],
+    legs: &[PlacedLeg],
+) -> Result<Vec<PlacedLeg>, Memory>
+    ensures { IfOk result (λ new. new.items ≡ with_lines lines.now legs.now) }
+{
+    let mut new = copy_legs(alloc, legs)?;
+    set_all_times(&mut new, lines);
+    Ok(new)
 }
 
 // The new legs of an action that has them.

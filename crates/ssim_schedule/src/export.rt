@@ -115,14 +115,12 @@ impl Schedule {
         ensures reads_back { OnOk result (ReadsBackBase W.taken base.now.records (days_in self.now) out.old out.new) }
     {
         export_bytes_read_back();
-        export_frame(
-            &self.table,
-            base.header(),
-            base.carrier(),
-            base.trailer(),
-            base.allocator(),
-            out,
-        )
+        let header = base.header();
+        let carrier = base.carrier();
+        let trailer = base.trailer();
+        let alloc = base.allocator();
+        let table = self.table.copy()?;
+        export_frame(table, header, carrier, trailer, alloc, out)
     }
 }
 
@@ -144,29 +142,30 @@ impl DataSet {
         let trailer = *self.trailer();
         let alloc = self.allocator();
         let table = self.into_table()?;
-        export_frame(&table, &header, &carrier, &trailer, alloc, out)
+        export_frame(table, &header, &carrier, &trailer, alloc, out)
     }
 }
 
-/// Writes the canonical export of a timetable between a header, a carrier and a trailer.
+/// Writes the canonical export of a timetable between a header, a carrier and a trailer. What no copy of the timetable shares is freed
+/// flight by flight.
 fn export_frame<W: Sink>(
-    table: &FlightBlocks,
+    table: FlightBlocks,
     header: &Header,
     carrier: &Carrier,
     trailer: &Trailer,
     alloc: Global,
     out: &mut W,
 ) -> Result<(), ExportFault>
-    ensures ok { OnOk result (Writes W.taken W.failures (chapter7 (frame_from header.now carrier.now trailer.now) (days_in table.now)) out.old out.new) }
-    ensures err { IfErr result (λ fault. Refuses W.taken W.failures (chapter7 (frame_from header.now carrier.now trailer.now) (days_in table.now)) out.old out.new fault) }
+    ensures ok { OnOk result (Writes W.taken W.failures (chapter7 (frame_from header.now carrier.now trailer.now) (days_in table)) out.old out.new) }
+    ensures err { IfErr result (λ fault. Refuses W.taken W.failures (chapter7 (frame_from header.now carrier.now trailer.now) (days_in table)) out.old out.new fault) }
     ensures device { W.device out.new ≡ W.device out.old }
 
     // The legs that were written are legs that records may have.
-    ensures readable { OnOk result (IsTimetable (days_in table.now) → CanReadBack (days_in table.now)) }
+    ensures readable { OnOk result (IsTimetable (days_in table) → CanReadBack (days_in table)) }
 {
-    let plan = divide(alloc, table.blocks())?;
+    let plan = divide(alloc, table.into_blocks())?;
     measure(&plan)?;
-    match put_export(out, header, carrier, trailer, &plan) {
+    match put_export(out, header, carrier, trailer, plan) {
         Ok(()) => Ok(()),
         Err(_) => Err(ExportFault::WriteFault),
     }

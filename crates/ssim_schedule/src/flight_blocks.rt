@@ -139,11 +139,11 @@ impl FlightBlocks {
     }
 
     /// The blocks, whose entries together rise by number and suffix of their flights.
-    pub(crate) fn blocks(&self) -> &[SharedTable]
-        ensures value { joined result.now ≡ self.now }
-        ensures rising { AreRising self.now }
+    pub(crate) fn into_blocks(self) -> Vec<SharedTable>
+        ensures value { joined result.items ≡ self }
+        ensures rising { AreRising self }
     {
-        &self.blocks
+        self.blocks
     }
 
     // The block of a flight. It has what is known of the flight.

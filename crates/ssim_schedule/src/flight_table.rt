@@ -175,11 +175,10 @@ impl FlightTable {
     }
 
     /// The entries, by number and suffix of their flights.
-    pub(crate) fn entries(&self) -> &[FlightPeriods]
-        ensures value { result.now ≡ self.now }
-        ensures rising { AreRising self.now }
+    pub(crate) fn into_entries(self) -> Vec<FlightPeriods>
+        ensures { result.items ≡ self }
     {
-        &self.flights
+        self.flights
     }
 
     // Whether the first entry is the flight's.

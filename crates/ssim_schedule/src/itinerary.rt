@@ -1,9 +1,10 @@
 //! The legs of a flight on one date, shared by all dates that have them.
 
-ghost use Rattle.std.specs.Prelude.{◌≡◌, ◌<◌, ◌^◌, ◌∷◌, [], IfOk};
+ghost use Rattle.std.specs.Prelude.{◌≡◌, ◌<◌, ◌≤◌, ◌%◌, ◌^◌, ◌∷◌, [], IfNone, IfOk, IfSome, OnOk, reverse};
 ghost use Rattle.ssim_schedule.specs.Export.{same_itinerary};
 ghost use Rattle.ssim_schedule.specs.ItineraryLaws.{exact_itinerary};
-ghost use Rattle.ssim_schedule.specs.Shared.{hash_of};
+ghost use Rattle.ssim_schedule.specs.Plan.{legs_count};
+ghost use Rattle.ssim_schedule.specs.Shared.{CountsRecords, hash_of, legs_of};
 
 use crate::leg::PlacedLeg;
 use ssim_periods::Value;
@@ -12,24 +13,38 @@ use std::alloc::Global;
 use std::marker::Model;
 use std::rc::Rc;
 
+/// The most records that are counted for an itinerary. An export has fewer.
+pub(crate) const MOST_RECORDS: u32 = 999_999;
+
+/// The legs of an itinerary, which its copies share. One leg or two, as most flights have, lie in one place in memory.
+#[derive(Drop)]
+pub(crate) enum SharedLegs {
+    None,
+    One(Rc<[PlacedLeg; 1]>),
+    Two(Rc<[PlacedLeg; 2]>),
+    More(Rc<Vec<PlacedLeg>>),
+}
+
 /// An itinerary: the legs of a flight on one date, by rising leg sequence; none where it does not fly. A copy shares them.
 #[derive(Drop)]
 pub struct Itinerary {
-    legs: Option<Rc<Vec<PlacedLeg>>>,
+    legs: SharedLegs,
     /// The hash of the legs. Itineraries with different hashes are different.
-    hash: u64,
+    hash: u32,
+    /// How many records the legs have, or 999,999 if they have more.
+    records: u32,
 }
 
 impl Model for Itinerary {
-    ghost use Rattle.std.specs.Prelude.{◌≡◌};
+    ghost use Rattle.std.specs.Prelude.{◌≡◌, ◌%◌};
     ghost use Rattle.ssim_schedule.specs.Timetable.{Legs};
-    ghost use Rattle.ssim_schedule.specs.Shared.{legs_of, hash_of};
+    ghost use Rattle.ssim_schedule.specs.Shared.{CountsRecords, legs_of, hash_of};
 
     ghost Value = { Legs };
 
     ghost view = { λ i. legs_of i.legs };
 
-    ghost invariant = { λ i. i.hash ≡ hash_of (legs_of i.legs) };
+    ghost invariant = { λ i. (i.hash ≡ hash_of (legs_of i.legs) % 4294967296) × CountsRecords i.records (legs_of i.legs) };
 }
 
 impl Itinerary {
@@ -37,22 +52,137 @@ impl Itinerary {
     pub(crate) fn of(alloc: Global, legs: Vec<PlacedLeg>) -> Result<Itinerary, Memory>
         ensures { IfOk result (λ itinerary. itinerary ≡ legs.items) }
     {
-        let hash = hash_of(&legs);
-        Ok(Itinerary {
-            legs: Some(Rc::new(alloc, legs)?),
+        Ok(Itinerary::of_shared(SharedLegs::More(Rc::new(alloc, legs)?)))
+    }
+
+    /// The itinerary of the legs of a list, of which the last comes first. Takes them out of the list, which keeps its room.
+    pub(crate) fn of_reversed(alloc: Global, room: &mut Vec<PlacedLeg>) -> Result<Itinerary, Memory>
+        ensures itinerary { IfOk result (λ itinerary. itinerary ≡ reverse room.old.items) }
+        ensures rest { OnOk result (room.new.items ≡ []) }
+    {
+        let legs = SharedLegs::of_reversed(alloc, room)?;
+        Ok(Itinerary::of_shared(legs))
+    }
+
+    // The itinerary of legs that are in one place.
+    fn of_shared(legs: SharedLegs) -> Itinerary
+        ensures { result ≡ legs_of legs }
+    {
+        let hash = short_hash(legs.as_slice());
+        let records = counted(legs.as_slice());
+        Itinerary {
+            legs,
             hash,
-        })
+            records,
+        }
+    }
+
+    /// How many records the legs have, if they are fewer than 999,999.
+    pub(crate) fn records(&self) -> Option<u32>
+        ensures some { IfSome result (λ count. (count ≡ legs_count self.now) × (count < 999999)) }
+        ensures none { IfNone result (999999 ≤ legs_count self.now) }
+    {
+        if self.records < MOST_RECORDS {
+            Some(self.records)
+        } else {
+            None
+        }
     }
 
     /// The legs.
     pub fn legs(&self) -> &[PlacedLeg]
         ensures { result.now ≡ self.now }
     {
-        match &self.legs {
-            None => &[],
-            Some(legs) => legs.as_slice(),
+        self.legs.as_slice()
+    }
+}
+
+impl SharedLegs {
+    // The legs of a list, of which the last comes first. Takes them out of the list.
+    fn of_reversed(alloc: Global, room: &mut Vec<PlacedLeg>) -> Result<SharedLegs, Memory>
+        ensures legs { IfOk result (λ legs. legs_of legs ≡ reverse room.old.items) }
+        ensures rest { OnOk result (room.new.items ≡ []) }
+    {
+        match room.len() {
+            1 => Ok(SharedLegs::One(Rc::new(alloc, [room.take_last()])?)),
+            2 => {
+                let pair = [room.take_last(), room.take_last()];
+                Ok(SharedLegs::Two(Rc::new(alloc, pair)?))
+            }
+            _ => {
+                let legs = taken_from(alloc, room)?;
+                Ok(SharedLegs::More(Rc::new(alloc, legs)?))
+            }
         }
     }
+
+    fn as_slice(&self) -> &[PlacedLeg]
+        ensures { result.now ≡ legs_of self.now }
+    {
+        match self {
+            SharedLegs::None => &[],
+            SharedLegs::One(legs) => &legs[..],
+            SharedLegs::Two(legs) => &legs[..],
+            SharedLegs::More(legs) => legs.as_slice(),
+        }
+    }
+
+    // A copy that shares the same legs. It allocates nothing.
+    fn copy(&self) -> Result<SharedLegs, Memory>
+        ensures { IfOk result (λ copy. legs_of copy ≡ legs_of self.now) }
+    {
+        match self {
+            SharedLegs::None => Ok(SharedLegs::None),
+            SharedLegs::One(legs) => Ok(SharedLegs::One(legs.clone()?)),
+            SharedLegs::Two(legs) => Ok(SharedLegs::Two(legs.clone()?)),
+            SharedLegs::More(legs) => Ok(SharedLegs::More(legs.clone()?)),
+        }
+    }
+}
+
+// The low 32 bits of the hash of legs.
+fn short_hash(legs: &[PlacedLeg]) -> u32
+    ensures { result ≡ hash_of legs.now % 4294967296 }
+{
+    (hash_of(legs) % 4_294_967_296) as u32
+}
+
+// How many records legs have, or 999,999 if they have more.
+fn counted(legs: &[PlacedLeg]) -> u32
+    ensures { CountsRecords result legs.now }
+{
+    match count_legs(legs) {
+        Some(count) => count,
+        None => MOST_RECORDS,
+    }
+}
+
+// How many records legs have, if they are fewer than 999,999.
+fn count_legs(legs: &[PlacedLeg]) -> Option<u32>
+    ensures some { IfSome result (λ count. (count ≡ legs_count legs.now) × (count < 999999)) }
+    ensures none { IfNone result (999999 ≤ legs_count legs.now) }
+{
+    let mut count = 0;
+    for leg in legs {
+        let tails = leg.tails().len();
+        if tails >= (999_998 - count) as usize {
+            return None;
+        }
+        count += 1 + tails as u32;
+    }
+    Some(count)
+}
+
+// The legs of a list, from the last to the first, in a list without spare room. Takes them out of the first list.
+fn taken_from(alloc: Global, room: &mut Vec<PlacedLeg>) -> Result<Vec<PlacedLeg>, Memory>
+    ensures legs { IfOk result (λ legs. legs.items ≡ reverse room.old.items) }
+    ensures rest { OnOk result (room.new.items ≡ []) }
+{
+    let mut legs = Vec::with_capacity(alloc, room.len())?;
+    while !room.is_empty() {
+        legs.push_reserved(room.take_last());
+    }
+    Ok(legs)
 }
 
 // The hash of legs: each leg is added to the hash of the later ones.
@@ -86,8 +216,9 @@ impl Value for Itinerary {
 
     fn empty() -> Self {
         Itinerary {
-            legs: None,
+            legs: SharedLegs::None,
             hash: 0,
+            records: 0,
         }
     }
 
@@ -100,13 +231,10 @@ impl Value for Itinerary {
     }
 
     fn copy(&self, _alloc: Global) -> Result<Self, Memory> {
-        let legs = match &self.legs {
-            None => None,
-            Some(legs) => Some(legs.clone()?),
-        };
         Ok(Itinerary {
-            legs,
+            legs: self.legs.copy()?,
             hash: self.hash,
+            records: self.records,
         })
     }
 

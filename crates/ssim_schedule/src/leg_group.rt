@@ -140,9 +140,8 @@ impl LegGroup {
         ensures rest { OnOk result (self.new ≡ record self.old { legs = [] }) }
     {
         let mut room = mem::replace(&mut self.legs, Vec::new(self.alloc));
-        let legs = taken_from(self.alloc, &mut room)?;
+        let put = Put::of_reversed(self.alloc, &mut room)?;
         self.legs = room;
-        let put = Put::new(self.alloc, legs)?;
         self.latest = Some(put.copy(self.alloc)?);
         self.made = self.made.saturating_add(1);
         Ok(put)
@@ -167,16 +166,4 @@ fn are_reversed(room: &[PlacedLeg], legs: &[PlacedLeg]) -> bool
             Some((other, others)) => leg.same(other) && are_reversed(rest, others),
         },
     }
-}
-
-/// The legs, from the last to the first, in a list without spare room.
-fn taken_from(alloc: Global, room: &mut Vec<PlacedLeg>) -> Result<Vec<PlacedLeg>, Memory>
-    ensures legs { IfOk result (λ legs. legs.items ≡ reverse room.old.items) }
-    ensures rest { OnOk result (room.new.items ≡ []) }
-{
-    let mut legs = Vec::with_capacity(alloc, room.len())?;
-    while !room.is_empty() {
-        legs.push_reserved(room.take_last());
-    }
-    Ok(legs)
 }

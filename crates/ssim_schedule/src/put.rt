@@ -1,6 +1,6 @@
 //! Legs put into the itineraries of the dates of their period.
 
-ghost use Rattle.std.specs.Prelude.{◌≡◌, ◌++◌, ◌≤◌, IfOk, OnOk, length};
+ghost use Rattle.std.specs.Prelude.{◌≡◌, ◌++◌, ◌≤◌, [], IfOk, OnOk, length, reverse};
 ghost use Rattle.ssim_schedule.specs.Put.{IsOrdered, legs_before, placed_each};
 
 use crate::itinerary::Itinerary;
@@ -29,13 +29,14 @@ impl Model for Put {
 }
 
 impl Put {
-    /// The change that puts these legs.
-    pub(crate) fn new(alloc: Global, legs: Vec<PlacedLeg>) -> Result<Put, Memory>
-        requires { IsOrdered legs.items }
-        ensures { IfOk result (λ put. put ≡ legs.items) }
+    /// The change that puts the legs of a list, of which the last comes first. Takes them out of the list, which keeps its room.
+    pub(crate) fn of_reversed(alloc: Global, room: &mut Vec<PlacedLeg>) -> Result<Put, Memory>
+        requires { IsOrdered (reverse room.old.items) }
+        ensures put { IfOk result (λ put. put ≡ reverse room.old.items) }
+        ensures rest { OnOk result (room.new.items ≡ []) }
     {
         Ok(Put {
-            group: Itinerary::of(alloc, legs)?,
+            group: Itinerary::of_reversed(alloc, room)?,
         })
     }
 

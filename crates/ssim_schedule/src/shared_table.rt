@@ -7,7 +7,7 @@ ghost use Rattle.ssim_periods.specs.Days.{changed_on, counts_on};
 ghost use Rattle.ssim_schedule.specs.Blocks.{IsBlock, block_of};
 ghost use Rattle.ssim_schedule.specs.ReadBack.{place_of};
 
-use crate::flight_table::FlightTable;
+use crate::flight_table::{FlightPeriods, FlightTable};
 use crate::itinerary::Itinerary;
 use ssim_periods::{Change, Periods};
 use ssim_values::{Flight, Memory, Period};
@@ -56,6 +56,16 @@ impl SharedTable {
         ensures { result.now ≡ self.now }
     {
         &self.table
+    }
+
+    /// The entries of its flights: taken out if nothing shares the block, else copied. Copies share the periods.
+    pub(crate) fn into_entries(self) -> Result<Vec<FlightPeriods>, Memory>
+        ensures { IfOk result (λ entries. entries.items ≡ self) }
+    {
+        match Rc::try_unwrap(self.table) {
+            Ok(own) => Ok(own.into_entries()),
+            Err(shared) => Ok(shared.copy()?.into_entries()),
+        }
     }
 
     /// `FlightTable::change`: in place if nothing shares the block, else on a copy of its own.

@@ -19,19 +19,19 @@ use ssim_records::{
 };
 use ssim_values::{Airline, Flight, Period};
 
-/// Puts the whole export of a plan.
+/// Puts the whole export of a plan. Each flight is freed as soon as its records are put.
 pub(crate) fn put_export<W: Sink>(
     out: &mut W,
     header: &Header,
     carrier: &Carrier,
     trailer: &Trailer,
-    plan: &[FlightPieces],
+    plan: Vec<FlightPieces>,
 ) -> Result<(), WriteFault>
-    requires few { All (λ p. length p.1 ≤ 99) plan.now }
-    requires room { 3 + plan_count plan.now < 1000000 }
-    ensures ok { OnOk result (Appends (W.taken out.old) (W.taken out.new) (plan_bytes (frame_from header.now carrier.now trailer.now) plan.now)) }
-    ensures writable { OnOk result (All HasWritablePieces plan.now) }
-    ensures err { OnErr result (TakesFront (plan_bytes (frame_from header.now carrier.now trailer.now) plan.now) (W.taken out.old) (W.taken out.new)) }
+    requires few { All (λ p. length p.1 ≤ 99) plan.items }
+    requires room { 3 + plan_count plan.items < 1000000 }
+    ensures ok { OnOk result (Appends (W.taken out.old) (W.taken out.new) (plan_bytes (frame_from header.now carrier.now trailer.now) plan.items)) }
+    ensures writable { OnOk result (All HasWritablePieces plan.items) }
+    ensures err { OnErr result (TakesFront (plan_bytes (frame_from header.now carrier.now trailer.now) plan.items) (W.taken out.old) (W.taken out.new)) }
     ensures failures { CountsFault (W.failures out.old) (W.failures out.new) result }
     ensures device { W.device out.new ≡ W.device out.old }
 {
@@ -63,14 +63,14 @@ fn put_body<W: Sink>(
     out: &mut W,
     block: &mut Block,
     airline: Airline,
-    plan: &[FlightPieces],
+    plan: Vec<FlightPieces>,
 ) -> Result<u32, WriteFault>
-    requires few { All (λ p. length p.1 ≤ 99) plan.now }
-    requires room { 3 + plan_count plan.now ≤ 1000000 }
-    ensures next { IfOk result (λ next. next ≡ 3 + plan_count plan.now) }
-    ensures ok { OnOk result (TakesUpTo (block.old ++ section_bytes (numbered 3 (plan_records airline plan.now))) block.new (W.taken out.old) (W.taken out.new)) }
-    ensures writable { OnOk result (All HasWritablePieces plan.now) }
-    ensures err { OnErr result (TakesFront (block.old ++ section_bytes (numbered 3 (plan_records airline plan.now))) (W.taken out.old) (W.taken out.new)) }
+    requires few { All (λ p. length p.1 ≤ 99) plan.items }
+    requires room { 3 + plan_count plan.items ≤ 1000000 }
+    ensures next { IfOk result (λ next. next ≡ 3 + plan_count plan.items) }
+    ensures ok { OnOk result (TakesUpTo (block.old ++ section_bytes (numbered 3 (plan_records airline plan.items))) block.new (W.taken out.old) (W.taken out.new)) }
+    ensures writable { OnOk result (All HasWritablePieces plan.items) }
+    ensures err { OnErr result (TakesFront (block.old ++ section_bytes (numbered 3 (plan_records airline plan.items))) (W.taken out.old) (W.taken out.new)) }
     ensures failures { CountsFault (W.failures out.old) (W.failures out.new) result }
     ensures device { W.device out.new ≡ W.device out.old }
 {
@@ -90,15 +90,15 @@ fn put_flights<W: Sink>(
     out: &mut W,
     block: &mut Block,
     airline: Airline,
-    plan: &[FlightPieces],
+    plan: Vec<FlightPieces>,
     serial: u32,
 ) -> Result<u32, WriteFault>
-    requires few { All (λ p. length p.1 ≤ 99) plan.now }
-    requires room { serial + plan_count plan.now ≤ 1000000 }
-    ensures next { IfOk result (λ next. next ≡ serial + plan_count plan.now) }
-    ensures ok { OnOk result (TakesUpTo (block.old ++ numbered_lines serial (plan_records airline plan.now)) block.new (W.taken out.old) (W.taken out.new)) }
-    ensures writable { OnOk result (All HasWritablePieces plan.now) }
-    ensures err { OnErr result (TakesFront (block.old ++ numbered_lines serial (plan_records airline plan.now)) (W.taken out.old) (W.taken out.new)) }
+    requires few { All (λ p. length p.1 ≤ 99) plan.items }
+    requires room { serial + plan_count plan.items ≤ 1000000 }
+    ensures next { IfOk result (λ next. next ≡ serial + plan_count plan.items) }
+    ensures ok { OnOk result (TakesUpTo (block.old ++ numbered_lines serial (plan_records airline plan.items)) block.new (W.taken out.old) (W.taken out.new)) }
+    ensures writable { OnOk result (All HasWritablePieces plan.items) }
+    ensures err { OnErr result (TakesFront (block.old ++ numbered_lines serial (plan_records airline plan.items)) (W.taken out.old) (W.taken out.new)) }
     ensures failures { CountsFault (W.failures out.old) (W.failures out.new) result }
     ensures device { W.device out.new ≡ W.device out.old }
 {

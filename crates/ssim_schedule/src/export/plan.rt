@@ -4,12 +4,11 @@ ghost use Rattle.std.specs.Prelude.{◌≡◌, ◌≤◌, ◌<◌, ◌+◌, ◌+
 ghost use Rattle.std.specs.List.{All};
 ghost use Rattle.ssim_values.specs.Flight.{IsFlight};
 ghost use Rattle.ssim_schedule.specs.Blocks.{joined};
-ghost use Rattle.ssim_schedule.specs.Plan.{IsRefusedAs, legs_count, pieces_count, plan_of, plan_refusal};
+ghost use Rattle.ssim_schedule.specs.Plan.{IsRefusedAs, pieces_count, plan_of, plan_refusal};
 
 use crate::export::ExportFault;
 use crate::flight_table::{FlightPeriods, place};
-use crate::itinerary::Itinerary;
-use crate::leg::PlacedLeg;
+use crate::itinerary::{Itinerary, MOST_RECORDS};
 use crate::shared_table::SharedTable;
 use ssim_values::{Flight, Memory, Period};
 use std::alloc::Global;
@@ -44,22 +43,22 @@ impl FlightPieces {
     }
 }
 
-/// The flights of all blocks with their pieces.
-pub(crate) fn divide(alloc: Global, blocks: &[SharedTable]) -> Result<Vec<FlightPieces>, Memory>
-    ensures plan { IfOk result (λ plan. plan.items ≡ plan_of (joined blocks.now)) }
-    ensures flights { OnOk result (All (λ f. IsFlight f.flight) (joined blocks.now)) }
+/// The flights of all blocks with their pieces. The periods of each flight are freed as soon as it is divided.
+pub(crate) fn divide(alloc: Global, blocks: Vec<SharedTable>) -> Result<Vec<FlightPieces>, Memory>
+    ensures plan { IfOk result (λ plan. plan.items ≡ plan_of (joined blocks.items)) }
+    ensures flights { OnOk result (All (λ f. IsFlight f.flight) (joined blocks.items)) }
 {
     let mut plan = Vec::new(alloc);
     for block in blocks {
-        divide_block(&mut plan, block.held().entries())?;
+        divide_block(&mut plan, block.into_entries()?)?;
     }
     Ok(plan)
 }
 
 // Adds the flights of a block with their pieces.
-fn divide_block(plan: &mut Vec<FlightPieces>, entries: &[FlightPeriods]) -> Result<(), Memory>
-    ensures plan { OnOk result (plan.new.items ≡ plan.old.items ++ plan_of entries.now) }
-    ensures flights { OnOk result (All (λ f. IsFlight f.flight) entries.now) }
+fn divide_block(plan: &mut Vec<FlightPieces>, entries: Vec<FlightPeriods>) -> Result<(), Memory>
+    ensures plan { OnOk result (plan.new.items ≡ plan.old.items ++ plan_of entries.items) }
+    ensures flights { OnOk result (All (λ f. IsFlight f.flight) entries.items) }
 {
     for entry in entries {
         let _ = place(entry.flight);
@@ -97,23 +96,11 @@ fn count_pieces(before: u32, pieces: &[(Period, Itinerary)]) -> Option<u32>
 {
     let mut count = before;
     for piece in pieces {
-        count = count_legs(count, piece.1.legs())?;
-    }
-    Some(count)
-}
-
-fn count_legs(before: u32, legs: &[PlacedLeg]) -> Option<u32>
-    requires { before < 999999 }
-    ensures some { IfSome result (λ count. (count ≡ before + legs_count legs.now) × (count < 999999)) }
-    ensures none { IfNone result (999999 ≤ before + legs_count legs.now) }
-{
-    let mut count = before;
-    for leg in legs {
-        let tails = leg.tails().len();
-        if tails >= (999_998 - count) as usize {
+        let records = piece.1.records()?;
+        if records >= MOST_RECORDS - count {
             return None;
         }
-        count += 1 + tails as u32;
+        count += records;
     }
     Some(count)
 }

@@ -9,7 +9,7 @@ use Rattle.ssim_schedule.proofs.export.lines.put_export.Goals as goal
 
 pub returns-in_err-put_alone-clause-err : goal.returns-in_err-put_alone-clause-err
 returns-in_err-put_alone-clause-err g c =
-    let plan = c.args.plan.now in
+    let plan = c.args.plan.items in
     let all = plan_bytes (frame_from c.args.header.now c.args.carrier.now c.args.trailer.now) plan in
     let split = four_sections c.args.header.now c.with_serial.result c.args.carrier.now (carrier_at c.args.carrier.now 2) c.args.trailer.now (trailer_at c.args.trailer.now (2 + plan_count plan) (3 + plan_count plan)) c.args.carrier.now.airline plan (2 + plan_count plan) (3 + plan_count plan) c.with_serial.ensures refl refl refl refl refl in
     let s1 = section_bytes (Header c.with_serial.result ∷ []) in
@@ -20,7 +20,7 @@ returns-in_err-put_alone-clause-err g c =
 
 pub returns-in_err-put_alone-2-clause-err : goal.returns-in_err-put_alone-2-clause-err
 returns-in_err-put_alone-2-clause-err g c =
-    let plan = c.args.plan.now in
+    let plan = c.args.plan.items in
     let all = plan_bytes (frame_from c.args.header.now c.args.carrier.now c.args.trailer.now) plan in
     let split = four_sections c.args.header.now c.with_serial.result c.args.carrier.now c.with_serial-2.result c.args.trailer.now (trailer_at c.args.trailer.now (2 + plan_count plan) (3 + plan_count plan)) c.args.carrier.now.airline plan (2 + plan_count plan) (3 + plan_count plan) c.with_serial.ensures c.with_serial-2.ensures refl refl refl refl in
     let s1 = section_bytes (Header c.with_serial.result ∷ []) in
@@ -31,7 +31,7 @@ returns-in_err-put_alone-2-clause-err g c =
 
 pub returns-in_err-next-clause-err : goal.returns-in_err-next-clause-err
 returns-in_err-next-clause-err g c =
-    let plan = c.args.plan.now in
+    let plan = c.args.plan.items in
     let all = plan_bytes (frame_from c.args.header.now c.args.carrier.now c.args.trailer.now) plan in
     let split = four_sections c.args.header.now c.with_serial.result c.args.carrier.now c.with_serial-2.result c.args.trailer.now (trailer_at c.args.trailer.now (2 + plan_count plan) (3 + plan_count plan)) c.airline.result plan (2 + plan_count plan) (3 + plan_count plan) c.with_serial.ensures c.with_serial-2.ensures c.airline.ensures refl refl refl in
     let s1 = section_bytes (Header c.with_serial.result ∷ []) in
@@ -42,7 +42,7 @@ returns-in_err-next-clause-err g c =
 
 pub returns-in_err-put_alone-3-clause-err : goal.returns-in_err-put_alone-3-clause-err
 returns-in_err-put_alone-3-clause-err g c =
-    let plan = c.args.plan.now in
+    let plan = c.args.plan.items in
     let all = plan_bytes (frame_from c.args.header.now c.args.carrier.now c.args.trailer.now) plan in
     let check : c.in_ok-next.next - 1 ≡ 2 + plan_count plan = omega (arith, c.in_ok-next.ensures.next) in
     let split = four_sections c.args.header.now c.with_serial.result c.args.carrier.now c.with_serial-2.result c.args.trailer.now c.with_serials.result c.airline.result plan (c.in_ok-next.next - 1) c.in_ok-next.next c.with_serial.ensures c.with_serial-2.ensures c.airline.ensures check c.in_ok-next.ensures.next c.with_serials.ensures in
@@ -54,7 +54,7 @@ returns-in_err-put_alone-3-clause-err g c =
 
 pub returns-clause-ok : goal.returns-clause-ok
 returns-clause-ok g c =
-    let plan = c.args.plan.now in
+    let plan = c.args.plan.items in
     let all = plan_bytes (frame_from c.args.header.now c.args.carrier.now c.args.trailer.now) plan in
     let check : c.in_ok-next.next - 1 ≡ 2 + plan_count plan = omega (arith, c.in_ok-next.ensures.next) in
     let split = four_sections c.args.header.now c.with_serial.result c.args.carrier.now c.with_serial-2.result c.args.trailer.now c.with_serials.result c.airline.result plan (c.in_ok-next.next - 1) c.in_ok-next.next c.with_serial.ensures c.with_serial-2.ensures c.airline.ensures check c.in_ok-next.ensures.next c.with_serials.ensures in
@@ -70,7 +70,7 @@ returns-clause-writable g c = if_ok c.flush.result (λ h. c.in_ok-next.ensures.w
 
 pub returns-clause-err : goal.returns-clause-err
 returns-clause-err g c =
-    let plan = c.args.plan.now in
+    let plan = c.args.plan.items in
     let all = plan_bytes (frame_from c.args.header.now c.args.carrier.now c.args.trailer.now) plan in
     let check : c.in_ok-next.next - 1 ≡ 2 + plan_count plan = omega (arith, c.in_ok-next.ensures.next) in
     let split = four_sections c.args.header.now c.with_serial.result c.args.carrier.now c.with_serial-2.result c.args.trailer.now c.with_serials.result c.airline.result plan (c.in_ok-next.next - 1) c.in_ok-next.next c.with_serial.ensures c.with_serial-2.ensures c.airline.ensures check c.in_ok-next.ensures.next c.with_serials.ensures in

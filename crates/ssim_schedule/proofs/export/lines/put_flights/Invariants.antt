@@ -1,15 +1,20 @@
--- What was put, and the flights that are left, is all of it; and what was put is what records may have.
-use Rattle.std.proofs.Common.{◌≡◌, ◌+◌, ◌++◌, drop, take}
+-- What was put, and the flights that are left, is all of it; and if those that are left are what records may have, all are.
+use Rattle.std.proofs.Common.{◌≡◌, ◌≤◌, ◌+◌, ◌++◌, length}
 use Rattle.std.specs.List.{All}
+use Rattle.std.specs.Vec.Iter.{into_iter_items, into_iter_len}
 use Rattle.ssim_schedule.specs.Plan.{HasWritablePieces, numbered_lines, plan_count, plan_records}
 use Rattle.ssim_schedule.specs.Sinks.{TakesUpTo}
 use Rattle.ssim_schedule.proofs.export.lines.put_flights.Given as goal
 
 abbrev pub invariant-loop-planned : goal.invariant-loop-planned
-invariant-loop-planned g l = record {
-  next : l.next + plan_count (drop l.planned-index l.plan) ≡ l.serial + plan_count l.plan;
-  bytes : TakesUpTo (l.fn.block ++ numbered_lines l.serial (plan_records l.airline l.plan)) (l.block ++ numbered_lines l.next (plan_records l.airline (drop l.planned-index l.plan))) (g.W.Sink.taken l.fn.out) (g.W.Sink.taken l.out);
-  writable : All HasWritablePieces (take l.planned-index l.plan);
-  failures : g.W.Sink.failures l.out ≡ g.W.Sink.failures l.fn.out;
-  device : g.W.Sink.device l.out ≡ g.W.Sink.device l.fn.out;
-}
+invariant-loop-planned g l =
+    let left = into_iter_items l.planned-iterator in
+    record {
+      next : l.next + plan_count left ≡ l.serial + plan_count l.fn.plan.items;
+      bytes : TakesUpTo (l.fn.block ++ numbered_lines l.serial (plan_records l.airline l.fn.plan.items)) (l.block ++ numbered_lines l.next (plan_records l.airline left)) (g.W.Sink.taken l.fn.out) (g.W.Sink.taken l.out);
+      few : All (λ p. length p.1 ≤ 99) left;
+      writable : All HasWritablePieces left → All HasWritablePieces l.fn.plan.items;
+      failures : g.W.Sink.failures l.out ≡ g.W.Sink.failures l.fn.out;
+      device : g.W.Sink.device l.out ≡ g.W.Sink.device l.fn.out;
+      count : into_iter_len l.planned-iterator ≡ length left;
+    }

@@ -1,6 +1,8 @@
--- The flights of a block more are planned.
-use Rattle.std.proofs.Common.{◌≡◌, ap, subst, ◌∙◌, ◌++◌}
+-- The flights of a block are planned, of those that are left.
+use Rattle.std.proofs.Common.{◌≡◌, ◌∷◌, ◌++◌, ap, subst, ◌∙◌, arith}
+use Rattle.std.proofs.Common.{length}
 use Rattle.std.specs.List.{All}
+use Rattle.std.specs.Vec.Iter.{into_iter_items}
 use Rattle.ssim_values.specs.Flight.{IsFlight}
 use Rattle.ssim_schedule.specs.Plan.{plan_of}
 use Rattle.ssim_schedule.specs.Schedule.{Table}
@@ -9,11 +11,13 @@ use Rattle.ssim_schedule.proofs.export.plan.divide.Goals as goal
 
 pub loop-block-preserved : goal.loop-block-preserved
 loop-block-preserved c =
-    let blocks = c.args.blocks.now in
-    let i = c.loop-block.block-index in
-    let block = c.block-item.result in
-    let entries : c.entries.result.now ≡ block = c.entries.ensures.value ∙ c.held.ensures in
+    let at = c.loop-block in
+    let b = c.in-Some.block in
+    let left = into_iter_items at.block-iterator in
+    let rest = into_iter_items c.next.new.self in
+    let steps : left ≡ b ∷ rest = c.in-Some.ensures.steps.0 in
     record {
-      plan = planned_block blocks i block c.loop-block.plan.items c.divide_block.new.plan.items c.loop-block-test.true c.block-item.is c.loop-block.invariant.plan (c.in_ok-divide_block.ensures.plan ∙ ap (λ (t : Table). c.loop-block.plan.items ++ plan_of t) entries);
-      flights = block_exists blocks i block c.loop-block-test.true c.block-item.is c.loop-block.invariant.flights (subst (λ (t : Table). All (λ f. IsFlight f.flight) t) entries c.in_ok-divide_block.ensures.flights);
+      plan = planned_block left rest b at.plan.items c.divide_block.new.plan.items _ steps (c.in_ok-divide_block.ensures.plan ∙ ap (λ (t : Table). at.plan.items ++ plan_of t) c.in_ok-into_entries.ensures) at.invariant.plan;
+      flights = block_exists _ left rest b steps (subst (λ (t : Table). All (λ f. IsFlight f.flight) t) c.in_ok-into_entries.ensures c.in_ok-divide_block.ensures.flights) at.invariant.flights;
+      left = let was = at.invariant.left in let gone = c.in-Some.ensures.steps.1 in let short = ap length steps in omega arith;
     }

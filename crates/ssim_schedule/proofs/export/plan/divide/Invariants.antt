@@ -1,6 +1,7 @@
--- The flights of the blocks so far are planned, and exist.
-use Rattle.std.proofs.Common.{◌≡◌, take}
+-- The plan and the blocks that are left are all of the plan; and if their flights exist, all do.
+use Rattle.std.proofs.Common.{◌≡◌, ◌++◌, length}
 use Rattle.std.specs.List.{All}
+use Rattle.std.specs.Vec.Iter.{into_iter_items, into_iter_len}
 use Rattle.ssim_values.specs.Flight.{IsFlight}
 use Rattle.ssim_schedule.specs.Blocks.{joined}
 use Rattle.ssim_schedule.specs.Plan.{plan_of}
@@ -8,6 +9,7 @@ use Rattle.ssim_schedule.proofs.export.plan.divide.Given as goal
 
 abbrev pub invariant-loop-block : goal.invariant-loop-block
 invariant-loop-block l = record {
-  plan : l.plan.items ≡ plan_of (joined (take l.block-index l.blocks));
-  flights : All (λ f. IsFlight f.flight) (joined (take l.block-index l.blocks));
+  plan : l.plan.items ++ plan_of (joined (into_iter_items l.block-iterator)) ≡ plan_of (joined l.fn.blocks.items);
+  flights : All (λ f. IsFlight f.flight) (joined (into_iter_items l.block-iterator)) → All (λ f. IsFlight f.flight) (joined l.fn.blocks.items);
+  left : into_iter_len l.block-iterator ≡ length (into_iter_items l.block-iterator);
 }

@@ -1,10 +1,10 @@
 -- The count so far and that of what is left is all.
 use Rattle.std.proofs.Common.{◌≡◌, ◌<◌, ◌+◌, drop}
 use Rattle.ssim_schedule.specs.Plan.{legs_count}
-use Rattle.ssim_schedule.proofs.export.plan.count_legs.Given as goal
+use Rattle.ssim_schedule.proofs.itinerary.count_legs.Given as goal
 
 abbrev pub invariant-loop-leg : goal.invariant-loop-leg
 invariant-loop-leg l = record {
   room : l.count < 999999;
-  all : l.count + legs_count (drop l.leg-index l.legs) ≡ l.before + legs_count l.legs;
+  all : l.count + legs_count (drop l.leg-index l.legs) ≡ legs_count l.legs;
 }
