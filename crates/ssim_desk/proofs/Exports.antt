@@ -1,12 +1,19 @@
 -- The export of a schedule is that of the timetable that it has.
 use Rattle.std.proofs.Common.{◌≡◌, ℕ, List, Option, Result, ap, subst}
 use Rattle.ssim_records.specs.declared.record.Record.{Record}
+use Rattle.ssim_schedule.proofs.ReadingBack.{reads_back_as}
 use Rattle.ssim_schedule.proofs.Whole.{same_export}
+use Rattle.ssim_schedule.specs.BaseSeen.{BaseSeen}
 use Rattle.ssim_schedule.specs.Export.{ExportRefusal, Frame, chapter7, export_bytes, result_map}
-use Rattle.ssim_schedule.specs.Plan.{Refuses, RefusesBase, Writes, WritesBase}
-use Rattle.ssim_schedule.specs.Timetable.{Days}
+use Rattle.ssim_schedule.specs.Plan.{ReadsBackBase, Refuses, RefusesBase, Writes, WritesBase}
+use Rattle.ssim_schedule.specs.Schedule.{Table}
+use Rattle.ssim_schedule.specs.Stations.{Row}
+use Rattle.ssim_schedule.specs.Timetable.{Days, itinerary}
 use Rattle.ssim_schedule.specs.declared.export.ExportFault.{ExportFault}
 use Rattle.ssim_values.specs.Flight.{FlightNumber, IsFlight}
+use Rattle.ssim_held.specs.Kept.{Entry}
+use Rattle.ssim_desk.specs.Meaning.{after_entries, left_by}
+use Rattle.ssim_desk.specs.Private.{Shows}
 
 module _ (days others : FlightNumber → Days) (same : (flight : FlightNumber) → IsFlight flight → days flight ≡ others flight) where
   pub same_chapter7 : (frame : Frame) → chapter7 frame days ≡ chapter7 frame others
@@ -18,3 +25,13 @@ module _ (days others : FlightNumber → Days) (same : (flight : FlightNumber) �
 
     pub refuses : (fault : ExportFault) → RefusesBase taken failures records days old new fault → RefusesBase taken failures records others old new fault
     refuses fault (frame, has, r) = (frame, has, subst (λ (e : Result (List ℕ) ExportRefusal). Refuses taken failures e old new fault) (same_chapter7 frame) r)
+
+  pub reads_back : {W : Type 0} (taken : W → Option (List ℕ)) (records : List Record) (old new : W) → ReadsBackBase taken records days old new → ReadsBackBase taken records others old new
+  reads_back taken records old new (frame, has, bytes, took, back) = (frame, has, bytes, took, reads_back_as frame days others bytes same back)
+
+-- The messages have acted on the timetable of the base. So the schedule has what they leave of it.
+pub left : (base : BaseSeen) (entries : List Entry) (rows : List Row) (messages : List Entry) (schedule : Table) → rows ≡ base.rows → messages ≡ entries
+    → Shows schedule (after_entries rows messages (itinerary base.records)) → Shows schedule (left_by base entries)
+left base entries rows messages schedule same_rows same_messages shows =
+    subst (λ (es : List Entry). Shows schedule (after_entries base.rows es (itinerary base.records))) same_messages
+    (subst (λ (rs : List Row). Shows schedule (after_entries rs messages (itinerary base.records))) same_rows shows)

@@ -3,12 +3,13 @@
 ghost use Rattle.std.specs.Prelude.{◌≡◌, ◌↔◌, ◌++◌, [], IsTrue, ◌∷◌, take, drop, Ok, IfErr, IfOk, OnErr, OnOk};
 ghost use Rattle.std.specs.Io.KnownBytes.{Appends};
 ghost use Rattle.ssim_schedule.specs.BaseSeen.{base_with};
+ghost use Rattle.ssim_schedule.specs.Plan.{ReadsBackBase, RefusesBase, WritesBase};
 ghost use Rattle.ssim_schedule.specs.Sinks.{CountsFault, TakesFront};
 ghost use Rattle.ssim_held.specs.File.{CanBeSaved, IsDeskFile, desk_file};
 ghost use Rattle.ssim_held.specs.Kept.{AreEntries, AreRising, IsEntry, map_of, state_of};
 ghost use Rattle.ssim_held.specs.Opening.{RefusesBytes};
 ghost use Rattle.ssim_held.specs.Ordered.{Belongs};
-ghost use Rattle.ssim_desk.specs.Desk.{finding_lines, merge_answer, take_answer, timetable_of};
+ghost use Rattle.ssim_desk.specs.Desk.{days_of_desk, finding_lines, merge_answer, take_answer, timetable_of};
 ghost use Rattle.ssim_desk.specs.Meaning.{Finds, Means, Timetable, found_by};
 ghost use Rattle.ssim_desk.specs.Steps.{Merges, Takes};
 
@@ -16,18 +17,19 @@ use crate::desk::Took;
 use crate::finding_line::{FindingLine, push_lines};
 use crate::flights::{found_by, legs_after};
 use crate::offer::{Offer, offer_over};
+use crate::replay::act_in_order;
 use ssim_held::{
     DeskFault, Held, Opened, first_conflict, merged, put_data_set, read_bytes, read_parts,
 };
 use ssim_records::{Parts, Sink};
-use ssim_schedule::{Base, DataSet, PlacedLeg, Stations, WriteFault};
+use ssim_schedule::{Base, DataSet, ExportFault, PlacedLeg, Stations, WriteFault};
 use ssim_values::{Day, Flight, Memory};
 use std::alloc::Global;
 use std::marker::Model;
 
 /// What a desk holds: a base, and messages in order of reference. It takes texts and merges as a desk does. It keeps no timetable, so it
 /// takes less time and memory than a desk where no timetable is asked for, or once that of few flights: each such call makes the timetable of
-/// the flights that it needs.
+/// the flights that it needs. The export makes the whole timetable, and consumes what is held.
 ///
 /// Contracts see it as a desk whose latest change applied no message.
 #[derive(Drop)]
@@ -176,6 +178,25 @@ impl Holdings {
         let mut lines = Vec::new(self.alloc);
         push_lines(&mut lines, &self.held, &found)?;
         Ok(lines)
+    }
+
+    /// Writes the desk's timetable as a data set, as `Desk::export` does. The records are freed while the timetable is made, so it takes the
+    /// memory of one of the two. Nothing is kept for later messages. 90 can also mean that there is no memory for the timetable.
+    pub fn export<W: Sink>(self, out: &mut W) -> Result<(), ExportFault>
+        ensures ok { OnOk result (WritesBase W.taken W.failures self.base.records (days_of_desk self) out.old out.new) }
+        ensures err { IfErr result (λ fault. RefusesBase W.taken W.failures self.base.records (days_of_desk self) out.old out.new fault) }
+        ensures device { W.device out.new ≡ W.device out.old }
+        ensures reads_back { OnOk result (ReadsBackBase W.taken self.base.records (days_of_desk self) out.old out.new) }
+    {
+        let Holdings {
+            data_set,
+            stations,
+            held,
+            alloc,
+        } = self;
+        let (mut schedule, frame) = data_set.into_schedule()?;
+        act_in_order(alloc, stations.rows(), &mut schedule, &held)?;
+        schedule.export_in(&frame, out)
     }
 
     /// The base, made in one list, and the messages.

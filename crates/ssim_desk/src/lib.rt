@@ -2,7 +2,8 @@
 //!
 //! - [`Desk`]: a base and the messages that it holds in order of reference. `take` takes a text, `merge` what another desk holds;
 //!   `itinerary`, `cuts`, `findings` and `export` read the schedule that the messages leave. [`Took`] and [`DeskFault`]: the results.
-//! - [`Holdings`]: the base and the messages of a desk without its timetable, for callers that ask for none, or once for few flights.
+//! - [`Holdings`]: the base and the messages of a desk without its timetable, for callers that ask for none, or once for few flights or
+//!   for the export.
 //! - [`Held`]: a message that a desk holds, with its reference and its canonical text.
 //! - [`FindingLine`]: what a sub-message found on the dates of its period.
 //! - [`run_steps`]: tries [`Step`]s on several desks, each a text or a merge, and returns an [`Answer`] for each.

@@ -6,7 +6,7 @@ ghost use Rattle.ssim_schedule.specs.Acts.{finding_of};
 ghost use Rattle.ssim_schedule.specs.Schedule.{cuts_in};
 ghost use Rattle.ssim_values.specs.Flight.{FlightNumber, IsFlight};
 ghost use Rattle.ssim_desk.specs.Private.{AddsSubPoints, Shows};
-ghost use Rattle.ssim_desk.specs.Meaning.{Timetable, after_entry, after_one, subs_findings};
+ghost use Rattle.ssim_desk.specs.Meaning.{Timetable, after_entries, after_entry, after_one, subs_findings};
 
 use ssim_held::Held;
 use ssim_schedule::{Finding, ResolvedSub, Schedule, StationRow};
@@ -47,4 +47,19 @@ pub(crate) fn act(
         found.push(act_one(rows, schedule, sub, held.dates()[place])?)?;
     }
     Ok(found)
+}
+
+/// Messages act in their order. What they find is not kept.
+pub(crate) fn act_in_order(
+    alloc: Global,
+    rows: &[StationRow],
+    schedule: &mut Schedule,
+    messages: &[Held],
+) -> Result<(), Memory>
+    ensures { OnOk result ((before : Timetable) → Shows schedule.old before → Shows schedule.new (after_entries rows.now messages.now before)) }
+{
+    for held in messages {
+        act(alloc, rows, schedule, held)?;
+    }
+    Ok(())
 }

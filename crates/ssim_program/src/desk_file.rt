@@ -8,21 +8,8 @@ ghost use Rattle.ssim_program.specs.Files.{with_kept};
 use crate::data_set::load_parts;
 use crate::refusal::Refusal;
 use crate::store::{Store, StoreFault};
-use ssim_desk::{Desk, Holdings};
+use ssim_desk::Holdings;
 use std::alloc::Global;
-
-/// Opens the desk in the file of this name.
-pub(crate) fn open<S: Store>(alloc: Global, name: &str, store: &mut S) -> Result<Desk, Refusal>
-    ensures read { IfOk result (ReadsDesk (S.files store.old) name.now) }
-    ensures refused { IfErr result (RefusesDeskFile (S.files store.old) name.now) }
-    ensures same { S.files store.new ≡ S.files store.old }
-{
-    let holdings = open_holdings(alloc, name, store)?;
-    match Desk::of(alloc, holdings) {
-        Ok(desk) => Ok(desk),
-        Err(_) => Err(Refusal::Memory),
-    }
-}
 
 /// What the desk in the file of this name holds. The file's bytes are freed as they are read.
 pub(crate) fn open_holdings<S: Store>(

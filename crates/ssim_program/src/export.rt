@@ -7,11 +7,11 @@ ghost use Rattle.ssim_program.specs.Line.{Export};
 ghost use Rattle.ssim_program.specs.Effects.{Leaves, Writes};
 ghost use Rattle.ssim_program.specs.Reasons.{CountsExport, HasNoExport, Refuses};
 
-use crate::desk_file::open;
+use crate::desk_file::open_holdings;
 use crate::printer::Printer;
 use crate::refusal::Refusal;
 use crate::store::Store;
-use ssim_desk::Desk;
+use ssim_desk::Holdings;
 use ssim_schedule::ExportFault;
 use std::alloc::Global;
 
@@ -29,23 +29,24 @@ pub(crate) fn export<S: Store, O: Printer>(
     ensures device { O.device out.new ≡ O.device out.old }
     ensures flushed { OnOk result (O.flushed out.new ≡ true) }
 {
-    let desk = open(alloc, name, store)?;
-    match export_desk(&desk, out) {
+    let holdings = open_holdings(alloc, name, store)?;
+    let airline = holdings.data_set().airline();
+    match export_holdings(holdings, out) {
         Ok(()) => Ok(()),
-        Err(fault) => Err(Refusal::of_export(desk.base().airline(), fault)),
+        Err(fault) => Err(Refusal::of_export(airline, fault)),
     }
 }
 
-/// Writes the canonical export of a desk, and flushes `out`.
-fn export_desk<O: Printer>(desk: &Desk, out: &mut O) -> Result<(), ExportFault>
-    ensures ok { OnOk result (ExportsDesk desk.now (O.taken out.old) (O.taken out.new)) }
-    ensures why { IfErr result (HasNoExport desk.now.base.records (days_of_desk desk.now) (O.failures out.old) (O.failures out.new)) }
+/// Writes the canonical export of what a desk holds, and flushes `out`.
+fn export_holdings<O: Printer>(holdings: Holdings, out: &mut O) -> Result<(), ExportFault>
+    ensures ok { OnOk result (ExportsDesk holdings (O.taken out.old) (O.taken out.new)) }
+    ensures why { IfErr result (HasNoExport holdings.base.records (days_of_desk holdings) (O.failures out.old) (O.failures out.new)) }
     ensures counts { IfErr result (CountsExport (O.failures out.old) (O.failures out.new)) }
-    ensures err { OnErr result (LeavesDeskExport desk.now (O.taken out.old) (O.taken out.new) (O.failures out.old) (O.failures out.new)) }
+    ensures err { OnErr result (LeavesDeskExport holdings (O.taken out.old) (O.taken out.new) (O.failures out.old) (O.failures out.new)) }
     ensures device { O.device out.new ≡ O.device out.old }
     ensures flushed { OnOk result (O.flushed out.new ≡ true) }
 {
-    desk.export(out)?;
+    holdings.export(out)?;
     match out.flush() {
         Ok(()) => Ok(()),
         Err(_) => Err(ExportFault::WriteFault),

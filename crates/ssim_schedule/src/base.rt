@@ -12,6 +12,7 @@ ghost use Rattle.ssim_schedule.specs.Reading.{Answers, Came, FailsAfter, FailsAs
 ghost use Rattle.ssim_schedule.specs.SavedBase.{IsBaseRecords};
 ghost use Rattle.ssim_schedule.specs.Timetable.{days_of};
 
+use crate::export::frame::ExportFrame;
 use crate::fault::BaseFault;
 use crate::gathering::Gathering;
 use crate::kept::Kept;
@@ -209,6 +210,21 @@ impl Base {
         match &self.records[self.records.len() - 1] {
             Record::Trailer(trailer) => trailer,
             _ => unreachable!(),
+        }
+    }
+
+    /// The frame of an export: the header, the carrier record and the trailer.
+    pub(crate) fn frame(&self) -> ExportFrame
+        ensures { HasFrame result self.now.records }
+    {
+        let header = *self.header();
+        let carrier = *self.carrier();
+        let trailer = *self.trailer();
+        ExportFrame {
+            header,
+            carrier,
+            trailer,
+            alloc: self.alloc,
         }
     }
 

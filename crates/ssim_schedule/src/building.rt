@@ -6,13 +6,16 @@ ghost use Rattle.ssim_values.specs.Flight.{FlightNumber, IsFlight};
 ghost use Rattle.ssim_periods.specs.Days.{each_day};
 ghost use Rattle.ssim_records.specs.declared.record.Record.{Record};
 ghost use Rattle.ssim_schedule.specs.Building.{IsClosed};
+ghost use Rattle.ssim_schedule.specs.Export.{Frame};
 ghost use Rattle.ssim_schedule.specs.FlightSet.{is_marked, is_record_of};
 ghost use Rattle.ssim_schedule.specs.Points.{AreAtPoints};
+ghost use Rattle.ssim_schedule.specs.ReadBack.{HasFrame};
 ghost use Rattle.ssim_schedule.specs.Schedule.{cuts_in, days_in};
 ghost use Rattle.ssim_schedule.specs.Timetable.{days_of, itinerary_among};
 
 use crate::base::Base;
 use crate::data_set::DataSet;
+use crate::export::frame::ExportFrame;
 use crate::flight_blocks::FlightBlocks;
 use crate::flight_set::FlightSet;
 use crate::leg_group::LegGroup;
@@ -66,8 +69,21 @@ impl Schedule {
 }
 
 impl DataSet {
-    /// The timetable of the data set. The records are freed while it is made.
-    pub(crate) fn into_table(self) -> Result<FlightBlocks, Memory>
+    /// The timetable of the data set, and the frame of its export. The records are freed while the timetable is made, so it takes the
+    /// memory of one of the two.
+    pub fn into_schedule(self) -> Result<(Schedule, ExportFrame), Memory>
+        ensures days { IfOk result (λ made. (g : FlightNumber) → IsFlight g → days_in made.0 g ≡ days_of self g) }
+        ensures frame { IfOk result (λ made. HasFrame made.1 self) }
+        ensures exists { (frame : Frame) × HasFrame frame self }
+    {
+        let frame = self.frame();
+        let table = self.into_table()?;
+        let schedule = Schedule { table };
+        Ok((schedule, frame))
+    }
+
+    // The timetable alone.
+    fn into_table(self) -> Result<FlightBlocks, Memory>
         ensures { IfOk result (λ s. (g : FlightNumber) → IsFlight g → days_in s g ≡ days_of self g) }
     {
         let alloc = self.allocator();

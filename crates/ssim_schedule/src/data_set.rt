@@ -12,6 +12,7 @@ ghost use Rattle.ssim_schedule.specs.SavedBase.{IsBaseRecords};
 ghost use Rattle.ssim_schedule.specs.Timetable.{days_of};
 
 use crate::base::Base;
+use crate::export::frame::ExportFrame;
 use crate::fault::BaseFault;
 use crate::gathering::Gathering;
 use crate::kept::Kept;
@@ -138,6 +139,22 @@ impl DataSet {
         match self.records.at(self.records.len() - 1) {
             Record::Trailer(trailer) => trailer,
             _ => unreachable!(),
+        }
+    }
+
+    /// The frame of an export: the header, the carrier record and the trailer.
+    pub(crate) fn frame(&self) -> ExportFrame
+        ensures frame { HasFrame result self.now }
+        ensures exports { CanExport self.now }
+    {
+        let header = *self.header();
+        let carrier = *self.carrier();
+        let trailer = *self.trailer();
+        ExportFrame {
+            header,
+            carrier,
+            trailer,
+            alloc: self.alloc,
         }
     }
 

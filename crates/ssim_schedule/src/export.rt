@@ -1,18 +1,21 @@
 //! The canonical export of a timetable: planned and measured first, then written.
 
-ghost use Rattle.std.specs.Prelude.{◌≡◌, IfErr, OnOk, Some};
+ghost use Rattle.std.specs.Prelude.{◌≡◌, ℕ, List, IfErr, OnOk, Some};
+ghost use Rattle.std.specs.Io.KnownBytes.{Appends};
 ghost use Rattle.ssim_schedule.specs.Export.{chapter7};
 ghost use Rattle.ssim_schedule.specs.Plan.{ReadsBackBase, Refuses, RefusesBase, Writes, WritesBase, frame_from};
-ghost use Rattle.ssim_schedule.specs.ReadBack.{CanReadBack, IsTimetable};
+ghost use Rattle.ssim_schedule.specs.ReadBack.{CanReadBack, IsTimetable, ReadsBackFrom};
 ghost use Rattle.ssim_schedule.specs.Schedule.{days_in};
 ghost use Rattle.ssim_schedule.specs.Timetable.{days_of};
 
 pub mod block;
+pub mod frame;
 mod lines;
 mod plan;
 
 use crate::base::Base;
 use crate::data_set::DataSet;
+use crate::export::frame::ExportFrame;
 use crate::export::lines::put_export;
 use crate::export::plan::{divide, measure};
 use crate::flight_blocks::FlightBlocks;
@@ -114,13 +117,31 @@ impl Schedule {
         // The bytes read back to the same itinerary on each date, and the export of what was read is the same bytes.
         ensures reads_back { OnOk result (ReadsBackBase W.taken base.now.records (days_in self.now) out.old out.new) }
     {
+        let frame = base.frame();
+        let own = self.copy()?;
+        own.export_in(&frame, out)
+    }
+
+    /// Writes the canonical export in this frame, as `export` does in that of a base. What no copy of the schedule shares is freed flight by
+    /// flight.
+    pub fn export_in<W: Sink>(self, frame: &ExportFrame, out: &mut W) -> Result<(), ExportFault>
+        ensures ok { OnOk result (Writes W.taken W.failures (chapter7 frame.now (days_in self)) out.old out.new) }
+        ensures err { IfErr result (λ fault. Refuses W.taken W.failures (chapter7 frame.now (days_in self)) out.old out.new fault) }
+        ensures device { W.device out.new ≡ W.device out.old }
+
+        // The bytes read back to the same itinerary on each date, and the export of what was read is the same bytes.
+        ensures reads_back { OnOk result ((bytes : List ℕ) × Appends (W.taken out.old) (W.taken out.new) bytes × ReadsBackFrom frame.now (days_in self) bytes) }
+    {
         export_bytes_read_back();
-        let header = base.header();
-        let carrier = base.carrier();
-        let trailer = base.trailer();
-        let alloc = base.allocator();
-        let table = self.table.copy()?;
-        export_frame(table, header, carrier, trailer, alloc, out)
+        let Schedule { table } = self;
+        export_frame(
+            table,
+            &frame.header,
+            &frame.carrier,
+            &frame.trailer,
+            frame.alloc,
+            out,
+        )
     }
 }
 
@@ -136,13 +157,8 @@ impl DataSet {
         ensures reads_back { OnOk result (ReadsBackBase W.taken self (days_of self) out.old out.new) }
     {
         export_reads_back();
-        export_bytes_read_back();
-        let header = *self.header();
-        let carrier = *self.carrier();
-        let trailer = *self.trailer();
-        let alloc = self.allocator();
-        let table = self.into_table()?;
-        export_frame(table, &header, &carrier, &trailer, alloc, out)
+        let (schedule, frame) = self.into_schedule()?;
+        schedule.export_in(&frame, out)
     }
 }
 

@@ -2,7 +2,7 @@
 use Rattle.ssim_program.proofs.Leaving.{leaves_export}
 use Rattle.ssim_program.proofs.export.export.Goals as goal
 
-pub returns-clause-refused : goal.returns-clause-refused
-returns-clause-refused g c =
-    leaves_export (g.S.Store.files c.args.store.now) (g.S.Store.files c.open.new.store) c.args.name.now c.in_ok-desk.desk (g.O.Sink.taken c.args.out.now) (g.O.Sink.taken c.export_desk.new.out) (g.O.Sink.failures c.args.out.now) (g.O.Sink.failures c.export_desk.new.out)
-    c.open.ensures.same c.in_ok-desk.ensures.read c.in-Err.ensures.err
+pub returns-in-Err-clause-refused : goal.returns-in-Err-clause-refused
+returns-in-Err-clause-refused g c =
+    leaves_export (g.S.Store.files c.args.store.now) (g.S.Store.files c.open_holdings.new.store) c.args.name.now c.in_ok-holdings.holdings (g.O.Sink.taken c.args.out.now) (g.O.Sink.taken c.export_holdings.new.out) (g.O.Sink.failures c.args.out.now) (g.O.Sink.failures c.export_holdings.new.out)
+    c.open_holdings.ensures.same c.in_ok-holdings.ensures.read c.in-Err.ensures.err
