@@ -22,6 +22,9 @@ use std::marker::Model;
 /// The most periods in a list. A new period between the others is compared with all of them.
 const MOST: usize = 512;
 
+/// How many periods a list has room for at first.
+const FIRST: usize = 8;
+
 /// A value for each day, as a list of periods with values.
 #[derive(Drop)]
 pub(crate) struct ApartPeriods<V: Value> {
@@ -89,11 +92,29 @@ impl<V: Value> ApartPeriods<V> {
         ensures cuts { OnOk result (AddsOnly self.old.cuts self.new.cuts period.now.first (period.now.last + 1)) }
         ensures err { OnErr result (self.new ≡ self.old) }
     {
+        let counts = empty_counts(&self.empty, period, change);
+        self.replace(period, change)?;
+        Ok(counts)
+    }
+
+    /// Gives the days of the period, which have the empty value, the outcome of the change for it.
+    pub(crate) fn replace<C: Change<V>>(
+        &mut self,
+        period: &Period,
+        change: &C,
+    ) -> Result<(), Memory>
+        requires { (n : ℕ) → holds period.now n ≡ true → slice_index_or self.old.days n V.nothing ≡ V.nothing }
+        ensures days { OnOk result (self.new.days ≡ changed_on (holds period.now) (C.outcome change.now) 0 self.old.days) }
+        ensures cuts { OnOk result (AddsOnly self.old.cuts self.new.cuts period.now.first (period.now.last + 1)) }
+        ensures err { OnErr result (self.new ≡ self.old) }
+    {
         let value = change.after(self.alloc, &self.empty[0])?;
-        if !value.is_empty() {
-            self.put(period, value)?;
+        if value.is_empty() {
+            return Ok(());
         }
-        Ok(empty_counts(&self.empty, period, change))
+        self.make_first_room()?;
+        self.put(period, value)?;
+        Ok(())
     }
 
     // Gives the days of the period, which have the empty value, a value that is not empty.
@@ -110,6 +131,17 @@ impl<V: Value> ApartPeriods<V> {
         self.entries.push((*period, value))?;
         add_day(&mut self.cuts, first);
         add_day(&mut self.cuts, end);
+        Ok(())
+    }
+
+    // Makes room for the first periods at once, so that the lists grow less often.
+    fn make_first_room(&mut self) -> Result<(), Memory>
+        ensures { self.new ≡ self.old }
+    {
+        if self.entries.is_empty() {
+            self.entries.reserve(FIRST)?;
+            self.cuts.reserve(2 * FIRST)?;
+        }
         Ok(())
     }
 

@@ -118,7 +118,7 @@ pub(crate) fn rows_of<V: Value>(
     while place > 0 {
         place -= 1;
         let entry = &entries[place];
-        rows.apply(&entry.0, &SetTo { value: &entry.1 })?;
+        rows.replace(&entry.0, &SetTo { value: &entry.1 })?;
     }
     Ok(rows)
 }

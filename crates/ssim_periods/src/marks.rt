@@ -22,7 +22,7 @@ impl RangeRows<ValueNumber> {
     {
         let first = period.first().number() as u32;
         if !is_after_cuts(&self.cuts, first) {
-            self.apply(period, &SetTo { value: &MARK })?;
+            self.replace(period, &SetTo { value: &MARK })?;
             return Ok(());
         }
         let last = period.last().number() as u32;

@@ -86,6 +86,26 @@ impl<V: Value> Periods<V> {
         }
     }
 
+    /// Replaces the values of the days of the period as `apply` does, and counts no days.
+    pub fn replace<C: Change<V>>(&mut self, period: &Period, change: &C) -> Result<(), Memory>
+        ensures days { OnOk result (self.new.days ≡ changed_on (holds period.now) (C.outcome change.now) 0 self.old.days) }
+        ensures cuts { OnOk result (AddsOnly self.old.cuts self.new.cuts period.now.first (period.now.last + 1)) }
+        ensures err { OnErr result (self.new ≡ self.old) }
+    {
+        match &mut self.form {
+            Form::Apart(periods) => {
+                if periods.has_room_for(period) {
+                    return periods.replace(period, change);
+                }
+                let mut rows = periods.to_rows()?;
+                rows.replace(period, change)?;
+                self.form = Form::Rows(rows);
+                Ok(())
+            }
+            Form::Rows(rows) => rows.replace(period, change),
+        }
+    }
+
     /// A copy with the same values and cuts.
     pub fn copy(&self) -> Result<Periods<V>, Memory>
         ensures { IfOk result (λ copy. copy ≡ self.now) }

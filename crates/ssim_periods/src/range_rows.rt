@@ -89,6 +89,32 @@ impl<V: Value> RangeRows<V> {
         ensures cuts { OnOk result (AddsOnly self.old.cuts self.new.cuts period.now.first (period.now.last + 1)) }
         ensures err { OnErr result (self.new ≡ self.old) }
     {
+        let first = period.first().number() as u32;
+        let last = period.last().number() as u32;
+        let mask = period.mask().days();
+        let counts = class_counts(
+            &self.before,
+            &self.cuts,
+            &self.rows,
+            first,
+            last,
+            &mask,
+            change,
+        );
+        self.replace(period, change)?;
+        Ok(counts)
+    }
+
+    /// Replaces the values of the days of the period as `apply` does, and counts no days.
+    pub(crate) fn replace<C: Change<V>>(
+        &mut self,
+        period: &Period,
+        change: &C,
+    ) -> Result<(), Memory>
+        ensures days { OnOk result (self.new.days ≡ changed_on (holds period.now) (C.outcome change.now) 0 self.old.days) }
+        ensures cuts { OnOk result (AddsOnly self.old.cuts self.new.cuts period.now.first (period.now.last + 1)) }
+        ensures err { OnErr result (self.new ≡ self.old) }
+    {
         let alloc = self.alloc;
         let first = period.first().number() as u32;
         let last = period.last().number() as u32;
@@ -105,15 +131,6 @@ impl<V: Value> RangeRows<V> {
         )?;
         let head = row_for_cut(alloc, &self.before, &self.cuts, &self.rows, first)?;
         let tail = row_for_cut(alloc, &self.before, &self.cuts, &self.rows, last + 1)?;
-        let counts = class_counts(
-            &self.before,
-            &self.cuts,
-            &self.rows,
-            first,
-            last,
-            &mask,
-            change,
-        );
         self.cuts.reserve(2)?;
         self.rows.reserve(2)?;
         put_period(
@@ -125,7 +142,7 @@ impl<V: Value> RangeRows<V> {
             tail,
             patches,
         );
-        Ok(counts)
+        Ok(())
     }
 
     /// A copy with the same values and cuts.

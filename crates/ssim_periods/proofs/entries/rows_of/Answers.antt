@@ -20,6 +20,6 @@ loop-place-preserved g c =
     let next : i - 1 + 1 ≡ i = omega arith in let lt : i - 1 < length xs = omega arith in
     record {
       within = omega arith;
-      days = rows-more g.V.Value.nothing xs i (i - 1) x c.loop-place.rows.days c.apply.new.self.days next lt c.index-entries-place.is c.requires.once c.loop-place.invariant.days c.in_ok-apply.ensures.days;
-      cuts = λ cuts ends. cuts-more xs (i - 1) x c.loop-place.rows.cuts c.apply.new.self.cuts cuts lt c.index-entries-place.is ends c.in_ok-apply.ensures.cuts (c.loop-place.invariant.cuts cuts ends);
+      days = rows-more g.V.Value.nothing xs i (i - 1) x c.loop-place.rows.days c.replace.new.self.days next lt c.index-entries-place.is c.requires.once c.loop-place.invariant.days c.in_ok-replace.ensures.days;
+      cuts = λ cuts ends. cuts-more xs (i - 1) x c.loop-place.rows.cuts c.replace.new.self.cuts cuts lt c.index-entries-place.is ends c.in_ok-replace.ensures.cuts (c.loop-place.invariant.cuts cuts ends);
     }

@@ -1,0 +1,23 @@
+-- Each form adds only cuts of the period; those of the rows made from a list are cuts of the list.
+use Rattle.std.proofs.Common.{◌+◌, OnOk, ap, subst, sym, ◌∙◌, inl, inr}
+use Rattle.std.specs.List.{Contains}
+use Rattle.ssim_periods.specs.Days.{AddsOnly}
+use Rattle.ssim_periods.specs.Forms.{seen}
+use Rattle.ssim_periods.proofs.periods.Periods.replace.Goals as goal
+
+pub returns-then-has_room_for-clause-cuts : goal.returns-then-has_room_for-clause-cuts
+returns-then-has_room_for-clause-cuts g c =
+    let p = c.args.period.now in
+    subst (λ s. OnOk c.replace.result (AddsOnly s.cuts c.replace.new.self.cuts p.first (p.last + 1))) (ap seen (sym c.in-Apart.is) ∙ c.self.view_is) c.replace.ensures.cuts
+
+pub returns-in_ok-replace-in-Apart-clause-cuts : goal.returns-in_ok-replace-in-Apart-clause-cuts
+returns-in_ok-replace-in-Apart-clause-cuts g c cut h =
+    elim (c.in_ok-replace-in-Apart.ensures.cuts cut h) [
+      | inl k ↦ inl (subst (λ s. Contains s.cuts cut) (ap seen (sym c.in-Apart.is) ∙ c.self.view_is) (c.in_ok-rows-in-Apart.ensures.cuts cut k))
+      | inr e ↦ inr e
+    ]
+
+pub returns-in-Rows-clause-cuts : goal.returns-in-Rows-clause-cuts
+returns-in-Rows-clause-cuts g c =
+    let p = c.args.period.now in
+    subst (λ s. OnOk c.replace-in-Rows.result (AddsOnly s.cuts c.replace-in-Rows.new.self.cuts p.first (p.last + 1))) (ap seen (sym c.in-Rows.is) ∙ c.self.view_is) c.replace-in-Rows.ensures.cuts
