@@ -20,7 +20,7 @@ cuts_at f = f.periods.cuts
 abbrev pub no_days : Days
 no_days = each_day (λ _. [])
 
-same_place : (q g : FlightNumber) → nat_eq (place_of q) (place_of g) ≡ true → place_of q ≡ place_of g
+pub same_place : (q g : FlightNumber) → nat_eq (place_of q) (place_of g) ≡ true → place_of q ≡ place_of g
 same_place q g e = grind (arith, nat_tests)
 
 moved : (table : Table) (q g : FlightNumber) (i : ℕ) → place_of q ≡ place_of g → IsAt table q i → IsAt table g i
@@ -34,7 +34,7 @@ pub own : (table : Table) (q : FlightNumber) (i : ℕ) (f : FlightPeriods) → I
 own table q i f is here = record { in_range = is.in_range; its = sym (ap (λ (f : FlightPeriods). place_of f.flight) here) }
 
 -- where a test chooses, the choices may be compared one by one
-by_test : {A : Type 0} (b : Bool) (x y z : A) → (b ≡ true → x ≡ y) → (if b then x else z) ≡ (if b then y else z)
+pub by_test : {A : Type 0} (b : Bool) (x y z : A) → (b ≡ true → x ≡ y) → (if b then x else z) ≡ (if b then y else z)
 by_test true x y z same = same refl
 by_test false x y z same = refl
 
@@ -63,7 +63,7 @@ contains_none : (cut : ℕ) → Contains (let none : List ℕ = [] in none) cut 
 contains_none cut c = omega (arith, c.1)
 
 module _ (period : DayRange) where
-  adds : (q g : FlightNumber) (b : Bool) (old had new : List ℕ) → nat_eq (place_of q) (place_of g) ≡ b → (b ≡ true → had ≡ old) → AddsOnly had new period.first (period.last + 1) → AddsOnlyAt q period g old (if b then new else old)
+  pub adds : (q g : FlightNumber) (b : Bool) (old had new : List ℕ) → nat_eq (place_of q) (place_of g) ≡ b → (b ≡ true → had ≡ old) → AddsOnly had new period.first (period.last + 1) → AddsOnlyAt q period g old (if b then new else old)
   adds q g true old had new e same only = λ cut c. by cut (only cut c)
     where
       by : (cut : ℕ) → Contains had cut ⊎ (cut ≡ period.first) ⊎ (cut ≡ period.last + 1) → Contains old cut ⊎ ((place_of q ≡ place_of g) × ((cut ≡ period.first) ⊎ (cut ≡ period.last + 1)))

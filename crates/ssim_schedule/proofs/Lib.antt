@@ -6,6 +6,7 @@ pub mod ChangeLemmas
 pub mod Each
 pub mod FlightSets
 pub mod Flown
+pub mod GrowingLemmas
 pub mod Lines
 pub mod NextLines
 pub mod Notes

@@ -10,6 +10,7 @@ pub mod Blocks
 pub mod Points
 pub mod Building
 pub mod Group
+pub mod Growing
 pub mod Waiting
 pub mod Built
 pub mod Sinks

@@ -18,6 +18,7 @@ use crate::data_set::DataSet;
 use crate::export::frame::ExportFrame;
 use crate::flight_blocks::FlightBlocks;
 use crate::flight_set::FlightSet;
+use crate::growing_table::GrowingTable;
 use crate::leg_group::LegGroup;
 use crate::schedule::Schedule;
 use crate::waiting::Waiting;
@@ -35,7 +36,7 @@ const FEW: usize = 256;
 /// The timetable of some records at the end of a base, and the tails whose leg record is not among them.
 #[derive(Drop)]
 pub(crate) struct Building {
-    table: FlightBlocks,
+    table: GrowingTable,
     /// Legs that are not yet in the table. They are put into it together, since each change of an itinerary copies its legs.
     group: LegGroup,
     waiting: Waiting,
@@ -103,7 +104,8 @@ fn timetable(alloc: Global, records: &[Record]) -> Result<FlightBlocks, Memory>
     let mut building = Building::new(alloc)?;
     building.put_all(records)?;
     building.put_group(None)?;
-    Ok(building.table)
+    let table = building.table.into_blocks()?;
+    Ok(table)
 }
 
 /// The timetable of those records in pieces that are of a flight of a set.
@@ -120,7 +122,8 @@ fn timetable_of(
     building.put_those_of(flights, last)?;
     building.put_pieces_of(flights, pieces)?;
     building.put_group(None)?;
-    Ok(building.table)
+    let table = building.table.into_blocks()?;
+    Ok(table)
 }
 
 /// The timetable of records in pieces, each of which is freed as soon as it is put into it. So the two never take the memory of both.
@@ -134,7 +137,8 @@ fn timetable_from(alloc: Global, pieces: Vec<Vec<Record>>) -> Result<FlightBlock
         building.put_all(&piece)?;
     }
     building.put_group(None)?;
-    Ok(building.table)
+    let table = building.table.into_blocks()?;
+    Ok(table)
 }
 
 impl Building {
@@ -145,7 +149,7 @@ impl Building {
         ensures { IfOk result (λ building. IsBuilt building []) }
     {
         Ok(Building {
-            table: FlightBlocks::new(alloc)?,
+            table: GrowingTable::new(alloc)?,
             group: LegGroup::new(alloc),
             waiting: Waiting::new(alloc),
             alloc,
@@ -249,7 +253,7 @@ impl Building {
         let Some(heading) = heading else {
             return Ok(());
         };
-        self.table.change(heading.flight, &heading.period, &put)?;
+        self.table.put(heading.flight, &heading.period, &put)?;
         self.leave(heading.flight, next)
     }
 
@@ -264,8 +268,8 @@ impl Building {
             return Ok(());
         }
         let made = self.group.take_made();
-        if LEAST <= made && self.table.cuts(&flight).len() < FEW {
-            self.table.share(flight)?;
+        if LEAST <= made {
+            self.table.share_below(flight, FEW)?;
         }
         Ok(())
     }

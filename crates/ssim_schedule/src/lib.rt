@@ -36,6 +36,7 @@ mod flight_legs;
 mod flight_set;
 mod flight_table;
 mod gathering;
+mod growing_table;
 mod itinerary;
 mod kept;
 mod kept_records;

@@ -25,5 +25,5 @@ returns c = λ g is.
     let front = flat_map (λ piece. piece.items) c.args.pieces.now in
     let last = c.args.last.now in
     let built = c.in_ok-put_pieces_of.ensures (filter p last ++ []) (c.in_ok-put_those_of.ensures [] c.in_ok-building.ensures) in
-    c.in_ok-put_group.ensures.days g
+    c.in_ok-table.ensures.days g ∙ c.in_ok-put_group.ensures.days g
     ∙ (subst (λ (done : List Record). IsBuilt c.put_pieces_of.new.self done) (kept_step p front front last [] refl ∙ append-nil (filter p (front ++ last))) built).days g is

@@ -19,12 +19,12 @@ returns c =
     always c.leave.result (record {
       days = λ g.
           ap (λ (t : Table). days_in t g) c.leave.ensures.table
-          ∙ c.in_ok-change.ensures.days g
+          ∙ c.in_ok-put-2.ensures.days g
           ∙ ap (λ (ls : Legs). with_legs (Some h) ls g (days_in old.table g)) legs
           ∙ ap (λ (o : Option Heading). with_legs o old.group.legs g (days_in old.table g)) (sym heading);
       cuts = λ g cut has.
           subst (λ (o : Option Heading). Contains (cuts_in old.table g) cut ⊎ IsBound o g cut) (sym heading)
-          (c.in_ok-change.ensures.cuts g cut (subst (λ (t : Table). Contains (cuts_in t g) cut) c.leave.ensures.table has));
+          (c.in_ok-put-2.ensures.cuts g cut (subst (λ (t : Table). Contains (cuts_in t g) cut) c.leave.ensures.table has));
       group = c.leave.ensures.group ∙ c.in_ok-put.ensures.rest;
       waiting = c.leave.ensures.waiting;
     })

@@ -1,5 +1,5 @@
 -- The export stands in the frame, and reads back if it was written.
-use Rattle.std.proofs.Common.{ℕ, ◌≡◌, List, OnOk, IfErr, subst}
+use Rattle.std.proofs.Common.{ℕ, List, OnOk, IfErr, subst}
 use Rattle.std.specs.Io.KnownBytes.{Appends}
 use Rattle.ssim_schedule.specs.Export.{Frame, chapter7}
 use Rattle.ssim_schedule.specs.Plan.{Refuses, Writes, frame_from}
