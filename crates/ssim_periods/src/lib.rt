@@ -12,11 +12,12 @@
 //! What the contracts promise, for every value and change that keep the laws of their traits:
 //!
 //! - `apply` replaces the value of each day of the period by the outcome of the change, and keeps the value of each other day. It
-//!   returns the number of days of the period in each class. After an error nothing has changed.
+//!   returns the number of days of the period in each class. `replace` does the same and counts nothing. After an error nothing has
+//!   changed.
 //! - `pieces` returns the periods of the definition `pieces_of`. By `pieces_hold_each_day_once`, exactly one piece holds each day, the
 //!   piece with the value of that day; if that value is empty, none does.
-//! - There are few `cuts`: `new` has none, a copy has the cuts of its source, and `apply` adds at most the first day of the period and
-//!   the day after its last.
+//! - There are few `cuts`: `new` has none, a copy has the cuts of its source, and `apply` and `replace` add at most the first day of the
+//!   period and the day after its last.
 //!
 //! The only error is [`Memory`]: an allocation failed, or the copy of a value or a change ran out of memory.
 #![tactic(auto)]

@@ -3,7 +3,7 @@ use Rattle.std.specs.Prelude.{◌∷◌, Option, Some, None}
 use Rattle.ssim_schedule.specs.Schedule.{Table}
 use Rattle.ssim_schedule.specs.declared.growing_table.CurrentFlight.{CurrentFlight}
 
--- the entries with that of the current flight, which stands for any other of this flight
+-- the entries, that of the current flight first; a flight is looked up from the front, so an older entry of it counts no more
 abbrev pub with_current : Option CurrentFlight → Table → Table
 with_current None table = table
 with_current (Some current) table = record { flight = current.flight; periods = current.periods } ∷ table
