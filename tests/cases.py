@@ -141,16 +141,21 @@ class Case:
         return ["equal" if data == self.read(other) else "different"]
 
 
-def blocks(path):
-    """The lines of a file by case: the first block has those before the first case."""
+def blocks_of(text):
+    """The lines of a text by case: the first block has those before the first case."""
     found = [("", [])]
-    with open(path, encoding="latin-1", newline="\n") as file:
-        for line in file.read().split("\n"):
-            if line.startswith("case "):
-                found.append((line, []))
-            else:
-                found[-1][1].append(line)
+    for line in text.split("\n"):
+        if line.startswith("case "):
+            found.append((line, []))
+        else:
+            found[-1][1].append(line)
     return found
+
+
+def blocks(path):
+    """The lines of a file by case."""
+    with open(path, encoding="latin-1", newline="\n") as file:
+        return blocks_of(file.read())
 
 
 def is_left_out(lines):
