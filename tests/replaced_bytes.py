@@ -1,8 +1,9 @@
 #!/usr/bin/env python3
 """Cuts and alters small files, and reads each of them: replaced_bytes.py PROGRAM
 
-The files are a data set (804 bytes), texts that together have each part of a message, a script, and two desks, without texts (848 bytes)
-and with one (907 bytes), each in both versions. Read is every prefix of them, and each of them with every byte replaced by `0`, `A`, a blank, LF and 255:
+The files are a data set (804 bytes), texts that together have each part of a message, a script, and two desks, without texts
+(848 bytes) and with one (907 bytes), each in both versions. Read is every prefix of them, and each of them with every byte
+replaced by `0`, `A`, a blank, LF and 255:
 
 - a data set is refused with a number of its own, or tidied to what is tidied to itself;
 - a text is refused with a number of its own, or taken: then the desk that is written repeats it, and is written again as it is;
