@@ -83,6 +83,49 @@ expect "a file may be as long as the limit" 1 "" $'refused 11 BadType record 1\n
 expect "a file is too long" 1 "" $'refused 91 File too_long.ssim\n' check too_long.ssim
 input=too_long.ssim expect "standard input is too long" 1 "" $'refused 91 File -\n' check -
 
+# Thirty flights on a hundred dates from 30MAR25 on, which is a Sunday: a leg record for each date, with another aircraft on one weekday.
+single_dates() {
+    head -n 2 divided.ssim
+    seq 0 99 | sed 's/$/ days 2025-03-30/' | LC_ALL=C date -f - +%d%b%y | tr a-z A-Z | tee dates | awk -v leg="$leg" '{
+        for (flight = 1; flight <= 30; flight++)
+            print substr(leg, 1, 5) sprintf("%04d", flight) substr(leg, 10, 5) $1 $1 substr(leg, 29, 44) \
+                ((NR - 1) % 7 == flight % 7 ? "319" : "320") substr(leg, 76)
+    }'
+    tail -n 1 divided.ssim
+}
+
+# Their canonical form: two pieces a flight, the one that begins first before the other.
+joined_dates() {
+    awk -v leg="$leg" -v header="$(sed -n 1p "$tidied")" -v carrier="$(sed -n 6p "$tidied")" -v trailer="$(sed -n 16p "$tidied")" '
+        function fill() { for (i = 0; i < 4; i++) { printf "%0200d\n", 0 } }
+        function piece(variation, first, last, days, aircraft) {
+            printf "%s%04d%02d%s%s%s%s%s%s%s%06d\n", substr(leg, 1, 5), flight, variation, substr(leg, 12, 3), date[first], date[last], days,
+                substr(leg, 36, 37), aircraft, substr(leg, 76, 119), ++serial
+        }
+        { date[NR - 1] = $1 }
+        END {
+            print header; fill(); print carrier; fill()
+            serial = 2
+            for (flight = 1; flight <= 30; flight++) {
+                own = flight % 7
+                weekday = (own + 6) % 7 + 1
+                others = "1234567"
+                sub(weekday, " ", others)
+                one = substr("       ", 1, weekday - 1) weekday substr("       ", 1, 7 - weekday)
+                if (own == 0) { piece(1, 0, 98, one, "319"); piece(2, 1, 99, others, "320") }
+                else { piece(1, 0, own == 1 ? 98 : 99, others, "320"); piece(2, own, own + 7 * int((99 - own) / 7), one, "319") }
+            }
+            printf "%s%06dE%06d\n", substr(trailer, 1, 187), serial, serial + 1
+            fill()
+        }' dates
+}
+
+leg=$(sed -n 11p "$tidied")
+single_dates > single.ssim
+joined_dates > joined.ssim
+expect "records of single dates are joined" 0 @joined.ssim "" tidy single.ssim
+expect "joined records are left as they are" 0 @joined.ssim "" tidy joined.ssim
+
 taken=$'taken SSM 01JUN25 00001 001\n' conflict=$'refused 60 Conflict SSM 01JUN25 00001 001\n'
 
 # The files of the commands on desks. The desk files are by their format: the records of the data set without serials and

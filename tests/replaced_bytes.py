@@ -1,8 +1,9 @@
 #!/usr/bin/env python3
 """Cuts and alters small files, and reads each of them: replaced_bytes.py PROGRAM
 
-The files are a data set (804 bytes), a text, a script, and two desks, without texts (848 bytes) and with one (907 bytes), each in
-both versions. Read is every prefix of them, and each of them with every byte replaced by `0`, `A`, a blank, LF and 255:
+The files are a data set (804 bytes), texts that together have each part of a message, a script, and two desks, without texts
+(848 bytes) and with one (907 bytes), each in both versions. Read is every prefix of them, and each of them with every byte
+replaced by `0`, `A`, a blank, LF and 255:
 
 - a data set is refused with a number of its own, or tidied to what is tidied to itself;
 - a text is refused with a number of its own, or taken: then the desk that is written repeats it, and is written again as it is;
@@ -27,6 +28,13 @@ from chapter7 import with_serial
 FAST = "/dev/shm" if os.access("/dev/shm", os.W_OK) else None
 
 TEXT = b"SSM\nUTC\n01JUN00001E001\nCNL\nLX544\n01JUL25 07JUL25 2\n"
+OTHER_TEXTS = [
+    b"ASM\nUTC\n23MAY00144E003/REF 123\nRPL\nLX7A/01JUL\nJ 320 .C12Y138\nZRH2350 LHR0020/1/0025\n//\nSI FREE TEXT\n",
+    b".AAAAAAA\nSSM\nUTC\n01JUN00001E001\nEQT\nLX544\n01JUL25 01JUL25 2\nJ 319 CY\n",
+    b".ZRHRMLX 231200\nSSM\nUTC\n01JUN00001E001\nTIM\nLX544\n01JUL 00XXX00 12\nZRH0600 LHR0715\n//\nCNL\nLX7A\n02JUL25 03JUL25 34\n",
+    b"SSM\nUTC\n01JUN00010E001\nNEW\nLX700\n01JUL25 01JUL25 2\nJ 320 CY\nZRH0545 LHR0700\nLHR0800 ZRH1045\n"
+    b"ZRHLHR 99/VIA TERMINAL 2\nLHRZRH 10/LX\nZRHZRH 109/M\n",
+]
 SCRIPT = b"DESKS 2\nTAKE 1 text\nMERGE 2 1\nTAKE 2 text\n"
 FIRST_LINE = len(b"SSIMDESK 2\n")
 
@@ -60,7 +68,8 @@ def small_files(program, folder):
     found = [read(folder, "desk"), read(folder, "held")]
     assert [len(data) for data in found] == [848, 907]
     found += [data.replace(b"SSIMDESK 2", b"SSIMDESK 1") for data in found]
-    return [(b"".join(records), is_data_set), (TEXT, is_text), (SCRIPT, is_script), *((data, is_desk) for data in found)]
+    texts = ((text, is_text) for text in [TEXT, *OTHER_TEXTS])
+    return [(b"".join(records), is_data_set), *texts, (SCRIPT, is_script), *((data, is_desk) for data in found)]
 
 
 def altered(data):

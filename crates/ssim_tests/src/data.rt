@@ -38,3 +38,12 @@ pub(crate) fn with(line: &[u8; 200], column: usize, other: &[u8]) -> [u8; 200] {
     }
     changed
 }
+
+/// Data set A.
+pub(crate) fn data_set() -> [u8; 804] {
+    let mut bytes = [b'\n'; 804];
+    for (i, record) in [HEADER, CARRIER, LEG, TRAILER].iter().enumerate() {
+        bytes[201 * i..201 * i + 200].copy_from_slice(record.as_slice());
+    }
+    bytes
+}

@@ -1,12 +1,11 @@
-//! Tests of values, records, periods, texts and schedules, by their public calls.
+//! Tests of values, records, periods, texts and schedules, by their public calls: values from outside that no case in plain text
+//! shows, devices that fail, and generic types. They are short, since each test function is proved.
 //!
 //! They are here, and not in the crates that they test, because a crate with tests is proved twice.
 #![tactic(auto)]
 
 #[cfg(test)]
 mod data;
-#[cfg(test)]
-mod displayed;
 #[cfg(test)]
 mod periods;
 #[cfg(test)]
@@ -15,8 +14,6 @@ mod pieces;
 mod plain_periods;
 #[cfg(test)]
 mod records;
-#[cfg(test)]
-mod replaced_texts;
 #[cfg(test)]
 mod schedules;
 #[cfg(test)]

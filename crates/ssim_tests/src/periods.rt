@@ -6,7 +6,6 @@ use ssim_values::{Day, DayMask, Fault, Period};
 use std::alloc::Global;
 use std::cell::Cell;
 use std::marker::Model;
-use std::test::Fail;
 
 // A number as a value: 0 is empty, and 9 refuses to be copied.
 #[derive(Drop)]
@@ -87,6 +86,20 @@ fn period(first: &[u8; 7], last: &[u8; 7], days: &[u8]) -> Result<Period, Fault>
     Period::new(Day::parse(first)?, Day::parse(last)?, DayMask::parse(days)?)
 }
 
+/// What a change of a period counts. None if memory ran out.
+fn counts(
+    periods: &mut Periods<Number>,
+    first: &[u8; 7],
+    last: &[u8; 7],
+    days: &[u8],
+    change: &Becomes,
+) -> Option<[u32; 5]> {
+    match period(first, last, days) {
+        Ok(changed) => periods.apply(&changed, change).ok(),
+        Err(_) => None,
+    }
+}
+
 pub(crate) fn value_on(periods: &Periods<Number>, number: u16) -> u32 {
     match Day::from_number(number) {
         Some(day) => periods.at(day).number,
@@ -94,137 +107,89 @@ pub(crate) fn value_on(periods: &Periods<Number>, number: u16) -> u32 {
     }
 }
 
-type Written = ([u8; 7], [u8; 7], [u8; 7], u32);
-
-fn has_pieces(periods: &Periods<Number>, wanted: &[Written]) -> Result<bool, Memory> {
-    let pieces = periods.pieces()?;
-    if pieces.len() != wanted.len() {
-        return Ok(false);
-    }
-    for (piece, want) in pieces.iter().zip(wanted) {
-        let (first, last, days, value) = *want;
-        let same_dates = piece.0.first().write() == first && piece.0.last().write() == last;
-        if !same_dates || piece.0.mask().write() != days || piece.1.number != value {
-            return Ok(false);
+/// Whether the only piece is the first of July 2025, a Tuesday, with the value 7.
+fn has_one_day(periods: &Periods<Number>) -> bool {
+    let Ok(pieces) = periods.pieces() else {
+        return false;
+    };
+    match pieces.as_slice() {
+        [(period, value)] => {
+            period.first().write() == *b"01JUL25"
+                && period.last().write() == *b"01JUL25"
+                && period.mask().write() == *b" 2     "
+                && value.number == 7
         }
+        _ => false,
     }
-    Ok(true)
+}
+
+/// Whether the copies of periods have one day too, the one whose equal values may be made copies of one as well.
+fn copies_have_one_day(periods: &Periods<Number>) -> bool {
+    match (periods.copy(), periods.shared()) {
+        (Ok(copy), Ok(shared)) => has_one_day(&copy) && has_one_day(&shared),
+        _ => false,
+    }
 }
 
 #[test]
-fn periods_over_numbers(rt: HostRuntime) -> Result<(), Fail> {
+fn periods_over_numbers(rt: HostRuntime) {
     let mut periods = Periods::new(rt.alloc());
-    let week = period(b"01JUL25", b"07JUL25", b"2")?;
-    assert_eq!(rt; periods.apply(&week, &change_to(7, 0))?, [1, 0, 0, 0, 0]);
+    let counted = counts(&mut periods, b"01JUL25", b"07JUL25", b"2", &change_to(7, 0));
+    assert_eq!(rt; counted, Some([1, 0, 0, 0, 0]));
     assert_eq!(rt; value_on(&periods, 9313), 7);
     assert_eq!(rt; value_on(&periods, 9314), 0);
     assert_eq!(rt; periods.cuts(), [9313, 9320].as_slice());
-    let wanted = [(*b"01JUL25", *b"01JUL25", *b" 2     ", 7)];
-    assert!(rt; has_pieces(&periods, &wanted)?);
-    assert!(rt; has_pieces(&periods.copy()?, &wanted)?);
-    assert!(rt; has_pieces(&periods.shared()?, &wanted)?);
-    Ok(())
+    assert!(rt; has_one_day(&periods));
+    assert!(rt; copies_have_one_day(&periods));
 }
 
-#[test]
-fn cuts_and_rows(rt: HostRuntime) -> Result<(), Fail> {
-    let mut periods = Periods::new(rt.alloc());
-    let june = period(b"01JUN25", b"30JUN25", b"1234567")?;
-    assert_eq!(rt; periods.apply(&june, &change_to(7, 0))?, [30, 0, 0, 0, 0]);
-    let tuesdays = period(b"10JUN25", b"24JUN25", b"2")?;
-    assert_eq!(rt;
-        periods.apply(&tuesdays, &change_to(8, 1))?,
-        [0, 3, 0, 0, 0]
-    );
-    let wanted = [
-        (*b"01JUN25", *b"09JUN25", *b"1234567", 7),
-        (*b"10JUN25", *b"24JUN25", *b" 2     ", 8),
-        (*b"11JUN25", *b"30JUN25", *b"1 34567", 7),
-    ];
-    assert!(rt; has_pieces(&periods, &wanted)?);
-    assert_eq!(rt; periods.cuts(), [9283, 9292, 9307, 9313].as_slice());
-    let no_day = period(b"29FEB28", b"29FEB28", b"3")?;
-    assert_eq!(rt; periods.apply(&no_day, &change_to(8, 1))?, [0, 0, 0, 0, 0]);
-    assert!(rt; has_pieces(&periods, &wanted)?);
-    assert_eq!(rt;
-        periods.cuts(),
-        [9283, 9292, 9307, 9313, 10286, 10287].as_slice()
-    );
-    Ok(())
-}
-
-#[test]
-fn copy_that_refuses(rt: HostRuntime) -> Result<(), Fail> {
-    let mut periods = Periods::new(rt.alloc());
-    let january = period(b"01JAN25", b"14JAN25", b"1234567")?;
-    assert_eq!(rt;
-        periods.apply(&january, &change_to(9, 0))?,
-        [14, 0, 0, 0, 0]
-    );
-    let july = period(b"01JUL25", b"31JUL25", b"2")?;
-    assert_eq!(rt; periods.apply(&july, &change_to(7, 0))?, [5, 0, 0, 0, 0]);
-    let divided = period(b"03JAN25", b"05JAN25", b"5")?;
-    assert_eq!(rt; periods.apply(&divided, &change_to(8, 0)), Err(Memory));
-    assert_eq!(rt; periods.cuts(), [9132, 9146, 9313, 9344].as_slice());
-    for number in 9100..9400 {
-        let july_tuesday = number >= 9313 && number <= 9343 && number % 7 == 3;
-        let july_value = if july_tuesday { 7 } else { 0 };
-        let wanted = if number >= 9132 && number <= 9145 {
-            9
-        } else {
-            july_value
-        };
-        assert_eq!(rt; value_on(&periods, number), wanted);
+/// The value of a day after 9 from 1 January to 14 January 2025, and 7 on the Tuesdays of July.
+fn value_of_two_periods(number: u16) -> u32 {
+    if number >= 9132 && number <= 9145 {
+        9
+    } else if number >= 9313 && number <= 9343 && number % 7 == 3 {
+        7
+    } else {
+        0
     }
-    Ok(())
 }
 
-#[test]
-fn times_changed_on_mondays(rt: HostRuntime) -> Result<(), Fail> {
-    let mut periods = Periods::new(rt.alloc());
-    periods.apply(
-        &period(b"30MAR25", b"25OCT25", b"1234567")?,
-        &change_to(1, 0),
-    )?;
-    let mondays = period(b"01JUL25", b"31JUL25", b"1")?;
-    assert_eq!(rt; periods.apply(&mondays, &change_to(2, 0))?, [4, 0, 0, 0, 0]);
-    let wanted = [
-        (*b"30MAR25", *b"06JUL25", *b"1234567", 1),
-        (*b"07JUL25", *b"28JUL25", *b"1      ", 2),
-        (*b"08JUL25", *b"03AUG25", *b" 234567", 1),
-        (*b"04AUG25", *b"25OCT25", *b"1234567", 1),
-    ];
-    assert!(rt; has_pieces(&periods, &wanted)?);
-    Ok(())
-}
-
-#[test]
-fn ninety_nine_pieces(rt: HostRuntime) -> Result<(), Fail> {
-    let mut periods = Periods::new(rt.alloc());
-    periods.apply(
-        &period(b"01JAN25", b"31DEC27", b"1234567")?,
-        &change_to(1, 0),
-    )?;
-    for date in 0..99u16 {
-        let pieces = periods.pieces()?;
-        assert_eq!(rt; pieces.len(), date as usize + 1);
-        if let Some(day) = Day::from_number(9139 + 8 * date) {
-            periods.apply(&Period::new(day, day, DayMask::daily())?, &change_to(0, 0))?;
+fn has_two_periods(periods: &Periods<Number>) -> bool {
+    for number in 9100..9400 {
+        if value_on(periods, number) != value_of_two_periods(number) {
+            return false;
         }
     }
-    let pieces = periods.pieces()?;
-    assert_eq!(rt; pieces.len(), 100);
-    Ok(())
+    true
+}
+
+#[test]
+fn copy_that_refuses(rt: HostRuntime) {
+    let mut periods = Periods::new(rt.alloc());
+    let january = counts(
+        &mut periods,
+        b"01JAN25",
+        b"14JAN25",
+        b"1234567",
+        &change_to(9, 0),
+    );
+    assert_eq!(rt; january, Some([14, 0, 0, 0, 0]));
+    let july = counts(&mut periods, b"01JUL25", b"31JUL25", b"2", &change_to(7, 0));
+    assert_eq!(rt; july, Some([5, 0, 0, 0, 0]));
+    // the days before and after would be copies
+    let divided = counts(&mut periods, b"03JAN25", b"05JAN25", b"5", &change_to(8, 0));
+    assert_eq!(rt; divided, None);
+    assert_eq!(rt; periods.cuts(), [9132, 9146, 9313, 9344].as_slice());
+    assert!(rt; has_two_periods(&periods));
 }
 
 // A list of days would ask the change for each of 36,525.
 #[test]
-fn day_list_beside_cuts(rt: HostRuntime) -> Result<(), Fail> {
+fn day_list_beside_cuts(rt: HostRuntime) {
     let mut periods = Periods::new(rt.alloc());
-    let all = period(b"01JAN00", b"31DEC99", b"1234567")?;
     let change = change_to(7, 4);
-    assert_eq!(rt; periods.apply(&all, &change)?, [0, 0, 0, 0, 36525]);
+    let counted = counts(&mut periods, b"01JAN00", b"31DEC99", b"1234567", &change);
+    assert_eq!(rt; counted, Some([0, 0, 0, 0, 36_525]));
     assert!(rt; change.calls.get() <= 21);
-    assert_eq!(rt; periods.cuts(), [0, 36525].as_slice());
-    Ok(())
+    assert_eq!(rt; periods.cuts(), [0, 36_525].as_slice());
 }

@@ -3,6 +3,7 @@
 ghost use Rattle.std.specs.Prelude.{◌≤◌, IfOk};
 
 use super::*;
+use crate::data::data_set;
 use std::io;
 use std::io::{ErrorKind, Read, Write};
 
@@ -43,49 +44,64 @@ impl Write for Halting {
     }
 }
 
+/// Whether readers of these bytes all have this outcome: a slice, one of one byte at a time, and one of std.
+fn is_read(bytes: &[u8], limit: u64, expected: (u64, Option<RecordFault>)) -> bool {
+    let mut whole = bytes;
+    outcome(&mut whole, limit) == expected
+        && outcome(&mut in_pieces(bytes, 1, 0), limit) == expected
+        && outcome(&mut Input::new(bytes), limit) == expected
+}
+
+fn first(bytes: &[u8], count: usize) -> &[u8] {
+    &bytes[..count.min(bytes.len())]
+}
+
+fn never_ends(record: u64) -> Option<RecordFault> {
+    Some(RecordFault::ReaderNeverEnds { record })
+}
+
+fn fails(record: u64) -> Option<RecordFault> {
+    Some(RecordFault::ReadFault { record })
+}
+
+#[test]
+fn record_refusals(rt: HostRuntime) {
+    let a = data_set();
+    let short = |record| Some(RecordFault::Short { record });
+    assert!(rt; is_read(&a, 804, (4, None)));
+    assert!(rt; is_read(first(&a, 803), 804, (4, None)));
+    assert!(rt; is_read(first(&a, 802), 804, (3, short(4))));
+    assert!(rt; is_read(first(&a, 199), 804, (0, short(1))));
+}
+
 #[test]
 fn devices_that_fail(rt: HostRuntime) {
     let a = data_set();
-    check(
-        &rt,
-        &a,
-        700,
-        (3, Some(RecordFault::ReaderNeverEnds { record: 4 })),
-    );
-    check(
-        &rt,
-        &[b'1'; 1000],
-        100,
-        (0, Some(RecordFault::ReaderNeverEnds { record: 1 })),
-    );
-    assert_eq!(rt;
-        outcome(&mut in_pieces(&a, 300, 2), 1000),
-        (1, Some(RecordFault::ReadFault { record: 2 }))
-    );
+    assert!(rt; is_read(&a, 700, (3, never_ends(4))));
+    assert!(rt; is_read(&[b'1'; 1000], 100, (0, never_ends(1))));
+    assert_eq!(rt; outcome(&mut in_pieces(&a, 300, 2), 1000), (1, fails(2)));
     assert_eq!(rt;
         outcome(&mut Input::new(Halting { calls: 1 }), 1000),
-        (0, Some(RecordFault::ReadFault { record: 1 }))
+        (0, fails(1))
     );
 }
 
 // A reader of one byte at a time has given k - 1 bytes of data set A when its k-th call fails, and a record is complete
-// behind 200 of its 201. The 805th call is the one that finds the end.
+// after 200 of its 201. The 805th call is the one that finds the end.
+fn first_wrong_call(bytes: &[u8]) -> Option<u64> {
+    for call in 1..=805u64 {
+        let complete = call / 201;
+        if outcome(&mut in_pieces(bytes, 1, call), 1000) != (complete, fails(complete + 1)) {
+            return Some(call);
+        }
+    }
+    None
+}
+
 #[test]
 fn fails_at_each_call(rt: HostRuntime) {
     let a = data_set();
-    for k in 1..=805u64 {
-        let complete = k / 201;
-        assert_eq!(rt;
-            outcome(&mut in_pieces(&a, 1, k), 1000),
-            (
-                complete,
-                Some(RecordFault::ReadFault {
-                    record: complete + 1
-                })
-            ),
-            "call {k}"
-        );
-    }
+    assert_eq!(rt; first_wrong_call(&a), None);
     assert_eq!(rt; outcome(&mut in_pieces(&a, 1, 806), 1000), (4, None));
 }
 
@@ -97,73 +113,69 @@ fn a_refusal_stays(rt: HostRuntime) {
     let mut records = Records::new(1000);
     assert!(rt; matches!(records.next(&mut reader), Ok(Some((1, Record::Header(_))))));
     for _ in 0..3 {
-        assert!(rt;
-            matches!(
-                records.next(&mut reader),
-                Err(RecordFault::ReadFault { record: 2 })
-            )
-        );
+        assert_eq!(rt; records.next(&mut reader).err(), fails(2));
         assert_eq!(rt; reader.calls, 300);
     }
 }
 
-fn check_endless(rt: &impl Abort, bytes: &[u8], limit: u64, complete: u64) {
+/// Whether a reader that never ends is refused after this many records, however many bytes it gives at a time.
+fn is_refused_after(bytes: &[u8], limit: u64, complete: u64) -> bool {
     for piece in [1, 200, 20_000] {
-        assert_eq!(rt;
-            outcome(&mut without_end(bytes, piece), limit),
-            (
-                complete,
-                Some(RecordFault::ReaderNeverEnds {
-                    record: complete.wrapping_add(1)
-                })
-            ),
-            "limit {limit}, {piece} bytes at a time"
-        );
+        let refused = (complete, never_ends(complete.wrapping_add(1)));
+        if outcome(&mut without_end(bytes, piece), limit) != refused {
+            return false;
+        }
     }
+    true
 }
+
+// Limits, and how many records of data set A, again and again, are complete within them.
+const LIMITS: &[(u64, u64)] = &[
+    (0, 0),
+    (100, 0),
+    (199, 0),
+    (200, 1),
+    (401, 2),
+    (803, 4),
+    (804, 4),
+    (1004, 5),
+];
 
 // Records that are complete within the limit come before the refusal.
 #[test]
 fn readers_that_never_end(rt: HostRuntime) {
-    check_endless(&rt, b"1", 100, 0);
-    check_endless(&rt, b"\n", 100, 0);
     let a = data_set();
-    for (limit, complete) in [
-        (0, 0),
-        (100, 0),
-        (199, 0),
-        (200, 1),
-        (401, 2),
-        (803, 4),
-        (804, 4),
-        (1004, 5),
-    ] {
-        check_endless(&rt, &a, limit, complete);
+    assert!(rt; is_refused_after(b"1", 100, 0));
+    assert!(rt; is_refused_after(b"\n", 100, 0));
+    for (limit, complete) in LIMITS {
+        assert!(rt; is_refused_after(&a, *limit, *complete));
     }
 }
 
-#[test]
-fn a_buffer_keeps_what_is_put(rt: HostRuntime) {
-    let mut taken = Bytes::new(rt.alloc());
-    assert_eq!(rt; taken.put(b"AB"), Ok(2));
-    assert_eq!(rt; taken.put(b""), Ok(0));
-    assert_eq!(rt; taken.put(b"C"), Ok(1));
-    assert!(rt; taken.bytes() == b"ABC".as_slice());
+/// What is fetched in four calls, the last of which ask again after a failure and after an end.
+fn fetched(input: &mut Input<Halting>) -> [Result<usize, DeviceFault>; 4] {
+    let mut room = [0; 4];
+    [
+        input.fetch(&mut room),
+        input.fetch(&mut room),
+        input.fetch(&mut room),
+        input.fetch(&mut room),
+    ]
+}
+
+fn put(output: &mut Output<Halting>) -> [Result<usize, DeviceFault>; 4] {
+    [
+        output.put(b"AB"),
+        output.put(b"B"),
+        output.put(b"B"),
+        output.put(b"B"),
+    ]
 }
 
 // An error of std's reader or writer is one failure, and the next call asks it again.
 #[test]
 fn devices_over_std(rt: HostRuntime) {
-    let mut input = Input::new(Halting { calls: 0 });
-    let mut room = [0; 4];
-    assert_eq!(rt; input.fetch(&mut room), Ok(1));
-    assert_eq!(rt; room[0], b'x');
-    assert_eq!(rt; input.fetch(&mut room), Err(DeviceFault::Failed));
-    assert_eq!(rt; input.fetch(&mut room), Ok(0));
-    assert_eq!(rt; input.fetch(&mut room), Ok(1));
-    let mut output = Output::new(Halting { calls: 0 });
-    assert_eq!(rt; output.put(b"AB"), Ok(1));
-    assert_eq!(rt; output.put(b"B"), Err(DeviceFault::Failed));
-    assert_eq!(rt; output.put(b"B"), Ok(0));
-    assert_eq!(rt; output.put(b"B"), Ok(1));
+    let expected = [Ok(1), Err(DeviceFault::Failed), Ok(0), Ok(1)];
+    assert_eq!(rt; fetched(&mut Input::new(Halting { calls: 0 })), expected);
+    assert_eq!(rt; put(&mut Output::new(Halting { calls: 0 })), expected);
 }

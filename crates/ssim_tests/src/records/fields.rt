@@ -173,34 +173,64 @@ const TRAILERS: Cases = &[
     (193, b"??", 188),
 ];
 
-fn check_cases(rt: &impl Abort, record: &[u8; 200], cases: &[(usize, &[u8], usize)]) {
-    for (column, text, want) in cases {
-        check_record(rt, &with(record, *column, text), *want, *column);
+/// The first case that is not as expected: its column, and the column of the fault.
+fn first_wrong(record: &[u8; 200], cases: &[(usize, &[u8], usize)]) -> Option<(usize, usize)> {
+    for (column, text, expected) in cases {
+        if first_invalid(&with(record, *column, text)) != Some(*expected) {
+            return Some((*column, *expected));
+        }
     }
+    None
 }
 
 #[test]
 fn columns_of_headers_carriers_and_trailers(rt: HostRuntime) {
-    check_cases(&rt, HEADER, HEADERS);
-    check_cases(&rt, HEADER, SERIALS);
-    check_cases(&rt, CARRIER, CARRIERS);
-    check_cases(&rt, CARRIER, AIRLINES);
-    check_cases(&rt, CARRIER, DATES);
-    check_cases(&rt, CARRIER, SERIALS);
-    check_cases(&rt, TRAILER, TRAILERS);
-    check_cases(&rt, TRAILER, AIRLINES);
-    check_cases(&rt, TRAILER, SERIALS);
+    assert_eq!(rt; first_wrong(HEADER, HEADERS), None);
+    assert_eq!(rt; first_wrong(HEADER, SERIALS), None);
+    for record in [CARRIER, TRAILER] {
+        assert_eq!(rt; first_wrong(record, AIRLINES), None);
+        assert_eq!(rt; first_wrong(record, SERIALS), None);
+    }
+    assert_eq!(rt; first_wrong(CARRIER, CARRIERS), None);
+    assert_eq!(rt; first_wrong(CARRIER, DATES), None);
+    assert_eq!(rt; first_wrong(TRAILER, TRAILERS), None);
 }
 
 #[test]
 fn columns_of_legs_and_segments(rt: HostRuntime) {
-    check_cases(&rt, LEG, LEGS);
-    check_cases(&rt, LEG, AIRLINES);
-    check_cases(&rt, LEG, NAMES);
-    check_cases(&rt, LEG, DATES);
-    check_cases(&rt, LEG, SERIALS);
-    check_cases(&rt, SEGMENT, SEGMENTS);
-    check_cases(&rt, SEGMENT, AIRLINES);
-    check_cases(&rt, SEGMENT, NAMES);
-    check_cases(&rt, SEGMENT, SERIALS);
+    for record in [LEG, SEGMENT] {
+        assert_eq!(rt; first_wrong(record, AIRLINES), None);
+        assert_eq!(rt; first_wrong(record, NAMES), None);
+        assert_eq!(rt; first_wrong(record, SERIALS), None);
+    }
+    assert_eq!(rt; first_wrong(LEG, LEGS), None);
+    assert_eq!(rt; first_wrong(LEG, DATES), None);
+    assert_eq!(rt; first_wrong(SEGMENT, SEGMENTS), None);
+}
+
+// A column of a leg record, the bytes that are put there, and the bytes that are written for them.
+const WRITTEN: &[(usize, &[u8], &[u8])] = &[
+    (6, b" 12 ", b"0012"),
+    (6, b"7   ", b"0007"),
+    (6, b" 544", b"0544"),
+    (10, b" 0", b"00"),
+    (10, b"1 ", b"01"),
+    (12, b" 9", b"09"),
+    (29, b"  1  7 ", b"1     7"),
+    (29, b"1234   ", b"1234   "),
+    (29, b"    567", b"    567"),
+];
+
+fn is_written(text: &[u8; 200], written: &[u8; 200]) -> bool {
+    match read_record(text) {
+        Ok(record) => write_record(&record) == *written,
+        Err(_) => false,
+    }
+}
+
+#[test]
+fn other_spellings_are_written_in_one_way(rt: HostRuntime) {
+    for (column, text, written) in WRITTEN {
+        assert!(rt; is_written(&with(LEG, *column, text), &with(LEG, *column, written)));
+    }
 }
