@@ -193,7 +193,7 @@ class PlainDesk:
                     counts[found] += 1
                 counted = " ".join(f"{word} {counts[word]}" for word in CLASSES)
                 findings.append(f"{message.reference} {number} {sub.action} {sub.flight} {counted}")
-        return {date: found for date, found in legs.items() if found}, findings
+        return {key: found for key, found in legs.items() if found}, findings
 
 
 # ---- a run
@@ -291,7 +291,7 @@ def legs_of(export):
                 if sequence in legs:
                     return None
                 legs[sequence] = leg
-    return {date: tuple(legs.get(place) for place in range(1, len(legs) + 1)) for date, legs in found.items()}
+    return {key: tuple(legs.get(place) for place in range(1, len(legs) + 1)) for key, legs in found.items()}
 
 
 def answers_of(trials, transcript):
