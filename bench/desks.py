@@ -5,8 +5,8 @@ A data set of 900,000 records (or RECORDS) is made in FOLDER where it is not the
 which changes the equipment of a flight in one week. Each command runs five times with each program, in turn; the best time
 and the greatest peak memory of each count. `start` and `take` of both programs write the same files, which is checked. `cp`
 of the desk file stands beside the commands that write it. Opening a desk file alone is a `take` that is refused at its text. Opening
-and saving run 25 times in turn, and the mean of the five best times counts, since saving is the difference of the two. GNU time
-(`/usr/bin/time`) reads the memory.
+and saving run 25 times in turn, and the mean of the five best times counts, since saving is the difference of the two. `rising` and
+`falling` are a `rehearse` of one desk that takes the texts in this order of reference. GNU time (`/usr/bin/time`) reads the memory.
 """
 import filecmp
 import os
@@ -56,6 +56,15 @@ def compare(title, lines, folder):
     report(title, *found[:2], found[2:])
 
 
+def compare_orders(both, dataset, names, folder):
+    """A desk that takes the texts in order of reference, and one that takes each before the last one. Their difference is what a late
+    text costs."""
+    for order, texts in (("rising", names), ("falling", names[::-1])):
+        with open(os.path.join(folder, order), "w") as script:
+            script.write("DESKS 1\n" + "".join(f"TAKE 1 {name}\n" for name in texts))
+        compare(order, both(["rehearse", dataset, "none", order]), folder)
+
+
 def compare_file(both, folder):
     """Opening a desk file alone, which is a `take` of a text that is no message, and opening and saving it, which is a `take` of a
     text that is held. The time of saving is their difference."""
@@ -100,6 +109,7 @@ def main():
         for name, part in (("first", texts[:half]), ("second", texts[half:])):
             subprocess.run([program, "take", f"empty.{mark}", f"{name}.{mark}", *part], cwd=folder, check=True, stdout=subprocess.DEVNULL)
     compare_file(both, folder)
+    compare_orders(both, dataset, texts, folder)
     compare(f"merge {half}+{half}", both(["merge", "first.@", "second.@", "merged.@"]), folder)
     compare("show", both(["show", "desk.@", designator, "01JUL25"]), folder)
     compare("findings", both(["findings", "desk.@"]), folder)

@@ -1,17 +1,18 @@
 //! The state of a case.
 
-use crate::desks::{Desks, add_cancels, place_of};
-use crate::devices::{FullWriter, NoStore};
+use crate::answer::{Answer, Devices};
+use crate::desks::{Desks, place_of};
+use crate::fault::Fault;
 use crate::memory_store::MemoryStore;
-use crate::pure::{print_read, print_resolved, print_text};
+use crate::printed;
+use crate::printed::add_cancels;
+use crate::pure::{print_decoded, print_encoded, print_read, print_resolved};
 use crate::seen::Guard;
-use crate::shown::{add_shown, bad, number, out_of_memory, show};
+use crate::shown::{add_shown, number, parts, push, push_line, push_named, push_refused, show};
 use ssim_desk::Step;
-use ssim_program::{Store, StoreFault, run};
+use ssim_program::{Store, StoreFault};
 use ssim_records::Bytes;
 use std::alloc::{AllocError, Global};
-use std::io;
-use std::io::Write;
 
 /// The named lines, which last to the end of the input, and the state of the case that runs.
 #[derive(Drop)]
@@ -28,30 +29,7 @@ pub struct Case<'t> {
     desks: Desks,
     /// Whether calls are guarded, to the end of the input.
     guard: Option<Guard<'t>>,
-}
-
-/// What fails in the next run.
-#[derive(Clone, Copy, Debug)]
-struct Devices {
-    /// The fault of the store, if it fails.
-    store: Option<StoreFault>,
-    /// How many bytes the standard output takes, and whether it can be flushed.
-    room: usize,
-    flushes: bool,
-    /// How many bytes the standard error takes.
-    err_room: usize,
-}
-
-impl Devices {
-    /// Nothing fails.
-    fn new() -> Devices {
-        Devices {
-            store: None,
-            room: usize::MAX,
-            flushes: true,
-            err_room: usize::MAX,
-        }
-    }
+    transcript: Vec<u8>,
 }
 
 impl<'t> Case<'t> {
@@ -66,53 +44,86 @@ impl<'t> Case<'t> {
             devices: Devices::new(),
             desks: Desks::new(alloc),
             guard: None,
+            transcript: Vec::new(alloc),
         }
+    }
+
+    /// What was printed of all cases.
+    pub fn transcript(&self) -> &[u8] {
+        &self.transcript
+    }
+
+    /// Follows all lines, and stops at the first that cannot be followed.
+    pub fn follow_all(&mut self, lines: &'t str) -> Result<(), Fault> {
+        for line in lines.lines() {
+            if let Err(fault) = self.follow(line) {
+                if let Fault::Line = fault {
+                    push(&mut self.transcript, "not understood: ")?;
+                    push_line(&mut self.transcript, line)?;
+                }
+                return Err(fault);
+            }
+        }
+        Ok(())
     }
 
     /// Does what a line asks.
-    pub fn follow<W: Write>(&mut self, line: &'t str, out: &mut W) -> io::Result<()> {
+    fn follow(&mut self, line: &'t str) -> Result<(), Fault> {
         let (word, rest) = line.split_once(' ').unwrap_or((line, ""));
         match word {
             "" | "#" => Ok(()),
-            "case" => {
-                self.clear();
-                writeln!(out, "\n{line}")
-            }
-            "let" => self.name(rest),
+            "case" => self.begin(line),
+            "let" => Ok(self.named.push(parts(rest)?)?),
             "|" => self.add(rest),
-            "=" => {
-                let text = self.line_named(rest).ok_or(bad())?;
-                self.add(text)
-            }
+            "=" => self.add(self.line_named(rest)?),
             "file" => self.keep(rest),
-            "fails" => self.let_fail(rest),
-            "guard" => {
-                self.guard = Some(Guard::parse(rest)?);
-                Ok(())
-            }
+            "fails" => self.devices.let_fail(rest),
+            "guard" => self.begin_guard(rest),
             "cancels" => add_cancels(&mut self.bytes, rest),
-            "desks" | "more" => self.start_desks(word, rest),
+            "desks" => self.start_desks(rest),
+            "more" => self.add_desks(rest),
             "^" | "at" | "cut" | "out" | "load" => self.change_bytes(word, rest),
             _ => {
-                writeln!(out, "{line}")?;
-                self.answer(word, rest, out)
+                push_line(&mut self.transcript, line)?;
+                self.answer(word, rest)
             }
         }
     }
 
+    fn begin(&mut self, line: &str) -> Result<(), Fault> {
+        self.store = MemoryStore::new(self.alloc);
+        self.bytes.clear();
+        self.printed.clear();
+        self.devices = Devices::new();
+        self.desks.clear();
+        push(&mut self.transcript, "\n")?;
+        push_line(&mut self.transcript, line)
+    }
+
+    fn begin_guard(&mut self, rest: &'t str) -> Result<(), Fault> {
+        self.guard = Some(Guard::parse(rest)?);
+        Ok(())
+    }
+
+    fn line_named(&self, name: &str) -> Result<&'t str, Fault> {
+        for (other, text) in &self.named {
+            if *other == name {
+                return Ok(*text);
+            }
+        }
+        Err(Fault::Line)
+    }
+
     /// Changes the bytes that no file has yet.
-    fn change_bytes(&mut self, word: &str, rest: &str) -> io::Result<()> {
+    fn change_bytes(&mut self, word: &str, rest: &str) -> Result<(), Fault> {
         match word {
             "^" => {
-                let (column, text) = rest.split_once(' ').ok_or(bad())?;
-                let start = self
-                    .last_line
-                    .saturating_add(number(column)?)
-                    .saturating_sub(1);
-                self.write_over(start, text)
+                let (column, text) = parts(rest)?;
+                let start = self.last_line.saturating_add(number(column)?);
+                self.write_over(start.saturating_sub(1), text)
             }
             "at" => {
-                let (offset, text) = rest.split_once(' ').ok_or(bad())?;
+                let (offset, text) = parts(rest)?;
                 self.write_over(number(offset)?, text)
             }
             "cut" => {
@@ -128,169 +139,13 @@ impl<'t> Case<'t> {
         }
     }
 
-    /// Prints what a line asks for.
-    fn answer<W: Write>(&mut self, word: &str, rest: &str, out: &mut W) -> io::Result<()> {
-        match word {
-            "run" => self.run(rest, out),
-            "prefixes" => self.run_on_prefixes(rest, out),
-            "show" | "size" | "equal" => self.show_file(word, rest, out),
-            _ => self.ask(word, rest, out),
-        }
-    }
-
-    fn clear(&mut self) {
-        self.store = MemoryStore::new(self.alloc);
-        self.bytes.clear();
-        self.printed.clear();
-        self.devices = Devices::new();
-        self.desks = Desks::new(self.alloc);
-    }
-
-    /// Puts desks over the base of two files, a data set and a station table, or adds them to those there are.
-    fn start_desks(&mut self, word: &str, rest: &str) -> io::Result<()> {
-        let (count, names) = rest.split_once(' ').ok_or(bad())?;
-        let (data_set, table) = names.split_once(' ').ok_or(bad())?;
-        let data_set = self.load(data_set)?;
-        let table = self.load(table)?;
-        match word {
-            "desks" => self.desks.start(number(count)?, &data_set, &table),
-            _ => self.desks.add(number(count)?, &data_set, &table),
-        }
-    }
-
-    fn load(&mut self, name: &str) -> io::Result<Vec<u8>> {
-        match self.store.load(self.alloc, name, 1_000_000) {
-            Ok(bytes) => Ok(bytes),
-            Err(StoreFault::Memory) => Err(out_of_memory()),
-            Err(StoreFault::Fault) => Err(bad()),
-        }
-    }
-
-    /// Calls the library, and prints the result. A guarded call that runs out of memory has to leave all desks as they were,
-    /// and is made again.
-    fn ask<W: Write>(&mut self, word: &str, rest: &str, out: &mut W) -> io::Result<()> {
-        let Some(guard) = self.guard else {
-            return self.call(word, rest, out);
-        };
-        let before = guard.seen(self.alloc, self.desks.all())?;
-        let mut answer = Vec::new(self.alloc);
-        self.call(word, rest, &mut answer)?;
-        out.write_all(&answer)?;
-        if !answer.starts_with(b"refused 90") && !answer.starts_with(b"refused 52") {
-            return Ok(());
-        }
-        let after = guard.seen(self.alloc, self.desks.all())?;
-        if before.as_slice() != after.as_slice() {
-            return Err(io::Error::from(io::ErrorKind::Other));
-        }
-        self.call(word, rest, out)
-    }
-
-    /// Calls the library as a line asks, and prints the result.
-    fn call<W: Write>(&mut self, word: &str, rest: &str, out: &mut W) -> io::Result<()> {
-        match word {
-            "read" | "start" => {
-                let (data_set, table) = rest.split_once(' ').ok_or(bad())?;
-                let data_set = self.load(data_set)?;
-                let table = self.load(table)?;
-                match word {
-                    "read" => print_read(self.alloc, &data_set, &table, out),
-                    _ => self.desks.start_one(&data_set, &table, out),
-                }
-            }
-            "decode" | "encode" => {
-                let text = self.load(rest)?;
-                print_text(self.alloc, word, &text, out)
-            }
-            "resolve" => {
-                let (desk, name) = rest.split_once(' ').ok_or(bad())?;
-                let text = self.load(name)?;
-                print_resolved(self.alloc, self.desks.desk(desk)?.base(), &text, out)
-            }
-            "steps" => {
-                let script = self.load(rest)?;
-                let steps = self.steps_of(&script)?;
-                self.desks.run(&steps, out)
-            }
-            _ => self.ask_desks(word, rest, out),
-        }
-    }
-
-    /// The steps of lines as `TAKE 1 FILE` and `MERGE 1 2`.
-    fn steps_of(&mut self, script: &[u8]) -> io::Result<Vec<Step>> {
-        let mut steps = Vec::new(self.alloc);
-        let Ok(script) = str::from_utf8(script) else {
-            return Err(bad());
-        };
-        for line in script.lines() {
-            let (word, rest) = line.split_once(' ').ok_or(bad())?;
-            let (desk, other) = rest.split_once(' ').ok_or(bad())?;
-            let place = place_of(desk)?;
-            steps.push(match word {
-                "TAKE" => Step::Take(place, self.load(other)?),
-                _ => Step::Merge(place, place_of(other)?),
-            })?;
-        }
-        Ok(steps)
-    }
-
-    /// Does what a line asks of the desks.
-    fn ask_desks<W: Write>(&mut self, word: &str, rest: &str, out: &mut W) -> io::Result<()> {
-        let (desk, name) = rest.split_once(' ').unwrap_or((rest, ""));
-        match word {
-            "take" => {
-                let text = self.load(name)?;
-                self.desks.take(desk, &text, out)
-            }
-            "merge" => self.desks.merge(desk, name, out),
-            "copy" => self.desks.copy(desk),
-            "save" => self.save(desk, name, out),
-            "open" => {
-                let file = self.load(desk)?;
-                self.desks.open(&file, number(name)? as u64, out)
-            }
-            "same" => self.desks.compare(out),
-            _ => self.desks.show(word, rest, out),
-        }
-    }
-
-    /// Lets a device of the next run fail.
-    fn let_fail(&mut self, rest: &str) -> io::Result<()> {
-        let (device, how) = rest.split_once(' ').ok_or(bad())?;
-        match device {
-            "out" => self.devices.room = number(how)?,
-            "err" => self.devices.err_room = number(how)?,
-            "flush" => self.devices.flushes = false,
-            "store" => {
-                self.devices.store = Some(match how {
-                    "memory" => StoreFault::Memory,
-                    _ => StoreFault::Fault,
-                });
-            }
-            _ => return Err(bad()),
-        }
-        Ok(())
-    }
-
-    fn name(&mut self, rest: &'t str) -> io::Result<()> {
-        let (name, text) = rest.split_once(' ').ok_or(bad())?;
-        Ok(self.named.push((name, text))?)
-    }
-
-    fn line_named(&self, name: &str) -> Option<&'t str> {
-        self.named
-            .iter()
-            .find(|line| line.0 == name)
-            .map(|line| line.1)
-    }
-
-    fn add(&mut self, text: &str) -> io::Result<()> {
+    fn add(&mut self, text: &str) -> Result<(), Fault> {
         self.last_line = self.bytes.len();
         add_shown(&mut self.bytes, text)?;
         Ok(self.bytes.push(b'\n')?)
     }
 
-    fn write_over(&mut self, start: usize, text: &str) -> io::Result<()> {
+    fn write_over(&mut self, start: usize, text: &str) -> Result<(), Fault> {
         let mut shown = Vec::new(self.alloc);
         add_shown(&mut shown, text)?;
         for (old, new) in self.bytes.iter_mut().skip(start).zip(&shown) {
@@ -299,80 +154,233 @@ impl<'t> Case<'t> {
         Ok(())
     }
 
-    fn keep(&mut self, name: &str) -> io::Result<()> {
-        if self.store.add(name, &self.bytes).is_err() {
-            return Err(out_of_memory());
-        }
+    /// The bytes become a file.
+    fn keep(&mut self, name: &str) -> Result<(), Fault> {
+        self.store.add(name, &self.bytes)?;
         self.bytes.clear();
         Ok(())
     }
 
-    /// Keeps the desk file of a desk, or prints why it was not written.
-    fn save<W: Write>(&mut self, desk: &str, name: &str, out: &mut W) -> io::Result<()> {
-        let mut file = Bytes::new(self.alloc);
-        if let Err(fault) = self.desks.desk(desk)?.save(&mut file) {
-            return writeln!(out, "refused {} {fault}", fault.number());
+    fn load(&mut self, name: &str) -> Result<Vec<u8>, Fault> {
+        match self.store.load(self.alloc, name, 1_000_000) {
+            Ok(bytes) => Ok(bytes),
+            Err(StoreFault::Memory) => Err(Fault::Memory),
+            Err(StoreFault::Fault) => Err(Fault::Line),
         }
-        match self.store.add(name, file.bytes()) {
-            Ok(()) => Ok(()),
-            Err(_) => Err(out_of_memory()),
+    }
+
+    /// The bytes of two files.
+    fn load_two(&mut self, names: &str) -> Result<(Vec<u8>, Vec<u8>), Fault> {
+        let (first, second) = parts(names)?;
+        let first = self.load(first)?;
+        Ok((first, self.load(second)?))
+    }
+
+    /// Puts desks over the base of two files, a data set and a station table, in place of those there are.
+    fn start_desks(&mut self, rest: &str) -> Result<(), Fault> {
+        self.desks.clear();
+        self.add_desks(rest)
+    }
+
+    fn add_desks(&mut self, rest: &str) -> Result<(), Fault> {
+        let (count, names) = parts(rest)?;
+        let (data_set, table) = self.load_two(names)?;
+        self.desks.add(number(count)?, &data_set, &table)
+    }
+
+    /// Prints what a line asks for.
+    fn answer(&mut self, word: &str, rest: &str) -> Result<(), Fault> {
+        match word {
+            "run" => self.run(rest),
+            "prefixes" => self.run_on_prefixes(rest),
+            "show" | "size" | "equal" => self.show_file(word, rest),
+            _ => self.ask(word, rest),
+        }
+    }
+
+    /// Calls the library, and prints the result. A guarded call that runs out of memory has to leave all desks as they were,
+    /// and is made again.
+    fn ask(&mut self, word: &str, rest: &str) -> Result<(), Fault> {
+        let Some(guard) = self.guard else {
+            return self.call(word, rest);
+        };
+        let before = guard.seen(self.alloc, self.desks.all())?;
+        let start = self.transcript.len();
+        self.call(word, rest)?;
+        if !self.is_refused(start) {
+            return Ok(());
+        }
+        let after = guard.seen(self.alloc, self.desks.all())?;
+        if before.as_slice() != after.as_slice() {
+            return Err(Fault::Changed);
+        }
+        self.call(word, rest)
+    }
+
+    /// Whether the transcript has from here on that memory ran out.
+    fn is_refused(&self, start: usize) -> bool {
+        match self.transcript.get(start..) {
+            Some(answer) => answer.starts_with(b"refused 90") || answer.starts_with(b"refused 52"),
+            None => false,
+        }
+    }
+
+    /// Calls the library as a line asks, and prints the result.
+    fn call(&mut self, word: &str, rest: &str) -> Result<(), Fault> {
+        match word {
+            "read" | "start" => self.call_on_base(word, rest),
+            "decode" | "encode" => self.call_on_text(word, rest),
+            "resolve" => self.resolve(rest),
+            "steps" => self.run_steps(rest),
+            "take" => self.take(rest),
+            "open" => self.open(rest),
+            "save" => self.save(rest),
+            "same" => self.desks.compare(&mut self.transcript),
+            _ => self.call_on_desk(word, rest),
+        }
+    }
+
+    fn call_on_base(&mut self, word: &str, rest: &str) -> Result<(), Fault> {
+        let (data_set, table) = self.load_two(rest)?;
+        match word {
+            "read" => print_read(self.alloc, &data_set, &table, &mut self.transcript),
+            _ => self.desks.start(&data_set, &table, &mut self.transcript),
+        }
+    }
+
+    fn call_on_text(&mut self, word: &str, name: &str) -> Result<(), Fault> {
+        let text = self.load(name)?;
+        match word {
+            "decode" => print_decoded(self.alloc, &text, &mut self.transcript),
+            _ => print_encoded(self.alloc, &text, &mut self.transcript),
+        }
+    }
+
+    fn resolve(&mut self, rest: &str) -> Result<(), Fault> {
+        let (desk, name) = parts(rest)?;
+        let text = self.load(name)?;
+        let base = self.desks.desk(desk)?.base();
+        print_resolved(self.alloc, base, &text, &mut self.transcript)
+    }
+
+    fn run_steps(&mut self, name: &str) -> Result<(), Fault> {
+        let script = self.load(name)?;
+        let steps = self.steps_of(&script)?;
+        self.desks.run(&steps, &mut self.transcript)
+    }
+
+    /// The steps of lines as `TAKE 1 FILE` and `MERGE 1 2`.
+    fn steps_of(&mut self, script: &[u8]) -> Result<Vec<Step>, Fault> {
+        let mut steps = Vec::new(self.alloc);
+        let Ok(script) = str::from_utf8(script) else {
+            return Err(Fault::Line);
+        };
+        for line in script.lines() {
+            steps.push(self.step_of(line)?)?;
+        }
+        Ok(steps)
+    }
+
+    fn step_of(&mut self, line: &str) -> Result<Step, Fault> {
+        let (word, rest) = parts(line)?;
+        let (desk, other) = parts(rest)?;
+        let place = place_of(desk)?;
+        if word == "TAKE" {
+            return Ok(Step::Take(place, self.load(other)?));
+        }
+        Ok(Step::Merge(place, place_of(other)?))
+    }
+
+    fn take(&mut self, rest: &str) -> Result<(), Fault> {
+        let (desk, name) = parts(rest)?;
+        let text = self.load(name)?;
+        self.desks.take(desk, &text, &mut self.transcript)
+    }
+
+    fn open(&mut self, rest: &str) -> Result<(), Fault> {
+        let (name, limit) = parts(rest)?;
+        let file = self.load(name)?;
+        self.desks
+            .open(&file, number(limit)? as u64, &mut self.transcript)
+    }
+
+    /// Keeps the desk file of a desk, or prints why it was not written.
+    fn save(&mut self, rest: &str) -> Result<(), Fault> {
+        let (desk, name) = parts(rest)?;
+        let mut file = Bytes::new(self.alloc);
+        match self.desks.desk(desk)?.save(&mut file) {
+            Ok(()) => Ok(self.store.add(name, file.bytes())?),
+            Err(fault) => push_refused(&mut self.transcript, fault.number(), &fault),
+        }
+    }
+
+    fn call_on_desk(&mut self, word: &str, rest: &str) -> Result<(), Fault> {
+        let (desk, rest) = rest.split_once(' ').unwrap_or((rest, ""));
+        match word {
+            "merge" => self.desks.merge(desk, rest, &mut self.transcript),
+            "copy" => self.desks.copy(desk),
+            _ => {
+                let desk = self.desks.desk(desk)?;
+                printed::print(self.alloc, desk, word, rest, &mut self.transcript)
+            }
         }
     }
 
     /// Prints the bytes of a file or their number, or whether two files have the same bytes.
-    fn show_file<W: Write>(&mut self, word: &str, rest: &str, out: &mut W) -> io::Result<()> {
+    fn show_file(&mut self, word: &str, rest: &str) -> Result<(), Fault> {
         let (name, other) = rest.split_once(' ').unwrap_or((rest, ""));
-        let bytes = match self.load(name) {
-            Ok(bytes) => bytes,
-            Err(error) if error.kind() == io::ErrorKind::OutOfMemory => return Err(error),
-            Err(_) => return writeln!(out, "no file"),
-        };
+        match self.load(name) {
+            Ok(bytes) => self.show_bytes(word, &bytes, other),
+            Err(Fault::Line) => push_line(&mut self.transcript, "no file"),
+            Err(fault) => Err(fault),
+        }
+    }
+
+    fn show_bytes(&mut self, word: &str, bytes: &[u8], other: &str) -> Result<(), Fault> {
         match word {
-            "show" => show(out, "bytes", &bytes),
-            "size" => writeln!(out, "bytes {}", bytes.len()),
+            "show" => show(&mut self.transcript, "bytes", bytes),
+            "size" => {
+                push_named(&mut self.transcript, "bytes ", &bytes.len())?;
+                push_line(&mut self.transcript, "")
+            }
             _ => {
-                let others = self.load(other)?;
-                let equal = bytes.as_slice() == others.as_slice();
-                writeln!(out, "{}", if equal { "equal" } else { "different" })
+                let equal = bytes == self.load(other)?.as_slice();
+                let word = if equal { "equal" } else { "different" };
+                push_line(&mut self.transcript, word)
             }
         }
     }
 
     /// Runs the program, and prints its answer.
-    fn run<W: Write>(&mut self, rest: &str, out: &mut W) -> io::Result<()> {
+    fn run(&mut self, rest: &str) -> Result<(), Fault> {
         let words = words_of(self.alloc, rest)?;
         let answer = self.answer_of(&words);
-        answer.print(out)?;
+        answer.print(&mut self.transcript)?;
         self.printed.clear();
         Ok(self.printed.extend_from_slice(&answer.out)?)
     }
 
     /// Runs the program on each prefix of a file, which then has the name `prefix`, and prints the answers. Lengths that follow
     /// one another and have one answer are printed together.
-    fn run_on_prefixes<W: Write>(&mut self, rest: &str, out: &mut W) -> io::Result<()> {
-        let (name, rest) = rest.split_once(' ').ok_or(bad())?;
+    fn run_on_prefixes(&mut self, rest: &str) -> Result<(), Fault> {
+        let (name, rest) = parts(rest)?;
         let words = words_of(self.alloc, rest)?;
         let whole = self.load(name)?;
         let mut first = 0;
-        let mut last = self.answer_at(&words, &whole, 0)?;
+        let mut last = self.answer_on(&words, b"")?;
         for length in 1..=whole.len() {
-            let next = self.answer_at(&words, &whole, length)?;
+            let next = self.answer_on(&words, &whole[..length])?;
             if !next.same(&last) {
-                writeln!(out, "lengths {first} to {}", length - 1)?;
-                last.print(out)?;
+                last.print_at(first, length - 1, &mut self.transcript)?;
                 first = length;
                 last = next;
             }
         }
-        writeln!(out, "lengths {first} to {}", whole.len())?;
-        last.print(out)
+        last.print_at(first, whole.len(), &mut self.transcript)
     }
 
-    fn answer_at(&mut self, words: &[&str], whole: &[u8], length: usize) -> io::Result<Answer> {
-        let prefix = whole.get(..length).ok_or(bad())?;
-        self.bytes.clear();
-        self.bytes.extend_from_slice(prefix)?;
-        self.keep("prefix")?;
+    fn answer_on(&mut self, words: &[&str], prefix: &[u8]) -> Result<Answer, Fault> {
+        self.store.add("prefix", prefix)?;
         Ok(self.answer_of(words))
     }
 
@@ -380,42 +388,7 @@ impl<'t> Case<'t> {
     fn answer_of(&mut self, words: &[&str]) -> Answer {
         let devices = self.devices;
         self.devices = Devices::new();
-        let mut taken = FullWriter::new(self.alloc, devices.room, devices.flushes);
-        let mut errors = FullWriter::new(self.alloc, devices.err_room, true);
-        let status = match devices.store {
-            None => run(self.alloc, words, &mut self.store, &mut taken, &mut errors),
-            Some(fault) => {
-                let mut store = NoStore { fault };
-                run(self.alloc, words, &mut store, &mut taken, &mut errors)
-            }
-        };
-        Answer {
-            status,
-            out: taken.taken,
-            err: errors.taken,
-        }
-    }
-}
-
-/// What a run of the program returned and wrote.
-#[derive(Drop)]
-struct Answer {
-    status: u8,
-    out: Vec<u8>,
-    err: Vec<u8>,
-}
-
-impl Answer {
-    fn print<W: Write>(&self, out: &mut W) -> io::Result<()> {
-        writeln!(out, "status {}", self.status)?;
-        show(out, "out", &self.out)?;
-        show(out, "err", &self.err)
-    }
-
-    fn same(&self, other: &Answer) -> bool {
-        self.status == other.status
-            && self.out.as_slice() == other.out.as_slice()
-            && self.err.as_slice() == other.err.as_slice()
+        devices.answer(self.alloc, words, &mut self.store)
     }
 }
 

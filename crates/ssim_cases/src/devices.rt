@@ -6,7 +6,7 @@ use std::io;
 use std::io::Write;
 
 /// A writer that keeps `room` bytes and then fails. Each flush fails unless `flushes`.
-#[derive(Debug, Drop)]
+#[derive(Drop)]
 pub struct FullWriter {
     pub taken: Vec<u8>,
     pub room: usize,
@@ -43,7 +43,7 @@ impl Write for FullWriter {
 }
 
 /// A store whose calls all fail with its fault.
-#[derive(Clone, Copy, Debug)]
+#[derive(Clone, Copy)]
 pub struct NoStore {
     pub fault: StoreFault,
 }

@@ -38,49 +38,39 @@
 //! guarded call that ran out of memory changed a desk.
 #![tactic(auto)]
 
+mod answer;
 mod case;
 mod desks;
 mod devices;
+mod fault;
 mod memory_store;
+mod printed;
 mod pure;
 mod seen;
 mod shown;
 
 use case::Case;
-use std::alloc::Global;
+use fault::Fault;
 use std::io;
-use std::io::{BufWriter, ErrorKind, Write};
+use std::io::{ErrorKind, Write};
 use std::process::ExitCode;
 
-/// Runs all of the cases, and stops at the first line that is not followed.
-fn run_all<W: Write>(alloc: Global, cases: &str, out: &mut W) -> io::Result<()> {
-    let mut case = Case::new(alloc);
-    for line in cases.lines() {
-        if let Err(error) = case.follow(line, out) {
-            if error.kind() == ErrorKind::InvalidData {
-                writeln!(out, "not understood: {line}")?;
-            }
-            out.flush()?;
-            return Err(error);
-        }
-    }
-    out.flush()
-}
-
-fn run_input(rt: &HostRuntime) -> io::Result<()> {
-    let alloc = rt.alloc();
-    let cases = io::read_to_string(alloc, rt.reader())?;
-    let mut out = BufWriter::new(alloc, rt.stdout())?;
-    run_all(alloc, cases.as_str(), &mut out)
+/// Follows the cases of the standard input, and prints the transcript.
+fn follow_input(rt: &HostRuntime) -> io::Result<Result<(), Fault>> {
+    let cases = io::read_to_string(rt.alloc(), rt.reader())?;
+    let mut case = Case::new(rt.alloc());
+    let followed = case.follow_all(cases.as_str());
+    rt.stdout().write_all(case.transcript())?;
+    Ok(followed)
 }
 
 fn main(rt: HostRuntime) -> ExitCode {
-    ExitCode::from(match run_input(&rt) {
-        Ok(()) => 0,
-        Err(error) => match error.kind() {
-            ErrorKind::OutOfMemory => 2,
-            ErrorKind::Other => 3,
-            _ => 1,
-        },
+    ExitCode::from(match follow_input(&rt) {
+        Ok(Ok(())) => 0,
+        Ok(Err(Fault::Line)) => 1,
+        Ok(Err(Fault::Memory)) => 2,
+        Ok(Err(Fault::Changed)) => 3,
+        Err(error) if error.kind() == ErrorKind::OutOfMemory => 2,
+        Err(_) => 1,
     })
 }

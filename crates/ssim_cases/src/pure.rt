@@ -1,64 +1,71 @@
 //! Calls that change no desk.
 
-use crate::desks::{base_of, print_fault};
-use crate::shown::{error_of, show};
-use ssim_desk::DeskFault;
+use crate::desks::{base_of, push_memory};
+use crate::fault::Fault;
+use crate::shown::{push_named, push_refused, push_value, show};
 use ssim_schedule::{Base, resolve};
 use ssim_text::{Message, decode, encode};
 use std::alloc::Global;
-use std::io;
-use std::io::Write;
 
 /// Reads a data set, and prints how many records its base has.
-pub fn print_read<W: Write>(
+pub fn print_read(
     alloc: Global,
     data_set: &[u8],
     table: &[u8],
-    out: &mut W,
-) -> io::Result<()> {
+    out: &mut Vec<u8>,
+) -> Result<(), Fault> {
     match base_of(alloc, data_set, table) {
-        Ok(base) => writeln!(out, "records {}", base.records().len()),
-        Err(error) if error.kind() == io::ErrorKind::OutOfMemory => {
-            print_fault(out, &DeskFault::Memory)
+        Ok(base) => {
+            push_named(out, "records ", &base.records().len())?;
+            Ok(out.push(b'\n')?)
         }
-        Err(error) => Err(error),
+        Err(Fault::Memory) => push_memory(out),
+        Err(fault) => Err(fault),
     }
 }
 
-/// Prints the canonical text of a message: that which it keeps from its decoding, or that which `encode` makes.
-pub fn print_text<W: Write>(alloc: Global, word: &str, text: &[u8], out: &mut W) -> io::Result<()> {
-    if word == "decode" {
-        return match decode(alloc, text) {
-            Ok(message) => show(out, "text", message.text()),
-            Err(fault) => writeln!(out, "refused {} {fault}", fault.number()),
-        };
+/// Prints the canonical text of a message, which it keeps from its decoding.
+pub fn print_decoded(alloc: Global, text: &[u8], out: &mut Vec<u8>) -> Result<(), Fault> {
+    match decode(alloc, text) {
+        Ok(message) => show(out, "text", message.text()),
+        Err(fault) => push_refused(out, fault.number(), &fault),
     }
+}
+
+/// Prints the canonical text of a message, which `encode` makes.
+pub fn print_encoded(alloc: Global, text: &[u8], out: &mut Vec<u8>) -> Result<(), Fault> {
     match encode(alloc, &message_of(alloc, text)?) {
         Ok(bytes) => show(out, "text", &bytes),
-        Err(_) => print_fault(out, &DeskFault::Memory),
+        Err(_) => push_memory(out),
     }
 }
 
 /// Resolves a message against a base, and prints its reference, and the flight and the period of each sub-message.
-pub fn print_resolved<W: Write>(
+pub fn print_resolved(
     alloc: Global,
     base: &Base,
     text: &[u8],
-    out: &mut W,
-) -> io::Result<()> {
+    out: &mut Vec<u8>,
+) -> Result<(), Fault> {
     let message = message_of(alloc, text)?;
     let resolved = match resolve(base, &message) {
         Ok(resolved) => resolved,
-        Err(fault) => return writeln!(out, "refused {} {fault}", fault.number()),
+        Err(fault) => return push_refused(out, fault.number(), &fault),
     };
-    writeln!(out, "{}", resolved.reference)?;
+    push_value(out, &resolved.reference)?;
+    out.push(b'\n')?;
     for sub in &resolved.subs {
-        let period = sub.period;
-        writeln!(out, "{} {} {}", sub.flight, period.first(), period.last())?;
+        push_value(out, &sub.flight)?;
+        push_named(out, " ", &sub.period.first())?;
+        push_named(out, " ", &sub.period.last())?;
+        out.push(b'\n')?;
     }
     Ok(())
 }
 
-fn message_of(alloc: Global, text: &[u8]) -> io::Result<Message> {
-    decode(alloc, text).map_err(|fault| error_of(fault.number()))
+fn message_of(alloc: Global, text: &[u8]) -> Result<Message, Fault> {
+    match decode(alloc, text) {
+        Ok(message) => Ok(message),
+        Err(fault) => Err(Fault::of(fault.number())),
+    }
 }

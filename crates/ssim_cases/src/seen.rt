@@ -1,14 +1,13 @@
 //! What desks show, to see that a refusal changed nothing.
 
-use crate::desks::print_finding_lines;
-use crate::shown::{bad, number, out_of_memory};
+use crate::desks::push_findings;
+use crate::fault::Fault;
+use crate::shown::{number, parts, push_value};
 use ssim_desk::Desk;
 use ssim_records::Bytes;
 use ssim_schedule::{ExportFault, PlacedLeg};
 use ssim_values::{Day, Designator};
 use std::alloc::{AllocError, Global};
-use std::io;
-use std::io::Write;
 
 /// Which itineraries are compared: those of these flights from a day to a day.
 #[derive(Clone, Copy)]
@@ -20,9 +19,9 @@ pub struct Guard<'t> {
 
 impl<'t> Guard<'t> {
     /// The first and the last day by their numbers, and then the flights.
-    pub fn parse(rest: &'t str) -> io::Result<Guard<'t>> {
-        let (first, rest) = rest.split_once(' ').ok_or(bad())?;
-        let (last, flights) = rest.split_once(' ').ok_or(bad())?;
+    pub fn parse(rest: &'t str) -> Result<Guard<'t>, Fault> {
+        let (first, rest) = parts(rest)?;
+        let (last, flights) = parts(rest)?;
         Ok(Guard {
             first: day_number(first)?,
             last: day_number(last)?,
@@ -31,46 +30,52 @@ impl<'t> Guard<'t> {
     }
 
     /// All that desks show: the messages that they hold, their findings, itineraries, desk files and exports.
-    pub fn seen(&self, alloc: Global, desks: &[Desk]) -> io::Result<Vec<u8>> {
+    pub fn seen(&self, alloc: Global, desks: &[Desk]) -> Result<Vec<u8>, Fault> {
         let mut seen = Vec::new(alloc);
         for desk in desks {
             add_held(&mut seen, desk)?;
-            let Ok(lines) = desk.findings() else {
-                return Err(out_of_memory());
-            };
-            print_finding_lines(&lines, &mut seen)?;
+            push_findings(&mut seen, &desk.findings()?)?;
             self.add_flights(&mut seen, desk)?;
             add_files(alloc, &mut seen, desk)?;
         }
         Ok(seen)
     }
 
-    fn add_flights(&self, seen: &mut Vec<u8>, desk: &Desk) -> io::Result<()> {
+    fn add_flights(&self, seen: &mut Vec<u8>, desk: &Desk) -> Result<(), Fault> {
         for name in self.flights.split_whitespace() {
             let Ok(designator) = Designator::parse(name.as_bytes()) else {
-                return Err(bad());
+                return Err(Fault::Line);
             };
             self.add_days(seen, desk, &designator)?;
         }
         Ok(())
     }
 
-    fn add_days(&self, seen: &mut Vec<u8>, desk: &Desk, designator: &Designator) -> io::Result<()> {
+    fn add_days(
+        &self,
+        seen: &mut Vec<u8>,
+        desk: &Desk,
+        designator: &Designator,
+    ) -> Result<(), Fault> {
         for number in self.first..=self.last {
-            let day = Day::from_number(number).ok_or(bad())?;
+            let day = Day::from_number(number).ok_or(Fault::Line)?;
             add_legs(seen, desk.itinerary(&designator.flight, day))?;
         }
         Ok(())
     }
 }
 
-fn day_number(text: &str) -> io::Result<u16> {
-    u16::try_from(number(text)?).map_err(|_| bad())
+fn day_number(text: &str) -> Result<u16, Fault> {
+    match u16::try_from(number(text)?) {
+        Ok(number) => Ok(number),
+        Err(_) => Err(Fault::Line),
+    }
 }
 
-fn add_held(seen: &mut Vec<u8>, desk: &Desk) -> io::Result<()> {
+fn add_held(seen: &mut Vec<u8>, desk: &Desk) -> Result<(), Fault> {
     for held in desk.held() {
-        writeln!(seen, "{}", held.reference())?;
+        push_value(seen, &held.reference())?;
+        seen.push(b'\n')?;
         seen.extend_from_slice(held.text())?;
     }
     Ok(())
@@ -93,13 +98,13 @@ fn add_tails(seen: &mut Vec<u8>, leg: &PlacedLeg) -> Result<(), AllocError> {
 }
 
 /// Adds the desk file and the export. A desk that has no export shows none.
-fn add_files(alloc: Global, seen: &mut Vec<u8>, desk: &Desk) -> io::Result<()> {
+fn add_files(alloc: Global, seen: &mut Vec<u8>, desk: &Desk) -> Result<(), Fault> {
     let mut files = Bytes::new(alloc);
     if desk.save(&mut files).is_err() {
-        return Err(out_of_memory());
+        return Err(Fault::Memory);
     }
     match desk.export(&mut files) {
-        Err(ExportFault::Memory | ExportFault::WriteFault) => Err(out_of_memory()),
+        Err(ExportFault::Memory | ExportFault::WriteFault) => Err(Fault::Memory),
         _ => Ok(seen.extend_from_slice(files.bytes())?),
     }
 }

@@ -1,49 +1,69 @@
 //! Bytes in readable form.
 
-use std::io;
+use crate::fault::Fault;
+use std::fmt::Display;
 use std::io::Write;
 
-/// A line that cannot be understood.
-pub fn bad() -> io::Error {
-    io::Error::from(io::ErrorKind::InvalidData)
-}
-
-/// What the program itself asked of memory was refused.
-pub fn out_of_memory() -> io::Error {
-    io::Error::from(io::ErrorKind::OutOfMemory)
-}
-
-/// A refusal of something that the line needs, by its number.
-pub fn error_of(number: u8) -> io::Error {
-    if number == 90 { out_of_memory() } else { bad() }
-}
-
-pub fn number(text: &str) -> io::Result<usize> {
+pub fn number(text: &str) -> Result<usize, Fault> {
     match text.parse() {
         Ok(number) => Ok(number),
-        Err(_) => Err(bad()),
+        Err(_) => Err(Fault::Line),
     }
+}
+
+/// The first word, and what follows the blank after it.
+pub fn parts(text: &str) -> Result<(&str, &str), Fault> {
+    text.split_once(' ').ok_or(Fault::Line)
+}
+
+pub fn push(out: &mut Vec<u8>, text: &str) -> Result<(), Fault> {
+    Ok(out.extend_from_slice(text.as_bytes())?)
+}
+
+pub fn push_line(out: &mut Vec<u8>, text: &str) -> Result<(), Fault> {
+    push(out, text)?;
+    Ok(out.push(b'\n')?)
+}
+
+pub fn push_value<T: Display>(out: &mut Vec<u8>, value: &T) -> Result<(), Fault> {
+    match write!(out, "{value}") {
+        Ok(()) => Ok(()),
+        Err(_) => Err(Fault::Memory),
+    }
+}
+
+/// Adds a word and a value.
+pub fn push_named<T: Display>(out: &mut Vec<u8>, word: &str, value: &T) -> Result<(), Fault> {
+    push(out, word)?;
+    push_value(out, value)
+}
+
+/// Adds the line of a refusal.
+pub fn push_refused<T: Display>(out: &mut Vec<u8>, number: u8, fault: &T) -> Result<(), Fault> {
+    push_named(out, "refused ", &number)?;
+    push_named(out, " ", fault)?;
+    Ok(out.push(b'\n')?)
 }
 
 /// Adds the bytes that a text shows.
-pub fn add_shown(bytes: &mut Vec<u8>, text: &str) -> io::Result<()> {
+pub fn add_shown(bytes: &mut Vec<u8>, text: &str) -> Result<(), Fault> {
     let mut parts = text.split('<');
     if let Some(plain) = parts.next() {
-        bytes.extend_from_slice(plain.as_bytes())?;
+        push(bytes, plain)?;
     }
     for part in parts {
-        let (sign, plain) = part.split_once('>').ok_or(bad())?;
+        let (sign, plain) = part.split_once('>').ok_or(Fault::Line)?;
         add_sign(bytes, sign)?;
-        bytes.extend_from_slice(plain.as_bytes())?;
+        push(bytes, plain)?;
     }
     Ok(())
 }
 
 /// Adds the bytes of the sign between `<` and `>`: one by its hexadecimal digits, or a run of one byte, a blank if none is named.
-fn add_sign(bytes: &mut Vec<u8>, sign: &str) -> io::Result<()> {
+fn add_sign(bytes: &mut Vec<u8>, sign: &str) -> Result<(), Fault> {
     if let Some(digits) = sign.strip_prefix('x') {
         let Ok(byte) = u8::from_str_radix(digits, 16) else {
-            return Err(bad());
+            return Err(Fault::Line);
         };
         return Ok(bytes.push(byte)?);
     }
@@ -55,12 +75,12 @@ fn add_sign(bytes: &mut Vec<u8>, sign: &str) -> io::Result<()> {
     Ok(())
 }
 
-/// Prints bytes line by line under a heading, and nothing if there are none. `<>` ends a last line without LF.
-pub fn show<W: Write>(out: &mut W, heading: &str, bytes: &[u8]) -> io::Result<()> {
+/// Shows bytes line by line under a heading, and nothing if there are none. `<>` ends a last line without LF.
+pub fn show(out: &mut Vec<u8>, heading: &str, bytes: &[u8]) -> Result<(), Fault> {
     if bytes.is_empty() {
         return Ok(());
     }
-    writeln!(out, "{heading}")?;
+    push_line(out, heading)?;
     for line in bytes.split_inclusive(|byte| *byte == b'\n') {
         match line.strip_suffix(b"\n") {
             Some(whole) => show_line(out, whole, "")?,
@@ -70,29 +90,38 @@ pub fn show<W: Write>(out: &mut W, heading: &str, bytes: &[u8]) -> io::Result<()
     Ok(())
 }
 
-fn show_line<W: Write>(out: &mut W, line: &[u8], end: &str) -> io::Result<()> {
-    write!(out, "| ")?;
+fn show_line(out: &mut Vec<u8>, line: &[u8], end: &str) -> Result<(), Fault> {
+    push(out, "| ")?;
     for run in line.chunk_by(|a, b| a == b) {
         show_run(out, run)?;
     }
-    writeln!(out, "{end}")
+    push_line(out, end)
 }
 
-/// Prints a run of one byte: from four blanks on, and from eight other bytes on, by their count.
-fn show_run<W: Write>(out: &mut W, run: &[u8]) -> io::Result<()> {
+/// Shows a run of one byte: from four blanks on, and from eight other bytes on, by their count.
+fn show_run(out: &mut Vec<u8>, run: &[u8]) -> Result<(), Fault> {
     let byte = run.first().copied().unwrap_or(b' ');
-    let count = run.len();
     if byte < b' ' || byte > b'~' || byte == b'<' {
-        for _ in run {
-            write!(out, "<x{byte:02X}>")?;
+        return show_digits(out, byte, run.len());
+    }
+    let least = if byte == b' ' { 4 } else { 8 };
+    if run.len() < least {
+        return Ok(out.extend_from_slice(run)?);
+    }
+    push_named(out, "<", &run.len())?;
+    if byte != b' ' {
+        out.push(b'*')?;
+        out.push(byte)?;
+    }
+    Ok(out.push(b'>')?)
+}
+
+/// Shows a byte by its hexadecimal digits, so many times.
+fn show_digits(out: &mut Vec<u8>, byte: u8, count: usize) -> Result<(), Fault> {
+    for _ in 0..count {
+        if write!(out, "<x{byte:02X}>").is_err() {
+            return Err(Fault::Memory);
         }
-        return Ok(());
     }
-    if byte == b' ' && count >= 4 {
-        return write!(out, "<{count}>");
-    }
-    if count >= 8 {
-        return write!(out, "<{count}*{}>", char::from(byte));
-    }
-    out.write_all(run)
+    Ok(())
 }

@@ -26,6 +26,19 @@ struct Draft<W: Write + Drop> {
     fault: StoreFault,
 }
 
+impl<W: Write + Drop> Draft<W> {
+    /// Writes the content. After a failure nothing more is written.
+    fn put_all<C: Content>(&mut self, content: &C) -> Result<(), StoreFault> {
+        if content.put(self).is_err() {
+            return Err(self.fault);
+        }
+        match self.writer.flush() {
+            Ok(()) => Ok(()),
+            Err(error) => Err(fault_of(&error)),
+        }
+    }
+}
+
 impl<W: Write + Drop> Sink for Draft<W> {
     ghost taken = { λ _. None };
 
@@ -48,7 +61,7 @@ impl<W: Write + Drop> Sink for Draft<W> {
     }
 }
 
-/// Writes the content to the file, and gives the file back. After a failure nothing more is written.
+/// Writes the content to the file, and gives the file back.
 pub(crate) fn put_whole<W: Write + Drop, C: Content>(
     alloc: Global,
     file: W,
@@ -62,21 +75,9 @@ pub(crate) fn put_whole<W: Write + Drop, C: Content>(
         failures: 0,
         fault: StoreFault::Fault,
     };
-    let put = content.put(&mut draft);
-    let Draft {
-        mut writer,
-        fault,
-        ..
-    } = draft;
-    let written = match put {
-        Ok(()) => match writer.flush() {
-            Ok(()) => Ok(()),
-            Err(error) => Err(fault_of(&error)),
-        },
-        Err(_) => Err(fault),
-    };
-    let (file, _) = writer.into_parts();
-    match written {
+    let put = draft.put_all(content);
+    let (file, _) = draft.writer.into_parts();
+    match put {
         Ok(()) => Ok(file),
         Err(fault) => Err(fault),
     }

@@ -41,28 +41,45 @@ fn unread(rt: &impl Eprint, kind: ErrorKind) -> ExitCode {
     ExitCode::from(2)
 }
 
-fn main(rt: HostRuntime) -> ExitCode {
-    let alloc = rt.alloc();
-    let args = match env::args(&rt) {
+/// The words of the command line, or why they cannot be read.
+fn words_of(rt: &HostRuntime) -> Result<Vec<String>, ErrorKind> {
+    let args = match env::args(rt) {
         Ok(args) => args,
-        Err(error) => return unread(&rt, error.kind()),
+        Err(error) => return Err(error.kind()),
     };
-    let collected: Result<Vec<String>, AllocError> = args.collect(alloc);
-    let Ok(words) = collected else {
-        return out_of_memory(&rt);
-    };
-    let Ok(texts) = texts_of(alloc, words.as_slice()) else {
-        return out_of_memory(&rt);
-    };
+    let words: Result<Vec<String>, AllocError> = args.collect(rt.alloc());
+    match words {
+        Ok(words) => Ok(words),
+        Err(_) => Err(ErrorKind::OutOfMemory),
+    }
+}
+
+/// Runs the program on the words. Returns its status, or nothing if memory runs out before.
+fn run_on(rt: &HostRuntime, words: &[&str]) -> Option<u8> {
+    let alloc = rt.alloc();
     let Ok(mut out) = BufWriter::with_capacity(alloc, ROOM, rt.stdout()) else {
-        return out_of_memory(&rt);
+        return None;
     };
-    let Ok(mut store) = FileStore::new(&rt, alloc) else {
-        return out_of_memory(&rt);
+    let Ok(mut store) = FileStore::new(rt, alloc) else {
+        return None;
     };
-    let mut err = rt.stderr();
-    let status = run(alloc, texts.as_slice(), &mut store, &mut out, &mut err);
+    let status = run(alloc, words, &mut store, &mut out, &mut rt.stderr());
     // What is printed was flushed. Only after a failure is there more in the buffer, and then nothing more is written.
     let _ = out.into_parts();
-    ExitCode::from(status)
+    Some(status)
+}
+
+fn main(rt: HostRuntime) -> ExitCode {
+    let words = match words_of(&rt) {
+        Ok(words) => words,
+        Err(kind) => return unread(&rt, kind),
+    };
+    let status = match texts_of(rt.alloc(), &words) {
+        Ok(texts) => run_on(&rt, &texts),
+        Err(_) => None,
+    };
+    match status {
+        Some(status) => ExitCode::from(status),
+        None => out_of_memory(&rt),
+    }
 }

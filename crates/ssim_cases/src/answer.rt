@@ -1,0 +1,96 @@
+//! Runs of the program on devices that may fail.
+
+use crate::devices::{FullWriter, NoStore};
+use crate::fault::Fault;
+use crate::memory_store::MemoryStore;
+use crate::shown::{number, parts, push_line, push_named, show};
+use ssim_program::{Store, StoreFault, run};
+use std::alloc::Global;
+
+/// What fails in the next run.
+#[derive(Clone, Copy)]
+pub struct Devices {
+    /// The fault of the store, if it fails.
+    store: Option<StoreFault>,
+    /// How many bytes the standard output takes, and whether it can be flushed.
+    room: usize,
+    flushes: bool,
+    /// How many bytes the standard error takes.
+    err_room: usize,
+}
+
+impl Devices {
+    /// Nothing fails.
+    pub fn new() -> Devices {
+        Devices {
+            store: None,
+            room: usize::MAX,
+            flushes: true,
+            err_room: usize::MAX,
+        }
+    }
+
+    /// Lets one of them fail.
+    pub fn let_fail(&mut self, rest: &str) -> Result<(), Fault> {
+        let (device, how) = parts(rest)?;
+        match device {
+            "out" => self.room = number(how)?,
+            "err" => self.err_room = number(how)?,
+            "flush" => self.flushes = false,
+            "store" if how == "memory" => self.store = Some(StoreFault::Memory),
+            "store" => self.store = Some(StoreFault::Fault),
+            _ => return Err(Fault::Line),
+        }
+        Ok(())
+    }
+
+    /// Runs the program on these words.
+    pub fn answer(&self, alloc: Global, words: &[&str], store: &mut MemoryStore) -> Answer {
+        match self.store {
+            None => self.answer_with(alloc, words, store),
+            Some(fault) => self.answer_with(alloc, words, &mut NoStore { fault }),
+        }
+    }
+
+    fn answer_with<S: Store>(&self, alloc: Global, words: &[&str], store: &mut S) -> Answer {
+        let mut out = FullWriter::new(alloc, self.room, self.flushes);
+        let mut err = FullWriter::new(alloc, self.err_room, true);
+        let status = run(alloc, words, store, &mut out, &mut err);
+        Answer {
+            status,
+            out: out.taken,
+            err: err.taken,
+        }
+    }
+}
+
+/// What a run of the program returned and wrote.
+#[derive(Drop)]
+pub struct Answer {
+    status: u8,
+    pub out: Vec<u8>,
+    err: Vec<u8>,
+}
+
+impl Answer {
+    pub fn print(&self, out: &mut Vec<u8>) -> Result<(), Fault> {
+        push_named(out, "status ", &self.status)?;
+        push_line(out, "")?;
+        show(out, "out", &self.out)?;
+        show(out, "err", &self.err)
+    }
+
+    /// Prints it under the first and the last of the lengths of a file that have it.
+    pub fn print_at(&self, first: usize, last: usize, out: &mut Vec<u8>) -> Result<(), Fault> {
+        push_named(out, "lengths ", &first)?;
+        push_named(out, " to ", &last)?;
+        push_line(out, "")?;
+        self.print(out)
+    }
+
+    pub fn same(&self, other: &Answer) -> bool {
+        self.status == other.status
+            && self.out.as_slice() == other.out.as_slice()
+            && self.err.as_slice() == other.err.as_slice()
+    }
+}
