@@ -1,5 +1,5 @@
 -- A file that is the export of its own base is read as that base, so its export is the file.
-use Rattle.std.proofs.Common.{◌≡◌, ◌∙◌, ◌⊎◌, ℕ, Bool, true, false, true≢false, List, [], Option, Result, Ok, Err, OnOk, unwrap_or, inl, inr, sym, ap, subst}
+use Rattle.std.proofs.Common.{◌≡◌, ◌∙◌, ◌⊎◌, ℕ, Bool, true, false, true≢false, List, [], Option, Result, Ok, Err, unwrap_or, inl, inr, sym, ap, subst}
 use Rattle.ssim_values.specs.Flight.{FlightNumber}
 use Rattle.ssim_records.specs.Carrier.{CarrierFields}
 use Rattle.ssim_records.specs.Header.{HeaderFields}
@@ -12,7 +12,6 @@ use Rattle.ssim_schedule.specs.Plan.{ReadsBackBase, frame_from}
 use Rattle.ssim_schedule.specs.ReadBack.{HasFrame, ReadsBackFrom, kept_frame}
 use Rattle.ssim_schedule.specs.Reading.{FailedReader, IsReadAs, IsReadBack}
 use Rattle.ssim_schedule.specs.Timetable.{Days, days_of}
-use Rattle.ssim_schedule.specs.declared.export.ExportFault.{ExportFault}
 use Rattle.ssim_schedule.specs.declared.note.Note.{Note}
 use Rattle.ssim_schedule.proofs.BaseFrame.{first-is, last-is, second-is}
 use Rattle.ssim_program.specs.Again.{GrowsByItself, ReadsAsItself, TidiesOnce}
@@ -92,7 +91,6 @@ reads_itself frame days bytes r = record {
   export = (kept_frame frame, r.frame_is, r.again);
 }
 
-module _ {W : Type 0} (taken : W → Option (List ℕ)) (base : List Record) (days : FlightNumber → Days) (old new : W) where
-  pub grows_if : (r : Result (Unit {0}) ExportFault) → OnOk r (ReadsBackBase taken base days old new) → OnOk r (GrowsByItself (taken old) (taken new))
-  grows_if (Ok x) back = (back.2, reads_itself back.0 days back.2 back.4, back.3)
-  grows_if (Err e) h = tt
+pub grows_by_itself : {W : Type 0} (taken : W → Option (List ℕ)) (base : List Record) (days : FlightNumber → Days) (old new : W) → ReadsBackBase taken base days old new
+    → GrowsByItself (taken old) (taken new)
+grows_by_itself taken base days old new back = (back.2, reads_itself back.0 days back.2 back.4, back.3)

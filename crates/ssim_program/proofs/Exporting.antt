@@ -1,62 +1,82 @@
--- What an export of a base or of a desk leaves.
-use Rattle.std.proofs.Common.{◌≡◌, ◌∙◌, sym, ap, subst, inl, inr, ℕ, List, Option, Result, Ok, Err, IfErr, OnErr, OnOk}
-use Rattle.std.specs.Io.KnownBytes.{Keeps}
-use Rattle.std.proofs.KnownBytes.{Keeps-refl}
-use Rattle.ssim_values.specs.Flight.{FlightNumber, IsFlight}
+-- What an export leaves on a printer, from what the crates below say of it.
+use Rattle.std.proofs.Common.{◌≡◌, inl, inr, ℕ, List, [], ◌++◌, Option, None, Result, Ok, Err, refl, sym, ap, subst, append-nil}
+use Rattle.std.specs.Io.KnownBytes.{Appends}
+use Rattle.std.proofs.KnownBytes.{Appends-trans}
+use Rattle.ssim_values.specs.Flight.{FlightNumber}
 use Rattle.ssim_records.specs.declared.record.Record.{Record}
-use Rattle.ssim_schedule.specs.Export.{Frame, chapter7, export_bytes, result_map}
-use Rattle.ssim_schedule.specs.Plan.{RefusesBase, WritesBase}
-use Rattle.ssim_schedule.specs.ReadBack.{SameExport}
+use Rattle.ssim_schedule.specs.Base.{airline_of}
+use Rattle.ssim_schedule.specs.Plan.{RefusesBase}
 use Rattle.ssim_schedule.specs.Timetable.{Days, days_of}
 use Rattle.ssim_schedule.specs.declared.export.ExportFault.{ExportFault}
 use Rattle.ssim_schedule.specs.declared.export.ExportFault.TheVariants.{Variations, Records, WriteFault, Memory}
+use Rattle.ssim_schedule.specs.declared.note.Note.{Note}
 use Rattle.ssim_held.specs.Kept.{DeskSeen}
 use Rattle.ssim_desk.specs.Desk.{days_of_desk}
-use Rattle.ssim_program.specs.Desks.{ExportsDesk, LeavesDeskExport}
-use Rattle.ssim_program.specs.Made.{Exports, LeavesExport}
+use Rattle.ssim_program.specs.Again.{GrowsByItself}
+use Rattle.ssim_program.specs.Desks.{ReadsDesk}
+use Rattle.ssim_program.specs.Exported.{IsWritten, PrintsExport, failures_of, taken_of}
+use Rattle.ssim_program.specs.Files.{Files}
+use Rattle.ssim_program.specs.Line.{Text, Tidy, Export}
+use Rattle.ssim_program.specs.Made.{ReadsFile}
+use Rattle.ssim_program.specs.Paper.{Breaks, Grows, Paper, Prints}
+use Rattle.ssim_program.specs.Refusal.{refusal_of_export}
+use Rattle.ssim_program.specs.World.{Does, world}
+use Rattle.ssim_program.specs.declared.refusal.Refusal.{Refusal}
+use Rattle.ssim_program.specs.declared.refusal.Refusal.TheVariants as refused
+use Rattle.ssim_program.proofs.Again.{grows_by_itself}
+use Rattle.ssim_program.proofs.Printers.{breaks_after, flushed_after, nothing}
 
-module _ {W : Type 0} (taken : W → Option (List ℕ)) (failures : W → ℕ) (base : List Record) (old new : W) where
-  kept : new ≡ old → LeavesExport base (taken old) (taken new) (failures old) (failures new)
-  kept is = inl (subst (λ (x : W). Keeps (taken old) (taken x)) (sym is) (Keeps-refl (taken old)))
+module _ (base : List Record) (days : FlightNumber → Days) (before mid : Paper) where
+  -- it was written, and then flushed, or the flush failed
+  pub flushed : (after : Paper) (r : Result (Unit {0}) Refusal) → IsWritten base days before mid (Ok tt) → Prints [] mid after r → PrintsExport base days before after r
+  flushed after (Ok x) w h =
+      let grown : Grows w.ok.2.0 before mid = record { taken = w.ok.2.2; failures = w.ok.2.3; device = w.device } in
+      let itself : GrowsByItself before.taken mid.taken = grows_by_itself taken_of base days before mid w.reads_back in
+      let longer : Appends before.taken after.taken (itself.0 ++ []) = Appends-trans before.taken mid.taken after.taken itself.0 [] itself.2 h.0.taken in (
+        (w.ok.2.0, (w.ok.0, w.ok.1, w.ok.2.1), flushed_after w.ok.2.0 before mid after grown h.0),
+        (itself.0, itself.1, subst (λ (bs : List ℕ). Appends before.taken after.taken bs) (append-nil itself.0) longer),
+        h.1,
+      )
+  flushed after (Err refusal) w h = inr (
+    h.0,
+    w.ok.2.0,
+    (w.ok.0, w.ok.1, w.ok.2.1),
+    breaks_after w.ok.2.0 before mid after (record { taken = w.ok.2.2; failures = w.ok.2.3; device = w.device }) h.1,
+  )
 
-  exports : WritesBase taken failures base (days_of base) old new → Exports base (taken old) (taken new)
-  exports w = (w.2.0, (w.0, w.1, w.2.1), w.2.2)
+  -- it was not
+  pub not_written : (airline : List ℕ) (fault : ExportFault) → airline ≡ airline_of base → mid.device ≡ before.device → RefusesBase taken_of failures_of base days before mid fault
+      → PrintsExport base days before mid (Err (refusal_of_export airline fault))
+  not_written airline (Variations flight) is device h = inl (h.2.1, (Variations flight, (h.0, h.1, h.2.0), ap (λ (a : List ℕ). refusal_of_export a (Variations flight)) is))
+  not_written airline Records is device h = inl (h.2.1, (Records, (h.0, h.1, h.2.0), ap (λ (a : List ℕ). refusal_of_export a Records) is))
+  not_written airline Memory is device h = inl (h.2, (Memory, tt, refl))
+  not_written airline WriteFault is device h = inr (refl, h.2.0, (h.0, h.1, h.2.1), record { taken = h.2.2; failures = h.2.3; device = device })
 
-  leaves : (fault : ExportFault) → RefusesBase taken failures base (days_of base) old new fault → LeavesExport base (taken old) (taken new) (failures old) (failures new)
-  leaves (Variations flight) h = kept h.2.1
-  leaves Records h = kept h.2.1
-  leaves Memory h = kept h.2
-  leaves WriteFault h = inr (h.2.0, (h.0, h.1, h.2.1), h.2.2, h.2.3)
+-- what `tidy` does
+module _ (files new : Option Files) (name : Text) (same : new ≡ files) (p q : Paper) where
+  pub tidy_does : (base : List Record) (notes : List Note) (r : Result (Unit {0}) Refusal) → ReadsFile files name (Ok (base, notes)) → PrintsExport base (days_of base) p q r
+      → Does (Tidy name) (world files p) (world new q) r
+  tidy_does base notes (Ok x) read h =
+      record { printed = h.0.0; kept = None; makes = (base, notes, read, h.0.1, refl); again = h.1; files = same; grows = h.0.2; flushed = h.2 }
+  tidy_does base notes (Err refusal) read (inl k) = inl (record {
+    printed = [];
+    why = (refl, inr (base, notes, read, k.1));
+    files = same;
+    grows = subst (λ (x : Paper). Grows [] p x) (sym k.0) (nothing p);
+  })
+  tidy_does base notes (Err refusal) read (inr k) =
+      inr (record { is = k.0; printed = k.1; kept = None; begins = (base, notes, read, k.2, refl); files = same; breaks = k.3 })
 
-  pub leaves_if : (r : Result (Unit {0}) ExportFault) → IfErr r (RefusesBase taken failures base (days_of base) old new) → OnErr r (LeavesExport base (taken old) (taken new) (failures old) (failures new))
-  leaves_if (Ok x) h = tt
-  leaves_if (Err e) h = leaves e h
-
-  pub exports_if : (r : Result (Unit {0}) ExportFault) → OnOk r (WritesBase taken failures base (days_of base) old new) → OnOk r (Exports base (taken old) (taken new))
-  exports_if (Ok x) h = exports h
-  exports_if (Err e) h = tt
-
-  pub counted_if : (r : Result (Unit {0}) ExportFault) → OnOk r (WritesBase taken failures base (days_of base) old new) → OnOk r (failures new ≡ failures old)
-  counted_if (Ok x) h = h.2.3
-  counted_if (Err e) h = tt
-
--- the same of a desk, whose days are not those of its base
-module _ {W : Type 0} (taken : W → Option (List ℕ)) (failures : W → ℕ) (desk : DeskSeen) (old new : W) where
-  kept_desk : new ≡ old → LeavesDeskExport desk (taken old) (taken new) (failures old) (failures new)
-  kept_desk is = inl (subst (λ (x : W). Keeps (taken old) (taken x)) (sym is) (Keeps-refl (taken old)))
-
-  leaves_desk : (fault : ExportFault) → RefusesBase taken failures desk.base.records (days_of_desk desk) old new fault → LeavesDeskExport desk (taken old) (taken new) (failures old) (failures new)
-  leaves_desk (Variations flight) h = kept_desk h.2.1
-  leaves_desk Records h = kept_desk h.2.1
-  leaves_desk Memory h = kept_desk h.2
-  leaves_desk WriteFault h = inr (h.2.0, (h.0, h.1, h.2.1), h.2.2, h.2.3)
-
-  pub leaves_desk_if : (r : Result (Unit {0}) ExportFault) → IfErr r (RefusesBase taken failures desk.base.records (days_of_desk desk) old new) → OnErr r (LeavesDeskExport desk (taken old) (taken new) (failures old) (failures new))
-  leaves_desk_if (Ok x) h = tt
-  leaves_desk_if (Err e) h = leaves_desk e h
-
-  pub exports_desk : WritesBase taken failures desk.base.records (days_of_desk desk) old new → ExportsDesk desk (taken old) (taken new)
-  exports_desk w = (w.2.0, (w.0, w.1, w.2.1), w.2.2)
-
-  pub counted_desk : WritesBase taken failures desk.base.records (days_of_desk desk) old new → failures new ≡ failures old
-  counted_desk w = w.2.3
+  -- what `export` does
+  pub export_does : (desk : DeskSeen) (r : Result (Unit {0}) Refusal) → ReadsDesk files name desk → PrintsExport desk.base.records (days_of_desk desk) p q r
+      → Does (Export name) (world files p) (world new q) r
+  export_does desk (Ok x) read h =
+      record { printed = h.0.0; kept = None; makes = (desk, read, h.0.1, refl); again = h.1; files = same; grows = h.0.2; flushed = h.2 }
+  export_does desk (Err refusal) read (inl k) = inl (record {
+    printed = [];
+    why = (refl, inr (desk, read, k.1));
+    files = same;
+    grows = subst (λ (x : Paper). Grows [] p x) (sym k.0) (nothing p);
+  })
+  export_does desk (Err refusal) read (inr k) =
+      inr (record { is = k.0; printed = k.1; kept = None; begins = (desk, read, k.2, refl); files = same; breaks = k.3 })

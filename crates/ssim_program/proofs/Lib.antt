@@ -3,13 +3,10 @@ pub mod Words
 pub mod Levels
 pub mod Right
 pub mod Lines
-pub mod Faults
+pub mod Printers
+pub mod Doing
 pub mod Exporting
-pub mod Leaving
-pub mod Ending
 pub mod Again
-pub mod ReasonLemmas
-pub mod PrintLemmas
 pub mod Joining
 pub mod Texts
 pub mod Opening
@@ -18,3 +15,5 @@ pub mod RefusalTexts
 pub mod Rehearsing
 pub mod Outcomes
 pub mod Scripted
+pub mod Saying
+pub mod Writers

@@ -1,21 +1,21 @@
 -- Texts that are taken one after another: one more at the end, which is taken or refused.
-use Rattle.std.proofs.Common.{◌≡◌, ◌∙◌, inl, inr, ℕ, zero, suc, ◌+◌, List, [], ◌∷◌, ◌++◌, length, take, Option, Some, None, is_some, unwrap_or, true≢false, refl, sym, ap, subst, append_assoc, append-nil, arith}
+use Rattle.std.proofs.Common.{◌≡◌, ◌∙◌, inl, inr, ℕ, zero, suc, ◌+◌, List, [], ◌∷◌, ◌++◌, length, take, Option, Some, None, Result, Ok, Err, IfErr, OnErr, OnOk, true, is_some, unwrap_or, true≢false, refl, sym, ap, subst, append_assoc, append-nil, arith}
 use Rattle.std.specs.List.{slice_get}
 use Rattle.std.proofs.Math.Seq.{take-length}
-use Rattle.std.specs.Io.KnownBytes.{Appends, Keeps}
-use Rattle.std.proofs.KnownBytes.{Appends-kept, Appends-trans}
-use Rattle.ssim_schedule.specs.Sinks.{TakesFront}
-use Rattle.ssim_schedule.proofs.SinkLemmas.{then_front}
+use Rattle.ssim_held.specs.File.{desk_file}
 use Rattle.ssim_held.specs.Kept.{DeskSeen}
-use Rattle.ssim_program.specs.Desks.{CountsRefusal, EndsTexts, LeavesText, LeavesTexts, PrintsText, PrintsTexts, RefusesFileText, RefusesTexts, TakesText, TakesTexts}
-use Rattle.ssim_program.specs.Files.{Files}
-use Rattle.ssim_program.specs.Line.{Text}
-use Rattle.ssim_program.specs.Printing.{CountsOne}
+use Rattle.ssim_program.specs.Desks.{PrintsTexts, ReadsDesk, RefusesDeskFile, RefusesFileText, RefusesKeep, TakesFirst, TakesText, TakesTexts}
+use Rattle.ssim_program.specs.Files.{Files, with_kept}
+use Rattle.ssim_program.specs.Line.{Text, Take}
+use Rattle.ssim_program.specs.Paper.{Breaks, Grows, Paper}
+use Rattle.ssim_program.specs.World.{Does, world}
 use Rattle.ssim_program.specs.declared.refusal.Refusal.{Refusal}
+use Rattle.ssim_program.specs.declared.refusal.Refusal.TheVariants as refused
+use Rattle.ssim_program.proofs.Printers.{breaks_after, breaks_more, flushed_after, grows_more, nothing}
 
--- a failure that is counted changes the count
-pub one_differs : (old new : ℕ) → CountsOne old new → new ≡ old → ⊥
-one_differs old new counted same = absurd (omega (arith, sym counted ∙ same))
+-- the lines of some texts, on a printer
+abbrev pub HavePrinted : Option Files → List Text → DeskSeen → DeskSeen → Paper → Paper → Type 0
+HavePrinted files names before after out out' = (printed : List ℕ) × TakesTexts files names before after printed × Grows printed out out'
 
 one_more : (files : Option Files) (names : List Text) (name : Text) (a b c : DeskSeen) (printed last : List ℕ)
     → TakesTexts files names a b printed → TakesText files name b c last → TakesTexts files (names ++ name ∷ []) a c (printed ++ last)
@@ -39,58 +39,80 @@ first_ones (y ∷ ys) (suc i) x e = ap (λ zs. y ∷ zs) (first_ones ys i x e)
 next : {A : Type 0} (xs : List A) (i : ℕ) (x : A) → slice_get xs i ≡ Some x → take (i + 1) xs ≡ take i xs ++ x ∷ []
 next xs i x e = let more : i + 1 ≡ suc i = omega arith in ap (λ n. take n xs) more ∙ first_ones xs i x e
 
-module _ (files : Option Files) (names : List Text) (i : ℕ) (name : Text) (is : slice_get names i ≡ Some name) (a b : DeskSeen) (t u v : Option (List ℕ))
-    (before : PrintsTexts files (take i names) a b t u) where
-  -- it is taken
-  pub prints_more : (others : Option Files) (c : DeskSeen) → others ≡ files → PrintsText others name b c u v → PrintsTexts files (take (i + 1) names) a c t v
-  prints_more others c same there = let k = subst (λ (f : Option Files). PrintsText f name b c u v) same there in (
-    before.0 ++ k.0,
-    subst (λ (ns : List Text). TakesTexts files ns a c (before.0 ++ k.0)) (sym (next names i name is)) (one_more files (take i names) name a b c before.0 k.0 before.1 k.1),
-    Appends-trans t u v before.0 k.0 before.2 k.2,
-  )
+module _ (files : Option Files) (names : List Text) (i : ℕ) (name : Text) (is : slice_get names i ≡ Some name) (a b : DeskSeen) (p q : Paper)
+    (before : HavePrinted files (take i names) a b p q) (others : Option Files) (same : others ≡ files) where
+  taken : (c : DeskSeen) (line last : List ℕ) → line ≡ last → TakesText others name b c last → TakesTexts files (take (i + 1) names) a c (before.0 ++ line)
+  taken c line last e text =
+      let there = subst (λ (f : Option Files). TakesText f name b c last) same text in
+      subst (λ (ns : List Text). TakesTexts files ns a c (before.0 ++ line)) (sym (next names i name is))
+      (one_more files (take i names) name a b c before.0 line before.1 (subst (λ (bytes : List ℕ). TakesText files name b c bytes) (sym e) there))
 
-  left_more : (old mid new : ℕ) → mid ≡ old → LeavesText files name b u v mid new → LeavesTexts files names a t v old new
-  left_more old mid new same (inl kept) = (i, b, before.0, before.1, inl (Appends-kept t u v before.0 before.2 kept))
-  left_more old mid new same (inr k) = (
-    i + 1,
-    k.0,
-    before.0 ++ k.1,
-    subst (λ (ns : List Text). TakesTexts files ns a k.0 (before.0 ++ k.1)) (sym (next names i name is)) (one_more files (take i names) name a b k.0 before.0 k.1 before.1 k.2),
-    inr (then_front (before.0 ++ k.1) k.1 t u v (before.0, refl, before.2) k.3, subst (λ (n : ℕ). CountsOne n new) same k.4),
-  )
+  -- it is taken, and its line printed
+  pub prints_more : (c : DeskSeen) (line last : List ℕ) (r : Paper) → line ≡ last → TakesText others name b c last → Grows line q r
+      → HavePrinted files (take (i + 1) names) a c p r
+  prints_more c line last r e text grows = (before.0 ++ line, taken c line last e text, grows_more before.0 line p q r before.2 grows)
+
+  -- or `out` fails
+  pub breaks_there : (c d : DeskSeen) (line last : List ℕ) (r : Paper) (refusal : Refusal) → line ≡ last → TakesText others name b c last
+      → refusal ≡ refused.WriteFault → Breaks line q r → PrintsTexts files names a d p r (Err refusal)
+  breaks_there c d line last r refusal e text failed breaks =
+      inr (failed, i + 1, c, before.0 ++ line, taken c line last e text, breaks_more before.0 line p q r before.2 breaks)
 
   -- or it is refused
-  pub leaves_more : (others : Option Files) (old mid new : ℕ) → others ≡ files → mid ≡ old → LeavesText others name b u v mid new → LeavesTexts files names a t v old new
-  leaves_more others old mid new alike same there = left_more old mid new same (subst (λ (f : Option Files). LeavesText f name b u v mid new) alike there)
+  pub refused_there : (d : DeskSeen) (refusal : Refusal) → RefusesFileText others name b refusal → PrintsTexts files names a d p q (Err refusal)
+  refused_there d refusal why = inl (
+    before.0,
+    record { n = i; between = b; taken = before.1; name = name; next = is; why = subst (λ (f : Option Files). RefusesFileText f name b refusal) same why },
+    before.2,
+  )
 
-  pub refuses_more : (others : Option Files) (old mid new : ℕ) (refusal : Refusal) → others ≡ files → mid ≡ old → RefusesFileText others name b mid new refusal → RefusesTexts files names a old new refusal
-  refuses_more others old mid new refusal alike same k =
-      (i, b, before.0, before.1, name, is, subst (λ (n : ℕ). RefusesFileText files name b n new refusal) same (subst (λ (f : Option Files). RefusesFileText f name b mid new refusal) alike k))
+-- what `take` does, from what its calls do
+module _ (files : Option Files) (file out : Text) (names : List Text) where
+  -- the desk file is refused
+  pub not_opened : (new : Option Files) (p : Paper) (refusal : Refusal) → RefusesDeskFile files file refusal → new ≡ files
+      → Does (Take file out names) (world files p) (world new p) (Err refusal)
+  not_opened new p refusal why same = inl (record { printed = []; why = inl (refl, why); files = same; grows = nothing p })
 
-  -- and then the texts stop there, unless `out` failed
-  ends_there : (old mid new : ℕ) (refusal : Refusal) → mid ≡ old → LeavesText files name b u v mid new → RefusesFileText files name b mid new refusal
-      → CountsRefusal mid new refusal → EndsTexts files names a t v old new refusal
-  ends_there old mid new refusal same left why (inl unprinted) = inl (unprinted.0, subst (λ (n : ℕ). CountsOne n new) same unprinted.1)
-  ends_there old mid new refusal same (inl kept) why (inr counted) =
-      inr (counted ∙ same, (i, b, (before.0, before.1, Appends-kept t u v before.0 before.2 kept), name, is, subst (λ (n : ℕ). RefusesFileText files name b n new refusal) same why))
-  ends_there old mid new refusal same (inr k) why (inr counted) = absurd (one_differs mid new k.4 counted)
+  module _ (desk : DeskSeen) (read : ReadsDesk files file desk) (last : DeskSeen) (p q : Paper) where
+    -- a text is refused, or `out` fails
+    pub not_taken : (new : Option Files) (refusal : Refusal) → new ≡ files → PrintsTexts files names desk last p q (Err refusal)
+        → Does (Take file out names) (world files p) (world new q) (Err refusal)
+    not_taken new refusal same (inl k) = inl (record { printed = k.0; why = inr (desk, read, inl k.1); files = same; grows = k.2 })
+    not_taken new refusal same (inr k) =
+        inr (record { is = k.0; printed = k.3; kept = None; begins = (desk, k.1, k.2, read, k.4, refl); files = same; breaks = k.5 })
 
-  pub ends_more : (others : Option Files) (old mid new : ℕ) (refusal : Refusal) → others ≡ files → mid ≡ old → LeavesText others name b u v mid new
-      → RefusesFileText others name b mid new refusal → CountsRefusal mid new refusal → EndsTexts files names a t v old new refusal
-  ends_more others old mid new refusal alike same left why counts =
-      ends_there old mid new refusal same (subst (λ (f : Option Files). LeavesText f name b u v mid new) alike left)
-      (subst (λ (f : Option Files). RefusesFileText f name b mid new refusal) alike why) counts
+    module _ (printed : HavePrinted files names desk last p q) (r : Paper) where
+      whole : TakesFirst files names (length names) desk last printed.0
+      whole = subst (λ (ns : List Text). TakesTexts files ns desk last printed.0) (sym (take-length names)) printed.1
 
--- all texts were taken, and `out` was flushed, or failed
-module _ (files : Option Files) (names : List Text) (a b : DeskSeen) (t u v : Option (List ℕ)) (printed : PrintsTexts files names a b t u) (kept : Keeps u v) where
-  whole : TakesTexts files (take (length names) names) a b printed.0
-  whole = subst (λ (ns : List Text). TakesTexts files ns a b printed.0) (sym (take-length names)) printed.1
+      -- all texts were taken, and the flush fails
+      pub not_flushed : (new : Option Files) (refusal : Refusal) → new ≡ files → refusal ≡ refused.WriteFault → Breaks [] q r
+          → Does (Take file out names) (world files p) (world new r) (Err refusal)
+      not_flushed new refusal same failed breaks = inr (record {
+        is = failed;
+        printed = printed.0;
+        kept = None;
+        begins = (desk, length names, last, read, whole, refl);
+        files = same;
+        breaks = breaks_after printed.0 p q r printed.2 breaks;
+      })
 
-  pub grown : Appends t v printed.0
-  grown = Appends-kept t u v printed.0 printed.2 kept
-
-  pub all_left : (old new : ℕ) → LeavesTexts files names a t v old new
-  all_left old new = (length names, b, printed.0, whole, inl grown)
-
-  pub all_failed : (old new : ℕ) → CountsOne old new → LeavesTexts files names a t v old new
-  all_failed old new counted = (length names, b, printed.0, whole, inr (([], (printed.0, sym (append-nil printed.0), grown)), counted))
+      -- or the desk file is kept or not
+      pub kept_or_not : (k : Result (Unit {0}) Refusal) (between new : Option Files) → between ≡ files → Grows [] q r → r.flushed ≡ true
+          → OnOk k (new ≡ with_kept (Some (out, desk_file last.base last.held)) between) → IfErr k (RefusesKeep out) → OnErr k (new ≡ between)
+          → Does (Take file out names) (world files p) (world new r) k
+      kept_or_not (Ok x) between new before grows flushed done why same = record {
+        printed = printed.0;
+        kept = Some (out, desk_file last.base last.held);
+        makes = (desk, last, read, printed.1, refl);
+        again = tt;
+        files = done ∙ ap (with_kept (Some (out, desk_file last.base last.held))) before;
+        grows = flushed_after printed.0 p q r printed.2 grows;
+        flushed = flushed;
+      }
+      kept_or_not (Err refusal) between new before grows flushed done why same = inl (record {
+        printed = printed.0;
+        why = inr (desk, read, inr ((last, printed.1), why));
+        files = same ∙ before;
+        grows = flushed_after printed.0 p q r printed.2 grows;
+      })

@@ -1,12 +1,12 @@
--- What `tidy` wrote, tidied again.
-use Rattle.std.specs.Prelude.{◌≡◌, ℕ, ◌+◌, ◌≤◌, List, [], length, Option, Some, Ok}
+-- What `tidy` or `export` wrote, tidied.
+use Rattle.std.specs.Prelude.{◌≡◌, ℕ, ◌+◌, ◌≤◌, List, [], length, ⊤, Option, Some, Ok}
 use Rattle.std.specs.Io.KnownBytes.{Appends}
 use Rattle.ssim_records.specs.declared.record.Record.{Record}
 use Rattle.ssim_schedule.specs.Base.{Done, data_set}
 use Rattle.ssim_schedule.specs.ReadBack.{AreRead}
 use Rattle.ssim_program.specs.Effects.{Makes}
 use Rattle.ssim_program.specs.Files.{Files, Kept, file_of}
-use Rattle.ssim_program.specs.Line.{Line, Text, Tidy}
+use Rattle.ssim_program.specs.Line.{Line, Text, Tidy, Export}
 use Rattle.ssim_program.specs.Made.{IsExportOf, file_limit}
 
 -- the bytes are read as the records of a base, without a refusal or a note, and are the export of that base
@@ -18,14 +18,15 @@ pub record ReadsAsItself (bytes : List ℕ) : Type 0 where
   pub stands : data_set (Done (count + 1)) records ≡ Ok (base, [])
   pub export : IsExportOf base bytes
 
--- what `out` holds has grown by such bytes
+-- what was taken has grown by such bytes
 abbrev pub GrowsByItself : Option (List ℕ) → Option (List ℕ) → Type 0
 GrowsByItself before after = (bytes : List ℕ) × ReadsAsItself bytes × Appends before after bytes
 
--- what `tidy` wrote; nothing is said of other commands
-abbrev pub WritesItself : Line → Option (List ℕ) → Option (List ℕ) → Type 0
-WritesItself (Tidy name) before after = GrowsByItself before after
-WritesItself _ before after = Unit {0}
+-- what `tidy` and `export` printed is such bytes; nothing is said of other commands
+abbrev pub PrintsItself : Line → Option (List ℕ) → Option (List ℕ) → Type 0
+PrintsItself (Tidy name) before after = GrowsByItself before after
+PrintsItself (Export file) before after = GrowsByItself before after
+PrintsItself _ before after = ⊤
 
 -- from a file of such bytes `tidy` makes the same bytes
 abbrev pub TidiesOnce : Type 0

@@ -1,14 +1,11 @@
 -- What the commands on desk files read, make and print, and why they are refused.
-use Rattle.std.specs.Prelude.{◌≡◌, ◌≢◌, ◌⊎◌, ℕ, List, [], ◌∷◌, ◌++◌, take, slice_get, Option, Some, None, Ok, Err}
-use Rattle.std.specs.Io.KnownBytes.{Appends, Keeps}
+use Rattle.std.specs.Prelude.{Vec, ◌≡◌, ◌≢◌, ◌⊎◌, ℕ, List, [], ◌∷◌, ◌++◌, take, slice_get, Option, Some, None, Result, Ok, Err}
 use Rattle.ssim_values.specs.Designator.{SpellsDesignator}
 use Rattle.ssim_values.specs.declared.designator.Designator.{Designator}
 use Rattle.ssim_values.specs.declared.fault.Fault.TheVariants as value_fault
 use Rattle.ssim_schedule.specs.Base.{airline_of}
 use Rattle.ssim_schedule.specs.BaseSeen.{BaseSeen}
-use Rattle.ssim_schedule.specs.Export.{Frame, chapter7, line}
-use Rattle.ssim_schedule.specs.ReadBack.{HasFrame}
-use Rattle.ssim_schedule.specs.Sinks.{TakesFront}
+use Rattle.ssim_schedule.specs.Export.{line}
 use Rattle.ssim_schedule.specs.declared.resolving.ResolveFault.TheVariants as resolve_fault
 use Rattle.ssim_text.specs.Lines.{day_in}
 use Rattle.ssim_text.specs.Message.{MessageValue}
@@ -25,9 +22,9 @@ use Rattle.ssim_desk.specs.declared.desk.Took.TheVariants as took
 use Rattle.ssim_desk.specs.declared.steps.Answer.TheVariants.{Merged}
 use Rattle.ssim_program.specs.Files.{Files}
 use Rattle.ssim_program.specs.Line.{Text}
-use Rattle.ssim_program.specs.Made.{HasFile, RefusesLoad}
+use Rattle.ssim_program.specs.Made.{HasFile, IsExport, RefusesLoad}
+use Rattle.ssim_program.specs.Paper.{Breaks, Grows, Paper}
 use Rattle.ssim_program.specs.Printed.{printed_text}
-use Rattle.ssim_program.specs.Printing.{CountsOne}
 use Rattle.ssim_program.specs.Refusal.{IsOfFile, refusal_of_desk}
 use Rattle.ssim_program.specs.Shown.{shown_flight}
 use Rattle.ssim_program.specs.declared.printed.Printed.{Printed}
@@ -54,14 +51,6 @@ RefusesDeskFile files name refusal =
 -- why a file is not kept: memory ran out, or the store did not keep it
 abbrev pub RefusesKeep : Text → Refusal → Type 0
 RefusesKeep name refusal = (refusal ≡ refused.Memory) ⊎ IsOfFile name refusal
-
--- what is printed could not be written
-abbrev pub IsUnprinted : ℕ → ℕ → Refusal → Type 0
-IsUnprinted old new refusal = (refusal ≡ refused.WriteFault) × CountsOne old new
-
--- `out` counted a failure, and the refusal is 52; or it counted none
-abbrev pub CountsRefusal : ℕ → ℕ → Refusal → Type 0
-CountsRefusal old new refusal = IsUnprinted old new refusal ⊎ (new ≡ old)
 
 -- the line with the number of messages that a desk holds
 abbrev pub held_line : ℕ → List ℕ
@@ -97,49 +86,37 @@ TakesTexts files (name ∷ names) before after printed =
     (between : DeskSeen) × (first : List ℕ) × (later : List ℕ)
     × TakesText files name before between first × TakesTexts files names between after later × (printed ≡ first ++ later)
 
--- why the text in the file of this name is refused: the file is not loaded; or the desk refuses the text; or `out` failed
-abbrev pub RefusesFileText : Option Files → Text → DeskSeen → ℕ → ℕ → Refusal → Type 0
-RefusesFileText files name desk old new refusal =
+-- why the text in the file of this name is refused: the file is not loaded; or the desk refuses the text
+abbrev pub RefusesFileText : Option Files → Text → DeskSeen → Refusal → Type 0
+RefusesFileText files name desk refusal =
     RefusesLoad files name refusal
     ⊎ ((text : List ℕ) × HasFile files name text × (fault : DeskFault) × RefusesText (state_of desk) text fault × (refusal ≡ refusal_of_desk fault))
-    ⊎ IsUnprinted old new refusal
 
--- why texts are refused: one is, after those before it were taken
-abbrev pub RefusesTexts : Option Files → List Text → DeskSeen → ℕ → ℕ → Refusal → Type 0
-RefusesTexts files names before old new refusal =
-    (n : ℕ) × (between : DeskSeen) × (printed : List ℕ) × TakesTexts files (take n names) before between printed
-    × (name : Text) × (slice_get names n ≡ Some name) × RefusesFileText files name between old new refusal
+-- a text is taken, and its line is made; or it is refused
+abbrev pub TakesOrRefuses : {A : Type 0} → Option Files → Text → DeskSeen → DeskSeen → Result (Vec ℕ A) Refusal → Type 0
+TakesOrRefuses files name before after (Ok line) = TakesText files name before after line.items
+TakesOrRefuses files name before after (Err refusal) = RefusesFileText files name before refusal
 
--- `out` has grown by the line of a text
-abbrev pub PrintsText : Option Files → Text → DeskSeen → DeskSeen → Option (List ℕ) → Option (List ℕ) → Type 0
-PrintsText files name before after t u = (printed : List ℕ) × TakesText files name before after printed × Appends t u printed
+-- the lines of the first n texts, all of which are taken
+abbrev pub TakesFirst : Option Files → List Text → ℕ → DeskSeen → DeskSeen → List ℕ → Type 0
+TakesFirst files names n before after printed = TakesTexts files (take n names) before after printed
 
--- it is as it was, or it failed and took a prefix of the line
-abbrev pub LeavesText : Option Files → Text → DeskSeen → Option (List ℕ) → Option (List ℕ) → ℕ → ℕ → Type 0
-LeavesText files name before t u old new =
-    Keeps t u ⊎ ((after : DeskSeen) × (printed : List ℕ) × TakesText files name before after printed × TakesFront printed t u × CountsOne old new)
+-- text n + 1 is refused, after the first n were taken and their lines printed
+pub record RefusesTexts (files : Option Files) (names : List Text) (before : DeskSeen) (printed : List ℕ) (refusal : Refusal) : Type 0 where
+  pub n : ℕ
+  pub between : DeskSeen
+  pub taken : TakesFirst files names n before between printed
+  pub name : Text
+  pub next : slice_get names n ≡ Some name
+  pub why : RefusesFileText files name between refusal
 
--- it has grown by the lines of texts
-abbrev pub PrintsTexts : Option Files → List Text → DeskSeen → DeskSeen → Option (List ℕ) → Option (List ℕ) → Type 0
-PrintsTexts files names before after t u = (printed : List ℕ) × TakesTexts files names before after printed × Appends t u printed
-
--- it has grown by the lines of the first texts, or it failed and took a prefix of them
-abbrev pub LeavesTexts : Option Files → List Text → DeskSeen → Option (List ℕ) → Option (List ℕ) → ℕ → ℕ → Type 0
-LeavesTexts files names before t u old new =
-    (n : ℕ) × (after : DeskSeen) × (printed : List ℕ) × TakesTexts files (take n names) before after printed
-    × (Appends t u printed ⊎ (TakesFront printed t u × CountsOne old new))
-
--- Texts stop so, with one n: the first n texts were taken, `out` has grown by the lines of these n, and text n + 1 is refused for this
--- reason.
-abbrev pub StopsTexts : Option Files → List Text → DeskSeen → Option (List ℕ) → Option (List ℕ) → ℕ → ℕ → Refusal → Type 0
-StopsTexts files names before t u old new refusal =
-    (n : ℕ) × (between : DeskSeen) × PrintsTexts files (take n names) before between t u
-    × (name : Text) × (slice_get names n ≡ Some name) × RefusesFileText files name between old new refusal
-
--- `out` counted a failure, and the refusal is 52; or it counted none, and texts stop so
-abbrev pub EndsTexts : Option Files → List Text → DeskSeen → Option (List ℕ) → Option (List ℕ) → ℕ → ℕ → Refusal → Type 0
-EndsTexts files names before t u old new refusal =
-    IsUnprinted old new refusal ⊎ ((new ≡ old) × StopsTexts files names before t u old new refusal)
+-- Texts are taken one after another, and `out` has taken the line of each. Or one is refused, and `out` has taken the lines of those before
+-- it. Or `out` fails, and has taken a prefix of the lines of the first n.
+abbrev pub PrintsTexts : Option Files → List Text → DeskSeen → DeskSeen → Paper → Paper → Result (Unit {0}) Refusal → Type 0
+PrintsTexts files names before after out out' (Ok x) = (printed : List ℕ) × TakesTexts files names before after printed × Grows printed out out'
+PrintsTexts files names before after out out' (Err refusal) =
+    ((printed : List ℕ) × RefusesTexts files names before printed refusal × Grows printed out out')
+    ⊎ ((refusal ≡ refused.WriteFault) × (n : ℕ) × (last : DeskSeen) × (printed : List ℕ) × TakesFirst files names n before last printed × Breaks printed out out')
 
 -- ---- two desks
 
@@ -163,22 +140,16 @@ pub record Shows (desk : DeskSeen) (flight date : Text) (printed : List ℕ) : T
   pub airline : designator.airline ≡ airline_of desk.base.records
   pub printed_is : printed ≡ shown_flight designator day (timetable_of desk designator.flight day)
 
--- why no flight is shown: memory ran out; or a word names no flight (6), or no date (1), or another airline's flight (41, sub-message 0)
+-- Why no flight is shown: memory ran out; or the first word names no flight (6); or it does, and the second names no date (1); or they do, and
+-- the flight is another airline's (41, sub-message 0).
 abbrev pub RefusesFlight : DeskSeen → Text → Text → Refusal → Type 0
 RefusesFlight desk flight date refusal =
     (refusal ≡ refused.Memory)
     ⊎ ((refusal ≡ refused.Value value_fault.BadDesignator) × ((d : Designator) → SpellsDesignator d flight → ⊥))
-    ⊎ ((refusal ≡ refused.Value value_fault.BadDate) × (day_in date ≡ None))
-    ⊎ ((refusal ≡ refused.Desk (desk_fault.Resolve (resolve_fault.Airline 0))) × (d : Designator) × SpellsDesignator d flight × (d.airline ≢ airline_of desk.base.records))
+    ⊎ ((refusal ≡ refused.Value value_fault.BadDate) × (day_in date ≡ None) × (d : Designator) × SpellsDesignator d flight)
+    ⊎ ((refusal ≡ refused.Desk (desk_fault.Resolve (resolve_fault.Airline 0))) × (d : Designator) × SpellsDesignator d flight × (d.airline ≢ airline_of desk.base.records)
+    × (day : ℕ) × (day_in date ≡ Some day))
 
 -- the bytes are the canonical export of what the desk has
 abbrev pub IsExportOfDesk : DeskSeen → List ℕ → Type 0
-IsExportOfDesk desk bytes = (frame : Frame) × HasFrame frame desk.base.records × (chapter7 frame (days_of_desk desk) ≡ Ok bytes)
-
--- `out` has grown by exactly that export
-abbrev pub ExportsDesk : DeskSeen → Option (List ℕ) → Option (List ℕ) → Type 0
-ExportsDesk desk before after = (bytes : List ℕ) × IsExportOfDesk desk bytes × Appends before after bytes
-
--- it is as it was; or it failed, and took a prefix of the export
-abbrev pub LeavesDeskExport : DeskSeen → Option (List ℕ) → Option (List ℕ) → ℕ → ℕ → Type 0
-LeavesDeskExport desk before after old new = Keeps before after ⊎ ((bytes : List ℕ) × IsExportOfDesk desk bytes × TakesFront bytes before after × CountsOne old new)
+IsExportOfDesk desk bytes = IsExport desk.base.records (days_of_desk desk) bytes

@@ -1,19 +1,16 @@
--- What each command prints, and which file it keeps; and what `out` and the files are afterwards.
-use Rattle.std.specs.Prelude.{◌≡◌, ◌⊎◌, ℕ, List, [], ◌∷◌, length, Option, Some, None, Ok}
-use Rattle.std.specs.Io.KnownBytes.{Appends, Keeps}
+-- What each command prints, and which file it keeps.
+use Rattle.std.specs.Prelude.{◌≡◌, ℕ, List, [], length, Option, Some, None, Ok}
 use Rattle.ssim_records.specs.declared.record.Record.{Record}
 use Rattle.ssim_schedule.specs.BaseSeen.{BaseSeen}
-use Rattle.ssim_schedule.specs.Sinks.{TakesFront}
 use Rattle.ssim_schedule.specs.declared.note.Note.{Note}
 use Rattle.ssim_held.specs.File.{desk_file}
-use Rattle.ssim_held.specs.Kept.{DeskSeen}
+use Rattle.ssim_held.specs.Kept.{AreRising, DeskSeen}
 use Rattle.ssim_desk.specs.Desk.{finding_lines}
-use Rattle.ssim_program.specs.Desks.{IsExportOfDesk, IsMergeOf, LeavesTexts, ReadsDesk, Shows, TakesTexts, held_line}
+use Rattle.ssim_program.specs.Desks.{IsExportOfDesk, IsMergeOf, ReadsDesk, Shows, TakesFirst, TakesTexts, held_line}
 use Rattle.ssim_program.specs.Explained.{Explains}
-use Rattle.ssim_program.specs.Files.{Files, Kept, with_kept}
+use Rattle.ssim_program.specs.Files.{Files, Kept}
 use Rattle.ssim_program.specs.Line.{Line, Text, Check, Tidy, Start, Take, Merge, Show, Findings, Export, Rehearse, Explain}
 use Rattle.ssim_program.specs.Made.{AreLinesOn, IsExportOf, ReadsBase, ReadsFile}
-use Rattle.ssim_program.specs.Printing.{CountsOne}
 use Rattle.ssim_program.specs.Rehearsal.{RehearsesFiles}
 use Rattle.ssim_program.specs.Shown.{findings_lines}
 
@@ -29,7 +26,7 @@ Makes (Take file out names) files printed kept =
     (before : DeskSeen) × (after : DeskSeen) × ReadsDesk files file before × TakesTexts files names before after printed
     × (kept ≡ Some (out, desk_file after.base after.held))
 Makes (Merge file other out) files printed kept =
-    (mine : DeskSeen) × (theirs : DeskSeen) × (after : DeskSeen) × ReadsDesk files file mine × ReadsDesk files other theirs × IsMergeOf mine theirs after
+    (mine : DeskSeen) × (theirs : DeskSeen) × (after : DeskSeen) × ReadsDesk files file mine × ReadsDesk files other theirs × IsMergeOf mine theirs after × AreRising after.held
     × (printed ≡ held_line (length after.held)) × (kept ≡ Some (out, desk_file after.base after.held))
 Makes (Show file flight date) files printed kept = (desk : DeskSeen) × ReadsDesk files file desk × Shows desk flight date printed × (kept ≡ None)
 Makes (Findings file) files printed kept =
@@ -38,16 +35,9 @@ Makes (Export file) files printed kept = (desk : DeskSeen) × ReadsDesk files fi
 Makes (Rehearse dataset stations script) files printed kept = RehearsesFiles files dataset stations script printed × (kept ≡ None)
 Makes (Explain word) files printed kept = Explains files word printed × (kept ≡ None)
 
--- `out` has grown by exactly what the command prints, and the files by exactly the file that it keeps
-abbrev pub Writes : Line → Option Files → Option Files → Option (List ℕ) → Option (List ℕ) → Type 0
-Writes line old new before after =
-    (printed : List ℕ) × (kept : Kept) × Makes line old printed kept × Appends before after printed × (new ≡ with_kept kept old)
-
--- Nothing was printed or kept; or `out` failed, and took a prefix of what the command prints, after the file was kept. What `take` has
--- printed of the texts before the one that is refused stays.
-abbrev pub Leaves : Line → Option Files → Option Files → Option (List ℕ) → Option (List ℕ) → ℕ → ℕ → Type 0
-Leaves (Take file out names) old new before after failed fails =
-    (new ≡ old) × (Keeps before after ⊎ ((desk : DeskSeen) × ReadsDesk old file desk × LeavesTexts old names desk before after failed fails))
-Leaves line old new before after failed fails =
-    ((new ≡ old) × Keeps before after)
-    ⊎ ((printed : List ℕ) × (kept : Kept) × Makes line old printed kept × TakesFront printed before after × CountsOne failed fails × (new ≡ with_kept kept old))
+-- What a command has begun to print when `out` fails, and the file that it kept before. `take` begins with the lines of its first n texts, and
+-- has kept no file.
+abbrev pub Begins : Line → Option Files → List ℕ → Kept → Type 0
+Begins (Take file out names) files printed kept =
+    (before : DeskSeen) × (n : ℕ) × (last : DeskSeen) × ReadsDesk files file before × TakesFirst files names n before last printed × (kept ≡ None)
+Begins line files printed kept = Makes line files printed kept

@@ -1,36 +1,41 @@
--- What `out` and `err` hold after words that are no command. `clap` makes the text: help, or what is wrong with the words. Which text it is
+-- What `out` and `err` have after words that are no command. `clap` makes the text: help, or what is wrong with the words. Which text it is
 -- is not specified.
-use Rattle.std.specs.Prelude.{◌≡◌, ◌⊎◌, ℕ, List, Option}
-use Rattle.std.specs.Io.KnownBytes.{Appends, Keeps}
-use Rattle.ssim_schedule.specs.Sinks.{TakesFront}
-use Rattle.ssim_program.specs.Desks.{IsUnprinted}
-use Rattle.ssim_program.specs.Printing.{PrintsOrFails}
+use Rattle.std.specs.Prelude.{◌≡◌, ◌⊎◌, ℕ, true, false, List, []}
+use Rattle.clap.specs.Values.{kind_of}
+use Rattle.ssim_program.specs.Paper.{Breaks, Grows, Paper, PrintsOrFails}
 use Rattle.ssim_program.specs.Reasons.{PrintsRefusal}
+use Rattle.ssim_program.specs.Usage.{is_help}
+use Rattle.ssim_program.specs.declared.command_line.LineFault.{LineFault}
+use Rattle.ssim_program.specs.declared.command_line.LineFault.TheVariants as fault
 use Rattle.ssim_program.specs.declared.refusal.Refusal.{Refusal}
 use Rattle.ssim_program.specs.declared.refusal.Refusal.TheVariants as refused
 
--- help was printed: `out` has grown by a text, and `err` holds the same bytes
-abbrev pub PrintsHelp : Option (List ℕ) → Option (List ℕ) → Option (List ℕ) → Option (List ℕ) → Type 0
-PrintsHelp before after err_before err_after = ((text : List ℕ) × Appends before after text) × Keeps err_before err_after
+-- help was printed: `out` has taken a text, and was flushed after it; and `err` is as it was
+abbrev pub PrintsHelp : Paper → Paper → Paper → Paper → Type 0
+PrintsHelp out out' err err' = ((text : List ℕ) × Grows text out out') × (out'.flushed ≡ true) × (err' ≡ err)
 
--- Help was not printed. Either memory ran out (90), and `out` counted no failure and holds the same bytes; or `out` failed and took a prefix
--- of a text (52).
-abbrev pub LeavesHelp : Option (List ℕ) → Option (List ℕ) → ℕ → ℕ → Refusal → Type 0
-LeavesHelp before after old new refusal =
-    ((refusal ≡ refused.Memory) × (new ≡ old) × Keeps before after)
-    ⊎ (IsUnprinted old new refusal × (text : List ℕ) × TakesFront text before after)
+-- Help was not printed. Either memory ran out (90), and `out` is as it was; or a call of `out` failed (52), and it took a prefix of a text. `err` has
+-- taken the line of that refusal.
+abbrev pub RefusesHelp : Paper → Paper → Paper → Paper → Type 0
+RefusesHelp out out' err err' =
+    (refusal : Refusal)
+    × (((refusal ≡ refused.Memory) × Grows [] out out') ⊎ ((refusal ≡ refused.WriteFault) × (text : List ℕ) × Breaks text out out'))
+    × PrintsRefusal refusal err err'
 
--- and `err` has the line of that refusal
-abbrev pub RefusesHelp : Option (List ℕ) → Option (List ℕ) → ℕ → ℕ → Option (List ℕ) → Option (List ℕ) → ℕ → ℕ → Type 0
-RefusesHelp before after old new err_before err_after err_old err_new =
-    (refusal : Refusal) × LeavesHelp before after old new refusal × PrintsRefusal refusal err_before err_after err_old err_new
+-- the words are wrong: `out` is as it was, and `err` has taken a text that says so, or a call of it failed and it took a prefix
+abbrev pub SaysWrong : Paper → Paper → Paper → Paper → Type 0
+SaysWrong out out' err err' = Grows [] out out' × (text : List ℕ) × PrintsOrFails text err err'
 
--- the same, with the numbers of failures that were counted at writers of std
-abbrev pub RefusesHelpCounted : Option (List ℕ) → Option (List ℕ) → Option (List ℕ) → Option (List ℕ) → ℕ → ℕ → Type 0
-RefusesHelpCounted before after err_before err_after err_old err_new =
-    (failures : ℕ) × RefusesHelp before after 0 failures err_before err_after err_old err_new
+-- ---- within the crate
 
--- the words are wrong: `out` holds the same bytes, and `err` has a text that says so, or counted a failure and took a prefix of it
-abbrev pub SaysWrong : Option (List ℕ) → Option (List ℕ) → Option (List ℕ) → Option (List ℕ) → ℕ → ℕ → Type 0
-SaysWrong before after err_before err_after err_old err_new =
-    Keeps before after × (text : List ℕ) × PrintsOrFails text err_before err_after err_old err_new
+-- help is printed, with status 0, or refused, with status 1
+abbrev pub SaysHelp : Paper → Paper → Paper → Paper → ℕ → Type 0
+SaysHelp out out' err err' status = ((status ≡ 0) × PrintsHelp out out' err err') ⊎ ((status ≡ 1) × RefusesHelp out out' err err')
+
+-- the printers and the status after words that make no request
+abbrev pub Answers : LineFault → Paper → Paper → Paper → Paper → ℕ → Type 0
+Answers fault.Memory out out' err err' status = (status ≡ 1) × (out' ≡ out) × PrintsRefusal refused.Memory err err'
+Answers (fault.Shown error) out out' err err' status =
+    ((is_help (kind_of error) ≡ true) × SaysHelp out out' err err' status)
+    ⊎ ((is_help (kind_of error) ≡ false) × (status ≡ 2) × SaysWrong out out' err err')
+Answers fault.NoCommand out out' err err' status = (status ≡ 2) × SaysWrong out out' err err'

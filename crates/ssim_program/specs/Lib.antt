@@ -7,13 +7,14 @@ pub mod Names
 pub mod Refusal
 pub mod Printed
 pub mod Shown
-pub mod Printing
+pub mod Paper
 pub mod Made
 pub mod Desks
 pub mod Effects
 pub mod Again
 pub mod Reasons
-pub mod Ends
+pub mod World
+pub mod Exported
 pub mod Help
 pub mod Script
 pub mod Explained

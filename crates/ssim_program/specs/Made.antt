@@ -1,7 +1,6 @@
--- What the commands make from a data set, and what `out` holds afterwards.
+-- What the commands make from a data set.
 use Rattle.std.specs.Prelude.{◌≡◌, ◌⊎◌, ℕ, ◌<◌, IfSome, List, ◌++◌, length, Option, Some, Ok, Err}
 use Rattle.std.specs.List.{flat_map}
-use Rattle.std.specs.Io.KnownBytes.{Appends, Keeps}
 use Rattle.ssim_values.specs.Flight.{FlightNumber}
 use Rattle.ssim_records.specs.declared.fault.RecordFault.TheVariants as record_fault
 use Rattle.ssim_records.specs.declared.record.Record.{Record}
@@ -10,10 +9,9 @@ use Rattle.ssim_schedule.specs.BaseSeen.{AreFlights, BaseSeen}
 use Rattle.ssim_schedule.specs.Export.{Frame, chapter7, line}
 use Rattle.ssim_schedule.specs.ReadBack.{HasFrame}
 use Rattle.ssim_schedule.specs.Reading.{IsReadAs}
-use Rattle.ssim_schedule.specs.Sinks.{TakesFront}
 use Rattle.ssim_schedule.specs.Stations.{NamesLine, Row, SpellsTable}
 use Rattle.ssim_schedule.specs.Summary.{IsSummary}
-use Rattle.ssim_schedule.specs.Timetable.{days_of}
+use Rattle.ssim_schedule.specs.Timetable.{Days, days_of}
 use Rattle.ssim_schedule.specs.declared.fault.BaseFault.{BaseFault}
 use Rattle.ssim_schedule.specs.declared.fault.BaseFault.TheVariants as base
 use Rattle.ssim_schedule.specs.declared.note.Note.{Note}
@@ -24,7 +22,6 @@ use Rattle.ssim_text.specs.Left.{lines_left}
 use Rattle.ssim_program.specs.Files.{Files, file_of}
 use Rattle.ssim_program.specs.Line.{Text}
 use Rattle.ssim_program.specs.Printed.{printed_text}
-use Rattle.ssim_program.specs.Printing.{CountsOne}
 use Rattle.ssim_program.specs.Refusal.{IsOfFile, refusal_of_base, refusal_of_stations}
 use Rattle.ssim_program.specs.declared.refusal.Refusal.{Refusal}
 use Rattle.ssim_program.specs.declared.refusal.Refusal.TheVariants as refused
@@ -33,9 +30,13 @@ use Rattle.ssim_program.specs.declared.printed.Printed.TheVariants as printed
 
 -- ---- from a base
 
+-- the bytes are the canonical export of a timetable of these days, between the header, the carrier and the trailer of these records
+abbrev pub IsExport : List Record → (FlightNumber → Days) → List ℕ → Type 0
+IsExport base days bytes = (frame : Frame) × HasFrame frame base × (chapter7 frame days ≡ Ok bytes)
+
 -- the bytes are the canonical export of these records
 abbrev pub IsExportOf : List Record → List ℕ → Type 0
-IsExportOf base bytes = (frame : Frame) × HasFrame frame base × (chapter7 frame (days_of base) ≡ Ok bytes)
+IsExportOf base bytes = IsExport base (days_of base) bytes
 
 abbrev pub as_printed : Note → Printed
 as_printed (note.Serial n) = printed.SerialNote n
@@ -107,13 +108,3 @@ RefusesBase files dataset stations refusal =
     × (fault : StationFault) × (refusal ≡ refusal_of_stations fault) × NamesLine (lines_left table) fault)
     ⊎ (((rows : List Row) × ReadsTable files stations rows)
     × (fault : BaseFault) × (refusal ≡ refusal_of_base fault) × IsOfBytes fault × ReadsFile files dataset (Err fault))
-
--- ---- what `out` holds
-
--- it has grown by exactly the export of these records
-abbrev pub Exports : List Record → Option (List ℕ) → Option (List ℕ) → Type 0
-Exports base before after = (bytes : List ℕ) × IsExportOf base bytes × Appends before after bytes
-
--- it is as it was; or it failed, and took a prefix of the export
-abbrev pub LeavesExport : List Record → Option (List ℕ) → Option (List ℕ) → ℕ → ℕ → Type 0
-LeavesExport base before after old new = Keeps before after ⊎ ((bytes : List ℕ) × IsExportOf base bytes × TakesFront bytes before after × CountsOne old new)

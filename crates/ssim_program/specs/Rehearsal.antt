@@ -3,12 +3,10 @@ use Rattle.std.specs.Prelude.{◌≡◌, ◌⊎◌, ℕ, ◌+◌, List, [], ◌�
 use Rattle.std.specs.Fmt.{decimal}
 use Rattle.std.specs.FinMap.{entries}
 use Rattle.std.specs.List.{flat_map}
-use Rattle.std.specs.Io.KnownBytes.{Appends, Keeps}
 use Rattle.ssim_schedule.specs.Base.{airline_of}
 use Rattle.ssim_schedule.specs.BaseSeen.{BaseSeen}
 use Rattle.ssim_schedule.specs.Export as exported
 use Rattle.ssim_schedule.specs.Export.{ExportRefusal, line}
-use Rattle.ssim_schedule.specs.Sinks.{TakesFront}
 use Rattle.ssim_schedule.specs.declared.export.ExportFault.{ExportFault}
 use Rattle.ssim_schedule.specs.declared.export.ExportFault.TheVariants as export
 use Rattle.ssim_schedule.specs.declared.note.Note.{Note}
@@ -27,7 +25,6 @@ use Rattle.ssim_desk.specs.declared.steps.Step.TheVariants.{Take, Merge}
 use Rattle.ssim_program.specs.Files.{Files}
 use Rattle.ssim_program.specs.Line.{Text}
 use Rattle.ssim_program.specs.Made.{HasFile, ReadsBase, RefusesBase, RefusesLoad}
-use Rattle.ssim_program.specs.Printing.{CountsOne}
 use Rattle.ssim_program.specs.Refusal.{refusal_of_desk, refusal_of_export, refusal_text}
 use Rattle.ssim_program.specs.Script.{RefusesScript, Script, SpellsScript, Written, Takes, Merges}
 use Rattle.ssim_program.specs.declared.refusal.Refusal.{Refusal}
@@ -228,15 +225,6 @@ pub record RehearsesFiles (files : Option Files) (dataset stations script : Text
   pub rehearsed : Rehearses base count steps lines
   pub printed : bytes ≡ flat_map printed_line lines
 
--- what `out` holds has grown by exactly these bytes
-abbrev pub WritesRehearsal : Option Files → Text → Text → Text → Option (List ℕ) → Option (List ℕ) → Type 0
-WritesRehearsal files dataset stations script before after = (bytes : List ℕ) × RehearsesFiles files dataset stations script bytes × Appends before after bytes
-
--- it is as it was; or it failed, and took a prefix of them
-abbrev pub LeavesRehearsal : Option Files → Text → Text → Text → Option (List ℕ) → Option (List ℕ) → ℕ → ℕ → Type 0
-LeavesRehearsal files dataset stations script before after old new =
-    Keeps before after ⊎ ((bytes : List ℕ) × RehearsesFiles files dataset stations script bytes × TakesFront bytes before after × CountsOne old new)
-
 -- ---- why it is refused
 
 -- the text of a step is not loaded
@@ -264,8 +252,3 @@ RefusesLines files dataset stations script refusal =
     (refusal ≡ refused.Memory)
     ⊎ RefusesBase files dataset stations refusal
     ⊎ (((base : BaseSeen) × (notes : List Note) × ReadsBase files dataset stations base notes) × RefusesSteps files script refusal)
-
--- why `rehearse` is refused: there are no lines, or `out` failed
-abbrev pub RefusesRehearsal : Option Files → Text → Text → Text → ℕ → ℕ → Refusal → Type 0
-RefusesRehearsal files dataset stations script old new refusal =
-    RefusesLines files dataset stations script refusal ⊎ ((refusal ≡ refused.WriteFault) × CountsOne old new)

@@ -106,16 +106,6 @@ pub(crate) fn read(alloc: Global, bytes: &[u8]) -> Result<BaseRead, BaseFault>
     let Ok(stations) = Stations::read(alloc, b"") else {
         return Err(BaseFault::Memory);
     };
-    read_with(alloc, bytes, stations)
-}
-
-/// Reads the bytes of a data set with a station table.
-fn read_with(alloc: Global, bytes: &[u8], stations: Stations) -> Result<BaseRead, BaseFault>
-    requires { length bytes.now ≤ file_limit }
-    ensures read { Answers result (IsReadAs file_limit bytes.now) }
-    ensures rows { IfOk result (λ read. read.base.rows ≡ stations) }
-    ensures whole { IfErr result IsOfBytes }
-{
     let mut left = bytes;
     Base::read(alloc, &mut left, stations, LIMIT)
 }

@@ -1,23 +1,20 @@
 //! The command `explain`: what the refusals of a number mean, or what is invalid in a file.
 
-ghost use Rattle.std.specs.Prelude.{◌≡◌, ◌++◌, true, codes, IfErr, IfOk, OnErr, OnOk};
+ghost use Rattle.std.specs.Prelude.{◌≡◌, ◌++◌, codes, IfErr, IfOk};
 ghost use Rattle.std.specs.Fmt.{decimal};
 ghost use Rattle.ssim_schedule.specs.Export.{line};
 ghost use Rattle.ssim_values.specs.Characters.{two_digits_of};
-ghost use Rattle.ssim_program.specs.Desks.{CountsRefusal};
-ghost use Rattle.ssim_program.specs.Effects.{Leaves, Writes};
-ghost use Rattle.ssim_program.specs.Explained.{BeginsWith, Explains, ExplainsFile, ExplainsNumber, number_in};
+ghost use Rattle.ssim_program.specs.Explained.{BeginsWith, ExplainsFile, ExplainsNumber, number_in};
 ghost use Rattle.ssim_program.specs.Line.{Explain};
 ghost use Rattle.ssim_program.specs.Made.{RefusesLoad};
-ghost use Rattle.ssim_program.specs.Reasons.{Refuses};
-ghost use Rattle.ssim_program.specs.Refusal.{refusal_text};
+ghost use Rattle.ssim_program.specs.World.{Prepares};
 
 mod example;
 mod file;
 pub(crate) mod file_kind;
 
 use crate::data_set::load_file;
-use crate::printer::{Printer, print_all};
+use crate::printed::line_of;
 use crate::refusal::Refusal;
 use crate::store::Store;
 use example::example;
@@ -27,32 +24,13 @@ use ssim_values::Memory;
 use std::alloc::Global;
 use std::io::Write;
 
-/// Prints what the refusals of a number mean, or what is invalid in the file of this name.
-pub(crate) fn explain<S: Store, O: Printer>(
+/// What the refusals of a number mean, or what is invalid in the file of this name.
+pub(crate) fn explain<S: Store>(
     alloc: Global,
     word: &str,
     store: &mut S,
-    out: &mut O,
-) -> Result<(), Refusal>
-    ensures done { OnOk result (Writes (Explain word.now) (S.files store.old) (S.files store.new) (O.taken out.old) (O.taken out.new)) }
-    ensures refused { OnErr result (Leaves (Explain word.now) (S.files store.old) (S.files store.new) (O.taken out.old) (O.taken out.new) (O.failures out.old) (O.failures out.new)) }
-    ensures why { IfErr result (Refuses (Explain word.now) (S.files store.old) (O.failures out.old) (O.failures out.new)) }
-    ensures counts { IfErr result (CountsRefusal (O.failures out.old) (O.failures out.new)) }
-    ensures device { O.device out.new ≡ O.device out.old }
-    ensures flushed { OnOk result (O.flushed out.new ≡ true) }
-{
-    let text = explained(alloc, word, store)?;
-    match print_all(out, &text) {
-        Ok(()) => Ok(()),
-        Err(failed) => Err(Refusal::from(failed)),
-    }
-}
-
-/// What is printed on a word.
-fn explained<S: Store>(alloc: Global, word: &str, store: &mut S) -> Result<Vec<u8>, Refusal>
-    ensures ok { IfOk result (λ text. Explains (S.files store.old) word.now text.items) }
-    ensures err { IfErr result (RefusesLoad (S.files store.old) word.now) }
-    ensures same { S.files store.new ≡ S.files store.old }
+) -> Result<Vec<u8>, Refusal>
+    ensures { Prepares (Explain word.now) (S.files store.old) (S.files store.new) result }
 {
     match number_in(word.as_bytes()) {
         Some(number) => Ok(on_number(alloc, number)?),
@@ -110,16 +88,6 @@ fn on_refusal(alloc: Global, refusal: &Refusal, place: &[u8]) -> Result<Vec<u8>,
     let words = words_on(alloc, refusal.number(), place)?;
     text.extend_from_slice(&words)?;
     Ok(text)
-}
-
-fn line_of(alloc: Global, refusal: &Refusal) -> Result<Vec<u8>, Memory>
-    ensures { IfOk result (λ text. text.items ≡ line (refusal_text refusal.now)) }
-{
-    let mut text = Vec::new(alloc);
-    match writeln!(text, "{refusal}") {
-        Ok(()) => Ok(text),
-        Err(_) => Err(Memory),
-    }
 }
 
 fn no_refusal(alloc: Global, number: u8) -> Result<Vec<u8>, Memory>

@@ -1,54 +1,52 @@
 //! The command `export`: the schedule of a desk as a data set.
 
-ghost use Rattle.std.specs.Prelude.{◌≡◌, true, IfErr, OnErr, OnOk};
-ghost use Rattle.ssim_desk.specs.Desk.{days_of_desk};
-ghost use Rattle.ssim_program.specs.Desks.{CountsRefusal, ExportsDesk, LeavesDeskExport};
+ghost use Rattle.std.specs.Prelude.{◌≡◌, List};
+ghost use Rattle.ssim_values.specs.Flight.{FlightNumber};
+ghost use Rattle.ssim_records.specs.declared.record.Record.{Record};
+ghost use Rattle.ssim_schedule.specs.Base.{airline_of};
+ghost use Rattle.ssim_schedule.specs.Timetable.{Days};
+ghost use Rattle.ssim_program.specs.Exported.{IsWritten, PrintsExport};
 ghost use Rattle.ssim_program.specs.Line.{Export};
-ghost use Rattle.ssim_program.specs.Effects.{Leaves, Writes};
-ghost use Rattle.ssim_program.specs.Reasons.{CountsExport, HasNoExport, Refuses};
+ghost use Rattle.ssim_program.specs.Paper.{Paper};
+ghost use Rattle.ssim_program.specs.World.{Does, world};
 
 use crate::desk_file::open_holdings;
 use crate::printer::Printer;
 use crate::refusal::Refusal;
 use crate::store::Store;
-use ssim_desk::Holdings;
 use ssim_schedule::ExportFault;
+use ssim_values::Airline;
 use std::alloc::Global;
+use std::io::Write;
 
 /// Prints the canonical export of the desk in the file of this name.
-pub(crate) fn export<S: Store, O: Printer>(
+pub(crate) fn export<S: Store, W: Write>(
     alloc: Global,
     name: &str,
     store: &mut S,
-    out: &mut O,
+    out: &mut Printer<'_, W>,
 ) -> Result<(), Refusal>
-    ensures done { OnOk result (Writes (Export name.now) (S.files store.old) (S.files store.new) (O.taken out.old) (O.taken out.new)) }
-    ensures refused { OnErr result (Leaves (Export name.now) (S.files store.old) (S.files store.new) (O.taken out.old) (O.taken out.new) (O.failures out.old) (O.failures out.new)) }
-    ensures why { IfErr result (Refuses (Export name.now) (S.files store.old) (O.failures out.old) (O.failures out.new)) }
-    ensures counts { IfErr result (CountsRefusal (O.failures out.old) (O.failures out.new)) }
-    ensures device { O.device out.new ≡ O.device out.old }
-    ensures flushed { OnOk result (O.flushed out.new ≡ true) }
+    ensures { Does (Export name.now) (world (S.files store.old) out.old)
+        (world (S.files store.new) out.new) result }
 {
     let holdings = open_holdings(alloc, name, store)?;
     let airline = holdings.data_set().airline();
-    match export_holdings(holdings, out) {
-        Ok(()) => Ok(()),
-        Err(fault) => Err(Refusal::of_export(airline, fault)),
-    }
+    let written = holdings.export(out);
+    end_export(airline, written, out)
 }
 
-/// Writes the canonical export of what a desk holds, and flushes `out`.
-fn export_holdings<O: Printer>(holdings: Holdings, out: &mut O) -> Result<(), ExportFault>
-    ensures ok { OnOk result (ExportsDesk holdings (O.taken out.old) (O.taken out.new)) }
-    ensures why { IfErr result (HasNoExport holdings.base.records (days_of_desk holdings) (O.failures out.old) (O.failures out.new)) }
-    ensures counts { IfErr result (CountsExport (O.failures out.old) (O.failures out.new)) }
-    ensures err { OnErr result (LeavesDeskExport holdings (O.taken out.old) (O.taken out.new) (O.failures out.old) (O.failures out.new)) }
-    ensures device { O.device out.new ≡ O.device out.old }
-    ensures flushed { OnOk result (O.flushed out.new ≡ true) }
+/// Flushes `out` after an export of this airline's flights was written to it; or makes the refusal of the export's fault.
+pub(crate) fn end_export<W: Write>(
+    airline: Airline,
+    written: Result<(), ExportFault>,
+    out: &mut Printer<'_, W>,
+) -> Result<(), Refusal>
+    // The export is one of these days over this base, and the printer was `before` when it began.
+    ensures { (base : List Record) (days : FlightNumber → Days) (before : Paper) → airline ≡ airline_of base
+        → IsWritten base days before out.old written → PrintsExport base days before out.new result }
 {
-    holdings.export(out)?;
-    match out.flush() {
-        Ok(()) => Ok(()),
-        Err(_) => Err(ExportFault::WriteFault),
+    match written {
+        Ok(()) => out.flush(),
+        Err(fault) => Err(Refusal::of_export(airline, fault)),
     }
 }

@@ -1,17 +1,14 @@
 //! The command `findings`: what each sub-message of a desk found.
 
-ghost use Rattle.std.specs.Prelude.{◌≡◌, ◌++◌, true, IfErr, IfOk, OnErr, OnOk};
+ghost use Rattle.std.specs.Prelude.{◌≡◌, ◌++◌, IfOk, OnOk};
 ghost use Rattle.ssim_schedule.specs.Export.{line};
 ghost use Rattle.ssim_desk.specs.Desk.{finding_lines};
-ghost use Rattle.ssim_program.specs.Desks.{CountsRefusal};
-ghost use Rattle.ssim_program.specs.Effects.{Leaves, Writes};
 ghost use Rattle.ssim_program.specs.Line.{Findings};
 ghost use Rattle.ssim_program.specs.Printed.{counts_text, finding_text, sub_text};
-ghost use Rattle.ssim_program.specs.Reasons.{Refuses};
+ghost use Rattle.ssim_program.specs.World.{Prepares};
 ghost use Rattle.ssim_program.specs.Shown.{findings_lines};
 
 use crate::desk_file::open_holdings;
-use crate::printer::{Printer, print_all};
 use crate::refusal::Refusal;
 use crate::store::Store;
 use ssim_desk::{FindingLine, Holdings};
@@ -20,26 +17,17 @@ use ssim_values::Memory;
 use std::alloc::Global;
 use std::io::Write;
 
-/// Prints what each sub-message of the desk in a file found.
-pub(crate) fn findings<S: Store, O: Printer>(
+/// What each sub-message of the desk in a file found.
+pub(crate) fn findings<S: Store>(
     alloc: Global,
     file: &str,
     store: &mut S,
-    out: &mut O,
-) -> Result<(), Refusal>
-    ensures done { OnOk result (Writes (Findings file.now) (S.files store.old) (S.files store.new) (O.taken out.old) (O.taken out.new)) }
-    ensures refused { OnErr result (Leaves (Findings file.now) (S.files store.old) (S.files store.new) (O.taken out.old) (O.taken out.new) (O.failures out.old) (O.failures out.new)) }
-    ensures why { IfErr result (Refuses (Findings file.now) (S.files store.old) (O.failures out.old) (O.failures out.new)) }
-    ensures counts { IfErr result (CountsRefusal (O.failures out.old) (O.failures out.new)) }
-    ensures device { O.device out.new ≡ O.device out.old }
-    ensures flushed { OnOk result (O.flushed out.new ≡ true) }
+) -> Result<Vec<u8>, Refusal>
+    ensures { Prepares (Findings file.now) (S.files store.old) (S.files store.new) result }
 {
     let desk = open_holdings(alloc, file, store)?;
     let lines = lines_of(alloc, &desk)?;
-    match print_all(out, &lines) {
-        Ok(()) => Ok(()),
-        Err(failed) => Err(Refusal::from(failed)),
-    }
+    Ok(lines)
 }
 
 /// A line for each sub-message that the desk holds, in order.

@@ -1,7 +1,7 @@
 //! The program as a function: its command line, its store of named files, and what it prints.
 //!
 //! - [`run`]: from the words, a [`Store`] and two writers of std to a status; [`run_on`]: the same over two [`Printer`]s, which
-//!   count their failures. [`parse`] gives the [`Request`] that the words name.
+//!   count the failures of their writers. [`parse`] gives the [`Request`] that the words name.
 //! - [`Content`]: what a store keeps, as the desk file of [`ssim_desk::Holdings`].
 //! - [`Refusal`]: why a command was refused, as its line; [`Printed`]: the lines that commands print.
 //! - [`laws`]: what `tidy` wrote is tidied to itself.
@@ -36,11 +36,12 @@ mod start;
 mod store;
 mod take;
 mod tidy;
+mod word;
 
 pub use command_line::{LineFault, Request, parse};
 pub use content::Content;
 pub use printed::Printed;
-pub use printer::{CountedWriter, Printer};
+pub use printer::Printer;
 pub use program::{run, run_on};
 pub use refusal::Refusal;
 pub use store::{Store, StoreFault};

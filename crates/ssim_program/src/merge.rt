@@ -1,34 +1,27 @@
 //! The command `merge`: a desk that holds what two desks hold.
 
-ghost use Rattle.std.specs.Prelude.{◌≡◌, true, IfErr, OnErr, OnOk};
-ghost use Rattle.ssim_program.specs.Desks.{CountsRefusal, IsMergeOf, RefusesMerge};
+ghost use Rattle.std.specs.Prelude.{IfErr, OnOk};
+ghost use Rattle.ssim_program.specs.Desks.{IsMergeOf, RefusesMerge};
 ghost use Rattle.ssim_program.specs.Line.{Merge};
-ghost use Rattle.ssim_program.specs.Effects.{Leaves, Writes};
-ghost use Rattle.ssim_program.specs.Reasons.{Refuses};
+ghost use Rattle.ssim_program.specs.World.{Prepares};
 
 use crate::desk_file::{keep, open_holdings};
-use crate::printer::{Printer, print_all};
 use crate::refusal::Refusal;
 use crate::start::held_line;
 use crate::store::Store;
 use ssim_desk::Holdings;
 use std::alloc::Global;
 
-/// Keeps the desk file of two desks that are merged, and then prints how many messages it holds.
-pub(crate) fn merge<S: Store, O: Printer>(
+/// Keeps the desk file of two desks that are merged: the line with the number of messages that it holds.
+pub(crate) fn merge<S: Store>(
     alloc: Global,
     mine: &str,
     theirs: &str,
     name: &str,
     store: &mut S,
-    out: &mut O,
-) -> Result<(), Refusal>
-    ensures done { OnOk result (Writes (Merge mine.now theirs.now name.now) (S.files store.old) (S.files store.new) (O.taken out.old) (O.taken out.new)) }
-    ensures refused { OnErr result (Leaves (Merge mine.now theirs.now name.now) (S.files store.old) (S.files store.new) (O.taken out.old) (O.taken out.new) (O.failures out.old) (O.failures out.new)) }
-    ensures why { IfErr result (Refuses (Merge mine.now theirs.now name.now) (S.files store.old) (O.failures out.old) (O.failures out.new)) }
-    ensures counts { IfErr result (CountsRefusal (O.failures out.old) (O.failures out.new)) }
-    ensures device { O.device out.new ≡ O.device out.old }
-    ensures flushed { OnOk result (O.flushed out.new ≡ true) }
+) -> Result<Vec<u8>, Refusal>
+    ensures { Prepares (Merge mine.now theirs.now name.now)
+        (S.files store.old) (S.files store.new) result }
 {
     let mut desk = open_holdings(alloc, mine, store)?;
     let other = open_holdings(alloc, theirs, store)?;
@@ -38,12 +31,8 @@ pub(crate) fn merge<S: Store, O: Printer>(
     }
     let line = held_line(alloc, desk.held().len())?;
     match keep(alloc, &desk, name, store) {
-        Ok(()) => {}
-        Err(refusal) => return Err(refusal),
-    }
-    match print_all(out, &line) {
-        Ok(()) => Ok(()),
-        Err(failed) => Err(Refusal::from(failed)),
+        Ok(()) => Ok(line),
+        Err(refusal) => Err(refusal),
     }
 }
 

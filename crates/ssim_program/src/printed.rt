@@ -1,10 +1,11 @@
 //! The lines that commands print.
-ghost use Rattle.std.specs.Prelude.{◌≡◌, ◌++◌, OnOk, Some};
+ghost use Rattle.std.specs.Prelude.{◌≡◌, ◌++◌, IfOk, IfSome, OnOk, Some};
 ghost use Rattle.ssim_schedule.specs.Export.{line};
 ghost use Rattle.ssim_program.specs.Printed.{printed_text};
 
 use ssim_text::Reference;
 use ssim_values::Memory;
+use std::alloc::Global;
 use std::fmt;
 use std::io::Write;
 
@@ -60,12 +61,21 @@ impl fmt::Display for Printed {
     }
 }
 
-/// Adds a printed line.
-pub(crate) fn add_line(lines: &mut Vec<u8>, printed: Printed) -> Result<(), Memory>
-    ensures { OnOk result (lines.new.items ≡ lines.old.items ++ line (printed_text printed)) }
+/// Adds the line of what is displayed, with its end.
+pub(crate) fn add_line<D: fmt::Display>(lines: &mut Vec<u8>, shown: &D) -> Result<(), Memory>
+    ensures { OnOk result (IfSome (D.output shown.now) (λ text. lines.new.items ≡ lines.old.items ++ line text)) }
 {
-    match writeln!(lines, "{printed}") {
+    match writeln!(lines, "{shown}") {
         Ok(()) => Ok(()),
         Err(_) => Err(Memory),
     }
+}
+
+/// The line of what is displayed, with its end.
+pub(crate) fn line_of<D: fmt::Display>(alloc: Global, shown: &D) -> Result<Vec<u8>, Memory>
+    ensures { IfOk result (λ bytes. IfSome (D.output shown.now) (λ text. bytes.items ≡ line text)) }
+{
+    let mut bytes = Vec::new(alloc);
+    add_line(&mut bytes, shown)?;
+    Ok(bytes)
 }

@@ -1,41 +1,74 @@
-//! Printers: sinks that can be flushed, and std writers as such.
+//! Printers: writers of std whose failed calls are counted.
 
-ghost use Rattle.std.specs.Prelude.{◌≡◌, Bool, true, OnErr, OnOk};
-ghost use Rattle.std.specs.Io.KnownBytes.{Appends, Keeps};
-ghost use Rattle.ssim_schedule.specs.Sinks.{CountsFault, TakesFront};
-ghost use Rattle.ssim_program.specs.Printing.{PrintsOrFails};
+ghost use Rattle.std.specs.Prelude.{◌≡◌, false, []};
+ghost use Rattle.ssim_program.specs.Paper.{Paper, Prints, PrintsOrFails};
 
+use crate::refusal::Refusal;
 use ssim_records::{DeviceFault, Sink};
 use std::io::Write;
+use std::marker::Model;
 
-/// A sink that can be flushed.
-pub trait Printer: Sink {
-    /// Whether the latest call was a flush that did not fail. Nothing is said of it after a put.
-    ghost flushed: { Self → Bool };
-
-    /// Writes on what the sink took and still holds.
-    fn flush(&mut self) -> Result<(), DeviceFault>
-        ensures flushed { OnOk result (flushed self.new ≡ true) }
-        ensures bytes { Keeps (Self.taken self.old) (Self.taken self.new) }
-        ensures failures { CountsFault (Self.failures self.old) (Self.failures self.new) result }
-        ensures device { Self.device self.new ≡ Self.device self.old };
-}
-
-/// A printer over a writer of std. Its bytes are known to the contract if those of the writer are.
-pub struct CountedWriter<'w, W> {
-    pub writer: &'w mut W,
+/// A printer over a writer of std. Contracts see it as what it has printed: its bytes are known if those of the writer are.
+pub struct Printer<'w, W: Write> {
+    pub(crate) writer: &'w mut W,
     /// How many calls failed, or took no byte of some. It wraps at 2^64.
-    pub failures: u64,
+    pub(crate) failures: u64,
     /// Whether the latest call was a flush that did not fail.
-    pub flushed: bool,
+    pub(crate) flushed: bool,
 }
 
-impl<W: Write> Sink for CountedWriter<'_, W> {
-    ghost taken = { λ s. W.contents s.writer.now };
+impl<'w, W: Write> Model for Printer<'w, W> {
+    ghost Value = { Paper };
 
-    ghost failures = { λ s. s.failures };
+    ghost view = { λ p. record {
+      taken = W.contents p.writer.now;
+      failures = p.failures;
+      flushed = p.flushed;
+      device = p.writer.ghost_name;
+    } };
+}
 
-    ghost device = { λ s. s.writer.ghost_name };
+impl<'w, W: Write> Printer<'w, W> {
+    /// A printer that has counted no failure.
+    pub fn new(writer: &'w mut W) -> Printer<'w, W>
+        ensures { result ≡ record {
+          taken = W.contents writer.old;
+          failures = 0;
+          flushed = false;
+          device = writer.entry.ghost_name;
+        } }
+    {
+        Printer {
+            writer,
+            failures: 0,
+            flushed: false,
+        }
+    }
+
+    /// Writes on what the writer still holds. Returns 52 if that fails.
+    pub(crate) fn flush(&mut self) -> Result<(), Refusal>
+        ensures { Prints [] self.old self.new result }
+    {
+        match self.writer.flush() {
+            Ok(()) => {
+                self.flushed = true;
+                Ok(())
+            }
+            Err(_) => {
+                self.flushed = false;
+                self.failures = self.failures.wrapping_add(1);
+                Err(Refusal::WriteFault)
+            }
+        }
+    }
+}
+
+impl<W: Write> Sink for Printer<'_, W> {
+    ghost taken = { λ p. p.taken };
+
+    ghost failures = { λ p. p.failures };
+
+    ghost device = { λ p. p.device };
 
     fn put(&mut self, bytes: &[u8]) -> Result<usize, DeviceFault> {
         self.flushed = false;
@@ -54,66 +87,24 @@ impl<W: Write> Sink for CountedWriter<'_, W> {
     }
 }
 
-impl<W: Write> Printer for CountedWriter<'_, W> {
-    ghost flushed = { λ s. s.flushed };
-
-    fn flush(&mut self) -> Result<(), DeviceFault> {
-        match self.writer.flush() {
-            Ok(()) => {
-                self.flushed = true;
-                Ok(())
-            }
-            Err(_) => {
-                self.flushed = false;
-                self.failures = self.failures.wrapping_add(1);
-                Err(DeviceFault::Failed)
-            }
-        }
-    }
-}
-
-/// The printer failed, or took no byte of some.
-#[derive(Clone, Copy, Debug)]
-pub(crate) struct PrintFailed;
-
-/// Prints all of the bytes, however many the printer takes at a time, and flushes it.
-pub(crate) fn print_all<P: Printer>(out: &mut P, bytes: &[u8]) -> Result<(), PrintFailed>
-    ensures ok { OnOk result (Appends (P.taken out.old) (P.taken out.new) bytes.now) }
-    ensures flushed { OnOk result (P.flushed out.new ≡ true) }
-    ensures err { OnErr result (TakesFront bytes.now (P.taken out.old) (P.taken out.new)) }
-    ensures failures { CountsFault (P.failures out.old) (P.failures out.new) result }
-    ensures device { P.device out.new ≡ P.device out.old }
+/// Prints all of the bytes, however many the writer takes at a time, and flushes it. Returns 52 if the writer failed, or took no
+/// byte of some.
+pub(crate) fn print_all<W: Write>(out: &mut Printer<'_, W>, bytes: &[u8]) -> Result<(), Refusal>
+    ensures { Prints bytes.now out.old out.new result }
 {
     let mut rest = bytes;
     while !rest.is_empty() {
         match out.put(rest) {
-            Ok(0) | Err(_) => return Err(PrintFailed),
+            Ok(0) | Err(_) => return Err(Refusal::WriteFault),
             Ok(n) => rest = rest.split_at(n).1,
         }
     }
-    match out.flush() {
-        Ok(()) => Ok(()),
-        Err(_) => Err(PrintFailed),
-    }
+    out.flush()
 }
 
 /// Prints a line. A failure is counted, and changes nothing else.
-pub(crate) fn print_line<P: Printer>(line: &[u8], err: &mut P)
-    ensures taken { PrintsOrFails line.now (P.taken err.old) (P.taken err.new) (P.failures err.old) (P.failures err.new) }
-    ensures device { P.device err.new ≡ P.device err.old }
+pub(crate) fn print_line<W: Write>(line: &[u8], err: &mut Printer<'_, W>)
+    ensures { PrintsOrFails line.now err.old err.new }
 {
     let _ = print_all(err, line);
-}
-
-/// Flushes the printer.
-pub(crate) fn flush_all<P: Printer>(printer: &mut P) -> Result<(), PrintFailed>
-    ensures flushed { OnOk result (P.flushed printer.new ≡ true) }
-    ensures bytes { Keeps (P.taken printer.old) (P.taken printer.new) }
-    ensures failures { CountsFault (P.failures printer.old) (P.failures printer.new) result }
-    ensures device { P.device printer.new ≡ P.device printer.old }
-{
-    match printer.flush() {
-        Ok(()) => Ok(()),
-        Err(_) => Err(PrintFailed),
-    }
 }

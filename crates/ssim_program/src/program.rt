@@ -1,18 +1,14 @@
 //! The program, from its words to its status.
 
-ghost use Rattle.std.specs.Prelude.{◌≡◌, ◌↔◌, ◌≤◌, ◌⊎◌, ℕ, List, true, false, IfErr, IfOk, IsTrue, OnErr, OnOk, map};
-ghost use Rattle.std.specs.Io.KnownBytes.{Appends, Keeps};
-ghost use Rattle.ssim_schedule.specs.Export.{line};
-ghost use Rattle.ssim_program.specs.Desks.{CountsRefusal};
-ghost use Rattle.ssim_program.specs.Again.{WritesItself};
-ghost use Rattle.ssim_program.specs.Line.{Line, Rehearse, Spells};
-ghost use Rattle.ssim_program.specs.Effects.{Leaves, Writes};
-ghost use Rattle.ssim_program.specs.Ends.{Ends, EndsCounted, EndsWithLine};
-ghost use Rattle.ssim_program.specs.Help.{LeavesHelp, PrintsHelp, RefusesHelp, RefusesHelpCounted, SaysWrong};
-ghost use Rattle.ssim_program.specs.Reasons.{IsRefused, PrintsReason, PrintsRefusal, Refuses};
-ghost use Rattle.ssim_program.specs.Refusal.{refusal_text};
+ghost use Rattle.std.specs.Prelude.{◌≡◌, ◌↔◌, ◌≤◌, ◌⊎◌, ℕ, Option, true, false, IsTrue, map};
+ghost use Rattle.std.specs.Io.KnownBytes.{Keeps};
+ghost use Rattle.ssim_program.specs.Files.{Files};
+ghost use Rattle.ssim_program.specs.Help.{Answers, PrintsHelp, RefusesHelp, SaysHelp, SaysWrong};
+ghost use Rattle.ssim_program.specs.Line.{Line, Spells};
+ghost use Rattle.ssim_program.specs.Reasons.{PrintsRefusal};
 ghost use Rattle.ssim_program.specs.Request.{line_of};
 ghost use Rattle.ssim_program.specs.Usage.{HasFault, IsCommand, IsNoCommand, Names, is_help};
+ghost use Rattle.ssim_program.specs.World.{Does, EndsWithLine, IsDone, Obeys, Prepares, PrintsAtOnce, paper, world};
 ghost use Rattle.ssim_program.specs.declared.refusal.Refusal.TheVariants as refused;
 ghost use Rattle.clap.specs.Words.{kind_of};
 
@@ -22,7 +18,8 @@ use crate::explain::explain;
 use crate::export::export;
 use crate::findings::findings;
 use crate::merge::merge;
-use crate::printer::{CountedWriter, Printer, print_all, print_line};
+use crate::printed::line_of;
+use crate::printer::{Printer, print_all, print_line};
 use crate::refusal::Refusal;
 use crate::rehearse::rehearse;
 use crate::show::show_flight;
@@ -31,7 +28,6 @@ use crate::store::Store;
 use crate::take::take;
 use crate::tidy::tidy;
 use std::alloc::Global;
-use std::io;
 use std::io::Write;
 
 /// Runs the program over two writers of std: [`run_on`], with the failures of the two writers counted.
@@ -43,77 +39,61 @@ pub fn run<S: Store, O: Write, E: Write>(
     err: &mut E,
 ) -> u8
     ensures status { result ≤ 2 }
-    ensures plain { (line : Line) → Spells (map (λ w. w.now) words.now) line → Names (map (λ w. w.now) words.now) line }
+
+    // The words of a command are no fault of the command line. A command's name and plain values name it.
+    ensures plain { (line : Line) → Spells (map (λ w. w.now) words.now) line
+        → Names (map (λ w. w.now) words.now) line }
     ensures known { (line : Line) → Names (map (λ w. w.now) words.now) line → result ≤ 1 }
-    ensures named { result ≡ 0 → IsCommand (map (λ w. w.now) words.now) ⊎ HasFault (map (λ w. w.now) words.now) true }
-    ensures wrong { result ≡ 2 → HasFault (map (λ w. w.now) words.now) false ⊎ IsNoCommand (map (λ w. w.now) words.now) }
-    ensures done { (line : Line) → Names (map (λ w. w.now) words.now) line → result ≡ 0 → Writes line (S.files store.old) (S.files store.new) (O.contents out.old) (O.contents out.new) }
-    ensures quiet { (line : Line) → Names (map (λ w. w.now) words.now) line → result ≡ 0 → Keeps (E.contents err.old) (E.contents err.new) }
-    ensures again { (line : Line) → Names (map (λ w. w.now) words.now) line → result ≡ 0 → WritesItself line (O.contents out.old) (O.contents out.new) }
 
-    // With the failures that were counted: a prefix on `out` only if `out` failed, and the whole line on `err` unless `err` failed.
-    ensures refused { (line : Line) → Names (map (λ w. w.now) words.now) line → result ≡ 1 → (failures : ℕ) × IsRefused line (S.files store.old) (S.files store.new) (O.contents out.old) (O.contents out.new) (E.contents err.old) (E.contents err.new) 0 failures }
-    ensures ends { (line : Line) → Names (map (λ w. w.now) words.now) line → result ≡ 1 → (failures : ℕ) × EndsCounted line (S.files store.old) (S.files store.new) (O.contents out.old) (O.contents out.new) (E.contents err.old) (E.contents err.new) 0 failures }
+    // Status 0 is for a command, or if help is asked for; 2 is for words that are wrong.
+    ensures named { result ≡ 0 → IsCommand (map (λ w. w.now) words.now)
+        ⊎ HasFault (map (λ w. w.now) words.now) true }
+    ensures wrong { result ≡ 2 → HasFault (map (λ w. w.now) words.now) false
+        ⊎ IsNoCommand (map (λ w. w.now) words.now) }
 
-    // Help, and words that are wrong.
-    ensures help { result ≡ 0 → IsCommand (map (λ w. w.now) words.now) ⊎ PrintsHelp (O.contents out.old) (O.contents out.new) (E.contents err.old) (E.contents err.new) }
-    ensures no_help { result ≡ 1 → IsCommand (map (λ w. w.now) words.now) ⊎ ((failures : ℕ) × RefusesHelpCounted (O.contents out.old) (O.contents out.new) (E.contents err.old) (E.contents err.new) 0 failures) }
-    ensures usage { result ≡ 2 → (failures : ℕ) × SaysWrong (O.contents out.old) (O.contents out.new) (E.contents err.old) (E.contents err.new) 0 failures }
+    // A command that was done printed exactly what it makes of the files, and kept exactly its file. `err` holds the same bytes.
+    ensures done { (line : Line) → Names (map (λ w. w.now) words.now) line → result ≡ 0
+        → IsDone line (world (S.files store.old) (paper (O.contents out.old) 0))
+        (world (S.files store.new) (paper (O.contents out.new) 0))
+        × Keeps (E.contents err.old) (E.contents err.new) }
+
+    // With some number of failed calls of each writer: a refused command printed nothing but the lines of `take`, unless a call of `out`
+    // failed; and its line is on `err`, unless a call of `err` failed.
+    ensures ends { (line : Line) → Names (map (λ w. w.now) words.now) line → result ≡ 1
+        → (failed : ℕ) × (err_failed : ℕ)
+        × EndsWithLine line (world (S.files store.old) (paper (O.contents out.old) 0))
+        (world (S.files store.new) (paper (O.contents out.new) failed))
+        (paper (E.contents err.old) 0) (paper (E.contents err.new) err_failed) }
+
+    // Help is printed on `out`, or refused; what is wrong with the words is printed on `err`. No file changes.
+    ensures help { result ≡ 0 → IsCommand (map (λ w. w.now) words.now)
+        ⊎ PrintsHelp (paper (O.contents out.old) 0) (paper (O.contents out.new) 0)
+        (paper (E.contents err.old) 0) (paper (E.contents err.new) 0) }
+    ensures no_help { result ≡ 1 → IsCommand (map (λ w. w.now) words.now)
+        ⊎ ((failed : ℕ) × (err_failed : ℕ)
+        × RefusesHelp (paper (O.contents out.old) 0) (paper (O.contents out.new) failed)
+        (paper (E.contents err.old) 0) (paper (E.contents err.new) err_failed)) }
+    ensures usage { result ≡ 2 → (err_failed : ℕ)
+        × SaysWrong (paper (O.contents out.old) 0) (paper (O.contents out.new) 0)
+        (paper (E.contents err.old) 0) (paper (E.contents err.new) err_failed) }
     ensures files { (S.files store.new ≡ S.files store.old) ⊎ IsCommand (map (λ w. w.now) words.now) }
 {
-    let mut reasons = CountedWriter {
-        writer: err,
-        failures: 0,
-        flushed: false,
-    };
-    let status = run_to(alloc, words, store, out, &mut reasons);
-    let CountedWriter {
-        writer,
-        failures: _,
-        flushed: _,
-    } = reasons;
-    // No effect at run time. The proof reads what `err` holds from this use of `writer`.
-    let _ = &*writer;
-    status
-}
-
-/// Runs the program over a writer of std and a printer.
-fn run_to<S: Store, O: Write, E: Printer>(
-    alloc: Global,
-    words: &[&str],
-    store: &mut S,
-    out: &mut O,
-    err: &mut E,
-) -> u8
-    ensures status { result ≤ 2 }
-    ensures plain { (line : Line) → Spells (map (λ w. w.now) words.now) line → Names (map (λ w. w.now) words.now) line }
-    ensures known { (line : Line) → Names (map (λ w. w.now) words.now) line → result ≤ 1 }
-    ensures named { result ≡ 0 → IsCommand (map (λ w. w.now) words.now) ⊎ HasFault (map (λ w. w.now) words.now) true }
-    ensures wrong { result ≡ 2 → HasFault (map (λ w. w.now) words.now) false ⊎ IsNoCommand (map (λ w. w.now) words.now) }
-    ensures done { (line : Line) → Names (map (λ w. w.now) words.now) line → result ≡ 0 → Writes line (S.files store.old) (S.files store.new) (O.contents out.old) (O.contents out.new) }
-    ensures quiet { (line : Line) → Names (map (λ w. w.now) words.now) line → result ≡ 0 → Keeps (E.taken err.old) (E.taken err.new) }
-    ensures again { (line : Line) → Names (map (λ w. w.now) words.now) line → result ≡ 0 → WritesItself line (O.contents out.old) (O.contents out.new) }
-    ensures refused { (line : Line) → Names (map (λ w. w.now) words.now) line → result ≡ 1 → IsRefused line (S.files store.old) (S.files store.new) (O.contents out.old) (O.contents out.new) (E.taken err.old) (E.taken err.new) (E.failures err.old) (E.failures err.new) }
-    ensures ends { (line : Line) → Names (map (λ w. w.now) words.now) line → result ≡ 1 → EndsCounted line (S.files store.old) (S.files store.new) (O.contents out.old) (O.contents out.new) (E.taken err.old) (E.taken err.new) (E.failures err.old) (E.failures err.new) }
-    ensures help { result ≡ 0 → IsCommand (map (λ w. w.now) words.now) ⊎ PrintsHelp (O.contents out.old) (O.contents out.new) (E.taken err.old) (E.taken err.new) }
-    ensures no_help { result ≡ 1 → IsCommand (map (λ w. w.now) words.now) ⊎ RefusesHelpCounted (O.contents out.old) (O.contents out.new) (E.taken err.old) (E.taken err.new) (E.failures err.old) (E.failures err.new) }
-    ensures usage { result ≡ 2 → SaysWrong (O.contents out.old) (O.contents out.new) (E.taken err.old) (E.taken err.new) (E.failures err.old) (E.failures err.new) }
-    ensures files { (S.files store.new ≡ S.files store.old) ⊎ IsCommand (map (λ w. w.now) words.now) }
-    ensures device { E.device err.new ≡ E.device err.old }
-{
-    let mut printed = CountedWriter {
+    let mut printed = Printer::new(out);
+    let mut reasons = Printer::new(err);
+    let status = run_on(alloc, words, store, &mut printed, &mut reasons);
+    let Printer {
         writer: out,
-        failures: 0,
-        flushed: false,
-    };
-    let status = run_on(alloc, words, store, &mut printed, err);
-    let CountedWriter {
-        writer,
         failures: _,
         flushed: _,
     } = printed;
-    // No effect at run time. The proof reads what `out` holds from this use of `writer`.
-    let _ = &*writer;
+    let Printer {
+        writer: err,
+        failures: _,
+        flushed: _,
+    } = reasons;
+    // No effect at run time. The proof reads what the writers hold from these uses.
+    let _ = &*out;
+    let _ = &*err;
     status
 }
 
@@ -122,78 +102,67 @@ fn run_to<S: Store, O: Write, E: Printer>(
 ///
 /// What a command prints goes to `out`, the line of a refusal to `err`. If `out` fails, it has taken a prefix of what was to
 /// be printed. A failure of `err` changes no status.
-pub fn run_on<S: Store, O: Printer, E: Printer>(
+pub fn run_on<S: Store, O: Write, E: Write>(
     alloc: Global,
     words: &[&str],
     store: &mut S,
-    out: &mut O,
-    err: &mut E,
+    out: &mut Printer<'_, O>,
+    err: &mut Printer<'_, E>,
 ) -> u8
     ensures status { result ≤ 2 }
 
     // The words of a command are no fault of the command line. A command's name and plain values name it.
-    ensures plain { (line : Line) → Spells (map (λ w. w.now) words.now) line → Names (map (λ w. w.now) words.now) line }
+    ensures plain { (line : Line) → Spells (map (λ w. w.now) words.now) line
+        → Names (map (λ w. w.now) words.now) line }
     ensures known { (line : Line) → Names (map (λ w. w.now) words.now) line → result ≤ 1 }
 
     // Status 0 is for a command, or if help is asked for; 1 also if memory ran out; 2 for words that are wrong.
-    ensures named { result ≡ 0 → IsCommand (map (λ w. w.now) words.now) ⊎ HasFault (map (λ w. w.now) words.now) true }
-    ensures memory { result ≡ 1 → IsCommand (map (λ w. w.now) words.now) ⊎ HasFault (map (λ w. w.now) words.now) true ⊎ PrintsRefusal refused.Memory (E.taken err.old) (E.taken err.new) (E.failures err.old) (E.failures err.new) }
-    ensures wrong { result ≡ 2 → HasFault (map (λ w. w.now) words.now) false ⊎ IsNoCommand (map (λ w. w.now) words.now) }
+    ensures named { result ≡ 0 → IsCommand (map (λ w. w.now) words.now)
+        ⊎ HasFault (map (λ w. w.now) words.now) true }
+    ensures memory { result ≡ 1 → IsCommand (map (λ w. w.now) words.now)
+        ⊎ HasFault (map (λ w. w.now) words.now) true
+        ⊎ PrintsRefusal refused.Memory err.old err.new }
+    ensures wrong { result ≡ 2 → HasFault (map (λ w. w.now) words.now) false
+        ⊎ IsNoCommand (map (λ w. w.now) words.now) }
 
-    // What was done: exactly what the command makes of the file was written, and nothing else.
-    ensures done { (line : Line) → Names (map (λ w. w.now) words.now) line → result ≡ 0 → Writes line (S.files store.old) (S.files store.new) (O.taken out.old) (O.taken out.new) }
-    ensures quiet { (line : Line) → Names (map (λ w. w.now) words.now) line → result ≡ 0 → Keeps (E.taken err.old) (E.taken err.new) }
+    // A command that was done printed exactly what it makes of the files, flushed it, and kept exactly its file. `err` is as it was.
+    ensures done { (line : Line) → Names (map (λ w. w.now) words.now) line → result ≡ 0
+        → IsDone line (world (S.files store.old) out.old) (world (S.files store.new) out.new)
+        × (err.new ≡ err.old) }
 
-    // It was flushed after the last byte.
-    ensures flushed { result ≡ 0 → O.flushed out.new ≡ true }
+    // A command is refused for one reason, whose line is printed on `err`. Unless that is 52, no file changed, and nothing was printed on `out`
+    // but the lines of `take`; if it is 52, a call of `out` failed, and it has taken a prefix of what the command prints.
+    ensures ends { (line : Line) → Names (map (λ w. w.now) words.now) line → result ≡ 1
+        → EndsWithLine line (world (S.files store.old) out.old) (world (S.files store.new) out.new)
+        err.old err.new }
 
-    // What `tidy` wrote is read as a base, without a note, and is the export of that base: `laws::tidied_once`.
-    ensures again { (line : Line) → Names (map (λ w. w.now) words.now) line → result ≡ 0 → WritesItself line (O.taken out.old) (O.taken out.new) }
-
-    // A refusal wrote nothing to `out`, unless `out` itself failed.
-    ensures refused { (line : Line) → Names (map (λ w. w.now) words.now) line → result ≡ 1 → Leaves line (S.files store.old) (S.files store.new) (O.taken out.old) (O.taken out.new) (O.failures out.old) (O.failures out.new) }
-
-    // Its line was printed: `err` took the whole line of a refusal that has its reason, or failed and took a prefix.
-    ensures reason { (line : Line) → Names (map (λ w. w.now) words.now) line → result ≡ 1 → PrintsReason line (S.files store.old) (O.failures out.old) (O.failures out.new) (E.taken err.old) (E.taken err.new) (E.failures err.old) (E.failures err.new) }
-
-    // The two of one refusal: unless it is 52, no file changed and `out` holds the same bytes, but for the lines of `take`.
-    ensures ends { (line : Line) → Names (map (λ w. w.now) words.now) line → result ≡ 1 → EndsWithLine line (S.files store.old) (S.files store.new) (O.taken out.old) (O.taken out.new) (O.failures out.old) (O.failures out.new) (E.taken err.old) (E.taken err.new) (E.failures err.old) (E.failures err.new) }
-
-    // Help is printed on `out`, or refused; what is wrong with the words is printed on `err`.
-    ensures help { result ≡ 0 → IsCommand (map (λ w. w.now) words.now) ⊎ PrintsHelp (O.taken out.old) (O.taken out.new) (E.taken err.old) (E.taken err.new) }
-    ensures no_help { result ≡ 1 → IsCommand (map (λ w. w.now) words.now) ⊎ RefusesHelp (O.taken out.old) (O.taken out.new) (O.failures out.old) (O.failures out.new) (E.taken err.old) (E.taken err.new) (E.failures err.old) (E.failures err.new) }
-    ensures usage { result ≡ 2 → SaysWrong (O.taken out.old) (O.taken out.new) (E.taken err.old) (E.taken err.new) (E.failures err.old) (E.failures err.new) }
+    // Help is printed on `out`, or refused; what is wrong with the words is printed on `err`. No file changes.
+    ensures help { result ≡ 0 → IsCommand (map (λ w. w.now) words.now)
+        ⊎ PrintsHelp out.old out.new err.old err.new }
+    ensures no_help { result ≡ 1 → IsCommand (map (λ w. w.now) words.now)
+        ⊎ RefusesHelp out.old out.new err.old err.new }
+    ensures usage { result ≡ 2 → SaysWrong out.old out.new err.old err.new }
     ensures files { (S.files store.new ≡ S.files store.old) ⊎ IsCommand (map (λ w. w.now) words.now) }
-    ensures devices { (O.device out.new ≡ O.device out.old) × (E.device err.new ≡ E.device err.old) }
+
+    // Both go on to the same writers.
+    ensures devices { (out.new.device ≡ out.old.device) × (err.new.device ≡ err.old.device) }
 {
     match parse(alloc, words) {
         Ok(request) => obey(alloc, &request, store, out, err),
-        Err(LineFault::Memory) => refuse(alloc, &Refusal::Memory, err),
-        Err(LineFault::Shown(error)) => show(alloc, &error, out, err),
-        Err(LineFault::NoCommand) => {
-            print_line(b"error: the words name no command\n", err);
-            2
-        }
+        Err(fault) => answer(alloc, &fault, out, err),
     }
 }
 
 /// Does what a command asks, and prints the line of a refusal.
-fn obey<S: Store, O: Printer, E: Printer>(
+fn obey<S: Store, O: Write, E: Write>(
     alloc: Global,
     request: &Request<'_>,
     store: &mut S,
-    out: &mut O,
-    err: &mut E,
+    out: &mut Printer<'_, O>,
+    err: &mut Printer<'_, E>,
 ) -> u8
-    ensures status { result ≤ 1 }
-    ensures done { result ≡ 0 → Writes (line_of request.now) (S.files store.old) (S.files store.new) (O.taken out.old) (O.taken out.new) }
-    ensures quiet { result ≡ 0 → Keeps (E.taken err.old) (E.taken err.new) }
-    ensures flushed { result ≡ 0 → O.flushed out.new ≡ true }
-    ensures again { result ≡ 0 → WritesItself (line_of request.now) (O.taken out.old) (O.taken out.new) }
-    ensures refused { result ≡ 1 → Leaves (line_of request.now) (S.files store.old) (S.files store.new) (O.taken out.old) (O.taken out.new) (O.failures out.old) (O.failures out.new) }
-    ensures reason { result ≡ 1 → PrintsReason (line_of request.now) (S.files store.old) (O.failures out.old) (O.failures out.new) (E.taken err.old) (E.taken err.new) (E.failures err.old) (E.failures err.new) }
-    ensures ends { result ≡ 1 → EndsWithLine (line_of request.now) (S.files store.old) (S.files store.new) (O.taken out.old) (O.taken out.new) (O.failures out.old) (O.failures out.new) (E.taken err.old) (E.taken err.new) (E.failures err.old) (E.failures err.new) }
-    ensures devices { (O.device out.new ≡ O.device out.old) × (E.device err.new ≡ E.device err.old) }
+    ensures { Obeys (line_of request.now) (world (S.files store.old) out.old)
+        (world (S.files store.new) out.new) err.old err.new result }
 {
     match act(alloc, request, store, out) {
         Ok(()) => 0,
@@ -202,68 +171,56 @@ fn obey<S: Store, O: Printer, E: Printer>(
 }
 
 /// Does what a command asks.
-fn act<S: Store, O: Printer>(
+fn act<S: Store, O: Write>(
     alloc: Global,
     request: &Request<'_>,
     store: &mut S,
-    out: &mut O,
+    out: &mut Printer<'_, O>,
 ) -> Result<(), Refusal>
-    ensures done { OnOk result (Writes (line_of request.now) (S.files store.old) (S.files store.new) (O.taken out.old) (O.taken out.new)) }
-    ensures again { OnOk result (WritesItself (line_of request.now) (O.taken out.old) (O.taken out.new)) }
-    ensures refused { OnErr result (Leaves (line_of request.now) (S.files store.old) (S.files store.new) (O.taken out.old) (O.taken out.new) (O.failures out.old) (O.failures out.new)) }
-    ensures why { IfErr result (Refuses (line_of request.now) (S.files store.old) (O.failures out.old) (O.failures out.new)) }
-    ensures ends { IfErr result (Ends (line_of request.now) (S.files store.old) (S.files store.new) (O.taken out.old) (O.taken out.new) (O.failures out.old) (O.failures out.new)) }
-    ensures device { O.device out.new ≡ O.device out.old }
-    ensures flushed { OnOk result (O.flushed out.new ≡ true) }
+    ensures { Does (line_of request.now) (world (S.files store.old) out.old)
+        (world (S.files store.new) out.new) result }
 {
     match request {
-        Request::Check(name) => check(alloc, name, store, out),
         Request::Tidy(name) => tidy(alloc, name, store, out),
-        Request::Start(dataset, stations, name) => {
-            start(alloc, dataset, stations, name, store, out)
-        }
         Request::Take(desk, name, texts) => take(alloc, desk, name, texts, store, out),
-        Request::Merge(desk, other, name) => merge(alloc, desk, other, name, store, out),
-        Request::Show(desk, flight, date) => show_flight(alloc, desk, flight, date, store, out),
-        Request::Findings(desk) => findings(alloc, desk, store, out),
         Request::Export(desk) => export(alloc, desk, store, out),
-        Request::Rehearse(dataset, stations, script) => {
-            run_script(alloc, dataset, stations, script, store, out)
+        Request::Check(name) => print(check(alloc, name, store), out),
+        Request::Start(dataset, stations, name) => {
+            print(start(alloc, dataset, stations, name, store), out)
         }
-        Request::Explain(word) => explain(alloc, word, store, out),
+        Request::Merge(desk, other, name) => print(merge(alloc, desk, other, name, store), out),
+        Request::Show(desk, flight, date) => {
+            print(show_flight(alloc, desk, flight, date, store), out)
+        }
+        Request::Findings(desk) => print(findings(alloc, desk, store), out),
+        Request::Rehearse(dataset, stations, script) => {
+            print(rehearse(alloc, dataset, stations, script, store), out)
+        }
+        Request::Explain(word) => print(explain(alloc, word, store), out),
     }
 }
 
-/// Does what `rehearse` asks.
-fn run_script<S: Store, O: Printer>(
-    alloc: Global,
-    dataset: &str,
-    stations: &str,
-    script: &str,
-    store: &mut S,
-    out: &mut O,
-) -> Result<(), Refusal>
-    ensures done { OnOk result (Writes (Rehearse dataset.now stations.now script.now) (S.files store.old) (S.files store.new) (O.taken out.old) (O.taken out.new)) }
-    ensures refused { OnErr result (Leaves (Rehearse dataset.now stations.now script.now) (S.files store.old) (S.files store.new) (O.taken out.old) (O.taken out.new) (O.failures out.old) (O.failures out.new)) }
-    ensures why { IfErr result (Refuses (Rehearse dataset.now stations.now script.now) (S.files store.old) (O.failures out.old) (O.failures out.new)) }
-    ensures counts { IfErr result (CountsRefusal (O.failures out.old) (O.failures out.new)) }
-    ensures device { O.device out.new ≡ O.device out.old }
-    ensures flushed { OnOk result (O.flushed out.new ≡ true) }
+/// Prints what a command has made, if it was not refused.
+fn print<O: Write>(made: Result<Vec<u8>, Refusal>, out: &mut Printer<'_, O>) -> Result<(), Refusal>
+    ensures { (line : Line) (old new : Option Files) → PrintsAtOnce line → Prepares line old new made
+        → Does line (world old out.old) (world new out.new) result }
 {
-    rehearse(alloc, dataset, stations, script, store, out)
+    match made {
+        Ok(text) => print_all(out, &text),
+        Err(refusal) => Err(refusal),
+    }
 }
 
 /// Prints the line of a refusal. If no memory is left for the line, it is that of 90; that of 52 needs none.
-fn refuse<P: Printer>(alloc: Global, refusal: &Refusal, err: &mut P) -> u8
+fn refuse<P: Write>(alloc: Global, refusal: &Refusal, err: &mut Printer<'_, P>) -> u8
     ensures status { result ≡ 1 }
-    ensures printed { PrintsRefusal refusal.now (P.taken err.old) (P.taken err.new) (P.failures err.old) (P.failures err.new) }
-    ensures device { P.device err.new ≡ P.device err.old }
+    ensures printed { PrintsRefusal refusal.now err.old err.new }
 {
     if is_write_fault(refusal) {
         print_line(b"refused 52 WriteFault\n", err);
         return 1;
     }
-    match line_of_refusal(alloc, refusal) {
+    match line_of(alloc, refusal) {
         Ok(line) => print_line(&line, err),
         Err(_) => print_line(b"refused 90 Memory\n", err),
     }
@@ -277,24 +234,34 @@ fn is_write_fault(refusal: &Refusal) -> bool
     matches!(refusal, Refusal::WriteFault)
 }
 
-fn line_of_refusal(alloc: Global, refusal: &Refusal) -> io::Result<Vec<u8>>
-    ensures { IfOk result (λ bytes. bytes.items ≡ line (refusal_text refusal.now)) }
+/// Prints help on `out`, with status 0, or what is wrong with the words on `err`, with 2.
+fn answer<O: Write, E: Write>(
+    alloc: Global,
+    fault: &LineFault,
+    out: &mut Printer<'_, O>,
+    err: &mut Printer<'_, E>,
+) -> u8
+    ensures { Answers fault.now out.old out.new err.old err.new result }
 {
-    let mut bytes = Vec::new(alloc);
-    writeln!(bytes, "{refusal}")?;
-    Ok(bytes)
+    match fault {
+        LineFault::Memory => refuse(alloc, &Refusal::Memory, err),
+        LineFault::Shown(error) => show(alloc, error, out, err),
+        LineFault::NoCommand => {
+            print_line(b"error: the words name no command\n", err);
+            2
+        }
+    }
 }
 
 /// Prints what `clap` has to say: help on `out`, with status 0, and all else on `err`, with 2.
-fn show<O: Printer, E: Printer>(alloc: Global, error: &clap::Error, out: &mut O, err: &mut E) -> u8
-    ensures status { result ≤ 2 }
-    ensures help { result ≤ 1 → is_help (kind_of error.now) ≡ true }
-    ensures printed { result ≡ 0 → PrintsHelp (O.taken out.old) (O.taken out.new) (E.taken err.old) (E.taken err.new) }
-    ensures refused { result ≡ 1 → RefusesHelp (O.taken out.old) (O.taken out.new) (O.failures out.old) (O.failures out.new) (E.taken err.old) (E.taken err.new) (E.failures err.old) (E.failures err.new) }
-    ensures flushed { result ≡ 0 → O.flushed out.new ≡ true }
-    ensures wrong { result ≡ 2 → is_help (kind_of error.now) ≡ false }
-    ensures usage { result ≡ 2 → SaysWrong (O.taken out.old) (O.taken out.new) (E.taken err.old) (E.taken err.new) (E.failures err.old) (E.failures err.new) }
-    ensures devices { (O.device out.new ≡ O.device out.old) × (E.device err.new ≡ E.device err.old) }
+fn show<O: Write, E: Write>(
+    alloc: Global,
+    error: &clap::Error,
+    out: &mut Printer<'_, O>,
+    err: &mut Printer<'_, E>,
+) -> u8
+    ensures help { is_help (kind_of error.now) ≡ true → SaysHelp out.old out.new err.old err.new result }
+    ensures wrong { is_help (kind_of error.now) ≡ false → (result ≡ 2) × SaysWrong out.old out.new err.old err.new }
 {
     let mut text = Vec::new(alloc);
     let shown = write!(text, "{error}");
@@ -305,21 +272,8 @@ fn show<O: Printer, E: Printer>(alloc: Global, error: &clap::Error, out: &mut O,
     if shown.is_err() {
         return refuse(alloc, &Refusal::Memory, err);
     }
-    match print_help(&text, out) {
+    match print_all(out, &text) {
         Ok(()) => 0,
         Err(refusal) => refuse(alloc, &refusal, err),
-    }
-}
-
-/// Prints help.
-fn print_help<O: Printer>(text: &[u8], out: &mut O) -> Result<(), Refusal>
-    ensures done { OnOk result ((text : List ℕ) × Appends (O.taken out.old) (O.taken out.new) text) }
-    ensures refused { IfErr result (LeavesHelp (O.taken out.old) (O.taken out.new) (O.failures out.old) (O.failures out.new)) }
-    ensures flushed { OnOk result (O.flushed out.new ≡ true) }
-    ensures device { O.device out.new ≡ O.device out.old }
-{
-    match print_all(out, text) {
-        Ok(()) => Ok(()),
-        Err(_) => Err(Refusal::WriteFault),
     }
 }

@@ -3,7 +3,6 @@ ghost use Rattle.std.specs.Prelude.{◌≡◌, Some};
 ghost use Rattle.ssim_program.specs.Refusal.{IsOfFile, refusal_number, refusal_of_base, refusal_of_desk, refusal_of_export, refusal_of_stations, refusal_of_value, refusal_text};
 
 use crate::name::printed_name;
-use crate::printer::PrintFailed;
 use ssim_desk::DeskFault;
 use ssim_schedule::{BaseFault, ExportFault, StationFault};
 use ssim_values::{Airline, Designator, Fault, Memory};
@@ -188,15 +187,5 @@ impl<T: Drop> From<AllocFailed<T>> for Refusal {
 
     fn from(_refused: AllocFailed<T>) -> Self {
         Refusal::Memory
-    }
-}
-
-impl From<PrintFailed> for Refusal {
-    ghost use Rattle.ssim_program.specs.declared.refusal.Refusal.TheVariants.{WriteFault};
-
-    ghost from_gives = { λ _ refusal. refusal ≡ WriteFault };
-
-    fn from(_failed: PrintFailed) -> Self {
-        Refusal::WriteFault
     }
 }

@@ -1,19 +1,17 @@
 //! The command `show`: a flight of a desk on a date.
 
-ghost use Rattle.std.specs.Prelude.{◌≡◌, ◌++◌, ◌≤◌, ◌<◌, ◌∷◌, true, None, Some, IfErr, IfOk, OnErr, OnOk};
+ghost use Rattle.std.specs.Prelude.{◌≡◌, ◌++◌, ◌≤◌, ◌<◌, ◌∷◌, None, Some, IfErr, IfOk, OnOk};
 ghost use Rattle.ssim_schedule.specs.Export.{line};
 ghost use Rattle.ssim_text.specs.Lines.{day_in};
 ghost use Rattle.ssim_values.specs.Characters.{two_digits};
 ghost use Rattle.ssim_values.specs.Day.{day_text};
 ghost use Rattle.ssim_values.specs.Designator.{designator_text};
-ghost use Rattle.ssim_program.specs.Desks.{CountsRefusal, RefusesFlight, Shows};
-ghost use Rattle.ssim_program.specs.Effects.{Leaves, Writes};
+ghost use Rattle.ssim_program.specs.Desks.{RefusesFlight, Shows};
 ghost use Rattle.ssim_program.specs.Line.{Show};
-ghost use Rattle.ssim_program.specs.Reasons.{Refuses};
+ghost use Rattle.ssim_program.specs.World.{Prepares};
 ghost use Rattle.ssim_program.specs.Shown.{columns_text, dotted, leg_line, shown, shown_flight};
 
 use crate::desk_file::open_holdings;
-use crate::printer::{Printer, print_all};
 use crate::refusal::Refusal;
 use crate::store::Store;
 use ssim_desk::{DeskFault, Holdings};
@@ -21,28 +19,19 @@ use ssim_schedule::{PlacedLeg, ResolveFault};
 use ssim_values::{Day, Designator, Fault, Memory};
 use std::alloc::Global;
 
-/// Prints a flight of the desk in a file on a date.
-pub(crate) fn show_flight<S: Store, O: Printer>(
+/// A flight of the desk in a file on a date.
+pub(crate) fn show_flight<S: Store>(
     alloc: Global,
     file: &str,
     flight: &str,
     date: &str,
     store: &mut S,
-    out: &mut O,
-) -> Result<(), Refusal>
-    ensures done { OnOk result (Writes (Show file.now flight.now date.now) (S.files store.old) (S.files store.new) (O.taken out.old) (O.taken out.new)) }
-    ensures refused { OnErr result (Leaves (Show file.now flight.now date.now) (S.files store.old) (S.files store.new) (O.taken out.old) (O.taken out.new) (O.failures out.old) (O.failures out.new)) }
-    ensures why { IfErr result (Refuses (Show file.now flight.now date.now) (S.files store.old) (O.failures out.old) (O.failures out.new)) }
-    ensures counts { IfErr result (CountsRefusal (O.failures out.old) (O.failures out.new)) }
-    ensures device { O.device out.new ≡ O.device out.old }
-    ensures flushed { OnOk result (O.flushed out.new ≡ true) }
+) -> Result<Vec<u8>, Refusal>
+    ensures { Prepares (Show file.now flight.now date.now)
+        (S.files store.old) (S.files store.new) result }
 {
     let desk = open_holdings(alloc, file, store)?;
-    let lines = shown(alloc, &desk, flight, date)?;
-    match print_all(out, &lines) {
-        Ok(()) => Ok(()),
-        Err(failed) => Err(Refusal::from(failed)),
-    }
+    shown(alloc, &desk, flight, date)
 }
 
 /// The lines of the flight that the words name.

@@ -1,99 +1,83 @@
 //! The command `take`: a desk takes texts, one after another.
 
-ghost use Rattle.std.specs.Prelude.{◌≡◌, true, List, Err, IfErr, IfOk, IfSome, Ok, OnErr, OnOk, map};
+ghost use Rattle.std.specs.Prelude.{◌≡◌, List, IfErr, IfOk, IfSome, map};
 ghost use Rattle.ssim_schedule.specs.BaseSeen.{base_with};
 ghost use Rattle.ssim_schedule.specs.Stations.{Row};
 ghost use Rattle.ssim_text.specs.Message.{MessageValue};
 ghost use Rattle.ssim_held.specs.Held.{Says};
 ghost use Rattle.ssim_held.specs.Kept.{state_of};
 ghost use Rattle.ssim_desk.specs.Steps.{RefusesText};
-ghost use Rattle.ssim_program.specs.Desks.{CountsRefusal, EndsTexts, IsTaken, LeavesText, LeavesTexts, PrintsText, PrintsTexts, RefusesFileText, RefusesTexts, took_line, took_printed};
+ghost use Rattle.ssim_program.specs.Desks.{IsTaken, PrintsTexts, TakesOrRefuses, took_printed};
 ghost use Rattle.ssim_program.specs.Line.{Take};
-ghost use Rattle.ssim_program.specs.Effects.{Leaves, Writes};
-ghost use Rattle.ssim_program.specs.Ends.{Ends};
-ghost use Rattle.ssim_program.specs.Reasons.{Refuses};
+ghost use Rattle.ssim_program.specs.World.{Does, world};
 
 use crate::data_set::load_file;
 use crate::desk_file::{keep, open_holdings};
-use crate::printed::{Printed, add_line};
-use crate::printer::{Printer, flush_all, print_all};
+use crate::printed::{Printed, line_of};
+use crate::printer::{Printer, print_all};
 use crate::refusal::Refusal;
 use crate::store::Store;
 use ssim_desk::{DeskFault, Holdings, Took};
 use ssim_schedule::DataSet;
 use ssim_text::{Reference, decode};
-use ssim_values::Memory;
 use std::alloc::Global;
+use std::io::Write;
 
 /// Takes the texts in these files at the desk in a file, prints what became of each, and at last keeps the desk file. At the
 /// first refusal it stops, and keeps nothing.
-pub(crate) fn take<S: Store, O: Printer>(
+pub(crate) fn take<S: Store, W: Write>(
     alloc: Global,
     file: &str,
     kept: &str,
     names: &[&str],
     store: &mut S,
-    out: &mut O,
+    out: &mut Printer<'_, W>,
 ) -> Result<(), Refusal>
-    ensures done { OnOk result (Writes (Take file.now kept.now (map (λ t. t.now) names.now)) (S.files store.old) (S.files store.new) (O.taken out.old) (O.taken out.new)) }
-    ensures refused { OnErr result (Leaves (Take file.now kept.now (map (λ t. t.now) names.now)) (S.files store.old) (S.files store.new) (O.taken out.old) (O.taken out.new) (O.failures out.old) (O.failures out.new)) }
-    ensures why { IfErr result (Refuses (Take file.now kept.now (map (λ t. t.now) names.now)) (S.files store.old) (O.failures out.old) (O.failures out.new)) }
-    ensures ends { IfErr result (Ends (Take file.now kept.now (map (λ t. t.now) names.now)) (S.files store.old) (S.files store.new) (O.taken out.old) (O.taken out.new) (O.failures out.old) (O.failures out.new)) }
-    ensures device { O.device out.new ≡ O.device out.old }
-    ensures flushed { OnOk result (O.flushed out.new ≡ true) }
+    ensures { Does (Take file.now kept.now (map (λ t. t.now) names.now))
+        (world (S.files store.old) out.old) (world (S.files store.new) out.new) result }
 {
     let mut desk = open_holdings(alloc, file, store)?;
     take_texts(alloc, &mut desk, names, store, out)?;
-    flush_all(out)?;
+    out.flush()?;
     keep(alloc, &desk, kept, store)
 }
 
 /// Takes the texts in these files, and prints what became of each.
-fn take_texts<S: Store, O: Printer>(
+fn take_texts<S: Store, W: Write>(
     alloc: Global,
     desk: &mut Holdings,
     names: &[&str],
     store: &mut S,
-    out: &mut O,
+    out: &mut Printer<'_, W>,
 ) -> Result<(), Refusal>
-    ensures done { OnOk result (PrintsTexts (S.files store.old) (map (λ t. t.now) names.now) desk.old desk.new (O.taken out.old) (O.taken out.new)) }
-    ensures refused { OnErr result (LeavesTexts (S.files store.old) (map (λ t. t.now) names.now) desk.old (O.taken out.old) (O.taken out.new) (O.failures out.old) (O.failures out.new)) }
-    ensures why { IfErr result (RefusesTexts (S.files store.old) (map (λ t. t.now) names.now) desk.old (O.failures out.old) (O.failures out.new)) }
-    ensures ends { IfErr result (EndsTexts (S.files store.old) (map (λ t. t.now) names.now) desk.old (O.taken out.old) (O.taken out.new) (O.failures out.old) (O.failures out.new)) }
+    ensures texts { PrintsTexts (S.files store.old) (map (λ t. t.now) names.now) desk.old desk.new
+        out.old out.new result }
     ensures same { S.files store.new ≡ S.files store.old }
-    ensures failures { OnOk result (O.failures out.new ≡ O.failures out.old) }
-    ensures device { O.device out.new ≡ O.device out.old }
 {
     for name in names {
-        match take_text(alloc, desk, name, store, out) {
-            Ok(()) => {}
+        let line = match take_text(alloc, desk, name, store) {
+            Ok(line) => line,
             Err(refusal) => return Err(refusal),
-        }
+        };
+        print_all(out, &line)?;
     }
     Ok(())
 }
 
-/// Takes the text in this file, and prints what became of it.
-fn take_text<S: Store, O: Printer>(
+/// Takes the text in this file. Returns the line that says what became of it.
+fn take_text<S: Store>(
     alloc: Global,
     desk: &mut Holdings,
     name: &str,
     store: &mut S,
-    out: &mut O,
-) -> Result<(), Refusal>
-    ensures done { OnOk result (PrintsText (S.files store.old) name.now desk.old desk.new (O.taken out.old) (O.taken out.new)) }
-    ensures refused { OnErr result (LeavesText (S.files store.old) name.now desk.old (O.taken out.old) (O.taken out.new) (O.failures out.old) (O.failures out.new)) }
-    ensures why { IfErr result (RefusesFileText (S.files store.old) name.now desk.old (O.failures out.old) (O.failures out.new)) }
-    ensures counts { IfErr result (CountsRefusal (O.failures out.old) (O.failures out.new)) }
+) -> Result<Vec<u8>, Refusal>
+    ensures text { TakesOrRefuses (S.files store.old) name.now desk.old desk.new result }
     ensures same { S.files store.new ≡ S.files store.old }
-    ensures failures { OnOk result (O.failures out.new ≡ O.failures out.old) }
-    ensures device { O.device out.new ≡ O.device out.old }
 {
     let text = load_file(alloc, name, store)?;
     let (took, reference) = take_one(alloc, desk, &text)?;
-    let line = took_line(alloc, took, reference)?;
-    print_all(out, &line)?;
-    Ok(())
+    let line = line_of(alloc, &printed(took, reference))?;
+    Ok(line)
 }
 
 /// Takes a text. Returns what became of it, with the reference of its message.
@@ -122,15 +106,7 @@ fn reference_in(alloc: Global, data_set: &DataSet, text: &[u8]) -> Option<Refere
     }
 }
 
-/// The line of a text that was taken, or repeated.
-fn took_line(alloc: Global, took: Took, reference: Reference) -> Result<Vec<u8>, Memory>
-    ensures { IfOk result (λ line. line.items ≡ took_line took reference) }
-{
-    let mut line = Vec::new(alloc);
-    add_line(&mut line, printed(took, reference))?;
-    Ok(line)
-}
-
+/// What became of a text, as it is printed.
 fn printed(took: Took, reference: Reference) -> Printed
     ensures { result ≡ took_printed took reference }
 {

@@ -1,9 +1,9 @@
 //! Which kind of file the bytes are, by their beginning.
 
 ghost use Rattle.std.specs.Prelude.{◌≡◌};
-ghost use Rattle.std.specs.Str.{bytes_eq};
 ghost use Rattle.ssim_program.specs.Explained.{begins_data_set, begins_message, kind_of, kind_of_line, kind_of_text};
 
+use crate::word::is_word;
 use ssim_text::{cut, first_word, without_end};
 
 /// The files that commands read.
@@ -75,10 +75,4 @@ fn begins_message(line: &[u8]) -> bool
     }
     let (_, rest) = first_word(line);
     is_word(rest, b"")
-}
-
-fn is_word(word: &[u8], other: &[u8]) -> bool
-    ensures { result ≡ bytes_eq word.now other.now }
-{
-    word == other
 }

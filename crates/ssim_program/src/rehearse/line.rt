@@ -1,9 +1,9 @@
 //! The lines that a rehearsal prints.
-ghost use Rattle.std.specs.Prelude.{◌≡◌, ◌++◌, IfOk, OnOk, Some};
+ghost use Rattle.std.specs.Prelude.{◌≡◌, IfOk, Some};
 ghost use Rattle.std.specs.List.{flat_map};
-ghost use Rattle.ssim_schedule.specs.Export.{line};
 ghost use Rattle.ssim_program.specs.Rehearsal.{printed_line, rehearsal_text};
 
+use crate::printed::add_line;
 use crate::refusal::Refusal;
 use ssim_desk::DeskFault;
 use ssim_schedule::ExportFault;
@@ -11,7 +11,6 @@ use ssim_text::Reference;
 use ssim_values::{Airline, Memory};
 use std::alloc::Global;
 use std::fmt;
-use std::io::Write;
 
 /// A line that `rehearse` prints. Desks are counted from 1.
 #[derive(Clone, Copy, Debug)]
@@ -81,16 +80,6 @@ impl fmt::Display for RehearsalLine {
             RehearsalLine::Same => write!(f, "same"),
             RehearsalLine::Different => write!(f, "different"),
         }
-    }
-}
-
-/// Adds a line with its end.
-fn add_line(bytes: &mut Vec<u8>, printed: &RehearsalLine) -> Result<(), Memory>
-    ensures { OnOk result (bytes.new.items ≡ bytes.old.items ++ printed_line printed.now) }
-{
-    match writeln!(bytes, "{printed}") {
-        Ok(()) => Ok(()),
-        Err(_) => Err(Memory),
     }
 }
 

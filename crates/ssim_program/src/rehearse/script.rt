@@ -1,12 +1,12 @@
 //! Desk scripts: how many desks there are, and the steps that they try.
 
 ghost use Rattle.std.specs.Prelude.{◌≡◌, ◌<◌, ◌≤◌, ◌++◌, [], All, IfErr, IfOk, IfSome, Some, length, map, option_map};
-ghost use Rattle.std.specs.Str.{bytes_eq};
 ghost use Rattle.ssim_text.specs.Left.{lines_left, numbered};
 ghost use Rattle.ssim_program.specs.Script.{IsOtherLine, IsStepOf, RefusesScript, SpellsScript, count_in, desk_in, merge_in, name_in, step_in, take_in};
 ghost use Rattle.ssim_program.specs.Rehearsal.{as_written, script_of};
 
 use crate::refusal::Refusal;
+use crate::word::is_word;
 use ssim_text::{cut, first_word, without_end};
 use ssim_values::Memory;
 use std::alloc::Global;
@@ -70,12 +70,6 @@ fn count_in(line: &[u8]) -> Option<usize>
         Some(last) => Some(last + 1),
         None => None,
     }
-}
-
-fn is_word(word: &[u8], other: &[u8]) -> bool
-    ensures { result ≡ bytes_eq word.now other.now }
-{
-    word == other
 }
 
 /// The name of a file.

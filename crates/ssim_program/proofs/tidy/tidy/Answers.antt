@@ -1,8 +1,20 @@
--- What is left of the export is left of the file's export.
-use Rattle.ssim_program.proofs.Leaving.{leaves_tidy}
+-- The data set is refused, or exported.
+use Rattle.std.proofs.Common.{◌≡◌, Err, inl, refl, rules}
+use Rattle.ssim_schedule.specs.Timetable.{days_of}
+use Rattle.ssim_program.specs.Line.{Tidy}
+use Rattle.ssim_program.proofs.Doing.{stops_at_once}
+use Rattle.ssim_program.proofs.Exporting.{tidy_does}
 use Rattle.ssim_program.proofs.tidy.tidy.Goals as goal
 
-pub returns-in-Err-export-clause-refused : goal.returns-in-Err-export-clause-refused
-returns-in-Err-export-clause-refused g c =
-    leaves_tidy (g.S.Store.files c.args.store.now) (g.S.Store.files c.load.new.store) c.args.name.now c.in-Ok.data_set c.in-Ok.ensures.read.0 (g.O.Sink.taken c.args.out.now) (g.O.Sink.taken c.export.new.out) (g.O.Sink.failures c.args.out.now) (g.O.Sink.failures c.export.new.out)
-    c.load.ensures.same c.in-Ok.ensures.read.1 c.in-Err-export.ensures.err
+pub returns-in_err-data_set : goal.returns-in_err-data_set
+returns-in_err-data_set g c =
+    let is : c.from_residual.result ≡ Err c.in_err-data_set.field-0.0 = search rules in
+    rw is (stops_at_once (Tidy c.args.name.now) (g.S.Store.files c.args.store.now) (g.S.Store.files c.load.new.store) c.args.out.now c.in_err-data_set.field-0.0 (refl, inl c.in_err-data_set.ensures.refused) c.load.ensures.same)
+
+pub returns : goal.returns
+returns g c =
+    let base = c.in_ok-data_set.data_set in
+    let read = c.in_ok-data_set.ensures.read in
+    let e = c.export-written.ensures in
+    tidy_does (g.S.Store.files c.args.store.now) (g.S.Store.files c.load.new.store) c.args.name.now c.load.ensures.same c.args.out.now c.end_export.new.out base read.0 c.end_export.result read.1
+    (c.end_export.ensures base (days_of base) c.args.out.now c.airline-airline.ensures (record { ok = e.ok; err = e.err; device = e.device; reads_back = e.reads_back }))

@@ -1,0 +1,71 @@
+-- What a command does to the world, from what it makes and what is printed of it.
+use Rattle.std.proofs.Common.{◌≡◌, ◌∙◌, inl, inr, ℕ, Vec, List, [], Option, None, Some, Result, Ok, Err, IfErr, IfOk, refl, sym, ap, subst}
+use Rattle.ssim_program.specs.Again.{PrintsItself}
+use Rattle.ssim_program.specs.Effects.{Begins, Makes}
+use Rattle.ssim_program.specs.Files.{Files, Kept, with_kept}
+use Rattle.ssim_program.specs.Line.{Line, Check, Tidy, Start, Take, Merge, Show, Findings, Export, Rehearse, Explain}
+use Rattle.ssim_program.specs.Paper.{Breaks, Grows, Paper, Prints}
+use Rattle.ssim_program.specs.Reasons.{Refuses}
+use Rattle.ssim_program.specs.World.{Does, Prepares, PrintsAtOnce, world}
+use Rattle.ssim_program.specs.declared.refusal.Refusal.{Refusal}
+use Rattle.ssim_program.specs.declared.refusal.Refusal.TheVariants as refused
+use Rattle.ssim_program.proofs.Printers.{nothing}
+
+-- ---- commands that print all at once
+
+itself : (line : Line) (t u : Option (List ℕ)) → PrintsAtOnce line → PrintsItself line t u
+itself (Check name) t u at_once = tt
+itself (Tidy name) t u at_once = absurd at_once
+itself (Start dataset stations out) t u at_once = tt
+itself (Take file out names) t u at_once = absurd at_once
+itself (Merge file other out) t u at_once = tt
+itself (Show file flight date) t u at_once = tt
+itself (Findings file) t u at_once = tt
+itself (Export file) t u at_once = absurd at_once
+itself (Rehearse dataset stations script) t u at_once = tt
+itself (Explain word) t u at_once = tt
+
+begins : (line : Line) (files : Option Files) (text : List ℕ) (kept : Kept) → PrintsAtOnce line → Makes line files text kept → Begins line files text kept
+begins (Check name) files text kept at_once made = made
+begins (Tidy name) files text kept at_once made = made
+begins (Start dataset stations out) files text kept at_once made = made
+begins (Take file out names) files text kept at_once made = absurd at_once
+begins (Merge file other out) files text kept at_once made = made
+begins (Show file flight date) files text kept at_once made = made
+begins (Findings file) files text kept at_once made = made
+begins (Export file) files text kept at_once made = made
+begins (Rehearse dataset stations script) files text kept at_once made = made
+begins (Explain word) files text kept at_once made = made
+
+-- what is printed of what was made
+pub prints_made : (line : Line) (old new : Option Files) (text : List ℕ) (before after : Paper) (r : Result (Unit {0}) Refusal) → PrintsAtOnce line
+    → ((kept : Kept) × Makes line old text kept × (new ≡ with_kept kept old)) → Prints text before after r → Does line (world old before) (world new after) r
+prints_made line old new text before after (Ok x) at_once made printed =
+    record { printed = text; kept = made.0; makes = made.1; again = itself line before.taken after.taken at_once; files = made.2; grows = printed.0; flushed = printed.1 }
+prints_made line old new text before after (Err refusal) at_once made printed =
+    inr (record { is = printed.0; printed = text; kept = made.0; begins = begins line old text made.0 at_once made.1; files = made.2; breaks = printed.1 })
+
+-- nothing is printed of what is refused
+pub stops_at_once : (line : Line) (old new : Option Files) (out : Paper) (refusal : Refusal) → Refuses line old [] refusal → new ≡ old
+    → Does line (world old out) (world new out) (Err refusal)
+stops_at_once line old new out refusal why same = inl (record { printed = []; why = why; files = same; grows = nothing out })
+
+-- a command that keeps no file, from what its last call makes
+pub prepared : {A : Type 0} (line : Line) (old new : Option Files) (P : List ℕ → Type 0) (Q : Refusal → Type 0) (r : Result (Vec ℕ A) Refusal)
+    → ((text : List ℕ) → P text → Makes line old text None) → ((refusal : Refusal) → Q refusal → Refuses line old [] refusal) → new ≡ old
+    → IfOk r (λ v. P v.items) → IfErr r Q → Prepares line old new r
+prepared line old new P Q (Ok v) made why same ok err = (None, made v.items ok, same)
+prepared line old new P Q (Err refusal) made why same ok err = (why refusal err, same)
+
+-- memory ran out before anything was done
+pub memory_refuses : (line : Line) (files : Option Files) → Refuses line files [] refused.Memory
+memory_refuses (Check name) files = (refl, inl (inl refl))
+memory_refuses (Tidy name) files = (refl, inl (inl (inl refl)))
+memory_refuses (Start dataset stations out) files = (refl, inl (inl (inl refl)))
+memory_refuses (Take file out names) files = inl (refl, inl (inl refl))
+memory_refuses (Merge file other out) files = (refl, inl (inl (inl refl)))
+memory_refuses (Show file flight date) files = (refl, inl (inl (inl refl)))
+memory_refuses (Findings file) files = (refl, inl (inl (inl refl)))
+memory_refuses (Export file) files = (refl, inl (inl (inl refl)))
+memory_refuses (Rehearse dataset stations script) files = (refl, inl refl)
+memory_refuses (Explain word) files = (refl, inl refl)
