@@ -1,5 +1,5 @@
 #!/usr/bin/env python3
-"""Tries wrong bodies, each of which the prover must refuse: wrong_bodies.py [CRATE..]
+"""Tries wrong bodies, each of which the prover must refuse: wrong_bodies.py [--beside LOG] [CRATE..]
 
 A wrong body is a file crates/CRATE/wrong_bodies/NAME.edit with lines
 
@@ -13,8 +13,8 @@ of a copy of the crate with these texts. The wrong body is refused if each of th
 An edit that does not compile, or that a proof file no longer fits, is refused for another reason, and counts as a failure.
 First the named functions of each crate as it is are proved, all at once, and each wrong body is tried over what that check keeps.
 
-It takes the libraries below a crate from crates/*/out/rlib, where `rt ci` built them. RT_JOBS is the number of checks side by
-side. The last line is 'N passed, M failed'.
+It takes the libraries below a crate from crates/*/out/rlib, where `rt ci` builds them. With --beside it runs beside `rt ci`, and
+waits for each library until LOG, what `rt ci` prints, says that it is proved. The last line is 'N passed, M failed'.
 """
 import concurrent.futures
 import dataclasses
@@ -24,14 +24,19 @@ import shutil
 import subprocess
 import sys
 import tempfile
+import time
 
 TOP = os.path.dirname(os.path.dirname(os.path.abspath(__file__)))
 PARTS = ("src", "specs", "proofs")
 
+# How many checks run side by side: half of the processors, since proofs run beside them.
+AT_ONCE = max(1, len(os.sched_getaffinity(0)) // 2)
+
 # What a check says of a function whose proof it refuses; of a goal of the code that is not proved, or an answer that does not
-# prove its goal; and of an answer that only names what the code no longer has.
+# prove its goal; and of an answer that only names what the code no longer has. `ENDED` is the last line of `rt ci`.
 REFUSED = re.compile(r"^fn (\w+)::(\S+): (?:not proved|no proof)", re.MULTILINE)
 GOAL = re.compile(r"^(?:note: )?(?:src/\S+: (?:error: )?it is not proved that|(?:\./)?proofs/\S+: error: ).*", re.MULTILINE)
+ENDED = re.compile(r"^\d+ passed, \d+ failed", re.MULTILINE)
 UNFIT = re.compile(r"is not in scope|has no field|has no `|was not admitted|is no name")
 
 
@@ -76,9 +81,10 @@ def read_edit(path):
 
 
 class Crates:
-    """The crates of the repository, and the command that checks functions of one."""
+    """The crates of the repository, and the command that checks functions of one. `log` is what `rt ci` prints, if it runs."""
 
-    def __init__(self):
+    def __init__(self, log):
+        self.log = log
         page = subprocess.run(["rt", "doc"], stdout=subprocess.PIPE, text=True, check=True).stdout.strip()
         self.kit = os.path.dirname(page)
         self.uses = {}
@@ -95,6 +101,18 @@ class Crates:
             if name in self.uses:
                 found.update({name: None, **dict.fromkeys(self.below(name))})
         return list(found)
+
+    def are_built(self, libraries):
+        """Waits until libraries are proved, and returns whether they are."""
+        while self.log:
+            with open(self.log, encoding="utf-8", errors="replace") as file:
+                said = file.read()
+            if all(re.search(rf"^rt: {name} (proved|is kept)", said, re.MULTILINE) for name in libraries):
+                return True
+            if ENDED.search(said):
+                return False
+            time.sleep(1)
+        return True
 
     def checked(self, crate, folder, functions, kept):
         """What a check of some functions of a crate's copy prints, and its status. It begins with what the folder `kept` holds."""
@@ -138,6 +156,8 @@ class Tries:
 
     def why_not_proved(self):
         """Why the functions that the wrong bodies name are not proved as they are; or None."""
+        if not self.crates.are_built(self.crates.below(self.crate)):
+            return f"{self.crate}: a library below it is not proved"
         functions = sorted({name for edit in self.edits for name in edit.functions})
         folder = os.path.join(self.room.name, "as_it_is")
         copied(self.crate, folder)
@@ -164,14 +184,15 @@ class Tries:
 
 
 def main(names):
-    crates = Crates()
-    found = []
+    log = names[1] if names[:1] == ["--beside"] else None
+    names = names[2:] if log else names
+    crates, found = Crates(log), []
     for crate in names or crates.uses:
         folder = os.path.join(TOP, "crates", crate, "wrong_bodies")
         if os.path.isdir(folder):
             found.append(Tries(crates, crate, [read_edit(os.path.join(folder, name)) for name in sorted(os.listdir(folder))]))
     passed = failed = 0
-    with concurrent.futures.ThreadPoolExecutor(int(os.environ.get("RT_JOBS") or 1)) as pool:
+    with concurrent.futures.ThreadPoolExecutor(AT_ONCE) as pool:
         seeds = {pool.submit(it.why_not_proved): it for it in found}
         waiting = set(seeds)
         while waiting:
