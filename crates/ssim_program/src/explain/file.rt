@@ -7,7 +7,7 @@ ghost use Rattle.ssim_program.specs.declared.explain.file_kind.FileKind.TheVaria
 
 use super::file_kind::{FileKind, kind_of};
 use super::on_refusal;
-use crate::data_set::read;
+use crate::data_set::sum_bytes;
 use crate::refusal::Refusal;
 use crate::rehearse::script::Script;
 use ssim_desk::{DeskFault, Holdings};
@@ -78,7 +78,7 @@ fn data_set(alloc: Global, bytes: &[u8]) -> Result<Option<Refusal>, Memory>
     requires { length bytes.now ≤ file_limit }
     ensures { IfOk result (λ found. Judges kind.DataSet bytes.now found) }
 {
-    match read(alloc, bytes) {
+    match sum_bytes(alloc, bytes) {
         Ok(_) => Ok(None),
         Err(BaseFault::Memory) => Err(Memory),
         Err(fault) => Ok(Some(Refusal::from(fault))),
