@@ -12,7 +12,7 @@ use crate::refusal::Refusal;
 use crate::rehearse::script::Script;
 use ssim_desk::{DeskFault, Holdings};
 use ssim_guide::{words_on_line, words_on_offset, words_on_overlap, words_on_record};
-use ssim_records::RecordFault;
+use ssim_records::{Parts, RecordFault};
 use ssim_schedule::{BaseFault, BaseRefusal, StationFault, Stations};
 use ssim_text::{TextFault, decode};
 use ssim_values::Memory;
@@ -89,7 +89,9 @@ fn desk_file(alloc: Global, bytes: &[u8]) -> Result<Option<Refusal>, Memory>
     requires { length bytes.now ≤ file_limit }
     ensures { IfOk result (λ found. Judges kind.Desk bytes.now found) }
 {
-    match Holdings::open(alloc, bytes) {
+    let mut parts = Parts::new(alloc);
+    parts.push(Vec::from_slice(alloc, bytes)?)?;
+    match Holdings::open(alloc, parts) {
         Ok(_) => Ok(None),
         Err(DeskFault::File(offset)) => Ok(Some(Refusal::Desk(DeskFault::File(offset)))),
         Err(_) => Err(Memory),
