@@ -17,6 +17,7 @@ use crate::rehearse::line::bytes_of;
 use crate::rehearse::lines::rehearsal_of;
 use crate::rehearse::texts::load_steps;
 use crate::store::Store;
+use ssim_desk::Holdings;
 use std::alloc::Global;
 
 /// The bytes of the lines of a rehearsal.
@@ -32,9 +33,9 @@ fn rehearsal<S: Store>(
     ensures same { S.files store.new ≡ S.files store.old }
 {
     let (data_set, stations) = load_base(alloc, dataset, stations, store)?;
-    let base = data_set.into_base(stations)?;
     let (count, steps) = load_steps(alloc, script, store)?;
-    let lines = rehearsal_of(alloc, &base, count, &steps)?;
+    let desk = Holdings::start(alloc, data_set, stations);
+    let lines = rehearsal_of(alloc, &desk, count, &steps)?;
     let bytes = bytes_of(alloc, &lines)?;
     Ok(bytes)
 }
