@@ -40,12 +40,7 @@ impl Model for BaseFrame {
 
 impl BaseFrame {
     /// The frame of these records: the first, the second and the last of a base.
-    pub(crate) fn of(
-        alloc: Global,
-        first: &Record,
-        second: &Record,
-        last: &Record,
-    ) -> BaseFrame
+    pub(crate) fn of(alloc: Global, first: &Record, second: &Record, last: &Record) -> BaseFrame
         requires { (frame : Frame) × AreOfFrame frame first.now second.now last.now × IsFrame frame × IsWritableFrame frame }
         ensures { (frame : Frame) → AreOfFrame frame first.now second.now last.now → result ≡ frame }
     {
