@@ -4,6 +4,7 @@ use Rattle.std.proofs.lemmas.List.{length-take, take-append-le, take_all}
 use Rattle.std.proofs.lemmas.List.Elements.{All-append, All-cons, All-drop, All-take}
 use Rattle.std.specs.FinMap.{get}
 use Rattle.ssim_records.specs.declared.record.Record.{Record}
+use Rattle.ssim_schedule.specs.BaseSeen.{BaseSeen}
 use Rattle.ssim_schedule.specs.Resolve.{IsRefusedIn, ResolvesIn}
 use Rattle.ssim_schedule.specs.declared.resolving.ResolveFault.{ResolveFault}
 use Rattle.ssim_schedule.specs.declared.resolving.ResolveFault.TheVariants as resolve_fault
@@ -13,13 +14,15 @@ use Rattle.ssim_text.specs.Message.{MessageValue}
 use Rattle.ssim_text.specs.Spelling.{SpellsMessage}
 use Rattle.ssim_text.specs.declared.fault.TextFault.{TextFault}
 use Rattle.ssim_text.specs.declared.fault.TextFault.TheVariants as text_fault
+use Rattle.ssim_text.specs.declared.reference.Reference.{Reference}
 use Rattle.ssim_held.specs.Fault.{message_refused, text_refused}
-use Rattle.ssim_held.specs.Held.{DeskState, Says}
+use Rattle.ssim_held.specs.Held.{DeskState, Holds, Says}
 use Rattle.ssim_held.specs.Kept.{AreEntries, AreRising, DeskSeen, Entry, IsEntry, map_of, state_of}
 use Rattle.ssim_held.specs.Ordered.{Belongs}
 use Rattle.ssim_held.proofs.Entries.{map_of_with, not_held, rising_with}
 use Rattle.ssim_desk.specs.Desk.{IsReplayed}
-use Rattle.ssim_desk.specs.Private.{IsReplaced}
+use Rattle.ssim_desk.specs.Private.{IsOffer, IsReplaced}
+use Rattle.ssim_desk.specs.declared.offer.Offer.{Offer}
 use Rattle.ssim_desk.specs.Steps.{IsInConflict, IsKnown, IsNew, RefusesText}
 
 -- ---- messages that are replaced
@@ -57,6 +60,12 @@ replayed old new at first others place r absent =
 
 -- ---- a text
 
+-- the same offer, of the same messages
+pub offered : (base : BaseSeen) (text : List ℕ) (es fs : List Entry) (f g : Offer) → es ≡ fs → f ≡ g → IsOffer (record { base = base; held = map_of es }) es text f
+    → IsOffer (record { base = base; held = map_of fs }) fs text g
+offered base text es fs f g held is h =
+    subst (λ (x : Offer). IsOffer (record { base = base; held = map_of fs }) fs text x) is (subst (λ (xs : List Entry). IsOffer (record { base = base; held = map_of xs }) xs text f) held h)
+
 pub no_text : (desk : DeskState) (text : List ℕ) (fault : TextFault) → NoMessage text fault → IsRefusal text fault → RefusesText desk text (text_refused fault)
 no_text desk text text_fault.Memory none place = tt
 no_text desk text (text_fault.Refused fault line) none place = (none, place)
@@ -75,11 +84,15 @@ module _ (desk : DeskState) (text : List ℕ) (m : MessageValue) (resolved : Res
   pub is_entry : IsEntry desk.base.records (record { reference = resolved.reference; message = m; dates = resolved.subs.items })
   is_entry = record { text = resolved; resolves = resolves; referred = refl; dated = refl }
 
-  pub is_known : get desk.held resolved.reference ≡ Some m → IsKnown desk text
-  is_known holds = record { reference = resolved.reference; message = m; says = says; holds = holds }
+  pub is_known : get desk.held resolved.reference ≡ Some m → (message : MessageValue) × Says desk.base text resolved.reference message × (get desk.held resolved.reference ≡ Some message)
+  is_known holds = (m, says, holds)
 
   pub in_conflict : (other : MessageValue) → get desk.held resolved.reference ≡ Some other → other ≢ m → IsInConflict desk text resolved.reference
   in_conflict other holds apart = record { message = m; says = says; other = other; holds = holds; apart = apart }
+
+-- a message that is held already
+pub known : (desk : DeskState) (text : List ℕ) (reference : Reference) → (message : MessageValue) × Says desk.base text reference message × Holds desk reference message → IsKnown desk text
+known desk text reference k = record { reference = reference; message = k.0; says = k.1; holds = k.2 }
 
 -- a message is new where it has a gap, and is held when it is put there
 pub is_new : (desk : DeskSeen) (text : List ℕ) (e : Entry) (at : ℕ) (held : List Entry) → AreRising desk.held → Belongs desk.held e.reference at at → Says desk.base text e.reference e.message

@@ -17,5 +17,6 @@ pub mod SomeFlights
 pub mod Meant
 pub mod Exports
 pub mod Brought
+pub mod DeskFiles
 pub mod Lines
 pub mod Examples

@@ -9,7 +9,7 @@ use Rattle.ssim_records.specs.Header.{HeaderFields}
 use Rattle.ssim_records.specs.Trailer.{TrailerFields}
 use Rattle.ssim_records.specs.declared.record.Record.{Record}
 use Rattle.ssim_records.specs.declared.record.Record.TheVariants.{Header, Carrier, Trailer}
-use Rattle.ssim_schedule.proofs.BaseFrame.{first-is, last-is, second-is}
+use Rattle.ssim_schedule.proofs.FrameLemmas.{first-is, last-is, second-is}
 use Rattle.ssim_schedule.specs.BaseSeen.{BaseSeen}
 use Rattle.ssim_schedule.specs.Export.{Frame, chapter7}
 use Rattle.ssim_schedule.specs.ReadBack.{BasesExport, HasFrame}

@@ -19,6 +19,11 @@ take_answer (Ok took.Taken) = Taken
 take_answer (Ok took.Repeated) = Repeated
 take_answer (Err fault) = Refused fault
 
+-- the same where the reference of the message is returned, too
+abbrev pub took_answer : Result (Took × Reference) DeskFault → Answer
+took_answer (Ok taken) = take_answer (Ok taken.0)
+took_answer (Err fault) = Refused fault
+
 -- the answer that the result of `merge` is
 abbrev pub merge_answer : Result (Unit {0}) DeskFault → Answer
 merge_answer (Ok done) = Merged

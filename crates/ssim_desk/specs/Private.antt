@@ -4,16 +4,17 @@ use Rattle.std.specs.List.{flat_map, list_any}
 use Rattle.ssim_periods.specs.Days.{each_day}
 use Rattle.ssim_schedule.specs.{BaseSeen.BaseSeen, Schedule.{Table, cuts_in, days_in}, Stations.Row, declared.finding.Finding.Finding}
 use Rattle.ssim_schedule.specs.declared.resolved.ResolvedSub.{ResolvedSub}
+use Rattle.ssim_text.specs.Message.{MessageValue}
 use Rattle.ssim_values.specs.Flight.{FlightNumber, IsFlight}
-use Rattle.ssim_held.specs.{Held.{DeskState, Says}, Kept.{DeskSeen, Entry, IsEntry}, Ordered.Belongs}
-use Rattle.ssim_desk.specs.{Desk.{AreDeskPoints, is_row_point, is_sub_point}, Meaning.{Timetable, found_by, left_by}, Steps.IsKnown}
+use Rattle.ssim_held.specs.{Held.{DeskState, Holds, Says}, Kept.{DeskSeen, Entry, IsEntry}, Ordered.Belongs}
+use Rattle.ssim_desk.specs.{Desk.{AreDeskPoints, is_row_point, is_sub_point}, Meaning.{Timetable, found_by, left_by}}
 use Rattle.ssim_desk.specs.{declared.offer.Offer.Offer, declared.offer.Offer.TheVariants.{Known, New}, declared.tail.Tail.Tail}
 
 -- ---- a text that is offered
 
 -- what a text is to messages that are held: its message is held; or it is new, and belongs at a position
 abbrev pub IsOffer : DeskState → List Entry → List ℕ → Offer → Type 0
-IsOffer desk held text Known = IsKnown desk text
+IsOffer desk held text (Known reference) = (message : MessageValue) × Says desk.base text reference message × Holds desk reference message
 IsOffer desk held text (New at e) = Belongs held e.reference at at × IsEntry desk.base.records e × Says desk.base text e.reference e.message
 
 -- ---- a trail: the schedule after every 32 messages, the latest one, and what each message found

@@ -4,7 +4,7 @@ use Rattle.std.specs.FinMap.{get, insert}
 use Rattle.ssim_schedule.specs.{Resolve.IsRefusedIn, declared.resolving.ResolveFault.ResolveFault}
 use Rattle.ssim_text.specs.{Decoding.{IsRefusal, NoMessage}, Message.MessageValue, Spelling.SpellsMessage, declared.fault.TextFault.TextFault}
 use Rattle.ssim_text.specs.declared.reference.Reference.{Reference}
-use Rattle.ssim_held.specs.{Held.{Agree, DeskState, HeldMessages, Holds, IsLeastConflict, Says, no_desk, union}, Kept.DeskSeen}
+use Rattle.ssim_held.specs.{Held.{Agree, DeskState, HeldMessages, Holds, IsLeastConflict, Says, no_desk, union}}
 use Rattle.ssim_held.specs.declared.fault.DeskFault.{DeskFault}
 use Rattle.ssim_held.specs.declared.fault.DeskFault.TheVariants.{Memory, Text, Resolve, Conflict, OtherBase}
 use Rattle.ssim_desk.specs.{declared.steps.Answer.Answer, declared.steps.Answer.TheVariants.{Taken, Repeated, Merged, Refused}}
@@ -146,5 +146,5 @@ IsIdle d (step ∷ steps) (answer ∷ answers) = (is_change d step answer ≡ fa
 IsIdle _ _ _ = Unit {0}
 
 -- Then the desk with this number is what it was, with the count of messages that its latest change applied.
-abbrev pub LeavesIdle : List DeskSeen → List Step → List Answer → List DeskSeen → Type 0
+abbrev pub LeavesIdle : {X : Type 0} → List X → List Step → List Answer → List X → Type 0
 LeavesIdle old steps answers new = (d : ℕ) → IsIdle d steps answers → slice_get new d ≡ slice_get old d

@@ -18,12 +18,11 @@ ghost use Rattle.ssim_desk.specs.Meaning.{Finds, Means, Timetable, found_by};
 ghost use Rattle.ssim_desk.specs.Steps.{IsUnion, Merges, Takes};
 
 use crate::finding_line::{FindingLine, push_lines};
-use crate::holdings::Holdings;
-use crate::offer::{Offer, offer_of};
+use crate::offer::{Offer, offer_over};
 use crate::trail::Trail;
 use ssim_held::{DeskFault, Held, Opened, first_conflict, first_new, merged, put_desk, read_desk};
 use ssim_records::{Sink, Source};
-use ssim_schedule::{Base, ExportFault, PlacedLeg, WriteFault};
+use ssim_schedule::{Base, ExportFault, PlacedLeg, RecordsLeft, WriteFault};
 use ssim_values::{Day, Flight, Memory};
 use std::alloc::Global;
 use std::marker::Model;
@@ -90,14 +89,6 @@ impl Desk {
         Ok(desk)
     }
 
-    /// The desk that holds this. `applied` is then the number of messages.
-    pub fn of(alloc: Global, holdings: Holdings) -> Result<Desk, Memory>
-        ensures { IfOk result (λ desk. desk ≡ record holdings { applied = length holdings.held }) }
-    {
-        let (base, held) = holdings.into_parts()?;
-        Desk::with(alloc, base, held)
-    }
-
     /// The base from which the desk began. No call changes it.
     pub fn base(&self) -> &Base
         ensures { result.now ≡ self.now.base }
@@ -134,9 +125,9 @@ impl Desk {
         ensures err { OnErr result (self.new ≡ self.old) }
     {
         let alloc = self.trail.allocator();
-        let offered = offer_of(alloc, self.base(), self.held(), text)?;
+        let offered = offer_over(alloc, self.base().frame(), self.held(), text)?;
         match offered {
-            Offer::Known => Ok(Took::Repeated),
+            Offer::Known(_) => Ok(Took::Repeated),
             Offer::New(at, new) => {
                 self.insert(at, new)?;
                 Ok(Took::Taken)
@@ -229,7 +220,10 @@ impl Desk {
         ensures failures { CountsFault (W.failures out.old) (W.failures out.new) result }
         ensures device { W.device out.new ≡ W.device out.old }
     {
-        put_desk(out, self.base(), self.held())
+        let base = self.base();
+        let records = base.records();
+        let left = RecordsLeft::of(records);
+        put_desk(out, records.len(), left, base.rows(), self.held())
     }
 
     // A desk of a base and messages.

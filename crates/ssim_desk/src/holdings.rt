@@ -6,10 +6,13 @@ ghost use Rattle.ssim_schedule.specs.BaseSeen.{base_with};
 ghost use Rattle.ssim_schedule.specs.Plan.{ReadsBackBase, RefusesBase, WritesBase};
 ghost use Rattle.ssim_schedule.specs.Sinks.{CountsFault, TakesFront};
 ghost use Rattle.ssim_held.specs.File.{CanBeSaved, IsDeskFile, desk_file};
+ghost use Rattle.ssim_text.specs.Message.{MessageValue};
+ghost use Rattle.ssim_text.specs.declared.reference.Reference.{Reference};
+ghost use Rattle.ssim_held.specs.Held.{Says};
 ghost use Rattle.ssim_held.specs.Kept.{AreEntries, AreRising, IsEntry, map_of, state_of};
 ghost use Rattle.ssim_held.specs.Opening.{RefusesBytes};
 ghost use Rattle.ssim_held.specs.Ordered.{Belongs};
-ghost use Rattle.ssim_desk.specs.Desk.{days_of_desk, finding_lines, merge_answer, take_answer, timetable_of};
+ghost use Rattle.ssim_desk.specs.Desk.{days_of_desk, finding_lines, merge_answer, timetable_of, took_answer};
 ghost use Rattle.ssim_desk.specs.Meaning.{Finds, Means, Timetable, found_by};
 ghost use Rattle.ssim_desk.specs.Steps.{Merges, Takes};
 
@@ -18,11 +21,10 @@ use crate::finding_line::{FindingLine, push_lines};
 use crate::flights::{found_by, legs_after};
 use crate::offer::{Offer, offer_over};
 use crate::replay::act_in_order;
-use ssim_held::{
-    DeskFault, Held, Opened, first_conflict, merged, put_data_set, read_bytes, read_parts,
-};
+use ssim_held::{DeskFault, Held, Opened, first_conflict, merged, put_desk, read_parts};
 use ssim_records::{Parts, Sink};
-use ssim_schedule::{Base, DataSet, ExportFault, PlacedLeg, Stations, WriteFault};
+use ssim_schedule::{DataSet, ExportFault, PlacedLeg, Stations, WriteFault};
+use ssim_text::Reference;
 use ssim_values::{Day, Flight, Memory};
 use std::alloc::Global;
 use std::marker::Model;
@@ -64,20 +66,12 @@ impl Holdings {
         }
     }
 
-    /// Reads the bytes of a desk file, of version 2, or of version 1 without originators.
+    /// Reads the bytes of a desk file, of version 2, or of version 1 without originators. They are
+    /// freed as they are read.
     ///
-    /// The errors are 90, and 62 if the bytes are no desk file, with the number of bytes before the first invalid element.
-    pub fn open(alloc: Global, bytes: &[u8]) -> Result<Holdings, DeskFault>
-        ensures ok { IfOk result (λ holdings. IsDeskFile bytes.now holdings.base holdings.held) }
-        ensures applied { IfOk result (λ holdings. holdings.applied ≡ 0) }
-        ensures err { IfErr result (RefusesBytes bytes.now) }
-    {
-        let opened = read_bytes(alloc, bytes)?;
-        Ok(Holdings::of(alloc, opened))
-    }
-
-    /// The same of bytes in parts, which are freed as they are read.
-    pub fn open_parts(alloc: Global, parts: Parts) -> Result<Holdings, DeskFault>
+    /// The errors are 90, and 62 if the bytes are no desk file, with the number of bytes before the
+    /// first invalid element.
+    pub fn open(alloc: Global, parts: Parts) -> Result<Holdings, DeskFault>
         ensures ok { IfOk result (λ holdings. IsDeskFile parts holdings.base holdings.held) }
         ensures applied { IfOk result (λ holdings. holdings.applied ≡ 0) }
         ensures err { IfErr result (RefusesBytes parts) }
@@ -102,19 +96,22 @@ impl Holdings {
         &self.held
     }
 
-    /// Takes a text: holds its message if it is new. The answers and errors are those of `Desk::take`.
-    pub fn take(&mut self, text: &[u8]) -> Result<Took, DeskFault>
-        ensures takes { Takes (state_of self.old) text.now (take_answer result) (map_of self.new.held) }
+    /// Takes a text: holds its message if it is new. Returns the message's reference, too. The
+    /// errors are those of `Desk::take`.
+    pub fn take(&mut self, text: &[u8]) -> Result<(Took, Reference), DeskFault>
+        ensures takes { Takes (state_of self.old) text.now (took_answer result) (map_of self.new.held) }
+        ensures says { IfOk result (λ taken. (message : MessageValue) × Says self.old.base text.now taken.1 message) }
         ensures base { self.new.base ≡ self.old.base }
-        ensures repeated { result ≡ Ok Took.Repeated → self.new ≡ self.old }
+        ensures repeated { (reference : Reference) → result ≡ Ok (Took.Repeated, reference) → self.new ≡ self.old }
         ensures err { OnErr result (self.new ≡ self.old) }
     {
-        let offered = offer_over(self.alloc, &self.data_set, &self.held, text)?;
+        let offered = offer_over(self.alloc, self.data_set.frame(), &self.held, text)?;
         match offered {
-            Offer::Known => Ok(Took::Repeated),
+            Offer::Known(reference) => Ok((Took::Repeated, reference)),
             Offer::New(at, new) => {
+                let reference = new.reference();
                 self.insert(at, new)?;
-                Ok(Took::Taken)
+                Ok((Took::Taken, reference))
             }
         }
     }
@@ -150,7 +147,13 @@ impl Holdings {
         ensures failures { CountsFault (W.failures out.old) (W.failures out.new) result }
         ensures device { W.device out.new ≡ W.device out.old }
     {
-        put_data_set(out, &self.data_set, self.stations.rows(), &self.held)
+        put_desk(
+            out,
+            self.data_set.len(),
+            self.data_set.records(),
+            self.stations.rows(),
+            &self.held,
+        )
     }
 
     /// The legs of a flight on a date of origin, by leg sequence; none if it does not fly. Reads all records of the base.
@@ -199,20 +202,16 @@ impl Holdings {
         schedule.export_in(&frame, out)
     }
 
-    /// The base, made in one list, and the messages.
-    pub(crate) fn into_parts(self) -> Result<(Base, Vec<Held>), Memory>
-        ensures base { IfOk result (λ parts. parts.0 ≡ self.base) }
-        ensures held { IfOk result (λ parts. parts.1.items ≡ self.held) }
-        ensures kept { AreEntries self.base.records self.held }
+    /// An equal one. The messages share their contents.
+    pub fn copy(&self) -> Result<Holdings, Memory>
+        ensures { IfOk result (λ copy. copy ≡ self.now) }
     {
-        let Holdings {
-            data_set,
-            stations,
-            held,
-            ..
-        } = self;
-        let base = data_set.into_base(stations)?;
-        Ok((base, held))
+        Ok(Holdings {
+            data_set: self.data_set.copy()?,
+            stations: self.stations.copy(self.alloc)?,
+            held: copies(self.alloc, &self.held)?,
+            alloc: self.alloc,
+        })
     }
 
     // What a desk file has.
@@ -251,4 +250,15 @@ fn same_base(mine: &DataSet, rows: &Stations, theirs: &DataSet, their_rows: &Sta
     ensures { IsTrue result ↔ (base_with mine.now rows.now ≡ base_with theirs.now their_rows.now) }
 {
     mine.same(theirs) && rows.same(their_rows)
+}
+
+// Equal messages, which share their contents.
+fn copies(alloc: Global, messages: &[Held]) -> Result<Vec<Held>, Memory>
+    ensures { IfOk result (λ copies. copies.items ≡ messages.now) }
+{
+    let mut copies = Vec::with_capacity(alloc, messages.len())?;
+    for held in messages {
+        copies.push(held.copy()?)?;
+    }
+    Ok(copies)
 }

@@ -6,7 +6,8 @@
 //!   for the export.
 //! - [`Held`]: a message that a desk holds, with its reference and its canonical text.
 //! - [`FindingLine`]: what a sub-message found on the dates of its period.
-//! - [`run_steps`]: tries [`Step`]s on several desks, each a text or a merge, and returns an [`Answer`] for each.
+//! - [`run_steps`]: tries [`Step`]s on several desks, each a text or a merge, and returns an [`Answer`] for each. A [`Holder`] is what it
+//!   runs on: desks, or holdings.
 //! - `Desk::save`: writes the desk file, which has the base and the messages that are held; or [`WriteFault`], 52.
 //! - [`laws`]: any two desks that began from the same bytes and that the same messages reached agree, whatever the order, the grouping
 //!   and the repeats; and merging is associative, commutative and idempotent.
@@ -20,6 +21,7 @@
 mod desk;
 mod finding_line;
 mod flights;
+mod holder;
 mod holdings;
 pub mod laws;
 mod offer;
@@ -30,6 +32,7 @@ mod trail;
 
 pub use desk::{Desk, Took};
 pub use finding_line::FindingLine;
+pub use holder::Holder;
 pub use holdings::Holdings;
 pub use ssim_held::{DeskFault, Held, WriteFault};
 pub use steps::{Answer, Step, run_steps};

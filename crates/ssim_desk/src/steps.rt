@@ -6,7 +6,8 @@ ghost use Rattle.ssim_held.specs.Kept.{map_of, state_of};
 ghost use Rattle.ssim_desk.specs.Agreement.{DesksAgree};
 ghost use Rattle.ssim_desk.specs.Steps.{Acts, IsInRange, IsOwnMerge, LeavesIdle, Merges, MergesAt, Runs, Takes, is_change};
 
-use crate::desk::{Desk, Took};
+use crate::desk::Took;
+use crate::holder::Holder;
 use crate::laws::any_two_desks_agree;
 use ssim_held::DeskFault;
 use ssim_values::Memory;
@@ -35,9 +36,9 @@ pub enum Answer {
 }
 
 // The desk takes the text.
-fn take_step(desk: &mut Desk, text: &[u8]) -> Answer
-    ensures takes { Takes (state_of desk.old) text.now result (map_of desk.new.held) }
-    ensures base { desk.new.base ≡ desk.old.base }
+fn take_step<D: Holder>(desk: &mut D, text: &[u8]) -> Answer
+    ensures takes { Takes (state_of (D.seen desk.old)) text.now result (map_of (D.seen desk.new).held) }
+    ensures base { (D.seen desk.new).base ≡ (D.seen desk.old).base }
     ensures same { result ≢ Answer.Taken → desk.new ≡ desk.old }
 {
     match desk.take(text) {
@@ -48,9 +49,9 @@ fn take_step(desk: &mut Desk, text: &[u8]) -> Answer
 }
 
 // The desk takes over what the other holds.
-fn merge_step(desk: &mut Desk, other: &Desk) -> Answer
-    ensures merges { Merges (state_of desk.old) (state_of other.now) result (map_of desk.new.held) }
-    ensures base { desk.new.base ≡ desk.old.base }
+fn merge_step<D: Holder>(desk: &mut D, other: &D) -> Answer
+    ensures merges { Merges (state_of (D.seen desk.old)) (state_of (D.seen other.now)) result (map_of (D.seen desk.new).held) }
+    ensures base { (D.seen desk.new).base ≡ (D.seen desk.old).base }
     ensures same { result ≢ Answer.Merged → desk.new ≡ desk.old }
 {
     match desk.merge(other) {
@@ -60,13 +61,13 @@ fn merge_step(desk: &mut Desk, other: &Desk) -> Answer
 }
 
 // One desk takes over what another holds.
-fn merge_at(desks: &mut [Desk], into: usize, from: usize) -> Answer
+fn merge_at<D: Holder>(desks: &mut [D], into: usize, from: usize) -> Answer
     requires into { into < length desks.old }
     requires from { from < length desks.old }
     requires two { into ≢ from }
     ensures others { (d : ℕ) → d ≢ into → slice_get desks.new d ≡ slice_get desks.old d }
     ensures same { result ≢ Answer.Merged → desks.new ≡ desks.old }
-    ensures merges { MergesAt (map state_of desks.old) into from result (map state_of desks.new) }
+    ensures merges { MergesAt (map (λ d. state_of (D.seen d)) desks.old) into from result (map (λ d. state_of (D.seen d)) desks.new) }
 {
     if into < from {
         let (front, back) = desks.split_at_mut(from);
@@ -77,9 +78,9 @@ fn merge_at(desks: &mut [Desk], into: usize, from: usize) -> Answer
     }
 }
 
-fn run_step(desks: &mut [Desk], step: &Step) -> Answer
+fn run_step<D: Holder>(desks: &mut [D], step: &Step) -> Answer
     requires { IsInRange (length desks.old) step.now }
-    ensures acts { Acts (map state_of desks.old) step.now result (map state_of desks.new) }
+    ensures acts { Acts (map (λ d. state_of (D.seen d)) desks.old) step.now result (map (λ d. state_of (D.seen d)) desks.new) }
     ensures own { IsOwnMerge step.now → desks.new ≡ desks.old }
     ensures idle { (d : ℕ) → is_change d step.now result ≡ false → slice_get desks.new d ≡ slice_get desks.old d }
 {
@@ -96,13 +97,12 @@ fn run_step(desks: &mut [Desk], step: &Step) -> Answer
 }
 
 // Each desk has a base that was read, and holds messages that resolve in it.
-fn each_is_desk(desks: &[Desk])
-    ensures { All IsDesk (map state_of desks.now) }
+fn each_is_desk<D: Holder>(desks: &[D])
+    ensures { All IsDesk (map (λ d. state_of (D.seen d)) desks.now) }
 {
     for desk in desks {
-        // No effect at run time. The proof reads from these uses what is always true of a base and of the messages of a desk.
-        let _ = desk.base().records();
-        let _ = desk.held();
+        // No effect at run time. The proof cites what this call ensures.
+        desk.is_desk();
     }
 }
 
@@ -110,10 +110,14 @@ fn each_is_desk(desks: &[Desk])
 ///
 /// Out of memory is an error only if the list of answers itself cannot be allocated; then no step is tried. A step that runs out of
 /// memory is refused with 90 and changes nothing.
-pub fn run_steps(alloc: Global, desks: &mut [Desk], steps: &[Step]) -> Result<Vec<Answer>, Memory>
+pub fn run_steps<D: Holder>(
+    alloc: Global,
+    desks: &mut [D],
+    steps: &[Step],
+) -> Result<Vec<Answer>, Memory>
     requires { All (IsInRange (length desks.old)) steps.now }
     ensures count { IfOk result (λ answers. length answers.items ≡ length steps.now) }
-    ensures runs { IfOk result (λ answers. Runs (map state_of desks.old) steps.now answers.items (map state_of desks.new)) }
+    ensures runs { IfOk result (λ answers. Runs (map (λ d. state_of (D.seen d)) desks.old) steps.now answers.items (map (λ d. state_of (D.seen d)) desks.new)) }
     ensures own { All IsOwnMerge steps.now → desks.new ≡ desks.old }
 
     // A desk of whose steps none was answered `Taken` or `Merged` is what it was, `applied` included.
@@ -121,10 +125,10 @@ pub fn run_steps(alloc: Global, desks: &mut [Desk], steps: &[Step]) -> Result<Ve
 
     // Any two of these desks that began alike, and that the same messages reached, have afterwards the same base, messages,
     // itineraries and export.
-    ensures agree { IfOk result (λ answers. DesksAgree (map state_of desks.old) steps.now answers.items (map state_of desks.new)) }
+    ensures agree { IfOk result (λ answers. DesksAgree (map (λ d. state_of (D.seen d)) desks.old) steps.now answers.items (map (λ d. state_of (D.seen d)) desks.new)) }
 
     // With `runs` this makes a run, so `any_two_desks_agree` speaks of the desks of two calls.
-    ensures desks { All IsDesk (map state_of desks.old) }
+    ensures desks { All IsDesk (map (λ d. state_of (D.seen d)) desks.old) }
     ensures err { OnErr result (desks.new ≡ desks.old) }
 {
     // No effect at run time. The proof cites what these calls ensure.

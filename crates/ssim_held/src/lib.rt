@@ -3,9 +3,8 @@
 //! - [`Held`]: a message that is held, with its reference, its canonical text and the full dates of its sub-messages.
 //! - [`look`]: looks a message up in a list in order of reference; [`Found`]: what is held under its reference.
 //! - [`first_conflict`], [`first_new`], [`merged`]: two such lists, compared and put together.
-//! - [`put_desk`], [`put_data_set`]: write the desk file of a base and the messages that are held over it; or [`WriteFault`], 52.
-//! - [`read_parts`], [`read_bytes`], [`read_desk`]: what the desk file has whose bytes come in parts, in one list or from a reader
-//!   ([`Opened`]); or [`DeskFault`].
+//! - [`put_desk`]: writes the desk file of a base and the messages that are held over it; or [`WriteFault`], 52.
+//! - [`read_parts`], [`read_desk`]: what the desk file has whose bytes come in parts or from a reader ([`Opened`]); or [`DeskFault`].
 //! - [`laws`]: no two desks have one file, and what was opened is saved as it was.
 //!
 //! The definitions that the contracts cite are in `specs/`: `Held` (messages by reference, and what a desk is), `Kept` (the entries of a
@@ -28,7 +27,7 @@ mod union;
 pub use fault::DeskFault;
 pub use held::Held;
 pub use lookup::{Found, look};
-pub use opening::{Opened, read_bytes, read_desk, read_parts};
-pub use saving::{put_data_set, put_desk};
+pub use opening::{Opened, read_desk, read_parts};
+pub use saving::put_desk;
 pub use ssim_schedule::WriteFault;
 pub use union::{first_conflict, first_new, merged};

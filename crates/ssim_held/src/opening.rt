@@ -112,17 +112,6 @@ fn read_one(alloc: Global, bytes: Vec<u8>) -> Result<Opened, DeskFault>
     }
 }
 
-/// The same of a copy of the bytes.
-pub fn read_bytes(alloc: Global, bytes: &[u8]) -> Result<Opened, DeskFault>
-    ensures ok { IfOk result (λ desk. IsDeskFile bytes.now (base_with desk.data_set desk.stations) desk.held.items) }
-    ensures err { IfErr result (RefusesBytes bytes.now) }
-{
-    match Vec::from_slice(alloc, bytes) {
-        Ok(copy) => read_one(alloc, copy),
-        Err(_) => Err(DeskFault::Memory),
-    }
-}
-
 /// Reads all bytes of a reader, and then the base and the messages whose desk file they are.
 pub fn read_desk<R: Source>(alloc: Global, reader: &mut R, limit: u64) -> Result<Opened, DeskFault>
     ensures ok { IfOk result (λ desk. Opens limit (R.left reader.old) (base_with desk.data_set desk.stations) desk.held.items) }

@@ -4,7 +4,6 @@ ghost use Rattle.std.specs.Prelude.{◌≡◌, ◌++◌, ◌∷◌, [], decimal,
 ghost use Rattle.std.specs.Io.KnownBytes.{Appends};
 ghost use Rattle.std.specs.List.{All};
 ghost use Rattle.ssim_schedule.specs.BaseSeen.{base_with};
-ghost use Rattle.ssim_schedule.specs.SavedBase.{IsBaseRecords};
 ghost use Rattle.ssim_schedule.specs.Sinks.{CountsFault, TakesFront, TakesUpTo};
 ghost use Rattle.ssim_held.specs.File.{IsRow, IsSpelled, desk_file, records_part, rows_part, text_element, texts_part};
 
@@ -12,50 +11,11 @@ use crate::held::Held;
 use crate::row_line::write_row;
 use itoa::Buffer;
 use ssim_records::Sink;
-use ssim_schedule::{
-    Base, Block, DataSet, RecordsLeft, StationRow, WriteFault, flush, put_bytes, put_record,
-};
+use ssim_schedule::{Block, RecordsLeft, StationRow, WriteFault, flush, put_bytes, put_record};
 
-/// Puts the desk file of a base and the messages that are held.
-pub fn put_desk<W: Sink>(out: &mut W, base: &Base, held: &[Held]) -> Result<(), WriteFault>
-    ensures ok { OnOk result (Appends (W.taken out.old) (W.taken out.new) (desk_file base.now held.now)) }
-    ensures is_base { OnOk result (IsBaseRecords base.now.records) }
-    ensures rows { OnOk result (All IsRow base.now.rows) }
-    ensures spelled { OnOk result (All IsSpelled held.now) }
-    ensures err { OnErr result (TakesFront (desk_file base.now held.now) (W.taken out.old) (W.taken out.new)) }
-    ensures failures { CountsFault (W.failures out.old) (W.failures out.new) result }
-    ensures device { W.device out.new ≡ W.device out.old }
-{
-    let records = base.records();
-    put_file(
-        out,
-        records.len(),
-        RecordsLeft::of(records),
-        base.rows(),
-        held,
-    )
-}
-
-/// The same of a base whose records are a data set, with these rows.
-pub fn put_data_set<W: Sink>(
-    out: &mut W,
-    data_set: &DataSet,
-    rows: &[StationRow],
-    held: &[Held],
-) -> Result<(), WriteFault>
-    ensures ok { OnOk result (Appends (W.taken out.old) (W.taken out.new) (desk_file (base_with data_set.now rows.now) held.now)) }
-    ensures is_base { OnOk result (IsBaseRecords data_set.now) }
-    ensures rows { OnOk result (All IsRow rows.now) }
-    ensures spelled { OnOk result (All IsSpelled held.now) }
-    ensures err { OnErr result (TakesFront (desk_file (base_with data_set.now rows.now) held.now) (W.taken out.old) (W.taken out.new)) }
-    ensures failures { CountsFault (W.failures out.old) (W.failures out.new) result }
-    ensures device { W.device out.new ≡ W.device out.old }
-{
-    put_file(out, data_set.len(), data_set.records(), rows, held)
-}
-
-// Puts the desk file of so many records, rows and messages that are held.
-fn put_file<W: Sink>(
+/// Puts the desk file of the base with these records, `count` in number, and these rows, and of the
+/// messages that are held.
+pub fn put_desk<W: Sink>(
     out: &mut W,
     count: usize,
     records: RecordsLeft<'_>,

@@ -13,7 +13,7 @@ use Rattle.ssim_schedule.specs.ReadBack.{HasFrame, ReadsBackFrom, kept_frame}
 use Rattle.ssim_schedule.specs.Reading.{FailedReader, IsReadAs, IsReadBack}
 use Rattle.ssim_schedule.specs.Timetable.{Days, days_of}
 use Rattle.ssim_schedule.specs.declared.note.Note.{Note}
-use Rattle.ssim_schedule.proofs.BaseFrame.{first-is, last-is, second-is}
+use Rattle.ssim_schedule.proofs.FrameLemmas.{first-is, last-is, second-is}
 use Rattle.ssim_program.specs.Again.{GrowsByItself, ReadsAsItself, TidiesOnce}
 use Rattle.ssim_program.specs.Made.{IsExportOf, file_limit}
 

@@ -5,9 +5,8 @@ use Rattle.ssim_records.specs.declared.fault.RecordFault.{RecordFault}
 use Rattle.ssim_records.specs.declared.fault.RecordFault.TheVariants.{Short, BadType, BadColumn, ReadFault, ReaderNeverEnds}
 use Rattle.ssim_records.specs.declared.record.Record.{Record}
 use Rattle.ssim_schedule.specs.Base.{Ending, Done, Broken, at_record, first_refusal, kept, missing, refusal_at, unless_refused}
-use Rattle.ssim_schedule.specs.Reading.{Answers, AnswersRecords, FailsAs, Gives, IsReadAs}
+use Rattle.ssim_schedule.specs.Reading.{AnswersRecords, FailsAs, Gives, IsReadAs}
 use Rattle.ssim_schedule.specs.Summary.{Sums}
-use Rattle.ssim_schedule.specs.declared.base.BaseRead.{BaseRead}
 use Rattle.ssim_schedule.specs.declared.fault.BaseFault.{BaseFault}
 use Rattle.ssim_schedule.specs.declared.fault.BaseFault.TheVariants as fault
 use Rattle.ssim_schedule.specs.declared.fault.BaseFault.TheVariants.{Read, Refused}
@@ -57,13 +56,7 @@ of_fault (BadColumn n column) limit bytes within read failed = tt
 of_fault (ReadFault n) limit bytes within read failed = absurd (omega (arith, failed))
 of_fault (ReaderNeverEnds n) limit bytes within read failed = absurd (never_ends limit n bytes within read)
 
-pub of_bytes : (r : Result BaseRead BaseFault) (limit : ℕ) (bytes : List ℕ) → length bytes ≤ limit → Answers r (IsReadAs limit bytes) → IfErr r (FailsAs 0 0) → IfErr r IsOfBytes
-of_bytes (Ok x) limit bytes within read failed = tt
-of_bytes (Err fault.Memory) limit bytes within read failed = tt
-of_bytes (Err (Read f)) limit bytes within read failed = of_fault f limit bytes within read failed
-of_bytes (Err (Refused n why)) limit bytes within read failed = tt
-
--- and so are its records alone
+-- so are the records of a data set within the limit
 pub records_of_bytes : (r : Result (List Record) BaseFault) (limit : ℕ) (bytes : List ℕ) → length bytes ≤ limit → AnswersRecords r (IsReadAs limit bytes) → IfErr r (FailsAs 0 0) → IfErr r IsOfBytes
 records_of_bytes (Ok x) limit bytes within read failed = tt
 records_of_bytes (Err fault.Memory) limit bytes within read failed = tt

@@ -2,7 +2,7 @@
 
 ghost use Rattle.std.specs.Prelude.{◌≡◌, ◌≤◌, List, IfErr, IfOk, Ok, Some, length};
 ghost use Rattle.ssim_schedule.specs.BaseSeen.{base_with};
-ghost use Rattle.ssim_schedule.specs.Reading.{Answers, AnswersRecords, IsReadAs};
+ghost use Rattle.ssim_schedule.specs.Reading.{AnswersRecords, IsReadAs};
 ghost use Rattle.ssim_schedule.specs.Stations.{Row};
 ghost use Rattle.ssim_schedule.specs.declared.note.Note.{Note};
 ghost use Rattle.ssim_schedule.specs.Summary.{Sums};
@@ -11,7 +11,7 @@ ghost use Rattle.ssim_program.specs.Made.{HasFile, IsOfBytes, ReadsBase, ReadsFi
 use crate::refusal::Refusal;
 use crate::store::{Store, StoreFault};
 use ssim_records::Parts;
-use ssim_schedule::{Base, BaseFault, BaseRead, DataSet, Stations, Summary};
+use ssim_schedule::{BaseFault, DataSet, Stations, Summary};
 use std::alloc::Global;
 
 /// The most bytes that a file may have.
@@ -87,7 +87,17 @@ pub(crate) fn load_summary<S: Store>(
     }
 }
 
-/// Reads what a data set has.
+/// Reads what the bytes of a data set have.
+pub(crate) fn sum_bytes(alloc: Global, bytes: &[u8]) -> Result<Summary, BaseFault>
+    requires { length bytes.now ≤ file_limit }
+    ensures sums { Sums file_limit (Some bytes.now) result }
+    ensures whole { IfErr result IsOfBytes }
+{
+    let mut left = bytes;
+    Summary::read(alloc, &mut left, LIMIT)
+}
+
+/// Reads what a data set in parts has.
 fn sum(alloc: Global, parts: Parts) -> Result<Summary, BaseFault>
     requires { length parts ≤ file_limit }
     ensures sums { Sums file_limit (Some parts) result }
@@ -95,19 +105,6 @@ fn sum(alloc: Global, parts: Parts) -> Result<Summary, BaseFault>
 {
     let mut left = parts;
     Summary::read(alloc, &mut left, LIMIT)
-}
-
-/// Reads the bytes of a data set with an empty station table.
-pub(crate) fn read(alloc: Global, bytes: &[u8]) -> Result<BaseRead, BaseFault>
-    requires { length bytes.now ≤ file_limit }
-    ensures read { Answers result (IsReadAs file_limit bytes.now) }
-    ensures whole { IfErr result IsOfBytes }
-{
-    let Ok(stations) = Stations::read(alloc, b"") else {
-        return Err(BaseFault::Memory);
-    };
-    let mut left = bytes;
-    Base::read(alloc, &mut left, stations, LIMIT)
 }
 
 /// Reads a data set in parts, to be exported.

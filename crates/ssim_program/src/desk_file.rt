@@ -22,7 +22,7 @@ pub(crate) fn open_holdings<S: Store>(
     ensures same { S.files store.new ≡ S.files store.old }
 {
     let parts = load_parts(alloc, name, store)?;
-    match Holdings::open_parts(alloc, parts) {
+    match Holdings::open(alloc, parts) {
         Ok(holdings) => Ok(holdings),
         Err(fault) => Err(Refusal::from(fault)),
     }

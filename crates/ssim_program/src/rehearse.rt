@@ -15,6 +15,7 @@ use crate::rehearse::line::bytes_of;
 use crate::rehearse::lines::rehearsal_of;
 use crate::rehearse::texts::load_steps;
 use crate::store::Store;
+use ssim_desk::Holdings;
 use std::alloc::Global;
 
 /// Runs the script in a file on desks over the base of a data set and a station table: a line for each step, a line for each desk, and
@@ -34,9 +35,9 @@ pub(crate) fn rehearse<S: Store>(
         (S.files store.old) (S.files store.new) result }
 {
     let (data_set, stations) = load_base(alloc, dataset, stations, store)?;
-    let base = data_set.into_base(stations)?;
     let (count, steps) = load_steps(alloc, script, store)?;
-    let lines = rehearsal_of(alloc, &base, count, &steps)?;
+    let desk = Holdings::start(alloc, data_set, stations);
+    let lines = rehearsal_of(alloc, &desk, count, &steps)?;
     let bytes = bytes_of(alloc, &lines)?;
     Ok(bytes)
 }

@@ -1,10 +1,6 @@
 //! The command `take`: a desk takes texts, one after another.
 
-ghost use Rattle.std.specs.Prelude.{◌≡◌, List, IfErr, IfOk, IfSome, map};
-ghost use Rattle.ssim_schedule.specs.BaseSeen.{base_with};
-ghost use Rattle.ssim_schedule.specs.Stations.{Row};
-ghost use Rattle.ssim_text.specs.Message.{MessageValue};
-ghost use Rattle.ssim_held.specs.Held.{Says};
+ghost use Rattle.std.specs.Prelude.{◌≡◌, IfErr, IfOk, map};
 ghost use Rattle.ssim_held.specs.Kept.{state_of};
 ghost use Rattle.ssim_desk.specs.Steps.{RefusesText};
 ghost use Rattle.ssim_program.specs.Desks.{IsTaken, PrintsTexts, TakesOrRefuses, took_printed};
@@ -18,8 +14,7 @@ use crate::printer::{Printer, print_all};
 use crate::refusal::Refusal;
 use crate::store::Store;
 use ssim_desk::{DeskFault, Holdings, Took};
-use ssim_schedule::DataSet;
-use ssim_text::{Reference, decode};
+use ssim_text::Reference;
 use std::alloc::Global;
 use std::io::Write;
 
@@ -75,35 +70,17 @@ fn take_text<S: Store>(
     ensures same { S.files store.new ≡ S.files store.old }
 {
     let text = load_file(alloc, name, store)?;
-    let (took, reference) = take_one(alloc, desk, &text)?;
+    let (took, reference) = take_one(desk, &text)?;
     let line = line_of(alloc, &printed(took, reference))?;
     Ok(line)
 }
 
 /// Takes a text. Returns what became of it, with the reference of its message.
-fn take_one(alloc: Global, desk: &mut Holdings, text: &[u8]) -> Result<(Took, Reference), DeskFault>
+fn take_one(desk: &mut Holdings, text: &[u8]) -> Result<(Took, Reference), DeskFault>
     ensures done { IfOk result (λ r. IsTaken desk.old text.now r.0 r.1 desk.new) }
     ensures refused { IfErr result (RefusesText (state_of desk.old) text.now) }
 {
-    let reference = reference_in(alloc, desk.data_set(), text);
-    let took = desk.take(text)?;
-    match reference {
-        Some(reference) => Ok((took, reference)),
-        None => Err(DeskFault::Memory),
-    }
-}
-
-/// The reference of the message that the text spells; none if it spells no message with a reference, or memory ran out.
-fn reference_in(alloc: Global, data_set: &DataSet, text: &[u8]) -> Option<Reference>
-    ensures { (rows : List Row) → IfSome result (λ reference. (message : MessageValue) × Says (base_with data_set.now rows) text.now reference message) }
-{
-    let Ok(message) = decode(alloc, text) else {
-        return None;
-    };
-    match data_set.resolve(&message) {
-        Ok(resolved) => Some(resolved.reference),
-        Err(_) => None,
-    }
+    desk.take(text)
 }
 
 /// What became of a text, as it is printed.

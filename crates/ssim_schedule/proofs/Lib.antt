@@ -31,9 +31,11 @@ pub mod DateLemmas
 pub mod LegSequences
 pub mod LegTables
 pub mod KeptLemmas
+mod NotedReads
+mod RecordPieces
 pub mod ReadingBack
 pub mod ReadingLemmas
-pub mod BaseFrame
+pub mod FrameLemmas
 pub mod SavedBases
 pub mod SavedLines
 pub mod ReadBackBy

@@ -20,7 +20,7 @@ use Rattle.ssim_schedule.specs.SavedBase.{IsBare, IsBaseRecords, IsOfRecords, Sa
 use Rattle.ssim_schedule.specs.Timetable.{period_of}
 use Rattle.ssim_schedule.specs.declared.fault.BaseRefusal.{BaseRefusal}
 use Rattle.ssim_schedule.specs.declared.fault.BaseRefusal.TheVariants as refused
-use Rattle.ssim_schedule.proofs.BaseFrame.{framed}
+use Rattle.ssim_schedule.proofs.FrameLemmas.{framed}
 use Rattle.ssim_schedule.proofs.Bases.{each-second, from-ok, or_else-none, refuse_if-none, stood}
 use Rattle.ssim_schedule.proofs.Lines.{at-among, each-spells, among-records, lines-records, records_at}
 use Rattle.ssim_schedule.proofs.Stands.{StandsTo, not_refused}

@@ -6,6 +6,7 @@ use Rattle.ssim_records.specs.Record.{IsRecord}
 use Rattle.ssim_records.specs.declared.record.Record.{Record}
 use Rattle.ssim_records.specs.declared.record.Record.TheVariants.{Header, Carrier, Leg, Segment, Trailer}
 use Rattle.ssim_schedule.specs.Base.{Ending, data_set}
+use Rattle.ssim_schedule.specs.Export.{Frame}
 use Rattle.ssim_schedule.specs.ReadBack.{Rise}
 use Rattle.ssim_schedule.specs.Stations.{Row}
 use Rattle.ssim_schedule.specs.Timetable.{same_flight}
@@ -27,6 +28,10 @@ pub record WasRead (base : List Record) : Type 0 where
   pub notes : List Note
   pub spelt : All (λ r. IsRecord r.1) records
   pub read : data_set ending records ≡ Ok (base, notes)
+
+-- the three records are the header, the carrier record and the trailer of the frame
+abbrev pub AreOfFrame : Frame → Record → Record → Record → Type 0
+AreOfFrame frame first second last = (first ≡ Header frame.header) × (second ≡ Carrier frame.carrier) × (last ≡ Trailer frame.trailer)
 
 -- whether a record is a leg of the flight
 abbrev pub is_leg_of : FlightNumber → Record → Bool

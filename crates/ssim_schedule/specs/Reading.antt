@@ -89,6 +89,13 @@ Answers (Err fault.Memory) P = Unit {0}
 Answers (Err (fault.Read f)) P = P (Err (fault.Read f))
 Answers (Err (fault.Refused number refusal)) P = P (Err (fault.Refused number refusal))
 
+-- the same of any value that has the records and the notes
+abbrev pub AnswersAs : {X : Type 0} → (X → List Record × List Note) → Result X BaseFault → (Outcome → Type 0) → Type 0
+AnswersAs seen (Ok read) P = P (Ok (seen read))
+AnswersAs seen (Err fault.Memory) P = Unit {0}
+AnswersAs seen (Err (fault.Read f)) P = P (Err (fault.Read f))
+AnswersAs seen (Err (fault.Refused number refusal)) P = P (Err (fault.Refused number refusal))
+
 -- the same of the records alone of a data set, where its notes are not told
 abbrev pub AnswersRecords : Result (List Record) BaseFault → (Outcome → Type 0) → Type 0
 AnswersRecords (Ok records) P = (notes : List Note) × P (Ok (records, notes))

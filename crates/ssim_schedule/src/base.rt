@@ -1,27 +1,22 @@
 //! The base: the records of a data set and its station table.
 
-ghost use Rattle.std.specs.Prelude.{◌≡◌, ◌↔◌, ℕ, List, Option, IsTrue, IfOk, IfErr, reverse};
+ghost use Rattle.std.specs.Prelude.{◌≡◌, ◌↔◌, IsTrue, IfOk, IfErr};
 ghost use Rattle.std.specs.List.{All};
 ghost use Rattle.ssim_schedule.specs.Base.{airline_of};
 ghost use Rattle.ssim_schedule.specs.BaseSeen.{AreFlights, WasRead};
 ghost use Rattle.ssim_schedule.specs.Building.{IsClosed};
-ghost use Rattle.ssim_records.specs.declared.record.Record.{Record};
-ghost use Rattle.ssim_schedule.specs.Export.{Frame};
-ghost use Rattle.ssim_schedule.specs.ReadBack.{AreInOrder, CanExport, HasFrame};
+ghost use Rattle.ssim_schedule.specs.ReadBack.{AreInOrder, HasFrame};
 ghost use Rattle.ssim_schedule.specs.Reading.{Answers, Came, FailsAfter, FailsAs, IsReadOf, NeverEnds};
 ghost use Rattle.ssim_schedule.specs.SavedBase.{IsBaseRecords};
 ghost use Rattle.ssim_schedule.specs.Timetable.{days_of};
 
-use crate::export::frame::ExportFrame;
+use crate::base_frame::BaseFrame;
+use crate::data_set::DataSet;
 use crate::fault::BaseFault;
-use crate::gathering::Gathering;
-use crate::kept::Kept;
-use crate::kept_records::KeptRecords;
 use crate::note::Note;
-use crate::reading::gather;
 use crate::records_left::{RecordsLeft, are_same};
 use crate::stations::{StationRow, Stations};
-use ssim_records::{Carrier, Header, Record, Source, Trailer};
+use ssim_records::{Record, Source};
 use ssim_values::{Airline, Flight, Memory};
 use std::alloc::Global;
 use std::marker::Model;
@@ -32,20 +27,21 @@ use std::marker::Model;
 #[derive(Drop)]
 pub struct Base {
     records: Vec<Record>,
+    frame: BaseFrame,
     stations: Stations,
     /// The flights of the leg records, each once, by number and suffix.
     flights: Vec<Flight>,
-    alloc: Global,
 }
 
 impl Model for Base {
     ghost use Rattle.ssim_schedule.specs.BaseSeen.{AreFlights, BaseSeen, WasRead};
+    ghost use Rattle.ssim_schedule.specs.ReadBack.{HasFrame};
 
     ghost Value = { BaseSeen };
 
     ghost view = { λ b. record { records = b.records.items; rows = b.stations } };
 
-    ghost invariant = { λ b. WasRead b.records.items × AreFlights b.records.items b.flights.items };
+    ghost invariant = { λ b. WasRead b.records.items × AreFlights b.records.items b.flights.items × HasFrame b.frame b.records.items };
 }
 
 /// A base, and the notes on its data set.
@@ -57,10 +53,6 @@ pub struct BaseRead {
 }
 
 impl Base {
-    ghost use Rattle.ssim_schedule.specs.Gathering.{HasRead, IsWhole};
-    ghost use Rattle.ssim_schedule.specs.Kept.{IsKept, IsWholeBase};
-    ghost use Rattle.ssim_schedule.specs.KeptRecords.{InList, keeps};
-
     /// Reads a data set, record by record, and keeps the station table with it. At most `limit` bytes and one more are fetched.
     ///
     /// The error names the first invalid record by its number, counted from 1 with fill; 13 names the one after the last that came whole. For one record the order is 13 `ReadFault`,
@@ -80,70 +72,29 @@ impl Base {
         ensures fails_after { IfErr result (λ e. FailsAfter (R.left reader.old) (R.left reader.new) e) }
         ensures never_ends { IfErr result (λ e. NeverEnds limit (Came (R.left reader.old) (R.left reader.new) (R.came reader.old) (R.came reader.new)) e) }
     {
-        let records = KeptRecords::All(Vec::new(alloc));
-        let (gathering, number) = gather(alloc, records, reader, limit)?;
-        Base::finish(alloc, gathering, number, stations)
-    }
-
-    // The base of the records that were gathered, if none is missing after them.
-    fn finish(
-        alloc: Global,
-        gathering: Gathering,
-        number: u64,
-        stations: Stations,
-    ) -> Result<BaseRead, BaseFault>
-        requires whole { IsWhole gathering }
-        requires keeps { keeps gathering.kept.records ≡ InList }
-        ensures read { (limit : ℕ) (told : Option (List ℕ)) → HasRead limit told gathering number → Answers result (IsReadOf limit told) }
-        ensures rows { IfOk result (λ read. read.base.rows ≡ stations) }
-        ensures failure { (n : ℕ) → IfErr result (λ e. FailsAs n n e) }
-        ensures fails_after { (all left : Option (List ℕ)) → IfErr result (λ e. FailsAfter all left e) }
-        ensures never_ends { (limit old new : ℕ) (left others : Option (List ℕ)) → IfErr result (λ e. NeverEnds limit (Came left others old new) e) }
-    {
-        let Gathering { kept, notes, .. } = gathering;
-        if let Some(refusal) = kept.missing() {
-            return Err(BaseFault::Refused(number, refusal));
-        }
-        let base = Base::of_kept(alloc, kept, stations)?;
+        let (data_set, notes) = DataSet::read_noted(alloc, reader, limit)?;
+        let base = data_set.into_base(stations)?;
         Ok(BaseRead { base, notes })
     }
 
-    /// The base of the records that are kept, which are those of a base.
-    pub(crate) fn of_kept(alloc: Global, kept: Kept, stations: Stations) -> Result<Base, Memory>
-        requires whole { IsWholeBase kept }
-        requires keeps { keeps kept.records ≡ InList }
-        ensures records { (earlier : List Record) → IsKept kept earlier → IfOk result (λ base. base.records ≡ reverse earlier) }
-        ensures rows { IfOk result (λ base. base.rows ≡ stations) }
-    {
-        let flights = kept.legs.flights()?;
-        let mut records = kept.records.into_records();
-        // A list that grew may have as much unused room as it has records.
-        records.shrink_to_fit();
-        Ok(Base {
-            records,
-            stations,
-            flights,
-            alloc,
-        })
-    }
-
-    /// The base of records that were read, with their flights and these rows.
+    /// The base of records that were read, with their frame, their flights and these rows.
     pub(crate) fn of_parts(
-        alloc: Global,
         records: Vec<Record>,
+        frame: BaseFrame,
         flights: Vec<Flight>,
         stations: Stations,
     ) -> Base
         requires read { WasRead records.items }
+        requires frame { HasFrame frame records.items }
         requires flights { AreFlights records.items flights.items }
         ensures records { result.records ≡ records.items }
         ensures rows { result.rows ≡ stations }
     {
         Base {
             records,
+            frame,
             stations,
             flights,
-            alloc,
         }
     }
 
@@ -151,11 +102,12 @@ impl Base {
     pub fn copy(&self) -> Result<Base, Memory>
         ensures { IfOk result (λ copy. copy ≡ self.now) }
     {
+        let alloc = self.frame.alloc;
         Ok(Base {
-            records: Vec::from_slice(self.alloc, &self.records)?,
-            stations: self.stations.copy(self.alloc)?,
-            flights: Vec::from_slice(self.alloc, &self.flights)?,
-            alloc: self.alloc,
+            records: Vec::from_slice(alloc, &self.records)?,
+            frame: self.frame.copy(),
+            stations: self.stations.copy(alloc)?,
+            flights: Vec::from_slice(alloc, &self.flights)?,
         })
     }
 
@@ -173,59 +125,19 @@ impl Base {
     pub fn airline(&self) -> Airline
         ensures { result ≡ airline_of self.now.records }
     {
-        self.carrier().airline()
+        self.frame.airline()
     }
 
     /// The allocator of the schedules that are made from it.
     pub(crate) fn allocator(&self) -> Global {
-        self.alloc
+        self.frame.alloc
     }
 
-    /// The header, which is the first record.
-    pub(crate) fn header(&self) -> &Header
-        ensures { (frame : Frame) → HasFrame frame self.now.records → result.now ≡ frame.header }
+    /// The frame of the base: the header, the carrier record and the trailer.
+    pub fn frame(&self) -> &BaseFrame
+        ensures { HasFrame result.now self.now.records }
     {
-        match &self.records[0] {
-            Record::Header(header) => header,
-            _ => unreachable!(),
-        }
-    }
-
-    /// The carrier record, which is the second.
-    pub(crate) fn carrier(&self) -> &Carrier
-        ensures carrier { (frame : Frame) → HasFrame frame self.now.records → result.now ≡ frame.carrier }
-        ensures exists { (frame : Frame) × HasFrame frame self.now.records }
-        ensures exports { CanExport self.now.records }
-    {
-        match &self.records[1] {
-            Record::Carrier(carrier) => carrier,
-            _ => unreachable!(),
-        }
-    }
-
-    /// The trailer, which is the last.
-    pub(crate) fn trailer(&self) -> &Trailer
-        ensures { (frame : Frame) → HasFrame frame self.now.records → result.now ≡ frame.trailer }
-    {
-        match &self.records[self.records.len() - 1] {
-            Record::Trailer(trailer) => trailer,
-            _ => unreachable!(),
-        }
-    }
-
-    /// The frame of an export: the header, the carrier record and the trailer.
-    pub(crate) fn frame(&self) -> ExportFrame
-        ensures { HasFrame result self.now.records }
-    {
-        let header = *self.header();
-        let carrier = *self.carrier();
-        let trailer = *self.trailer();
-        ExportFrame {
-            header,
-            carrier,
-            trailer,
-            alloc: self.alloc,
-        }
+        &self.frame
     }
 
     /// The records, in order: a header, a carrier, legs and segments, and a trailer. Serials and the check reference are 0; rates and

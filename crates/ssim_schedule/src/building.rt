@@ -14,8 +14,8 @@ ghost use Rattle.ssim_schedule.specs.Schedule.{cuts_in, days_in};
 ghost use Rattle.ssim_schedule.specs.Timetable.{days_of, itinerary_among};
 
 use crate::base::Base;
+use crate::base_frame::BaseFrame;
 use crate::data_set::DataSet;
-use crate::export::frame::ExportFrame;
 use crate::flight_blocks::FlightBlocks;
 use crate::flight_set::FlightSet;
 use crate::growing_table::GrowingTable;
@@ -72,12 +72,12 @@ impl Schedule {
 impl DataSet {
     /// The timetable of the data set, and the frame of its export. The records are freed while the timetable is made, so it takes the
     /// memory of one of the two.
-    pub fn into_schedule(self) -> Result<(Schedule, ExportFrame), Memory>
+    pub fn into_schedule(self) -> Result<(Schedule, BaseFrame), Memory>
         ensures days { IfOk result (λ made. (g : FlightNumber) → IsFlight g → days_in made.0 g ≡ days_of self g) }
         ensures frame { IfOk result (λ made. HasFrame made.1 self) }
         ensures exists { (frame : Frame) × HasFrame frame self }
     {
-        let frame = self.frame();
+        let frame = self.frame().copy();
         let table = self.into_table()?;
         let schedule = Schedule { table };
         Ok((schedule, frame))

@@ -5,23 +5,23 @@ ghost use Rattle.std.specs.List.{All, flat_map};
 ghost use Rattle.ssim_records.specs.declared.record.Record.{Record};
 ghost use Rattle.ssim_schedule.specs.Base.{airline_of};
 ghost use Rattle.ssim_schedule.specs.Building.{IsClosed};
-ghost use Rattle.ssim_schedule.specs.Export.{Frame};
 ghost use Rattle.ssim_schedule.specs.ReadBack.{AreInOrder, CanExport, HasFrame};
-ghost use Rattle.ssim_schedule.specs.Reading.{AnswersRecords, Came, FailsAfter, FailsAs, IsReadOf, NeverEnds};
+ghost use Rattle.ssim_schedule.specs.Reading.{AnswersAs, AnswersRecords, Came, FailsAfter, FailsAs, IsReadOf, NeverEnds};
 ghost use Rattle.ssim_schedule.specs.SavedBase.{IsBaseRecords};
 ghost use Rattle.ssim_schedule.specs.Timetable.{days_of};
 
 use crate::base::Base;
-use crate::export::frame::ExportFrame;
+use crate::base_frame::BaseFrame;
 use crate::fault::BaseFault;
 use crate::gathering::Gathering;
 use crate::kept::Kept;
 use crate::kept_records::KeptRecords;
+use crate::note::Note;
 use crate::reading::gather;
 use crate::record_pieces::RecordPieces;
 use crate::records_left::{RecordsLeft, are_same};
 use crate::stations::Stations;
-use ssim_records::{Carrier, Header, Record, Source, Trailer};
+use ssim_records::{Record, Source};
 use ssim_values::{Airline, Flight, Memory};
 use std::alloc::Global;
 use std::marker::Model;
@@ -31,21 +31,22 @@ use std::marker::Model;
 #[derive(Drop)]
 pub struct DataSet {
     records: RecordPieces,
+    frame: BaseFrame,
     /// The flights of the leg records, each once, by number and suffix.
     flights: Vec<Flight>,
-    alloc: Global,
 }
 
 impl Model for DataSet {
     ghost use Rattle.std.specs.Prelude.{List};
     ghost use Rattle.ssim_records.specs.declared.record.Record.{Record};
     ghost use Rattle.ssim_schedule.specs.BaseSeen.{AreFlights, WasRead};
+    ghost use Rattle.ssim_schedule.specs.ReadBack.{HasFrame};
 
     ghost Value = { List Record };
 
     ghost view = { λ read. read.records };
 
-    ghost invariant = { λ read. WasRead read.records × AreFlights read.records read.flights.items };
+    ghost invariant = { λ read. WasRead read.records × AreFlights read.records read.flights.items × HasFrame read.frame read.records };
 }
 
 impl DataSet {
@@ -61,26 +62,46 @@ impl DataSet {
         ensures fails_after { IfErr result (λ e. FailsAfter (R.left reader.old) (R.left reader.new) e) }
         ensures never_ends { IfErr result (λ e. NeverEnds limit (Came (R.left reader.old) (R.left reader.new) (R.came reader.old) (R.came reader.new)) e) }
     {
+        let (data_set, _) = DataSet::read_noted(alloc, reader, limit)?;
+        Ok(data_set)
+    }
+
+    /// Reads a data set and the notes on it, in the order of their records.
+    pub(crate) fn read_noted<R: Source>(
+        alloc: Global,
+        reader: &mut R,
+        limit: u64,
+    ) -> Result<(DataSet, Vec<Note>), BaseFault>
+        ensures read { AnswersAs (λ read. (read.0, read.1.items)) result (IsReadOf limit (R.left reader.old)) }
+        ensures no_failure { IfOk result (λ _. R.failures reader.new ≡ R.failures reader.old) }
+        ensures failure { IfErr result (λ e. FailsAs (R.failures reader.old) (R.failures reader.new) e) }
+        ensures fails_after { IfErr result (λ e. FailsAfter (R.left reader.old) (R.left reader.new) e) }
+        ensures never_ends { IfErr result (λ e. NeverEnds limit (Came (R.left reader.old) (R.left reader.new) (R.came reader.old) (R.came reader.new)) e) }
+    {
         let records = KeptRecords::Pieces(RecordPieces::new(alloc));
         let (gathering, number) = gather(alloc, records, reader, limit)?;
         DataSet::finish(alloc, gathering, number)
     }
 
-    // The data set of the records that were gathered, if none is missing after them.
-    fn finish(alloc: Global, gathering: Gathering, number: u64) -> Result<DataSet, BaseFault>
+    // The data set of the records that were gathered, if none is missing after them, and the notes.
+    fn finish(
+        alloc: Global,
+        gathering: Gathering,
+        number: u64,
+    ) -> Result<(DataSet, Vec<Note>), BaseFault>
         requires whole { IsWhole gathering }
         requires keeps { keeps gathering.kept.records ≡ InPieces }
-        ensures read { (limit : ℕ) (told : Option (List ℕ)) → HasRead limit told gathering number → AnswersRecords result (IsReadOf limit told) }
+        ensures read { (limit : ℕ) (told : Option (List ℕ)) → HasRead limit told gathering number → AnswersAs (λ read. (read.0, read.1.items)) result (IsReadOf limit told) }
         ensures failure { (n : ℕ) → IfErr result (λ e. FailsAs n n e) }
         ensures fails_after { (all left : Option (List ℕ)) → IfErr result (λ e. FailsAfter all left e) }
         ensures never_ends { (limit old new : ℕ) (left others : Option (List ℕ)) → IfErr result (λ e. NeverEnds limit (Came left others old new) e) }
     {
-        let Gathering { kept, .. } = gathering;
+        let Gathering { kept, notes, .. } = gathering;
         if let Some(refusal) = kept.missing() {
             return Err(BaseFault::Refused(number, refusal));
         }
         let data_set = DataSet::of_kept(alloc, kept)?;
-        Ok(data_set)
+        Ok((data_set, notes))
     }
 
     /// The data set of the records that are kept, which are those of a base.
@@ -91,10 +112,25 @@ impl DataSet {
     {
         let flights = kept.legs.flights()?;
         let records = kept.records.into_pieces();
+        let header = records.at(0);
+        let carrier = records.at(1);
+        let trailer = records.at(records.len() - 1);
+        let frame = BaseFrame::of(alloc, header, carrier, trailer);
         Ok(DataSet {
             records,
+            frame,
             flights,
-            alloc,
+        })
+    }
+
+    /// The same data set.
+    pub fn copy(&self) -> Result<DataSet, Memory>
+        ensures { IfOk result (λ copy. copy ≡ self.now) }
+    {
+        Ok(DataSet {
+            records: self.records.copy()?,
+            frame: self.frame.copy(),
+            flights: Vec::from_slice(self.frame.alloc, &self.flights)?,
         })
     }
 
@@ -102,60 +138,20 @@ impl DataSet {
     pub fn airline(&self) -> Airline
         ensures { result ≡ airline_of self.now }
     {
-        self.carrier().airline()
+        self.frame.airline()
     }
 
     /// The allocator of the timetable that is made from it.
     pub(crate) fn allocator(&self) -> Global {
-        self.alloc
+        self.frame.alloc
     }
 
-    /// The header, which is the first record.
-    pub(crate) fn header(&self) -> &Header
-        ensures { (frame : Frame) → HasFrame frame self.now → result.now ≡ frame.header }
-    {
-        match self.records.at(0) {
-            Record::Header(header) => header,
-            _ => unreachable!(),
-        }
-    }
-
-    /// The carrier record, which is the second.
-    pub(crate) fn carrier(&self) -> &Carrier
-        ensures carrier { (frame : Frame) → HasFrame frame self.now → result.now ≡ frame.carrier }
-        ensures exists { (frame : Frame) × HasFrame frame self.now }
+    /// The frame of the base: the header, the carrier record and the trailer.
+    pub fn frame(&self) -> &BaseFrame
+        ensures frame { HasFrame result.now self.now }
         ensures exports { CanExport self.now }
     {
-        match self.records.at(1) {
-            Record::Carrier(carrier) => carrier,
-            _ => unreachable!(),
-        }
-    }
-
-    /// The trailer, which is the last.
-    pub(crate) fn trailer(&self) -> &Trailer
-        ensures { (frame : Frame) → HasFrame frame self.now → result.now ≡ frame.trailer }
-    {
-        match self.records.at(self.records.len() - 1) {
-            Record::Trailer(trailer) => trailer,
-            _ => unreachable!(),
-        }
-    }
-
-    /// The frame of an export: the header, the carrier record and the trailer.
-    pub(crate) fn frame(&self) -> ExportFrame
-        ensures frame { HasFrame result self.now }
-        ensures exports { CanExport self.now }
-    {
-        let header = *self.header();
-        let carrier = *self.carrier();
-        let trailer = *self.trailer();
-        ExportFrame {
-            header,
-            carrier,
-            trailer,
-            alloc: self.alloc,
-        }
+        &self.frame
     }
 
     /// The number of the records.
@@ -197,11 +193,11 @@ impl DataSet {
     {
         let DataSet {
             records,
+            frame,
             flights,
-            alloc,
         } = self;
         let list = records.into_list()?;
-        Ok(Base::of_parts(alloc, list, flights, stations))
+        Ok(Base::of_parts(list, frame, flights, stations))
     }
 
     /// The records in pieces, and the flights of the leg records.

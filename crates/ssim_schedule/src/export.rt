@@ -9,13 +9,12 @@ ghost use Rattle.ssim_schedule.specs.Schedule.{days_in};
 ghost use Rattle.ssim_schedule.specs.Timetable.{days_of};
 
 pub mod block;
-pub mod frame;
 mod lines;
 mod plan;
 
 use crate::base::Base;
+use crate::base_frame::BaseFrame;
 use crate::data_set::DataSet;
-use crate::export::frame::ExportFrame;
 use crate::export::lines::put_export;
 use crate::export::plan::{divide, measure};
 use crate::flight_blocks::FlightBlocks;
@@ -119,12 +118,12 @@ impl Schedule {
     {
         let frame = base.frame();
         let own = self.copy()?;
-        own.export_in(&frame, out)
+        own.export_in(frame, out)
     }
 
     /// Writes the canonical export in this frame, as `export` does in that of a base. What no copy of the schedule shares is freed flight by
     /// flight.
-    pub fn export_in<W: Sink>(self, frame: &ExportFrame, out: &mut W) -> Result<(), ExportFault>
+    pub fn export_in<W: Sink>(self, frame: &BaseFrame, out: &mut W) -> Result<(), ExportFault>
         ensures ok { OnOk result (Writes W.taken W.failures (chapter7 frame.now (days_in self)) out.old out.new) }
         ensures err { IfErr result (λ fault. Refuses W.taken W.failures (chapter7 frame.now (days_in self)) out.old out.new fault) }
         ensures device { W.device out.new ≡ W.device out.old }

@@ -2,7 +2,7 @@
 
 ghost use Rattle.std.specs.Prelude.{◌≡◌, List, OnOk, length, reverse};
 ghost use Rattle.ssim_records.specs.declared.record.Record.{Record};
-ghost use Rattle.ssim_schedule.specs.KeptRecords.{AddsRecord, AreKept, InList, InPieces, keeps};
+ghost use Rattle.ssim_schedule.specs.KeptRecords.{AddsRecord, AreKept, InPieces, keeps};
 
 use crate::record_pieces::RecordPieces;
 use ssim_records::Record;
@@ -11,8 +11,6 @@ use ssim_values::Memory;
 /// What is kept of the records of a data set.
 #[derive(Drop)]
 pub(crate) enum KeptRecords {
-    /// The records, in order.
-    All(Vec<Record>),
     /// The records, in order, in pieces.
     Pieces(RecordPieces),
     /// Their number alone.
@@ -27,10 +25,6 @@ impl KeptRecords {
         ensures keeps { OnOk result (keeps self.new ≡ keeps self.old) }
     {
         match self {
-            KeptRecords::All(records) => {
-                records.push(*one)?;
-                Ok(())
-            }
             KeptRecords::Pieces(records) => records.push(one),
             KeptRecords::Count(count) => match count.checked_add(1) {
                 Some(more) => {
@@ -42,17 +36,6 @@ impl KeptRecords {
         }
     }
 
-    /// The records that were kept in one list.
-    pub(crate) fn into_records(self) -> Vec<Record>
-        requires { keeps self ≡ InList }
-        ensures { (earlier : List Record) → AreKept self earlier → result.items ≡ reverse earlier }
-    {
-        match self {
-            KeptRecords::All(records) => records,
-            KeptRecords::Pieces(_) | KeptRecords::Count(_) => unreachable!(),
-        }
-    }
-
     /// The records that were kept in pieces.
     pub(crate) fn into_pieces(self) -> RecordPieces
         requires { keeps self ≡ InPieces }
@@ -60,7 +43,7 @@ impl KeptRecords {
     {
         match self {
             KeptRecords::Pieces(records) => records,
-            KeptRecords::All(_) | KeptRecords::Count(_) => unreachable!(),
+            KeptRecords::Count(_) => unreachable!(),
         }
     }
 
@@ -69,7 +52,6 @@ impl KeptRecords {
         ensures { (earlier : List Record) → AreKept self.now earlier → result ≡ length earlier }
     {
         match self {
-            KeptRecords::All(records) => records.len(),
             KeptRecords::Pieces(records) => records.len(),
             KeptRecords::Count(count) => *count,
         }

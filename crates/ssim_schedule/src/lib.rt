@@ -8,10 +8,11 @@
 //! - [`Summary`]: how many records and flights a data set has, and its notes. It is read as a base is, but no record is kept.
 //! - [`Schedule`]: the itinerary of each flight on each date, which is its [`PlacedLeg`]s in order. `of` makes it from a base, `of_flights`
 //!   that of some flights of a data set, `export` writes it as chapter 7 in the one canonical division, or answers an [`ExportFault`].
-//! - `DataSet::into_schedule`: the schedule of a data set whose records are freed, and the [`ExportFrame`] in which `Schedule::export_in`
-//!   writes it.
+//! - [`BaseFrame`]: the header, the carrier record and the trailer of a base. Messages resolve by it, and `Schedule::export_in` writes a
+//!   timetable in it.
+//! - `DataSet::into_schedule`: the schedule of a data set whose records are freed, and its frame.
 //! - [`Block`]: bytes for a sink, filled by [`put_record`] and [`put_bytes`] and emptied by [`flush`], or [`WriteFault`].
-//! - [`resolve`] and `DataSet::resolve`: resolve a message against a base: its reference with its year, its sub-messages with full dates, or a [`ResolveFault`].
+//! - [`resolve`] and `BaseFrame::resolve`: resolve a message against a base: its reference with its year, its sub-messages with full dates, or a [`ResolveFault`].
 //! - `Schedule::apply_sub` and `apply_by`: a [`Resolved`] sub-message acts on each date of its period by itself; a [`Finding`] counts the dates by
 //!   what they got.
 //! - [`laws`]: an export reads back to its timetable, byte for byte; saved records read back; a message has one outcome.
@@ -23,6 +24,7 @@
 mod acting;
 mod applying;
 mod base;
+mod base_frame;
 mod building;
 mod columns;
 mod data_set;
@@ -65,10 +67,10 @@ mod used_dates;
 mod waiting;
 
 pub use base::{Base, BaseRead};
+pub use base_frame::BaseFrame;
 pub use data_set::DataSet;
 pub use export::ExportFault;
 pub use export::block::{Block, WriteFault, flush, put_bytes, put_record};
-pub use export::frame::ExportFrame;
 pub use fault::{BaseFault, BaseRefusal};
 pub use finding::Finding;
 pub use flight_table::FlightPeriods;

@@ -84,6 +84,18 @@ impl RecordPieces {
         (&self.full, &self.last)
     }
 
+    /// The same records.
+    pub(crate) fn copy(&self) -> Result<RecordPieces, Memory>
+        ensures { IfOk result (λ copy. copy ≡ self.now) }
+    {
+        Ok(RecordPieces {
+            full: copies(self.alloc, &self.full)?,
+            last: Vec::from_slice(self.alloc, &self.last)?,
+            len: self.len,
+            alloc: self.alloc,
+        })
+    }
+
     /// The records in one list.
     pub(crate) fn into_list(self) -> Result<Vec<Record>, Memory>
         ensures { IfOk result (λ list. list.items ≡ self) }
@@ -178,4 +190,15 @@ fn list_of(
     }
     list.extend_from_slice(last)?;
     Ok(list)
+}
+
+// Pieces with the same records.
+fn copies(alloc: Global, pieces: &[Vec<Record>]) -> Result<Vec<Vec<Record>>, Memory>
+    ensures { IfOk result (λ copies. flat_map (λ piece. piece.items) copies.items ≡ flat_map (λ piece. piece.items) pieces.now) }
+{
+    let mut copies = Vec::with_capacity(alloc, pieces.len())?;
+    for piece in pieces {
+        copies.push(Vec::from_slice(alloc, piece)?)?;
+    }
+    Ok(copies)
 }

@@ -5,7 +5,6 @@ ghost use Rattle.ssim_schedule.specs.Fault.{resolve_fault_name, resolve_fault_te
 ghost use Rattle.ssim_schedule.specs.Resolve.{AreDates, AreFaulty, AreResolved, IsFirstRefused, IsRefused, IsRefusedIn, IsResolved, IsSubRefused, Means, MeansEnd, MeansNoEnd, MeansNone, Resolves, ResolvesIn, every_day, resolve_fault_number, same_mode};
 
 use crate::base::Base;
-use crate::data_set::DataSet;
 use crate::kept::end_of;
 use crate::resolved::ResolvedSub;
 use ssim_records::Carrier;
@@ -234,20 +233,11 @@ pub fn resolve(base: &Base, message: &Message) -> Result<ResolvedText, ResolveFa
     ensures ok { IfOk result (ResolvesIn base.now.records message.now) }
     ensures err { IfErr result (IsRefusedIn base.now.records message.now) }
 {
-    resolve_by(base.allocator(), base.carrier(), message)
+    base.frame().resolve(message)
 }
 
-impl DataSet {
-    /// Resolves a message against the base of the data set, as `resolve` does.
-    pub fn resolve(&self, message: &Message) -> Result<ResolvedText, ResolveFault>
-        ensures ok { IfOk result (ResolvesIn self.now message.now) }
-        ensures err { IfErr result (IsRefusedIn self.now message.now) }
-    {
-        resolve_by(self.allocator(), self.carrier(), message)
-    }
-}
-
-fn resolve_by(
+/// Resolves a message by the carrier record of a base.
+pub(crate) fn resolve_by(
     alloc: Global,
     carrier: &Carrier,
     message: &Message,

@@ -225,7 +225,7 @@ impl Stations {
     }
 
     /// The same table.
-    pub(crate) fn copy(&self, alloc: Global) -> Result<Stations, Memory>
+    pub fn copy(&self, alloc: Global) -> Result<Stations, Memory>
         ensures { IfOk result (λ copy. copy ≡ self.now) }
     {
         Ok(Stations {

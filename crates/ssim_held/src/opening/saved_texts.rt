@@ -47,7 +47,7 @@ fn resolve_if(data_set: &DataSet, message: &Message) -> Result<Option<ResolvedTe
     ensures err { IfErr result (λ e. e ≡ PartFault.Memory) }
 {
     resolving_has_one_outcome();
-    match data_set.resolve(message) {
+    match data_set.frame().resolve(message) {
         Ok(resolved) => Ok(Some(resolved)),
         Err(fault) => match fault {
             ResolveFault::Memory => Err(PartFault::Memory),

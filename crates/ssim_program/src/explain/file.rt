@@ -7,12 +7,12 @@ ghost use Rattle.ssim_program.specs.declared.explain.file_kind.FileKind.TheVaria
 
 use super::file_kind::{FileKind, kind_of};
 use super::on_refusal;
-use crate::data_set::read;
+use crate::data_set::sum_bytes;
 use crate::refusal::Refusal;
 use crate::rehearse::script::Script;
 use ssim_desk::{DeskFault, Holdings};
 use ssim_guide::{words_on_line, words_on_offset, words_on_overlap, words_on_record};
-use ssim_records::RecordFault;
+use ssim_records::{Parts, RecordFault};
 use ssim_schedule::{BaseFault, BaseRefusal, StationFault, Stations};
 use ssim_text::{TextFault, decode};
 use ssim_values::Memory;
@@ -78,7 +78,7 @@ fn data_set(alloc: Global, bytes: &[u8]) -> Result<Option<Refusal>, Memory>
     requires { length bytes.now ≤ file_limit }
     ensures { IfOk result (λ found. Judges kind.DataSet bytes.now found) }
 {
-    match read(alloc, bytes) {
+    match sum_bytes(alloc, bytes) {
         Ok(_) => Ok(None),
         Err(BaseFault::Memory) => Err(Memory),
         Err(fault) => Ok(Some(Refusal::from(fault))),
@@ -89,7 +89,9 @@ fn desk_file(alloc: Global, bytes: &[u8]) -> Result<Option<Refusal>, Memory>
     requires { length bytes.now ≤ file_limit }
     ensures { IfOk result (λ found. Judges kind.Desk bytes.now found) }
 {
-    match Holdings::open(alloc, bytes) {
+    let mut parts = Parts::new(alloc);
+    parts.push(Vec::from_slice(alloc, bytes)?)?;
+    match Holdings::open(alloc, parts) {
         Ok(_) => Ok(None),
         Err(DeskFault::File(offset)) => Ok(Some(Refusal::Desk(DeskFault::File(offset)))),
         Err(_) => Err(Memory),

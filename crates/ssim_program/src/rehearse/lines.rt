@@ -9,20 +9,20 @@ ghost use Rattle.ssim_program.specs.Rehearsal.{AreStepLines, HasLine, HasMergeLi
 
 use crate::rehearse::line::RehearsalLine;
 use crate::rehearse::outcome::ends_of;
-use ssim_desk::{Answer, Desk, DeskFault, Step, run_steps};
-use ssim_schedule::{Base, ExportFault, resolve};
+use ssim_desk::{Answer, DeskFault, Holdings, Step, run_steps};
+use ssim_schedule::ExportFault;
 use ssim_text::laws::one_message;
 use ssim_text::{Reference, decode};
 use ssim_values::Memory;
 use std::alloc::Global;
 
-/// The reference of the message that a text says. Only memory can be missing.
-fn reference_of(alloc: Global, base: &Base, text: &[u8]) -> Result<Reference, Memory>
-    requires { (reference : Reference) × (message : MessageValue) × Says base.now text.now reference message }
-    ensures { IfOk result (λ reference. (message : MessageValue) × Says base.now text.now reference message) }
+/// The reference of the message that a text says to a desk. Only memory can be missing.
+fn reference_of(alloc: Global, desk: &Holdings, text: &[u8]) -> Result<Reference, Memory>
+    requires { (reference : Reference) × (message : MessageValue) × Says desk.now.base text.now reference message }
+    ensures { IfOk result (λ reference. (message : MessageValue) × Says desk.now.base text.now reference message) }
 {
     match decode(alloc, text) {
-        Ok(message) => match resolve(base, &message) {
+        Ok(message) => match desk.data_set().frame().resolve(&message) {
             Ok(resolved) => Ok(resolved.reference),
             Err(_) => Err(Memory),
         },
@@ -33,21 +33,21 @@ fn reference_of(alloc: Global, base: &Base, text: &[u8]) -> Result<Reference, Me
 /// The line of a text that was taken or refused.
 fn take_line(
     alloc: Global,
-    base: &Base,
+    empty: &Holdings,
     desk: usize,
     text: &[u8],
     answer: &Answer,
 ) -> Result<RehearsalLine, Memory>
-    requires { HasTakeLine base.now desk text.now answer.now }
-    ensures { IfOk result (IsTakeLine base.now desk text.now answer.now) }
+    requires { HasTakeLine empty.now.base desk text.now answer.now }
+    ensures { IfOk result (IsTakeLine empty.now.base desk text.now answer.now) }
 {
     match answer {
         Answer::Taken => {
-            let reference = reference_of(alloc, base, text)?;
+            let reference = reference_of(alloc, empty, text)?;
             Ok(RehearsalLine::Taken { desk, reference })
         }
         Answer::Repeated => {
-            let reference = reference_of(alloc, base, text)?;
+            let reference = reference_of(alloc, empty, text)?;
             Ok(RehearsalLine::Repeated { desk, reference })
         }
         Answer::Merged => unreachable!(),
@@ -76,16 +76,16 @@ fn merge_line(desk: usize, answer: &Answer) -> RehearsalLine
 /// The line of a step.
 fn step_line(
     alloc: Global,
-    base: &Base,
+    empty: &Holdings,
     step: &Step,
     answer: &Answer,
 ) -> Result<RehearsalLine, Memory>
     requires desk { desk_of step.now < 9 }
-    requires has { HasLine base.now step.now answer.now }
-    ensures { IfOk result (IsStepLine base.now step.now answer.now) }
+    requires has { HasLine empty.now.base step.now answer.now }
+    ensures { IfOk result (IsStepLine empty.now.base step.now answer.now) }
 {
     match step {
-        Step::Take(desk, text) => take_line(alloc, base, *desk + 1, text, answer),
+        Step::Take(desk, text) => take_line(alloc, empty, *desk + 1, text, answer),
         Step::Merge(into, _) => Ok(merge_line(*into + 1, answer)),
     }
 }
@@ -93,52 +93,54 @@ fn step_line(
 /// The lines of steps, in their order.
 fn step_lines(
     alloc: Global,
-    base: &Base,
+    empty: &Holdings,
     steps: &[Step],
     answers: &[Answer],
 ) -> Result<Vec<RehearsalLine>, Memory>
     requires desks { All (λ step. desk_of step < 9) steps.now }
     requires count { length answers.now ≡ length steps.now }
-    requires have { HaveLines base.now steps.now answers.now }
-    ensures { IfOk result (λ lines. AreStepLines base.now steps.now answers.now lines.items) }
+    requires have { HaveLines empty.now.base steps.now answers.now }
+    ensures { IfOk result (λ lines. AreStepLines empty.now.base steps.now answers.now lines.items) }
 {
     // No effect at run time. The borrow checker learns from these uses which types a line contains.
     let _fault: Option<DeskFault> = None;
     let _export: Option<ExportFault> = None;
     let mut lines = Vec::with_capacity(alloc, steps.len())?;
     for (place, step) in steps.iter().enumerate() {
-        lines.push(step_line(alloc, base, step, &answers[place])?)?;
+        lines.push(step_line(alloc, empty, step, &answers[place])?)?;
     }
     Ok(lines)
 }
 
-/// New desks over a base.
-fn new_desks(alloc: Global, base: &Base, count: usize) -> Result<Vec<Desk>, Memory>
+/// New desks, each equal to this one.
+fn new_desks(alloc: Global, empty: &Holdings, count: usize) -> Result<Vec<Holdings>, Memory>
     ensures count { IfOk result (λ desks. length desks.items ≡ count) }
-    ensures each { IfOk result (λ desks. All (λ desk. desk ≡ fresh base.now) desks.items) }
+    ensures each { IfOk result (λ desks. All (λ desk. desk ≡ empty.now) desks.items) }
 {
     let mut desks = Vec::with_capacity(alloc, count)?;
     for _ in 0..count {
-        desks.push(Desk::start(alloc, base.copy()?)?)?;
+        desks.push(empty.copy()?)?;
     }
     Ok(desks)
 }
 
-/// Runs steps on new desks over a base: the lines of the answers, of the desks, and whether all exports are equal.
+/// Runs steps on new desks, each equal to this one, which holds nothing: the lines of the answers,
+/// of the desks, and whether all exports are equal.
 pub(crate) fn rehearsal_of(
     alloc: Global,
-    base: &Base,
+    empty: &Holdings,
     count: usize,
     steps: &[Step],
 ) -> Result<Vec<RehearsalLine>, Memory>
+    requires fresh { empty.now ≡ fresh empty.now.base }
     requires most { count ≤ 9 }
     requires in_range { All (IsInRange count) steps.now }
-    ensures { IfOk result (λ lines. Rehearses base.now count steps.now lines.items) }
+    ensures { IfOk result (λ lines. Rehearses empty.now.base count steps.now lines.items) }
 {
     one_message();
-    let mut desks = new_desks(alloc, base, count)?;
+    let mut desks = new_desks(alloc, empty, count)?;
     let answers = run_steps(alloc, &mut desks, steps)?;
-    let mut lines = step_lines(alloc, base, steps, &answers)?;
+    let mut lines = step_lines(alloc, empty, steps, &answers)?;
     let ends = ends_of(alloc, &desks)?;
     lines.extend_from_slice(&ends)?;
     Ok(lines)

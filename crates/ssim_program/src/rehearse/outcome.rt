@@ -5,7 +5,7 @@ ghost use Rattle.ssim_desk.specs.Meaning.{Exports};
 ghost use Rattle.ssim_program.specs.Rehearsal.{AreEqualTo, AreExports, AreSame, HasEnds, IsVerdict, desk_line, desk_lines, outcome_of, refused_outcome};
 
 use crate::rehearse::line::RehearsalLine;
-use ssim_desk::{Desk, DeskFault};
+use ssim_desk::{DeskFault, Holdings};
 use ssim_records::Bytes;
 use ssim_schedule::ExportFault;
 use ssim_values::{Flight, Memory};
@@ -34,14 +34,15 @@ fn refused(fault: ExportFault) -> Option<Outcome>
     }
 }
 
-/// Exports a desk into memory.
-fn export_of(alloc: Global, desk: &Desk) -> Result<Outcome, Memory>
+/// Exports a desk into memory. An export consumes its desk, so a copy of the desk is exported.
+fn export_of(alloc: Global, desk: &Holdings) -> Result<Outcome, Memory>
     ensures { IfOk result (λ outcome. Exports (state_of desk.now) (outcome_of outcome)) }
 {
     // No effect at run time. The proof reads from this use what the desk's messages are.
     let _ = desk.held();
     let mut out = Bytes::new(alloc);
-    match desk.export(&mut out) {
+    let copy = desk.copy()?;
+    match copy.export(&mut out) {
         Ok(()) => Ok(Outcome::Exported(out)),
         Err(fault) => match refused(fault) {
             Some(outcome) => Ok(outcome),
@@ -51,7 +52,7 @@ fn export_of(alloc: Global, desk: &Desk) -> Result<Outcome, Memory>
 }
 
 /// The exports of desks, in their order.
-fn exports_of(alloc: Global, desks: &[Desk]) -> Result<Vec<Outcome>, Memory>
+fn exports_of(alloc: Global, desks: &[Holdings]) -> Result<Vec<Outcome>, Memory>
     ensures are { IfOk result (λ outcomes. AreExports (map state_of desks.now) (map outcome_of outcomes.items)) }
     ensures count { IfOk result (λ outcomes. length outcomes.items ≡ length desks.now) }
 {
@@ -63,7 +64,7 @@ fn exports_of(alloc: Global, desks: &[Desk]) -> Result<Vec<Outcome>, Memory>
 }
 
 /// The line of a desk and its export.
-fn line_of(number: usize, desk: &Desk, outcome: &Outcome) -> RehearsalLine
+fn line_of(number: usize, desk: &Holdings, outcome: &Outcome) -> RehearsalLine
     ensures { result ≡ desk_line number (state_of desk.now) (outcome_of outcome.now) }
 {
     match outcome {
@@ -74,12 +75,12 @@ fn line_of(number: usize, desk: &Desk, outcome: &Outcome) -> RehearsalLine
         },
         Outcome::Variations(flight) => RehearsalLine::NotExported {
             desk: number,
-            airline: desk.base().airline(),
+            airline: desk.data_set().airline(),
             fault: ExportFault::Variations(*flight),
         },
         Outcome::Records => RehearsalLine::NotExported {
             desk: number,
-            airline: desk.base().airline(),
+            airline: desk.data_set().airline(),
             fault: ExportFault::Records,
         },
     }
@@ -89,7 +90,7 @@ fn line_of(number: usize, desk: &Desk, outcome: &Outcome) -> RehearsalLine
 fn add_lines(
     lines: &mut Vec<RehearsalLine>,
     number: usize,
-    desks: &[Desk],
+    desks: &[Holdings],
     outcomes: &[Outcome],
 ) -> Result<(), Memory>
     requires { number + length desks.now < 2 ^ 64 }
@@ -159,7 +160,7 @@ fn verdict(outcomes: &[Outcome]) -> RehearsalLine
 }
 
 /// The lines of desks after a run: a line for each desk, counted from 1, and whether all exports are equal.
-pub(crate) fn ends_of(alloc: Global, desks: &[Desk]) -> Result<Vec<RehearsalLine>, Memory>
+pub(crate) fn ends_of(alloc: Global, desks: &[Holdings]) -> Result<Vec<RehearsalLine>, Memory>
     requires { length desks.now ≤ 9 }
     ensures { IfOk result (λ lines. HasEnds (map state_of desks.now) lines.items) }
 {

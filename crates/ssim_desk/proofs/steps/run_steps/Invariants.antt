@@ -1,13 +1,13 @@
 use Rattle.std.proofs.Common.{◌≡◌, ◌≤◌, All, length, map, take, vec_capacity, vec_len}
-use Rattle.ssim_held.specs.Kept.{state_of}
 use Rattle.ssim_desk.specs.Steps.{IsOwnMerge, LeavesIdle, Runs}
+use Rattle.ssim_desk.proofs.StepLemmas.{state}
 use Rattle.ssim_desk.proofs.steps.run_steps.Given as goal
 
 abbrev pub invariant-loop-next : goal.invariant-loop-next
-invariant-loop-next l = record {
+invariant-loop-next g l = record {
   count : vec_len l.answers ≡ l.next-index;
   room : length l.steps ≤ vec_capacity l.answers;
-  runs : Runs (map state_of l.fn.desks) (take l.next-index l.steps) l.answers.items (map state_of l.desks);
+  runs : Runs (map (state g.D.Holder.seen) l.fn.desks) (take l.next-index l.steps) l.answers.items (map (state g.D.Holder.seen) l.desks);
   own : All IsOwnMerge l.steps → l.desks ≡ l.fn.desks;
   idle : LeavesIdle l.fn.desks (take l.next-index l.steps) l.answers.items l.desks;
 }

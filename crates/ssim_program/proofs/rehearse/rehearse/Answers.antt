@@ -1,8 +1,11 @@
 -- The base is refused, or the steps are.
-use Rattle.std.proofs.Common.{rules, ◌≡◌, ◌∙◌, inl, inr, refl, Err, Option, subst}
+use Rattle.std.proofs.Common.{rules, ◌≡◌, ◌∙◌, inl, inr, refl, Err, List, None, Option, subst}
+use Rattle.std.specs.List.{flat_map}
 use Rattle.ssim_schedule.specs.BaseSeen.{base_with}
+use Rattle.ssim_held.specs.Kept.{DeskSeen}
+use Rattle.ssim_desk.specs.declared.steps.Step.{Step}
 use Rattle.ssim_program.specs.Files.{Files}
-use Rattle.ssim_program.specs.Rehearsal.{RefusesSteps}
+use Rattle.ssim_program.specs.Rehearsal.{HasSteps, RefusesSteps, Rehearses, RehearsesFiles, printed_line}
 use Rattle.ssim_program.proofs.rehearse.rehearse.Goals as goal
 
 pub returns-in_err-data_set : goal.returns-in_err-data_set
@@ -19,3 +22,27 @@ returns-in_err-count g c =
       (refl, inr (inr ((base_with c.in_ok-data_set.data_set c.in_ok-data_set.stations, c.in_ok-data_set.ensures.read.0, c.in_ok-data_set.ensures.read.1), steps))),
       c.load_steps.ensures.same ∙ c.load_base.ensures.same,
     )
+
+pub returns : goal.returns
+returns g c =
+    let base = base_with c.in_ok-data_set.data_set c.in_ok-data_set.stations in
+    let count = c.in_ok-count.count in let steps = c.in_ok-count.steps.items in let lines = c.in_ok-lines.lines.items in
+    let has_steps : HasSteps (g.S.Store.files c.args.store.now) c.args.script.now count steps =
+    subst (λ (files : Option Files). HasSteps files c.args.script.now count steps) c.load_base.ensures.same c.in_ok-count.ensures.ok in
+    let on_desk : Rehearses c.start-desk.result.base count steps lines =
+    subst (λ (given : List Step). Rehearses c.start-desk.result.base count given lines) c.deref.ensures.value c.in_ok-lines.ensures in
+    let rehearsed : Rehearses base count steps lines = subst (λ (desk : DeskSeen). Rehearses desk.base count steps lines) c.start-desk.ensures on_desk in
+    let printed : c.in_ok-bytes.bytes.items ≡ flat_map printed_line lines = search rules in
+    let rehearses : RehearsesFiles (g.S.Store.files c.args.store.now) c.args.dataset.now c.args.stations.now c.args.script.now c.in_ok-bytes.bytes.items =
+    record {
+      base = base;
+      notes = c.in_ok-data_set.ensures.read.0;
+      read = c.in_ok-data_set.ensures.read.1;
+      count = count;
+      steps = steps;
+      has_steps = has_steps;
+      lines = lines;
+      rehearsed = rehearsed;
+      printed = printed;
+    } in
+    (None, (rehearses, refl), c.load_steps.ensures.same ∙ c.load_base.ensures.same)

@@ -1,21 +1,34 @@
--- What was written is the base and the messages of the desk.
-use Rattle.std.proofs.Common.{OnOk, Result, Ok, Err, All, List, subst}
+-- What is written is the base and the messages of the desk.
+use Rattle.std.proofs.Common.{OnErr, OnOk, All, List, ℕ, ap, subst, ◌∙◌}
+use Rattle.std.specs.Io.KnownBytes.{Appends}
 use Rattle.ssim_schedule.specs.BaseSeen.{BaseSeen}
 use Rattle.ssim_schedule.specs.SavedBase.{IsBaseRecords}
-use Rattle.ssim_held.specs.File.{CanBeSaved, IsRow, IsSpelled}
-use Rattle.ssim_held.specs.Kept.{AreEntries, Entry}
+use Rattle.ssim_schedule.specs.Sinks.{TakesFront}
+use Rattle.ssim_schedule.specs.Stations.{Row}
+use Rattle.ssim_held.specs.File.{IsRow, IsSpelled}
+use Rattle.ssim_held.specs.Kept.{Entry}
+use Rattle.ssim_desk.proofs.DeskFiles.{file_is, from_parts}
 use Rattle.ssim_desk.proofs.desk.Desk.save.Goals as goal
 
-from_parts : {T E : Type 0} (r : Result T E) (base : BaseSeen) (entries : List Entry) → AreEntries base.records entries
-    → OnOk r (IsBaseRecords base.records) → OnOk r (All IsRow base.rows) → OnOk r (All IsSpelled entries) → OnOk r (CanBeSaved base entries)
-from_parts (Ok x) base entries are is_base rows spelled = record { is_base = is_base; rows = rows; entries_are = are; spelled = spelled }
-from_parts (Err e) base entries are is_base rows spelled = tt
+pub returns-clause-ok : goal.returns-clause-ok
+returns-clause-ok g c =
+    let records = c.of-left.ensures ∙ c.records-records.ensures.value ∙ ap (λ (b : BaseSeen). b.records) c.base-base.ensures in
+    let rows = c.rows.ensures ∙ ap (λ (b : BaseSeen). b.rows) c.base-base.ensures in
+    subst (λ (bytes : List ℕ). OnOk c.put_desk.result (Appends (g.W.Sink.taken c.args.out.now) (g.W.Sink.taken c.put_desk.new.out) bytes))
+    (file_is c.args.self.now.base c.args.self.now.held c.held.result.now c.of-left.result c.rows.result.now records rows c.held.ensures.value) c.put_desk.ensures.ok
+
+pub returns-clause-err : goal.returns-clause-err
+returns-clause-err g c =
+    let records = c.of-left.ensures ∙ c.records-records.ensures.value ∙ ap (λ (b : BaseSeen). b.records) c.base-base.ensures in
+    let rows = c.rows.ensures ∙ ap (λ (b : BaseSeen). b.rows) c.base-base.ensures in
+    subst (λ (bytes : List ℕ). OnErr c.put_desk.result (TakesFront bytes (g.W.Sink.taken c.args.out.now) (g.W.Sink.taken c.put_desk.new.out)))
+    (file_is c.args.self.now.base c.args.self.now.held c.held.result.now c.of-left.result c.rows.result.now records rows c.held.ensures.value) c.put_desk.ensures.err
 
 pub returns-clause-can_be_saved : goal.returns-clause-can_be_saved
 returns-clause-can_be_saved g c =
-    let result = c.put_desk.result in
     let base = c.args.self.now.base in
-    let held = c.args.self.now.held in
-    from_parts result base held c.held.ensures.kept (subst (λ (b : BaseSeen). OnOk result (IsBaseRecords b.records)) c.base.ensures c.put_desk.ensures.is_base)
-    (subst (λ (b : BaseSeen). OnOk result (All IsRow b.rows)) c.base.ensures c.put_desk.ensures.rows)
-    (subst (λ (es : List Entry). OnOk result (All IsSpelled es)) c.held.ensures.value c.put_desk.ensures.spelled)
+    let records = c.records-records.ensures.value ∙ ap (λ (b : BaseSeen). b.records) c.base-base.ensures in
+    let rows = c.rows.ensures ∙ ap (λ (b : BaseSeen). b.rows) c.base-base.ensures in
+    from_parts c.put_desk.result base c.args.self.now.held c.held.ensures.kept (subst IsBaseRecords records c.records-records.ensures.is_base)
+    (subst (λ (r : List Row). OnOk c.put_desk.result (All IsRow r)) rows c.put_desk.ensures.rows)
+    (subst (λ (es : List Entry). OnOk c.put_desk.result (All IsSpelled es)) c.held.ensures.value c.put_desk.ensures.spelled)

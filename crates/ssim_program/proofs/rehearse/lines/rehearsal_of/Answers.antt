@@ -10,9 +10,10 @@ use Rattle.ssim_program.proofs.rehearse.lines.rehearsal_of.Goals as goal
 
 pub step_lines-requires-clause-have : goal.step_lines-requires-clause-have
 step_lines-requires-clause-have c =
-    let base = c.args.base.now in let steps = c.args.steps.now in let answers = c.deref.result.now in
+    let base = c.args.empty.now.base in let steps = c.args.steps.now in let answers = c.deref.result.now in
     let before = c.deref_mut.result.now in let after = c.run_steps.new.desks in
-    let each : All (λ desk. desk ≡ fresh base) before = search rules in
+    let same : All (λ desk. desk ≡ c.args.empty.now) before = search rules in
+    let each : All (λ desk. desk ≡ fresh base) before = subst (λ (d : DeskSeen). All (λ desk. desk ≡ d) before) c.requires.fresh same in
     let many : length before ≡ c.args.count = search rules in
     let runs : Runs (map state_of before) steps answers (map state_of after) = search rules in
     let within : All (IsInRange (length (map state_of before))) steps = subst (λ n. All (IsInRange n) steps) (sym (length-map-one state_of before ∙ many)) c.requires.in_range in
@@ -20,9 +21,10 @@ step_lines-requires-clause-have c =
 
 pub returns : goal.returns
 returns c =
-    let base = c.args.base.now in let steps = c.args.steps.now in let answers = c.deref.result.now in
+    let base = c.args.empty.now.base in let steps = c.args.steps.now in let answers = c.deref.result.now in
     let before = c.deref_mut.result.now in let after = c.run_steps.new.desks in
-    let each : All (λ desk. desk ≡ fresh base) before = search rules in
+    let same : All (λ desk. desk ≡ c.args.empty.now) before = search rules in
+    let each : All (λ desk. desk ≡ fresh base) before = subst (λ (d : DeskSeen). All (λ desk. desk ≡ d) before) c.requires.fresh same in
     let many : length before ≡ c.args.count = search rules in
     let size : c.in_ok-desks.desks.len ≡ length after = omega (arith, c.run_steps.auto.desks, c.deref_mut.ensures.len) in
     let same : c.deref-2.result.now ≡ after = c.deref-2.ensures.value ∙ ap (λ n. take n (after ++ drop (length after) c.in_ok-desks.desks.items)) size ∙ take-append_seam after (drop (length after) c.in_ok-desks.desks.items) in

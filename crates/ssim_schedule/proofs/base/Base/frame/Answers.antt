@@ -1,20 +1,8 @@
--- The records are those of a base, whose frame can be written.
-use Rattle.std.proofs.Common.{subst, sym}
-use Rattle.ssim_schedule.specs.Export.{Frame}
-use Rattle.ssim_schedule.specs.ReadBack.{HasFrame, IsFrame, IsWritableFrame}
-use Rattle.ssim_schedule.proofs.ReadingBack.{frame-is}
+-- The frame is that of the records.
+use Rattle.std.proofs.Common.{subst}
+use Rattle.ssim_schedule.specs.BaseSeen.{BaseSeen}
+use Rattle.ssim_schedule.specs.ReadBack.{HasFrame}
 use Rattle.ssim_schedule.proofs.base.Base.frame.Goals as goal
 
-pub invariant_of-result : goal.invariant_of-result
-invariant_of-result c =
-    let can = c.carrier-carrier.ensures.exports in
-    let same = frame-is can.frame c.header-header.result.now c.carrier-carrier.result.now c.trailer-trailer.result.now
-    (c.header-header.ensures can.frame can.has_frame) (c.carrier-carrier.ensures.carrier can.frame can.has_frame) (c.trailer-trailer.ensures can.frame can.has_frame) in
-    subst (λ (f : Frame). IsFrame f × IsWritableFrame f) (sym same) (can.frame_is, can.frame_writable)
-
 pub returns : goal.returns
-returns c =
-    let can = c.carrier-carrier.ensures.exports in
-    let same = frame-is can.frame c.header-header.result.now c.carrier-carrier.result.now c.trailer-trailer.result.now
-    (c.header-header.ensures can.frame can.has_frame) (c.carrier-carrier.ensures.carrier can.frame can.has_frame) (c.trailer-trailer.ensures can.frame can.has_frame) in
-    subst (λ (f : Frame). HasFrame f c.args.self.now.records) (sym same) can.has_frame
+returns c = subst (λ (b : BaseSeen). HasFrame c.self.inside.frame b.records) c.self.view_is c.self.invariant.2

@@ -6,7 +6,7 @@ use Rattle.ssim_schedule.specs.Building.{IsClosed}
 use Rattle.ssim_schedule.specs.ReadBack.{AreInOrder}
 use Rattle.ssim_schedule.specs.SavedBase.{IsBaseRecords}
 use Rattle.ssim_schedule.specs.Timetable.{days_of}
-use Rattle.ssim_schedule.proofs.BaseFrame.{closed-records, exportable}
+use Rattle.ssim_schedule.proofs.FrameLemmas.{closed-records, exportable}
 use Rattle.ssim_schedule.proofs.SavedBases.{base-records}
 use Rattle.ssim_schedule.proofs.base.Base.records.Goals as goal
 

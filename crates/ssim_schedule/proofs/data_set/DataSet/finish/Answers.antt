@@ -33,10 +33,8 @@ outcome_of records notes = Ok (records, notes)
 
 pub returns-clause-read : goal.returns-clause-read
 returns-clause-read c = λ limit told h.
-    let none : c.missing.result ≡ None = search rules in (
-      c.args.gathering.notes.items,
-      of-all limit told h.done c.args.number _ h.given
-          (ap (λ (rs : List Record). outcome_of rs c.args.gathering.notes.items)
-          (c.in_ok-data_set.ensures.records h.earlier h.so_far.is_kept)
-          ∙ whole-outcome c.args.gathering h.earlier h.done c.args.number h.so_far (sym (c.missing.ensures h.earlier h.so_far.is_kept) ∙ none)),
-    )
+    let none : c.missing.result ≡ None = search rules in
+    of-all limit told h.done c.args.number _ h.given
+    (ap (λ (rs : List Record). outcome_of rs c.args.gathering.notes.items)
+    (c.in_ok-data_set.ensures.records h.earlier h.so_far.is_kept)
+    ∙ whole-outcome c.args.gathering h.earlier h.done c.args.number h.so_far (sym (c.missing.ensures h.earlier h.so_far.is_kept) ∙ none))

@@ -3,7 +3,7 @@ use Rattle.std.proofs.Common.{List, sym, subst}
 use Rattle.std.specs.List.{All}
 use Rattle.ssim_records.specs.declared.record.Record.{Record}
 use Rattle.ssim_schedule.specs.Building.{IsClosed}
-use Rattle.ssim_schedule.proofs.BaseFrame.{closed-records}
+use Rattle.ssim_schedule.proofs.FrameLemmas.{closed-records}
 use Rattle.ssim_schedule.proofs.data_set.DataSet.into_parts.Goals as goal
 
 pub returns-clause-closed : goal.returns-clause-closed

@@ -5,7 +5,7 @@ use Rattle.ssim_schedule.proofs.InOrder.{timetable-same}
 use Rattle.ssim_schedule.proofs.data_set.DataSet.into_schedule.Goals as goal
 
 pub invariant_of-schedule : goal.invariant_of-schedule
-invariant_of-schedule c = timetable-same (days_in c.in_ok-table.table) (days_of c.args.self) c.in_ok-table.ensures c.frame-frame.ensures.exports.timetable
+invariant_of-schedule c = timetable-same (days_in c.in_ok-table.table) (days_of c.args.self) c.in_ok-table.ensures c.frame.ensures.exports.timetable
 
 pub returns-clause-exists : goal.returns-clause-exists
-returns-clause-exists c = (c.frame-frame.ensures.exports.frame, c.frame-frame.ensures.exports.has_frame)
+returns-clause-exists c = (c.frame.ensures.exports.frame, c.frame.ensures.exports.has_frame)

@@ -5,7 +5,7 @@ use Rattle.ssim_records.specs.declared.record.Record.{Record}
 use Rattle.ssim_schedule.specs.Building.{IsClosed}
 use Rattle.ssim_schedule.specs.ReadBack.{AreInOrder}
 use Rattle.ssim_schedule.specs.Timetable.{days_of}
-use Rattle.ssim_schedule.proofs.BaseFrame.{closed-records, exportable}
+use Rattle.ssim_schedule.proofs.FrameLemmas.{closed-records, exportable}
 use Rattle.ssim_schedule.proofs.data_set.DataSet.pieces.Goals as goal
 
 pub returns-clause-closed : goal.returns-clause-closed

@@ -1,15 +1,14 @@
--- Gathering to the end counted no failure, and nothing is read behind it.
-use Rattle.std.proofs.Common.{ℕ, IfErr, sym, subst}
-use Rattle.ssim_schedule.specs.Reading.{FailsAs}
+-- The notes are left out.
+use Rattle.std.proofs.Common.{◌≡◌, Err, rules}
+use Rattle.ssim_schedule.specs.Reading.{IsReadOf}
+use Rattle.ssim_schedule.proofs.NotedReads.{of_records}
 use Rattle.ssim_schedule.proofs.data_set.DataSet.read.Goals as goal
 
-pub returns-clause-failure : goal.returns-clause-failure
-returns-clause-failure g c =
-    subst (λ (n : ℕ). IfErr c.finish.result (λ e. FailsAs (g.R.Source.failures c.args.reader.now) n e)) (sym c.in_ok-gathering.ensures.no_failure) (c.finish.ensures.failure (g.R.Source.failures c.args.reader.now))
+pub returns-in_err-data_set-clause-read : goal.returns-in_err-data_set-clause-read
+returns-in_err-data_set-clause-read g c =
+    let fault = c.in_err-data_set.field-0.0 in
+    let e : c.from_residual.result ≡ Err fault = search rules in
+    rw e (of_records fault (IsReadOf c.args.limit (g.R.Source.left c.args.reader.now)) c.in_err-data_set.ensures.read)
 
-pub returns-clause-fails_after : goal.returns-clause-fails_after
-returns-clause-fails_after g c = c.finish.ensures.fails_after (g.R.Source.left c.args.reader.now) (g.R.Source.left c.gather.new.reader)
-
-pub returns-clause-never_ends : goal.returns-clause-never_ends
-returns-clause-never_ends g c =
-    c.finish.ensures.never_ends c.args.limit (g.R.Source.came c.args.reader.now) (g.R.Source.came c.gather.new.reader) (g.R.Source.left c.args.reader.now) (g.R.Source.left c.gather.new.reader)
+pub returns-clause-read : goal.returns-clause-read
+returns-clause-read g c = (_, c.in_ok-data_set.ensures.read)

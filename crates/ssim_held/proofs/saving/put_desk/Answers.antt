@@ -6,7 +6,7 @@ use Rattle.ssim_schedule.specs.Stations.{Row}
 use Rattle.ssim_schedule.proofs.SinkLemmas.{at_fault, if_err, if_ok}
 use Rattle.ssim_held.specs.File.{counted, end_line, records_part, rows_part, texts_part}
 use Rattle.ssim_held.proofs.FileParts.{after_6, break_1, break_2, break_3, break_4, break_5, break_6}
-use Rattle.ssim_held.proofs.saving.put_file.Goals as goal
+use Rattle.ssim_held.proofs.saving.put_desk.Goals as goal
 
 pub returns-in_err-put_counted-clause-err : goal.returns-in_err-put_counted-clause-err
 returns-in_err-put_counted-clause-err g c =

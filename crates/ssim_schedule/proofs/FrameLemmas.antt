@@ -1,15 +1,20 @@
 -- The records of a base stand in its frame: header and carrier first, the trailer last.
-use Rattle.std.proofs.Common.{◌≡◌, suc, ◌+◌, ◌-◌, List, [], ◌∷◌, ◌++◌, length, map, slice_index_or, refl, ap, subst, ◌∙◌, arith}
+use Rattle.std.proofs.Common.{◌≡◌, suc, ◌+◌, ◌-◌, List, [], ◌∷◌, ◌++◌, length, map, slice_index_or, refl, sym, ap, subst, ◌∙◌, arith}
 use Rattle.std.proofs.lemmas.List.{length-append}
 use Rattle.std.proofs.lemmas.List.Elements.{All-from_recursion}
 use Rattle.std.specs.List.{All, AllByRecursion as Each}
+use Rattle.ssim_records.specs.Carrier.{CarrierFields}
+use Rattle.ssim_records.specs.Header.{HeaderFields}
+use Rattle.ssim_records.specs.Trailer.{TrailerFields}
 use Rattle.ssim_records.specs.declared.record.Record.{Record}
 use Rattle.ssim_records.specs.declared.record.Record.TheVariants.{Header, Carrier, Leg, Segment, Trailer}
 use Rattle.ssim_schedule.specs.Base.{airline_of, first_refusal, kept, kept_all, notes_of}
-use Rattle.ssim_schedule.specs.BaseSeen.{WasRead}
+use Rattle.ssim_schedule.specs.BaseSeen.{AreOfFrame, WasRead}
 use Rattle.ssim_schedule.specs.Building.{IsClosed}
 use Rattle.ssim_schedule.specs.Export.{Frame}
+use Rattle.ssim_schedule.specs.Plan.{frame_from}
 use Rattle.ssim_schedule.specs.ReadBack.{CanExport, HasFrame}
+use Rattle.ssim_schedule.proofs.ReadingBack.{frame-is}
 use Rattle.ssim_schedule.proofs.Bases.{bases_export, from-ok}
 
 pub exportable : (rs : List Record) → WasRead rs → CanExport rs
@@ -36,6 +41,17 @@ last-is frame rs d f =
     let len = length-framed frame rs f in
     let place : length rs - 1 ≡ suc (suc (length f.0)) = omega (arith, len) in
     ap (λ n. slice_index_or rs n d) place ∙ ap (λ xs. slice_index_or xs (suc (suc (length f.0))) d) f.1 ∙ at-end f.0 (Trailer frame.trailer) d
+
+-- of a base the first, the second and the last record are those of its frame
+pub are-of-frame : (frame : Frame) (rs : List Record) (a b d : Record) → HasFrame frame rs → a ≡ slice_index_or rs 0 a → b ≡ slice_index_or rs 1 b → d ≡ slice_index_or rs (length rs - 1) d → AreOfFrame frame a b d
+are-of-frame frame rs a b d f first second last = (first ∙ first-is frame rs a f, second ∙ second-is frame rs b f, last ∙ last-is frame rs d f)
+
+pub of-frame : (frame : Frame) (a b d : Record) (h : HeaderFields) (c : CarrierFields) (t : TrailerFields) → AreOfFrame frame a b d → a ≡ Header h → b ≡ Carrier c → d ≡ Trailer t → frame_from h c t ≡ frame
+of-frame frame a b d h c t are header carrier trailer =
+    let first : Header h ≡ Header frame.header = sym header ∙ are.0 in
+    let second : Carrier c ≡ Carrier frame.carrier = sym carrier ∙ are.1 in
+    let last : Trailer t ≡ Trailer frame.trailer = sym trailer ∙ are.2 in
+    frame-is frame h c t (cc) (cc) (cc)
 
 pub airline-is : (frame : Frame) (rs : List Record) → HasFrame frame rs → airline_of rs ≡ frame.carrier.airline
 airline-is frame rs f = ap airline_of f.1
