@@ -102,17 +102,21 @@ class Crates:
                 found.update({name: None, **dict.fromkeys(self.below(name))})
         return list(found)
 
-    def are_built(self, libraries):
-        """Waits until libraries are proved, and returns whether they are."""
-        while self.log:
-            with open(self.log, encoding="utf-8", errors="replace") as file:
-                said = file.read()
-            if all(re.search(rf"^rt: {name} (proved|is kept)", said, re.MULTILINE) for name in libraries):
-                return True
-            if ENDED.search(said):
-                return False
-            time.sleep(1)
-        return True
+    def said(self):
+        """What `rt ci` has printed so far, if it runs."""
+        if not self.log:
+            return ""
+        with open(self.log, encoding="utf-8", errors="replace") as file:
+            return file.read()
+
+    def are_built(self, crate):
+        """Whether the libraries below a crate are proved."""
+        said = self.said()
+        return not self.log or all(re.search(rf"^rt: {name} (proved|is kept)", said, re.MULTILINE) for name in self.below(crate))
+
+    def has_ended(self):
+        """Whether `rt ci` has printed its last line."""
+        return bool(ENDED.search(self.said()))
 
     def checked(self, crate, folder, functions, kept):
         """What a check of some functions of a crate's copy prints, and its status. It begins with what the folder `kept` holds."""
@@ -156,8 +160,6 @@ class Tries:
 
     def why_not_proved(self):
         """Why the functions that the wrong bodies name are not proved as they are; or None."""
-        if not self.crates.are_built(self.crates.below(self.crate)):
-            return f"{self.crate}: a library below it is not proved"
         functions = sorted({name for edit in self.edits for name in edit.functions})
         folder = os.path.join(self.room.name, "as_it_is")
         copied(self.crate, folder)
@@ -183,6 +185,27 @@ class Tries:
         return f"{self.crate}: {edit.name}: {what}:\n{said[:6000]}"
 
 
+def verdicts(crates, found):
+    """What each check comes to: None, or why it fails. A crate begins once the libraries below it are proved."""
+    results, running, ended = [], {}, False
+    with concurrent.futures.ThreadPoolExecutor(AT_ONCE) as pool:
+        while found or running:
+            for tries in [it for it in found if crates.are_built(it.crate)]:
+                found.remove(tries)
+                running[pool.submit(tries.why_not_proved)] = tries
+            if ended:
+                results += [f"{it.crate}: a library below it is not proved" for it in found]
+                found.clear()
+            ended = crates.has_ended()
+            time.sleep(1)
+            for it in [it for it in running if it.done()]:
+                tries, why = running.pop(it), it.result()
+                results.append(why)
+                if tries and not why:
+                    running.update({pool.submit(tries.why_not_refused, edit): None for edit in tries.edits})
+    return results
+
+
 def main(names):
     log = names[1] if names[:1] == ["--beside"] else None
     names = names[2:] if log else names
@@ -191,21 +214,11 @@ def main(names):
         folder = os.path.join(TOP, "crates", crate, "wrong_bodies")
         if os.path.isdir(folder):
             found.append(Tries(crates, crate, [read_edit(os.path.join(folder, name)) for name in sorted(os.listdir(folder))]))
-    passed = failed = 0
-    with concurrent.futures.ThreadPoolExecutor(AT_ONCE) as pool:
-        seeds = {pool.submit(it.why_not_proved): it for it in found}
-        waiting = set(seeds)
-        while waiting:
-            done, waiting = concurrent.futures.wait(waiting, return_when=concurrent.futures.FIRST_COMPLETED)
-            for it in done:
-                why = it.result()
-                passed, failed = passed + (why is None), failed + (why is not None)
-                if why:
-                    print(f"wrong bodies: {why}", flush=True)
-                elif it in seeds:
-                    tries = seeds[it]
-                    waiting |= {pool.submit(tries.why_not_refused, edit) for edit in tries.edits}
-    print(f"{passed} passed, {failed} failed")
+    results = verdicts(crates, found)
+    failed = [why for why in results if why]
+    for why in failed:
+        print(f"wrong bodies: {why}", flush=True)
+    print(f"{len(results) - len(failed)} passed, {len(failed)} failed")
     return 1 if failed else 0
 
 
