@@ -5,9 +5,9 @@ ghost use Rattle.ssim_desk.specs.Steps.{IsInRange};
 
 use crate::fault::Fault;
 use crate::shown::{number, push, push_line, push_named, push_refused, push_value};
+use ssim_base::{Base, Stations};
 use ssim_desk::{Answer, Desk, DeskFault, FindingLine, Step, Took, run_steps};
 use ssim_records::Bytes;
-use ssim_schedule::{Base, Stations};
 use std::alloc::Global;
 
 /// The desks of a case, numbered from 1.

@@ -3,7 +3,7 @@
 use crate::desks::{base_of, push_memory};
 use crate::fault::Fault;
 use crate::shown::{push_named, push_refused, push_value, show};
-use ssim_schedule::{Base, resolve};
+use ssim_base::{Base, resolve};
 use ssim_text::{Message, decode, encode};
 use std::alloc::Global;
 

@@ -2,11 +2,11 @@
 use Rattle.std.proofs.Common.{◌≡◌, ◌⊎◌, inl, inr, ℕ, ◌<◌, ◌==◌, Bool, true, false, List, length, Option, Some, None, Result, refl, sym, ap, subst, ◌∙◌}
 use Rattle.std.proofs.lemmas.Bool.Decides.{Decides-eqb}
 use Rattle.std.specs.FinMap.{get, same_map}
-use Rattle.ssim_schedule.specs.BaseSeen.{BaseSeen, WasRead}
-use Rattle.ssim_schedule.specs.Export.{ExportRefusal}
-use Rattle.ssim_schedule.specs.ReadBack.{BasesExport}
-use Rattle.ssim_schedule.specs.Reading.{SameBytesSameBase}
-use Rattle.ssim_schedule.specs.Stations.{SameBytesSameRows}
+use Rattle.ssim_base.specs.BaseSeen.{BaseSeen, WasRead}
+use Rattle.ssim_base.specs.Export.{ExportRefusal}
+use Rattle.ssim_base.specs.ReadBack.{BasesExport}
+use Rattle.ssim_base.specs.Reading.{SameBytesSameBase}
+use Rattle.ssim_base.specs.Stations.{SameBytesSameRows}
 use Rattle.ssim_text.specs.Grammar.{OneMessage}
 use Rattle.ssim_text.specs.Message.{MessageValue}
 use Rattle.ssim_text.specs.declared.reference.Reference.{Reference}

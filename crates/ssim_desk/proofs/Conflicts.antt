@@ -3,8 +3,8 @@ use Rattle.std.proofs.Common.{◌≡◌, ◌≢◌, ◌⊎◌, inl, inr, ℕ, �
 use Rattle.std.specs.List.{slice_get}
 use Rattle.std.specs.declared.alloc.Global.{Global}
 use Rattle.std.specs.declared.vec.Vec.{Vec}
-use Rattle.ssim_schedule.specs.BaseSeen.{BaseSeen}
-use Rattle.ssim_schedule.specs.Resolve.{HasOneOutcome, IsRefusedIn}
+use Rattle.ssim_base.specs.BaseSeen.{BaseSeen}
+use Rattle.ssim_base.specs.Resolve.{HasOneOutcome, IsRefusedIn}
 use Rattle.ssim_text.specs.Grammar.{OneMessage}
 use Rattle.ssim_text.specs.Message.{MessageValue}
 use Rattle.ssim_text.specs.declared.fault.TextFault.{TextFault}

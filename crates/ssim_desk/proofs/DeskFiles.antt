@@ -1,9 +1,9 @@
 -- The file of a desk from its parts, and that it can be saved.
 use Rattle.std.proofs.Common.{◌≡◌, OnOk, Result, Ok, Err, All, List, ap, ◌∙◌}
 use Rattle.ssim_records.specs.declared.record.Record.{Record}
-use Rattle.ssim_schedule.specs.BaseSeen.{BaseSeen, base_with}
-use Rattle.ssim_schedule.specs.SavedBase.{IsBaseRecords}
-use Rattle.ssim_schedule.specs.Stations.{Row}
+use Rattle.ssim_base.specs.BaseSeen.{BaseSeen, base_with}
+use Rattle.ssim_base.specs.SavedBase.{IsBaseRecords}
+use Rattle.ssim_base.specs.Stations.{Row}
 use Rattle.ssim_held.specs.File.{CanBeSaved, IsRow, IsSpelled, desk_file}
 use Rattle.ssim_held.specs.Kept.{AreEntries, Entry}
 

@@ -1,14 +1,14 @@
 -- The export of a schedule is that of the timetable that it has.
 use Rattle.std.proofs.Common.{◌≡◌, ℕ, List, Option, Result, ap, subst}
 use Rattle.ssim_records.specs.declared.record.Record.{Record}
-use Rattle.ssim_schedule.proofs.ReadingBack.{reads_back_as}
-use Rattle.ssim_schedule.proofs.Whole.{same_export}
-use Rattle.ssim_schedule.specs.BaseSeen.{BaseSeen}
-use Rattle.ssim_schedule.specs.Export.{ExportRefusal, Frame, chapter7, export_bytes, result_map}
+use Rattle.ssim_base.proofs.ReadingBack.{reads_back_as}
+use Rattle.ssim_base.proofs.Whole.{same_export}
+use Rattle.ssim_base.specs.BaseSeen.{BaseSeen}
+use Rattle.ssim_base.specs.Export.{ExportRefusal, Frame, chapter7, export_bytes, result_map}
 use Rattle.ssim_schedule.specs.Plan.{ReadsBackBase, Refuses, RefusesBase, Writes, WritesBase}
 use Rattle.ssim_schedule.specs.Schedule.{Table}
-use Rattle.ssim_schedule.specs.Stations.{Row}
-use Rattle.ssim_schedule.specs.Timetable.{Days, itinerary}
+use Rattle.ssim_base.specs.Stations.{Row}
+use Rattle.ssim_base.specs.Timetable.{Days, itinerary}
 use Rattle.ssim_schedule.specs.declared.export.ExportFault.{ExportFault}
 use Rattle.ssim_values.specs.Flight.{FlightNumber, IsFlight}
 use Rattle.ssim_held.specs.Kept.{Entry}

@@ -9,12 +9,12 @@ use Rattle.ssim_records.specs.Header.{HeaderFields}
 use Rattle.ssim_records.specs.Trailer.{TrailerFields}
 use Rattle.ssim_records.specs.declared.record.Record.{Record}
 use Rattle.ssim_records.specs.declared.record.Record.TheVariants.{Header, Carrier, Trailer}
-use Rattle.ssim_schedule.proofs.FrameLemmas.{first-is, last-is, second-is}
-use Rattle.ssim_schedule.specs.BaseSeen.{BaseSeen}
-use Rattle.ssim_schedule.specs.Export.{Frame, chapter7}
-use Rattle.ssim_schedule.specs.ReadBack.{BasesExport, HasFrame}
-use Rattle.ssim_schedule.specs.Resolve.{ResolvesIn}
-use Rattle.ssim_schedule.specs.declared.resolving.ResolvedText.{ResolvedText}
+use Rattle.ssim_base.proofs.FrameLemmas.{first-is, last-is, second-is}
+use Rattle.ssim_base.specs.BaseSeen.{BaseSeen}
+use Rattle.ssim_base.specs.Export.{Frame, chapter7}
+use Rattle.ssim_base.specs.ReadBack.{BasesExport, HasFrame}
+use Rattle.ssim_base.specs.Resolve.{ResolvesIn}
+use Rattle.ssim_base.specs.declared.resolving.ResolvedText.{ResolvedText}
 use Rattle.ssim_text.specs.Message.{MessageValue}
 use Rattle.ssim_text.specs.declared.reference.Reference.{Reference}
 use Rattle.ssim_held.specs.Held.{DeskState, HasReference}

@@ -2,10 +2,10 @@
 use Rattle.std.proofs.Common.{◌≡◌, ℕ, ◌<◌, List, [], slice_index_or, refl, sym, ap, ◌∙◌}
 use Rattle.std.proofs.lemmas.List.Elements.{All-weaker}
 use Rattle.ssim_periods.proofs.DayLemmas.{day_count-is}
-use Rattle.ssim_schedule.proofs.Calendars.{at-each_day}
-use Rattle.ssim_schedule.specs.BaseSeen.{BaseSeen}
+use Rattle.ssim_base.proofs.Calendars.{at-each_day}
+use Rattle.ssim_base.specs.BaseSeen.{BaseSeen}
 use Rattle.ssim_schedule.specs.Schedule.{Table, days_in}
-use Rattle.ssim_schedule.specs.Timetable.{Legs}
+use Rattle.ssim_base.specs.Timetable.{Legs}
 use Rattle.ssim_values.specs.Flight.{FlightNumber, IsFlight}
 use Rattle.ssim_held.specs.Kept.{AreEntries, DeskSeen, Entry, IsEntry, state_of}
 use Rattle.ssim_held.proofs.Entries.{entries-map_of}

@@ -4,9 +4,9 @@ use Rattle.std.specs.FinMap.{get, insert}
 use Rattle.std.specs.Ordering.{ordering_reverse}
 use Rattle.std.specs.declared.cmp.Ordering.{Ordering}
 use Rattle.std.specs.declared.cmp.Ordering.TheVariants.{Less, Equal, Greater}
-use Rattle.ssim_schedule.specs.BaseSeen.{BaseSeen}
-use Rattle.ssim_schedule.specs.Resolve.{HasOneOutcome, IsRefusedIn}
-use Rattle.ssim_schedule.specs.declared.resolving.ResolveFault.{ResolveFault}
+use Rattle.ssim_base.specs.BaseSeen.{BaseSeen}
+use Rattle.ssim_base.specs.Resolve.{HasOneOutcome, IsRefusedIn}
+use Rattle.ssim_base.specs.declared.resolving.ResolveFault.{ResolveFault}
 use Rattle.ssim_text.specs.Decoding.{OneRefusal}
 use Rattle.ssim_text.specs.Grammar.{OneMessage}
 use Rattle.ssim_text.specs.Message.{MessageValue}

@@ -7,11 +7,11 @@ use Rattle.std.specs.declared.cmp.Ordering.{Ordering}
 use Rattle.std.specs.declared.cmp.Ordering.TheVariants.{Less, Equal, Greater}
 use Rattle.ssim_records.specs.Record.{IsRecord}
 use Rattle.ssim_records.specs.declared.record.Record.{Record}
-use Rattle.ssim_schedule.specs.Base.{Done}
-use Rattle.ssim_schedule.specs.BaseSeen.{WasRead}
-use Rattle.ssim_schedule.specs.SavedBase.{IsBaseRecords}
-use Rattle.ssim_schedule.specs.Resolve.{ResolvesIn}
-use Rattle.ssim_schedule.specs.Stations.{Row}
+use Rattle.ssim_base.specs.Base.{Done}
+use Rattle.ssim_base.specs.BaseSeen.{WasRead}
+use Rattle.ssim_base.specs.SavedBase.{IsBaseRecords}
+use Rattle.ssim_base.specs.Resolve.{ResolvesIn}
+use Rattle.ssim_base.specs.Stations.{Row}
 use Rattle.ssim_text.specs.Message.{MessageValue}
 use Rattle.ssim_text.specs.declared.reference.Reference.{Reference}
 use Rattle.ssim_held.specs.Held.{DeskState, HasReference, IsDesk, reference_cmp}

@@ -10,14 +10,14 @@ use Rattle.std.specs.List.{count_by, list_any}
 use Rattle.std.specs.List.Sorted.{IsStrictlyIncreasing}
 use Rattle.ssim_records.specs.declared.record.Record.{Record}
 use Rattle.ssim_records.specs.declared.record.Record.TheVariants.{Header, Carrier, Leg, Segment, Trailer}
-use Rattle.ssim_schedule.specs.BaseSeen.{BaseSeen, is_leg_of}
-use Rattle.ssim_schedule.proofs.BuildingLemmas.{same_flight-place}
+use Rattle.ssim_base.specs.BaseSeen.{BaseSeen, is_leg_of}
+use Rattle.ssim_base.proofs.Places.{same_flight-place}
 use Rattle.ssim_schedule.specs.Acts.{AddsPointsOf, divides, is_named, is_point_of}
 use Rattle.ssim_schedule.specs.Points.{AreAtPoints, is_point}
-use Rattle.ssim_schedule.specs.ReadBack.{place_of}
-use Rattle.ssim_schedule.specs.Stations.{Row}
-use Rattle.ssim_schedule.specs.Timetable.{period_of, same_flight}
-use Rattle.ssim_schedule.specs.declared.resolved.ResolvedSub.{ResolvedSub}
+use Rattle.ssim_base.specs.ReadBack.{place_of}
+use Rattle.ssim_base.specs.Stations.{Row}
+use Rattle.ssim_base.specs.Timetable.{period_of, same_flight}
+use Rattle.ssim_base.specs.declared.resolved.ResolvedSub.{ResolvedSub}
 use Rattle.ssim_text.specs.declared.action.Action.{Action}
 use Rattle.ssim_values.specs.Flight.{FlightNumber, IsFlight}
 use Rattle.ssim_values.specs.Period.{DayRange}

@@ -1,10 +1,10 @@
 -- A message that resolves is not refused, and a message is refused in one way: a base and a message have one outcome.
 use Rattle.std.proofs.Common.{◌≡◌, List, Ok, Err, refl}
 use Rattle.ssim_records.specs.declared.record.Record.{Record}
-use Rattle.ssim_schedule.specs.Resolve.{HasOneOutcome, IsOutcome, IsRefusedIn, ResolvesIn}
-use Rattle.ssim_schedule.specs.declared.resolving.ResolveFault.{ResolveFault}
-use Rattle.ssim_schedule.specs.declared.resolving.ResolveFault.TheVariants.{Memory, TimeMode, Airline, NoSuchDate, Period}
-use Rattle.ssim_schedule.specs.declared.resolving.ResolvedText.{ResolvedText}
+use Rattle.ssim_base.specs.Resolve.{HasOneOutcome, IsOutcome, IsRefusedIn, ResolvesIn}
+use Rattle.ssim_base.specs.declared.resolving.ResolveFault.{ResolveFault}
+use Rattle.ssim_base.specs.declared.resolving.ResolveFault.TheVariants.{Memory, TimeMode, Airline, NoSuchDate, Period}
+use Rattle.ssim_base.specs.declared.resolving.ResolvedText.{ResolvedText}
 use Rattle.ssim_text.specs.Message.{MessageValue}
 
 -- a refusal that is not for memory is an outcome

@@ -4,13 +4,13 @@ use Rattle.std.proofs.Math.Seq.{drop-cons}
 use Rattle.std.specs.List.{range_with_len}
 use Rattle.ssim_periods.specs.Calendar.{day_count, holds}
 use Rattle.ssim_periods.specs.Days.{each_day}
-use Rattle.ssim_schedule.proofs.BuildingLemmas.{same_flight-place}
+use Rattle.ssim_base.proofs.Places.{same_flight-place}
 use Rattle.ssim_schedule.specs.Acts.{acted_on, after_on, after_sub, changed_by, finding_of}
 use Rattle.ssim_schedule.specs.Schedule.{Table, days_in}
-use Rattle.ssim_schedule.specs.Stations.{Row}
-use Rattle.ssim_schedule.specs.Timetable.{Days, Legs, same_flight}
+use Rattle.ssim_base.specs.Stations.{Row}
+use Rattle.ssim_base.specs.Timetable.{Days, Legs, same_flight}
 use Rattle.ssim_schedule.specs.declared.finding.Finding.{Finding}
-use Rattle.ssim_schedule.specs.declared.resolved.ResolvedSub.{ResolvedSub}
+use Rattle.ssim_base.specs.declared.resolved.ResolvedSub.{ResolvedSub}
 use Rattle.ssim_text.specs.declared.action.Action.{Action}
 use Rattle.ssim_text.specs.declared.action.Sub.{Sub}
 use Rattle.ssim_values.specs.Flight.{FlightNumber, IsFlight}

@@ -7,13 +7,13 @@ use Rattle.std.specs.List.{list_any}
 use Rattle.ssim_periods.specs.Calendar.{holds}
 use Rattle.ssim_periods.specs.Days.{each_day}
 use Rattle.ssim_records.specs.declared.record.Record.{Record}
-use Rattle.ssim_schedule.proofs.Places.{same-self}
+use Rattle.ssim_base.proofs.Places.{same-self}
 use Rattle.ssim_schedule.specs.Acts.{after_on, finding_of}
-use Rattle.ssim_schedule.specs.BaseSeen.{BaseSeen}
-use Rattle.ssim_schedule.specs.Stations.{Row}
-use Rattle.ssim_schedule.specs.Timetable.{Legs, is_among, itinerary, itinerary_among, same_flight}
+use Rattle.ssim_base.specs.BaseSeen.{BaseSeen}
+use Rattle.ssim_base.specs.Stations.{Row}
+use Rattle.ssim_base.specs.Timetable.{Legs, is_among, itinerary, itinerary_among, same_flight}
 use Rattle.ssim_schedule.specs.declared.finding.Finding.{Finding}
-use Rattle.ssim_schedule.specs.declared.resolved.ResolvedSub.{ResolvedSub}
+use Rattle.ssim_base.specs.declared.resolved.ResolvedSub.{ResolvedSub}
 use Rattle.ssim_text.specs.declared.action.Action.{Action}
 use Rattle.ssim_text.specs.declared.action.Sub.{Sub}
 use Rattle.ssim_values.specs.Flight.{FlightNumber}

@@ -1,7 +1,7 @@
 -- Desks that the same messages reached are one: the same messages held, the same itineraries, the same export.
 use Rattle.std.specs.{Prelude.{◌≡◌, ◌≢◌, ◌⊎◌, ◌<◌, ◌↔◌, ℕ, List, length, All, Some, Result, Ok}, FinMap.empty, List.slice_get}
 use Rattle.std.specs.{declared.alloc.Global.Global, declared.vec.Vec.Vec}
-use Rattle.ssim_schedule.specs.{Export.ExportRefusal, Reading.IsReadAs, Stations.SpellsTable, declared.note.Note.Note}
+use Rattle.ssim_base.specs.{Export.ExportRefusal, Reading.IsReadAs, Stations.SpellsTable, declared.note.Note.Note}
 use Rattle.ssim_text.specs.{Message.MessageValue, declared.reference.Reference.Reference}
 use Rattle.ssim_held.specs.{Held.{DeskState, Holds, IsDesk}, declared.fault.DeskFault.TheVariants.{Memory, Conflict}}
 use Rattle.ssim_desk.specs.{Meaning.{Exports, Means, Timetable}, Reach.{IsStep, Reached, SaysTo}, Steps.{IsInRange, Runs, desk_at}}

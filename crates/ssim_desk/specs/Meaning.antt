@@ -2,9 +2,11 @@
 use Rattle.std.specs.{Prelude.{◌≡◌, ℕ, ◌&&◌, if◌then◌else◌, List, [], ◌∷◌, All, Result}, FinMap.entries}
 use Rattle.ssim_periods.specs.{Calendar.holds, Days.each_day}
 use Rattle.ssim_records.specs.declared.record.Record.{Record}
-use Rattle.ssim_schedule.specs.{Acts.{after_on, finding_of}, BaseSeen.BaseSeen, Export.{ExportRefusal, Frame, chapter7}, ReadBack.HasFrame}
-use Rattle.ssim_schedule.specs.{Resolve.ResolvesIn, Stations.Row, Timetable.{Legs, itinerary, same_flight}, declared.finding.Finding.Finding}
-use Rattle.ssim_schedule.specs.{declared.resolved.ResolvedSub.ResolvedSub, declared.resolving.ResolvedText.ResolvedText}
+use Rattle.ssim_base.specs.{BaseSeen.BaseSeen, Export.{ExportRefusal, Frame, chapter7}, ReadBack.HasFrame}
+use Rattle.ssim_schedule.specs.{Acts.{after_on, finding_of}}
+use Rattle.ssim_base.specs.{Resolve.ResolvesIn, Stations.Row, Timetable.{Legs, itinerary, same_flight}}
+use Rattle.ssim_schedule.specs.{declared.finding.Finding.Finding}
+use Rattle.ssim_base.specs.{declared.resolved.ResolvedSub.ResolvedSub, declared.resolving.ResolvedText.ResolvedText}
 use Rattle.ssim_text.specs.declared.action.{Action.Action, Sub.Sub}
 use Rattle.ssim_values.specs.Flight.{FlightNumber}
 use Rattle.ssim_held.specs.{Held.{DeskState, IsDesk}, Kept.{Entry, keyed}}

@@ -2,8 +2,9 @@
 use Rattle.std.specs.Prelude.{◌≡◌, ◌⊎◌, ◌||◌, ℕ, ◌+◌, ◌*◌, ◌/◌, ◌%◌, ◌<◌, ◌≤◌, List, ◌++◌, length, take, map, slice_get, Contains, IsTrue, IfSome}
 use Rattle.std.specs.List.{flat_map, list_any}
 use Rattle.ssim_periods.specs.Days.{each_day}
-use Rattle.ssim_schedule.specs.{BaseSeen.BaseSeen, Schedule.{Table, cuts_in, days_in}, Stations.Row, declared.finding.Finding.Finding}
-use Rattle.ssim_schedule.specs.declared.resolved.ResolvedSub.{ResolvedSub}
+use Rattle.ssim_base.specs.{BaseSeen.BaseSeen, Stations.Row}
+use Rattle.ssim_schedule.specs.{Schedule.{Table, cuts_in, days_in}, declared.finding.Finding.Finding}
+use Rattle.ssim_base.specs.declared.resolved.ResolvedSub.{ResolvedSub}
 use Rattle.ssim_text.specs.Message.{MessageValue}
 use Rattle.ssim_values.specs.Flight.{FlightNumber, IsFlight}
 use Rattle.ssim_held.specs.{Held.{DeskState, Holds, Says}, Kept.{DeskSeen, Entry, IsEntry}, Ordered.Belongs}

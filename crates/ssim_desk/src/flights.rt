@@ -2,15 +2,16 @@
 
 ghost use Rattle.std.specs.Prelude.{◌≡◌, ◌++◌, map, IfOk, OnOk};
 ghost use Rattle.std.specs.List.{list_any};
-ghost use Rattle.ssim_schedule.specs.BaseSeen.{base_with};
+ghost use Rattle.ssim_base.specs.BaseSeen.{base_with};
 ghost use Rattle.ssim_desk.specs.Desk.{is_sub_of};
 ghost use Rattle.ssim_desk.specs.Meaning.{Timetable, after_entries, entries_findings, found_by, left_by};
 ghost use Rattle.ssim_desk.specs.Private.{Shows, flights_of};
 
 use crate::replay::act;
 use crate::tail::Found;
+use ssim_base::{DataSet, ResolvedSub, StationRow};
 use ssim_held::Held;
-use ssim_schedule::{DataSet, PlacedLeg, ResolvedSub, Schedule, StationRow};
+use ssim_schedule::{PlacedLeg, Schedule};
 use ssim_values::{Day, Flight, Memory};
 use std::alloc::Global;
 

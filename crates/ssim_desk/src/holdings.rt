@@ -2,9 +2,9 @@
 
 ghost use Rattle.std.specs.Prelude.{◌≡◌, ◌↔◌, ◌++◌, [], IsTrue, ◌∷◌, take, drop, Ok, IfErr, IfOk, OnErr, OnOk};
 ghost use Rattle.std.specs.Io.KnownBytes.{Appends};
-ghost use Rattle.ssim_schedule.specs.BaseSeen.{base_with};
+ghost use Rattle.ssim_base.specs.BaseSeen.{base_with};
 ghost use Rattle.ssim_schedule.specs.Plan.{ReadsBackBase, RefusesBase, WritesBase};
-ghost use Rattle.ssim_schedule.specs.Sinks.{CountsFault, TakesFront};
+ghost use Rattle.ssim_base.specs.Sinks.{CountsFault, TakesFront};
 ghost use Rattle.ssim_held.specs.File.{CanBeSaved, IsDeskFile, desk_file};
 ghost use Rattle.ssim_text.specs.Message.{MessageValue};
 ghost use Rattle.ssim_text.specs.declared.reference.Reference.{Reference};
@@ -21,9 +21,10 @@ use crate::finding_line::{FindingLine, push_lines};
 use crate::flights::{found_by, legs_after};
 use crate::offer::{Offer, offer_over};
 use crate::replay::act_in_order;
+use ssim_base::{DataSet, Stations, WriteFault};
 use ssim_held::{DeskFault, Held, Opened, first_conflict, merged, put_desk, read_parts};
 use ssim_records::{Parts, Sink};
-use ssim_schedule::{DataSet, ExportFault, PlacedLeg, Stations, WriteFault};
+use ssim_schedule::{ExportFault, PlacedLeg, Schedule};
 use ssim_text::Reference;
 use ssim_values::{Day, Flight, Memory};
 use std::alloc::Global;
@@ -43,7 +44,7 @@ pub struct Holdings {
 }
 
 impl Model for Holdings {
-    ghost use Rattle.ssim_schedule.specs.BaseSeen.{base_with};
+    ghost use Rattle.ssim_base.specs.BaseSeen.{base_with};
     ghost use Rattle.ssim_held.specs.Kept.{AreEntries, DeskSeen};
 
     ghost Value = { DeskSeen };
@@ -197,7 +198,7 @@ impl Holdings {
             held,
             alloc,
         } = self;
-        let (mut schedule, frame) = data_set.into_schedule()?;
+        let (mut schedule, frame) = Schedule::of_data_set(data_set)?;
         act_in_order(alloc, stations.rows(), &mut schedule, &held)?;
         schedule.export_in(&frame, out)
     }

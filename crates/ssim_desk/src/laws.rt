@@ -5,10 +5,10 @@ ghost use Rattle.ssim_desk.specs.Meaning.{HasExport, HasMeaning, HasOneExport, H
 ghost use Rattle.ssim_desk.specs.Merging.{MergesAreDetermined, MergesAssociate, MergesCommute, MergesRepeat, TakesAreDetermined, ThreeDesksMerge};
 ghost use Rattle.ssim_desk.specs.Reach.{HoldsWhatReached};
 
-pub use ssim_held::laws::{no_two_desks_have_one_file, opened_is_saved};
-use ssim_schedule::laws::{
+use ssim_base::laws::{
     bases_can_be_exported, resolving_has_one_outcome, same_bytes_same_base, same_bytes_same_rows,
 };
+pub use ssim_held::laws::{no_two_desks_have_one_file, opened_is_saved};
 use ssim_text::laws::{one_message, one_refusal};
 
 /// Any two desks agree if they began from the same bytes of a data set and of a station table, or as one desk, and the same messages

@@ -2,16 +2,16 @@
 
 ghost use Rattle.std.specs.Prelude.{◌≡◌, ℕ, List, length, IfErr, IfOk};
 ghost use Rattle.ssim_records.specs.declared.record.Record.{Record};
-ghost use Rattle.ssim_schedule.specs.BaseSeen.{BaseSeen};
-ghost use Rattle.ssim_schedule.specs.ReadBack.{HasFrame};
-ghost use Rattle.ssim_schedule.specs.Resolve.{ResolvesIn};
+ghost use Rattle.ssim_base.specs.BaseSeen.{BaseSeen};
+ghost use Rattle.ssim_base.specs.ReadBack.{HasFrame};
+ghost use Rattle.ssim_base.specs.Resolve.{ResolvesIn};
 ghost use Rattle.ssim_text.specs.Spelling.{SpellsMessage};
 ghost use Rattle.ssim_held.specs.Kept.{AreEntries, AreRising, map_of};
 ghost use Rattle.ssim_desk.specs.Private.{IsOffer};
 ghost use Rattle.ssim_desk.specs.Steps.{RefusesText};
 
+use ssim_base::{BaseFrame, ResolvedText};
 use ssim_held::{DeskFault, Found, Held, look};
-use ssim_schedule::{BaseFrame, ResolvedText};
 use ssim_text::{Message, Reference, decode};
 use std::alloc::Global;
 

@@ -8,8 +8,9 @@ ghost use Rattle.ssim_values.specs.Flight.{FlightNumber, IsFlight};
 ghost use Rattle.ssim_desk.specs.Private.{AddsSubPoints, Shows};
 ghost use Rattle.ssim_desk.specs.Meaning.{Timetable, after_entries, after_entry, after_one, subs_findings};
 
+use ssim_base::{ResolvedSub, StationRow};
 use ssim_held::Held;
-use ssim_schedule::{Finding, ResolvedSub, Schedule, StationRow};
+use ssim_schedule::{Finding, Schedule};
 use ssim_text::Sub;
 use ssim_values::Memory;
 use std::alloc::Global;

@@ -1,13 +1,14 @@
 //! Schedule, findings and checkpoints of the messages from a checkpoint on.
 
 ghost use Rattle.std.specs.Prelude.{◌≡◌, ◌<◌, ◌%◌, ◌++◌, ◌∷◌, [], ℕ, List, length, IfOk, OnOk};
-ghost use Rattle.ssim_schedule.specs.BaseSeen.{BaseSeen};
+ghost use Rattle.ssim_base.specs.BaseSeen.{BaseSeen};
 ghost use Rattle.ssim_held.specs.Kept.{Entry};
 ghost use Rattle.ssim_desk.specs.Private.{IsAfter, IsCounted, IsTail};
 
 use crate::replay::act;
+use ssim_base::Base;
 use ssim_held::Held;
-use ssim_schedule::{Base, Finding, Schedule};
+use ssim_schedule::{Finding, Schedule};
 use ssim_values::Memory;
 use std::alloc::Global;
 use std::marker::Model;

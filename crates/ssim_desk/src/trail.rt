@@ -6,8 +6,9 @@ ghost use Rattle.ssim_desk.specs.Meaning.{found_by};
 ghost use Rattle.ssim_desk.specs.Private.{IsAfter, IsReplaced, IsTail};
 
 use crate::tail::{Found, STEP, Tail, apply_all};
+use ssim_base::Base;
 use ssim_held::Held;
-use ssim_schedule::{Base, Schedule};
+use ssim_schedule::Schedule;
 use ssim_values::Memory;
 use std::alloc::Global;
 use std::marker::Model;

@@ -2,9 +2,9 @@
 use Rattle.std.proofs.Common.{◌≡◌, ◌<◌, ℕ, ◌+◌, List, ◌++◌, [], length, drop, get_or, Option, refl, sym, ap, subst, ◌∙◌}
 use Rattle.std.specs.Io.KnownBytes.{Appends}
 use Rattle.std.specs.List.{flat_map}
-use Rattle.ssim_schedule.specs.Sinks.{TakesFront, TakesUpTo}
-use Rattle.ssim_schedule.proofs.Puts.{item}
-use Rattle.ssim_schedule.proofs.SinkLemmas.{all_taken, halt, start, step, taken_all, then, then_front}
+use Rattle.ssim_base.specs.Sinks.{TakesFront, TakesUpTo}
+use Rattle.ssim_base.proofs.Each.{item}
+use Rattle.ssim_base.proofs.SinkLemmas.{all_taken, halt, start, step, taken_all, then, then_front}
 
 -- the elements that are left are the one at hand and those after it
 pub element : {X : Type 0} (f : X → List ℕ) (xs : List X) (i : ℕ) (x : X) (bytes : List ℕ) → i < length xs → x ≡ get_or xs i x → bytes ≡ f x

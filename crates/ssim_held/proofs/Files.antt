@@ -22,10 +22,10 @@ use Rattle.ssim_records.specs.declared.record.Record.{Record}
 use Rattle.ssim_records.proofs.CarriedTexts.{length_station}
 use Rattle.ssim_records.proofs.Days.{length_day}
 use Rattle.ssim_records.proofs.Lines.{length_written}
-use Rattle.ssim_schedule.specs.BaseSeen.{BaseSeen}
-use Rattle.ssim_schedule.specs.Resolve.{ResolvesIn}
-use Rattle.ssim_schedule.specs.SavedBase.{IsBaseRecords, SavedIsOne, saved}
-use Rattle.ssim_schedule.specs.Stations.{Row}
+use Rattle.ssim_base.specs.BaseSeen.{BaseSeen}
+use Rattle.ssim_base.specs.Resolve.{ResolvesIn}
+use Rattle.ssim_base.specs.SavedBase.{IsBaseRecords, SavedIsOne, saved}
+use Rattle.ssim_base.specs.Stations.{Row}
 use Rattle.ssim_text.specs.Bytes.{before}
 use Rattle.ssim_text.specs.Canonical.{canonical}
 use Rattle.ssim_text.specs.Spelling.{EqualWhereWrittenEqual}

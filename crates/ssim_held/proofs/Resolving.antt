@@ -4,11 +4,11 @@ use Rattle.std.proofs.lemmas.Bool.{cases_lt}
 use Rattle.ssim_records.specs.Carrier.{CarrierFields}
 use Rattle.ssim_records.specs.declared.record.Record.{Record}
 use Rattle.ssim_records.specs.declared.record.Record.TheVariants.{Header, Carrier, Leg, Segment, Trailer}
-use Rattle.ssim_schedule.specs.Export.{Frame}
-use Rattle.ssim_schedule.specs.ReadBack.{HasFrame}
-use Rattle.ssim_schedule.specs.Resolve.{AreDates, AreResolved, IsNext, IsResolved, Means, MeansEnd, Resolves, ResolvesIn}
-use Rattle.ssim_schedule.specs.declared.resolved.ResolvedSub.{ResolvedSub}
-use Rattle.ssim_schedule.specs.declared.resolving.ResolvedText.{ResolvedText}
+use Rattle.ssim_base.specs.Export.{Frame}
+use Rattle.ssim_base.specs.ReadBack.{HasFrame}
+use Rattle.ssim_base.specs.Resolve.{AreDates, AreResolved, IsNext, IsResolved, Means, MeansEnd, Resolves, ResolvesIn}
+use Rattle.ssim_base.specs.declared.resolved.ResolvedSub.{ResolvedSub}
+use Rattle.ssim_base.specs.declared.resolving.ResolvedText.{ResolvedText}
 use Rattle.ssim_text.specs.Message.{MessageValue}
 use Rattle.ssim_text.specs.declared.action.Sub.{Sub}
 use Rattle.ssim_text.specs.declared.dates.Dates.{Dates}

@@ -5,7 +5,7 @@ use Rattle.ssim_values.specs.Day.{SpellsDay, day_text}
 use Rattle.ssim_values.specs.Variation.{Offset, variation_text}
 use Rattle.ssim_values.proofs.DayLaws.{day_of-bound}
 use Rattle.ssim_records.proofs.Days.{length_day}
-use Rattle.ssim_schedule.specs.Stations.{Row}
+use Rattle.ssim_base.specs.Stations.{Row}
 use Rattle.ssim_held.specs.File.{row_line}
 
 -- the first bytes of a list

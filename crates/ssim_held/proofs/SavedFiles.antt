@@ -3,9 +3,9 @@ use Rattle.std.proofs.Common.{◌≡◌, inl, inr, ℕ, ◌<◌, ◌^◌, List, 
 use Rattle.std.specs.List.{All, AllByRecursion as Each, flat_map}
 use Rattle.std.proofs.lemmas.List.Elements.{All-from_recursion, recursion_from_All}
 use Rattle.ssim_records.specs.declared.record.Record.{Record}
-use Rattle.ssim_schedule.specs.BaseSeen.{BaseSeen, base_with}
-use Rattle.ssim_schedule.specs.SavedBase.{IsBaseRecords, SavedIsOne, saved}
-use Rattle.ssim_schedule.specs.Stations.{Row}
+use Rattle.ssim_base.specs.BaseSeen.{BaseSeen, base_with}
+use Rattle.ssim_base.specs.SavedBase.{IsBaseRecords, SavedIsOne, saved}
+use Rattle.ssim_base.specs.Stations.{Row}
 use Rattle.ssim_text.specs.Spelling.{EqualWhereWrittenEqual}
 use Rattle.ssim_held.specs.File.{CanBeSaved, IsDeskFile, IsFileOf, IsRow, IsSpelled, after_first_line, counted, end_line, records_part, row_line, rows_part, text_element, texts_part}
 use Rattle.ssim_held.specs.Kept.{Entry, IsEntry}

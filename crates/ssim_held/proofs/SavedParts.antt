@@ -8,9 +8,9 @@ use Rattle.std.proofs.lemmas.List.{append-nil, take-append-drop}
 use Rattle.std.proofs.lemmas.List.Elements.{All-from_recursion, recursion_from_All}
 use Rattle.ssim_records.specs.Record.{IsRecord}
 use Rattle.ssim_records.specs.declared.record.Record.{Record}
-use Rattle.ssim_schedule.specs.BaseSeen.{BaseSeen}
-use Rattle.ssim_schedule.specs.SavedBase.{IsBaseRecords, saved}
-use Rattle.ssim_schedule.specs.Stations.{Row}
+use Rattle.ssim_base.specs.BaseSeen.{BaseSeen}
+use Rattle.ssim_base.specs.SavedBase.{IsBaseRecords, saved}
+use Rattle.ssim_base.specs.Stations.{Row}
 use Rattle.ssim_text.specs.Spelling.{EqualWhereWrittenEqual}
 use Rattle.ssim_held.specs.File.{IsRow, IsSpelled, counted, record_line, records_part, row_line, rows_part, text_element, texts_part}
 use Rattle.ssim_held.specs.Kept.{AreRising, Entry, IsEntry}

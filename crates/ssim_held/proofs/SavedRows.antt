@@ -23,7 +23,7 @@ use Rattle.ssim_text.specs.Lines.{day_in, station_in}
 use Rattle.ssim_text.proofs.LeftLemmas.{after}
 use Rattle.ssim_text.proofs.LinesKept.{IsLine, chosen, line_behind}
 use Rattle.ssim_text.proofs.Words.{before_mark, behind_first, from_mark, is_solid, lacks, no_blanks, solid_line, solid_no_blank, solid_printable, word_first}
-use Rattle.ssim_schedule.specs.Stations.{AreRows, Row, SpellsRow, SpellsTable, variation_in}
+use Rattle.ssim_base.specs.Stations.{AreRows, Row, SpellsRow, SpellsTable, variation_in}
 use Rattle.ssim_held.specs.File.{IsRow, row_line, row_text}
 
 -- ---- bytes without blanks

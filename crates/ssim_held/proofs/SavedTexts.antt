@@ -6,10 +6,10 @@ use Rattle.std.specs.FinMap.Entries.{below_all}
 use Rattle.std.specs.List.{AllByRecursion as Each}
 use Rattle.std.specs.declared.cmp.Ordering.TheVariants.{Less}
 use Rattle.ssim_records.specs.declared.record.Record.{Record}
-use Rattle.ssim_schedule.specs.Resolve.{HasOneOutcome, IsRefusedIn, ResolvesIn}
-use Rattle.ssim_schedule.specs.declared.resolving.ResolveFault.{ResolveFault}
-use Rattle.ssim_schedule.specs.declared.resolving.ResolveFault.TheVariants as resolve_fault
-use Rattle.ssim_schedule.specs.declared.resolving.ResolvedText.{ResolvedText}
+use Rattle.ssim_base.specs.Resolve.{HasOneOutcome, IsRefusedIn, ResolvesIn}
+use Rattle.ssim_base.specs.declared.resolving.ResolveFault.{ResolveFault}
+use Rattle.ssim_base.specs.declared.resolving.ResolveFault.TheVariants as resolve_fault
+use Rattle.ssim_base.specs.declared.resolving.ResolvedText.{ResolvedText}
 use Rattle.ssim_text.specs.Canonical.{canonical}
 use Rattle.ssim_text.specs.Message.{MessageValue}
 use Rattle.ssim_text.specs.Spelling.{EqualWhereWrittenEqual, SpellsMessage}

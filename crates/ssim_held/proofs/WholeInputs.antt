@@ -3,7 +3,7 @@ use Rattle.std.proofs.Common.{◌≡◌, ◌⊎◌, inl, inr, ℕ, ◌+◌, ◌%
 use Rattle.std.specs.Io.KnownBytes.{IsAtEnd}
 use Rattle.std.proofs.lemmas.List.{append-nil}
 use Rattle.ssim_records.specs.Blocks.{CountsOn, SameAhead}
-use Rattle.ssim_schedule.specs.Reading.{Came}
+use Rattle.ssim_base.specs.Reading.{Came}
 use Rattle.std.specs.Prelude.{IfErr, IfSome, Result}
 use Rattle.ssim_records.specs.declared.fault.RecordFault.TheVariants.{ReadFault}
 use Rattle.ssim_held.specs.Opening.{NeverEnds, RefusesFile}

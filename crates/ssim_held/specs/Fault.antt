@@ -2,12 +2,12 @@
 use Rattle.std.specs.{Prelude.{ℕ, List, ◌++◌, codes}, Fmt.decimal}
 use Rattle.ssim_records.specs.Record.{fault_name, fault_number, fault_text}
 use Rattle.ssim_schedule.specs.{Fault.{resolve_fault_name, resolve_fault_text}, Resolve.resolve_fault_number}
-use Rattle.ssim_schedule.specs.declared.resolving.ResolveFault.{ResolveFault}
+use Rattle.ssim_base.specs.declared.resolving.ResolveFault.{ResolveFault}
 use Rattle.ssim_text.specs.{Fault.{text_fault_name, text_fault_number, text_fault_text}, Reference.printed_reference}
 use Rattle.ssim_text.specs.declared.fault.TextFault.{TextFault}
 use Rattle.ssim_held.specs.declared.fault.DeskFault.{DeskFault}
 use Rattle.ssim_held.specs.declared.fault.DeskFault.TheVariants.{Memory, Text, Resolve, Conflict, OtherBase, Read, File}
-use Rattle.ssim_schedule.specs.declared.resolving.ResolveFault.TheVariants as resolve_fault
+use Rattle.ssim_base.specs.declared.resolving.ResolveFault.TheVariants as resolve_fault
 use Rattle.ssim_text.specs.declared.fault.TextFault.TheVariants as text_fault
 
 -- the number by which a fault is known

@@ -2,7 +2,7 @@
 -- record ends with LF, and a text with the LF of its own last line. Numbers are decimal without leading zeros.
 use Rattle.std.specs.{Prelude.{◌≡◌, ◌⊎◌, ℕ, ◌≤◌, ◌<◌, ◌^◌, List, [], ◌∷◌, ◌++◌, length, take, drop, codes, All, IsTrue}, Fmt.decimal, List.flat_map}
 use Rattle.ssim_records.specs.{Record.written, declared.record.Record.Record}
-use Rattle.ssim_schedule.specs.{BaseSeen.BaseSeen, SavedBase.{IsBaseRecords, saved}, Stations.Row}
+use Rattle.ssim_base.specs.{BaseSeen.BaseSeen, SavedBase.{IsBaseRecords, saved}, Stations.Row}
 use Rattle.ssim_text.specs.{Canonical.canonical, Spelling.SpellsMessage, Values.no_originator}
 use Rattle.ssim_values.specs.{Calendar.day_limit, Day.day_text, Station.is_station, Variation.variation_text}
 use Rattle.ssim_held.specs.Kept.{AreEntries, Entry}

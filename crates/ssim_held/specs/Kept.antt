@@ -1,8 +1,8 @@
 -- What a desk keeps of the messages that it holds, and what contracts see of a desk.
 use Rattle.std.specs.{Prelude.{◌≡◌, ℕ, List, [], ◌∷◌, All, IsTrue}, FinMap.{from_sorted, is_sorted}}
 use Rattle.ssim_records.specs.declared.record.Record.{Record}
-use Rattle.ssim_schedule.specs.{BaseSeen.BaseSeen, Resolve.ResolvesIn, declared.resolved.ResolvedSub.ResolvedSub}
-use Rattle.ssim_schedule.specs.declared.resolving.ResolvedText.{ResolvedText}
+use Rattle.ssim_base.specs.{BaseSeen.BaseSeen, Resolve.ResolvesIn, declared.resolved.ResolvedSub.ResolvedSub}
+use Rattle.ssim_base.specs.declared.resolving.ResolvedText.{ResolvedText}
 use Rattle.ssim_text.specs.{Message.MessageValue, declared.reference.Reference.Reference}
 use Rattle.ssim_held.specs.Held.{DeskState, HeldMessages, reference_cmp}
 

@@ -3,7 +3,7 @@ use Rattle.std.specs.Prelude.{◌≡◌, ℕ, ◌+◌, ◌%◌, ◌^◌, ◌<◌
 use Rattle.std.specs.Prelude.{Option, Some, None}
 use Rattle.std.specs.List.{list_all}
 use Rattle.ssim_records.specs.{declared.fault.RecordFault.TheVariants.{ReadFault, ReaderNeverEnds}, declared.record.Record.Record}
-use Rattle.ssim_schedule.specs.BaseSeen.{BaseSeen}
+use Rattle.ssim_base.specs.BaseSeen.{BaseSeen}
 use Rattle.ssim_text.specs.Canonical.{canonical}
 use Rattle.ssim_values.specs.Characters.{is_digit}
 use Rattle.ssim_held.specs.{File.{HasNoOriginator, IsDeskFile, IsSpelled, counted}, Kept.{AreEntries, AreRising, Entry, IsEntry}}

@@ -2,8 +2,8 @@
 
 ghost use Rattle.std.specs.Prelude.{◌≡◌, Some};
 
+use ssim_base::ResolveFault;
 use ssim_records::RecordFault;
-use ssim_schedule::ResolveFault;
 use ssim_text::{Reference, TextFault};
 use std::alloc::{AllocError, AllocFailed};
 use std::error::Error;

@@ -3,7 +3,7 @@
 ghost use Rattle.std.specs.Prelude.{◌≡◌, length, IfOk};
 ghost use Rattle.ssim_text.specs.Canonical.{canonical};
 
-use ssim_schedule::ResolvedSub;
+use ssim_base::ResolvedSub;
 use ssim_text::{Message, Reference};
 use ssim_values::Memory;
 use std::alloc::Global;

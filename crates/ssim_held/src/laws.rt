@@ -2,7 +2,7 @@
 
 ghost use Rattle.ssim_held.specs.File.{NoTwoDesks, OpensAsSaved, SavesAsOpened};
 
-use ssim_schedule::laws::saved_records_are_read;
+use ssim_base::laws::saved_records_are_read;
 use ssim_text::laws::equal_where_written_equal;
 
 /// Bytes are the desk file of at most one base with at most one list of held messages, whatever the version.

@@ -29,5 +29,5 @@ pub use held::Held;
 pub use lookup::{Found, look};
 pub use opening::{Opened, read_desk, read_parts};
 pub use saving::put_desk;
-pub use ssim_schedule::WriteFault;
+pub use ssim_base::WriteFault;
 pub use union::{first_conflict, first_new, merged};

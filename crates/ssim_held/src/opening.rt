@@ -1,9 +1,9 @@
 //! A desk file as it is read: its parts, one after another.
 
 ghost use Rattle.std.specs.Prelude.{◌≡◌, ◌≢◌, IfErr, IfOk, List, OnErr, OnOk};
-ghost use Rattle.ssim_schedule.specs.BaseSeen.{BaseSeen, base_with};
+ghost use Rattle.ssim_base.specs.BaseSeen.{BaseSeen, base_with};
 ghost use Rattle.ssim_held.specs.File.{IsDeskFile, end_line};
-ghost use Rattle.ssim_schedule.specs.Reading.{Came};
+ghost use Rattle.ssim_base.specs.Reading.{Came};
 ghost use Rattle.ssim_held.specs.Opening.{FailsAs, NeverEnds, Opens, RefusesBytes, RefusesFile};
 ghost use Rattle.ssim_held.specs.Kept.{Entry};
 
@@ -22,9 +22,9 @@ use fault::PartFault;
 use saved_records::read_records;
 use saved_rows::read_rows;
 use saved_texts::read_texts;
+use ssim_base::laws::saved_records_are_read;
+use ssim_base::{DataSet, Stations};
 use ssim_records::{Parts, Source};
-use ssim_schedule::laws::saved_records_are_read;
-use ssim_schedule::{DataSet, Stations};
 use ssim_text::laws::equal_where_written_equal;
 use std::alloc::Global;
 use version::take_version;

@@ -3,7 +3,7 @@
 ghost use Rattle.std.specs.Prelude.{◌≡◌};
 ghost use Rattle.ssim_held.specs.File.{IsRow, row_line};
 
-use ssim_schedule::StationRow;
+use ssim_base::StationRow;
 
 /// Writes a row with single blanks, and LF.
 pub(crate) fn write_row(row: &StationRow) -> [u8; 26]

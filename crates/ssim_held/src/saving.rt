@@ -3,15 +3,15 @@
 ghost use Rattle.std.specs.Prelude.{◌≡◌, ◌++◌, ◌∷◌, [], decimal, length, OnOk, OnErr};
 ghost use Rattle.std.specs.Io.KnownBytes.{Appends};
 ghost use Rattle.std.specs.List.{All};
-ghost use Rattle.ssim_schedule.specs.BaseSeen.{base_with};
-ghost use Rattle.ssim_schedule.specs.Sinks.{CountsFault, TakesFront, TakesUpTo};
+ghost use Rattle.ssim_base.specs.BaseSeen.{base_with};
+ghost use Rattle.ssim_base.specs.Sinks.{CountsFault, TakesFront, TakesUpTo};
 ghost use Rattle.ssim_held.specs.File.{IsRow, IsSpelled, desk_file, records_part, rows_part, text_element, texts_part};
 
 use crate::held::Held;
 use crate::row_line::write_row;
 use itoa::Buffer;
+use ssim_base::{Block, RecordsLeft, StationRow, WriteFault, flush, put_bytes, put_record};
 use ssim_records::Sink;
-use ssim_schedule::{Block, RecordsLeft, StationRow, WriteFault, flush, put_bytes, put_record};
 
 /// Puts the desk file of the base with these records, `count` in number, and these rows, and of the
 /// messages that are held.

@@ -6,14 +6,14 @@ use Rattle.ssim_records.specs.Header.{HeaderFields}
 use Rattle.ssim_records.specs.Trailer.{TrailerFields}
 use Rattle.ssim_records.specs.declared.record.Record.{Record}
 use Rattle.ssim_records.specs.declared.record.Record.TheVariants.{Header, Carrier, Trailer}
-use Rattle.ssim_schedule.specs.Base.{Outcome}
-use Rattle.ssim_schedule.specs.Export.{ExportRefusal, Frame, chapter7}
-use Rattle.ssim_schedule.specs.Plan.{ReadsBackBase, frame_from}
-use Rattle.ssim_schedule.specs.ReadBack.{HasFrame, ReadsBackFrom, kept_frame}
-use Rattle.ssim_schedule.specs.Reading.{FailedReader, IsReadAs, IsReadBack}
-use Rattle.ssim_schedule.specs.Timetable.{Days, days_of}
-use Rattle.ssim_schedule.specs.declared.note.Note.{Note}
-use Rattle.ssim_schedule.proofs.FrameLemmas.{first-is, last-is, second-is}
+use Rattle.ssim_base.specs.Base.{Outcome}
+use Rattle.ssim_base.specs.Export.{ExportRefusal, Frame, chapter7, frame_from}
+use Rattle.ssim_schedule.specs.Plan.{ReadsBackBase}
+use Rattle.ssim_base.specs.ReadBack.{HasFrame, ReadsBackFrom, kept_frame}
+use Rattle.ssim_base.specs.Reading.{FailedReader, IsReadAs, IsReadBack}
+use Rattle.ssim_base.specs.Timetable.{Days, days_of}
+use Rattle.ssim_base.specs.declared.note.Note.{Note}
+use Rattle.ssim_base.proofs.FrameLemmas.{first-is, last-is, second-is}
 use Rattle.ssim_program.specs.Again.{GrowsByItself, ReadsAsItself, TidiesOnce}
 use Rattle.ssim_program.specs.Made.{IsExportOf, file_limit}
 

@@ -4,19 +4,19 @@ use Rattle.std.specs.Io.KnownBytes.{Appends}
 use Rattle.std.proofs.KnownBytes.{Appends-trans}
 use Rattle.ssim_values.specs.Flight.{FlightNumber}
 use Rattle.ssim_records.specs.declared.record.Record.{Record}
-use Rattle.ssim_schedule.specs.Base.{airline_of}
+use Rattle.ssim_base.specs.Base.{airline_of}
 use Rattle.ssim_schedule.specs.Plan.{RefusesBase}
-use Rattle.ssim_schedule.specs.Timetable.{Days, days_of}
+use Rattle.ssim_base.specs.Timetable.{Days, days_of}
 use Rattle.ssim_schedule.specs.declared.export.ExportFault.{ExportFault}
 use Rattle.ssim_schedule.specs.declared.export.ExportFault.TheVariants.{Variations, Records, WriteFault, Memory}
-use Rattle.ssim_schedule.specs.declared.note.Note.{Note}
+use Rattle.ssim_base.specs.declared.note.Note.{Note}
 use Rattle.ssim_held.specs.Kept.{DeskSeen}
 use Rattle.ssim_desk.specs.Desk.{days_of_desk}
 use Rattle.ssim_program.specs.Again.{GrowsByItself}
 use Rattle.ssim_program.specs.Desks.{ReadsDesk}
 use Rattle.ssim_program.specs.Exported.{IsWritten, PrintsExport, failures_of, taken_of}
 use Rattle.ssim_program.specs.Files.{Files}
-use Rattle.ssim_program.specs.Line.{Text, Tidy, Export}
+use Rattle.ssim_command_line.specs.Line.{Text, Tidy, Export}
 use Rattle.ssim_program.specs.Made.{ReadsFile}
 use Rattle.ssim_program.specs.Paper.{Breaks, Grows, Paper, Prints}
 use Rattle.ssim_program.specs.Refusal.{refusal_of_export}

@@ -1,8 +1,3 @@
-pub mod Rows
-pub mod Words
-pub mod Levels
-pub mod Right
-pub mod Lines
 pub mod Printers
 pub mod Doing
 pub mod Exporting

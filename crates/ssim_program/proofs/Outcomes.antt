@@ -1,7 +1,7 @@
 -- The export of a desk into a buffer is the export of what the desk holds.
 use Rattle.std.proofs.Common.{◌≡◌, ◌∙◌, ◌++◌, ℕ, List, [], Option, Some, Ok, Err, sym, ap}
 use Rattle.ssim_records.specs.Device.{Buffer}
-use Rattle.ssim_schedule.specs.Export as exported
+use Rattle.ssim_base.specs.Export as exported
 use Rattle.ssim_schedule.specs.Plan.{RefusesBase, WritesBase}
 use Rattle.ssim_schedule.specs.declared.export.ExportFault.{ExportFault}
 use Rattle.ssim_schedule.specs.declared.export.ExportFault.TheVariants as export

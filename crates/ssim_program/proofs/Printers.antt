@@ -2,8 +2,8 @@
 use Rattle.std.proofs.Common.{◌≡◌, ◌∙◌, inl, inr, ℕ, ◌+◌, ◌%◌, ◌^◌, List, [], ◌++◌, Option, Result, Ok, Err, refl, sym, ap, subst, append-nil}
 use Rattle.std.specs.Io.KnownBytes.{Appends}
 use Rattle.std.proofs.KnownBytes.{Appends-nil, Appends-trans}
-use Rattle.ssim_schedule.specs.Sinks.{TakesFront, TakesUpTo}
-use Rattle.ssim_schedule.proofs.SinkLemmas.{all_taken, taken_all, then_front}
+use Rattle.ssim_base.specs.Sinks.{TakesFront, TakesUpTo}
+use Rattle.ssim_base.proofs.SinkLemmas.{all_taken, taken_all, then_front}
 use Rattle.ssim_program.specs.Paper.{Breaks, Grows, Paper, Prints, PrintsOrFails}
 use Rattle.ssim_program.specs.declared.refusal.Refusal.{Refusal}
 

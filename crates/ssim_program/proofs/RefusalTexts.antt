@@ -3,7 +3,7 @@ use Rattle.std.proofs.Common.{◌≡◌, ℕ, List, ◌++◌, String, refl, ap}
 use Rattle.std.specs.Prelude.{codes, string_bytes}
 use Rattle.std.specs.Fmt.{decimal, digits}
 use Rattle.std.specs.declared.alloc.Global.{Global}
-use Rattle.ssim_schedule.specs.Export.{line}
+use Rattle.ssim_base.specs.Export.{line}
 use Rattle.ssim_program.specs.Refusal.{refusal_text}
 use Rattle.ssim_program.specs.declared.refusal.Refusal.TheVariants as refused
 

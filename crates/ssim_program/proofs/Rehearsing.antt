@@ -2,7 +2,7 @@
 use Rattle.std.proofs.Common.{◌≡◌, ◌∙◌, ◌+◌, ◌++◌, ◌<◌, ◌==◌, ℕ, Bool, true, false, List, [], ◌∷◌, All, length, map, take, drop, get_or, Option, Some, None, refl, sym, ap, subst, add-one, drop-cons, take-append-drop, inr, ◌≤◌, arith}
 use Rattle.std.proofs.lemmas.List.{map-append}
 use Rattle.std.proofs.lemmas.List.{take_more}
-use Rattle.ssim_schedule.specs.BaseSeen.{BaseSeen}
+use Rattle.ssim_base.specs.BaseSeen.{BaseSeen}
 use Rattle.ssim_text.specs.Grammar.{OneMessage}
 use Rattle.ssim_held.specs.Held.{DeskState, HeldMessages, Says}
 use Rattle.ssim_desk.specs.Meaning.{Exports}

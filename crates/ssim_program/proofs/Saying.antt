@@ -3,18 +3,18 @@ use Rattle.std.proofs.Common.{◌≡◌, ◌⊎◌, inl, inr, ℕ, ◌≤◌, tr
 use Rattle.clap.specs.Values.{kind_of}
 use Rattle.clap.specs.declared.error.Error.{Error}
 use Rattle.ssim_program.specs.Help.{Answers, PrintsHelp, RefusesHelp, SaysHelp, SaysWrong}
-use Rattle.ssim_program.specs.Line.{Line, Text}
+use Rattle.ssim_command_line.specs.Line.{Line, Text}
 use Rattle.ssim_program.specs.Paper.{Breaks, Grows, Paper, PrintsOrFails}
 use Rattle.ssim_program.specs.Reasons.{PrintsRefusal}
-use Rattle.ssim_program.specs.Usage.{HasFault, IsCommand, IsFaultOf, IsNoCommand, Names, is_help}
+use Rattle.ssim_command_line.specs.Usage.{HasFault, IsCommand, IsFaultOf, IsNoCommand, Names, is_help}
 use Rattle.ssim_program.specs.World.{EndsWithLine, IsDone, IsRefused, Obeys, World, world}
 use Rattle.ssim_program.specs.Files.{Files}
-use Rattle.ssim_program.specs.declared.command_line.LineFault.{LineFault}
-use Rattle.ssim_program.specs.declared.command_line.LineFault.TheVariants.{Memory, Shown, NoCommand}
+use Rattle.ssim_command_line.specs.declared.command_line.LineFault.{LineFault}
+use Rattle.ssim_command_line.specs.declared.command_line.LineFault.TheVariants.{Memory, Shown, NoCommand}
 use Rattle.ssim_program.specs.declared.refusal.Refusal.{Refusal}
 use Rattle.ssim_program.specs.declared.refusal.Refusal.TheVariants as refused
 use Rattle.ssim_program.proofs.Doing.{memory_refuses}
-use Rattle.ssim_program.proofs.Lines.{names_faultless, names_once}
+use Rattle.ssim_command_line.proofs.Lines.{names_faultless, names_once}
 use Rattle.ssim_program.proofs.Printers.{nothing}
 
 -- what is said, by the status

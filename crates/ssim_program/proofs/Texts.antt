@@ -6,7 +6,7 @@ use Rattle.ssim_held.specs.File.{desk_file}
 use Rattle.ssim_held.specs.Kept.{DeskSeen}
 use Rattle.ssim_program.specs.Desks.{PrintsTexts, ReadsDesk, RefusesDeskFile, RefusesFileText, RefusesKeep, TakesFirst, TakesText, TakesTexts}
 use Rattle.ssim_program.specs.Files.{Files, with_kept}
-use Rattle.ssim_program.specs.Line.{Text, Take}
+use Rattle.ssim_command_line.specs.Line.{Text, Take}
 use Rattle.ssim_program.specs.Paper.{Breaks, Grows, Paper}
 use Rattle.ssim_program.specs.World.{Does, world}
 use Rattle.ssim_program.specs.declared.refusal.Refusal.{Refusal}

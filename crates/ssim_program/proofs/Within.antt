@@ -4,15 +4,15 @@ use Rattle.ssim_records.specs.Frames.{others}
 use Rattle.ssim_records.specs.declared.fault.RecordFault.{RecordFault}
 use Rattle.ssim_records.specs.declared.fault.RecordFault.TheVariants.{Short, BadType, BadColumn, ReadFault, ReaderNeverEnds}
 use Rattle.ssim_records.specs.declared.record.Record.{Record}
-use Rattle.ssim_schedule.specs.Base.{Ending, Done, Broken, at_record, first_refusal, kept, missing, refusal_at, unless_refused}
-use Rattle.ssim_schedule.specs.Reading.{AnswersRecords, FailsAs, Gives, IsReadAs}
-use Rattle.ssim_schedule.specs.Summary.{Sums}
-use Rattle.ssim_schedule.specs.declared.fault.BaseFault.{BaseFault}
-use Rattle.ssim_schedule.specs.declared.fault.BaseFault.TheVariants as fault
-use Rattle.ssim_schedule.specs.declared.fault.BaseFault.TheVariants.{Read, Refused}
-use Rattle.ssim_schedule.specs.declared.fault.BaseRefusal.{BaseRefusal}
-use Rattle.ssim_schedule.specs.declared.note.Note.{Note}
-use Rattle.ssim_schedule.specs.declared.summary.Summary.{Summary}
+use Rattle.ssim_base.specs.Base.{Ending, Done, Broken, at_record, first_refusal, kept, missing, refusal_at, unless_refused}
+use Rattle.ssim_base.specs.Reading.{AnswersRecords, FailsAs, Gives, IsReadAs}
+use Rattle.ssim_base.specs.Summary.{Sums}
+use Rattle.ssim_base.specs.declared.fault.BaseFault.{BaseFault}
+use Rattle.ssim_base.specs.declared.fault.BaseFault.TheVariants as fault
+use Rattle.ssim_base.specs.declared.fault.BaseFault.TheVariants.{Read, Refused}
+use Rattle.ssim_base.specs.declared.fault.BaseRefusal.{BaseRefusal}
+use Rattle.ssim_base.specs.declared.note.Note.{Note}
+use Rattle.ssim_base.specs.declared.summary.Summary.{Summary}
 use Rattle.ssim_program.specs.Made.{IsOfBytes}
 
 refused_later : (n : ℕ) (o : Option BaseRefusal) (later : Option BaseFault) (f : RecordFault) → at_record n o later ≡ Some (Read f) → later ≡ Some (Read f)

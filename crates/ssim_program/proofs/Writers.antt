@@ -2,11 +2,11 @@
 use Rattle.std.proofs.Common.{◌≡◌, ◌∙◌, ◌⊎◌, inl, inr, ℕ, ◌+◌, ◌%◌, ◌^◌, List, [], Option, refl, sym, ap, subst}
 use Rattle.std.specs.Io.KnownBytes.{Appends, Keeps}
 use Rattle.std.proofs.KnownBytes.{Keeps-refl}
-use Rattle.ssim_schedule.specs.Sinks.{TakesFront}
+use Rattle.ssim_base.specs.Sinks.{TakesFront}
 use Rattle.ssim_program.specs.Again.{PrintsItself}
 use Rattle.ssim_program.specs.Files.{Files}
 use Rattle.ssim_program.specs.Help.{PrintsHelp, RefusesHelp, SaysWrong}
-use Rattle.ssim_program.specs.Line.{Line}
+use Rattle.ssim_command_line.specs.Line.{Line}
 use Rattle.ssim_program.specs.Paper.{Breaks, Grows, Paper, PrintsOrFails}
 use Rattle.ssim_program.specs.Reasons.{PrintsRefusal}
 use Rattle.ssim_program.specs.World.{EndsWithLine, IsDone, IsRefused, paper, world}

@@ -2,11 +2,11 @@
 use Rattle.std.specs.Prelude.{◌≡◌, ℕ, ◌+◌, ◌≤◌, List, [], length, ⊤, Option, Some, Ok}
 use Rattle.std.specs.Io.KnownBytes.{Appends}
 use Rattle.ssim_records.specs.declared.record.Record.{Record}
-use Rattle.ssim_schedule.specs.Base.{Done, data_set}
-use Rattle.ssim_schedule.specs.ReadBack.{AreRead}
+use Rattle.ssim_base.specs.Base.{Done, data_set}
+use Rattle.ssim_base.specs.ReadBack.{AreRead}
 use Rattle.ssim_program.specs.Effects.{Makes}
 use Rattle.ssim_program.specs.Files.{Files, Kept, file_of}
-use Rattle.ssim_program.specs.Line.{Line, Text, Tidy, Export}
+use Rattle.ssim_command_line.specs.Line.{Line, Text, Tidy, Export}
 use Rattle.ssim_program.specs.Made.{IsExportOf, file_limit}
 
 -- the bytes are read as the records of a base, without a refusal or a note, and are the export of that base

@@ -3,10 +3,10 @@ use Rattle.std.specs.Prelude.{Vec, ◌≡◌, ◌≢◌, ◌⊎◌, ℕ, List, [
 use Rattle.ssim_values.specs.Designator.{SpellsDesignator}
 use Rattle.ssim_values.specs.declared.designator.Designator.{Designator}
 use Rattle.ssim_values.specs.declared.fault.Fault.TheVariants as value_fault
-use Rattle.ssim_schedule.specs.Base.{airline_of}
-use Rattle.ssim_schedule.specs.BaseSeen.{BaseSeen}
-use Rattle.ssim_schedule.specs.Export.{line}
-use Rattle.ssim_schedule.specs.declared.resolving.ResolveFault.TheVariants as resolve_fault
+use Rattle.ssim_base.specs.Base.{airline_of}
+use Rattle.ssim_base.specs.BaseSeen.{BaseSeen}
+use Rattle.ssim_base.specs.Export.{line}
+use Rattle.ssim_base.specs.declared.resolving.ResolveFault.TheVariants as resolve_fault
 use Rattle.ssim_text.specs.Lines.{day_in}
 use Rattle.ssim_text.specs.Message.{MessageValue}
 use Rattle.ssim_text.specs.declared.reference.Reference.{Reference}
@@ -21,7 +21,7 @@ use Rattle.ssim_desk.specs.declared.desk.Took.{Took}
 use Rattle.ssim_desk.specs.declared.desk.Took.TheVariants as took
 use Rattle.ssim_desk.specs.declared.steps.Answer.TheVariants.{Merged}
 use Rattle.ssim_program.specs.Files.{Files}
-use Rattle.ssim_program.specs.Line.{Text}
+use Rattle.ssim_command_line.specs.Line.{Text}
 use Rattle.ssim_program.specs.Made.{HasFile, IsExport, RefusesLoad}
 use Rattle.ssim_program.specs.Paper.{Breaks, Grows, Paper}
 use Rattle.ssim_program.specs.Printed.{printed_text}

@@ -1,15 +1,15 @@
 -- What each command prints, and which file it keeps.
 use Rattle.std.specs.Prelude.{◌≡◌, ℕ, List, [], length, Option, Some, None, Ok}
 use Rattle.ssim_records.specs.declared.record.Record.{Record}
-use Rattle.ssim_schedule.specs.BaseSeen.{BaseSeen}
-use Rattle.ssim_schedule.specs.declared.note.Note.{Note}
+use Rattle.ssim_base.specs.BaseSeen.{BaseSeen}
+use Rattle.ssim_base.specs.declared.note.Note.{Note}
 use Rattle.ssim_held.specs.File.{desk_file}
 use Rattle.ssim_held.specs.Kept.{AreRising, DeskSeen}
 use Rattle.ssim_desk.specs.Desk.{finding_lines}
 use Rattle.ssim_program.specs.Desks.{IsExportOfDesk, IsMergeOf, ReadsDesk, Shows, TakesFirst, TakesTexts, held_line}
 use Rattle.ssim_program.specs.Explained.{Explains}
 use Rattle.ssim_program.specs.Files.{Files, Kept}
-use Rattle.ssim_program.specs.Line.{Line, Text, Check, Tidy, Start, Take, Merge, Show, Findings, Export, Rehearse, Explain}
+use Rattle.ssim_command_line.specs.Line.{Line, Text, Check, Tidy, Start, Take, Merge, Show, Findings, Export, Rehearse, Explain}
 use Rattle.ssim_program.specs.Made.{AreLinesOn, IsExportOf, ReadsBase, ReadsFile}
 use Rattle.ssim_program.specs.Rehearsal.{RehearsesFiles}
 use Rattle.ssim_program.specs.Shown.{findings_lines}

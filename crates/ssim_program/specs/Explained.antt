@@ -6,12 +6,12 @@ use Rattle.std.specs.List.{prefix_len}
 use Rattle.std.specs.Str.{bytes_eq}
 use Rattle.ssim_values.specs.Characters.{is_digit, two_digits_of}
 use Rattle.ssim_records.specs.declared.record.Record.{Record}
-use Rattle.ssim_schedule.specs.Export.{line}
-use Rattle.ssim_schedule.specs.Reading.{IsReadAs}
-use Rattle.ssim_schedule.specs.Stations.{NamesLine, Row, SpellsTable}
-use Rattle.ssim_schedule.specs.declared.fault.BaseFault.{BaseFault}
-use Rattle.ssim_schedule.specs.declared.note.Note.{Note}
-use Rattle.ssim_schedule.specs.declared.stations.StationFault.{StationFault}
+use Rattle.ssim_base.specs.Export.{line}
+use Rattle.ssim_base.specs.Reading.{IsReadAs}
+use Rattle.ssim_base.specs.Stations.{NamesLine, Row, SpellsTable}
+use Rattle.ssim_base.specs.declared.fault.BaseFault.{BaseFault}
+use Rattle.ssim_base.specs.declared.note.Note.{Note}
+use Rattle.ssim_base.specs.declared.stations.StationFault.{StationFault}
 use Rattle.ssim_text.specs.Bytes.{before, behind, word}
 use Rattle.ssim_text.specs.Decoding.{IsRefusal, NoMessage}
 use Rattle.ssim_text.specs.Left.{lines_left, without_end}
@@ -23,7 +23,7 @@ use Rattle.ssim_held.specs.Kept.{DeskSeen}
 use Rattle.ssim_held.specs.declared.fault.DeskFault.TheVariants as desk_fault
 use Rattle.ssim_program.specs.Desks.{IsNoDeskFile}
 use Rattle.ssim_program.specs.Files.{Files}
-use Rattle.ssim_program.specs.Line.{Text}
+use Rattle.ssim_command_line.specs.Line.{Text}
 use Rattle.ssim_program.specs.Made.{HasFile, IsOfBytes, file_limit}
 use Rattle.ssim_program.specs.Refusal.{refusal_number, refusal_of_base, refusal_of_stations, refusal_text}
 use Rattle.ssim_program.specs.Script.{RefusesScript, Script, SpellsScript}

@@ -4,9 +4,9 @@ use Rattle.std.specs.Prelude.{◌≡◌, ◌⊎◌, ℕ, true, false, List, []}
 use Rattle.clap.specs.Values.{kind_of}
 use Rattle.ssim_program.specs.Paper.{Breaks, Grows, Paper, PrintsOrFails}
 use Rattle.ssim_program.specs.Reasons.{PrintsRefusal}
-use Rattle.ssim_program.specs.Usage.{is_help}
-use Rattle.ssim_program.specs.declared.command_line.LineFault.{LineFault}
-use Rattle.ssim_program.specs.declared.command_line.LineFault.TheVariants as fault
+use Rattle.ssim_command_line.specs.Usage.{is_help}
+use Rattle.ssim_command_line.specs.declared.command_line.LineFault.{LineFault}
+use Rattle.ssim_command_line.specs.declared.command_line.LineFault.TheVariants as fault
 use Rattle.ssim_program.specs.declared.refusal.Refusal.{Refusal}
 use Rattle.ssim_program.specs.declared.refusal.Refusal.TheVariants as refused
 

@@ -1,7 +1,3 @@
-pub mod Line
-pub mod Commands
-pub mod Request
-pub mod Usage
 pub mod Files
 pub mod Names
 pub mod Refusal

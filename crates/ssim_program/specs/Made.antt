@@ -4,23 +4,23 @@ use Rattle.std.specs.List.{flat_map}
 use Rattle.ssim_values.specs.Flight.{FlightNumber}
 use Rattle.ssim_records.specs.declared.fault.RecordFault.TheVariants as record_fault
 use Rattle.ssim_records.specs.declared.record.Record.{Record}
-use Rattle.ssim_schedule.specs.Base.{Outcome}
-use Rattle.ssim_schedule.specs.BaseSeen.{AreFlights, BaseSeen}
-use Rattle.ssim_schedule.specs.Export.{Frame, chapter7, line}
-use Rattle.ssim_schedule.specs.ReadBack.{HasFrame}
-use Rattle.ssim_schedule.specs.Reading.{IsReadAs}
-use Rattle.ssim_schedule.specs.Stations.{NamesLine, Row, SpellsTable}
-use Rattle.ssim_schedule.specs.Summary.{IsSummary}
-use Rattle.ssim_schedule.specs.Timetable.{Days, days_of}
-use Rattle.ssim_schedule.specs.declared.fault.BaseFault.{BaseFault}
-use Rattle.ssim_schedule.specs.declared.fault.BaseFault.TheVariants as base
-use Rattle.ssim_schedule.specs.declared.note.Note.{Note}
-use Rattle.ssim_schedule.specs.declared.note.Note.TheVariants as note
-use Rattle.ssim_schedule.specs.declared.summary.Summary.{Summary}
-use Rattle.ssim_schedule.specs.declared.stations.StationFault.{StationFault}
+use Rattle.ssim_base.specs.Base.{Outcome}
+use Rattle.ssim_base.specs.BaseSeen.{AreFlights, BaseSeen}
+use Rattle.ssim_base.specs.Export.{Frame, chapter7, line}
+use Rattle.ssim_base.specs.ReadBack.{HasFrame}
+use Rattle.ssim_base.specs.Reading.{IsReadAs}
+use Rattle.ssim_base.specs.Stations.{NamesLine, Row, SpellsTable}
+use Rattle.ssim_base.specs.Summary.{IsSummary}
+use Rattle.ssim_base.specs.Timetable.{Days, days_of}
+use Rattle.ssim_base.specs.declared.fault.BaseFault.{BaseFault}
+use Rattle.ssim_base.specs.declared.fault.BaseFault.TheVariants as base
+use Rattle.ssim_base.specs.declared.note.Note.{Note}
+use Rattle.ssim_base.specs.declared.note.Note.TheVariants as note
+use Rattle.ssim_base.specs.declared.summary.Summary.{Summary}
+use Rattle.ssim_base.specs.declared.stations.StationFault.{StationFault}
 use Rattle.ssim_text.specs.Left.{lines_left}
 use Rattle.ssim_program.specs.Files.{Files, file_of}
-use Rattle.ssim_program.specs.Line.{Text}
+use Rattle.ssim_command_line.specs.Line.{Text}
 use Rattle.ssim_program.specs.Printed.{printed_text}
 use Rattle.ssim_program.specs.Refusal.{IsOfFile, refusal_of_base, refusal_of_stations}
 use Rattle.ssim_program.specs.declared.refusal.Refusal.{Refusal}

@@ -1,20 +1,20 @@
 -- Why a command is refused, and how its refusal is printed.
 use Rattle.std.specs.Prelude.{◌≡◌, ◌≢◌, ◌⊎◌, ℕ, List, [], ⊤, Option, Ok, Err}
 use Rattle.ssim_records.specs.declared.record.Record.{Record}
-use Rattle.ssim_schedule.specs.Base.{airline_of}
-use Rattle.ssim_schedule.specs.Export as refusal
-use Rattle.ssim_schedule.specs.Export.{Frame, chapter7, line}
-use Rattle.ssim_schedule.specs.ReadBack.{HasFrame}
-use Rattle.ssim_schedule.specs.Timetable.{Days, days_of}
+use Rattle.ssim_base.specs.Base.{airline_of}
+use Rattle.ssim_base.specs.Export as refusal
+use Rattle.ssim_base.specs.Export.{Frame, chapter7, line}
+use Rattle.ssim_base.specs.ReadBack.{HasFrame}
+use Rattle.ssim_base.specs.Timetable.{Days, days_of}
 use Rattle.ssim_schedule.specs.declared.export.ExportFault.{ExportFault}
 use Rattle.ssim_schedule.specs.declared.export.ExportFault.TheVariants as export
-use Rattle.ssim_schedule.specs.declared.note.Note.{Note}
+use Rattle.ssim_base.specs.declared.note.Note.{Note}
 use Rattle.ssim_values.specs.Flight.{FlightNumber}
 use Rattle.ssim_held.specs.Kept.{DeskSeen}
 use Rattle.ssim_desk.specs.Desk.{days_of_desk}
 use Rattle.ssim_program.specs.Desks.{ReadsDesk, RefusesDeskFile, RefusesFlight, RefusesKeep, RefusesMerge, RefusesTexts, TakesTexts}
 use Rattle.ssim_program.specs.Files.{Files}
-use Rattle.ssim_program.specs.Line.{Line, Text, Check, Tidy, Start, Take, Merge, Show, Findings, Export, Rehearse, Explain}
+use Rattle.ssim_command_line.specs.Line.{Line, Text, Check, Tidy, Start, Take, Merge, Show, Findings, Export, Rehearse, Explain}
 use Rattle.ssim_program.specs.Made.{ReadsFile, RefusesBase, RefusesFile, RefusesLoad}
 use Rattle.ssim_program.specs.Paper.{Paper, PrintsOrFails}
 use Rattle.ssim_program.specs.Refusal.{refusal_of_export, refusal_text}

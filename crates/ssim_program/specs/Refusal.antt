@@ -4,16 +4,16 @@ use Rattle.std.specs.Fmt.{decimal}
 use Rattle.ssim_values.specs.Designator.{designator_text}
 use Rattle.ssim_values.specs.Fault.{fault_name, fault_number, memory_name}
 use Rattle.ssim_values.specs.declared.fault.Fault.{Fault}
-use Rattle.ssim_schedule.specs.Base.{base_fault_number}
-use Rattle.ssim_schedule.specs.Fault.{base_fault_text, station_fault_text}
+use Rattle.ssim_base.specs.Base.{base_fault_number}
+use Rattle.ssim_base.specs.Fault.{base_fault_text, station_fault_text}
 use Rattle.ssim_schedule.specs.Plan.{export_fault_name, export_fault_number, export_fault_text}
-use Rattle.ssim_schedule.specs.Stations.{station_fault_number}
+use Rattle.ssim_base.specs.Stations.{station_fault_number}
 use Rattle.ssim_schedule.specs.declared.export.ExportFault.{ExportFault}
 use Rattle.ssim_schedule.specs.declared.export.ExportFault.TheVariants as export
-use Rattle.ssim_schedule.specs.declared.fault.BaseFault.{BaseFault}
-use Rattle.ssim_schedule.specs.declared.fault.BaseFault.TheVariants as base
-use Rattle.ssim_schedule.specs.declared.stations.StationFault.{StationFault}
-use Rattle.ssim_schedule.specs.declared.stations.StationFault.TheVariants as stations
+use Rattle.ssim_base.specs.declared.fault.BaseFault.{BaseFault}
+use Rattle.ssim_base.specs.declared.fault.BaseFault.TheVariants as base
+use Rattle.ssim_base.specs.declared.stations.StationFault.{StationFault}
+use Rattle.ssim_base.specs.declared.stations.StationFault.TheVariants as stations
 use Rattle.ssim_held.specs.Fault.{desk_fault_number, desk_fault_text}
 use Rattle.ssim_held.specs.declared.fault.DeskFault.{DeskFault}
 use Rattle.ssim_held.specs.declared.fault.DeskFault.TheVariants as desk

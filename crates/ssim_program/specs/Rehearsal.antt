@@ -3,13 +3,13 @@ use Rattle.std.specs.Prelude.{◌≡◌, ◌⊎◌, ℕ, ◌+◌, List, [], ◌�
 use Rattle.std.specs.Fmt.{decimal}
 use Rattle.std.specs.FinMap.{entries}
 use Rattle.std.specs.List.{flat_map}
-use Rattle.ssim_schedule.specs.Base.{airline_of}
-use Rattle.ssim_schedule.specs.BaseSeen.{BaseSeen}
-use Rattle.ssim_schedule.specs.Export as exported
-use Rattle.ssim_schedule.specs.Export.{ExportRefusal, line}
+use Rattle.ssim_base.specs.Base.{airline_of}
+use Rattle.ssim_base.specs.BaseSeen.{BaseSeen}
+use Rattle.ssim_base.specs.Export as exported
+use Rattle.ssim_base.specs.Export.{ExportRefusal, line}
 use Rattle.ssim_schedule.specs.declared.export.ExportFault.{ExportFault}
 use Rattle.ssim_schedule.specs.declared.export.ExportFault.TheVariants as export
-use Rattle.ssim_schedule.specs.declared.note.Note.{Note}
+use Rattle.ssim_base.specs.declared.note.Note.{Note}
 use Rattle.ssim_text.specs.Message.{MessageValue}
 use Rattle.ssim_text.specs.Reference.{printed_reference}
 use Rattle.ssim_text.specs.declared.reference.Reference.{Reference}
@@ -23,7 +23,7 @@ use Rattle.ssim_desk.specs.declared.steps.Answer.TheVariants.{Taken, Repeated, M
 use Rattle.ssim_desk.specs.declared.steps.Step.{Step}
 use Rattle.ssim_desk.specs.declared.steps.Step.TheVariants.{Take, Merge}
 use Rattle.ssim_program.specs.Files.{Files}
-use Rattle.ssim_program.specs.Line.{Text}
+use Rattle.ssim_command_line.specs.Line.{Text}
 use Rattle.ssim_program.specs.Made.{HasFile, ReadsBase, RefusesBase, RefusesLoad}
 use Rattle.ssim_program.specs.Refusal.{refusal_of_desk, refusal_of_export, refusal_text}
 use Rattle.ssim_program.specs.Script.{RefusesScript, Script, SpellsScript, Written, Takes, Merges}

@@ -7,8 +7,8 @@ use Rattle.ssim_values.specs.Day.{day_text}
 use Rattle.ssim_values.specs.Designator.{designator_text}
 use Rattle.ssim_values.specs.declared.designator.Designator.{Designator}
 use Rattle.ssim_records.specs.Leg.{leg_columns}
-use Rattle.ssim_schedule.specs.Export.{line}
-use Rattle.ssim_schedule.specs.Timetable.{LegValue, Legs}
+use Rattle.ssim_base.specs.Export.{line}
+use Rattle.ssim_base.specs.Timetable.{LegValue, Legs}
 use Rattle.ssim_desk.specs.declared.finding_line.FindingLine.{FindingLine}
 use Rattle.ssim_program.specs.Printed.{finding_text}
 

@@ -3,7 +3,7 @@ use Rattle.std.specs.Prelude.{Vec, ◌≡◌, ◌⊎◌, ℕ, Bool, true, false,
 use Rattle.ssim_program.specs.Again.{PrintsItself}
 use Rattle.ssim_program.specs.Effects.{Begins, Makes}
 use Rattle.ssim_program.specs.Files.{Files, Kept, with_kept}
-use Rattle.ssim_program.specs.Line.{Line, Tidy, Take, Export}
+use Rattle.ssim_command_line.specs.Line.{Line, Tidy, Take, Export}
 use Rattle.ssim_program.specs.Paper.{Breaks, Grows, Paper}
 use Rattle.ssim_program.specs.Reasons.{PrintsRefusal, Refuses}
 use Rattle.ssim_program.specs.declared.refusal.Refusal.{Refusal}

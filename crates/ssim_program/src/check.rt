@@ -1,7 +1,7 @@
 //! The command `check`: notes on a data set, and a summary.
 
 ghost use Rattle.std.specs.Prelude.{◌≡◌, IfOk};
-ghost use Rattle.ssim_program.specs.Line.{Check};
+ghost use Rattle.ssim_command_line.specs.Line.{Check};
 ghost use Rattle.ssim_program.specs.Made.{as_printed, summary_lines};
 ghost use Rattle.ssim_program.specs.World.{Prepares};
 
@@ -9,7 +9,7 @@ use crate::data_set::load_summary;
 use crate::printed::{Printed, add_line};
 use crate::refusal::Refusal;
 use crate::store::Store;
-use ssim_schedule::{Note, Summary};
+use ssim_base::{Note, Summary};
 use ssim_values::Memory;
 use std::alloc::Global;
 use std::io::Write;

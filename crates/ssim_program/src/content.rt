@@ -4,9 +4,9 @@ ghost use Rattle.std.specs.Prelude.{◌≡◌, List, ℕ, OnOk};
 ghost use Rattle.std.specs.Io.KnownBytes.{Appends};
 ghost use Rattle.ssim_held.specs.File.{desk_file};
 
+use ssim_base::WriteFault;
 use ssim_desk::Holdings;
 use ssim_records::Sink;
-use ssim_schedule::WriteFault;
 
 /// What can be kept in a file. A store writes it straight to the file, so that its bytes need not be in memory at once.
 pub trait Content {

@@ -1,17 +1,17 @@
 //! Files of the store: any file, the data set in a file, and a base from a data set and a station table.
 
 ghost use Rattle.std.specs.Prelude.{◌≡◌, ◌≤◌, List, IfErr, IfOk, Ok, Some, length};
-ghost use Rattle.ssim_schedule.specs.BaseSeen.{base_with};
-ghost use Rattle.ssim_schedule.specs.Reading.{AnswersRecords, IsReadAs};
-ghost use Rattle.ssim_schedule.specs.Stations.{Row};
-ghost use Rattle.ssim_schedule.specs.declared.note.Note.{Note};
-ghost use Rattle.ssim_schedule.specs.Summary.{Sums};
+ghost use Rattle.ssim_base.specs.BaseSeen.{base_with};
+ghost use Rattle.ssim_base.specs.Reading.{AnswersRecords, IsReadAs};
+ghost use Rattle.ssim_base.specs.Stations.{Row};
+ghost use Rattle.ssim_base.specs.declared.note.Note.{Note};
+ghost use Rattle.ssim_base.specs.Summary.{Sums};
 ghost use Rattle.ssim_program.specs.Made.{HasFile, IsOfBytes, ReadsBase, ReadsFile, RefusesBase, RefusesFile, RefusesLoad, SumsFile, file_limit};
 
 use crate::refusal::Refusal;
 use crate::store::{Store, StoreFault};
+use ssim_base::{BaseFault, DataSet, Stations, Summary};
 use ssim_records::Parts;
-use ssim_schedule::{BaseFault, DataSet, Stations, Summary};
 use std::alloc::Global;
 
 /// The most bytes that a file may have.

@@ -2,10 +2,10 @@
 
 ghost use Rattle.std.specs.Prelude.{◌≡◌, ◌++◌, codes, IfErr, IfOk};
 ghost use Rattle.std.specs.Fmt.{decimal};
-ghost use Rattle.ssim_schedule.specs.Export.{line};
+ghost use Rattle.ssim_base.specs.Export.{line};
 ghost use Rattle.ssim_values.specs.Characters.{two_digits_of};
 ghost use Rattle.ssim_program.specs.Explained.{BeginsWith, ExplainsFile, ExplainsNumber, number_in};
-ghost use Rattle.ssim_program.specs.Line.{Explain};
+ghost use Rattle.ssim_command_line.specs.Line.{Explain};
 ghost use Rattle.ssim_program.specs.Made.{RefusesLoad};
 ghost use Rattle.ssim_program.specs.World.{Prepares};
 

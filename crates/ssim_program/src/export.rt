@@ -3,10 +3,10 @@
 ghost use Rattle.std.specs.Prelude.{◌≡◌, List};
 ghost use Rattle.ssim_values.specs.Flight.{FlightNumber};
 ghost use Rattle.ssim_records.specs.declared.record.Record.{Record};
-ghost use Rattle.ssim_schedule.specs.Base.{airline_of};
-ghost use Rattle.ssim_schedule.specs.Timetable.{Days};
+ghost use Rattle.ssim_base.specs.Base.{airline_of};
+ghost use Rattle.ssim_base.specs.Timetable.{Days};
 ghost use Rattle.ssim_program.specs.Exported.{IsWritten, PrintsExport};
-ghost use Rattle.ssim_program.specs.Line.{Export};
+ghost use Rattle.ssim_command_line.specs.Line.{Export};
 ghost use Rattle.ssim_program.specs.Paper.{Paper};
 ghost use Rattle.ssim_program.specs.World.{Does, world};
 

@@ -1,9 +1,9 @@
 //! The command `findings`: what each sub-message of a desk found.
 
 ghost use Rattle.std.specs.Prelude.{◌≡◌, ◌++◌, IfOk, OnOk};
-ghost use Rattle.ssim_schedule.specs.Export.{line};
+ghost use Rattle.ssim_base.specs.Export.{line};
 ghost use Rattle.ssim_desk.specs.Desk.{finding_lines};
-ghost use Rattle.ssim_program.specs.Line.{Findings};
+ghost use Rattle.ssim_command_line.specs.Line.{Findings};
 ghost use Rattle.ssim_program.specs.Printed.{counts_text, finding_text, sub_text};
 ghost use Rattle.ssim_program.specs.World.{Prepares};
 ghost use Rattle.ssim_program.specs.Shown.{findings_lines};

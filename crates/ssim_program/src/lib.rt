@@ -1,7 +1,7 @@
 //! The program as a function: its command line, its store of named files, and what it prints.
 //!
 //! - [`run`]: from the words, a [`Store`] and two writers of std to a status; [`run_on`]: the same over two [`Printer`]s, which
-//!   count the failures of their writers. [`parse`] gives the [`Request`] that the words name.
+//!   count the failures of their writers. [`parse`] of `ssim_command_line` gives the [`Request`] that the words name.
 //! - [`Content`]: what a store keeps, as the desk file of [`ssim_desk::Holdings`].
 //! - [`Refusal`]: why a command was refused, as its line; [`Printed`]: the lines that commands print.
 //! - [`laws`]: what `tidy` wrote is tidied to itself.
@@ -14,15 +14,12 @@
 #![tactic(auto)]
 
 mod check;
-mod command_line;
-mod commands;
 mod content;
 mod data_set;
 mod desk_file;
 mod explain;
 mod export;
 mod findings;
-mod help;
 pub mod laws;
 mod merge;
 mod name;
@@ -38,10 +35,10 @@ mod take;
 mod tidy;
 mod word;
 
-pub use command_line::{LineFault, Request, parse};
 pub use content::Content;
 pub use printed::Printed;
 pub use printer::Printer;
 pub use program::{run, run_on};
 pub use refusal::Refusal;
+pub use ssim_command_line::{LineFault, Request, parse};
 pub use store::{Store, StoreFault};

@@ -1,6 +1,6 @@
 //! The lines that commands print.
 ghost use Rattle.std.specs.Prelude.{◌≡◌, ◌++◌, IfOk, IfSome, OnOk, Some};
-ghost use Rattle.ssim_schedule.specs.Export.{line};
+ghost use Rattle.ssim_base.specs.Export.{line};
 ghost use Rattle.ssim_program.specs.Printed.{printed_text};
 
 use ssim_text::Reference;

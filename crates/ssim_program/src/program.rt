@@ -4,16 +4,15 @@ ghost use Rattle.std.specs.Prelude.{◌≡◌, ◌↔◌, ◌≤◌, ◌⊎◌, 
 ghost use Rattle.std.specs.Io.KnownBytes.{Keeps};
 ghost use Rattle.ssim_program.specs.Files.{Files};
 ghost use Rattle.ssim_program.specs.Help.{Answers, PrintsHelp, RefusesHelp, SaysHelp, SaysWrong};
-ghost use Rattle.ssim_program.specs.Line.{Line, Spells};
+ghost use Rattle.ssim_command_line.specs.Line.{Line, Spells};
 ghost use Rattle.ssim_program.specs.Reasons.{PrintsRefusal};
-ghost use Rattle.ssim_program.specs.Request.{line_of};
-ghost use Rattle.ssim_program.specs.Usage.{HasFault, IsCommand, IsNoCommand, Names, is_help};
+ghost use Rattle.ssim_command_line.specs.Request.{line_of};
+ghost use Rattle.ssim_command_line.specs.Usage.{HasFault, IsCommand, IsNoCommand, Names, is_help};
 ghost use Rattle.ssim_program.specs.World.{Does, EndsWithLine, IsDone, Obeys, Prepares, PrintsAtOnce, paper, world};
 ghost use Rattle.ssim_program.specs.declared.refusal.Refusal.TheVariants as refused;
 ghost use Rattle.clap.specs.Words.{kind_of};
 
 use crate::check::check;
-use crate::command_line::{LineFault, Request, parse};
 use crate::explain::explain;
 use crate::export::export;
 use crate::findings::findings;
@@ -27,6 +26,7 @@ use crate::start::start;
 use crate::store::Store;
 use crate::take::take;
 use crate::tidy::tidy;
+use ssim_command_line::{LineFault, Request, parse};
 use std::alloc::Global;
 use std::io::Write;
 

@@ -3,8 +3,9 @@ ghost use Rattle.std.specs.Prelude.{◌≡◌, Some};
 ghost use Rattle.ssim_program.specs.Refusal.{IsOfFile, refusal_number, refusal_of_base, refusal_of_desk, refusal_of_export, refusal_of_stations, refusal_of_value, refusal_text};
 
 use crate::name::printed_name;
+use ssim_base::{BaseFault, StationFault};
 use ssim_desk::DeskFault;
-use ssim_schedule::{BaseFault, ExportFault, StationFault};
+use ssim_schedule::ExportFault;
 use ssim_values::{Airline, Designator, Fault, Memory};
 use std::alloc::{AllocError, AllocFailed, Global};
 use std::error::Error;

@@ -6,7 +6,7 @@ mod outcome;
 pub(crate) mod script;
 mod texts;
 
-ghost use Rattle.ssim_program.specs.Line.{Rehearse};
+ghost use Rattle.ssim_command_line.specs.Line.{Rehearse};
 ghost use Rattle.ssim_program.specs.World.{Prepares};
 
 use crate::data_set::load_base;

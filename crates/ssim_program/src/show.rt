@@ -1,21 +1,22 @@
 //! The command `show`: a flight of a desk on a date.
 
 ghost use Rattle.std.specs.Prelude.{◌≡◌, ◌++◌, ◌≤◌, ◌<◌, ◌∷◌, None, Some, IfErr, IfOk, OnOk};
-ghost use Rattle.ssim_schedule.specs.Export.{line};
+ghost use Rattle.ssim_base.specs.Export.{line};
 ghost use Rattle.ssim_text.specs.Lines.{day_in};
 ghost use Rattle.ssim_values.specs.Characters.{two_digits};
 ghost use Rattle.ssim_values.specs.Day.{day_text};
 ghost use Rattle.ssim_values.specs.Designator.{designator_text};
 ghost use Rattle.ssim_program.specs.Desks.{RefusesFlight, Shows};
-ghost use Rattle.ssim_program.specs.Line.{Show};
+ghost use Rattle.ssim_command_line.specs.Line.{Show};
 ghost use Rattle.ssim_program.specs.World.{Prepares};
 ghost use Rattle.ssim_program.specs.Shown.{columns_text, dotted, leg_line, shown, shown_flight};
 
 use crate::desk_file::open_holdings;
 use crate::refusal::Refusal;
 use crate::store::Store;
+use ssim_base::ResolveFault;
 use ssim_desk::{DeskFault, Holdings};
-use ssim_schedule::{PlacedLeg, ResolveFault};
+use ssim_schedule::PlacedLeg;
 use ssim_values::{Day, Designator, Fault, Memory};
 use std::alloc::Global;
 

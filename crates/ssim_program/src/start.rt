@@ -2,7 +2,7 @@
 
 ghost use Rattle.std.specs.Prelude.{◌≡◌, IfOk};
 ghost use Rattle.ssim_program.specs.Desks.{held_line};
-ghost use Rattle.ssim_program.specs.Line.{Start};
+ghost use Rattle.ssim_command_line.specs.Line.{Start};
 ghost use Rattle.ssim_program.specs.World.{Prepares};
 
 use crate::data_set::load_base;

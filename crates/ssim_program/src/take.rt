@@ -4,7 +4,7 @@ ghost use Rattle.std.specs.Prelude.{◌≡◌, IfErr, IfOk, map};
 ghost use Rattle.ssim_held.specs.Kept.{state_of};
 ghost use Rattle.ssim_desk.specs.Steps.{RefusesText};
 ghost use Rattle.ssim_program.specs.Desks.{IsTaken, PrintsTexts, TakesOrRefuses, took_printed};
-ghost use Rattle.ssim_program.specs.Line.{Take};
+ghost use Rattle.ssim_command_line.specs.Line.{Take};
 ghost use Rattle.ssim_program.specs.World.{Does, world};
 
 use crate::data_set::load_file;

@@ -1,6 +1,6 @@
 //! The command `tidy`: the canonical export of a data set.
 
-ghost use Rattle.ssim_program.specs.Line.{Tidy};
+ghost use Rattle.ssim_command_line.specs.Line.{Tidy};
 ghost use Rattle.ssim_program.specs.World.{Does, world};
 
 use crate::data_set::load;
@@ -8,6 +8,7 @@ use crate::export::end_export;
 use crate::printer::Printer;
 use crate::refusal::Refusal;
 use crate::store::Store;
+use ssim_schedule::export_data_set;
 use std::alloc::Global;
 use std::io::Write;
 
@@ -23,6 +24,6 @@ pub(crate) fn tidy<S: Store, W: Write>(
 {
     let data_set = load(alloc, name, store)?;
     let airline = data_set.airline();
-    let written = data_set.export(out);
+    let written = export_data_set(data_set, out);
     end_export(airline, written, out)
 }

@@ -16,54 +16,19 @@ use Rattle.ssim_records.specs.Trailer.{TrailerFields}
 use Rattle.ssim_records.specs.Segment.{SegmentFields}
 use Rattle.ssim_records.specs.declared.record.Record.{Record}
 use Rattle.ssim_records.specs.declared.record.Record.TheVariants.{Header, Carrier, Leg, Segment, Trailer}
-use Rattle.ssim_schedule.specs.Timetable.{Days, LegValue, Legs, days_of, itinerary, leg_of, period_of, placed, same_flight, same_name, tails_of}
-use Rattle.ssim_schedule.specs.Building.{IsClosed, IsPlaced, name_place}
+use Rattle.ssim_base.specs.Timetable.{Days, LegValue, Legs, days_of, itinerary, leg_of, period_of, placed, same_flight, same_name, tails_of}
+use Rattle.ssim_base.specs.Building.{IsClosed, IsPlaced, name_place}
 use Rattle.ssim_schedule.specs.Built.{IsBuilt, IsCut, OpensGroup, PutsGroup, TakesLeg, TakesSegment, days_with}
 use Rattle.ssim_schedule.specs.Group.{Group, IsBound, with_legs}
 use Rattle.ssim_schedule.specs.Put.{StartsFrom, placed_each}
-use Rattle.ssim_schedule.specs.ReadBack.{place_of}
+use Rattle.ssim_base.specs.ReadBack.{place_of}
+use Rattle.ssim_base.proofs.Places.{same_flight-place}
 use Rattle.ssim_schedule.specs.Points.{is_point}
 use Rattle.ssim_schedule.specs.Schedule.{Table, cuts_in, days_in}
 use Rattle.ssim_schedule.specs.Waiting.{waiting_at}
 use Rattle.ssim_schedule.specs.declared.building.Building.{Building}
 use Rattle.ssim_schedule.specs.declared.leg_group.Heading.{Heading}
 use Rattle.ssim_schedule.proofs.PutLemmas.{changed_not, changed_twice}
-
--- where a suffix stands among the 27
-abbrev suffix_place : ℕ → ℕ
-suffix_place s = if nat_eq s 32 then 0 else s - 64
-
-suffix_below : (s : ℕ) → IsTrue (is_suffix s) → suffix_place s < 27
-suffix_below s h = grind (arith, nat_tests)
-
-suffix_told : (s t : ℕ) → IsTrue (is_suffix s) → IsTrue (is_suffix t) → suffix_place s ≡ suffix_place t → s ≡ t
-suffix_told s t h k e = grind (arith, nat_tests)
-
-told : (n m s t : ℕ) → s < 27 → t < 27 → 27 * n + s ≡ 27 * m + t → (n ≡ m) × (s ≡ t)
-told n m s t low high e = (omega arith, omega arith)
-
-both_same : (a b : FlightNumber) → a.number ≡ b.number → a.suffix ≡ b.suffix → same_flight a b ≡ true
-both_same a b n s = grind (arith, nat_tests)
-
-same_place : (a b : FlightNumber) → same_flight a b ≡ true → place_of a ≡ place_of b
-same_place a b e =
-    let number : a.number ≡ b.number = grind (arith, nat_tests) in
-    let suffix : a.suffix ≡ b.suffix = grind (arith, nat_tests) in
-    rw (number, suffix) refl
-
--- the place of a flight tells it from all others
-pub same_flight-place : (a b : FlightNumber) → IsFlight a → IsFlight b → same_flight a b ≡ nat_eq (place_of a) (place_of b)
-same_flight-place a b f g = by (same_flight a b) (nat_eq (place_of a) (place_of b)) refl refl
-  where
-    by : (x y : Bool) → same_flight a b ≡ x → nat_eq (place_of a) (place_of b) ≡ y → x ≡ y
-    by true true p q = refl
-    by false false p q = refl
-    by true false p q = let e = same_place a b p in absurd (grind (arith, nat_tests))
-    by false true p q =
-        let same : place_of a ≡ place_of b = grind (arith, nat_tests) in
-        let parts = told a.number b.number (suffix_place a.suffix) (suffix_place b.suffix) (suffix_below a.suffix f.suffixed) (suffix_below b.suffix g.suffixed) same in
-        let yes = both_same a b parts.0 (suffix_told a.suffix b.suffix f.suffixed g.suffixed parts.1) in
-        cc
 
 parts_told : (x y v w s t : ℕ) → v < 100 → w < 100 → s < 100 → t < 100 → (x * 100 + v) * 100 + s ≡ (y * 100 + w) * 100 + t → (x ≡ y) × (v ≡ w) × (s ≡ t)
 parts_told x y v w s t a b c d e = (omega arith, omega arith, omega arith)

@@ -5,8 +5,8 @@ use Rattle.std.proofs.lemmas.Bool.Decides.{nat_tests}
 use Rattle.ssim_values.specs.Flight.{FlightNumber}
 use Rattle.ssim_values.specs.Period.{DayRange}
 use Rattle.ssim_periods.specs.Days.{Seen, each_day, changed_on, AddsOnly}
-use Rattle.ssim_schedule.specs.Timetable.{Legs, Days}
-use Rattle.ssim_schedule.specs.ReadBack.{place_of}
+use Rattle.ssim_base.specs.Timetable.{Legs, Days}
+use Rattle.ssim_base.specs.ReadBack.{place_of}
 use Rattle.ssim_schedule.specs.Schedule.{Table, no_entry, AreRising, IsAt, IsGapFor, AddsOnlyAt, cuts_in, days_in}
 use Rattle.ssim_schedule.specs.declared.flight_table.FlightPeriods.{FlightPeriods}
 use Rattle.ssim_schedule.proofs.TableLemmas.{found_at, found_in_gap, found_insert, found_set}
@@ -88,14 +88,3 @@ module _ (period : DayRange) where
       (adds q g (nat_eq (place_of q) (place_of g)) (cuts_in table g) f.periods.cuts p.cuts refl (λ e. ap cuts_at here ∙ sym (found_at cuts_at [] table rising g i (moved table q g i (same_place q g e) is))) only)
 
 -- a fact of an answer from another
-pub on_ok : {A E P Q : Type 0} (r : Result A E) → (P → Q) → OnOk r P → OnOk r Q
-on_ok (Ok a) f h = f h
-on_ok (Err e) f h = h
-
-pub if_ok : {A E : Type 0} {P Q : A → Type 0} (r : Result A E) → ((a : A) → P a → Q a) → IfOk r P → IfOk r Q
-if_ok (Ok a) f h = f a h
-if_ok (Err e) f h = h
-
-pub if_fault : {A E : Type 0} {P Q : E → Type 0} (r : Result A E) → ((e : E) → P e → Q e) → IfErr r P → IfErr r Q
-if_fault (Ok a) f h = h
-if_fault (Err e) f h = f e h

@@ -13,11 +13,10 @@ use Rattle.ssim_records.specs.Leg.{Name}
 use Rattle.ssim_records.specs.declared.record.Record.{Record}
 use Rattle.ssim_records.specs.declared.record.Record.TheVariants.{Header, Carrier, Leg, Segment, Trailer}
 use Rattle.ssim_schedule.specs.FlightSet.{is_marked, is_record_of}
-use Rattle.ssim_schedule.specs.ReadBack.{AreInOrder, place_of}
-use Rattle.ssim_schedule.specs.Timetable.{Above, LegValue, Legs, days_of, is_among, itinerary, itinerary_among, leg_of, period_of, placed, same_flight, same_name, tails_of}
-use Rattle.ssim_schedule.proofs.BuildingLemmas.{same_flight-place}
-use Rattle.ssim_schedule.proofs.Calendars.{at-each_day}
-use Rattle.ssim_schedule.proofs.Places.{same-true}
+use Rattle.ssim_base.specs.ReadBack.{AreInOrder, place_of}
+use Rattle.ssim_base.specs.Timetable.{Above, LegValue, Legs, days_of, is_among, itinerary, itinerary_among, leg_of, period_of, placed, same_flight, same_name, tails_of}
+use Rattle.ssim_base.proofs.Calendars.{at-each_day}
+use Rattle.ssim_base.proofs.Places.{same-true, same_flight-place}
 
 -- ---- marks
 

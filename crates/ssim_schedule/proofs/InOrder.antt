@@ -11,13 +11,13 @@ use Rattle.ssim_text.specs.declared.action.Action.{Action}
 use Rattle.ssim_text.specs.declared.action.Action.TheVariants.{New, Cnl, Rpl, Eqt, Tim}
 use Rattle.ssim_schedule.specs.Acts.{acted_on, after_on, after_sub, changed_by, itinerary_after, lines_of}
 use Rattle.ssim_schedule.specs.Effect.{Outcome, Variations, act_or, equipped, fits, have_legs, joined, leg_at, legs_from, outcome, retimed, variation_on, with_line, with_lines}
-use Rattle.ssim_schedule.specs.ReadBack.{AreInOrder, IsTimetable, place_of}
+use Rattle.ssim_base.specs.ReadBack.{AreInOrder, IsTimetable, place_of}
 use Rattle.ssim_schedule.specs.Schedule.{Table, days_in}
-use Rattle.ssim_schedule.specs.Stations.{Row}
-use Rattle.ssim_schedule.specs.Timetable.{Above, Days, Legs, on_day, same_flight}
+use Rattle.ssim_base.specs.Stations.{Row}
+use Rattle.ssim_base.specs.Timetable.{Above, Days, Legs, on_day, same_flight}
 use Rattle.ssim_schedule.specs.declared.finding.Reason.{Reason}
 use Rattle.ssim_schedule.specs.declared.finding.Reason.TheVariants.{Acted, Leg, Station}
-use Rattle.ssim_schedule.proofs.BuildingLemmas.{same_flight-place}
+use Rattle.ssim_base.proofs.Places.{same_flight-place}
 
 -- the same days are in order
 order-same : (days others : FlightNumber → Days) → ((g : FlightNumber) → IsFlight g → days g ≡ others g) → AreInOrder others → AreInOrder days

@@ -8,20 +8,20 @@ use Rattle.std.proofs.lemmas.List.Elements.{All-append, recursion_from_All, All-
 use Rattle.ssim_values.specs.Flight.{FlightNumber, IsFlight}
 use Rattle.ssim_periods.specs.Days.{each_day}
 use Rattle.ssim_records.specs.declared.record.Record.{Record}
-use Rattle.ssim_schedule.specs.Timetable.{Days, same_flight}
-use Rattle.ssim_schedule.specs.Export as refusal
-use Rattle.ssim_schedule.specs.Export.{ExportRefusal, Frame, flight_at, Piece, pieces, pieces_records, flight_records, flights_records, export_refusal, export_of, chapter7, chapter7_records, sections, unless_refused, result_map, export_bytes}
+use Rattle.ssim_base.specs.Timetable.{Days, same_flight}
+use Rattle.ssim_base.specs.Export as refusal
+use Rattle.ssim_base.specs.Export.{ExportRefusal, Frame, flight_at, Piece, pieces, pieces_records, flight_records, flights_records, export_refusal, export_of, chapter7, chapter7_records, sections, unless_refused, result_map, export_bytes}
 use Rattle.ssim_schedule.specs.Blocks.{joined}
 use Rattle.ssim_schedule.specs.Plan.{IsRefusedAs, Planned, Refuses, pieces_count, plan_bytes, plan_count, plan_of, plan_records, plan_refusal}
 use Rattle.ssim_schedule.specs.Schedule.{Table, AreRising, days_in, key_at, no_entry}
-use Rattle.ssim_schedule.specs.ReadBack as law
-use Rattle.ssim_schedule.specs.ReadBack.{place_of}
+use Rattle.ssim_base.specs.ReadBack as law
+use Rattle.ssim_base.specs.ReadBack.{place_of}
 use Rattle.ssim_schedule.specs.declared.export.ExportFault.{ExportFault}
 use Rattle.ssim_schedule.specs.declared.export.ExportFault.TheVariants.{Variations, Records, WriteFault, Memory}
 use Rattle.ssim_schedule.specs.declared.flight_table.FlightPeriods.{FlightPeriods}
-use Rattle.ssim_schedule.proofs.Calendars.{length-each_day, at-each_day}
-use Rattle.ssim_schedule.proofs.Flown.{flown_suffice, unflown}
-use Rattle.ssim_schedule.proofs.Places.{flight-place, same-self}
+use Rattle.ssim_base.proofs.Calendars.{length-each_day, at-each_day}
+use Rattle.ssim_base.proofs.Flown.{flown_suffice, unflown}
+use Rattle.ssim_base.proofs.Places.{flight-place, same-self}
 use Rattle.ssim_schedule.proofs.Puts.{pieces-counted}
 use Rattle.ssim_schedule.proofs.TableLemmas.{found_at}
 

@@ -13,9 +13,9 @@ use Rattle.ssim_records.specs.Carrier.{CarrierFields}
 use Rattle.ssim_records.specs.Trailer.{TrailerFields}
 use Rattle.ssim_records.specs.declared.record.Record.{Record}
 use Rattle.ssim_records.specs.declared.record.Record.TheVariants.{Header, Carrier, Leg, Trailer}
-use Rattle.ssim_schedule.specs.Timetable.{LegValue, Legs}
-use Rattle.ssim_schedule.specs.Export.{Piece, fill_count, leg_records, line, numbered, pieces_records, section_bytes, tail_record, with_serial}
-use Rattle.ssim_schedule.specs.Plan.{Planned, frame_from, legs_count, numbered_lines, pieces_count, plan_bytes, plan_count, plan_records}
+use Rattle.ssim_base.specs.Timetable.{LegValue, Legs}
+use Rattle.ssim_base.specs.Export.{Piece, fill_count, frame_from, leg_records, line, numbered, pieces_records, section_bytes, tail_record, with_serial}
+use Rattle.ssim_schedule.specs.Plan.{Planned, legs_count, numbered_lines, pieces_count, plan_bytes, plan_count, plan_records}
 use Rattle.ssim_schedule.proofs.Serials.{numbered_lines-append}
 
 -- ---- how many
@@ -56,10 +56,6 @@ numbered-counted n [] = refl
 numbered-counted n (r ∷ rs) = ap suc (numbered-counted (n + 1) rs)
 
 -- ---- the first of them and the others
-
--- the item at hand, and those behind it
-pub item : {X : Type 0} (xs : List X) (i : ℕ) (x : X) → i < length xs → x ≡ get_or xs i x → drop i xs ≡ x ∷ drop (i + 1) xs
-item xs i x less is = drop_more xs i x less ∙ ap (λ y. y ∷ drop (i + 1) xs) (sym is)
 
 lines-split : (n next : ℕ) (xs rest whole : List Record) → whole ≡ xs ++ rest → next ≡ n + length xs → numbered_lines n whole ≡ numbered_lines n xs ++ numbered_lines next rest
 lines-split n next xs rest whole split count =

@@ -2,7 +2,7 @@
 use Rattle.std.proofs.Common.{◌≡◌, ◌≢◌, ℕ, suc, Bool, true, false, List, [], ◌∷◌, length, refl, ap, ◌∙◌}
 use Rattle.std.specs.Prelude.{◌&&◌}
 use Rattle.std.specs.Str.{bytes_eq}
-use Rattle.ssim_schedule.specs.Export.{same_tails}
+use Rattle.ssim_base.specs.Export.{same_tails}
 
 and_false : (b : Bool) → (b && false) ≡ false
 and_false true = refl

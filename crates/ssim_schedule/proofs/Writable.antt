@@ -6,13 +6,13 @@ use Rattle.ssim_values.specs.Flight.{FlightNumber}
 use Rattle.ssim_periods.specs.Calendar.{holds}
 use Rattle.ssim_periods.specs.Days.{each_day}
 use Rattle.ssim_periods.specs.Pieces.{alone, held_on}
-use Rattle.ssim_schedule.specs.Timetable.{Days, Legs, on_day}
-use Rattle.ssim_schedule.specs.Export.{Piece, pieces, same_itinerary}
+use Rattle.ssim_base.specs.Timetable.{Days, Legs, on_day}
+use Rattle.ssim_base.specs.Export.{Piece, pieces, same_itinerary}
 use Rattle.ssim_schedule.specs.Plan.{HasWritableLegs, HasWritablePieces, Planned, plan_of}
-use Rattle.ssim_schedule.specs.ReadBack.{CanReadBack, IsTimetable, IsWritable, place_of}
+use Rattle.ssim_base.specs.ReadBack.{CanReadBack, IsTimetable, IsWritable, place_of}
 use Rattle.ssim_schedule.specs.Schedule.{Table, days_in}
-use Rattle.ssim_schedule.proofs.Calendars.{at-each_day}
-use Rattle.ssim_schedule.proofs.Pieces.{itinerary_pieces}
+use Rattle.ssim_base.proofs.Calendars.{at-each_day}
+use Rattle.ssim_base.proofs.Pieces.{itinerary_pieces}
 
 -- ---- day by day
 

@@ -1,7 +1,7 @@
 -- The blocks of a schedule: flights of nearby places are together, so that copies of a schedule may share them.
 use Rattle.std.specs.Prelude.{◌≡◌, ℕ, ◌+◌, ◌/◌, List, [], ◌∷◌, ◌++◌}
 use Rattle.ssim_values.specs.Flight.{FlightNumber}
-use Rattle.ssim_schedule.specs.ReadBack.{place_of}
+use Rattle.ssim_base.specs.ReadBack.{place_of}
 use Rattle.ssim_schedule.specs.Schedule.{AreRising, Table}
 
 -- the block of a flight: flights that differ only in suffix, and those of some 38 numbers, are mostly in one

@@ -7,11 +7,11 @@ use Rattle.ssim_periods.specs.Days.{changed_on}
 use Rattle.ssim_records.specs.Leg.{LegFields, Name}
 use Rattle.ssim_records.specs.Segment.{SegmentFields}
 use Rattle.ssim_records.specs.declared.record.Record.{Record}
-use Rattle.ssim_schedule.specs.Timetable.{Days, days_of, period_of, placed, tails_of}
-use Rattle.ssim_schedule.specs.Building.{IsPlaced, name_place}
+use Rattle.ssim_base.specs.Timetable.{Days, days_of, period_of, placed, tails_of}
+use Rattle.ssim_base.specs.Building.{IsPlaced, name_place}
 use Rattle.ssim_schedule.specs.Group.{IsBound, no_group, with_legs}
 use Rattle.ssim_schedule.specs.Put.{StartsFrom}
-use Rattle.ssim_schedule.specs.ReadBack.{place_of}
+use Rattle.ssim_base.specs.ReadBack.{place_of}
 use Rattle.ssim_schedule.specs.Points.{is_point}
 use Rattle.ssim_schedule.specs.Schedule.{cuts_in, days_in}
 use Rattle.ssim_schedule.specs.Waiting.{waiting_at}

@@ -12,8 +12,8 @@ use Rattle.ssim_text.specs.declared.action.NewLegs.{NewLegs}
 use Rattle.ssim_text.specs.declared.action.Action.{Action}
 use Rattle.ssim_text.specs.declared.action.Action.TheVariants.{New, Cnl, Rpl, Eqt, Tim}
 use Rattle.ssim_schedule.specs.Columns.{new_columns, segment_tail, with_equipment, with_times}
-use Rattle.ssim_schedule.specs.Stations.{Row, variation_at}
-use Rattle.ssim_schedule.specs.Timetable.{LegValue, Legs}
+use Rattle.ssim_base.specs.Stations.{Row, variation_at}
+use Rattle.ssim_base.specs.Timetable.{LegValue, Legs}
 use Rattle.ssim_schedule.specs.declared.finding.Reason.{Reason}
 use Rattle.ssim_schedule.specs.declared.finding.Reason.TheVariants.{Acted, Absent, Present, Leg, Station}
 

@@ -13,8 +13,8 @@ use Rattle.ssim_schedule.specs.Acts.{acted_on, counts_by}
 use Rattle.ssim_records.specs.LegParts.{new_leg, station_columns, with_equipment, with_times}
 use Rattle.ssim_records.specs.Segment.{new_tail}
 use Rattle.ssim_schedule.specs.Effect.{effect, tails_for}
-use Rattle.ssim_schedule.specs.Stations.{Row}
-use Rattle.ssim_schedule.specs.Timetable.{LegValue}
+use Rattle.ssim_base.specs.Stations.{Row}
+use Rattle.ssim_base.specs.Timetable.{LegValue}
 use Rattle.ssim_schedule.specs.declared.finding.Reason.TheVariants as reason
 
 abbrev blanks : ℕ → List ℕ

@@ -3,7 +3,7 @@ use Rattle.std.specs.Prelude.{Bool, false, List, slice_index_or}
 use Rattle.ssim_values.specs.Flight.{FlightNumber}
 use Rattle.ssim_records.specs.declared.record.Record.{Record}
 use Rattle.ssim_records.specs.declared.record.Record.TheVariants.{Header, Carrier, Leg, Segment, Trailer}
-use Rattle.ssim_schedule.specs.ReadBack.{place_of}
+use Rattle.ssim_base.specs.ReadBack.{place_of}
 
 -- whether the mark at the place of the flight is set
 abbrev pub is_marked : List Bool → FlightNumber → Bool

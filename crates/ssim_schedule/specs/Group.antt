@@ -4,8 +4,8 @@ use Rattle.ssim_values.specs.Flight.{FlightNumber}
 use Rattle.ssim_periods.specs.Calendar.{holds}
 use Rattle.ssim_periods.specs.Days.{changed_on}
 use Rattle.ssim_schedule.specs.Put.{placed_each}
-use Rattle.ssim_schedule.specs.ReadBack.{place_of}
-use Rattle.ssim_schedule.specs.Timetable.{Days, Legs}
+use Rattle.ssim_base.specs.ReadBack.{place_of}
+use Rattle.ssim_base.specs.Timetable.{Days, Legs}
 use Rattle.ssim_schedule.specs.declared.leg_group.Heading.{Heading}
 
 -- the flight and the period, if there is a group, and its legs in the order of their records

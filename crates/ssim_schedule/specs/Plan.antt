@@ -3,17 +3,14 @@ use Rattle.std.specs.Prelude.{◌≡◌, ℕ, ◌+◌, ◌%◌, ◌^◌, ◌&&�
 use Rattle.std.specs.List.{flat_map, All}
 use Rattle.std.specs.Io.KnownBytes.{Appends}
 use Rattle.ssim_values.specs.Flight.{FlightNumber, flight_text}
-use Rattle.ssim_records.specs.Carrier.{CarrierFields}
-use Rattle.ssim_records.specs.Header.{HeaderFields}
-use Rattle.ssim_records.specs.Trailer.{TrailerFields}
 use Rattle.ssim_records.specs.Record.{written}
 use Rattle.ssim_records.specs.declared.record.Record.{Record}
-use Rattle.ssim_schedule.specs.ReadBack.{HasFrame, IsWritable, ReadsBackFrom}
-use Rattle.ssim_schedule.specs.Timetable.{Days, Legs}
-use Rattle.ssim_schedule.specs.Export as refusal
-use Rattle.ssim_schedule.specs.Export.{ExportRefusal, Frame, Piece, chapter7, export_bytes, line, numbered, pieces, pieces_records, sections}
+use Rattle.ssim_base.specs.ReadBack.{HasFrame, IsWritable, ReadsBackFrom}
+use Rattle.ssim_base.specs.Timetable.{Days, Legs}
+use Rattle.ssim_base.specs.Export as refusal
+use Rattle.ssim_base.specs.Export.{ExportRefusal, Frame, Piece, chapter7, export_bytes, line, numbered, pieces, pieces_records, sections}
 use Rattle.ssim_schedule.specs.Schedule.{Table}
-use Rattle.ssim_schedule.specs.Sinks.{TakesFront}
+use Rattle.ssim_base.specs.Sinks.{TakesFront}
 use Rattle.ssim_schedule.specs.declared.export.ExportFault.{ExportFault}
 use Rattle.ssim_schedule.specs.declared.export.ExportFault.TheVariants.{Variations, Records, WriteFault, Memory}
 
@@ -68,9 +65,6 @@ plan_refusal count (p ∷ plan) =
 -- the records as lines, with serials from n on
 abbrev pub numbered_lines : ℕ → List Record → List ℕ
 numbered_lines n records = flat_map (λ r. line (written r)) (numbered n records)
-
-abbrev pub frame_from : HeaderFields → CarrierFields → TrailerFields → Frame
-frame_from header carrier trailer = record { header = header; carrier = carrier; trailer = trailer }
 
 -- the bytes of its export
 unfoldable pub plan_bytes : Frame → List Planned → List ℕ

@@ -4,7 +4,7 @@ use Rattle.std.specs.List.{list_any}
 use Rattle.ssim_values.specs.Flight.{FlightNumber}
 use Rattle.ssim_records.specs.declared.record.Record.{Record}
 use Rattle.ssim_records.specs.declared.record.Record.TheVariants.{Header, Carrier, Leg, Segment, Trailer}
-use Rattle.ssim_schedule.specs.Timetable.{same_flight, period_of}
+use Rattle.ssim_base.specs.Timetable.{same_flight, period_of}
 
 -- whether the day is the first of a leg record of the flight, or the day after its last
 abbrev pub is_point : FlightNumber → ℕ → Record → Bool

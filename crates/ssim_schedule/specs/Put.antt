@@ -1,6 +1,6 @@
 -- Legs that are put among the legs of an itinerary.
 use Rattle.std.specs.Prelude.{ℕ, ◌+◌, ◌≤◌, nat_lt, if◌then◌else◌, [], ◌∷◌}
-use Rattle.ssim_schedule.specs.Timetable.{Legs, placed}
+use Rattle.ssim_base.specs.Timetable.{Legs, placed}
 
 -- no leg before the leg sequence n comes first
 abbrev pub StartsFrom : ℕ → Legs → Type 0

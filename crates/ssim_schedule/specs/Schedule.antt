@@ -3,8 +3,8 @@ use Rattle.std.specs.Prelude.{◌≡◌, ◌⊎◌, ℕ, ◌+◌, ◌<◌, ◌�
 use Rattle.ssim_values.specs.Flight.{FlightNumber}
 use Rattle.ssim_values.specs.Period.{DayRange}
 use Rattle.ssim_periods.specs.Days.{each_day}
-use Rattle.ssim_schedule.specs.Timetable.{Days}
-use Rattle.ssim_schedule.specs.ReadBack.{place_of}
+use Rattle.ssim_base.specs.Timetable.{Days}
+use Rattle.ssim_base.specs.ReadBack.{place_of}
 use Rattle.ssim_schedule.specs.declared.flight_table.FlightPeriods.{FlightPeriods}
 
 abbrev pub Table : Type 0

@@ -1,7 +1,7 @@
 -- What contracts see of a shared itinerary, its legs; and the hash that it keeps of them.
 use Rattle.std.specs.Prelude.{◌≡◌, ℕ, ◌+◌, ◌*◌, ◌%◌, ◌<◌, ◌≤◌, [], ◌∷◌, length, slice_index_or, List}
 use Rattle.ssim_schedule.specs.Plan.{legs_count}
-use Rattle.ssim_schedule.specs.Timetable.{LegValue, Legs}
+use Rattle.ssim_base.specs.Timetable.{LegValue, Legs}
 use Rattle.ssim_schedule.specs.declared.itinerary.SharedLegs.{SharedLegs}
 use Rattle.ssim_schedule.specs.declared.itinerary.SharedLegs.TheVariants.{None, One, Two, More}
 

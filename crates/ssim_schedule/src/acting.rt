@@ -8,7 +8,7 @@ use crate::finding::Reason;
 use crate::itinerary::Itinerary;
 use crate::leg::PlacedLeg;
 use crate::new_legs::legs_on;
-use crate::stations::StationRow;
+use ssim_base::StationRow;
 use ssim_periods::{Change, Value};
 use ssim_text::{Action, Equipment, LegLine};
 use ssim_values::{Day, Memory};

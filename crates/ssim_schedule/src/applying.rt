@@ -5,18 +5,16 @@ ghost use Rattle.ssim_values.specs.Flight.{FlightNumber, IsFlight};
 ghost use Rattle.ssim_periods.specs.Calendar.{day_count, holds};
 ghost use Rattle.ssim_schedule.specs.Acts.{AddsPointsOf, IsUniform, after_sub, counts_by, finding_of, itinerary_after};
 ghost use Rattle.ssim_schedule.specs.Schedule.{cuts_in, days_in};
-ghost use Rattle.ssim_schedule.specs.Timetable.{on_day};
+ghost use Rattle.ssim_base.specs.Timetable.{on_day};
 
 use crate::acting::Acting;
-use crate::base::Base;
 use crate::divided::act_on_parts;
 use crate::finding::Finding;
 use crate::flight_blocks::FlightBlocks;
 use crate::flight_table::place;
 use crate::points::{lines_of, next_point};
-use crate::resolved::Resolved;
 use crate::schedule::Schedule;
-use crate::stations::StationRow;
+use ssim_base::{Base, Resolved, StationRow};
 use ssim_text::Action;
 use ssim_values::{Flight, Memory, Period};
 

@@ -5,23 +5,21 @@ ghost use Rattle.std.specs.List.{All, flat_map};
 ghost use Rattle.ssim_values.specs.Flight.{FlightNumber, IsFlight};
 ghost use Rattle.ssim_periods.specs.Days.{each_day};
 ghost use Rattle.ssim_records.specs.declared.record.Record.{Record};
-ghost use Rattle.ssim_schedule.specs.Building.{IsClosed};
-ghost use Rattle.ssim_schedule.specs.Export.{Frame};
+ghost use Rattle.ssim_base.specs.Building.{IsClosed};
+ghost use Rattle.ssim_base.specs.Export.{Frame};
 ghost use Rattle.ssim_schedule.specs.FlightSet.{is_marked, is_record_of};
 ghost use Rattle.ssim_schedule.specs.Points.{AreAtPoints};
-ghost use Rattle.ssim_schedule.specs.ReadBack.{HasFrame};
+ghost use Rattle.ssim_base.specs.ReadBack.{HasFrame};
 ghost use Rattle.ssim_schedule.specs.Schedule.{cuts_in, days_in};
-ghost use Rattle.ssim_schedule.specs.Timetable.{days_of, itinerary_among};
+ghost use Rattle.ssim_base.specs.Timetable.{days_of, itinerary_among};
 
-use crate::base::Base;
-use crate::base_frame::BaseFrame;
-use crate::data_set::DataSet;
 use crate::flight_blocks::FlightBlocks;
 use crate::flight_set::FlightSet;
 use crate::growing_table::GrowingTable;
 use crate::leg_group::LegGroup;
 use crate::schedule::Schedule;
 use crate::waiting::Waiting;
+use ssim_base::{Base, BaseFrame, DataSet};
 use ssim_records::{LegRecord, Record, SegmentRecord};
 use ssim_values::{Flight, Memory, Period};
 use std::alloc::Global;
@@ -67,32 +65,30 @@ impl Schedule {
         let table = timetable_of(alloc, &set, pieces, last)?;
         Ok(Schedule { table })
     }
-}
 
-impl DataSet {
-    /// The timetable of the data set, and the frame of its export. The records are freed while the timetable is made, so it takes the
+    /// The timetable of a data set, and the frame of its export. The records are freed while the timetable is made, so it takes the
     /// memory of one of the two.
-    pub fn into_schedule(self) -> Result<(Schedule, BaseFrame), Memory>
-        ensures days { IfOk result (λ made. (g : FlightNumber) → IsFlight g → days_in made.0 g ≡ days_of self g) }
-        ensures frame { IfOk result (λ made. HasFrame made.1 self) }
-        ensures exists { (frame : Frame) × HasFrame frame self }
+    pub fn of_data_set(data_set: DataSet) -> Result<(Schedule, BaseFrame), Memory>
+        ensures days { IfOk result (λ made. (g : FlightNumber) → IsFlight g → days_in made.0 g ≡ days_of data_set g) }
+        ensures frame { IfOk result (λ made. HasFrame made.1 data_set) }
+        ensures exists { (frame : Frame) × HasFrame frame data_set }
     {
-        let frame = self.frame().copy();
-        let table = self.into_table()?;
+        let frame = data_set.frame().copy();
+        let table = table_of(data_set)?;
         let schedule = Schedule { table };
         Ok((schedule, frame))
     }
+}
 
-    // The timetable alone.
-    fn into_table(self) -> Result<FlightBlocks, Memory>
-        ensures { IfOk result (λ s. (g : FlightNumber) → IsFlight g → days_in s g ≡ days_of self g) }
-    {
-        let alloc = self.allocator();
-        let (pieces, flights) = self.into_parts()?;
-        let mut table = timetable_from(alloc, pieces)?;
-        table.share_where(&flights, FEW)?;
-        Ok(table)
-    }
+/// The timetable of a data set, whose records are freed while it is made.
+fn table_of(data_set: DataSet) -> Result<FlightBlocks, Memory>
+    ensures { IfOk result (λ s. (g : FlightNumber) → IsFlight g → days_in s g ≡ days_of data_set g) }
+{
+    let alloc = data_set.allocator();
+    let (pieces, flights) = data_set.into_parts()?;
+    let mut table = timetable_from(alloc, pieces)?;
+    table.share_where(&flights, FEW)?;
+    Ok(table)
 }
 
 /// The timetable of records.

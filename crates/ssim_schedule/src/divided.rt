@@ -8,7 +8,7 @@ ghost use Rattle.ssim_schedule.specs.Acts.{AddsPoints, IsUniform, acted_on, coun
 use crate::acting::Acting;
 use crate::itinerary::Itinerary;
 use crate::points::next_point;
-use crate::stations::StationRow;
+use ssim_base::StationRow;
 use ssim_periods::Periods;
 use ssim_text::Action;
 use ssim_values::{Day, Memory, Period};

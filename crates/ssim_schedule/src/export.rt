@@ -2,24 +2,21 @@
 
 ghost use Rattle.std.specs.Prelude.{◌≡◌, ℕ, List, IfErr, OnOk, Some};
 ghost use Rattle.std.specs.Io.KnownBytes.{Appends};
-ghost use Rattle.ssim_schedule.specs.Export.{chapter7};
-ghost use Rattle.ssim_schedule.specs.Plan.{ReadsBackBase, Refuses, RefusesBase, Writes, WritesBase, frame_from};
-ghost use Rattle.ssim_schedule.specs.ReadBack.{CanReadBack, IsTimetable, ReadsBackFrom};
+ghost use Rattle.ssim_base.specs.Export.{chapter7, frame_from};
+ghost use Rattle.ssim_schedule.specs.Plan.{ReadsBackBase, Refuses, RefusesBase, Writes, WritesBase};
+ghost use Rattle.ssim_base.specs.ReadBack.{CanReadBack, IsTimetable, ReadsBackFrom};
 ghost use Rattle.ssim_schedule.specs.Schedule.{days_in};
-ghost use Rattle.ssim_schedule.specs.Timetable.{days_of};
+ghost use Rattle.ssim_base.specs.Timetable.{days_of};
 
-pub mod block;
 mod lines;
 mod plan;
 
-use crate::base::Base;
-use crate::base_frame::BaseFrame;
-use crate::data_set::DataSet;
 use crate::export::lines::put_export;
 use crate::export::plan::{divide, measure};
 use crate::flight_blocks::FlightBlocks;
-use crate::laws::{export_bytes_read_back, export_reads_back};
 use crate::schedule::Schedule;
+use ssim_base::laws::{export_bytes_read_back, export_reads_back};
+use ssim_base::{Base, BaseFrame, DataSet};
 use ssim_records::{Carrier, Header, Sink, Trailer};
 use ssim_values::{Flight, Memory};
 use std::alloc::Global;
@@ -133,32 +130,24 @@ impl Schedule {
     {
         export_bytes_read_back();
         let Schedule { table } = self;
-        export_frame(
-            table,
-            &frame.header,
-            &frame.carrier,
-            &frame.trailer,
-            frame.alloc,
-            out,
-        )
+        let (header, carrier, trailer) = frame.records();
+        export_frame(table, header, carrier, trailer, frame.allocator(), out)
     }
 }
 
-impl DataSet {
-    /// Writes the canonical export of the data set's timetable, as `Schedule::of` and `Schedule::export` do. The records are freed while the
-    /// timetable is made, so it takes the memory of one of the two. 90 can also mean that there is no memory for the timetable.
-    pub fn export<W: Sink>(self, out: &mut W) -> Result<(), ExportFault>
-        ensures ok { OnOk result (WritesBase W.taken W.failures self (days_of self) out.old out.new) }
-        ensures err { IfErr result (λ fault. RefusesBase W.taken W.failures self (days_of self) out.old out.new fault) }
-        ensures device { W.device out.new ≡ W.device out.old }
+/// Writes the canonical export of the data set's timetable, as `Schedule::of` and `Schedule::export` do. The records are freed while the
+/// timetable is made, so it takes the memory of one of the two. 90 can also mean that there is no memory for the timetable.
+pub fn export_data_set<W: Sink>(data_set: DataSet, out: &mut W) -> Result<(), ExportFault>
+    ensures ok { OnOk result (WritesBase W.taken W.failures data_set (days_of data_set) out.old out.new) }
+    ensures err { IfErr result (λ fault. RefusesBase W.taken W.failures data_set (days_of data_set) out.old out.new fault) }
+    ensures device { W.device out.new ≡ W.device out.old }
 
-        // The bytes read back to the same itinerary on each date, and the export of what was read is the same bytes.
-        ensures reads_back { OnOk result (ReadsBackBase W.taken self (days_of self) out.old out.new) }
-    {
-        export_reads_back();
-        let (schedule, frame) = self.into_schedule()?;
-        schedule.export_in(&frame, out)
-    }
+    // The bytes read back to the same itinerary on each date, and the export of what was read is the same bytes.
+    ensures reads_back { OnOk result (ReadsBackBase W.taken data_set (days_of data_set) out.old out.new) }
+{
+    export_reads_back();
+    let (schedule, frame) = Schedule::of_data_set(data_set)?;
+    schedule.export_in(&frame, out)
 }
 
 /// Writes the canonical export of a timetable between a header, a carrier and a trailer. What no copy of the timetable shares is freed

@@ -7,8 +7,8 @@ ghost use Rattle.ssim_values.specs.Flight.{FlightNumber};
 ghost use Rattle.ssim_periods.specs.Calendar.{holds};
 ghost use Rattle.ssim_periods.specs.Days.{changed_on, counts_on};
 ghost use Rattle.ssim_schedule.specs.Blocks.{block_of, joined};
-ghost use Rattle.ssim_schedule.specs.ReadBack.{place_of};
-ghost use Rattle.ssim_schedule.specs.Timetable.{on_day};
+ghost use Rattle.ssim_base.specs.ReadBack.{place_of};
+ghost use Rattle.ssim_base.specs.Timetable.{on_day};
 
 use crate::flight_table::{FlightTable, place};
 use crate::itinerary::Itinerary;

@@ -6,8 +6,8 @@ ghost use Rattle.ssim_values.specs.Calendar.{weekday};
 ghost use Rattle.ssim_values.specs.Flight.{FlightNumber, IsFlight};
 ghost use Rattle.ssim_periods.specs.Calendar.{holds};
 ghost use Rattle.ssim_periods.specs.Days.{AddsOnly, changed_on, counts_on};
-ghost use Rattle.ssim_schedule.specs.ReadBack.{place_of};
-ghost use Rattle.ssim_schedule.specs.Timetable.{on_day};
+ghost use Rattle.ssim_base.specs.ReadBack.{place_of};
+ghost use Rattle.ssim_base.specs.Timetable.{on_day};
 ghost use Rattle.ssim_schedule.specs.Blocks.{IsBlock, block_of};
 
 use crate::itinerary::Itinerary;

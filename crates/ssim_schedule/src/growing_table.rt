@@ -6,7 +6,7 @@ ghost use Rattle.ssim_periods.specs.Calendar.{holds};
 ghost use Rattle.ssim_periods.specs.Days.{changed_on};
 ghost use Rattle.ssim_schedule.specs.Growing.{with_current};
 ghost use Rattle.ssim_schedule.specs.Put.{placed_each};
-ghost use Rattle.ssim_schedule.specs.ReadBack.{place_of};
+ghost use Rattle.ssim_base.specs.ReadBack.{place_of};
 ghost use Rattle.ssim_schedule.specs.Schedule.{cuts_in, days_in};
 
 use crate::flight_blocks::FlightBlocks;

@@ -1,8 +1,8 @@
 //! The legs of a flight on one date, shared by all dates that have them.
 
 ghost use Rattle.std.specs.Prelude.{◌≡◌, ◌<◌, ◌≤◌, ◌%◌, ◌^◌, ◌∷◌, [], IfNone, IfOk, IfSome, OnOk, reverse};
-ghost use Rattle.ssim_schedule.specs.Export.{same_itinerary};
-ghost use Rattle.ssim_schedule.specs.ItineraryLaws.{exact_itinerary};
+ghost use Rattle.ssim_base.specs.Export.{same_itinerary};
+ghost use Rattle.ssim_base.specs.ItineraryLaws.{exact_itinerary};
 ghost use Rattle.ssim_schedule.specs.Plan.{legs_count};
 ghost use Rattle.ssim_schedule.specs.Shared.{CountsRecords, hash_of, legs_of};
 
@@ -37,7 +37,7 @@ pub struct Itinerary {
 
 impl Model for Itinerary {
     ghost use Rattle.std.specs.Prelude.{◌≡◌, ◌%◌};
-    ghost use Rattle.ssim_schedule.specs.Timetable.{Legs};
+    ghost use Rattle.ssim_base.specs.Timetable.{Legs};
     ghost use Rattle.ssim_schedule.specs.Shared.{CountsRecords, legs_of, hash_of};
 
     ghost Value = { Legs };

@@ -1,7 +1,7 @@
 //! A leg of an itinerary.
 
 ghost use Rattle.std.specs.Prelude.{◌≡◌, ◌+◌, ◌<◌, ◌^◌, IfOk, map};
-ghost use Rattle.ssim_schedule.specs.Export.{same_leg, same_tails};
+ghost use Rattle.ssim_base.specs.Export.{same_leg, same_tails};
 ghost use Rattle.ssim_schedule.specs.Shared.{four_bytes, leg_hash};
 
 use ssim_records::{LegColumns, SegmentTail};
@@ -22,7 +22,7 @@ pub struct PlacedLeg {
 
 impl Model for PlacedLeg {
     ghost use Rattle.std.specs.Prelude.{◌<◌};
-    ghost use Rattle.ssim_schedule.specs.Timetable.{LegValue};
+    ghost use Rattle.ssim_base.specs.Timetable.{LegValue};
 
     ghost Value = { LegValue };
 

@@ -1,7 +1,7 @@
 //! Legs of one flight and one period, which are put into the timetable together.
 
 ghost use Rattle.std.specs.Prelude.{◌≡◌, ◌∷◌, [], true, IfOk, IfSome, OnOk, Some, reverse};
-ghost use Rattle.ssim_schedule.specs.Export.{same_itinerary};
+ghost use Rattle.ssim_base.specs.Export.{same_itinerary};
 ghost use Rattle.ssim_schedule.specs.Group.{no_group};
 ghost use Rattle.ssim_schedule.specs.Put.{IsOrdered, StartsFrom};
 

@@ -7,7 +7,7 @@ ghost use Rattle.ssim_schedule.specs.Effect.{leg_at, legs_from, new_legs, tail_f
 use crate::columns::{new_columns, segment_tail};
 use crate::itinerary::Itinerary;
 use crate::leg::PlacedLeg;
-use crate::stations::{StationRow, first_row};
+use ssim_base::{StationRow, variation_at};
 use ssim_records::SegmentTail;
 use ssim_text::{LegLine, NewLegs, SegmentLine, leg_pair};
 use ssim_values::{Day, Memory};
@@ -60,9 +60,9 @@ fn leg_on(
     requires { place < 20 }
     ensures { IfOk result (λ made. made ≡ leg_at (variation_on rows.now day line.now.departure.station) (variation_on rows.now day line.now.arrival.station) place line.now new.now) }
 {
-    match first_row(rows, line.departure.station, day) {
+    match variation_at(rows, line.departure.station, day) {
         None => Ok(None),
-        Some(here) => match first_row(rows, line.arrival.station, day) {
+        Some(here) => match variation_at(rows, line.arrival.station, day) {
             None => Ok(None),
             Some(there) => {
                 let columns = new_columns(here, there, line, &new.equipment);

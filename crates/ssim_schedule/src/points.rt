@@ -3,9 +3,9 @@
 ghost use Rattle.std.specs.Prelude.{◌≡◌, ◌⊎◌, ℕ, ◌<◌, ◌≤◌, ◌+◌, ◌-◌, IsTrue, ◌||◌, length, nat_eq, slice_index_or};
 ghost use Rattle.std.specs.List.{list_any};
 ghost use Rattle.ssim_schedule.specs.Acts.{IsSteady, divides, is_at, is_named, lines_of};
-ghost use Rattle.ssim_schedule.specs.Stations.{Row};
+ghost use Rattle.ssim_base.specs.Stations.{Row};
 
-use crate::stations::StationRow;
+use ssim_base::StationRow;
 use ssim_text::{Action, LegLine};
 use ssim_values::Station;
 

@@ -19,7 +19,7 @@ pub(crate) struct Put {
 
 impl Model for Put {
     ghost use Rattle.ssim_schedule.specs.Put.{IsOrdered};
-    ghost use Rattle.ssim_schedule.specs.Timetable.{Legs};
+    ghost use Rattle.ssim_base.specs.Timetable.{Legs};
 
     ghost Value = { Legs };
 

@@ -3,7 +3,11 @@
 ghost use Rattle.std.specs.Prelude.{◌≡◌, ℕ, ◌<◌, ◌≤◌, [], All, Contains, IfOk, slice_index_or};
 ghost use Rattle.std.specs.List.Sorted.{IsStrictlyIncreasing};
 ghost use Rattle.ssim_values.specs.Calendar.{weekday};
-ghost use Rattle.ssim_schedule.specs.Timetable.{Above, on_day};
+ghost use Rattle.ssim_base.specs.Timetable.{Above, on_day};
+
+// The examples that are worked out by computing: a false one is an error of this file.
+ghost use Rattle.ssim_schedule.specs.BlockExamples;
+ghost use Rattle.ssim_schedule.specs.EffectExamples;
 
 use crate::flight_blocks::FlightBlocks;
 use crate::flight_table::place;
@@ -18,7 +22,7 @@ pub struct Schedule {
 }
 
 impl Model for Schedule {
-    ghost use Rattle.ssim_schedule.specs.ReadBack.{IsTimetable};
+    ghost use Rattle.ssim_base.specs.ReadBack.{IsTimetable};
     ghost use Rattle.ssim_schedule.specs.Schedule.{Table, days_in};
 
     ghost Value = { Table };

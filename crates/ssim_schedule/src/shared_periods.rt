@@ -19,7 +19,7 @@ pub(crate) struct SharedPeriods {
 
 impl Model for SharedPeriods {
     ghost use Rattle.ssim_periods.specs.Days.{Seen};
-    ghost use Rattle.ssim_schedule.specs.Timetable.{Legs};
+    ghost use Rattle.ssim_base.specs.Timetable.{Legs};
 
     ghost Value = { Seen Legs };
 

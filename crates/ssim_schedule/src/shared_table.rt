@@ -5,7 +5,7 @@ ghost use Rattle.ssim_values.specs.Flight.{FlightNumber};
 ghost use Rattle.ssim_periods.specs.Calendar.{holds};
 ghost use Rattle.ssim_periods.specs.Days.{changed_on, counts_on};
 ghost use Rattle.ssim_schedule.specs.Blocks.{IsBlock, block_of};
-ghost use Rattle.ssim_schedule.specs.ReadBack.{place_of};
+ghost use Rattle.ssim_base.specs.ReadBack.{place_of};
 
 use crate::flight_table::{FlightPeriods, FlightTable};
 use crate::itinerary::Itinerary;

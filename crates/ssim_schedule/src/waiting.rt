@@ -3,7 +3,7 @@
 ghost use Rattle.std.specs.Prelude.{◌≡◌, ℕ, ◌<◌, ◌∷◌, [], None, nat_eq, if◌then◌else◌, reverse, false, IfOk, OnOk};
 ghost use Rattle.std.specs.BTreeMap.{get};
 ghost use Rattle.std.specs.Ordering.{nat_cmp};
-ghost use Rattle.ssim_schedule.specs.Building.{IsPlaced, name_place};
+ghost use Rattle.ssim_base.specs.Building.{IsPlaced, name_place};
 
 use crate::leg_key::LegKey;
 use ssim_records::{LegName, SegmentRecord, SegmentTail};

@@ -4,8 +4,9 @@ ghost use Rattle.std.specs.Prelude.{◌≤◌, None};
 
 use crate::data::{HEADER, data_set};
 use crate::pieces::in_pieces;
+use ssim_base::{Base, BaseFault, Stations};
 use ssim_records::{DeviceFault, Sink, Source};
-use ssim_schedule::{Base, BaseFault, ExportFault, Schedule, Stations};
+use ssim_schedule::{ExportFault, Schedule};
 use std::alloc::Global;
 
 /// The base of a reader.

@@ -1,9 +1,9 @@
 //! Two desks take the same texts in different orders, and export the same data set. The data set is the standard input.
 #![tactic(auto)]
 
+use ssim_base::{Base, Stations};
 use ssim_desk::Desk;
 use ssim_records::Bytes;
-use ssim_schedule::{Base, Stations};
 use std::alloc::Global;
 use std::io::Read;
 

@@ -2,14 +2,14 @@
 
 ghost use Rattle.std.specs.Prelude.{◌≡◌, ◌≢◌, ◌++◌, ◌∷◌, [], ◌<◌, ◌^◌, List, ℕ, codes, length, IfErr, IfNone, IfOk, IfSome, IsSomeAnd, Some};
 ghost use Rattle.ssim_records.specs.declared.record.Record.{Record};
-ghost use Rattle.ssim_schedule.specs.SavedBase.{IsBaseRecords, saved};
+ghost use Rattle.ssim_base.specs.SavedBase.{IsBaseRecords, saved};
 ghost use Rattle.ssim_text.specs.Bytes.{before, from};
 ghost use Rattle.ssim_held.specs.File.{counted, records_part};
 
 use crate::opening::count_line::{Count, count_line};
 use crate::opening::fault::PartFault;
+use ssim_base::{DataSet, SavedFault, read_saved};
 use ssim_records::Parts;
-use ssim_schedule::{DataSet, SavedFault, read_saved};
 use std::alloc::Global;
 
 /// The next line with its LF, if an LF follows.

@@ -2,13 +2,13 @@
 
 ghost use Rattle.std.specs.Prelude.{◌≡◌, ◌≢◌, ◌↔◌, ◌++◌, ◌<◌, ◌^◌, All, List, ℕ, length, IfErr, IfNone, IfOk, IfSome, IsTrue};
 ghost use Rattle.std.specs.List.{flat_map};
-ghost use Rattle.ssim_schedule.specs.Stations.{Row};
+ghost use Rattle.ssim_base.specs.Stations.{Row};
 ghost use Rattle.ssim_held.specs.File.{IsRow, row_line, rows_part};
 
 use crate::opening::count_line::{after_prefix, count_line, elements};
 use crate::opening::fault::PartFault;
 use crate::row_line::write_row;
-use ssim_schedule::{StationFault, StationRow, Stations};
+use ssim_base::{StationFault, StationRow, Stations};
 use std::alloc::Global;
 
 /// The number of bytes of a row and its LF.

@@ -1,8 +1,8 @@
 //! The messages of a desk as a desk file has them.
 
 ghost use Rattle.std.specs.Prelude.{◌≡◌, ◌≢◌, ◌↔◌, ◌++◌, ◌∷◌, [], ◌<◌, ◌^◌, List, ℕ, length, IfErr, IfNone, IfOk, IfSome, IsTrue};
-ghost use Rattle.ssim_schedule.specs.Resolve.{ResolvesIn};
-ghost use Rattle.ssim_schedule.specs.declared.resolving.ResolvedText.{ResolvedText};
+ghost use Rattle.ssim_base.specs.Resolve.{ResolvesIn};
+ghost use Rattle.ssim_base.specs.declared.resolving.ResolvedText.{ResolvedText};
 ghost use Rattle.ssim_text.specs.Canonical.{canonical};
 ghost use Rattle.ssim_text.specs.Message.{MessageValue};
 ghost use Rattle.ssim_text.specs.Spelling.{SpellsMessage};
@@ -15,8 +15,8 @@ use crate::lookup::compare;
 use crate::opening::count_line::{count_line, elements};
 use crate::opening::fault::PartFault;
 use crate::opening::version::FileVersion;
-use ssim_schedule::laws::resolving_has_one_outcome;
-use ssim_schedule::{DataSet, ResolveFault, ResolvedText};
+use ssim_base::laws::resolving_has_one_outcome;
+use ssim_base::{DataSet, ResolveFault, ResolvedText};
 use ssim_text::laws::equal_where_written_equal;
 use ssim_text::{Message, TextFault, decode};
 use std::alloc::Global;

@@ -3,7 +3,7 @@
 ghost use Rattle.std.specs.Prelude.{◌≡◌, ◌⊎◌, ◌<◌, ◌≤◌, ◌+◌, length, IfErr, IfOk, IfSome, OnOk, Ok};
 ghost use Rattle.std.specs.Io.KnownBytes.{IsAtEnd};
 ghost use Rattle.ssim_records.specs.Blocks.{CountsOn, SameAhead};
-ghost use Rattle.ssim_schedule.specs.Reading.{Came};
+ghost use Rattle.ssim_base.specs.Reading.{Came};
 ghost use Rattle.ssim_held.specs.Opening.{FailsAs, NeverEnds, RefusesFile};
 
 use crate::fault::DeskFault;

@@ -4,9 +4,10 @@ ghost use Rattle.std.specs.Prelude.{◌≡◌, IfOk, IfSome};
 ghost use Rattle.ssim_program.specs.Refusal.{refusal_number};
 
 use crate::refusal::Refusal;
+use ssim_base::{BaseFault, BaseRefusal, ResolveFault, StationFault};
 use ssim_desk::DeskFault;
 use ssim_records::RecordFault;
-use ssim_schedule::{BaseFault, BaseRefusal, ExportFault, ResolveFault, StationFault};
+use ssim_schedule::ExportFault;
 use ssim_text::{Fault as LineFault, Kind, Originator, Reference, TextFault};
 use ssim_values::{Day, Designator, Fault, Memory};
 use std::alloc::Global;

@@ -5,15 +5,15 @@ ghost use Rattle.std.specs.List.{All, flat_map};
 ghost use Rattle.std.specs.Io.KnownBytes.{Appends};
 ghost use Rattle.ssim_records.specs.Leg.{LegFields};
 ghost use Rattle.ssim_records.specs.Segment.{IsTail};
-ghost use Rattle.ssim_schedule.specs.Export.{fill_count, leg_records, numbered, pieces_records, section_bytes, tail_record};
-ghost use Rattle.ssim_schedule.specs.Plan.{HasWritableLegs, HasWritablePieces, frame_from, legs_count, numbered_lines, pieces_count, plan_bytes, plan_count, plan_records};
-ghost use Rattle.ssim_schedule.specs.ReadBack.{IsWritable};
-ghost use Rattle.ssim_schedule.specs.Sinks.{CountsFault, TakesFront, TakesUpTo};
+ghost use Rattle.ssim_base.specs.Export.{fill_count, frame_from, leg_records, numbered, pieces_records, section_bytes, tail_record};
+ghost use Rattle.ssim_schedule.specs.Plan.{HasWritableLegs, HasWritablePieces, legs_count, numbered_lines, pieces_count, plan_bytes, plan_count, plan_records};
+ghost use Rattle.ssim_base.specs.ReadBack.{IsWritable};
+ghost use Rattle.ssim_base.specs.Sinks.{CountsFault, TakesFront, TakesUpTo};
 
-use crate::export::block::{Block, WriteFault, flush, put_fill, put_leg, put_record, put_segment};
 use crate::export::plan::FlightPieces;
 use crate::itinerary::Itinerary;
 use crate::leg::PlacedLeg;
+use ssim_base::{Block, WriteFault, flush, put_fill, put_leg, put_record, put_segment};
 use ssim_records::{
     Carrier, Header, LegColumns, LegName, NameText, PeriodText, Record, SegmentTail, Sink, Trailer,
 };

@@ -1,7 +1,7 @@
 -- The schedule is the one after the messages so far, and the findings are theirs.
 use Rattle.std.proofs.Common.{◌≡◌, List, take}
 use Rattle.ssim_schedule.specs.Schedule.{Table}
-use Rattle.ssim_schedule.specs.Stations.{Row}
+use Rattle.ssim_base.specs.Stations.{Row}
 use Rattle.ssim_schedule.specs.declared.finding.Finding.{Finding}
 use Rattle.ssim_held.specs.Kept.{Entry}
 use Rattle.ssim_desk.specs.Meaning.{Timetable, after_entries, entries_findings}

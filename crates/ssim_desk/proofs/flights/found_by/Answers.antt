@@ -1,8 +1,8 @@
 -- The schedule shows the timetable of the flights that the messages name, in which they find what they find in the whole.
 use Rattle.std.proofs.Common.{List, Result, Ok, Err, IfOk, subst, ◌∙◌}
 use Rattle.ssim_values.specs.Flight.{FlightNumber}
-use Rattle.ssim_schedule.specs.BaseSeen.{base_with}
-use Rattle.ssim_schedule.specs.Timetable.{itinerary_among}
+use Rattle.ssim_base.specs.BaseSeen.{base_with}
+use Rattle.ssim_base.specs.Timetable.{itinerary_among}
 use Rattle.ssim_desk.specs.Private.{Shows, flights_of}
 use Rattle.ssim_desk.proofs.SomeFlights.{found_among}
 use Rattle.ssim_desk.proofs.flights.found_by.Goals as goal

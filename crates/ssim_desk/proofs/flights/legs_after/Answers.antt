@@ -3,9 +3,9 @@ use Rattle.std.proofs.Common.{◌≡◌, ◌≤◌, ◌<◌, ℕ, List, [], ◌�
 use Rattle.std.specs.Prelude.{IsTrue, slice_index_or}
 use Rattle.ssim_periods.proofs.DayLemmas.{day_count-is}
 use Rattle.ssim_values.specs.Flight.{IsFlight, is_suffix}
-use Rattle.ssim_schedule.proofs.Calendars.{at-each_day}
-use Rattle.ssim_schedule.specs.BaseSeen.{base_with}
-use Rattle.ssim_schedule.specs.Timetable.{Legs, itinerary, itinerary_among}
+use Rattle.ssim_base.proofs.Calendars.{at-each_day}
+use Rattle.ssim_base.specs.BaseSeen.{base_with}
+use Rattle.ssim_base.specs.Timetable.{Legs, itinerary, itinerary_among}
 use Rattle.ssim_desk.specs.Meaning.{left_by}
 use Rattle.ssim_desk.proofs.SomeFlights.{among_is, entries_agree, is_among_one}
 use Rattle.ssim_desk.proofs.flights.legs_after.Goals as goal

@@ -1,8 +1,8 @@
 -- A base is its records and its rows.
 use Rattle.std.proofs.Common.{◌≡◌, List, refl, ap, ◌∙◌}
 use Rattle.ssim_records.specs.declared.record.Record.{Record}
-use Rattle.ssim_schedule.specs.BaseSeen.{BaseSeen, base_with}
-use Rattle.ssim_schedule.specs.Stations.{Row}
+use Rattle.ssim_base.specs.BaseSeen.{BaseSeen, base_with}
+use Rattle.ssim_base.specs.Stations.{Row}
 use Rattle.ssim_desk.proofs.holdings.same_base.Goals as goal
 
 both : (a b : List Record) (c d : List Row) → a ≡ b → c ≡ d → base_with a c ≡ base_with b d

@@ -1,5 +1,5 @@
 use Rattle.std.proofs.Common.{ℕ, List, take, ◌++◌}
-use Rattle.ssim_schedule.specs.BaseSeen.{BaseSeen}
+use Rattle.ssim_base.specs.BaseSeen.{BaseSeen}
 use Rattle.ssim_held.specs.Kept.{Entry}
 use Rattle.ssim_desk.specs.Private.{IsCounted, IsTail}
 use Rattle.ssim_desk.specs.declared.tail.Tail.{Tail}

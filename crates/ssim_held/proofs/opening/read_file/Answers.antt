@@ -1,6 +1,6 @@
 -- Part by part, what was read is the file's, and what was not read is of no desk.
 use Rattle.std.proofs.Common.{rules, ◌≡◌, ◌++◌, ◌<◌, ◌^◌, ◌∙◌, List, ℕ, length, Err, arith}
-use Rattle.ssim_schedule.specs.BaseSeen.{BaseSeen, base_with}
+use Rattle.ssim_base.specs.BaseSeen.{BaseSeen, base_with}
 use Rattle.ssim_held.specs.File.{IsDeskFile, end_line, rows_part, texts_part}
 use Rattle.ssim_held.specs.Kept.{Entry}
 use Rattle.ssim_held.proofs.PartFaults.{handed_on}

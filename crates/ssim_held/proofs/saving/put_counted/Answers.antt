@@ -1,7 +1,7 @@
 -- The word, the digits and LF, one after another.
 use Rattle.std.proofs.Common.{◌≡◌, ◌++◌, ◌∷◌, [], ℕ, List, decimal, append_assoc, sym, subst, ◌∙◌}
-use Rattle.ssim_schedule.specs.Sinks.{TakesFront, TakesUpTo}
-use Rattle.ssim_schedule.proofs.SinkLemmas.{at_fault, front_more, halt_last, if_err, if_ok, step_last}
+use Rattle.ssim_base.specs.Sinks.{TakesFront, TakesUpTo}
+use Rattle.ssim_base.proofs.SinkLemmas.{at_fault, front_more, halt_last, if_err, if_ok, step_last}
 use Rattle.ssim_held.proofs.saving.put_counted.Goals as goal
 
 pub returns-in_err-put_bytes-clause-err : goal.returns-in_err-put_bytes-clause-err

@@ -1,9 +1,9 @@
 -- A record more is put.
 use Rattle.std.proofs.Common.{◌++◌, codes, length, ap, ◌∙◌}
 use Rattle.ssim_records.specs.Record.{written}
-use Rattle.ssim_schedule.specs.Export.{line}
-use Rattle.ssim_schedule.specs.SavedBase.{saved}
-use Rattle.ssim_schedule.proofs.SinkLemmas.{at_fault, halt, step}
+use Rattle.ssim_base.specs.Export.{line}
+use Rattle.ssim_base.specs.SavedBase.{saved}
+use Rattle.ssim_base.proofs.SinkLemmas.{at_fault, halt, step}
 use Rattle.ssim_held.specs.File.{counted, records_part}
 use Rattle.ssim_held.proofs.FileParts.{first_fails}
 use Rattle.ssim_held.proofs.saving.put_records.Goals as goal

@@ -1,7 +1,7 @@
 -- What was put, and the records that are left, is all of the part.
 use Rattle.std.proofs.Common.{◌≡◌, ◌++◌, length}
-use Rattle.ssim_schedule.specs.SavedBase.{saved}
-use Rattle.ssim_schedule.specs.Sinks.{TakesUpTo}
+use Rattle.ssim_base.specs.SavedBase.{saved}
+use Rattle.ssim_base.specs.Sinks.{TakesUpTo}
 use Rattle.ssim_held.specs.File.{records_part}
 use Rattle.ssim_held.proofs.saving.put_records.Given as goal
 

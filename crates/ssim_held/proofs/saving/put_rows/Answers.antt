@@ -1,8 +1,8 @@
 -- A row more is put.
 use Rattle.std.proofs.Common.{◌+◌, ◌++◌, codes, drop, length, ◌∙◌}
 use Rattle.std.specs.List.{flat_map}
-use Rattle.ssim_schedule.proofs.Each.{all_done, all_more}
-use Rattle.ssim_schedule.proofs.SinkLemmas.{at_fault, halt, step}
+use Rattle.ssim_base.proofs.Each.{all_done, all_more}
+use Rattle.ssim_base.proofs.SinkLemmas.{at_fault, halt, step}
 use Rattle.ssim_held.specs.File.{IsRow, counted, row_line, rows_part}
 use Rattle.ssim_held.proofs.FileParts.{element, first_fails}
 use Rattle.ssim_held.proofs.saving.put_rows.Goals as goal

@@ -1,7 +1,7 @@
 -- What was put, and the elements that are left, is all of the part.
 use Rattle.std.proofs.Common.{◌≡◌, ◌++◌, drop, take}
 use Rattle.std.specs.List.{All, flat_map}
-use Rattle.ssim_schedule.specs.Sinks.{TakesUpTo}
+use Rattle.ssim_base.specs.Sinks.{TakesUpTo}
 use Rattle.ssim_held.specs.File.{IsRow, row_line, rows_part}
 use Rattle.ssim_held.proofs.saving.put_rows.Given as goal
 

@@ -1,7 +1,7 @@
 -- The line with the length, and the text.
 use Rattle.std.proofs.Common.{◌≡◌, ◌++◌, ℕ, List, codes, length, ap, subst, ◌∙◌}
-use Rattle.ssim_schedule.specs.Sinks.{TakesFront, TakesUpTo}
-use Rattle.ssim_schedule.proofs.SinkLemmas.{at_fault, halt_last, if_err, if_ok, step_last}
+use Rattle.ssim_base.specs.Sinks.{TakesFront, TakesUpTo}
+use Rattle.ssim_base.proofs.SinkLemmas.{at_fault, halt_last, if_err, if_ok, step_last}
 use Rattle.ssim_text.specs.Canonical.{canonical}
 use Rattle.ssim_held.specs.File.{counted}
 use Rattle.ssim_held.proofs.FileParts.{first_fails}

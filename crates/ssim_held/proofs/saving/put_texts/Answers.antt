@@ -1,8 +1,8 @@
 -- A message more is put.
 use Rattle.std.proofs.Common.{◌+◌, ◌++◌, codes, drop, length, refl, ◌∙◌}
 use Rattle.std.specs.List.{flat_map}
-use Rattle.ssim_schedule.proofs.Each.{all_done, all_more}
-use Rattle.ssim_schedule.proofs.SinkLemmas.{at_fault, halt, step}
+use Rattle.ssim_base.proofs.Each.{all_done, all_more}
+use Rattle.ssim_base.proofs.SinkLemmas.{at_fault, halt, step}
 use Rattle.ssim_held.specs.File.{IsSpelled, counted, text_element, texts_part}
 use Rattle.ssim_held.proofs.FileParts.{element, first_fails}
 use Rattle.ssim_held.proofs.saving.put_texts.Goals as goal

@@ -1,12 +1,12 @@
 -- Both files are loaded and the table is read, so a refusal of the data set is that of its bytes, or memory ran out.
 use Rattle.std.proofs.Common.{List, ℕ, Option, Err, inl, inr, refl}
-use Rattle.ssim_schedule.specs.Reading.{AnswersRecords, IsReadAs}
-use Rattle.ssim_schedule.specs.Stations.{Row}
-use Rattle.ssim_schedule.specs.declared.fault.BaseFault.{BaseFault}
-use Rattle.ssim_schedule.specs.declared.fault.BaseFault.TheVariants as base
+use Rattle.ssim_base.specs.Reading.{AnswersRecords, IsReadAs}
+use Rattle.ssim_base.specs.Stations.{Row}
+use Rattle.ssim_base.specs.declared.fault.BaseFault.{BaseFault}
+use Rattle.ssim_base.specs.declared.fault.BaseFault.TheVariants as base
 use Rattle.ssim_program.specs.Files.{Files}
 use Rattle.ssim_program.specs.Made.{HasFile, IsOfBytes, ReadsTable, RefusesBase, file_limit}
-use Rattle.ssim_program.specs.Line.{Text}
+use Rattle.ssim_command_line.specs.Line.{Text}
 use Rattle.ssim_program.specs.Refusal.{refusal_of_base}
 use Rattle.ssim_program.proofs.data_set.load_base.Goals as goal
 

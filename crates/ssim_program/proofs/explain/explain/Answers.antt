@@ -1,7 +1,7 @@
 -- A word that is no number is the name of a file.
 use Rattle.std.proofs.Common.{inr, refl, rules}
 use Rattle.ssim_program.specs.Explained.{ExplainsFile}
-use Rattle.ssim_program.specs.Line.{Explain}
+use Rattle.ssim_command_line.specs.Line.{Explain}
 use Rattle.ssim_program.specs.Made.{RefusesLoad}
 use Rattle.ssim_program.proofs.Doing.{prepared}
 use Rattle.ssim_program.proofs.explain.explain.Goals as goal

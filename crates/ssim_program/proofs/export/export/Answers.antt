@@ -1,8 +1,8 @@
 -- The desk file is refused, or what the desk has is exported.
 use Rattle.std.proofs.Common.{◌≡◌, ◌∙◌, Err, ap, inl, refl, rules}
-use Rattle.ssim_schedule.specs.Base.{airline_of}
+use Rattle.ssim_base.specs.Base.{airline_of}
 use Rattle.ssim_desk.specs.Desk.{days_of_desk}
-use Rattle.ssim_program.specs.Line.{Export}
+use Rattle.ssim_command_line.specs.Line.{Export}
 use Rattle.ssim_program.proofs.Doing.{stops_at_once}
 use Rattle.ssim_program.proofs.Exporting.{export_does}
 use Rattle.ssim_program.proofs.export.export.Goals as goal

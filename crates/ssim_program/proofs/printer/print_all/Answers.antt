@@ -1,7 +1,7 @@
 -- The printer took the beginning of the rest; and then it is flushed.
 use Rattle.std.proofs.Common.{◌∙◌, arith}
 use Rattle.std.proofs.lemmas.Bool.Decides.{nat_tests}
-use Rattle.ssim_schedule.proofs.SinkLemmas.{then, front_taken}
+use Rattle.ssim_base.proofs.SinkLemmas.{then, front_taken}
 use Rattle.ssim_program.proofs.printer.print_all.Goals as goal
 
 pub loop-rest-preserved : goal.loop-rest-preserved

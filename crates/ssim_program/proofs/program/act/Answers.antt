@@ -1,9 +1,9 @@
 -- The request is the command's.
 use Rattle.std.proofs.Common.{sym, subst}
-use Rattle.ssim_program.specs.Line.{Check, Start, Merge, Show, Findings, Rehearse, Explain}
-use Rattle.ssim_program.specs.Request.{line_of}
+use Rattle.ssim_command_line.specs.Line.{Check, Start, Merge, Show, Findings, Rehearse, Explain}
+use Rattle.ssim_command_line.specs.Request.{line_of}
 use Rattle.ssim_program.specs.World.{Does, world}
-use Rattle.ssim_program.specs.declared.command_line.Request.{Request}
+use Rattle.ssim_command_line.specs.declared.command_line.Request.{Request}
 use Rattle.ssim_program.proofs.program.act.Goals as goal
 
 pub returns-in-Check : goal.returns-in-Check

@@ -1,6 +1,6 @@
 -- The lines of 52 and 90 are written out.
 use Rattle.std.proofs.Common.{◌∙◌, ℕ, List, ap, inl, inr, subst, sym, true≢false}
-use Rattle.ssim_schedule.specs.Export.{line}
+use Rattle.ssim_base.specs.Export.{line}
 use Rattle.ssim_program.specs.Paper.{PrintsOrFails}
 use Rattle.ssim_program.specs.Refusal.{refusal_text}
 use Rattle.ssim_program.specs.declared.refusal.Refusal.{Refusal}

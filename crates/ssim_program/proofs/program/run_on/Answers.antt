@@ -1,7 +1,7 @@
 -- What the program says to a command, and to other words.
 use Rattle.std.proofs.Common.{inr, map}
 use Rattle.ssim_program.specs.World.{world}
-use Rattle.ssim_program.proofs.Lines.{spells_names}
+use Rattle.ssim_command_line.proofs.Lines.{spells_names}
 use Rattle.ssim_program.proofs.Saying.{answered, obeyed}
 use Rattle.ssim_program.proofs.program.run_on.Goals as goal
 

@@ -1,7 +1,7 @@
 -- The base is refused, or the steps are.
 use Rattle.std.proofs.Common.{rules, ◌≡◌, ◌∙◌, inl, inr, refl, Err, List, None, Option, subst}
 use Rattle.std.specs.List.{flat_map}
-use Rattle.ssim_schedule.specs.BaseSeen.{base_with}
+use Rattle.ssim_base.specs.BaseSeen.{base_with}
 use Rattle.ssim_held.specs.Kept.{DeskSeen}
 use Rattle.ssim_desk.specs.declared.steps.Step.{Step}
 use Rattle.ssim_program.specs.Files.{Files}

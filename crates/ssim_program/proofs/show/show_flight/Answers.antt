@@ -1,7 +1,7 @@
 -- The flight is shown, or not.
 use Rattle.std.proofs.Common.{inl, inr, refl}
 use Rattle.ssim_program.specs.Desks.{RefusesFlight, Shows}
-use Rattle.ssim_program.specs.Line.{Show}
+use Rattle.ssim_command_line.specs.Line.{Show}
 use Rattle.ssim_program.proofs.Doing.{prepared}
 use Rattle.ssim_program.proofs.show.show_flight.Goals as goal
 

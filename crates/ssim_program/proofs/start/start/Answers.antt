@@ -1,6 +1,6 @@
 -- The base is read, and its desk is kept.
 use Rattle.std.proofs.Common.{◌≡◌, ◌∙◌, ap, inl, inr, refl, rules, Err, Some}
-use Rattle.ssim_schedule.specs.BaseSeen.{base_with}
+use Rattle.ssim_base.specs.BaseSeen.{base_with}
 use Rattle.ssim_held.specs.File.{desk_file}
 use Rattle.ssim_held.specs.Kept.{DeskSeen}
 use Rattle.ssim_program.specs.Files.{with_kept}

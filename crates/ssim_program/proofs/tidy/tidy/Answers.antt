@@ -1,7 +1,7 @@
 -- The data set is refused, or exported.
 use Rattle.std.proofs.Common.{◌≡◌, Err, inl, refl, rules}
-use Rattle.ssim_schedule.specs.Timetable.{days_of}
-use Rattle.ssim_program.specs.Line.{Tidy}
+use Rattle.ssim_base.specs.Timetable.{days_of}
+use Rattle.ssim_command_line.specs.Line.{Tidy}
 use Rattle.ssim_program.proofs.Doing.{stops_at_once}
 use Rattle.ssim_program.proofs.Exporting.{tidy_does}
 use Rattle.ssim_program.proofs.tidy.tidy.Goals as goal
@@ -15,6 +15,6 @@ pub returns : goal.returns
 returns g c =
     let base = c.in_ok-data_set.data_set in
     let read = c.in_ok-data_set.ensures.read in
-    let e = c.export-written.ensures in
+    let e = c.export_data_set-written.ensures in
     tidy_does (g.S.Store.files c.args.store.now) (g.S.Store.files c.load.new.store) c.args.name.now c.load.ensures.same c.args.out.now c.end_export.new.out base read.0 c.end_export.result read.1
     (c.end_export.ensures base (days_of base) c.args.out.now c.airline-airline.ensures (record { ok = e.ok; err = e.err; device = e.device; reads_back = e.reads_back }))

@@ -2,8 +2,8 @@
 use Rattle.std.proofs.Common.{◌≡◌, Bool, true, false, List, [], ◌∷◌, refl, sym, ap, ◌∙◌}
 use Rattle.ssim_text.specs.declared.leg.LegLine.{LegLine}
 use Rattle.ssim_schedule.specs.Effect.{have_legs, retime, with_lines}
-use Rattle.ssim_schedule.specs.Timetable.{Legs}
-use Rattle.ssim_schedule.proofs.ChangeLemmas.{if_ok}
+use Rattle.ssim_base.specs.Timetable.{Legs}
+use Rattle.ssim_base.proofs.Results.{if_ok}
 use Rattle.ssim_schedule.proofs.acting.retimed.Goals as goal
 
 retime_is : (lines : List LegLine) (old : Legs) (empty : Bool) → (old ≡ [] → empty ≡ true) → empty ≡ false → have_legs old lines ≡ true → (retime lines old).0 ≡ with_lines lines old

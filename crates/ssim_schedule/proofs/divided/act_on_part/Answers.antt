@@ -1,7 +1,7 @@
 -- The effect is one on all days, so that of the first day.
 use Rattle.std.proofs.Common.{◌∙◌}
 use Rattle.ssim_schedule.proofs.Acts.{counts_made, days_made}
-use Rattle.ssim_schedule.proofs.ChangeLemmas.{if_ok, on_ok}
+use Rattle.ssim_base.proofs.Results.{if_ok, on_ok}
 use Rattle.ssim_schedule.proofs.divided.act_on_part.Goals as goal
 
 pub returns-clause-days : goal.returns-clause-days

@@ -1,6 +1,6 @@
 -- The tails so far are the same, so the others decide.
 use Rattle.std.proofs.Common.{◌≡◌, drop}
-use Rattle.ssim_schedule.specs.Export.{same_tails}
+use Rattle.ssim_base.specs.Export.{same_tails}
 use Rattle.ssim_schedule.proofs.leg.same_tails.Given as goal
 
 abbrev pub invariant-loop-place : goal.invariant-loop-place

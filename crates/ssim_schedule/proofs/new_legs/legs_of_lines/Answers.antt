@@ -4,7 +4,7 @@ use Rattle.std.proofs.lemmas.List.{drop_more}
 use Rattle.ssim_text.specs.declared.leg.LegLine.{LegLine}
 use Rattle.ssim_text.specs.declared.action.NewLegs.{NewLegs}
 use Rattle.ssim_schedule.specs.Effect.{Variations, joined, leg_at, legs_from, variation_on}
-use Rattle.ssim_schedule.specs.Timetable.{LegValue, Legs}
+use Rattle.ssim_base.specs.Timetable.{LegValue, Legs}
 use Rattle.ssim_schedule.proofs.new_legs.legs_of_lines.Goals as goal
 
 add : (done : Legs) (leg : LegValue) (later : Option Legs) → option_map (λ back. (done ++ leg ∷ []) ++ back) later ≡ option_map (λ back. done ++ back) (joined (Some leg) later)

@@ -1,7 +1,7 @@
 use Rattle.std.proofs.Common.{◌≡◌, ◌⊎◌, ◌≤◌, ◌<◌, ◌-◌, ℕ, IsTrue, slice_index_or}
 use Rattle.std.specs.List.{list_any}
 use Rattle.ssim_schedule.specs.Acts.{IsSteady, divides, is_named}
-use Rattle.ssim_schedule.specs.Stations.{Row}
+use Rattle.ssim_base.specs.Stations.{Row}
 use Rattle.ssim_schedule.proofs.points.next_point.Given as goal
 
 abbrev pub invariant-loop-row : goal.invariant-loop-row

@@ -1,5 +1,5 @@
 use Rattle.std.proofs.Common.{OnOk, IfErr, Result, Ok, Err, subst}
-use Rattle.ssim_schedule.specs.BaseSeen.{BaseSeen}
+use Rattle.ssim_base.specs.BaseSeen.{BaseSeen}
 use Rattle.ssim_schedule.specs.Plan.{RefusesBase, WritesBase}
 use Rattle.ssim_schedule.specs.Schedule.{days_in}
 use Rattle.ssim_held.specs.Kept.{DeskSeen}

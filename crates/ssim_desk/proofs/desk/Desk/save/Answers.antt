@@ -1,10 +1,10 @@
 -- What is written is the base and the messages of the desk.
 use Rattle.std.proofs.Common.{OnErr, OnOk, All, List, ℕ, ap, subst, ◌∙◌}
 use Rattle.std.specs.Io.KnownBytes.{Appends}
-use Rattle.ssim_schedule.specs.BaseSeen.{BaseSeen}
-use Rattle.ssim_schedule.specs.SavedBase.{IsBaseRecords}
-use Rattle.ssim_schedule.specs.Sinks.{TakesFront}
-use Rattle.ssim_schedule.specs.Stations.{Row}
+use Rattle.ssim_base.specs.BaseSeen.{BaseSeen}
+use Rattle.ssim_base.specs.SavedBase.{IsBaseRecords}
+use Rattle.ssim_base.specs.Sinks.{TakesFront}
+use Rattle.ssim_base.specs.Stations.{Row}
 use Rattle.ssim_held.specs.File.{IsRow, IsSpelled}
 use Rattle.ssim_held.specs.Kept.{Entry}
 use Rattle.ssim_desk.proofs.DeskFiles.{file_is, from_parts}

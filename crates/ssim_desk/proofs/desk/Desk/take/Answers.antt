@@ -1,7 +1,7 @@
 -- The text is known, or its message is put where it belongs.
 use Rattle.std.proofs.Common.{◌≡◌, List, Result, Err, drop, refl, sym, subst, rules}
-use Rattle.ssim_schedule.specs.BaseSeen.{BaseSeen}
-use Rattle.ssim_schedule.specs.ReadBack.{HasFrame}
+use Rattle.ssim_base.specs.BaseSeen.{BaseSeen}
+use Rattle.ssim_base.specs.ReadBack.{HasFrame}
 use Rattle.ssim_held.specs.Kept.{AreEntries, Entry, map_of, state_of}
 use Rattle.ssim_held.specs.declared.fault.DeskFault.{DeskFault}
 use Rattle.ssim_held.proofs.Entries.{not_held}

@@ -1,7 +1,7 @@
 -- A base is of records that were read, and the messages resolve in it.
 use Rattle.std.proofs.Common.{subst}
-use Rattle.ssim_schedule.specs.BaseSeen.{BaseSeen}
-use Rattle.ssim_schedule.specs.SavedBase.{IsBaseRecords}
+use Rattle.ssim_base.specs.BaseSeen.{BaseSeen}
+use Rattle.ssim_base.specs.SavedBase.{IsBaseRecords}
 use Rattle.ssim_desk.proofs.OneRun.{is_desk}
 use Rattle.ssim_desk.proofs.holder.DeskHolder.is_desk.Goals as goal
 

@@ -1,9 +1,9 @@
 -- The messages have acted on the timetable of the data set, and the export stands in its frame.
 use Rattle.std.proofs.Common.{OnOk, IfErr, Result, Ok, Err, subst}
-use Rattle.ssim_schedule.specs.BaseSeen.{base_with}
+use Rattle.ssim_base.specs.BaseSeen.{base_with}
 use Rattle.ssim_schedule.specs.Plan.{ReadsBackBase, RefusesBase, WritesBase}
 use Rattle.ssim_schedule.specs.Schedule.{days_in}
-use Rattle.ssim_schedule.specs.Timetable.{itinerary}
+use Rattle.ssim_base.specs.Timetable.{itinerary}
 use Rattle.ssim_held.specs.Kept.{DeskSeen}
 use Rattle.ssim_desk.specs.Desk.{days_of_desk}
 use Rattle.ssim_desk.proofs.Exports.{left, reads_back, refuses, writes}

@@ -1,9 +1,9 @@
 -- There are findings for each message that is held.
 use Rattle.std.proofs.Common.{List, ◌∙◌, length, sym, ap, subst}
 use Rattle.ssim_schedule.specs.declared.finding.Finding.{Finding}
-use Rattle.ssim_schedule.specs.BaseSeen.{base_with}
-use Rattle.ssim_schedule.specs.Stations.{Row}
-use Rattle.ssim_schedule.specs.Timetable.{itinerary}
+use Rattle.ssim_base.specs.BaseSeen.{base_with}
+use Rattle.ssim_base.specs.Stations.{Row}
+use Rattle.ssim_base.specs.Timetable.{itinerary}
 use Rattle.ssim_held.specs.Kept.{AreEntries, DeskSeen, Entry}
 use Rattle.ssim_desk.specs.Meaning.{found_by}
 use Rattle.ssim_desk.proofs.Meant.{has_findings}

@@ -1,7 +1,7 @@
 -- What the messages leave is the meaning of what is held.
 use Rattle.std.proofs.Common.{List, Result, Ok, Err, IfOk, ap, subst, ◌∙◌}
-use Rattle.ssim_schedule.specs.BaseSeen.{base_with}
-use Rattle.ssim_schedule.specs.Stations.{Row}
+use Rattle.ssim_base.specs.BaseSeen.{base_with}
+use Rattle.ssim_base.specs.Stations.{Row}
 use Rattle.ssim_held.specs.Kept.{AreEntries, DeskSeen, Entry}
 use Rattle.ssim_desk.specs.Desk.{timetable_of}
 use Rattle.ssim_desk.specs.Meaning.{Timetable, left_by}

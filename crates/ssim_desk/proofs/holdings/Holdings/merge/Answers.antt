@@ -1,6 +1,6 @@
 -- The messages of both are put together.
 use Rattle.std.proofs.Common.{◌≡◌, List, refl, sym, subst}
-use Rattle.ssim_schedule.specs.BaseSeen.{BaseSeen, base_with}
+use Rattle.ssim_base.specs.BaseSeen.{BaseSeen, base_with}
 use Rattle.ssim_held.specs.Held.{Agree}
 use Rattle.ssim_held.specs.Kept.{AreEntries, DeskSeen, Entry, map_of, state_of}
 use Rattle.ssim_held.specs.Ordered.{IsMerged}

@@ -1,9 +1,9 @@
 -- What is written is what is held.
 use Rattle.std.proofs.Common.{OnErr, OnOk, All, List, ℕ, ap, subst, ◌∙◌}
 use Rattle.std.specs.Io.KnownBytes.{Appends}
-use Rattle.ssim_schedule.specs.BaseSeen.{base_with}
-use Rattle.ssim_schedule.specs.Sinks.{TakesFront}
-use Rattle.ssim_schedule.specs.Stations.{Row}
+use Rattle.ssim_base.specs.BaseSeen.{base_with}
+use Rattle.ssim_base.specs.Sinks.{TakesFront}
+use Rattle.ssim_base.specs.Stations.{Row}
 use Rattle.ssim_held.specs.File.{CanBeSaved, IsRow, IsSpelled, desk_file}
 use Rattle.ssim_held.specs.Kept.{DeskSeen, Entry}
 use Rattle.ssim_desk.proofs.DeskFiles.{file_is, from_parts}

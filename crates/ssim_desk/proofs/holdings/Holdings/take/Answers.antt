@@ -1,6 +1,6 @@
 -- The message of a text that is new is put where it belongs.
 use Rattle.std.proofs.Common.{◌≡◌, List, Result, Err, refl, sym, subst, rules}
-use Rattle.ssim_schedule.specs.BaseSeen.{base_with}
+use Rattle.ssim_base.specs.BaseSeen.{base_with}
 use Rattle.ssim_text.specs.declared.reference.Reference.{Reference}
 use Rattle.ssim_held.specs.Held.{Says}
 use Rattle.ssim_held.specs.Kept.{AreEntries, AreRising, DeskSeen, Entry, map_of, state_of}

@@ -2,7 +2,7 @@
 use Rattle.std.proofs.Common.{◌≡◌, true, false, sym, ap, subst, ◌∙◌}
 use Rattle.std.specs.List.{flat_map}
 use Rattle.std.proofs.lemmas.List.Elements.{recursion_from_All}
-use Rattle.ssim_schedule.specs.Stations.{SpellsTable}
+use Rattle.ssim_base.specs.Stations.{SpellsTable}
 use Rattle.ssim_held.specs.File.{IsRow, row_line}
 use Rattle.ssim_held.proofs.SavedRows.{row_lines_are_table}
 use Rattle.ssim_held.proofs.opening.saved_rows.read_lines.Goals as goal

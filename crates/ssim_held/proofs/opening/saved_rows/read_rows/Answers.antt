@@ -2,7 +2,7 @@
 use Rattle.std.proofs.Common.{◌≡◌, ◌++◌, length, List, subst}
 use Rattle.std.specs.Prelude.{Option, IfNone, IfSome}
 use Rattle.std.specs.List.{All, flat_map}
-use Rattle.ssim_schedule.specs.Stations.{Row}
+use Rattle.ssim_base.specs.Stations.{Row}
 use Rattle.ssim_held.specs.File.{IsRow, row_line}
 use Rattle.ssim_held.proofs.SavedParts.{rows_found, rows_size, rows_split}
 use Rattle.ssim_held.proofs.opening.saved_rows.read_rows.Goals as goal

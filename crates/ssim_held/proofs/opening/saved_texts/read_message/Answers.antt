@@ -1,8 +1,8 @@
 -- The text is that of the message, and the message resolves in one way.
 use Rattle.std.proofs.Common.{◌≡◌, Option, List, ℕ, subst}
 use Rattle.std.specs.Prelude.{IfNone, IfSome}
-use Rattle.ssim_schedule.specs.Resolve.{ResolvesIn}
-use Rattle.ssim_schedule.specs.declared.resolving.ResolvedText.{ResolvedText}
+use Rattle.ssim_base.specs.Resolve.{ResolvesIn}
+use Rattle.ssim_base.specs.declared.resolving.ResolvedText.{ResolvedText}
 use Rattle.ssim_text.specs.Canonical.{canonical}
 use Rattle.ssim_text.specs.Message.{MessageValue}
 use Rattle.ssim_text.specs.Spelling.{SpellsMessage}

@@ -1,6 +1,6 @@
 -- The message is the one that was decoded.
 use Rattle.std.proofs.Common.{refl, subst}
-use Rattle.ssim_schedule.specs.ReadBack.{HasFrame}
+use Rattle.ssim_base.specs.ReadBack.{HasFrame}
 use Rattle.ssim_program.proofs.rehearse.lines.reference_of.Goals as goal
 
 pub returns-in-Ok-resolve : goal.returns-in-Ok-resolve

@@ -1,6 +1,6 @@
 -- A record of each type, one before those that were built.
 use Rattle.ssim_schedule.proofs.BuildingLemmas.{built-leg, built-plain, built-segment}
-use Rattle.ssim_schedule.proofs.ChangeLemmas.{on_ok}
+use Rattle.ssim_base.proofs.Results.{on_ok}
 use Rattle.ssim_schedule.proofs.building.Building.put.Goals as goal
 
 pub returns-in-Leg : goal.returns-in-Leg

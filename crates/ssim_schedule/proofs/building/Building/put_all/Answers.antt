@@ -2,7 +2,7 @@
 use Rattle.std.proofs.Common.{◌≡◌, ◌<◌, ◌-◌, ℕ, List, ◌∷◌, ◌++◌, suc, drop, length, sym, ap, subst, ◌∙◌, arith, drop-cons}
 use Rattle.std.proofs.lemmas.List.{drop_all}
 use Rattle.ssim_records.specs.declared.record.Record.{Record}
-use Rattle.ssim_schedule.specs.Building.{IsClosed}
+use Rattle.ssim_base.specs.Building.{IsClosed}
 use Rattle.ssim_schedule.specs.Built.{IsBuilt}
 use Rattle.ssim_schedule.proofs.building.Building.put_all.Goals as goal
 

@@ -2,7 +2,7 @@
 use Rattle.std.proofs.Common.{◌≡◌, ◌⊎◌, Contains, Option, Some, Result, Ok, Err, OnOk, sym, ap, subst, ◌∙◌}
 use Rattle.ssim_schedule.specs.Group.{IsBound, with_legs}
 use Rattle.ssim_schedule.specs.Schedule.{Table, cuts_in, days_in}
-use Rattle.ssim_schedule.specs.Timetable.{Legs}
+use Rattle.ssim_base.specs.Timetable.{Legs}
 use Rattle.ssim_schedule.specs.declared.leg_group.Heading.{Heading}
 use Rattle.ssim_schedule.proofs.building.Building.put_group.Goals as goal
 

@@ -5,17 +5,17 @@ use Rattle.ssim_values.specs.Period.{DayRange}
 use Rattle.ssim_records.specs.Leg.{Name}
 use Rattle.ssim_periods.specs.Calendar.{holds}
 use Rattle.ssim_periods.specs.Days.{changed_on}
-use Rattle.ssim_schedule.specs.Building.{IsPlaced, name_place}
+use Rattle.ssim_base.specs.Building.{IsPlaced, name_place}
 use Rattle.ssim_schedule.specs.Built.{IsCut, days_with}
 use Rattle.ssim_schedule.specs.Group.{IsBound}
-use Rattle.ssim_schedule.specs.ReadBack.{place_of}
-use Rattle.ssim_schedule.specs.Timetable.{LegValue, period_of, placed}
+use Rattle.ssim_base.specs.ReadBack.{place_of}
+use Rattle.ssim_base.specs.Timetable.{LegValue, period_of, placed}
 use Rattle.ssim_schedule.specs.Waiting.{waiting_at}
 use Rattle.ssim_schedule.specs.declared.building.Building.{Building}
 use Rattle.ssim_schedule.specs.declared.leg_group.Heading.{Heading}
 use Rattle.ssim_schedule.specs.declared.waiting.Waiting.{Waiting}
 use Rattle.ssim_schedule.proofs.BuildingLemmas.{joined_cuts, joined_days, same_period}
-use Rattle.ssim_schedule.proofs.ChangeLemmas.{on_ok}
+use Rattle.ssim_base.proofs.Results.{on_ok}
 use Rattle.ssim_schedule.proofs.building.Building.put_leg.Goals as goal
 
 pub returns : goal.returns

@@ -4,7 +4,7 @@ use Rattle.std.proofs.lemmas.List.{drop_all}
 use Rattle.std.proofs.lemmas.List.Concat.{flat_map-append}
 use Rattle.std.specs.List.{All, filter, flat_map}
 use Rattle.ssim_records.specs.declared.record.Record.{Record}
-use Rattle.ssim_schedule.specs.Building.{IsClosed}
+use Rattle.ssim_base.specs.Building.{IsClosed}
 use Rattle.ssim_schedule.specs.Built.{IsBuilt}
 use Rattle.ssim_schedule.specs.FlightSet.{is_marked, is_record_of}
 use Rattle.ssim_schedule.proofs.BuildingLemmas.{closed_between, kept_step}

@@ -4,9 +4,9 @@ use Rattle.std.specs.List.{flat_map}
 use Rattle.ssim_records.specs.Frames.{fill}
 use Rattle.ssim_records.specs.Record.{written}
 use Rattle.ssim_records.specs.declared.record.Record.{Record}
-use Rattle.ssim_schedule.specs.Export.{line, section_bytes}
-use Rattle.ssim_schedule.specs.Sinks.{TakesFront, TakesUpTo}
-use Rattle.ssim_schedule.proofs.SinkLemmas.{at_fault, if_ok, if_err, front_more, step_last, halt_last, one_section}
+use Rattle.ssim_base.specs.Export.{line, section_bytes}
+use Rattle.ssim_base.specs.Sinks.{TakesFront, TakesUpTo}
+use Rattle.ssim_base.proofs.SinkLemmas.{at_fault, if_ok, if_err, front_more, step_last, halt_last, one_section}
 use Rattle.ssim_schedule.proofs.export.lines.put_alone.Goals as goal
 
 -- the bytes behind those of the block

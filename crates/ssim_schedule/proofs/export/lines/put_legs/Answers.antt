@@ -7,13 +7,13 @@ use Rattle.ssim_records.specs.Leg.{AreLegColumns, Name}
 use Rattle.ssim_records.specs.Record.{written}
 use Rattle.ssim_records.specs.Segment.{IsTail}
 use Rattle.ssim_records.specs.declared.record.Record.TheVariants.{Leg}
-use Rattle.ssim_schedule.specs.Export.{leg_records, line, tail_record, with_serial}
+use Rattle.ssim_base.specs.Export.{leg_records, line, tail_record, with_serial}
 use Rattle.ssim_schedule.specs.Plan.{legs_count, numbered_lines}
-use Rattle.ssim_schedule.specs.ReadBack.{IsWritable}
-use Rattle.ssim_schedule.specs.Sinks.{TakesFront, TakesUpTo}
-use Rattle.ssim_schedule.proofs.Each.{all_done, all_more}
-use Rattle.ssim_schedule.proofs.Puts.{item, leg-split, leg-tails-split, leg_from, name_from}
-use Rattle.ssim_schedule.proofs.SinkLemmas.{at_fault, step, halt}
+use Rattle.ssim_base.specs.ReadBack.{IsWritable}
+use Rattle.ssim_base.specs.Sinks.{TakesFront, TakesUpTo}
+use Rattle.ssim_base.proofs.Each.{all_done, all_more, item}
+use Rattle.ssim_schedule.proofs.Puts.{leg-split, leg-tails-split, leg_from, name_from}
+use Rattle.ssim_base.proofs.SinkLemmas.{at_fault, step, halt}
 use Rattle.ssim_schedule.proofs.export.lines.put_legs.Goals as goal
 
 -- the leg's line

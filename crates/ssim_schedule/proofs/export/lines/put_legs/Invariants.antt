@@ -1,10 +1,10 @@
 -- What was put, and the legs that are left, is all of it; and what was put is what records may have.
 use Rattle.std.proofs.Common.{◌≡◌, ◌+◌, ◌++◌, drop, take}
 use Rattle.std.specs.List.{flat_map, All}
-use Rattle.ssim_schedule.specs.Export.{leg_records}
+use Rattle.ssim_base.specs.Export.{leg_records}
 use Rattle.ssim_schedule.specs.Plan.{legs_count, numbered_lines}
-use Rattle.ssim_schedule.specs.ReadBack.{IsWritable}
-use Rattle.ssim_schedule.specs.Sinks.{TakesUpTo}
+use Rattle.ssim_base.specs.ReadBack.{IsWritable}
+use Rattle.ssim_base.specs.Sinks.{TakesUpTo}
 use Rattle.ssim_schedule.proofs.export.lines.put_legs.Given as goal
 
 abbrev pub invariant-loop-leg : goal.invariant-loop-leg

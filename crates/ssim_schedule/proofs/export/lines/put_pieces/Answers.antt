@@ -1,14 +1,14 @@
 -- A piece more is put.
 use Rattle.std.proofs.Common.{◌≡◌, ◌+◌, ◌++◌, drop, refl, ap, subst, ◌∙◌, arith}
 use Rattle.std.specs.List.{flat_map, All}
-use Rattle.ssim_schedule.specs.Timetable.{Legs}
-use Rattle.ssim_schedule.specs.Export.{leg_records, pieces_records}
+use Rattle.ssim_base.specs.Timetable.{Legs}
+use Rattle.ssim_base.specs.Export.{leg_records, pieces_records}
 use Rattle.ssim_schedule.specs.Plan.{HasWritableLegs, legs_count, numbered_lines, pieces_count}
-use Rattle.ssim_schedule.specs.ReadBack.{IsWritable}
-use Rattle.ssim_schedule.specs.Sinks.{TakesFront, TakesUpTo}
-use Rattle.ssim_schedule.proofs.Each.{all_done, all_more}
-use Rattle.ssim_schedule.proofs.Puts.{item, piece-split}
-use Rattle.ssim_schedule.proofs.SinkLemmas.{at_fault, step, halt}
+use Rattle.ssim_base.specs.ReadBack.{IsWritable}
+use Rattle.ssim_base.specs.Sinks.{TakesFront, TakesUpTo}
+use Rattle.ssim_base.proofs.Each.{all_done, all_more, item}
+use Rattle.ssim_schedule.proofs.Puts.{piece-split}
+use Rattle.ssim_base.proofs.SinkLemmas.{at_fault, step, halt}
 use Rattle.ssim_schedule.proofs.export.lines.put_pieces.Goals as goal
 
 pub returns-in_err-next-clause-err : goal.returns-in_err-next-clause-err

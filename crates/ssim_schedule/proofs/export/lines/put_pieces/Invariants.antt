@@ -1,9 +1,9 @@
 -- What was put, and the pieces that are left, is all of it; and what was put is what records may have.
 use Rattle.std.proofs.Common.{◌≡◌, ◌+◌, ◌++◌, drop, take}
 use Rattle.std.specs.List.{All}
-use Rattle.ssim_schedule.specs.Export.{pieces_records}
+use Rattle.ssim_base.specs.Export.{pieces_records}
 use Rattle.ssim_schedule.specs.Plan.{HasWritableLegs, numbered_lines, pieces_count}
-use Rattle.ssim_schedule.specs.Sinks.{TakesUpTo}
+use Rattle.ssim_base.specs.Sinks.{TakesUpTo}
 use Rattle.ssim_schedule.proofs.export.lines.put_pieces.Given as goal
 
 abbrev pub invariant-loop-piece : goal.invariant-loop-piece

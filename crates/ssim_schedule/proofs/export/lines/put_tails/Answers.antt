@@ -3,11 +3,11 @@ use Rattle.std.proofs.Common.{◌+◌, ◌++◌, map, drop, refl, ◌∙◌, ari
 use Rattle.std.specs.Prelude.{slice_index}
 use Rattle.ssim_records.specs.Record.{written}
 use Rattle.ssim_records.specs.Segment.{IsTail}
-use Rattle.ssim_schedule.specs.Export.{line, tail_record, with_serial}
+use Rattle.ssim_base.specs.Export.{line, tail_record, with_serial}
 use Rattle.ssim_schedule.specs.Plan.{numbered_lines}
-use Rattle.ssim_schedule.proofs.Each.{all_more}
-use Rattle.ssim_schedule.proofs.Puts.{item, tails-split}
-use Rattle.ssim_schedule.proofs.SinkLemmas.{at_fault, step, halt}
+use Rattle.ssim_base.proofs.Each.{all_more, item}
+use Rattle.ssim_schedule.proofs.Puts.{tails-split}
+use Rattle.ssim_base.proofs.SinkLemmas.{at_fault, step, halt}
 use Rattle.ssim_schedule.proofs.export.lines.put_tails.Goals as goal
 
 pub returns-in_err-put_segment-clause-err : goal.returns-in_err-put_segment-clause-err

@@ -3,9 +3,9 @@ use Rattle.std.proofs.Common.{◌≡◌, ◌+◌, ◌++◌, drop, map, take}
 use Rattle.std.specs.Prelude.{slice_index}
 use Rattle.std.specs.List.{All}
 use Rattle.ssim_records.specs.Segment.{IsTail}
-use Rattle.ssim_schedule.specs.Export.{tail_record}
+use Rattle.ssim_base.specs.Export.{tail_record}
 use Rattle.ssim_schedule.specs.Plan.{numbered_lines}
-use Rattle.ssim_schedule.specs.Sinks.{TakesUpTo}
+use Rattle.ssim_base.specs.Sinks.{TakesUpTo}
 use Rattle.ssim_schedule.proofs.export.lines.put_tails.Given as goal
 
 abbrev pub invariant-loop-tail : goal.invariant-loop-tail

@@ -3,12 +3,12 @@ use Rattle.std.proofs.Common.{nat_eq, if◌then◌else◌, ap, refl, ◌∙◌}
 use Rattle.ssim_periods.specs.Calendar.{holds}
 use Rattle.ssim_periods.specs.Days.{changed_on}
 use Rattle.ssim_schedule.specs.Effect.{effect}
-use Rattle.ssim_schedule.specs.ReadBack.{place_of}
+use Rattle.ssim_base.specs.ReadBack.{place_of}
 use Rattle.ssim_schedule.specs.Schedule.{cuts_in, days_in}
-use Rattle.ssim_schedule.specs.Timetable.{Days}
+use Rattle.ssim_base.specs.Timetable.{Days}
 use Rattle.ssim_schedule.proofs.Acts.{counts_made, days_made}
 use Rattle.ssim_schedule.proofs.Applied.{cuts_at_ends}
-use Rattle.ssim_schedule.proofs.ChangeLemmas.{if_ok, on_ok}
+use Rattle.ssim_base.proofs.Results.{if_ok, on_ok}
 use Rattle.ssim_schedule.proofs.flight_blocks.FlightBlocks.act_at_once.Goals as goal
 
 pub returns-clause-days : goal.returns-clause-days

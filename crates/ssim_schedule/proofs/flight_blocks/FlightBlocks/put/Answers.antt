@@ -2,10 +2,11 @@
 use Rattle.std.proofs.Common.{◌≡◌, ◌<◌, Bool, nat_eq, if◌then◌else◌, [], length, get_or, sym, ap, subst, ◌∙◌, arith, length-set}
 use Rattle.std.proofs.lemmas.List.{get_or_default}
 use Rattle.ssim_schedule.specs.Blocks.{IsBlock}
-use Rattle.ssim_schedule.specs.ReadBack.{place_of}
+use Rattle.ssim_base.specs.ReadBack.{place_of}
 use Rattle.ssim_schedule.specs.Schedule.{Table}
 use Rattle.ssim_schedule.proofs.BlockLemmas.{apart_places, block_at, blocks_set, each_flight}
-use Rattle.ssim_schedule.proofs.ChangeLemmas.{cuts_at, days_at, no_days, on_ok}
+use Rattle.ssim_schedule.proofs.ChangeLemmas.{cuts_at, days_at, no_days}
+use Rattle.ssim_base.proofs.Results.{on_ok}
 use Rattle.ssim_schedule.proofs.flight_blocks.FlightBlocks.put.Goals as goal
 
 pub invariant_of-self : goal.invariant_of-self

@@ -2,7 +2,7 @@
 use Rattle.std.proofs.Common.{◌≡◌, length, take}
 use Rattle.ssim_values.specs.Flight.{FlightNumber, IsFlight}
 use Rattle.ssim_schedule.specs.FlightSet.{is_marked}
-use Rattle.ssim_schedule.specs.Timetable.{is_among}
+use Rattle.ssim_base.specs.Timetable.{is_among}
 use Rattle.ssim_schedule.proofs.flight_set.FlightSet.of.Given as goal
 
 abbrev pub invariant-loop-flight : goal.invariant-loop-flight

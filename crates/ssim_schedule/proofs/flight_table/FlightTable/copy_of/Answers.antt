@@ -3,8 +3,9 @@ use Rattle.std.proofs.Common.{◌≡◌, [], sym, ap, subst, ◌∙◌, get_or}
 use Rattle.std.proofs.lemmas.List.{get_or_default}
 use Rattle.ssim_periods.specs.Days.{Seen}
 use Rattle.ssim_schedule.specs.Schedule.{IsAt, Table, cuts_in, days_in, no_entry}
-use Rattle.ssim_schedule.specs.Timetable.{Legs}
-use Rattle.ssim_schedule.proofs.ChangeLemmas.{cuts_at, days_at, if_ok, no_days}
+use Rattle.ssim_base.specs.Timetable.{Legs}
+use Rattle.ssim_schedule.proofs.ChangeLemmas.{cuts_at, days_at, no_days}
+use Rattle.ssim_base.proofs.Results.{if_ok}
 use Rattle.ssim_schedule.proofs.TableLemmas.{found_at, found_in_gap}
 use Rattle.ssim_schedule.proofs.flight_table.FlightTable.copy_of.Goals as goal
 

@@ -2,7 +2,7 @@
 use Rattle.std.proofs.Common.{◌≡◌, [], sym, ap, subst, ◌∙◌, get_or, slice_index_or}
 use Rattle.std.proofs.lemmas.List.{get_or_default}
 use Rattle.ssim_periods.specs.Days.{Seen, each_day}
-use Rattle.ssim_schedule.specs.Timetable.{Days, Legs}
+use Rattle.ssim_base.specs.Timetable.{Days, Legs}
 use Rattle.ssim_schedule.specs.Schedule.{IsAt, Table, days_in, no_entry}
 use Rattle.ssim_schedule.specs.declared.flight_table.FlightPeriods.{FlightPeriods}
 use Rattle.ssim_schedule.proofs.TableLemmas.{found_at, found_in_gap, index-each_day, index-get}

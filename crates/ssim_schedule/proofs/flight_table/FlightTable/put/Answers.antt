@@ -1,9 +1,9 @@
 -- An entry in its place keeps the order, and changes what its flight has alone.
 use Rattle.std.proofs.Common.{[], nat_eq, if◌then◌else◌, sym, ap, subst, ◌∙◌}
 use Rattle.ssim_periods.specs.Days.{Seen}
-use Rattle.ssim_schedule.specs.ReadBack.{place_of}
+use Rattle.ssim_base.specs.ReadBack.{place_of}
 use Rattle.ssim_schedule.specs.Schedule.{AreRising, IsAt, IsGapFor, Table, cuts_in, days_in}
-use Rattle.ssim_schedule.specs.Timetable.{Legs}
+use Rattle.ssim_base.specs.Timetable.{Legs}
 use Rattle.ssim_schedule.specs.declared.flight_table.FlightPeriods.{FlightPeriods}
 use Rattle.ssim_schedule.proofs.ChangeLemmas.{cuts_at, days_at, no_days}
 use Rattle.ssim_schedule.proofs.TableLemmas.{found_insert, found_set, rising_insert, rising_set}

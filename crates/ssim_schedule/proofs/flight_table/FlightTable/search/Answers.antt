@@ -1,7 +1,7 @@
 -- The closure gives an entry's place, and the slice is the schedule's entries.
 use Rattle.std.proofs.Common.{rules}
 use Rattle.std.proofs.lemmas.List.Sorted.{answers_always}
-use Rattle.ssim_schedule.specs.ReadBack.{place_of}
+use Rattle.ssim_base.specs.ReadBack.{place_of}
 use Rattle.ssim_schedule.specs.declared.flight_table.FlightPeriods.{FlightPeriods}
 use Rattle.ssim_schedule.proofs.TableLemmas.{searched}
 use Rattle.ssim_schedule.proofs.flight_table.FlightTable.search.Goals as goal

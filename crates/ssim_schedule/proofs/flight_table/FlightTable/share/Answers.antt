@@ -3,7 +3,7 @@ use Rattle.std.proofs.Common.{◌≡◌, ℕ, zero, suc, ◌<◌, [], ◌∷◌,
 use Rattle.std.proofs.lemmas.List.{set-get_or}
 use Rattle.ssim_periods.specs.Days.{Seen}
 use Rattle.ssim_schedule.specs.Schedule.{AreRising, Table}
-use Rattle.ssim_schedule.specs.Timetable.{Legs}
+use Rattle.ssim_base.specs.Timetable.{Legs}
 use Rattle.ssim_schedule.specs.declared.flight_table.FlightPeriods.{FlightPeriods}
 use Rattle.ssim_schedule.proofs.flight_table.FlightTable.share.Goals as goal
 

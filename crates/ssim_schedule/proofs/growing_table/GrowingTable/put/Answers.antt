@@ -2,7 +2,7 @@
 use Rattle.std.proofs.Common.{◌≡◌, ◌∷◌, Option, OnOk, sym, ap, subst, ◌∙◌}
 use Rattle.ssim_values.specs.Flight.{FlightNumber}
 use Rattle.ssim_schedule.specs.Growing.{with_current}
-use Rattle.ssim_schedule.specs.ReadBack.{place_of}
+use Rattle.ssim_base.specs.ReadBack.{place_of}
 use Rattle.ssim_schedule.specs.Schedule.{Table, AddsOnlyAt, cuts_in}
 use Rattle.ssim_schedule.specs.declared.growing_table.CurrentFlight.{CurrentFlight}
 use Rattle.ssim_schedule.proofs.GrowingLemmas.{cuts-head}

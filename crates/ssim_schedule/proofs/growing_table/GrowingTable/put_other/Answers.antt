@@ -4,9 +4,9 @@ use Rattle.ssim_periods.specs.Calendar.{holds}
 use Rattle.ssim_periods.specs.Days.{changed_on}
 use Rattle.ssim_schedule.specs.Growing.{with_current}
 use Rattle.ssim_schedule.specs.Put.{placed_each}
-use Rattle.ssim_schedule.specs.ReadBack.{place_of}
+use Rattle.ssim_base.specs.ReadBack.{place_of}
 use Rattle.ssim_schedule.specs.Schedule.{Table, AddsOnlyAt, cuts_in, days_in}
-use Rattle.ssim_schedule.specs.Timetable.{Days}
+use Rattle.ssim_base.specs.Timetable.{Days}
 use Rattle.ssim_schedule.specs.declared.growing_table.CurrentFlight.{CurrentFlight}
 use Rattle.ssim_schedule.proofs.GrowingLemmas.{cuts-before, days-before}
 use Rattle.ssim_schedule.proofs.growing_table.GrowingTable.put_other.Goals as goal

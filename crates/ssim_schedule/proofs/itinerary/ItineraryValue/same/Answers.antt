@@ -1,9 +1,9 @@
 -- Equal itineraries have one hash, so those with different hashes are different.
 use Rattle.std.proofs.Common.{◌≡◌, ◌≢◌, ◌%◌, ℕ, true, false, nat_eq, refl, ap, sym, ◌∙◌, eq-eqb, eqb-true}
-use Rattle.ssim_schedule.specs.Export.{same_itinerary}
-use Rattle.ssim_schedule.specs.ItineraryLaws.{exact_itinerary}
+use Rattle.ssim_base.specs.Export.{same_itinerary}
+use Rattle.ssim_base.specs.ItineraryLaws.{exact_itinerary}
 use Rattle.ssim_schedule.specs.Shared.{hash_of}
-use Rattle.ssim_schedule.specs.Timetable.{Legs}
+use Rattle.ssim_base.specs.Timetable.{Legs}
 use Rattle.ssim_schedule.proofs.itinerary.ItineraryValue.same.Goals as goal
 
 by-hash : (x y : Legs) (m n : ℕ) → m ≡ hash_of x % 4294967296 → n ≡ hash_of y % 4294967296 → m ≢ n → nat_eq m n ≡ same_itinerary x y

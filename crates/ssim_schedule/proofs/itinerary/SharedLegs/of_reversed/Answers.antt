@@ -1,7 +1,7 @@
 -- One leg, or two legs of which the last is taken first, are all of the list.
 use Rattle.std.proofs.Common.{◌≡◌, ◌∷◌, [], ◌++◌, length, reverse, ap, sym, ◌∙◌, length-append, arith}
-use Rattle.ssim_schedule.specs.Timetable.{LegValue, Legs}
-use Rattle.ssim_schedule.proofs.Each.{none_left}
+use Rattle.ssim_base.specs.Timetable.{LegValue, Legs}
+use Rattle.ssim_base.proofs.Each.{none_left}
 
 -- nothing is left of one
 alone : (all rest : Legs) (x : LegValue) → all ≡ rest ++ x ∷ [] → length all ≡ 1 → rest ≡ []

@@ -1,6 +1,6 @@
 -- The latest change puts these legs, where the test of equal itineraries says so.
 use Rattle.std.proofs.Common.{reverse, sym, ap, ◌∙◌}
-use Rattle.ssim_schedule.specs.ItineraryLaws.{exact_itinerary}
+use Rattle.ssim_base.specs.ItineraryLaws.{exact_itinerary}
 use Rattle.ssim_schedule.proofs.leg_group.LegGroup.repeated.Goals as goal
 
 pub returns-in_ok-copy-in-Some : goal.returns-in_ok-copy-in-Some

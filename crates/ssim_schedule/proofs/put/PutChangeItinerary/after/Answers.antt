@@ -2,8 +2,8 @@
 use Rattle.std.proofs.Common.{◌≡◌, true, nat_eq, [], ◌∷◌, length, refl, sym, ap, ◌∙◌, arith}
 use Rattle.std.proofs.lemmas.Bool.Decides.{nat_tests}
 use Rattle.ssim_schedule.specs.Put.{placed_each}
-use Rattle.ssim_schedule.specs.Timetable.{Legs}
-use Rattle.ssim_schedule.proofs.ChangeLemmas.{if_ok}
+use Rattle.ssim_base.specs.Timetable.{Legs}
+use Rattle.ssim_base.proofs.Results.{if_ok}
 use Rattle.ssim_schedule.proofs.PutLemmas.{placed_alone}
 use Rattle.ssim_schedule.proofs.put.PutChangeItinerary.after.Goals as goal
 

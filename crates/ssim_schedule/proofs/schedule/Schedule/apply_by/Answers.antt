@@ -2,7 +2,7 @@
 use Rattle.std.proofs.Common.{ap, ◌∙◌}
 use Rattle.ssim_schedule.specs.Acts.{itinerary_after}
 use Rattle.ssim_schedule.specs.Schedule.{Table, days_in}
-use Rattle.ssim_schedule.specs.Timetable.{on_day}
+use Rattle.ssim_base.specs.Timetable.{on_day}
 use Rattle.ssim_schedule.proofs.InOrder.{date_after, timetable-kept}
 use Rattle.ssim_schedule.proofs.schedule.Schedule.apply_by.Goals as goal
 

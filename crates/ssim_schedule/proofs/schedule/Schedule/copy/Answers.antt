@@ -1,6 +1,6 @@
 -- The copy has the same itineraries.
 use Rattle.std.proofs.Common.{sym, subst}
-use Rattle.ssim_schedule.specs.ReadBack.{IsTimetable}
+use Rattle.ssim_base.specs.ReadBack.{IsTimetable}
 use Rattle.ssim_schedule.specs.Schedule.{Table, days_in}
 use Rattle.ssim_schedule.proofs.schedule.Schedule.copy.Goals as goal
 

@@ -2,7 +2,7 @@
 use Rattle.std.proofs.Common.{Result, Ok, Err, IfErr, OnOk, subst}
 use Rattle.ssim_schedule.specs.Plan.{ReadsBackBase, RefusesBase, WritesBase}
 use Rattle.ssim_schedule.specs.Schedule.{Table, days_in}
-use Rattle.ssim_schedule.proofs.ChangeLemmas.{on_ok}
+use Rattle.ssim_base.proofs.Results.{on_ok}
 use Rattle.ssim_schedule.proofs.schedule.Schedule.export.Goals as goal
 
 if_err : {T E : Type 0} (r : Result T E) (P Q : E → Type 0) → ((e : E) → P e → Q e) → IfErr r P → IfErr r Q

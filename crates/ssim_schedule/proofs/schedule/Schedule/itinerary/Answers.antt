@@ -1,7 +1,7 @@
 -- The legs of each date rise, by what always holds of a schedule.
 use Rattle.std.proofs.Common.{sym, subst}
-use Rattle.ssim_schedule.specs.Timetable.{Above, Legs}
-use Rattle.ssim_schedule.proofs.Calendars.{in_calendar}
+use Rattle.ssim_base.specs.Timetable.{Above, Legs}
+use Rattle.ssim_base.proofs.Calendars.{in_calendar}
 use Rattle.ssim_schedule.proofs.schedule.Schedule.itinerary.Goals as goal
 
 pub returns-clause-in_order : goal.returns-clause-in_order

@@ -3,8 +3,8 @@ use Rattle.std.proofs.Common.{List, sym, ap, subst, ◌∙◌}
 use Rattle.ssim_records.specs.declared.record.Record.{Record}
 use Rattle.ssim_schedule.specs.Points.{AreAtPoints}
 use Rattle.ssim_schedule.specs.Schedule.{Table, cuts_in, days_in}
-use Rattle.ssim_schedule.specs.Timetable.{days_of, itinerary}
-use Rattle.ssim_schedule.proofs.Calendars.{length-each_day}
+use Rattle.ssim_base.specs.Timetable.{days_of, itinerary}
+use Rattle.ssim_base.proofs.Calendars.{length-each_day}
 use Rattle.ssim_schedule.proofs.InOrder.{timetable-same}
 use Rattle.ssim_schedule.proofs.schedule.Schedule.of.Goals as goal
 

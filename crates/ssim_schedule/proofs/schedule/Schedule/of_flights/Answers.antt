@@ -3,10 +3,10 @@ use Rattle.std.proofs.Common.{List, sym, subst, ◌∙◌}
 use Rattle.std.specs.List.{All}
 use Rattle.ssim_periods.specs.Days.{each_day}
 use Rattle.ssim_records.specs.declared.record.Record.{Record}
-use Rattle.ssim_schedule.specs.Building.{IsClosed}
+use Rattle.ssim_base.specs.Building.{IsClosed}
 use Rattle.ssim_schedule.specs.Schedule.{days_in}
-use Rattle.ssim_schedule.specs.Timetable.{itinerary_among}
-use Rattle.ssim_schedule.proofs.Calendars.{length-each_day}
+use Rattle.ssim_base.specs.Timetable.{itinerary_among}
+use Rattle.ssim_base.proofs.Calendars.{length-each_day}
 use Rattle.ssim_schedule.proofs.FlightSets.{days_kept, order_among}
 use Rattle.ssim_schedule.proofs.InOrder.{timetable-same}
 use Rattle.ssim_schedule.proofs.schedule.Schedule.of_flights.Goals as goal

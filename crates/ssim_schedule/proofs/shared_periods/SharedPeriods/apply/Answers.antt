@@ -1,7 +1,7 @@
 -- The cuts before the change are those of what was held.
 use Rattle.std.proofs.Common.{◌≡◌, ◌+◌, OnOk, sym, subst, ◌∙◌}
 use Rattle.ssim_periods.specs.Days.{AddsOnly, Seen}
-use Rattle.ssim_schedule.specs.Timetable.{Legs}
+use Rattle.ssim_base.specs.Timetable.{Legs}
 use Rattle.ssim_schedule.proofs.shared_periods.SharedPeriods.apply.Goals as goal
 
 pub returns-in-Some-clause-cuts : goal.returns-in-Some-clause-cuts

@@ -1,0 +1,33 @@
+pub mod Bases
+pub mod Bytes
+pub mod Calendars
+pub mod Each
+pub mod Flown
+pub mod Lines
+pub mod NextLines
+pub mod Notes
+pub mod Parts
+pub mod Pieces
+pub mod Places
+pub mod ReadOnce
+pub mod Results
+pub mod SameBytes
+pub mod Stands
+pub mod StationLines
+pub mod Valid
+pub mod SinkLemmas
+pub mod Whole
+pub mod DateLemmas
+pub mod LegSequences
+pub mod LegTables
+pub mod KeptLemmas
+mod NotedReads
+mod RecordPieces
+pub mod ReadingBack
+pub mod ReadingLemmas
+pub mod FrameLemmas
+pub mod SavedBases
+pub mod SavedLines
+pub mod ReadBackBy
+pub mod ResolveLemmas
+pub mod ResolvedOnce

@@ -1,0 +1,352 @@
+-- From record to record: what was read so far, and what the blocks that are left still give.
+use Rattle.std.proofs.Common.{◌≡◌, ℕ, zero, suc, ◌+◌, ◌-◌, ◌<◌, ◌%◌, ◌^◌, false, not, nat_eq, List, [], ◌∷◌, ◌++◌, map, reverse, length, Option, Some, None, Ok, Err, inl, inr, refl, sym, ap, subst, ◌∙◌, append_assoc, arith}
+use Rattle.std.proofs.lemmas.List.{append-nil, reverse-append}
+use Rattle.std.proofs.lemmas.List.Elements.{All-append}
+use Rattle.std.specs.List.{All}
+use Rattle.std.specs.Prelude.{IfNone}
+use Rattle.ssim_records.specs.Blocks.{CountsOn, Fetches, beyond}
+use Rattle.ssim_records.specs.Frames.{Frames, FramesExist, others}
+use Rattle.ssim_records.specs.Reading as reading
+use Rattle.ssim_records.specs.Reading.{Answer, Reading, GivesNext, HasNumber, IsAhead}
+use Rattle.ssim_records.specs.Record.{IsRecord, fault_of, serial_of}
+use Rattle.ssim_records.specs.declared.fault.RecordFault.{RecordFault}
+use Rattle.ssim_records.specs.declared.fault.RecordFault.TheVariants.{Short, BadType, BadColumn, ReadFault, ReaderNeverEnds}
+use Rattle.ssim_records.specs.declared.record.Record.{Record}
+use Rattle.ssim_records.specs.declared.records.Ending as records
+use Rattle.ssim_records.proofs.Framing.{takes_all}
+use Rattle.ssim_base.specs.Base.{Ending, Done, Broken, Outcome, at_record, check_notes, data_set, first_refusal, kept, kept_all, missing, note_if, notes_of, refusal_at, unless_refused}
+use Rattle.ssim_base.specs.Gathering.{IsSoFar, notes_at}
+use Rattle.ssim_base.specs.Kept.{IsKept, IsRefused, Stood}
+use Rattle.ssim_base.specs.Reading.{AreBlocks, AreGiven, AreGivenOf, Begins, Came, FailsAfter, Gives, IsReadOf, NeverEnds, Refuses, Stops}
+use Rattle.ssim_base.specs.ReadBack.{EachSpells}
+use Rattle.ssim_base.specs.declared.fault.BaseFault.{BaseFault}
+use Rattle.ssim_base.specs.declared.fault.BaseFault.TheVariants as fault
+use Rattle.ssim_base.specs.declared.fault.BaseFault.TheVariants.{Read, Refused}
+use Rattle.ssim_base.specs.declared.fault.BaseRefusal.{BaseRefusal}
+use Rattle.ssim_base.specs.declared.gathering.Gathering.{Gathering}
+use Rattle.ssim_base.specs.declared.note.Note.{Note}
+use Rattle.ssim_base.specs.declared.note.Note.TheVariants.{Serial}
+
+abbrev pub Numbered : Type 0
+Numbered = ℕ × Record
+
+-- ---- what was gathered so far
+
+abbrev records_in : List Numbered → List Record
+records_in = map (λ r. r.1)
+
+-- nothing was read
+pub nothing : (g : Gathering) → IsKept g.kept [] → g.notes.items ≡ [] → g.previous ≡ 0 → IsSoFar g [] []
+nothing g is notes previous = record {
+  is_kept = is;
+  records = λ i x below. absurd (omega arith);
+  refused = λ ending later. refl;
+  kept = λ later. refl;
+  noted = λ later. rw (notes, previous) refl;
+}
+
+all-one : (x : Numbered) → IsRecord x.1 → All (λ r. IsRecord r.1) (x ∷ [])
+all-one x h zero d below = h
+all-one x h (suc k) d below = absurd (omega (arith, below))
+
+-- one record more was read
+pub one-more : (old new : Gathering) (earlier : List Record) (done : List Numbered) (x : Numbered) → IsSoFar old earlier done → Stood new.kept earlier x.1
+    → new.notes.items ≡ old.notes.items ++ notes_at x.0 old.previous x.1 → new.previous ≡ serial_of x.1 → IsRecord x.1
+    → IsSoFar new (kept earlier x.1 ∷ earlier) (done ++ x ∷ [])
+one-more old new earlier done x so_far stood notes previous is = record {
+  is_kept = stood.is_kept;
+  records = All-append (λ r. IsRecord r.1) done (x ∷ []) so_far.records (all-one x is);
+  refused = λ ending later.
+      ap (first_refusal ending []) (append_assoc done (x ∷ []) later)
+      ∙ so_far.refused ending (x ∷ later)
+      ∙ ap (λ o. at_record x.0 o (first_refusal ending (kept earlier x.1 ∷ earlier) later)) stood.stands;
+  kept = λ later.
+      ap (λ rs. kept_all [] (records_in rs)) (append_assoc done (x ∷ []) later)
+      ∙ so_far.kept (x ∷ later)
+      ∙ sym (append_assoc (reverse earlier) (kept earlier x.1 ∷ []) (kept_all (kept earlier x.1 ∷ earlier) (records_in later)))
+      ∙ ap (λ rs. rs ++ kept_all (kept earlier x.1 ∷ earlier) (records_in later)) (sym (reverse-append (kept earlier x.1 ∷ []) earlier));
+  noted = λ later.
+      ap (notes_of 0) (append_assoc done (x ∷ []) later)
+      ∙ so_far.noted (x ∷ later)
+      ∙ ap (λ ns. old.notes.items ++ ns) (sym (append_assoc (note_if (not (nat_eq (serial_of x.1) (old.previous + 1))) (Serial x.0)) (check_notes x.0 old.previous x.1) (notes_of (serial_of x.1) later)))
+      ∙ sym (append_assoc old.notes.items (notes_at x.0 old.previous x.1) (notes_of (serial_of x.1) later))
+      ∙ ap (λ ns. ns ++ notes_of (serial_of x.1) later) (sym notes)
+      ∙ ap (λ n. new.notes.items ++ notes_of n later) (sym previous);
+}
+
+-- the outcome where a record is refused, whatever comes behind it
+refused-outcome : (g : Gathering) (earlier : List Record) (done later : List Numbered) (ending : Ending) (x : Numbered) (refusal : BaseRefusal) → IsSoFar g earlier done
+    → refusal_at earlier x.1 ≡ Some refusal → Err (Refused x.0 refusal) ≡ data_set ending ((done ++ x ∷ []) ++ later)
+refused-outcome g earlier done later ending x refusal so_far is =
+    sym (ap (λ o. unless_refused o (kept_all [] (records_in ((done ++ x ∷ []) ++ later)), notes_of 0 ((done ++ x ∷ []) ++ later)))
+    (ap (first_refusal ending []) (append_assoc done (x ∷ []) later)
+    ∙ so_far.refused ending (x ∷ later)
+    ∙ ap (λ o. at_record x.0 o (first_refusal ending (kept earlier x.1 ∷ earlier) later)) is))
+
+-- the outcome where reading fails
+fault-outcome : (g : Gathering) (earlier : List Record) (done : List Numbered) (f : RecordFault) → IsSoFar g earlier done → Err (Read f) ≡ data_set (Broken f) done
+fault-outcome g earlier done f so_far =
+    sym (ap (λ o. unless_refused o (kept_all [] (records_in done), notes_of 0 done))
+    (ap (first_refusal (Broken f) []) (sym (append-nil done)) ∙ so_far.refused (Broken f) []))
+
+-- ---- what the blocks give
+
+-- the records so far are those of the first blocks, and the others are ahead
+pub record IsTold (limit : ℕ) (all left : List ℕ) (r : Reading) (done : List Numbered) : Type 0 where
+  pub blocks : List (List ℕ)
+  pub later : List (List ℕ)
+  pub rest : List ℕ
+  pub framed : AreBlocks limit all blocks rest
+  pub ahead : IsAhead r left later rest
+  pub came : r.came + length left ≡ length all
+  pub count : r.number + length later ≡ length blocks
+  pub before : List (ℕ × List ℕ)
+  pub split : others 0 blocks ≡ before ++ others r.number later
+  pub spelled : EachSpells before done
+
+-- where the bytes are told
+abbrev pub Told : ℕ → Option (List ℕ) → Option (List ℕ) → Reading → List Numbered → Type 0
+Told limit None left r done = Unit {0}
+Told limit (Some all) None r done = ⊥
+Told limit (Some all) (Some left) r done = IsTold limit all left r done
+
+each-append : (bs cs : List (ℕ × List ℕ)) (rs ss : List Numbered) → EachSpells bs rs → EachSpells cs ss → EachSpells (bs ++ cs) (rs ++ ss)
+each-append [] cs [] ss a b = b
+each-append [] cs (r ∷ rs) ss a b = absurd a
+each-append (x ∷ bs) cs [] ss a b = absurd a
+each-append (x ∷ bs) cs (r ∷ rs) ss a b = (a.0, a.1, each-append bs cs rs ss a.2 b)
+
+gives-append : (count : ℕ) (rest : List ℕ) (over : ℕ) (before left : List (ℕ × List ℕ)) (done records : List Numbered) (ending : Ending) → EachSpells before done
+    → Gives count rest over left records ending → Gives count rest over (before ++ left) (done ++ records) ending
+gives-append count rest over [] left [] records ending a b = b
+gives-append count rest over [] left (r ∷ done) records ending a b = absurd a
+gives-append count rest over (x ∷ before) left [] records ending a b = absurd a
+gives-append count rest over (x ∷ before) left (r ∷ done) records ending a b = (a.0, a.1, gives-append count rest over before left done records ending a.2 b)
+
+begins-append : (before left : List (ℕ × List ℕ)) (done records : List Numbered) → EachSpells before done → Begins left records → Begins (before ++ left) (done ++ records)
+begins-append [] left [] records a b = b
+begins-append [] left (r ∷ done) records a b = absurd a
+begins-append (x ∷ before) left [] records a b = absurd a
+begins-append (x ∷ before) left (r ∷ done) records a b = (a.0, a.1, begins-append before left done records a.2 b)
+
+abbrev fresh : ℕ → Reading
+fresh limit = record { limit = limit; came = 0; number = 0; held = []; ended = None }
+
+pub told-first : (limit : ℕ) (told : Option (List ℕ)) → FramesExist → Told limit told told (fresh limit) []
+told-first limit None exist = tt
+told-first limit (Some all) exist =
+    let e = exist (length all - limit) false all in
+    let over : length all - limit ≡ (0 + length all) - limit = omega arith in
+    record {
+      blocks = e.0;
+      later = e.0;
+      rest = e.1.0;
+      framed = e.1.1;
+      ahead = subst (λ n. Frames n false all e.0 e.1.0) over e.1.1;
+      came = omega arith;
+      count = omega arith;
+      before = [];
+      split = refl;
+      spelled = tt;
+    }
+
+step : (limit : ℕ) (all left left' : List ℕ) (r new : Reading) (done : List Numbered) (x : Numbered) → IsTold limit all left r done → GivesNext r (Some left) new (Some left') (Ok (Some x))
+    → IsTold limit all left' new (done ++ x ∷ [])
+step limit all left left' r new done x t given =
+    let a = given.1 t.later t.rest t.ahead in
+    let block = a.0 in
+    let later = a.1 in
+    let next = a.2 in
+    record {
+      blocks = t.blocks;
+      later = later;
+      rest = t.rest;
+      framed = t.framed;
+      ahead = a.5;
+      came = given.0 ∙ t.came;
+      count = next.1 ∙ t.count;
+      before = t.before ++ (new.number, block) ∷ [];
+      split = t.split ∙ ap (λ bs. t.before ++ bs) next.0 ∙ sym (append_assoc t.before ((new.number, block) ∷ []) (others new.number later));
+      spelled = each-append t.before ((new.number, block) ∷ []) done (x ∷ []) t.spelled (sym a.3, a.4, tt);
+    }
+
+pub told-step : (limit : ℕ) (told left left' : Option (List ℕ)) (r new : Reading) (done : List Numbered) (x : Numbered) → Told limit told left r done → GivesNext r left new left' (Ok (Some x))
+    → Told limit told left' new (done ++ x ∷ [])
+told-step limit None left left' r new done x t given = tt
+told-step limit (Some all) None left' r new done x t given = absurd t
+told-step limit (Some all) (Some left) None r new done x t given = absurd given
+told-step limit (Some all) (Some left) (Some left') r new done x t given = step limit all left left' r new done x t given
+
+-- ---- how reading ends
+
+-- behind the records so far come these blocks
+given-by : (limit : ℕ) (all left : List ℕ) (r : Reading) (done : List Numbered) (ending : Ending) → (t : IsTold limit all left r done)
+    → Stops (length t.blocks) t.rest (length all - limit) (others r.number t.later) ending → AreGiven limit all done ending
+given-by limit all left r done ending t stops = record {
+  blocks = t.blocks;
+  rest = t.rest;
+  framed = t.framed;
+  given = subst (λ bs. Gives (length t.blocks) t.rest (length all - limit) bs done ending) (sym t.split)
+      (subst (λ rs. Gives (length t.blocks) t.rest (length all - limit) (t.before ++ others r.number t.later) rs ending) (append-nil done)
+      (gives-append (length t.blocks) t.rest (length all - limit) t.before (others r.number t.later) done [] ending t.spelled stops));
+}
+
+over-is : (limit : ℕ) (all left : List ℕ) (r : Reading) (done : List Numbered) → (t : IsTold limit all left r done) → r.limit ≡ limit → beyond r.limit r.came left ≡ length all - limit
+over-is limit all left r done t same = ap (λ n. n - r.limit) t.came ∙ ap (λ n. length all - n) same
+
+pub told-end : (limit : ℕ) (told left left' : Option (List ℕ)) (r new : Reading) (done : List Numbered) → r.limit ≡ limit → Told limit told left r done → GivesNext r left new left' (Ok None)
+    → AreGivenOf limit told done (Done (new.number + 1))
+told-end limit None left left' r new done same t given = tt
+told-end limit (Some all) None left' r new done same t given = absurd t
+told-end limit (Some all) (Some left) None r new done same t given = absurd given
+told-end limit (Some all) (Some left) (Some left') r new done same t given =
+    let a = given.1 t.later t.rest t.ahead in
+    let last = a.0 in
+    given-by limit all left r done (Done (new.number + 1)) t
+    (last.0, a.1, sym (over-is limit all left r done t same) ∙ a.2, ap (λ n. n + 1) (last.1 ∙ t.count))
+
+-- the blocks stop where a reading is refused
+stops : (limit : ℕ) (all left left' : List ℕ) (r new : Reading) (done : List Numbered) (f : RecordFault) → r.limit ≡ limit → (t : IsTold limit all left r done)
+    → GivesNext r (Some left) new (Some left') (Err f) → HasNumber new.number (Err f) → Stops (length t.blocks) t.rest (length all - limit) (others r.number t.later) (Broken f)
+stops limit all left left' r new done (Short n) same t given number =
+    let a = given.1 t.later t.rest t.ahead in
+    let last = a.0 in
+    (last.0, a.1, sym (over-is limit all left r done t same) ∙ a.3, number ∙ ap (λ n. n + 1) (last.1 ∙ t.count))
+stops limit all left left' r new done (BadType n) same t given number =
+    let a = given.1 t.later t.rest t.ahead in
+    let next = a.2 in
+    (a.0, others new.number a.1, next.0 ∙ ap (λ k. (k, a.0) ∷ others new.number a.1) (sym number), subst (λ k. fault_of k a.0 ≡ Some (BadType n)) (sym number) a.3)
+stops limit all left left' r new done (BadColumn n column) same t given number =
+    let a = given.1 t.later t.rest t.ahead in
+    let next = a.2 in
+    (a.0, others new.number a.1, next.0 ∙ ap (λ k. (k, a.0) ∷ others new.number a.1) (sym number), subst (λ k. fault_of k a.0 ≡ Some (BadColumn n column)) (sym number) a.3)
+stops limit all left left' r new done (ReadFault n) same t given number =
+    let a = given.1 t.later t.rest t.ahead in
+    let count = t.count in
+    let more = a.2 in
+    omega (arith, count, more, number)
+stops limit all left left' r new done (ReaderNeverEnds n) same t given number =
+    let a = given.1 t.later t.rest t.ahead in
+    let last = a.0 in
+    (last.0, subst (λ k. 0 < k) (over-is limit all left r done t same) a.1, number ∙ ap (λ n. n + 1) (last.1 ∙ t.count))
+
+pub told-fault : (limit : ℕ) (told left left' : Option (List ℕ)) (r new : Reading) (g : Gathering) (earlier : List Record) (done : List Numbered) (f : RecordFault) → r.limit ≡ limit
+    → IsSoFar g earlier done → Told limit told left r done → GivesNext r left new left' (Err f) → HasNumber new.number (Err f) → IsReadOf limit told (Err (Read f))
+told-fault limit None left left' r new g earlier done f same so_far t given number = tt
+told-fault limit (Some all) None left' r new g earlier done f same so_far t given number = absurd t
+told-fault limit (Some all) (Some left) None r new g earlier done f same so_far t given number = absurd given
+told-fault limit (Some all) (Some left) (Some left') r new g earlier done f same so_far t given number =
+    inl (record {
+      records = done;
+      ending = Broken f;
+      given = given-by limit all left r done (Broken f) t (stops limit all left left' r new done f same t given number);
+      is = fault-outcome g earlier done f so_far;
+    })
+
+pub told-refused : (limit : ℕ) (told left left' : Option (List ℕ)) (r new : Reading) (g : Gathering) (earlier : List Record) (done : List Numbered) (x : Numbered) (refusal : BaseRefusal)
+    → IsSoFar g earlier done → Told limit told left r done → GivesNext r left new left' (Ok (Some x)) → refusal_at earlier x.1 ≡ Some refusal → IsReadOf limit told (Err (Refused x.0 refusal))
+told-refused limit None left left' r new g earlier done x refusal so_far t given is = tt
+told-refused limit (Some all) None left' r new g earlier done x refusal so_far t given is = absurd t
+told-refused limit (Some all) (Some left) None r new g earlier done x refusal so_far t given is = absurd given
+told-refused limit (Some all) (Some left) (Some left') r new g earlier done x refusal so_far t given is =
+    let after = step limit all left left' r new done x t given in
+    inr (record {
+      records = done ++ x ∷ [];
+      first = record {
+        blocks = after.blocks;
+        rest = after.rest;
+        framed = after.framed;
+        begins = subst (λ bs. Begins bs (done ++ x ∷ [])) (sym after.split)
+            (subst (λ rs. Begins (after.before ++ others new.number after.later) rs) (append-nil (done ++ x ∷ []))
+            (begins-append after.before (others new.number after.later) (done ++ x ∷ []) [] after.spelled tt));
+      };
+      is = λ later ending. refused-outcome g earlier done later ending x refusal so_far is;
+    })
+
+-- what holds while a reading has not ended
+pub while-open : {A : Type 0} (ended : Option records.Ending) → ended ≡ None → IfNone ended A → A
+while-open None e h = h
+while-open (Some x) e h = absurd cc
+
+-- the refusal of a record, where one more was read
+pub step-refused : (limit : ℕ) (told left left' : Option (List ℕ)) (r new : Reading) (g : Gathering) (earlier : List Record) (done : List Numbered) (x : Numbered) (e : BaseFault)
+    → IsSoFar g earlier done → Told limit told left r done → GivesNext r left new left' (Ok (Some x)) → IsRefused x.0 earlier x.1 e → Refuses limit told e
+step-refused limit told left left' r new g earlier done x fault.Memory so_far t given is = tt
+step-refused limit told left left' r new g earlier done x (Read f) so_far t given is = absurd is
+step-refused limit told left left' r new g earlier done x (Refused n refusal) so_far t given is =
+    subst (λ k. IsReadOf limit told (Err (Refused k refusal))) (sym is.0) (told-refused limit told left left' r new g earlier done x refusal so_far t given is.1)
+
+-- ---- how many bytes came
+
+came-in : (limit : ℕ) (told left left' : Option (List ℕ)) (start now n : ℕ) (r new : Reading) (done : List Numbered) (a : Answer) → n ≡ new.came → Told limit told left r done
+    → GivesNext r left new left' a → CountsOn told left' start now 0 new.came → Came told left' start now n
+came-in limit None left None start now n r new done a is t given counts =
+    let wrapped : (now + 0) % 2 ^ 128 ≡ (start + new.came) % 2 ^ 128 = counts in
+    let same : now + 0 ≡ now = omega arith in
+    ap (λ k. k % 2 ^ 128) (sym same) ∙ wrapped ∙ ap (λ k. (start + k) % 2 ^ 128) (sym is)
+came-in limit None left (Some y) start now n r new done a is t given counts = counts
+came-in limit (Some all) None left' start now n r new done a is t given counts = absurd t
+came-in limit (Some all) (Some left) None start now n r new done a is t given counts = given
+came-in limit (Some all) (Some left) (Some left') start now n r new done a is t given counts = ap (λ k. k + length left') is ∙ given.0 ∙ t.came
+
+-- a reading that is refused as 14
+pub ended-beyond : (limit : ℕ) (told left left' : Option (List ℕ)) (start now : ℕ) (r new : Reading) (done : List Numbered) (f : RecordFault) → new.limit ≡ limit → Told limit told left r done
+    → GivesNext r left new left' (Err f) → CountsOn told left' start now 0 new.came → reading.NeverEnds new (Err f) → NeverEnds limit (Came told left' start now) (Read f)
+ended-beyond limit told left left' start now r new done (Short n) same t given counts over = tt
+ended-beyond limit told left left' start now r new done (BadType n) same t given counts over = tt
+ended-beyond limit told left left' start now r new done (BadColumn n column) same t given counts over = tt
+ended-beyond limit told left left' start now r new done (ReadFault n) same t given counts over = tt
+ended-beyond limit told left left' start now r new done (ReaderNeverEnds n) same t given counts over =
+    (new.came, subst (λ k. k < new.came) same over.0, came-in limit told left left' start now new.came r new done (Err (ReaderNeverEnds n)) refl t given counts)
+
+-- a record is never refused as 14
+pub never-refused : (limit : ℕ) (CameFrom : ℕ → Type 0) (n : ℕ) (earlier : List Record) (r : Record) (e : BaseFault) → IsRefused n earlier r e → NeverEnds limit CameFrom e
+never-refused limit CameFrom n earlier r fault.Memory is = tt
+never-refused limit CameFrom n earlier r (Read f) is = absurd is
+never-refused limit CameFrom n earlier r (Refused m refusal) is = tt
+
+-- ---- which record a reading fails at
+
+-- a reading that failed had as many complete records as were counted
+pub fails-after : (all left : Option (List ℕ)) (number : ℕ) (held : List ℕ) (f : RecordFault) → Fetches false 0 [] all number held left → HasNumber number (Err f) → reading.HoldsFew held (Err f) → FailsAfter all left (Read f)
+fails-after all left number held (Short n) fetched is few = tt
+fails-after all left number held (BadType n) fetched is few = tt
+fails-after all left number held (BadColumn n column) fetched is few = tt
+fails-after None left number held (ReadFault n) fetched is few = tt
+fails-after (Some all) None number held (ReadFault n) fetched is few = fetched
+fails-after (Some all) (Some left) number held (ReadFault n) fetched is few =
+    let framed = takes_all false fetched.0 fetched.1 held fetched.4 few in
+    (fetched.0, fetched.1, framed.0, fetched.2, framed.1, omega (arith, is, fetched.3))
+fails-after all left number held (ReaderNeverEnds n) fetched is few = tt
+
+-- a record is never refused as 13
+pub never-fails : (all left : Option (List ℕ)) (n : ℕ) (earlier : List Record) (r : Record) (e : BaseFault) → IsRefused n earlier r e → FailsAfter all left e
+never-fails all left n earlier r fault.Memory is = tt
+never-fails all left n earlier r (Read f) is = absurd is
+never-fails all left n earlier r (Refused m refusal) is = tt
+
+-- ---- behind the last record
+
+-- nothing is missing: the records and notes so far are the outcome
+pub whole-outcome : (g : Gathering) (earlier : List Record) (done : List Numbered) (number : ℕ) → IsSoFar g earlier done → missing earlier ≡ None
+    → Ok (reverse earlier, g.notes.items) ≡ data_set (Done number) done
+whole-outcome g earlier done number so_far whole =
+    ap (λ rs. outcome rs g.notes.items) (sym (append-nil (reverse earlier)) ∙ sym (so_far.kept []) ∙ ap (λ rs. kept_all [] (records_in rs)) (append-nil done))
+    ∙ ap (outcome (kept_all [] (records_in done))) (sym (append-nil g.notes.items) ∙ sym (so_far.noted []) ∙ ap (notes_of 0) (append-nil done))
+    ∙ ap (λ o. unless_refused o (kept_all [] (records_in done), notes_of 0 done))
+    (sym (ap (first_refusal (Done number) []) (sym (append-nil done)) ∙ so_far.refused (Done number) [] ∙ ap (λ o. at_record number o None) whole))
+  where
+    outcome : List Record → List Note → Outcome
+    outcome rs ns = Ok (rs, ns)
+
+-- something is missing
+pub missing-outcome : (g : Gathering) (earlier : List Record) (done : List Numbered) (number : ℕ) (refusal : BaseRefusal) → IsSoFar g earlier done → missing earlier ≡ Some refusal
+    → Err (Refused number refusal) ≡ data_set (Done number) done
+missing-outcome g earlier done number refusal so_far lacking =
+    sym (ap (λ o. unless_refused o (kept_all [] (records_in done), notes_of 0 done))
+    (ap (first_refusal (Done number) []) (sym (append-nil done)) ∙ so_far.refused (Done number) [] ∙ ap (λ o. at_record number o None) lacking))
+
+-- the outcome of all records
+pub of-all : (limit : ℕ) (told : Option (List ℕ)) (done : List Numbered) (number : ℕ) (outcome : Outcome) → AreGivenOf limit told done (Done number) → outcome ≡ data_set (Done number) done → IsReadOf limit told outcome
+of-all limit None done number outcome given is = tt
+of-all limit (Some all) done number outcome given is = inl (record { records = done; ending = Done number; given = given; is = is })

@@ -1,0 +1,7 @@
+-- The airline is that of the frame.
+use Rattle.std.proofs.Common.{ap, ◌∙◌}
+use Rattle.ssim_base.specs.Base.{airline_of}
+use Rattle.ssim_base.proofs.data_set.DataSet.airline.Goals as goal
+
+pub returns : goal.returns
+returns c = c.airline.ensures c.self.inside.records c.self.invariant.2 ∙ ap airline_of c.self.view_is

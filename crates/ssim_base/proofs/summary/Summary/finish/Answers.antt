@@ -1,0 +1,28 @@
+-- The summary of the records that were gathered where none is missing.
+use Rattle.std.proofs.Common.{◌≡◌, List, reverse, Err, None, rules, sym, subst, ◌∙◌}
+use Rattle.std.proofs.lemmas.List.{length-reverse}
+use Rattle.ssim_values.specs.Flight.{FlightNumber}
+use Rattle.ssim_base.specs.BaseSeen.{AreFlights}
+use Rattle.ssim_base.specs.declared.fault.BaseFault.TheVariants.{Refused}
+use Rattle.ssim_base.proofs.LegTables.{flights-are}
+use Rattle.ssim_base.proofs.ReadingLemmas.{missing-outcome, of-all, whole-outcome}
+use Rattle.ssim_base.proofs.summary.Summary.finish.Goals as goal
+
+pub returns-in-Some-clause-sums : goal.returns-in-Some-clause-sums
+returns-in-Some-clause-sums c = λ limit told h.
+    of-all limit told h.done c.args.number (Err (Refused c.args.number c.in-Some.refusal)) h.given
+    (missing-outcome c.args.gathering h.earlier h.done c.args.number c.in-Some.refusal h.so_far (sym (c.missing.ensures h.earlier h.so_far.is_kept) ∙ c.in-Some.is))
+
+pub returns-clause-sums : goal.returns-clause-sums
+returns-clause-sums c = λ limit told h.
+    let none : c.missing.result ≡ None = search rules in
+    record {
+      base = reverse h.earlier;
+      flights = c.in_ok-flights.flights.items;
+      read = of-all limit told h.done c.args.number _ h.given
+          (whole-outcome c.args.gathering h.earlier h.done c.args.number h.so_far (sym (c.missing.ensures h.earlier h.so_far.is_kept) ∙ none));
+      are_flights = subst (λ (fs : List FlightNumber). AreFlights (reverse h.earlier) fs) (sym c.in_ok-flights.ensures)
+          (flights-are c.args.gathering.kept.legs h.earlier h.so_far.is_kept.legs.flown);
+      records_are = c.len.ensures h.earlier h.so_far.is_kept.records ∙ sym (length-reverse h.earlier);
+      flights_are = search rules;
+    }

@@ -1,0 +1,234 @@
+-- The base of a data set, and the first record that cannot stand.
+use Rattle.std.specs.Prelude.{ℕ, ◌+◌, ◌-◌, Bool, true, false, not, ◌&&◌, ◌||◌, ◌==◌, nat_eq, nat_lt, min, if◌then◌else◌, List, [], ◌∷◌, ◌++◌, map, Option, Some, None, Result, Ok, Err, unwrap_or}
+use Rattle.std.specs.List.{list_any, range_with_len}
+use Rattle.std.specs.Str.{bytes_eq}
+use Rattle.ssim_values.specs.Calendar.{day_limit}
+use Rattle.ssim_values.specs.Period.{DayRange}
+use Rattle.ssim_periods.specs.Calendar.{day_count, holds}
+use Rattle.ssim_records.specs.Carrier.{CarrierFields}
+use Rattle.ssim_records.specs.Leg.{LegFields, Name}
+use Rattle.ssim_records.specs.Record.{fault_number, serial_of}
+use Rattle.ssim_records.specs.declared.record.Record.{Record}
+use Rattle.ssim_records.specs.declared.record.Record.TheVariants.{Header, Carrier, Leg, Segment, Trailer}
+use Rattle.ssim_records.specs.declared.end_code.EndCode.{EndCode}
+use Rattle.ssim_records.specs.declared.end_code.EndCode.TheVariants.{Continuation, End}
+use Rattle.ssim_base.specs.Timetable.{same_flight, same_name, period_of}
+use Rattle.ssim_records.specs.declared.fault.RecordFault.{RecordFault}
+use Rattle.ssim_base.specs.declared.fault.BaseFault.{BaseFault}
+use Rattle.ssim_base.specs.declared.fault.BaseFault.TheVariants as fault
+use Rattle.ssim_base.specs.declared.fault.BaseFault.TheVariants.{Read, Refused}
+use Rattle.ssim_base.specs.declared.fault.BaseRefusal.{BaseRefusal}
+use Rattle.ssim_base.specs.declared.fault.BaseRefusal.TheVariants as refused
+use Rattle.ssim_base.specs.declared.note.Note.{Note}
+use Rattle.ssim_base.specs.declared.note.Note.TheVariants.{Serial, CheckReference}
+
+-- the refusal where the test holds
+abbrev pub refuse_if : Bool → BaseRefusal → Option BaseRefusal
+refuse_if test refusal = if test then Some refusal else None
+
+abbrev pub or_else : Option BaseRefusal → Option BaseRefusal → Option BaseRefusal
+or_else (Some refusal) later = Some refusal
+or_else None later = later
+
+-- the first of several answers that is one
+abbrev pub first_of : List (Option BaseRefusal) → Option BaseRefusal
+first_of [] = None
+first_of (answer ∷ answers) = or_else answer (first_of answers)
+
+-- ---- what a record meets in those before it, the latest of which comes first
+
+-- the airline of the carrier record
+abbrev pub airline_of : List Record → List ℕ
+airline_of [] = []
+airline_of (Carrier r ∷ records) = r.airline
+airline_of (Header r ∷ records) = airline_of records
+airline_of (Leg r ∷ records) = airline_of records
+airline_of (Segment r ∷ records) = airline_of records
+airline_of (Trailer r ∷ records) = airline_of records
+
+-- the end that an open one stands for: the start and 730 days, within the calendar
+abbrev pub end_of : CarrierFields → ℕ
+end_of r = unwrap_or r.last (min (r.first + 730) (day_limit - 1))
+
+-- the end of the carrier record
+abbrev pub carrier_end : List Record → ℕ
+carrier_end [] = 0
+carrier_end (Carrier r ∷ records) = end_of r
+carrier_end (Header r ∷ records) = carrier_end records
+carrier_end (Leg r ∷ records) = carrier_end records
+carrier_end (Segment r ∷ records) = carrier_end records
+carrier_end (Trailer r ∷ records) = carrier_end records
+
+-- a leg record with its end, the carrier's where its own is open
+abbrev pub closed : ℕ → LegFields → LegFields
+closed end' r = record r { last = Some (unwrap_or r.last end') }
+
+abbrev pub is_trailer : Record → Bool
+is_trailer (Header r) = false
+is_trailer (Carrier r) = false
+is_trailer (Leg r) = false
+is_trailer (Segment r) = false
+is_trailer (Trailer r) = true
+
+-- whether two periods have a day in common
+abbrev pub meet : DayRange → DayRange → Bool
+meet p q = list_any (λ day. holds p day && holds q day) (range_with_len 0 day_count)
+
+-- whether a record gives a leg of this flight and sequence on a date of this period
+abbrev pub overlaps : Name → DayRange → Record → Bool
+overlaps name period (Header e) = false
+overlaps name period (Carrier e) = false
+overlaps name period (Leg e) = (same_flight name.flight e.name.flight && nat_eq name.sequence e.name.sequence) && meet period (period_of e)
+overlaps name period (Segment e) = false
+overlaps name period (Trailer e) = false
+
+abbrev pub is_leg_named : Name → Record → Bool
+is_leg_named name (Header r) = false
+is_leg_named name (Carrier r) = false
+is_leg_named name (Leg r) = same_name name r.name
+is_leg_named name (Segment r) = false
+is_leg_named name (Trailer r) = false
+
+-- ---- where a record cannot stand
+
+-- its place: a header first, then a carrier, then legs and segments, then a trailer, and nothing behind it
+abbrev pub place_refusal : List Record → Record → Option BaseRefusal
+place_refusal [] (Header r) = None
+place_refusal [] _ = Some refused.NoHeader
+place_refusal (first ∷ []) (Carrier r) = None
+place_refusal (first ∷ []) _ = Some refused.NoCarrier
+place_refusal (last ∷ second ∷ more) (Header r) = Some refused.BadType
+place_refusal (last ∷ second ∷ more) (Carrier r) = Some refused.BadType
+place_refusal (last ∷ second ∷ more) (Leg r) = refuse_if (is_trailer last) refused.BadType
+place_refusal (last ∷ second ∷ more) (Segment r) = refuse_if (is_trailer last) refused.BadType
+place_refusal (last ∷ second ∷ more) (Trailer r) = refuse_if (is_trailer last) refused.BadType
+
+-- IVI overflow is left blank or 0, the frequency rate blank or 1
+abbrev pub is_overflow : ℕ → Bool
+is_overflow b = not (b == 32 || b == 48)
+
+abbrev pub is_rate : ℕ → Bool
+is_rate b = b == 32 || b == 49
+
+abbrev pub is_continued : EndCode → Bool
+is_continued Continuation = true
+is_continued End = false
+
+-- its own fields against those before it, in order
+abbrev pub own_refusal : List Record → Record → Option BaseRefusal
+own_refusal earlier (Header r) = None
+own_refusal earlier (Carrier r) = None
+own_refusal earlier (Leg r) =
+    let leg = closed (carrier_end earlier) r in
+    first_of (
+    refuse_if (not (bytes_eq r.name.airline (airline_of earlier))) refused.OtherAirline
+    ∷ refuse_if (is_overflow r.overflow) refused.Overflow
+    ∷ refuse_if (not (is_rate r.rate)) refused.Frequency
+    ∷ refuse_if (nat_lt (period_of leg).last r.first) refused.OpenEnd
+    ∷ refuse_if (list_any (overlaps r.name (period_of leg)) earlier) refused.Overlap
+    ∷ [])
+own_refusal earlier (Segment r) = first_of (
+    refuse_if (not (bytes_eq r.name.airline (airline_of earlier))) refused.OtherAirline
+    ∷ refuse_if (is_overflow r.overflow) refused.Overflow
+    ∷ refuse_if (not (list_any (is_leg_named r.name) earlier)) refused.Segment
+    ∷ [])
+own_refusal earlier (Trailer r) = first_of (
+    refuse_if (not (bytes_eq r.airline (airline_of earlier))) refused.OtherAirline
+    ∷ refuse_if (is_continued r.code) refused.Continuation
+    ∷ [])
+
+abbrev pub refusal_at : List Record → Record → Option BaseRefusal
+refusal_at earlier r = or_else (place_refusal earlier r) (own_refusal earlier r)
+
+-- what is missing at the end
+abbrev pub missing : List Record → Option BaseRefusal
+missing [] = Some refused.NoHeader
+missing (only ∷ []) = Some refused.NoCarrier
+missing (last ∷ second ∷ more) = refuse_if (not (is_trailer last)) refused.NoTrailer
+
+-- ---- the base
+
+-- a record as the base has it: without serial, check reference, rate and overflow, and with its end
+abbrev pub kept : List Record → Record → Record
+kept earlier (Header r) = Header (record r { serial = 0 })
+kept earlier (Carrier r) = Carrier (record r { serial = 0 })
+kept earlier (Leg r) = Leg (record (closed (carrier_end earlier) r) { rate = 32; overflow = 32; serial = 0 })
+kept earlier (Segment r) = Segment (record r { overflow = 32; serial = 0 })
+kept earlier (Trailer r) = Trailer (record r { check = 0; serial = 0 })
+
+-- how the records of an input end: behind the last, whose number is one less, or at a record that cannot be read
+pub data Ending : Type 0 where
+  Done : ℕ → Ending
+  Broken : RecordFault → Ending
+
+abbrev pub at_record : ℕ → Option BaseRefusal → Option BaseFault → Option BaseFault
+at_record number (Some refusal) later = Some (Refused number refusal)
+at_record number None later = later
+
+abbrev pub at_end : Ending → Option BaseRefusal → Option BaseFault
+at_end (Broken fault) lacking = Some (Read fault)
+at_end (Done number) lacking = at_record number lacking None
+
+-- the records of a base in order, behind those that it has so far, the latest of which comes first
+abbrev pub kept_all : List Record → List Record → List Record
+kept_all earlier [] = []
+kept_all earlier (r ∷ later) = kept earlier r ∷ kept_all (kept earlier r ∷ earlier) later
+
+-- the first record that cannot stand, of records with their numbers, and how they end
+abbrev pub first_refusal : Ending → List Record → List (ℕ × Record) → Option BaseFault
+first_refusal ending earlier [] = at_end ending (missing earlier)
+first_refusal ending earlier (r ∷ later) = at_record r.0 (refusal_at earlier r.1) (first_refusal ending (kept earlier r.1 ∷ earlier) later)
+
+-- ---- the numbers of refusals
+
+abbrev pub refusal_number : BaseRefusal → ℕ
+refusal_number refused.BadType = 11
+refusal_number refused.OpenEnd = 12
+refusal_number refused.NoHeader = 30
+refusal_number refused.NoCarrier = 31
+refusal_number refused.NoTrailer = 32
+refusal_number refused.OtherAirline = 33
+refusal_number refused.Overlap = 34
+refusal_number refused.Segment = 35
+refusal_number refused.Overflow = 36
+refusal_number refused.Frequency = 37
+refusal_number refused.Continuation = 38
+
+abbrev pub base_fault_number : BaseFault → ℕ
+base_fault_number fault.Memory = 90
+base_fault_number (Read f) = fault_number f
+base_fault_number (Refused n refusal) = refusal_number refusal
+
+-- ---- notes
+
+abbrev pub note_if : Bool → Note → List Note
+note_if test note = if test then note ∷ [] else []
+
+-- the check reference of a trailer
+abbrev pub check_notes : ℕ → ℕ → Record → List Note
+check_notes number previous (Trailer r) = note_if (not (nat_eq r.check previous)) (CheckReference number)
+check_notes number previous (Header r) = []
+check_notes number previous (Carrier r) = []
+check_notes number previous (Leg r) = []
+check_notes number previous (Segment r) = []
+
+-- the notes of records with their numbers; the serial of the record before the first is taken as 0
+abbrev pub notes_of : ℕ → List (ℕ × Record) → List Note
+notes_of previous [] = []
+notes_of previous (r ∷ later) =
+    note_if (not (nat_eq (serial_of r.1) (previous + 1))) (Serial r.0)
+    ++ (check_notes r.0 previous r.1 ++ notes_of (serial_of r.1) later)
+
+-- ---- the whole
+
+-- what a data set is read as
+abbrev pub Outcome : Type 0
+Outcome = Result (List Record × List Note) BaseFault
+
+abbrev pub unless_refused : Option BaseFault → List Record × List Note → Outcome
+unless_refused (Some refusal) base = Err refusal
+unless_refused None base = Ok base
+
+-- the records and notes of a base, or the first record that cannot stand
+abbrev pub data_set : Ending → List (ℕ × Record) → Outcome
+data_set ending records = unless_refused (first_refusal ending [] records) (kept_all [] (map (λ r. r.1) records), notes_of 0 records)

@@ -1,0 +1,168 @@
+-- The canonical export of a timetable: its flights in order, their pieces, the legs of each with their tails.
+use Rattle.std.specs.Prelude.{ℕ, ◌+◌, ◌-◌, ◌%◌, ◌/◌, Bool, true, false, ◌&&◌, nat_eq, nat_lt, if◌then◌else◌, List, [], ◌∷◌, ◌++◌, map, length, replicate, slice_index, Option, Some, None, Result, Ok, Err}
+use Rattle.std.specs.List.{flat_map, range_with_len}
+use Rattle.std.specs.Str.{bytes_eq}
+use Rattle.ssim_values.specs.Flight.{FlightNumber}
+use Rattle.ssim_values.specs.Period.{DayRange}
+use Rattle.ssim_periods.specs.Pieces.{pieces_of}
+use Rattle.ssim_records.specs.Carrier.{CarrierFields}
+use Rattle.ssim_records.specs.Frames.{fill}
+use Rattle.ssim_records.specs.Header.{HeaderFields}
+use Rattle.ssim_records.specs.Leg.{Name}
+use Rattle.ssim_records.specs.Trailer.{TrailerFields}
+use Rattle.ssim_records.specs.Record.{written}
+use Rattle.ssim_records.specs.declared.record.Record.{Record}
+use Rattle.ssim_records.specs.declared.record.Record.TheVariants.{Header, Carrier, Leg, Segment, Trailer}
+use Rattle.ssim_base.specs.Timetable.{LegValue, Legs, Days}
+
+-- the parts of a base that an export keeps
+pub record Frame : Type 0 where
+  pub header : HeaderFields
+  pub carrier : CarrierFields
+  pub trailer : TrailerFields
+
+abbrev pub frame_from : HeaderFields → CarrierFields → TrailerFields → Frame
+frame_from header carrier trailer = record { header = header; carrier = carrier; trailer = trailer }
+
+-- ---- pieces
+
+abbrev pub same_tails : List (List ℕ) → List (List ℕ) → Bool
+same_tails [] [] = true
+same_tails (t ∷ tails) (u ∷ others) = bytes_eq t u && same_tails tails others
+same_tails [] (u ∷ others) = false
+same_tails (t ∷ tails) [] = false
+
+abbrev pub same_leg : LegValue → LegValue → Bool
+same_leg l m = nat_eq l.sequence m.sequence && (bytes_eq l.columns m.columns && same_tails l.tails m.tails)
+
+abbrev pub same_itinerary : Legs → Legs → Bool
+same_itinerary [] [] = true
+same_itinerary (l ∷ legs) (m ∷ others) = same_leg l m && same_itinerary legs others
+same_itinerary [] (m ∷ others) = false
+same_itinerary (l ∷ legs) [] = false
+
+abbrev pub Piece : Type 0
+Piece = DayRange × Legs
+
+-- the canonical division of a flight's days
+abbrev pub pieces : Days → List Piece
+pieces days = pieces_of same_itinerary [] days
+
+-- ---- records, with serial 0
+
+-- the segment record of a tail; its service type is the leg's, column 14
+abbrev pub tail_record : Name → ℕ → List ℕ → Record
+tail_record name service tail = Segment (record { name = name; service = service; tail = tail; overflow = 32; serial = 0 })
+
+-- a leg's record, and those of its tails
+abbrev pub leg_records : List ℕ → FlightNumber → ℕ → DayRange → LegValue → List Record
+leg_records airline flight variation period l =
+    let name : Name = record { airline = airline; flight = flight; variation = variation; sequence = l.sequence } in
+    Leg (record { name = name; first = period.first; last = Some period.last; days = period.days; rate = 32; columns = l.columns; overflow = 32; serial = 0 })
+    ∷ map (tail_record name (slice_index l.columns 0)) l.tails
+
+-- a piece: its legs by sequence, each followed by its tails
+abbrev pub piece_records : List ℕ → FlightNumber → ℕ → Piece → List Record
+piece_records airline flight variation piece = flat_map (leg_records airline flight variation piece.0) piece.1
+
+-- the pieces of a flight, with itinerary variations from `variation` on
+abbrev pub pieces_records : List ℕ → FlightNumber → ℕ → List Piece → List Record
+pieces_records airline flight variation [] = []
+pieces_records airline flight variation (piece ∷ later) =
+    piece_records airline flight variation piece ++ pieces_records airline flight (variation + 1) later
+
+abbrev pub flight_records : List ℕ → (FlightNumber → Days) → FlightNumber → List Record
+flight_records airline days flight = pieces_records airline flight 1 (pieces (days flight))
+
+-- the records of some flights, one after another
+abbrev pub flights_records : List ℕ → (FlightNumber → Days) → List FlightNumber → List Record
+flights_records airline days flights = flat_map (flight_records airline days) flights
+
+-- ---- all flights, by number and then by suffix, the blank first
+
+-- how many flights there are. Opaque, so that they are never written out
+unfoldable pub flight_count : ℕ
+flight_count = 270000
+
+-- the flight at a place: 27 suffixes a number
+abbrev pub flight_at : ℕ → FlightNumber
+flight_at n = record { number = n / 27; suffix = if nat_eq (n % 27) 0 then 32 else 64 + n % 27 }
+
+abbrev pub all_flights : List FlightNumber
+all_flights = map flight_at (range_with_len 0 flight_count)
+
+-- ---- the whole
+
+-- a record with a serial
+abbrev pub with_serial : ℕ → Record → Record
+with_serial n (Header r) = Header (record r { serial = n })
+with_serial n (Carrier r) = Carrier (record r { serial = n })
+with_serial n (Leg r) = Leg (record r { serial = n })
+with_serial n (Segment r) = Segment (record r { serial = n })
+with_serial n (Trailer r) = Trailer (record r { serial = n })
+
+abbrev pub numbered : ℕ → List Record → List Record
+numbered n [] = []
+numbered n (r ∷ records) = with_serial n r ∷ numbered (n + 1) records
+
+-- the four parts of an export, each of which is filled up to a multiple of five records
+abbrev pub sections : Frame → List Record → List (List Record)
+sections frame body =
+    (with_serial 1 (Header frame.header) ∷ [])
+    ∷ (with_serial 2 (Carrier frame.carrier) ∷ [])
+    ∷ numbered 3 body
+    ∷ (Trailer (record frame.trailer { check = 2 + length body; serial = 3 + length body }) ∷ [])
+    ∷ []
+
+-- why a timetable has no export
+pub data ExportRefusal : Type 0 where
+  Variations : FlightNumber → ExportRefusal  -- 50, with the flight
+  Records : ExportRefusal  -- 51
+
+-- the refusal of the first flight that cannot be exported, where so many records stand before it
+abbrev pub export_refusal : List ℕ → (FlightNumber → Days) → ℕ → List FlightNumber → Option ExportRefusal
+export_refusal airline days count [] = None
+export_refusal airline days count (flight ∷ flights) =
+    let of_flight = pieces (days flight) in
+    let after = count + length (flight_records airline days flight) in
+    if nat_lt 99 (length of_flight) then Some (Variations flight)
+    else (if nat_lt 0 (length of_flight) && nat_lt 999999 (after + 1) then Some Records
+    else export_refusal airline days after flights)
+
+abbrev pub unless_refused : Option ExportRefusal → List (List Record) → Result (List (List Record)) ExportRefusal
+unless_refused (Some refusal) records = Err refusal
+unless_refused None records = Ok records
+
+-- the export of some flights' itineraries by day
+abbrev pub export_of : List FlightNumber → Frame → (FlightNumber → Days) → Result (List (List Record)) ExportRefusal
+export_of flights frame days =
+    let airline = frame.carrier.airline in
+    unless_refused (export_refusal airline days 2 flights) (sections frame (flights_records airline days flights))
+
+-- the sections of the export, or its refusal
+abbrev pub chapter7_records : Frame → (FlightNumber → Days) → Result (List (List Record)) ExportRefusal
+chapter7_records frame days = export_of all_flights frame days
+
+-- ---- bytes
+
+abbrev pub line : List ℕ → List ℕ
+line bytes = bytes ++ 10 ∷ []
+
+-- how many records of fill follow so many records
+abbrev pub fill_count : ℕ → ℕ
+fill_count n = (5 - n % 5) % 5
+
+-- a section: each record with LF, and fill up to a multiple of five
+abbrev pub section_bytes : List Record → List ℕ
+section_bytes records = flat_map (λ r. line (written r)) records ++ flat_map line (replicate (fill_count (length records)) fill)
+
+abbrev pub export_bytes : List (List Record) → List ℕ
+export_bytes = flat_map section_bytes
+
+abbrev pub result_map : {A B E : Type 0} → (A → B) → Result A E → Result B E
+result_map f (Ok a) = Ok (f a)
+result_map f (Err e) = Err e
+
+-- the chapter 7 bytes of a frame and a timetable, or the refusal
+abbrev pub chapter7 : Frame → (FlightNumber → Days) → Result (List ℕ) ExportRefusal
+chapter7 frame days = result_map export_bytes (chapter7_records frame days)

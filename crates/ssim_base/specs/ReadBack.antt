@@ -1,0 +1,205 @@
+-- What it means that an export reads back.
+use Rattle.std.specs.Prelude.{◌≡◌, ℕ, ◌<◌, ◌≤◌, ◌+◌, ◌-◌, ◌*◌, false, nat_eq, if◌then◌else◌, List, [], ◌∷◌, ◌++◌, map, length, replicate, Option, Some, None, Ok}
+use Rattle.std.specs.List.{flat_map, list_any, All}
+use Rattle.ssim_values.specs.Flight.{FlightNumber, IsFlight}
+use Rattle.ssim_periods.specs.Calendar.{day_count}
+use Rattle.ssim_records.specs.Carrier.{IsCarrier}
+use Rattle.ssim_records.specs.Frames.{Frames, others}
+use Rattle.ssim_records.specs.Header.{IsHeader}
+use Rattle.ssim_records.specs.Leg.{AreLegColumns}
+use Rattle.ssim_records.specs.Record.{IsRecord, Spells}
+use Rattle.ssim_records.specs.Segment.{IsTail}
+use Rattle.ssim_records.specs.Trailer.{IsTrailer}
+use Rattle.ssim_records.specs.declared.record.Record.{Record}
+use Rattle.ssim_records.specs.declared.record.Record.TheVariants.{Header, Carrier, Trailer}
+use Rattle.ssim_records.specs.declared.end_code.EndCode.TheVariants.{End}
+use Rattle.ssim_base.specs.Timetable.{LegValue, Days, itinerary, days_of, on_day, Above, same_flight}
+use Rattle.ssim_base.specs.Base.{Ending, Done, first_refusal, kept_all, data_set}
+use Rattle.ssim_base.specs.declared.note.Note.{Note}
+use Rattle.ssim_base.specs.Export.{Frame, pieces, chapter7_records, export_of, fill_count, chapter7}
+
+-- On each date the legs of a flight stand by rising leg sequence, from 1 to 99: so no sequence stands twice.
+abbrev pub AreInOrder : (FlightNumber → Days) → Type 0
+AreInOrder days = (flight : FlightNumber) (n : ℕ) → IsFlight flight → n < day_count → Above 0 (on_day (days flight) n)
+
+-- a value for each day of each flight, each with its legs by rising sequence
+pub record IsTimetable (days : FlightNumber → Days) : Type 0 where
+  pub each_day : (flight : FlightNumber) → IsFlight flight → length (days flight) ≡ day_count
+  pub rising : AreInOrder days
+
+-- the trailer of a base is of the carrier's airline, and ends the data set
+pub record IsFrame (frame : Frame) : Type 0 where
+  pub airline : frame.trailer.airline ≡ frame.carrier.airline
+  pub code : frame.trailer.code ≡ End
+
+-- the records of an export, as they are read
+abbrev pub records_of : List (List Record) → List Record
+records_of sections = flat_map (λ s. s) sections
+
+-- the records of the base that reads them
+abbrev pub base_of : List Record → List Record
+base_of records = kept_all [] records
+
+-- the header, carrier and trailer that a base keeps
+abbrev pub kept_frame : Frame → Frame
+kept_frame frame = record {
+  header = record frame.header { serial = 0 };
+  carrier = record frame.carrier { serial = 0 };
+  trailer = record frame.trailer { check = 0; serial = 0 };
+}
+
+-- the itineraries by day that an export gives are those that were exported
+abbrev pub GivesBack : (FlightNumber → Days) → List (List Record) → Type 0
+GivesBack days sections = (flight : FlightNumber) (n : ℕ) → IsFlight flight → n < day_count
+    → itinerary (base_of (records_of sections)) flight n ≡ on_day (days flight) n
+
+-- first: the same itinerary of each flight on each date
+abbrev pub ReadsBack : Type 0
+ReadsBack = (frame : Frame) (days : FlightNumber → Days) (sections : List (List Record)) → IsTimetable days
+    → chapter7_records frame days ≡ Ok sections → GivesBack days sections
+
+-- second: the export of what was read is the same
+abbrev pub ExportsAgain : Type 0
+ExportsAgain = (frame : Frame) (days : FlightNumber → Days) (sections : List (List Record)) → IsTimetable days
+    → chapter7_records frame days ≡ Ok sections
+    → chapter7_records (kept_frame frame) (days_of (base_of (records_of sections))) ≡ Ok sections
+
+-- third: no record of an export is refused, whatever the numbers of its records among fill
+abbrev pub Stands : Type 0
+Stands = (frame : Frame) (days : FlightNumber → Days) (sections : List (List Record)) → IsFrame frame → IsTimetable days
+    → chapter7_records frame days ≡ Ok sections
+    → (number : ℕ) (records : List (ℕ × Record)) → map (λ r. r.1) records ≡ records_of sections → first_refusal (Done number) [] records ≡ None
+
+-- so equal exports are of equal timetables
+abbrev pub ExportsTell : Type 0
+ExportsTell = (frame : Frame) (days others : FlightNumber → Days) (sections : List (List Record)) → IsTimetable days → IsTimetable others
+    → chapter7_records frame days ≡ Ok sections → chapter7_records frame others ≡ Ok sections
+    → (flight : FlightNumber) (n : ℕ) → IsFlight flight → n < day_count → on_day (days flight) n ≡ on_day (others flight) n
+
+-- and the other way round
+abbrev pub SameExport : Type 0
+SameExport = (frame : Frame) (days others : FlightNumber → Days) → ((flight : FlightNumber) → IsFlight flight → days flight ≡ others flight)
+    → chapter7_records frame days ≡ chapter7_records frame others
+
+-- the place of a flight among all flights
+abbrev pub place_of : FlightNumber → ℕ
+place_of f = 27 * f.number + (if nat_eq f.suffix 32 then 0 else f.suffix - 64)
+
+-- flights that exist, rising by number and suffix, from a place on
+abbrev pub Rise : ℕ → List FlightNumber → Type 0
+Rise low [] = Unit {0}
+Rise low (f ∷ fs) = (low ≤ place_of f) × IsFlight f × Rise (place_of f + 1) fs
+
+-- a flight that is none of these has no piece
+abbrev pub NoOther : (FlightNumber → Days) → List FlightNumber → Type 0
+NoOther days fs = (g : FlightNumber) → IsFlight g → list_any (same_flight g) fs ≡ false → pieces (days g) ≡ []
+
+-- flights without a flown day add nothing, so the flights of a map serve in place of all flights
+abbrev pub FlownSuffice : Type 0
+FlownSuffice = (frame : Frame) (days : FlightNumber → Days) (fs : List FlightNumber) → Rise 0 fs → NoOther days fs
+    → chapter7_records frame days ≡ export_of fs frame days
+
+-- ---- on bytes
+
+-- a leg has columns and tails that records may have
+pub record IsWritable (l : LegValue) : Type 0 where
+  pub columns : AreLegColumns l.columns
+  pub tails : All IsTail l.tails
+
+-- so have all legs of a timetable
+abbrev pub AreWritable : (FlightNumber → Days) → Type 0
+AreWritable days = (flight : FlightNumber) (n : ℕ) → IsFlight flight → n < day_count → All IsWritable (on_day (days flight) n)
+
+-- header, carrier and trailer are such as records have
+pub record IsWritableFrame (frame : Frame) : Type 0 where
+  pub header : IsHeader frame.header
+  pub carrier : IsCarrier frame.carrier
+  pub trailer : IsTrailer frame.trailer
+
+-- the records and the fill of an export, as they stand in its bytes
+abbrev pub section_items : List Record → List (Option Record)
+section_items records = map (λ r. Some r) records ++ replicate (fill_count (length records)) None
+
+abbrev pub items_of : List (List Record) → List (Option Record)
+items_of = flat_map section_items
+
+-- the numbered blocks spell the numbered records
+abbrev pub EachSpells : List (ℕ × List ℕ) → List (ℕ × Record) → Type 0
+EachSpells [] [] = Unit {0}
+EachSpells [] (r ∷ records) = ⊥
+EachSpells (block ∷ blocks) [] = ⊥
+EachSpells (block ∷ blocks) (r ∷ records) = (block.0 ≡ r.0) × Spells r.1 block.1 × EachSpells blocks records
+
+-- the bytes are so many blocks with nothing left over, and those that are not fill spell these records with their numbers
+pub record AreRead (bytes : List ℕ) (count : ℕ) (records : List (ℕ × Record)) : Type 0 where
+  pub blocks : List (List ℕ)
+  pub framed : Frames 0 false bytes blocks []
+  pub counted : length blocks ≡ count
+  pub spelled : EachSpells (others 0 blocks) records
+
+-- the header, carrier and trailer of a base stand around its legs and segments
+abbrev pub HasFrame : Frame → List Record → Type 0
+HasFrame frame base = (body : List Record) × (base ≡ Header frame.header ∷ Carrier frame.carrier ∷ (body ++ Trailer frame.trailer ∷ []))
+
+-- The bytes are read as records; none of them is refused and nothing is noted; the base has the frame, and on each day the
+-- itineraries that were exported; and its export is these bytes.
+pub record ReadsBackFrom (frame : Frame) (days : FlightNumber → Days) (bytes : List ℕ) : Type 0 where
+  pub count : ℕ
+  pub records : List (ℕ × Record)
+  pub base : List Record
+  pub read : AreRead bytes count records
+  pub stands : data_set (Done (count + 1)) records ≡ Ok (base, [])
+  pub frame_is : HasFrame (kept_frame frame) base
+  pub same : (flight : FlightNumber) (n : ℕ) → IsFlight flight → n < day_count → itinerary base flight n ≡ on_day (days flight) n
+  pub again : chapter7 (kept_frame frame) (days_of base) ≡ Ok bytes
+
+-- the bytes are the export of a frame and a timetable such as a desk holds
+pub record IsExport (frame : Frame) (days : FlightNumber → Days) (bytes : List ℕ) : Type 0 where
+  pub frame_is : IsFrame frame
+  pub frame_writable : IsWritableFrame frame
+  pub timetable : IsTimetable days
+  pub legs : AreWritable days
+  pub written : chapter7 frame days ≡ Ok bytes
+
+-- the law on bytes
+abbrev pub BytesReadBack : Type 0
+BytesReadBack = (frame : Frame) (days : FlightNumber → Days) (bytes : List ℕ) → IsExport frame days bytes → ReadsBackFrom frame days bytes
+
+-- bytes are read in one way
+abbrev pub ReadOnce : Type 0
+ReadOnce = (bytes : List ℕ) (count other : ℕ) (records others : List (ℕ × Record)) → AreRead bytes count records → AreRead bytes other others
+    → (count ≡ other) × (records ≡ others)
+
+-- so equal bytes are of frames that a base keeps alike, and of equal timetables
+abbrev pub BytesTell : Type 0
+BytesTell = (frame other : Frame) (days others : FlightNumber → Days) (bytes : List ℕ) → IsExport frame days bytes → IsExport other others bytes
+    → (kept_frame frame ≡ kept_frame other)
+    × ((flight : FlightNumber) (n : ℕ) → IsFlight flight → n < day_count → on_day (days flight) n ≡ on_day (others flight) n)
+
+-- and the other way round
+abbrev pub SameBytes : Type 0
+SameBytes = (frame other : Frame) (days others : FlightNumber → Days) → kept_frame frame ≡ kept_frame other → IsTimetable days → IsTimetable others
+    → ((flight : FlightNumber) (n : ℕ) → IsFlight flight → n < day_count → on_day (days flight) n ≡ on_day (others flight) n)
+    → chapter7 frame days ≡ chapter7 other others
+
+-- each day has its legs by rising sequence, with columns and tails that records may have
+pub record CanReadBack (days : FlightNumber → Days) : Type 0 where
+  pub timetable : IsTimetable days
+  pub legs : AreWritable days
+
+-- ---- what a base gives
+
+-- a base has a frame, which a base keeps as it is, and gives a timetable, and both can be exported
+pub record CanExport (base : List Record) : Type 0 where
+  pub frame : Frame
+  pub has_frame : HasFrame frame base
+  pub kept : kept_frame frame ≡ frame
+  pub frame_is : IsFrame frame
+  pub frame_writable : IsWritableFrame frame
+  pub timetable : IsTimetable (days_of base)
+  pub legs : AreWritable (days_of base)
+
+-- so does each base that is read
+abbrev pub BasesExport : Type 0
+BasesExport = (ending : Ending) (records : List (ℕ × Record)) (base : List Record) (notes : List Note) → All (λ r. IsRecord r.1) records
+    → data_set ending records ≡ Ok (base, notes) → CanExport base

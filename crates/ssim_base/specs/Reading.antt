@@ -1,0 +1,173 @@
+-- What the bytes of a data set are read as.
+use Rattle.std.specs.Prelude.{◌≡◌, ◌⊎◌, ℕ, ◌+◌, ◌-◌, ◌<◌, ◌≤◌, ◌%◌, ◌^◌, false, List, [], ◌∷◌, ◌++◌, length, Option, Some, None, Result, Ok, Err}
+use Rattle.ssim_records.specs.Frames.{Frames, others}
+use Rattle.ssim_records.specs.Record.{Spells, fault_of}
+use Rattle.ssim_records.specs.declared.fault.RecordFault.{RecordFault}
+use Rattle.ssim_records.specs.declared.fault.RecordFault.TheVariants.{Short, BadType, BadColumn, ReadFault, ReaderNeverEnds}
+use Rattle.ssim_records.specs.declared.record.Record.{Record}
+use Rattle.ssim_base.specs.Base.{Ending, Done, Broken, Outcome, data_set}
+use Rattle.ssim_base.specs.ReadBack.{AreRead}
+use Rattle.ssim_base.specs.declared.base.BaseRead.{BaseRead}
+use Rattle.ssim_base.specs.declared.fault.BaseFault.{BaseFault}
+use Rattle.ssim_base.specs.declared.fault.BaseFault.TheVariants as fault
+use Rattle.ssim_base.specs.declared.note.Note.{Note}
+
+-- the first of the numbered blocks that are left spells no record
+abbrev pub IsFaulty : List (ℕ × List ℕ) → ℕ → RecordFault → Type 0
+IsFaulty left number fault = (block : List ℕ) × (later : List (ℕ × List ℕ)) × (left ≡ (number, block) ∷ later) × (fault_of number block ≡ Some fault)
+
+-- How the records end where these numbered blocks, none of them fill, are left of so many in all, behind them a rest, and so many
+-- bytes behind the limit: at the end; within a record; behind the limit; where the reader fails; or at a block that is no record.
+abbrev pub Stops : ℕ → List ℕ → ℕ → List (ℕ × List ℕ) → Ending → Type 0
+Stops count rest beyond left (Done number) = (left ≡ []) × (rest ≡ []) × (beyond ≡ 0) × (number ≡ count + 1)
+Stops count rest beyond left (Broken (Short number)) = (left ≡ []) × (0 < length rest) × (beyond ≡ 0) × (number ≡ count + 1)
+Stops count rest beyond left (Broken (ReaderNeverEnds number)) = (left ≡ []) × (0 < beyond) × (number ≡ count + 1)
+Stops count rest beyond left (Broken (ReadFault number)) = number ≤ count + 1
+Stops count rest beyond left (Broken (BadType number)) = IsFaulty left number (BadType number)
+Stops count rest beyond left (Broken (BadColumn number column)) = IsFaulty left number (BadColumn number column)
+
+-- the numbered blocks spell these records, one after another, up to how they end
+abbrev pub Gives : ℕ → List ℕ → ℕ → List (ℕ × List ℕ) → List (ℕ × Record) → Ending → Type 0
+Gives count rest beyond left [] ending = Stops count rest beyond left ending
+Gives count rest beyond [] (r ∷ records) ending = ⊥
+Gives count rest beyond (block ∷ left) (r ∷ records) ending = (block.0 ≡ r.0) × Spells r.1 block.1 × Gives count rest beyond left records ending
+
+-- the numbered blocks begin with those that spell these records
+abbrev pub Begins : List (ℕ × List ℕ) → List (ℕ × Record) → Type 0
+Begins left [] = Unit {0}
+Begins [] (r ∷ records) = ⊥
+Begins (block ∷ left) (r ∷ records) = (block.0 ≡ r.0) × Spells r.1 block.1 × Begins left records
+
+-- The bytes are these blocks and this rest. No block reaches behind the limit.
+abbrev pub AreBlocks : ℕ → List ℕ → List (List ℕ) → List ℕ → Type 0
+AreBlocks limit bytes blocks rest = Frames (length bytes - limit) false bytes blocks rest
+
+-- the bytes give these records, which end so
+pub record AreGiven (limit : ℕ) (bytes : List ℕ) (records : List (ℕ × Record)) (ending : Ending) : Type 0 where
+  pub blocks : List (List ℕ)
+  pub rest : List ℕ
+  pub framed : AreBlocks limit bytes blocks rest
+  pub given : Gives (length blocks) rest (length bytes - limit) (others 0 blocks) records ending
+
+-- the bytes begin with these records
+pub record AreFirst (limit : ℕ) (bytes : List ℕ) (records : List (ℕ × Record)) : Type 0 where
+  pub blocks : List (List ℕ)
+  pub rest : List ℕ
+  pub framed : AreBlocks limit bytes blocks rest
+  pub begins : Begins (others 0 blocks) records
+
+-- the outcome is that of all records and of how they end
+pub record IsOfAll (limit : ℕ) (bytes : List ℕ) (outcome : Outcome) : Type 0 where
+  pub records : List (ℕ × Record)
+  pub ending : Ending
+  pub given : AreGiven limit bytes records ending
+  pub is : outcome ≡ data_set ending records
+
+-- the outcome is that of the first records, whatever comes behind them
+pub record IsOfFirst (limit : ℕ) (bytes : List ℕ) (outcome : Outcome) : Type 0 where
+  pub records : List (ℕ × Record)
+  pub first : AreFirst limit bytes records
+  pub is : (later : List (ℕ × Record)) (ending : Ending) → outcome ≡ data_set ending (records ++ later)
+
+-- the bytes of a data set are read so: to their end, or as far as a record that cannot stand
+abbrev pub IsReadAs : ℕ → List ℕ → Outcome → Type 0
+IsReadAs limit bytes outcome = IsOfAll limit bytes outcome ⊎ IsOfFirst limit bytes outcome
+
+-- where the bytes are told
+abbrev pub IsReadOf : ℕ → Option (List ℕ) → Outcome → Type 0
+IsReadOf limit None outcome = Unit {0}
+IsReadOf limit (Some bytes) outcome = IsReadAs limit bytes outcome
+
+abbrev pub AreGivenOf : ℕ → Option (List ℕ) → List (ℕ × Record) → Ending → Type 0
+AreGivenOf limit None records ending = Unit {0}
+AreGivenOf limit (Some bytes) records ending = AreGiven limit bytes records ending
+
+-- what holds of the outcome that is answered; want of memory is none
+abbrev pub Answers : Result BaseRead BaseFault → (Outcome → Type 0) → Type 0
+Answers (Ok read) P = P (Ok (read.base.records, read.notes.items))
+Answers (Err fault.Memory) P = Unit {0}
+Answers (Err (fault.Read f)) P = P (Err (fault.Read f))
+Answers (Err (fault.Refused number refusal)) P = P (Err (fault.Refused number refusal))
+
+-- the same of any value that has the records and the notes
+abbrev pub AnswersAs : {X : Type 0} → (X → List Record × List Note) → Result X BaseFault → (Outcome → Type 0) → Type 0
+AnswersAs seen (Ok read) P = P (Ok (seen read))
+AnswersAs seen (Err fault.Memory) P = Unit {0}
+AnswersAs seen (Err (fault.Read f)) P = P (Err (fault.Read f))
+AnswersAs seen (Err (fault.Refused number refusal)) P = P (Err (fault.Refused number refusal))
+
+-- the same of the records alone of a data set, where its notes are not told
+abbrev pub AnswersRecords : Result (List Record) BaseFault → (Outcome → Type 0) → Type 0
+AnswersRecords (Ok records) P = (notes : List Note) × P (Ok (records, notes))
+AnswersRecords (Err fault.Memory) P = Unit {0}
+AnswersRecords (Err (fault.Read f)) P = P (Err (fault.Read f))
+AnswersRecords (Err (fault.Refused number refusal)) P = P (Err (fault.Refused number refusal))
+
+-- a failure of the reader was counted exactly where it is answered
+abbrev pub FailsAs : ℕ → ℕ → BaseFault → Type 0
+FailsAs old new fault.Memory = new ≡ old
+FailsAs old new (fault.Read (Short number)) = new ≡ old
+FailsAs old new (fault.Read (BadType number)) = new ≡ old
+FailsAs old new (fault.Read (BadColumn number column)) = new ≡ old
+FailsAs old new (fault.Read (ReadFault number)) = new ≡ (old + 1) % 2 ^ 64
+FailsAs old new (fault.Read (ReaderNeverEnds number)) = new ≡ old
+FailsAs old new (fault.Refused number refusal) = new ≡ old
+
+-- so many bytes came from a reader: so many fewer are left, or, if it does not report its bytes, so many more are counted
+abbrev pub Came : Option (List ℕ) → Option (List ℕ) → ℕ → ℕ → ℕ → Type 0
+Came (Some left) (Some left') old new n = n + length left' ≡ length left
+Came (Some left) None old new n = ⊥
+Came None (Some left') old new n = ⊥
+Came None None old new n = new % 2 ^ 128 ≡ (old + n) % 2 ^ 128
+
+-- 14 is returned only if more bytes came than the limit
+abbrev pub NeverEnds : ℕ → (ℕ → Type 0) → BaseFault → Type 0
+NeverEnds limit CameFrom fault.Memory = Unit {0}
+NeverEnds limit CameFrom (fault.Read (Short number)) = Unit {0}
+NeverEnds limit CameFrom (fault.Read (BadType number)) = Unit {0}
+NeverEnds limit CameFrom (fault.Read (BadColumn number column)) = Unit {0}
+NeverEnds limit CameFrom (fault.Read (ReadFault number)) = Unit {0}
+NeverEnds limit CameFrom (fault.Read (ReaderNeverEnds number)) = (n : ℕ) × (limit < n) × CameFrom n
+NeverEnds limit CameFrom (fault.Refused number refusal) = Unit {0}
+
+-- the number after the complete records of the bytes that came: all of them but those that the reader has left
+abbrev pub IsAfterComplete : Option (List ℕ) → Option (List ℕ) → ℕ → Type 0
+IsAfterComplete None left number = Unit {0}
+IsAfterComplete (Some all) None number = ⊥
+IsAfterComplete (Some all) (Some left) number =
+    (came : List ℕ) × (blocks : List (List ℕ)) × (rest : List ℕ) × (all ≡ came ++ left) × Frames 0 false came blocks rest × (number ≡ length blocks + 1)
+
+-- 13 has the number after the complete records that came before the reader failed, fill among them
+abbrev pub FailsAfter : Option (List ℕ) → Option (List ℕ) → BaseFault → Type 0
+FailsAfter all left fault.Memory = Unit {0}
+FailsAfter all left (fault.Read (Short number)) = Unit {0}
+FailsAfter all left (fault.Read (BadType number)) = Unit {0}
+FailsAfter all left (fault.Read (BadColumn number column)) = Unit {0}
+FailsAfter all left (fault.Read (ReadFault number)) = IsAfterComplete all left number
+FailsAfter all left (fault.Read (ReaderNeverEnds number)) = Unit {0}
+FailsAfter all left (fault.Refused number refusal) = Unit {0}
+
+-- the refusal is that of the bytes
+abbrev pub Refuses : ℕ → Option (List ℕ) → BaseFault → Type 0
+Refuses limit told fault.Memory = Unit {0}
+Refuses limit told (fault.Read f) = IsReadOf limit told (Err (fault.Read f))
+Refuses limit told (fault.Refused number refusal) = IsReadOf limit told (Err (fault.Refused number refusal))
+
+-- ---- reading back what was written
+
+-- the reader failed, which is not in the bytes
+abbrev pub FailedReader : Outcome → Type 0
+FailedReader outcome = (number : ℕ) × (outcome ≡ Err (fault.Read (ReadFault number)))
+
+-- bytes within the limit that spell the records of a base, and nothing else, are read as this base with its notes, unless the reader fails
+abbrev pub IsReadBack : Type 0
+IsReadBack = (bytes : List ℕ) (count : ℕ) (records : List (ℕ × Record)) (base : List Record) (notes : List Note) (limit : ℕ) (outcome : Outcome)
+    → AreRead bytes count records → data_set (Done (count + 1)) records ≡ Ok (base, notes) → length bytes ≤ limit → IsReadAs limit bytes outcome
+    → (outcome ≡ Ok (base, notes)) ⊎ FailedReader outcome
+
+-- ---- the same bytes
+
+-- the same bytes are read as the same base with the same notes, whatever the limits
+abbrev pub SameBytesSameBase : Type 0
+SameBytesSameBase = (bytes : List ℕ) (limit other : ℕ) (base these : List Record) (notes noted : List Note)
+    → IsReadAs limit bytes (Ok (base, notes)) → IsReadAs other bytes (Ok (these, noted)) → (base ≡ these) × (notes ≡ noted)

@@ -1,0 +1,194 @@
+-- A message resolved against a base: its reference and its sub-messages with full dates, or why it cannot be.
+use Rattle.std.specs.Prelude.{◌≡◌, ◌≢◌, ◌⊎◌, ℕ, ◌+◌, ◌<◌, ◌≤◌, Bool, true, false, List, [], ◌∷◌, Result, Ok, Err}
+use Rattle.ssim_values.specs.Calendar.{HasDayMonth}
+use Rattle.ssim_values.specs.DayMonth.{MonthDay}
+use Rattle.ssim_values.specs.Period.{DayRange}
+use Rattle.ssim_records.specs.Carrier.{CarrierFields}
+use Rattle.ssim_records.specs.declared.record.Record.{Record}
+use Rattle.ssim_text.specs.Message.{MessageValue}
+use Rattle.ssim_text.specs.declared.action.Sub.{Sub}
+use Rattle.ssim_text.specs.declared.dates.Dates.{Dates}
+use Rattle.ssim_text.specs.declared.dates.Dates.TheVariants.{Period, Date}
+use Rattle.ssim_text.specs.declared.dates.GivenDate.{GivenDate}
+use Rattle.ssim_text.specs.declared.dates.GivenDate.TheVariants.{Full, Yearless}
+use Rattle.ssim_text.specs.declared.dates.GivenEnd.{GivenEnd}
+use Rattle.ssim_text.specs.declared.dates.GivenEnd.TheVariants.{Until, Open}
+use Rattle.ssim_values.specs.declared.time_mode.TimeMode.{TimeMode}
+use Rattle.ssim_values.specs.declared.time_mode.TimeMode.TheVariants.{Utc, Local}
+use Rattle.ssim_base.specs.Base.{end_of}
+use Rattle.ssim_base.specs.Export.{Frame}
+use Rattle.ssim_base.specs.ReadBack.{HasFrame}
+use Rattle.ssim_base.specs.declared.resolving.DatesFault.{DatesFault}
+use Rattle.ssim_base.specs.declared.resolving.DatesFault.TheVariants as dates_fault
+use Rattle.ssim_base.specs.declared.resolving.ResolveFault.{ResolveFault}
+use Rattle.ssim_base.specs.declared.resolving.ResolveFault.TheVariants as fault
+use Rattle.ssim_base.specs.declared.resolving.ResolvedText.{ResolvedText}
+use Rattle.ssim_base.specs.declared.resolved.ResolvedSub.{ResolvedSub}
+
+-- ---- dates
+
+-- the least day not below `from` with this day and month
+pub record IsNext (from : ℕ) (date : MonthDay) (day : ℕ) : Type 0 where
+  pub from_on : from ≤ day
+  pub has : HasDayMonth day date.month date.day
+  pub least : (k : ℕ) → from ≤ k → k < day → HasDayMonth k date.month date.day → ⊥
+
+-- there is none up to the end of 2099
+abbrev pub HasNone : ℕ → MonthDay → Type 0
+HasNone from date = (k : ℕ) → from ≤ k → HasDayMonth k date.month date.day → ⊥
+
+-- the day that a date means, where one without a year is the next on or after `from`
+abbrev pub Means : ℕ → GivenDate → ℕ → Type 0
+Means from (Full day) meant = meant ≡ day
+Means from (Yearless date) meant = IsNext from date meant
+
+-- no day is meant
+abbrev pub MeansNone : ℕ → GivenDate → Type 0
+MeansNone from (Full day) = ⊥
+MeansNone from (Yearless date) = HasNone from date
+
+-- the day that the end of a period means, where an open one is the end of the carrier's validity
+abbrev pub MeansEnd : CarrierFields → ℕ → GivenEnd → ℕ → Type 0
+MeansEnd carrier first (Until date) meant = Means first date meant
+MeansEnd carrier first Open meant = meant ≡ end_of carrier
+
+abbrev pub MeansNoEnd : ℕ → GivenEnd → Type 0
+MeansNoEnd first (Until date) = MeansNone first date
+MeansNoEnd first Open = ⊥
+
+abbrev pub every_day : List Bool
+every_day = true ∷ true ∷ true ∷ true ∷ true ∷ true ∷ true ∷ []
+
+-- the full period of some dates: those of an SSM from the start of the carrier's validity on; the one date of an ASM
+abbrev pub AreDates : CarrierFields → Dates → DayRange → Type 0
+AreDates carrier (Period given) range =
+    Means carrier.first given.first range.first × MeansEnd carrier range.first given.last range.last × (range.first ≤ range.last) × (range.days ≡ given.days)
+AreDates carrier (Date given) range = Means carrier.first given range.first × (range.last ≡ range.first) × (range.days ≡ every_day)
+
+-- a date of them has no year left
+abbrev pub LackYear : CarrierFields → Dates → Type 0
+LackYear carrier (Period given) =
+    MeansNone carrier.first given.first ⊎ ((first : ℕ) × Means carrier.first given.first first × MeansNoEnd first given.last)
+LackYear carrier (Date given) = MeansNone carrier.first given
+
+-- the last of them is before the first
+abbrev pub AreTurned : CarrierFields → Dates → Type 0
+AreTurned carrier (Period given) =
+    (first : ℕ) × (last : ℕ) × Means carrier.first given.first first × MeansEnd carrier first given.last last × (last < first)
+AreTurned carrier (Date given) = ⊥
+
+-- why dates are no period
+abbrev pub AreFaulty : CarrierFields → Dates → DatesFault → Type 0
+AreFaulty carrier dates dates_fault.NoSuchDate = LackYear carrier dates
+AreFaulty carrier dates dates_fault.Turned = AreTurned carrier dates
+
+-- ---- sub-messages
+
+-- the sub-message with its full dates
+pub record IsResolved (carrier : CarrierFields) (sub : Sub) (resolved : ResolvedSub) : Type 0 where
+  pub airline : sub.designator.airline ≡ carrier.airline
+  pub dates : AreDates carrier sub.dates resolved.period
+  pub flight : resolved.flight ≡ sub.designator.flight
+
+-- why the sub-message with this number has none
+abbrev pub IsSubRefused : CarrierFields → ℕ → Sub → ResolveFault → Type 0
+IsSubRefused carrier n sub fault.Memory = ⊥
+IsSubRefused carrier n sub fault.TimeMode = ⊥
+IsSubRefused carrier n sub (fault.Airline number) = (number ≡ n) × (sub.designator.airline ≢ carrier.airline)
+IsSubRefused carrier n sub (fault.NoSuchDate number) = (number ≡ n) × (sub.designator.airline ≡ carrier.airline) × LackYear carrier sub.dates
+IsSubRefused carrier n sub (fault.Period number) = (number ≡ n) × (sub.designator.airline ≡ carrier.airline) × AreTurned carrier sub.dates
+
+-- each of the sub-messages, in order
+abbrev pub AreResolved : CarrierFields → List Sub → List ResolvedSub → Type 0
+AreResolved carrier [] [] = Unit {0}
+AreResolved carrier [] (r ∷ resolved) = ⊥
+AreResolved carrier (sub ∷ subs) [] = ⊥
+AreResolved carrier (sub ∷ subs) (r ∷ resolved) = IsResolved carrier sub r × AreResolved carrier subs resolved
+
+-- the first that is refused, of those from number n on
+abbrev pub IsFirstRefused : CarrierFields → ℕ → List Sub → ResolveFault → Type 0
+IsFirstRefused carrier n [] fault = ⊥
+IsFirstRefused carrier n (sub ∷ subs) fault =
+    IsSubRefused carrier n sub fault ⊎ ((r : ResolvedSub) × IsResolved carrier sub r × IsFirstRefused carrier (n + 1) subs fault)
+
+-- ---- the message
+
+-- the time modes of message and carrier are one
+abbrev pub same_mode : TimeMode → TimeMode → Bool
+same_mode Utc Utc = true
+same_mode Utc Local = false
+same_mode Local Utc = false
+same_mode Local Local = true
+
+-- the reference and the sub-messages with full dates; a reference is from the day on which the data set was made
+pub record Resolves (carrier : CarrierFields) (message : MessageValue) (text : ResolvedText) : Type 0 where
+  pub mode : same_mode carrier.time_mode message.mode ≡ true
+  pub date : IsNext carrier.created message.reference.date text.reference.date
+  pub group : text.reference.group ≡ message.reference.group
+  pub serial : text.reference.serial ≡ message.reference.serial
+  pub kind : text.reference.kind ≡ message.kind
+  pub originator : text.reference.originator ≡ message.originator
+  pub subs : AreResolved carrier message.subs text.subs.items
+
+-- the reference has a date
+abbrev pub HasReferenceDate : CarrierFields → MessageValue → Type 0
+HasReferenceDate carrier message = (day : ℕ) × IsNext carrier.created message.reference.date day
+
+-- the time modes are one, and the reference has no date
+pub record IsReferenceRefused (carrier : CarrierFields) (message : MessageValue) (number : ℕ) : Type 0 where
+  pub mode : same_mode carrier.time_mode message.mode ≡ true
+  pub is_zero : number ≡ 0
+  pub none : HasNone carrier.created message.reference.date
+
+-- the time modes are one, the reference has a date, and this is the refusal of the first sub-message that has one
+pub record IsRefusedBySub (carrier : CarrierFields) (message : MessageValue) (fault : ResolveFault) : Type 0 where
+  pub mode : same_mode carrier.time_mode message.mode ≡ true
+  pub date : HasReferenceDate carrier message
+  pub first : IsFirstRefused carrier 1 message.subs fault
+
+-- the first refusal of a message: 40, 42 of the reference, then that of the first sub-message that has one; Memory says nothing
+abbrev pub IsRefused : CarrierFields → MessageValue → ResolveFault → Type 0
+IsRefused carrier message fault.Memory = Unit {0}
+IsRefused carrier message fault.TimeMode = same_mode carrier.time_mode message.mode ≡ false
+IsRefused carrier message (fault.NoSuchDate number) = IsReferenceRefused carrier message number ⊎ IsRefusedBySub carrier message (fault.NoSuchDate number)
+IsRefused carrier message (fault.Airline number) = IsRefusedBySub carrier message (fault.Airline number)
+IsRefused carrier message (fault.Period number) = IsRefusedBySub carrier message (fault.Period number)
+
+-- the same against a base, whose carrier record counts
+abbrev pub ResolvesIn : List Record → MessageValue → ResolvedText → Type 0
+ResolvesIn base message text = (frame : Frame) × HasFrame frame base × Resolves frame.carrier message text
+
+abbrev pub IsRefusedIn : List Record → MessageValue → ResolveFault → Type 0
+IsRefusedIn base message fault = (frame : Frame) × HasFrame frame base × IsRefused frame.carrier message fault
+
+-- ---- one outcome
+
+-- what a base and a message determine: the message with full dates, or a refusal that is not for memory
+abbrev pub IsOutcome : List Record → MessageValue → Result ResolvedText ResolveFault → Type 0
+IsOutcome base message (Ok text) = ResolvesIn base message text
+IsOutcome base message (Err fault.Memory) = ⊥
+IsOutcome base message (Err fault.TimeMode) = IsRefusedIn base message fault.TimeMode
+IsOutcome base message (Err (fault.Airline number)) = IsRefusedIn base message (fault.Airline number)
+IsOutcome base message (Err (fault.NoSuchDate number)) = IsRefusedIn base message (fault.NoSuchDate number)
+IsOutcome base message (Err (fault.Period number)) = IsRefusedIn base message (fault.Period number)
+
+-- the same reference and the same sub-messages, or the same refusal
+abbrev pub IsSameOutcome : Result ResolvedText ResolveFault → Result ResolvedText ResolveFault → Type 0
+IsSameOutcome (Ok text) (Ok other) = (text.reference ≡ other.reference) × (text.subs.items ≡ other.subs.items)
+IsSameOutcome (Ok text) (Err fault) = ⊥
+IsSameOutcome (Err fault) (Ok text) = ⊥
+IsSameOutcome (Err fault) (Err other) = fault ≡ other
+
+-- a base and a message have at most one outcome
+abbrev pub HasOneOutcome : Type 0
+HasOneOutcome = (base : List Record) (message : MessageValue) (outcome other : Result ResolvedText ResolveFault)
+    → IsOutcome base message outcome → IsOutcome base message other → IsSameOutcome outcome other
+
+-- ---- the numbers of refusals
+
+abbrev pub resolve_fault_number : ResolveFault → ℕ
+resolve_fault_number fault.Memory = 90
+resolve_fault_number fault.TimeMode = 40
+resolve_fault_number (fault.Airline number) = 41
+resolve_fault_number (fault.NoSuchDate number) = 42
+resolve_fault_number (fault.Period number) = 43

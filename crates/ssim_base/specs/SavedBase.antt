@@ -1,0 +1,66 @@
+-- What the records of a base are, and how they are read again once they are written.
+use Rattle.std.specs.Prelude.{◌≡◌, ◌⊎◌, ℕ, ◌≤◌, List, [], ◌∷◌, ◌++◌, map, length, Option, Some, None, Ok, IsSome}
+use Rattle.std.specs.List.{All, flat_map}
+use Rattle.ssim_records.specs.Record.{IsRecord, written}
+use Rattle.ssim_records.specs.declared.record.Record.{Record}
+use Rattle.ssim_records.specs.declared.record.Record.TheVariants.{Header, Carrier, Leg, Segment, Trailer}
+use Rattle.ssim_base.specs.Base.{Done, Outcome, data_set, notes_of}
+use Rattle.ssim_base.specs.Export.{Frame}
+use Rattle.ssim_base.specs.ReadBack.{HasFrame}
+use Rattle.ssim_base.specs.Reading.{FailedReader, IsReadAs}
+use Rattle.ssim_base.specs.declared.note.Note.{Note}
+use Rattle.ssim_base.specs.declared.saved.SavedFault.{SavedFault}
+use Rattle.ssim_base.specs.declared.saved.SavedFault.TheVariants as fault
+
+-- a record without serial, check reference, rate and overflow; the end of a leg is a date
+abbrev pub IsBare : Record → Type 0
+IsBare (Header r) = r.serial ≡ 0
+IsBare (Carrier r) = r.serial ≡ 0
+IsBare (Leg r) = (r.serial ≡ 0) × (r.rate ≡ 32) × (r.overflow ≡ 32) × IsSome r.last
+IsBare (Segment r) = (r.serial ≡ 0) × (r.overflow ≡ 32)
+IsBare (Trailer r) = (r.serial ≡ 0) × (r.check ≡ 0)
+
+-- The records of a base: a header, a carrier, then legs and segments, then a trailer. Each can be written, and is bare.
+-- As a data set they are read as themselves, whatever their numbers.
+pub record IsBaseRecords (base : List Record) : Type 0 where
+  pub framed : (frame : Frame) × HasFrame frame base
+  pub each_written : All IsRecord base
+  pub each_bare : All IsBare base
+  pub read_again : (number : ℕ) (records : List (ℕ × Record)) → map (λ r. r.1) records ≡ base → data_set (Done number) records ≡ Ok (base, notes_of 0 records)
+
+-- each record as it is written, followed by LF
+abbrev pub saved : List Record → List ℕ
+saved = flat_map (λ r. written r ++ 10 ∷ [])
+
+-- the bytes are the line of a bare record, and this rest
+pub record IsLine (r : Record) (bytes rest : List ℕ) : Type 0 where
+  pub is_record : IsRecord r
+  pub bare : IsBare r
+  pub written_is : bytes ≡ (written r ++ 10 ∷ []) ++ rest
+
+-- the same of the record in a place
+abbrev pub IsLineOf : Option Record → List ℕ → List ℕ → Type 0
+IsLineOf None bytes rest = ⊥
+IsLineOf (Some r) bytes rest = IsLine r bytes rest
+
+-- no more bytes are left than there are
+abbrev pub IsWithin : List ℕ → SavedFault → Type 0
+IsWithin lines fault.Memory = Unit {0}
+IsWithin lines (fault.Invalid left) = left ≤ length lines
+
+-- these records, whatever is noted of them
+abbrev pub IsOfRecords : List Record → Outcome → Type 0
+IsOfRecords base outcome = (notes : List Note) × (outcome ≡ Ok (base, notes))
+
+-- saved records can be read as the same records
+abbrev pub SavedCanBeRead : Type 0
+SavedCanBeRead = (base : List Record) (limit : ℕ) → IsBaseRecords base → length (saved base) ≤ limit → (notes : List Note) × IsReadAs limit (saved base) (Ok (base, notes))
+
+-- and only so, unless the reader fails
+abbrev pub SavedIsRead : Type 0
+SavedIsRead = (base : List Record) (limit : ℕ) (outcome : Outcome) → IsBaseRecords base → length (saved base) ≤ limit → IsReadAs limit (saved base) outcome
+    → IsOfRecords base outcome ⊎ FailedReader outcome
+
+-- the same bytes are of the same records
+abbrev pub SavedIsOne : Type 0
+SavedIsOne = (base other : List Record) → IsBaseRecords base → IsBaseRecords other → saved base ≡ saved other → base ≡ other

@@ -1,0 +1,122 @@
+-- A table of the UTC variations of stations: how its lines are spelled, and which row counts.
+use Rattle.std.specs.Prelude.{◌≡◌, ◌⊎◌, ℕ, ◌≤◌, Bool, false, ◌&&◌, ◌==◌, nat_le, if◌then◌else◌, List, [], ◌∷◌, length, Option, Some, None, Result, Ok, Err, codes, refl}
+use Rattle.std.specs.Str.{bytes_eq}
+use Rattle.ssim_values.specs.Calendar.{day_number, leap_years, months_length}
+use Rattle.ssim_values.specs.Day.{day_of}
+use Rattle.ssim_values.specs.Variation.{Offset, variation_of}
+use Rattle.ssim_text.specs.Bytes.{◌>>=◌, word, behind}
+use Rattle.ssim_text.specs.Left.{lines_left}
+use Rattle.ssim_text.specs.Lines.{station_in, day_in}
+use Rattle.ssim_base.specs.declared.stations.StationFault.{StationFault}
+use Rattle.ssim_base.specs.declared.stations.StationFault.TheVariants.{Memory, Stations}
+
+-- a row: the variation that a station has from a first day to a last
+pub record Row : Type 0 where
+  pub station : List ℕ
+  pub first : ℕ
+  pub last : ℕ
+  pub variation : Offset
+
+-- a sign and HHMM
+abbrev pub variation_in : List ℕ → Option Offset
+variation_in text = if length text == 5 then variation_of text else None
+
+-- the line is a station, a first day, a last day not before it, and a variation, with one or more blanks between them
+pub record SpellsRow (row : Row) (line : List ℕ) : Type 0 where
+  pub station : station_in (word line) ≡ Some row.station
+  pub first : day_in (word (behind line)) ≡ Some row.first
+  pub last : day_in (word (behind (behind line))) ≡ Some row.last
+  pub variation : variation_in (behind (behind (behind line))) ≡ Some row.variation
+  pub ordered : row.first ≤ row.last
+
+-- each of these lines spells its row, in order
+abbrev pub AreRows : List Row → List (ℕ × List ℕ) → Type 0
+AreRows [] [] = Unit {0}
+AreRows [] (line ∷ lines) = ⊥
+AreRows (row ∷ rows) [] = ⊥
+AreRows (row ∷ rows) (line ∷ lines) = SpellsRow row line.1 × AreRows rows lines
+
+-- the bytes are a table of these rows: each line that is left, as lines of messages are, spells one
+abbrev pub SpellsTable : List Row → List ℕ → Type 0
+SpellsTable rows text = AreRows rows (lines_left text)
+
+-- the same bytes are a table of the same rows
+abbrev pub SameBytesSameRows : Type 0
+SameBytesSameRows = (text : List ℕ) (rows others : List Row) → SpellsTable rows text → SpellsTable others text → rows ≡ others
+
+-- the number is that of the first of these lines that spells no row
+abbrev pub IsFirstOther : List (ℕ × List ℕ) → ℕ → Type 0
+IsFirstOther [] n = ⊥
+IsFirstOther (line ∷ lines) n =
+    ((line.0 ≡ n) × ((row : Row) → SpellsRow row line.1 → ⊥)) ⊎ ((row : Row) × SpellsRow row line.1 × IsFirstOther lines n)
+
+-- a refusal names that line; want of memory says nothing of the lines
+abbrev pub NamesLine : List (ℕ × List ℕ) → StationFault → Type 0
+NamesLine lines Memory = Unit {0}
+NamesLine lines (Stations n) = IsFirstOther lines n
+
+-- the answer to a table: these rows, unless memory is refused
+abbrev pub Gives : List Row → Result (List Row) StationFault → Type 0
+Gives rows (Ok answer) = answer ≡ rows
+Gives rows (Err fault) = fault ≡ Memory
+
+-- ---- the row that counts
+
+-- whether a row is of the station and has the day
+abbrev pub covers : Row → List ℕ → ℕ → Bool
+covers row station day = bytes_eq row.station station && (nat_le row.first day && nat_le day row.last)
+
+-- the variation of the first row that covers the station and the day
+abbrev pub variation_at : List Row → List ℕ → ℕ → Option Offset
+variation_at [] station day = None
+variation_at (row ∷ rows) station day = if covers row station day then Some row.variation else variation_at rows station day
+
+-- ---- the same as functions
+
+-- the row that a line spells
+unfoldable pub row_of : List ℕ → Option Row
+row_of line = do
+  station ← station_in (word line)
+  first ← day_in (word (behind line))
+  last ← day_in (word (behind (behind line)))
+  variation ← variation_in (behind (behind (behind line)))
+  if nat_le first last then Some (record { station = station; first = first; last = last; variation = variation }) else None
+
+abbrev pub row_before : Row → Result (List Row) ℕ → Result (List Row) ℕ
+row_before row (Ok rows) = Ok (row ∷ rows)
+row_before row (Err n) = Err n
+
+abbrev pub row_then : ℕ → Option Row → Result (List Row) ℕ → Result (List Row) ℕ
+row_then n None later = Err n
+row_then n (Some row) later = row_before row later
+
+-- the rows of lines, or the number of the first that spells none
+abbrev pub rows_of : List (ℕ × List ℕ) → Result (List Row) ℕ
+rows_of [] = Ok []
+rows_of (line ∷ lines) = row_then line.0 (row_of line.1) (rows_of lines)
+
+-- a refusal at a line, as that function has it; want of memory says nothing
+abbrev pub StopsAs : Result (List Row) ℕ → StationFault → Type 0
+StopsAs read Memory = Unit {0}
+StopsAs read (Stations n) = read ≡ Err n
+
+abbrev pub station_fault_number : StationFault → ℕ
+station_fault_number Memory = 90
+station_fault_number (Stations n) = 39
+
+-- ---- two rows and a line that is none, computed
+
+abbrev row_from : ℕ → ℕ → ℕ → List ℕ → Row
+row_from minutes first last station = record { station = station; first = first; last = last; variation = record { negative = false; minutes = minutes } }
+
+zurich_summer : row_of (codes "ZRH 30MAR25 25OCT25 +0200") ≡ Some (row_from 120 9220 9429 (codes "ZRH"))
+unfolding row_of day_of day_number leap_years months_length variation_of
+zurich_summer = refl
+
+london_winter : row_of (codes "LHR  26OCT25 28MAR26   +0000") ≡ Some (row_from 0 9430 9583 (codes "LHR"))
+unfolding row_of day_of day_number leap_years months_length variation_of
+london_winter = refl
+
+ends_first : row_of (codes "ZRH 30MAR25 29MAR25 +0200") ≡ None
+unfolding row_of day_of day_number leap_years months_length variation_of
+ends_first = refl

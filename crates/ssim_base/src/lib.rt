@@ -1,0 +1,54 @@
+//! The base of a desk: a data set as it was read, with a table of stations, and messages resolved against it.
+//!
+//! - [`Stations`]: which UTC variation a station has on a day, read from a table of [`StationRow`]s. [`variation_at`] looks it up in rows.
+//! - [`Base`]: a data set as it was read, record by record, with a station table; or a [`BaseFault`], which names the first invalid
+//!   record. What is unusual but not refused is a [`Note`].
+//! - [`DataSet`]: the records of a base in pieces, which can be freed one after another. [`RecordsLeft`] reads them in order.
+//! - [`read_saved`]: the data set whose records the next lines of a file are, or a [`SavedFault`].
+//! - [`Summary`]: how many records and flights a data set has, and its notes. It is read as a base is, but no record is kept.
+//! - [`BaseFrame`]: the header, the carrier record and the trailer of a base. Messages resolve by it, and a timetable is exported in it.
+//! - [`resolve`] and `BaseFrame::resolve`: resolve a message against a base: its reference with its year, its sub-messages with full
+//!   dates, or a [`ResolveFault`].
+//! - [`Block`]: bytes for a sink, filled by [`put_record`] and [`put_bytes`] and emptied by [`flush`], or [`WriteFault`].
+//! - [`laws`]: a base and its export read back; saved records read back; a message has one outcome.
+//!
+//! The promise: a data set, a station table and a message's dates are read exactly, however a reader cuts the bytes, and the first
+//! invalid record, line or date is the one that is named.
+#![tactic(auto)]
+
+mod base;
+mod base_frame;
+mod block;
+mod data_set;
+mod day_set;
+mod fault;
+mod flight_legs;
+mod gathering;
+mod kept;
+mod kept_records;
+pub mod laws;
+mod leg_sequence;
+mod leg_table;
+mod note;
+mod reading;
+mod record_pieces;
+mod records_left;
+mod resolved;
+mod resolving;
+mod saved;
+mod stations;
+mod summary;
+mod used_dates;
+
+pub use base::{Base, BaseRead};
+pub use base_frame::BaseFrame;
+pub use block::{Block, WriteFault, flush, put_bytes, put_fill, put_leg, put_record, put_segment};
+pub use data_set::DataSet;
+pub use fault::{BaseFault, BaseRefusal};
+pub use note::Note;
+pub use records_left::RecordsLeft;
+pub use resolved::{Resolved, ResolvedSub};
+pub use resolving::{ResolveFault, ResolvedText, resolve};
+pub use saved::{SavedFault, read_saved};
+pub use stations::{StationFault, StationRow, Stations, variation_at};
+pub use summary::Summary;

@@ -1,0 +1,60 @@
+//! What a data set has, without its records.
+
+ghost use Rattle.std.specs.Prelude.{◌≡◌, ℕ, List, Option, IfOk, IfErr};
+ghost use Rattle.ssim_base.specs.Reading.{Came, FailsAfter, FailsAs, NeverEnds};
+ghost use Rattle.ssim_base.specs.Summary.{Sums};
+
+use crate::fault::BaseFault;
+use crate::gathering::Gathering;
+use crate::kept_records::KeptRecords;
+use crate::note::Note;
+use crate::reading::gather;
+use ssim_records::Source;
+use std::alloc::Global;
+
+/// What a data set has. Its records are read and checked as `Base::read` does, and none is kept.
+#[derive(Drop)]
+pub struct Summary {
+    /// The number of the records other than fill.
+    pub records: usize,
+    /// The number of the flights of the leg records.
+    pub flights: usize,
+    /// In the order of their records. At one record the note on the serial is first.
+    pub notes: Vec<Note>,
+}
+
+impl Summary {
+    ghost use Rattle.ssim_base.specs.Gathering.{HasRead, IsWhole};
+
+    /// Reads a data set, record by record. At most `limit` bytes and one more are fetched. The refusals are those of `Base::read`.
+    pub fn read<R: Source>(alloc: Global, reader: &mut R, limit: u64) -> Result<Summary, BaseFault>
+        ensures sums { Sums limit (R.left reader.old) result }
+        ensures no_failure { IfOk result (λ _. R.failures reader.new ≡ R.failures reader.old) }
+        ensures failure { IfErr result (λ e. FailsAs (R.failures reader.old) (R.failures reader.new) e) }
+        ensures fails_after { IfErr result (λ e. FailsAfter (R.left reader.old) (R.left reader.new) e) }
+        ensures never_ends { IfErr result (λ e. NeverEnds limit (Came (R.left reader.old) (R.left reader.new) (R.came reader.old) (R.came reader.new)) e) }
+    {
+        let (gathering, number) = gather(alloc, KeptRecords::Count(0), reader, limit)?;
+        Summary::finish(gathering, number)
+    }
+
+    // The summary of the records that were gathered, if none is missing after them.
+    fn finish(gathering: Gathering, number: u64) -> Result<Summary, BaseFault>
+        requires { IsWhole gathering }
+        ensures sums { (limit : ℕ) (told : Option (List ℕ)) → HasRead limit told gathering number → Sums limit told result }
+        ensures failure { (n : ℕ) → IfErr result (λ e. FailsAs n n e) }
+        ensures fails_after { (all left : Option (List ℕ)) → IfErr result (λ e. FailsAfter all left e) }
+        ensures never_ends { (limit old new : ℕ) (left others : Option (List ℕ)) → IfErr result (λ e. NeverEnds limit (Came left others old new) e) }
+    {
+        let Gathering { kept, notes, .. } = gathering;
+        if let Some(refusal) = kept.missing() {
+            return Err(BaseFault::Refused(number, refusal));
+        }
+        let flights = kept.legs.flights()?;
+        Ok(Summary {
+            records: kept.records.len(),
+            flights: flights.len(),
+            notes,
+        })
+    }
+}

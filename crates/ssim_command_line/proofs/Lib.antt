@@ -1,0 +1,5 @@
+pub mod Words
+pub mod Levels
+pub mod Right
+pub mod Lines
+pub mod Rows

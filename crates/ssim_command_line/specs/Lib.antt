@@ -1,0 +1,4 @@
+pub mod Line
+pub mod Commands
+pub mod Request
+pub mod Usage

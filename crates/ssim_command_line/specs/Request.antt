@@ -1,0 +1,51 @@
+-- The command line that the matches of a subcommand name.
+use Rattle.std.specs.Prelude.{List, Option, None, map, option_and_then, option_map, if◌then◌else◌, codes}
+use Rattle.std.specs.Str.{bytes_eq}
+use Rattle.clap.specs.Words.{Row, all_of, first_of}
+use Rattle.ssim_command_line.specs.Line.{Line, Text, Check, Tidy, Start, Take, Merge, Show, Findings, Export, Rehearse, Explain}
+use Rattle.ssim_command_line.specs.declared.command_line.Request.{Request}
+use Rattle.ssim_command_line.specs.declared.command_line.Request.TheVariants as request
+
+abbrev pub line_of : Request → Line
+line_of (request.Check dataset) = Check dataset.now
+line_of (request.Tidy dataset) = Tidy dataset.now
+line_of (request.Start dataset stations out) = Start dataset.now stations.now out.now
+line_of (request.Take desk out texts) = Take desk.now out.now (map (λ t. t.now) texts.items)
+line_of (request.Merge desk other out) = Merge desk.now other.now out.now
+line_of (request.Show desk flight date) = Show desk.now flight.now date.now
+line_of (request.Findings desk) = Findings desk.now
+line_of (request.Export desk) = Export desk.now
+line_of (request.Rehearse dataset stations script) = Rehearse dataset.now stations.now script.now
+line_of (request.Explain word) = Explain word.now
+
+-- ---- the values of a subcommand, by the ids of its arguments
+
+abbrev pub two_of : List Row → Option (Text × Text)
+two_of rows = option_and_then (λ a. option_map (λ b. (a, b)) (first_of (codes "second") rows)) (first_of (codes "first") rows)
+
+abbrev pub three_of : List Row → Option (Text × Text × Text)
+three_of rows = option_and_then (λ p. option_map (λ c. (p.0, p.1, c)) (first_of (codes "third") rows)) (two_of rows)
+
+abbrev pub with_one : (Text → Line) → List Row → Option Line
+with_one make rows = option_map make (first_of (codes "first") rows)
+
+abbrev pub with_three : (Text → Text → Text → Line) → List Row → Option Line
+with_three make rows = option_map (λ p. make p.0 p.1 p.2) (three_of rows)
+
+abbrev pub with_texts : List Row → Option Line
+with_texts rows = option_and_then (λ p. option_map (Take p.0 p.1) (all_of (codes "texts") rows)) (two_of rows)
+
+-- what a subcommand's name and matches name, if they name a command with its values
+abbrev pub line_at : Text → List Row → Option Line
+line_at name rows =
+    if bytes_eq name (codes "check") then with_one Check rows
+    else (if bytes_eq name (codes "tidy") then with_one Tidy rows
+    else (if bytes_eq name (codes "start") then with_three Start rows
+    else (if bytes_eq name (codes "take") then with_texts rows
+    else (if bytes_eq name (codes "merge") then with_three Merge rows
+    else (if bytes_eq name (codes "show") then with_three Show rows
+    else (if bytes_eq name (codes "findings") then with_one Findings rows
+    else (if bytes_eq name (codes "export") then with_one Export rows
+    else (if bytes_eq name (codes "rehearse") then with_three Rehearse rows
+    else (if bytes_eq name (codes "explain") then with_one Explain rows
+    else None)))))))))

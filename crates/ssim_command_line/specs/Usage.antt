@@ -1,0 +1,46 @@
+-- Which words are a command, and which are wrong: by what `clap` finds in them.
+use Rattle.std.specs.Prelude.{◌≡◌, Bool, true, false, List, [], Some, ⊤}
+use Rattle.clap.specs.Faults.{fault_of}
+use Rattle.clap.specs.Kinds.{IsAmong}
+use Rattle.clap.specs.Simple.{subcommand_of}
+use Rattle.clap.specs.Values.{kind_of}
+use Rattle.clap.specs.Walk.{Row}
+use Rattle.clap.specs.declared.error.kind.ErrorKind.{ErrorKind}
+use Rattle.clap.specs.declared.error.kind.ErrorKind.TheVariants as kind
+use Rattle.ssim_command_line.specs.Commands.{whole_program}
+use Rattle.ssim_command_line.specs.Line.{Line, Text}
+use Rattle.ssim_command_line.specs.Request.{line_at}
+use Rattle.ssim_command_line.specs.declared.command_line.LineFault.{LineFault}
+use Rattle.ssim_command_line.specs.declared.command_line.LineFault.TheVariants as fault
+
+-- the words name this command: nothing is wrong with them, and the subcommand that they enter has these values
+pub record Names (words : List Text) (line : Line) : Type 0 where
+  pub right : fault_of whole_program words ≡ []
+  pub name : Text
+  pub rows : List Row
+  pub entered : subcommand_of whole_program words ≡ Some (name, rows)
+  pub read : line_at name rows ≡ Some line
+
+-- they name a command
+abbrev pub IsCommand : List Text → Type 0
+IsCommand words = (line : Line) × Names words line
+
+-- nothing is wrong with them, and still they name none
+abbrev pub IsNoCommand : List Text → Type 0
+IsNoCommand words = (fault_of whole_program words ≡ []) × ((line : Line) → Names words line → ⊥)
+
+-- whether it is help that is asked for
+abbrev pub is_help : ErrorKind → Bool
+is_help kind.DisplayHelp = true
+is_help kind.DisplayVersion = true
+is_help _ = false
+
+-- the words ask for help, or are wrong
+abbrev pub HasFault : List Text → Bool → Type 0
+HasFault words help = (k : ErrorKind) × IsAmong k (fault_of whole_program words) × (is_help k ≡ help)
+
+-- the fault of the command line is one of these words
+abbrev pub IsFaultOf : List Text → LineFault → Type 0
+IsFaultOf words fault.Memory = ⊤
+IsFaultOf words (fault.Shown error) = IsAmong (kind_of error) (fault_of whole_program words)
+IsFaultOf words fault.NoCommand = IsNoCommand words

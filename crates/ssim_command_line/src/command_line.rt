@@ -1,0 +1,171 @@
+//! The command that the words name.
+ghost use Rattle.std.specs.Prelude.{◌≡◌, IfErr, IfOk, MatchResult, Option, codes, map, option_map};
+ghost use Rattle.clap.specs.Words.{all_of, app_of, first_of, found_of, rows_of};
+ghost use Rattle.ssim_command_line.specs.Commands.{whole_program};
+ghost use Rattle.ssim_command_line.specs.Line.{Line, Spells};
+ghost use Rattle.ssim_command_line.specs.Request.{line_at, line_of, three_of, two_of, with_texts};
+ghost use Rattle.ssim_command_line.specs.Usage.{IsFaultOf, Names};
+
+use crate::commands::command;
+use clap::error::ErrorKind;
+use clap::{ArgMatches, Error};
+use std::alloc::{AllocError, Global};
+
+/// A command with its values: names of files, but for the flight and the date of `Show` and the word of `Explain`.
+#[derive(Debug, Drop)]
+pub enum Request<'a> {
+    /// Print the notes on a data set and a summary.
+    Check(&'a str),
+    /// Export a data set.
+    Tidy(&'a str),
+    /// Write the desk file of a data set and a station table.
+    Start(&'a str, &'a str, &'a str),
+    /// Take texts at a desk, and write its desk file: DESK, OUT and the texts.
+    Take(&'a str, &'a str, Vec<&'a str>),
+    /// Merge two desks, and write the desk file.
+    Merge(&'a str, &'a str, &'a str),
+    /// Print a flight of a desk on a date.
+    Show(&'a str, &'a str, &'a str),
+    /// Print what the sub-messages of a desk found.
+    Findings(&'a str),
+    /// Export a desk.
+    Export(&'a str),
+    /// Run a script on desks.
+    Rehearse(&'a str, &'a str, &'a str),
+    /// Explain the refusals of a number, or what is invalid in a file.
+    Explain(&'a str),
+}
+
+/// Why the words make no request. It has no number of its own: the program prints 90, or what is wrong with the words.
+#[derive(Debug, Drop)]
+pub enum LineFault {
+    /// Memory ran out: refusal 90, status 1.
+    Memory,
+    /// What `clap` has to say: help, status 0; or what is wrong with the words, status 2.
+    Shown(Error),
+    /// The words name no command: status 2.
+    NoCommand,
+}
+
+#[tactic(auto, using(crate::proofs::Rows::first_rows))]
+fn value_at<'a>(inner: &ArgMatches<'a>, id: &str) -> Option<&'a str>
+    ensures { option_map (λ s. s.now) result ≡ first_of id.now (rows_of (found_of inner.now)) }
+{
+    inner.get_str(id)
+}
+
+#[tactic(auto, using(crate::proofs::Rows::all_rows))]
+fn texts_at<'m, 'a>(inner: &'m ArgMatches<'a>) -> Option<&'m [&'a str]>
+    ensures { option_map (λ s. map (λ v. v.now) s.now) result ≡ all_of (codes "texts") (rows_of (found_of inner.now)) }
+{
+    inner.get_raw("texts")
+}
+
+fn one<'a>(inner: &ArgMatches<'a>) -> Option<&'a str>
+    ensures { option_map (λ s. s.now) result ≡ first_of (codes "first") (rows_of (found_of inner.now)) }
+{
+    value_at(inner, "first")
+}
+
+fn two<'a>(inner: &ArgMatches<'a>) -> Option<(&'a str, &'a str)>
+    ensures { option_map (λ p. (p.0.now, p.1.now)) result ≡ two_of (rows_of (found_of inner.now)) }
+{
+    let first = value_at(inner, "first")?;
+    let second = value_at(inner, "second")?;
+    Some((first, second))
+}
+
+fn three<'a>(inner: &ArgMatches<'a>) -> Option<(&'a str, &'a str, &'a str)>
+    ensures { option_map (λ p. (p.0.now, p.1.now, p.2.now)) result ≡ three_of (rows_of (found_of inner.now)) }
+{
+    let (first, second) = two(inner)?;
+    let third = value_at(inner, "third")?;
+    Some((first, second, third))
+}
+
+/// The request that the matches of `take` make.
+fn taking<'a>(alloc: Global, inner: &ArgMatches<'a>) -> Result<Option<Request<'a>>, AllocError>
+    ensures { IfOk result (λ r. option_map line_of r ≡ with_texts (rows_of (found_of inner.now))) }
+{
+    let Some((desk, out)) = two(inner) else {
+        return Ok(None);
+    };
+    let Some(texts) = texts_at(inner) else {
+        return Ok(None);
+    };
+    Ok(Some(Request::Take(desk, out, texts.to_vec(alloc)?)))
+}
+
+/// The request that a subcommand's matches make.
+fn read<'a>(
+    alloc: Global,
+    name: &str,
+    inner: &ArgMatches<'a>,
+) -> Result<Option<Request<'a>>, AllocError>
+    ensures { IfOk result (λ r. option_map line_of r ≡ line_at name.now (rows_of (found_of inner.now))) }
+{
+    if name == "check" {
+        return Ok(one(inner).map(Request::Check));
+    }
+    if name == "tidy" {
+        return Ok(one(inner).map(Request::Tidy));
+    }
+    if name == "start" {
+        return Ok(three(inner).map(|(a, b, c)| Request::Start(a, b, c)));
+    }
+    if name == "take" {
+        return taking(alloc, inner);
+    }
+    if name == "merge" {
+        return Ok(three(inner).map(|(a, b, c)| Request::Merge(a, b, c)));
+    }
+    if name == "show" {
+        return Ok(three(inner).map(|(a, b, c)| Request::Show(a, b, c)));
+    }
+    if name == "findings" {
+        return Ok(one(inner).map(Request::Findings));
+    }
+    if name == "export" {
+        return Ok(one(inner).map(Request::Export));
+    }
+    if name == "rehearse" {
+        return Ok(three(inner).map(|(a, b, c)| Request::Rehearse(a, b, c)));
+    }
+    if name == "explain" {
+        return Ok(one(inner).map(Request::Explain));
+    }
+    Ok(None)
+}
+
+/// The request that the words make, the first of which is the program's name.
+///
+/// A command's name and as many plain values as it takes are that command with these values; only memory can be missing.
+pub fn parse<'a>(alloc: Global, words: &'a [&'a str]) -> Result<Request<'a>, LineFault>
+    ensures spelled { (line : Line) → Spells (map (λ w. w.now) words.entry.now) line
+        → MatchResult result (λ r. line_of r ≡ line) (λ e. e ≡ LineFault.Memory) }
+
+    // Nothing is wrong with the words of a request, and a fault is one of the words.
+    ensures named { IfOk result (λ r. Names (map (λ w. w.now) words.entry.now) (line_of r)) }
+    ensures fault { IfErr result (IsFaultOf (map (λ w. w.now) words.entry.now)) }
+{
+    let Ok(program) = command(alloc) else {
+        return Err(LineFault::Memory);
+    };
+    let matches = match program.try_get_matches_from(words) {
+        Ok(matches) => matches,
+        Err(error) => {
+            if error.kind() == ErrorKind::OutOfMemory {
+                return Err(LineFault::Memory);
+            }
+            return Err(LineFault::Shown(error));
+        }
+    };
+    let Some((name, inner)) = matches.subcommand() else {
+        return Err(LineFault::NoCommand);
+    };
+    match read(alloc, name, inner) {
+        Ok(Some(request)) => Ok(request),
+        Ok(None) => Err(LineFault::NoCommand),
+        Err(_) => Err(LineFault::Memory),
+    }
+}

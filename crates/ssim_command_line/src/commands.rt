@@ -1,0 +1,156 @@
+//! The commands as `clap` sees them.
+ghost use Rattle.std.specs.Prelude.{◌≡◌, IfOk, codes, false};
+ghost use Rattle.clap.specs.Words.{app_of, rule_of};
+ghost use Rattle.ssim_command_line.specs.Commands.{IsLeaf, add_all, explanations, leaf, needed, of_desks, on_data_sets, on_desks, one_value, rehearsals, several_texts, three_values, two_values_and_texts, whole_program};
+
+use crate::help;
+use clap::{Arg, ArgAction, Command};
+use std::alloc::{AllocError, Global};
+
+/// The version that `--version` prints.
+const VERSION: &str = "1.0.0";
+
+/// A value that has to be there. `clap` knows it by `id`, and help shows it as `shown`.
+fn value<'a>(alloc: Global, id: &'a str, shown: &'a str) -> Arg<'a>
+    ensures rule { rule_of result ≡ needed id.entry.now }
+    ensures local { result.global ≡ false }
+{
+    Arg::new(alloc, id)
+        .value_name(shown)
+        .help(help::about_value(shown))
+        .required(true)
+}
+
+/// One or more texts.
+fn texts<'a>(alloc: Global) -> Arg<'a>
+    ensures rule { rule_of result ≡ several_texts }
+    ensures local { result.global ≡ false }
+{
+    Arg::new(alloc, "texts")
+        .value_name("TEXT")
+        .help(help::about_value("TEXT"))
+        .required(true)
+        .action(ArgAction::Append)
+}
+
+/// A command with one value.
+fn with_one<'a>(
+    alloc: Global,
+    name: &'a str,
+    about: &'a str,
+    example: &'a str,
+    first: &'a str,
+) -> Result<Command<'a>, AllocError>
+    ensures { IfOk result (IsLeaf (leaf name.entry.now one_value)) }
+{
+    let command = Command::new(alloc, name).about(about).after_help(example);
+    command.arg(value(alloc, "first", first))
+}
+
+/// A command with three values.
+fn with_three<'a>(
+    alloc: Global,
+    name: &'a str,
+    about: &'a str,
+    example: &'a str,
+    shown: [&'a str; 3],
+) -> Result<Command<'a>, AllocError>
+    ensures { IfOk result (IsLeaf (leaf name.entry.now three_values)) }
+{
+    let [first, second, third] = shown;
+    let command = Command::new(alloc, name).about(about).after_help(example);
+    let command = command.arg(value(alloc, "first", first))?;
+    let command = command.arg(value(alloc, "second", second))?;
+    command.arg(value(alloc, "third", third))
+}
+
+/// The command `take`, with two values and one or more texts.
+fn take<'a>(alloc: Global) -> Result<Command<'a>, AllocError>
+    ensures { IfOk result (IsLeaf (leaf (codes "take") two_values_and_texts)) }
+{
+    let command = Command::new(alloc, "take")
+        .about(help::TAKE)
+        .after_help(help::TAKE_EXAMPLE);
+    let command = command.arg(value(alloc, "first", "DESK"))?;
+    let command = command.arg(value(alloc, "second", "OUT"))?;
+    command.arg(texts(alloc))
+}
+
+/// The commands on data sets.
+fn with_data_sets<'a>(alloc: Global, program: Command<'a>) -> Result<Command<'a>, AllocError>
+    ensures { IfOk result (λ c. app_of c ≡ add_all (app_of program.entry) on_data_sets) }
+{
+    let check = with_one(alloc, "check", help::CHECK, help::CHECK_EXAMPLE, "DATASET")?;
+    let tidy = with_one(alloc, "tidy", help::TIDY, help::TIDY_EXAMPLE, "DATASET")?;
+    let shown = ["DATASET", "STATIONS", "OUT"];
+    let start = with_three(alloc, "start", help::START, help::START_EXAMPLE, shown)?;
+    program
+        .subcommand(check)?
+        .subcommand(tidy)?
+        .subcommand(start)
+}
+
+/// The commands that change a desk.
+fn with_desks<'a>(alloc: Global, program: Command<'a>) -> Result<Command<'a>, AllocError>
+    ensures { IfOk result (λ c. app_of c ≡ add_all (app_of program.entry) on_desks) }
+{
+    let take = take(alloc)?;
+    let shown = ["DESK", "OTHER", "OUT"];
+    let merge = with_three(alloc, "merge", help::MERGE, help::MERGE_EXAMPLE, shown)?;
+    program.subcommand(take)?.subcommand(merge)
+}
+
+/// The commands that print what a desk has.
+fn with_prints<'a>(alloc: Global, program: Command<'a>) -> Result<Command<'a>, AllocError>
+    ensures { IfOk result (λ c. app_of c ≡ add_all (app_of program.entry) of_desks) }
+{
+    let shown = ["DESK", "FLIGHT", "DATE"];
+    let show = with_three(alloc, "show", help::SHOW, help::SHOW_EXAMPLE, shown)?;
+    let findings = with_one(
+        alloc,
+        "findings",
+        help::FINDINGS,
+        help::FINDINGS_EXAMPLE,
+        "DESK",
+    )?;
+    let export = with_one(alloc, "export", help::EXPORT, help::EXPORT_EXAMPLE, "DESK")?;
+    program
+        .subcommand(show)?
+        .subcommand(findings)?
+        .subcommand(export)
+}
+
+/// The rehearsal.
+fn with_rehearsal<'a>(alloc: Global, program: Command<'a>) -> Result<Command<'a>, AllocError>
+    ensures { IfOk result (λ c. app_of c ≡ add_all (app_of program.entry) rehearsals) }
+{
+    let shown = ["DATASET", "STATIONS", "SCRIPT"];
+    let about = help::REHEARSE;
+    let rehearse = with_three(alloc, "rehearse", about, help::REHEARSE_EXAMPLE, shown)?;
+    program.subcommand(rehearse)
+}
+
+/// The command that explains refusals.
+fn with_explanations<'a>(alloc: Global, program: Command<'a>) -> Result<Command<'a>, AllocError>
+    ensures { IfOk result (λ c. app_of c ≡ add_all (app_of program.entry) explanations) }
+{
+    let about = help::EXPLAIN;
+    let explain = with_one(alloc, "explain", about, help::EXPLAIN_EXAMPLE, "WORD")?;
+    program.subcommand(explain)
+}
+
+/// The program with its commands.
+pub fn command<'a>(alloc: Global) -> Result<Command<'a>, AllocError>
+    ensures { IfOk result (λ c. app_of c ≡ whole_program) }
+{
+    let program = Command::new(alloc, "ssimdesk")
+        .version(VERSION)
+        .about(help::ABOUT)
+        .after_help(help::EXAMPLES)
+        .subcommand_required(true);
+    let program = with_data_sets(alloc, program)?;
+    let program = with_desks(alloc, program)?;
+    let program = with_prints(alloc, program)?;
+    let program = with_rehearsal(alloc, program)?;
+    with_explanations(alloc, program)
+}

@@ -1,0 +1,13 @@
+//! The command line: which command the words name, help, and what is wrong with the words.
+//!
+//! - [`parse`]: the [`Request`] that the words name, or a [`LineFault`].
+//!
+//! **Promise.** The words of a command are no fault of the command line: only memory can be missing. Nothing is wrong with the words of a
+//! request, and a fault is one of the words.
+#![tactic(auto)]
+
+mod command_line;
+mod commands;
+mod help;
+
+pub use command_line::{LineFault, Request, parse};

@@ -1,8 +1,0 @@
--- The frame is that of the records.
-use Rattle.std.proofs.Common.{subst}
-use Rattle.ssim_schedule.specs.BaseSeen.{BaseSeen}
-use Rattle.ssim_schedule.specs.ReadBack.{HasFrame}
-use Rattle.ssim_schedule.proofs.base.Base.frame.Goals as goal
-
-pub returns : goal.returns
-returns c = subst (λ (b : BaseSeen). HasFrame c.self.inside.frame b.records) c.self.view_is c.self.invariant.2

@@ -1,9 +1,0 @@
--- The airline is that of the carrier record.
-use Rattle.std.proofs.Common.{sym, ap, ◌∙◌}
-use Rattle.ssim_schedule.specs.Export.{Frame}
-use Rattle.ssim_schedule.proofs.FrameLemmas.{airline-is}
-use Rattle.ssim_schedule.proofs.base_frame.BaseFrame.airline.Goals as goal
-
-pub returns : goal.returns
-returns c = λ records has.
-    c.airline.ensures ∙ ap (λ (f : Frame). f.carrier.airline) c.self.view_is ∙ sym (airline-is c.args.self.now records has)

@@ -1,5 +1,0 @@
-use Rattle.ssim_schedule.proofs.Bases.{bases_export}
-use Rattle.ssim_schedule.proofs.laws.bases_can_be_exported.Goals as goal
-
-pub returns : goal.returns
-returns c = bases_export

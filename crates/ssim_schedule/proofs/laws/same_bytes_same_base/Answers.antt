@@ -1,6 +1,0 @@
-use Rattle.ssim_schedule.proofs.ReadOnce.{read_once}
-use Rattle.ssim_schedule.proofs.SameBytes.{same_bytes_same_base}
-use Rattle.ssim_schedule.proofs.laws.same_bytes_same_base.Goals as goal
-
-pub returns : goal.returns
-returns c = same_bytes_same_base (read_once c.frames_are_one.ensures.one)

@@ -1,5 +1,0 @@
-use Rattle.ssim_schedule.proofs.SameBytes.{same_bytes_same_rows}
-use Rattle.ssim_schedule.proofs.laws.same_bytes_same_rows.Goals as goal
-
-pub returns : goal.returns
-returns c = same_bytes_same_rows

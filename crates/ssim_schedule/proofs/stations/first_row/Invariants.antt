@@ -1,7 +1,0 @@
--- No row so far covers the station and the day.
-use Rattle.std.proofs.Common.{◌≡◌, drop}
-use Rattle.ssim_schedule.specs.Stations.{variation_at}
-use Rattle.ssim_schedule.proofs.stations.first_row.Given as goal
-
-abbrev pub invariant-loop-row : goal.invariant-loop-row
-invariant-loop-row l = variation_at (drop l.row-index l.rows) l.station l.day ≡ variation_at l.rows l.station l.day
