@@ -1,11 +1,16 @@
--- The names of faults, and the texts as which they are displayed.
-use Rattle.std.specs.Prelude.{ℕ, List, ◌++◌, codes}
-use Rattle.std.specs.Fmt.{decimal}
-use Rattle.ssim_records.specs.Record.{fault_name, fault_text}
+-- The names of faults, and what they name.
+use Rattle.std.specs.Prelude.{ℕ, List, codes}
+use Rattle.ssim_records.specs.Record.{fault_name}
+use Rattle.ssim_records.specs.declared.fault.RecordFault.{RecordFault}
+use Rattle.ssim_records.specs.declared.fault.RecordFault.TheVariants as record_fault
+use Rattle.ssim_text.specs.declared.fault.TextFault.{TextFault}
+use Rattle.ssim_text.specs.declared.fault.TextFault.TheVariants as text_fault
 use Rattle.ssim_base.specs.declared.fault.BaseFault.{BaseFault}
 use Rattle.ssim_base.specs.declared.fault.BaseFault.TheVariants as base
 use Rattle.ssim_base.specs.declared.fault.BaseRefusal.{BaseRefusal}
 use Rattle.ssim_base.specs.declared.fault.BaseRefusal.TheVariants as refused
+use Rattle.ssim_base.specs.declared.place.Place.{Place}
+use Rattle.ssim_base.specs.declared.place.Place.TheVariants.{Nowhere, Record, Column, Line, SubMessage}
 use Rattle.ssim_base.specs.declared.resolving.ResolveFault.{ResolveFault}
 use Rattle.ssim_base.specs.declared.resolving.ResolveFault.TheVariants as resolve
 use Rattle.ssim_base.specs.declared.stations.StationFault.{StationFault}
@@ -24,29 +29,14 @@ refusal_name refused.Overflow = codes "Overflow"
 refusal_name refused.Frequency = codes "Frequency"
 refusal_name refused.Continuation = codes "Continuation"
 
--- name and record, and the column of an open end
-abbrev pub refusal_text : ℕ → BaseRefusal → List ℕ
-refusal_text n refused.OpenEnd = codes "BadColumn record " ++ decimal n ++ codes " column 22"
-refusal_text n refusal = refusal_name refusal ++ codes " record " ++ decimal n
-
 abbrev pub base_fault_name : BaseFault → List ℕ
 base_fault_name base.Memory = codes "Memory"
 base_fault_name (base.Read fault) = fault_name fault
 base_fault_name (base.Refused n refusal) = refusal_name refusal
 
-abbrev pub base_fault_text : BaseFault → List ℕ
-base_fault_text base.Memory = codes "Memory"
-base_fault_text (base.Read fault) = fault_text fault
-base_fault_text (base.Refused n refusal) = refusal_text n refusal
-
 abbrev pub station_fault_name : StationFault → List ℕ
 station_fault_name stations.Memory = codes "Memory"
 station_fault_name (stations.Stations n) = codes "Stations"
-
--- name and line
-abbrev pub station_fault_text : StationFault → List ℕ
-station_fault_text stations.Memory = codes "Memory"
-station_fault_text (stations.Stations n) = codes "Stations line " ++ decimal n
 
 abbrev pub resolve_fault_name : ResolveFault → List ℕ
 resolve_fault_name resolve.Memory = codes "Memory"
@@ -55,10 +45,34 @@ resolve_fault_name (resolve.Airline n) = codes "Airline"
 resolve_fault_name (resolve.NoSuchDate n) = codes "NoSuchDate"
 resolve_fault_name (resolve.Period n) = codes "Period"
 
--- name and sub-message, which is 0 for the message as a whole
-abbrev pub resolve_fault_text : ResolveFault → List ℕ
-resolve_fault_text resolve.Memory = codes "Memory"
-resolve_fault_text resolve.TimeMode = codes "TimeMode sub 0"
-resolve_fault_text (resolve.Airline n) = codes "Airline sub " ++ decimal n
-resolve_fault_text (resolve.NoSuchDate n) = codes "NoSuchDate sub " ++ decimal n
-resolve_fault_text (resolve.Period n) = codes "Period sub " ++ decimal n
+-- ---- what a fault names: nothing if memory ran out
+
+abbrev pub record_fault_place : RecordFault → Place
+record_fault_place (record_fault.Short n) = Record n
+record_fault_place (record_fault.BadType n) = Record n
+record_fault_place (record_fault.BadColumn n column) = Column n column
+record_fault_place (record_fault.ReadFault n) = Record n
+record_fault_place (record_fault.ReaderNeverEnds n) = Record n
+
+abbrev pub text_fault_place : TextFault → Place
+text_fault_place text_fault.Memory = Nowhere
+text_fault_place (text_fault.Refused fault line) = Line line
+
+-- an open end is the field at column 22
+abbrev pub base_fault_place : BaseFault → Place
+base_fault_place base.Memory = Nowhere
+base_fault_place (base.Read fault) = record_fault_place fault
+base_fault_place (base.Refused n refused.OpenEnd) = Column n 22
+base_fault_place (base.Refused n refusal) = Record n
+
+abbrev pub station_fault_place : StationFault → Place
+station_fault_place stations.Memory = Nowhere
+station_fault_place (stations.Stations n) = Line n
+
+-- the time mode is that of the message as a whole
+abbrev pub resolve_fault_place : ResolveFault → Place
+resolve_fault_place resolve.Memory = Nowhere
+resolve_fault_place resolve.TimeMode = SubMessage 0
+resolve_fault_place (resolve.Airline n) = SubMessage n
+resolve_fault_place (resolve.NoSuchDate n) = SubMessage n
+resolve_fault_place (resolve.Period n) = SubMessage n

@@ -11,9 +11,8 @@ ghost use Rattle.ssim_base.specs.Export.{line};
 ghost use Rattle.ssim_base.specs.Sinks.{CountsFault, TakesFront, TakesUpTo};
 
 use ssim_records::{LegColumns, NameText, PeriodText, Record, SegmentTail, Sink, write_over};
-use std::error::Error;
-use std::fmt;
 use std::marker::Model;
+use thiserror::Error;
 
 /// The size of a block: 320 lines.
 const ROOM: usize = 64_320;
@@ -21,31 +20,29 @@ const ROOM: usize = 64_320;
 /// A record of fill.
 const FILL: [u8; 200] = [b'0'; 200];
 
-/// 52: the sink failed, or took none of the bytes it was given. It has taken a prefix of what was to be written. It is displayed as
-/// its name.
-#[derive(Clone, Copy, Debug, PartialEq, Eq)]
+/// 52: the sink failed, or took none of the bytes it was given. It has taken a prefix of what was
+/// to be written.
+#[derive(Clone, Copy, Debug, Error, PartialEq, Eq)]
+#[error("the sink failed, or took no byte")]
 pub struct WriteFault;
 
 impl WriteFault {
+    ghost use Rattle.std.specs.Prelude.{codes};
+
     /// The number of the fault.
     pub fn number(self) -> u8
         ensures { result ≡ 52 }
     {
         52
     }
-}
 
-impl fmt::Display for WriteFault {
-    ghost use Rattle.std.specs.Prelude.{Some, codes};
-
-    ghost output = { λ _. Some (codes "WriteFault") };
-
-    fn fmt<W: fmt::Write>(&self, f: &mut fmt::Formatter<W>) -> fmt::Result {
-        write!(f, "WriteFault")
+    /// The name of the fault, `WriteFault`.
+    pub fn name(self) -> &'static str
+        ensures { result.now ≡ codes "WriteFault" }
+    {
+        "WriteFault"
     }
 }
-
-impl Error for WriteFault {}
 
 /// Bytes for a sink, seen as their list; at most 64,320. The buffer is an array, so writing allocates nothing.
 #[derive(Drop)]

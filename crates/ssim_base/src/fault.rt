@@ -1,38 +1,49 @@
 //! Why a data set is refused.
 
-ghost use Rattle.std.specs.Prelude.{◌≡◌, Some};
-ghost use Rattle.ssim_base.specs.Fault.{base_fault_name, base_fault_text, refusal_name};
+ghost use Rattle.std.specs.Prelude.{◌≡◌};
+ghost use Rattle.ssim_base.specs.Fault.{base_fault_name, base_fault_place, refusal_name};
 
+use crate::place::Place;
 use ssim_records::RecordFault;
 use ssim_values::Memory;
 use std::alloc::AllocFailed;
-use std::error::Error;
-use std::fmt;
+use thiserror::Error;
 
-/// Why a record that can be read is not allowed at its place in a data set. It is displayed as its name.
-#[derive(Clone, Copy, Debug, PartialEq, Eq)]
+/// Why a record that can be read is not allowed at its place in a data set.
+#[derive(Clone, Copy, Debug, Error, PartialEq, Eq)]
 pub enum BaseRefusal {
     /// 11: its type is not allowed there.
+    #[error("a record of its type is not allowed there")]
     BadType,
     /// 12 at column 22: an open end before the start.
+    #[error("the open end at column 22 is before the start")]
     OpenEnd,
     /// 30: the first record is not a header.
+    #[error("the first record is not a header")]
     NoHeader,
     /// 31: the second record is not a carrier.
+    #[error("the second record is not a carrier")]
     NoCarrier,
     /// 32: the last record is not a trailer.
+    #[error("the last record is not a trailer")]
     NoTrailer,
     /// 33: another airline than the carrier's.
+    #[error("another airline than the carrier's")]
     OtherAirline,
     /// 34: a flight and leg sequence twice on one date.
+    #[error("an earlier record has the same flight and leg sequence on one of its dates")]
     Overlap,
     /// 35: no earlier leg record has the flight, itinerary variation and leg sequence of the segment data.
+    #[error("no earlier leg record has its flight, itinerary variation and leg sequence")]
     Segment,
     /// 36: an overflow of the itinerary variation.
+    #[error("the itinerary variation overflows")]
     Overflow,
     /// 37: a frequency rate other than weekly.
+    #[error("a frequency rate other than weekly")]
     Frequency,
     /// 38: the trailer announces another carrier.
+    #[error("the trailer announces another carrier")]
     Continuation,
 }
 
@@ -78,26 +89,17 @@ impl BaseRefusal {
     }
 }
 
-impl fmt::Display for BaseRefusal {
-    ghost output = { λ refusal. Some (refusal_name refusal) };
-
-    fn fmt<W: fmt::Write>(&self, f: &mut fmt::Formatter<W>) -> fmt::Result {
-        let name = self.name();
-        write!(f, "{name}")
-    }
-}
-
-impl Error for BaseRefusal {}
-
 /// Why bytes are not a data set: the first record that cannot be read, or is not allowed at its place.
-/// It is displayed as its name, the record and its column: `Overlap record 4`, `BadColumn record 3 column 22`.
-#[derive(Clone, Copy, Debug, PartialEq, Eq)]
+#[derive(Clone, Copy, Debug, Error, PartialEq, Eq)]
 pub enum BaseFault {
     /// 90: out of memory.
+    #[error("out of memory")]
     Memory,
     /// 10 to 14: the record cannot be read.
+    #[error(transparent)]
     Read(RecordFault),
     /// 11, 12 at column 22, or 30 to 38: the record with this number is not allowed there.
+    #[error("record {0}: {1}")]
     Refused(u64, BaseRefusal),
 }
 
@@ -125,24 +127,22 @@ impl BaseFault {
             BaseFault::Refused(_, refusal) => refusal.name(),
         }
     }
-}
 
-impl fmt::Display for BaseFault {
-    ghost output = { λ fault. Some (base_fault_text fault) };
-
-    fn fmt<W: fmt::Write>(&self, f: &mut fmt::Formatter<W>) -> fmt::Result {
+    /// The record that the fault names, with the column of an invalid field.
+    pub fn place(self) -> Place
+        ensures { result ≡ base_fault_place self }
+    {
         match self {
-            BaseFault::Memory => write!(f, "Memory"),
-            BaseFault::Read(fault) => write!(f, "{fault}"),
-            BaseFault::Refused(record, BaseRefusal::OpenEnd) => {
-                write!(f, "BadColumn record {record} column 22")
-            }
-            BaseFault::Refused(record, refusal) => write!(f, "{refusal} record {record}"),
+            BaseFault::Memory => Place::Nowhere,
+            BaseFault::Read(fault) => Place::from(fault),
+            BaseFault::Refused(record, BaseRefusal::OpenEnd) => Place::Column {
+                record,
+                column: 22,
+            },
+            BaseFault::Refused(record, _) => Place::Record(record),
         }
     }
 }
-
-impl Error for BaseFault {}
 
 impl From<Memory> for BaseFault {
     ghost use Rattle.ssim_base.specs.declared.fault.BaseFault.TheVariants.{Memory};

@@ -30,6 +30,7 @@ pub mod laws;
 mod leg_sequence;
 mod leg_table;
 mod note;
+mod place;
 mod reading;
 mod record_pieces;
 mod records_left;
@@ -46,6 +47,7 @@ pub use block::{Block, WriteFault, flush, put_bytes, put_fill, put_leg, put_reco
 pub use data_set::DataSet;
 pub use fault::{BaseFault, BaseRefusal};
 pub use note::Note;
+pub use place::Place;
 pub use records_left::RecordsLeft;
 pub use resolved::{Resolved, ResolvedSub};
 pub use resolving::{ResolveFault, ResolvedText, resolve};

@@ -1,18 +1,18 @@
 //! Messages resolved against a base: references with their year, sub-messages with full dates.
 
 ghost use Rattle.std.specs.Prelude.{◌≡◌, ◌⊎◌, ℕ, IsOk, IfOk, IfErr, IfSome, IfNone, Some};
-ghost use Rattle.ssim_base.specs.Fault.{resolve_fault_name, resolve_fault_text};
+ghost use Rattle.ssim_base.specs.Fault.{resolve_fault_name, resolve_fault_place};
 ghost use Rattle.ssim_base.specs.Resolve.{AreDates, AreFaulty, AreResolved, IsFirstRefused, IsRefused, IsRefusedIn, IsResolved, IsSubRefused, Means, MeansEnd, MeansNoEnd, MeansNone, Resolves, ResolvesIn, every_day, resolve_fault_number, same_mode};
 
 use crate::base::Base;
 use crate::kept::end_of;
+use crate::place::Place;
 use crate::resolved::ResolvedSub;
 use ssim_records::Carrier;
 use ssim_text::{Dates, GivenDate, GivenEnd, GivenPeriod, Message, Reference, Sub};
 use ssim_values::{Day, DayMask, Period, TimeMode, next_on_or_after};
 use std::alloc::{AllocError, AllocFailed, Global};
-use std::error::Error;
-use std::fmt;
+use thiserror::Error;
 
 /// A message with full dates: its reference, and flight and dates of its sub-messages in order.
 #[derive(Drop)]
@@ -22,18 +22,22 @@ pub struct ResolvedText {
 }
 
 /// Why a message does not resolve. Sub-messages are numbered from 1; the number 0 is the message as a whole.
-/// A fault is displayed as its name and the sub-message: `Airline sub 1`.
-#[derive(Clone, Copy, Debug, PartialEq, Eq)]
+#[derive(Clone, Copy, Debug, Error, PartialEq, Eq)]
 pub enum ResolveFault {
     /// 90: out of memory.
+    #[error("out of memory")]
     Memory,
     /// 40: the message's time mode is not that of the data set.
+    #[error("the message has the other time mode than the data set")]
     TimeMode,
     /// 41: the sub-message names another airline than the data set's.
+    #[error("sub-message {0}: another airline than the data set's")]
     Airline(usize),
     /// 42: there is no such date up to 2099. The number 0 is the date of the reference.
+    #[error("sub-message {0} (0 is the reference): there is no such date up to 2099")]
     NoSuchDate(usize),
     /// 43: the period's last day is before its first.
+    #[error("sub-message {0}: the period's last day is before its first")]
     Period(usize),
 }
 
@@ -63,23 +67,20 @@ impl ResolveFault {
             ResolveFault::Period(_) => "Period",
         }
     }
-}
 
-impl fmt::Display for ResolveFault {
-    ghost output = { λ fault. Some (resolve_fault_text fault) };
-
-    fn fmt<W: fmt::Write>(&self, f: &mut fmt::Formatter<W>) -> fmt::Result {
+    /// The sub-message that the fault names.
+    pub fn place(self) -> Place
+        ensures { result ≡ resolve_fault_place self }
+    {
         match self {
-            ResolveFault::Memory => write!(f, "Memory"),
-            ResolveFault::TimeMode => write!(f, "TimeMode sub 0"),
-            ResolveFault::Airline(sub) => write!(f, "Airline sub {sub}"),
-            ResolveFault::NoSuchDate(sub) => write!(f, "NoSuchDate sub {sub}"),
-            ResolveFault::Period(sub) => write!(f, "Period sub {sub}"),
+            ResolveFault::Memory => Place::Nowhere,
+            ResolveFault::TimeMode => Place::SubMessage(0),
+            ResolveFault::Airline(sub)
+            | ResolveFault::NoSuchDate(sub)
+            | ResolveFault::Period(sub) => Place::SubMessage(sub),
         }
     }
 }
-
-impl Error for ResolveFault {}
 
 impl From<AllocError> for ResolveFault {
     ghost use Rattle.ssim_base.specs.declared.resolving.ResolveFault.TheVariants.{Memory};

@@ -12,13 +12,16 @@ use crate::record_pieces::RecordPieces;
 use ssim_records::{Parts, Record, RecordReader};
 use ssim_values::Memory;
 use std::alloc::{AllocError, Global};
+use thiserror::Error;
 
 /// Why lines are not the records of a base.
-#[derive(Clone, Copy, Debug, PartialEq, Eq)]
+#[derive(Clone, Copy, Debug, Error, PartialEq, Eq)]
 pub enum SavedFault {
     /// Out of memory.
+    #[error("out of memory")]
     Memory,
     /// A line is invalid, or a record is missing after the last. This is the number of bytes from there on.
+    #[error("the line {0} bytes before the end is invalid, or a record is missing there")]
     Invalid(usize),
 }
 

@@ -5,25 +5,27 @@ ghost use Rattle.ssim_text.specs.Left.{lines_left, numbered};
 ghost use Rattle.ssim_text.specs.Lines.{day_in};
 ghost use Rattle.ssim_base.specs.Stations.{Gives, NamesLine, Row, SpellsTable, StopsAs, covers, row_of, rows_of, variation_at, variation_in};
 
+use crate::place::Place;
 use ssim_text::{cut, first_word, read_station, without_end};
 use ssim_values::{Day, Memory, Station, Variation};
 use std::alloc::{AllocFailed, Global};
-use std::error::Error;
-use std::fmt;
 use std::marker::Model;
+use thiserror::Error;
 
-/// Why bytes are not a station table. It is displayed as its name and the line: `Stations line 3`.
-#[derive(Clone, Copy, Debug, PartialEq, Eq)]
+/// Why bytes are not a station table.
+#[derive(Clone, Copy, Debug, Error, PartialEq, Eq)]
 pub enum StationFault {
     /// 90: out of memory.
+    #[error("out of memory")]
     Memory,
 
     /// 39: the line with this number, from 1, is not a row.
+    #[error("line {0}: expected a station, a first day, a last day and a UTC variation")]
     Stations(u64),
 }
 
 impl StationFault {
-    ghost use Rattle.ssim_base.specs.Fault.{station_fault_name};
+    ghost use Rattle.ssim_base.specs.Fault.{station_fault_name, station_fault_place};
     ghost use Rattle.ssim_base.specs.Stations.{station_fault_number};
 
     /// The number by which the fault is known.
@@ -45,22 +47,17 @@ impl StationFault {
             StationFault::Stations(_) => "Stations",
         }
     }
-}
 
-impl fmt::Display for StationFault {
-    ghost use Rattle.ssim_base.specs.Fault.{station_fault_text};
-
-    ghost output = { λ fault. Some (station_fault_text fault) };
-
-    fn fmt<W: fmt::Write>(&self, f: &mut fmt::Formatter<W>) -> fmt::Result {
+    /// The line that the fault names.
+    pub fn place(self) -> Place
+        ensures { result ≡ station_fault_place self }
+    {
         match self {
-            StationFault::Memory => write!(f, "Memory"),
-            StationFault::Stations(line) => write!(f, "Stations line {line}"),
+            StationFault::Memory => Place::Nowhere,
+            StationFault::Stations(line) => Place::Line(line),
         }
     }
 }
-
-impl Error for StationFault {}
 
 impl<T: Drop> From<AllocFailed<T>> for StationFault {
     ghost use Rattle.ssim_base.specs.declared.stations.StationFault.TheVariants.{Memory};

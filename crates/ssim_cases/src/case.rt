@@ -10,7 +10,7 @@ use crate::pure::{print_decoded, print_encoded, print_read, print_resolved};
 use crate::seen::Guard;
 use crate::shown::{add_shown, number, parts, push, push_line, push_named, push_refused, show};
 use ssim_desk::Step;
-use ssim_program::{Store, StoreFault};
+use ssim_program::{Refusal, Store, StoreFault};
 use ssim_records::Bytes;
 use std::alloc::{AllocError, Global};
 
@@ -310,7 +310,7 @@ impl<'t> Case<'t> {
         let mut file = Bytes::new(self.alloc);
         match self.desks.desk(desk)?.save(&mut file) {
             Ok(()) => Ok(self.store.add(name, file.bytes())?),
-            Err(fault) => push_refused(&mut self.transcript, fault.number(), &fault),
+            Err(_) => push_refused(&mut self.transcript, &Refusal::WriteFault),
         }
     }
 

@@ -7,6 +7,7 @@ use crate::fault::Fault;
 use crate::shown::{number, push, push_line, push_named, push_refused, push_value};
 use ssim_base::{Base, Stations};
 use ssim_desk::{Answer, Desk, DeskFault, FindingLine, Step, Took, run_steps};
+use ssim_program::Refusal;
 use ssim_records::Bytes;
 use std::alloc::Global;
 
@@ -75,7 +76,7 @@ impl Desks {
         match desk.take(text) {
             Ok(Took::Taken) => push_line(out, "taken"),
             Ok(Took::Repeated) => push_line(out, "repeated"),
-            Err(fault) => push_refused(out, fault.number(), &fault),
+            Err(fault) => push_refused(out, &Refusal::Desk(fault)),
         }
     }
 
@@ -83,7 +84,7 @@ impl Desks {
     pub fn merge(&mut self, into: &str, from: &str, out: &mut Vec<u8>) -> Result<(), Fault> {
         match self.merged(place_of(into)?, place_of(from)?)? {
             Ok(()) => push_line(out, "merged"),
-            Err(fault) => push_refused(out, fault.number(), &fault),
+            Err(fault) => push_refused(out, &Refusal::Desk(fault)),
         }
     }
 
@@ -122,7 +123,7 @@ impl Desks {
                 self.push(desk)?;
                 push_line(out, "opened")
             }
-            Err(fault) => push_refused(out, fault.number(), &fault),
+            Err(fault) => push_refused(out, &Refusal::Desk(fault)),
         }
     }
 
@@ -186,7 +187,7 @@ fn print_answers(answers: &[Answer], out: &mut Vec<u8>) -> Result<(), Fault> {
             Answer::Merged => push_line(out, "step merged")?,
             Answer::Refused(fault) => {
                 push(out, "step ")?;
-                push_refused(out, fault.number(), fault)?;
+                push_refused(out, &Refusal::Desk(*fault))?;
             }
         }
     }
@@ -195,7 +196,7 @@ fn print_answers(answers: &[Answer], out: &mut Vec<u8>) -> Result<(), Fault> {
 
 /// Prints that memory is out.
 pub fn push_memory(out: &mut Vec<u8>) -> Result<(), Fault> {
-    push_line(out, "refused 90 Memory")
+    push_refused(out, &Refusal::Memory)
 }
 
 /// Prints what each sub-message found.

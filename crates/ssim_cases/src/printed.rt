@@ -4,8 +4,8 @@ use crate::desks::{base_of, push_findings, push_memory};
 use crate::fault::Fault;
 use crate::shown::{number, parts, push, push_line, push_named, push_refused, push_value};
 use ssim_desk::Desk;
+use ssim_program::Refusal;
 use ssim_records::Bytes;
-use ssim_schedule::ExportFault;
 use ssim_values::{Day, Designator};
 use std::alloc::Global;
 
@@ -51,7 +51,8 @@ fn print_exported(
 ) -> Result<(), Fault> {
     let mut export = Bytes::new(alloc);
     if let Err(fault) = desk.export(&mut export) {
-        return print_export_fault(desk, &fault, out);
+        let airline = desk.base().airline();
+        return push_refused(out, &Refusal::Export { airline, fault });
     }
     let bytes = export.bytes();
     match word {
@@ -94,21 +95,6 @@ fn print_record(record: &[u8], columns: &[(usize, usize)], out: &mut Vec<u8>) ->
     for (start, end) in columns {
         out.push(b' ')?;
         out.extend_from_slice(record.get(*start..*end).unwrap_or(b""))?;
-    }
-    Ok(out.push(b'\n')?)
-}
-
-// A flight is printed with the airline of the desk's base.
-fn print_export_fault(desk: &Desk, fault: &ExportFault, out: &mut Vec<u8>) -> Result<(), Fault> {
-    push_named(out, "refused ", &fault.number())?;
-    push(out, " ")?;
-    push(out, fault.name())?;
-    if let ExportFault::Variations(flight) = fault {
-        let designator = Designator {
-            airline: desk.base().airline(),
-            flight: *flight,
-        };
-        push_named(out, " flight ", &designator)?;
     }
     Ok(out.push(b'\n')?)
 }

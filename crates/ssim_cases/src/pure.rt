@@ -4,6 +4,8 @@ use crate::desks::{base_of, push_memory};
 use crate::fault::Fault;
 use crate::shown::{push_named, push_refused, push_value, show};
 use ssim_base::{Base, resolve};
+use ssim_desk::DeskFault;
+use ssim_program::Refusal;
 use ssim_text::{Message, decode, encode};
 use std::alloc::Global;
 
@@ -28,7 +30,7 @@ pub fn print_read(
 pub fn print_decoded(alloc: Global, text: &[u8], out: &mut Vec<u8>) -> Result<(), Fault> {
     match decode(alloc, text) {
         Ok(message) => show(out, "text", message.text()),
-        Err(fault) => push_refused(out, fault.number(), &fault),
+        Err(fault) => push_refused(out, &Refusal::Desk(DeskFault::Text(fault))),
     }
 }
 
@@ -50,7 +52,7 @@ pub fn print_resolved(
     let message = message_of(alloc, text)?;
     let resolved = match resolve(base, &message) {
         Ok(resolved) => resolved,
-        Err(fault) => return push_refused(out, fault.number(), &fault),
+        Err(fault) => return push_refused(out, &Refusal::Desk(DeskFault::Resolve(fault))),
     };
     push_value(out, &resolved.reference)?;
     out.push(b'\n')?;

@@ -1,6 +1,7 @@
 //! Bytes in readable form.
 
 use crate::fault::Fault;
+use ssim_program::Refusal;
 use std::fmt::Display;
 use std::io::Write;
 
@@ -39,9 +40,8 @@ pub fn push_named<T: Display>(out: &mut Vec<u8>, word: &str, value: &T) -> Resul
 }
 
 /// Adds the line of a refusal.
-pub fn push_refused<T: Display>(out: &mut Vec<u8>, number: u8, fault: &T) -> Result<(), Fault> {
-    push_named(out, "refused ", &number)?;
-    push_named(out, " ", fault)?;
+pub fn push_refused(out: &mut Vec<u8>, refusal: &Refusal) -> Result<(), Fault> {
+    push_value(out, refusal)?;
     Ok(out.push(b'\n')?)
 }
 

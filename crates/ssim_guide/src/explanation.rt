@@ -10,8 +10,6 @@ use std::alloc::{AllocError, Global};
 pub struct Explanation {
     /// The number of the refusal.
     pub number: u8,
-    /// Its name, as its line has it.
-    pub name: &'static str,
     /// Why the program refuses.
     pub meaning: &'static str,
     /// What a user does about it.
@@ -30,12 +28,17 @@ pub fn explanation_of(number: u8) -> Option<Explanation>
     None
 }
 
-/// The lines on the refusals of this number: its name and meaning, then these lines on its place, and what to do. There are none if
-/// there is no such refusal.
-pub fn words_on(alloc: Global, number: u8, place: &[u8]) -> Result<Vec<u8>, AllocError> {
+/// The lines on a refusal of this number and name: the name and its meaning, then these lines on the
+/// place, and what to do. There are none if no refusal has the number.
+pub fn words_on(
+    alloc: Global,
+    number: u8,
+    name: &str,
+    place: &[u8],
+) -> Result<Vec<u8>, AllocError> {
     let mut lines = Vec::new(alloc);
     if let Some(found) = explanation_of(number) {
-        push_line(&mut lines, found.name, found.meaning)?;
+        push_line(&mut lines, name, found.meaning)?;
         lines.extend_from_slice(place)?;
         push_line(&mut lines, "what to do", found.remedy)?;
     }

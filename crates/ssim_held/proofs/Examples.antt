@@ -1,4 +1,4 @@
--- Small examples of references, faults and desk files, checked by computation.
+-- Small examples of references and desk files, checked by computation.
 use Rattle.std.proofs.Common.{arith}
 use Rattle.std.specs.Prelude.{◌≡◌, ℕ, ◌-◌, ◌^◌, true, false, List, [], ◌∷◌, ◌++◌, length, codes, refl}
 use Rattle.std.specs.Fmt.{digits}
@@ -12,11 +12,10 @@ use Rattle.ssim_text.specs.declared.kind.Kind.TheVariants.{Ssm, Asm}
 use Rattle.ssim_text.specs.declared.reference.Reference.{Reference}
 use Rattle.ssim_values.specs.Calendar.{day_of_month, month_of, year_of}
 use Rattle.ssim_values.specs.Day.{day_text}
-use Rattle.ssim_held.specs.Fault.{desk_fault_text}
 use Rattle.ssim_held.specs.File.{after_first_line, counted, row_line, rows_part, texts_part}
 use Rattle.ssim_held.specs.Held.{reference_cmp}
 use Rattle.ssim_held.specs.Opening.{FailsAs, NeverEnds, first_line, is_number}
-use Rattle.ssim_held.specs.declared.fault.DeskFault.TheVariants.{Text, Conflict, Read, File}
+use Rattle.ssim_held.specs.declared.fault.DeskFault.TheVariants.{Text, Read}
 use Rattle.ssim_held.specs.declared.opening.version.FileVersion.TheVariants.{One, Two}
 
 -- ---- the order of references
@@ -42,18 +41,6 @@ by_originator = refl
 
 itself : reference_cmp (reference 9283 1 Asm (codes "AAAAAAA")) (reference 9283 1 Asm (codes "AAAAAAA")) ≡ Equal
 itself = refl
-
--- ---- faults
-
--- a desk file that is invalid after 844 bytes
-file_fault : desk_fault_text (File 844) ≡ codes "DeskFile offset 844"
-unfolding digits
-file_fault = refl
-
--- another message under the reference SSM 01JUN25 00001 001
-conflict_fault : desk_fault_text (Conflict (reference 9283 1 Ssm no_originator)) ≡ codes "Conflict SSM 01JUN25 00001 001"
-unfolding day_text year_of month_of day_of_month digits
-conflict_fault = refl
 
 -- ---- opening
 

@@ -1,9 +1,12 @@
--- The numbers, names and printed texts of the faults of a desk, and which of them another fault becomes.
-use Rattle.std.specs.{Prelude.{ℕ, List, ◌++◌, codes}, Fmt.decimal}
-use Rattle.ssim_records.specs.Record.{fault_name, fault_number, fault_text}
-use Rattle.ssim_schedule.specs.{Fault.{resolve_fault_name, resolve_fault_text}, Resolve.resolve_fault_number}
+-- The numbers and names of the faults of a desk, what they name, and which of them another fault becomes.
+use Rattle.std.specs.Prelude.{ℕ, List, codes}
+use Rattle.ssim_records.specs.Record.{fault_name, fault_number}
+use Rattle.ssim_base.specs.Fault.{record_fault_place, resolve_fault_name, resolve_fault_place, text_fault_place}
+use Rattle.ssim_base.specs.Resolve.{resolve_fault_number}
+use Rattle.ssim_base.specs.declared.place.Place.{Place}
+use Rattle.ssim_base.specs.declared.place.Place.TheVariants.{Nowhere, Message, Offset}
 use Rattle.ssim_base.specs.declared.resolving.ResolveFault.{ResolveFault}
-use Rattle.ssim_text.specs.{Fault.{text_fault_name, text_fault_number, text_fault_text}, Reference.printed_reference}
+use Rattle.ssim_text.specs.Fault.{text_fault_name, text_fault_number}
 use Rattle.ssim_text.specs.declared.fault.TextFault.{TextFault}
 use Rattle.ssim_held.specs.declared.fault.DeskFault.{DeskFault}
 use Rattle.ssim_held.specs.declared.fault.DeskFault.TheVariants.{Memory, Text, Resolve, Conflict, OtherBase, Read, File}
@@ -30,14 +33,15 @@ desk_fault_name OtherBase = codes "OtherBase"
 desk_fault_name (Read fault) = fault_name fault
 desk_fault_name (File offset) = codes "DeskFile"
 
--- the name, and the line, sub-message, reference, record or number of bytes that the fault names
-abbrev pub desk_fault_text : DeskFault → List ℕ
-desk_fault_text (Text fault) = text_fault_text fault
-desk_fault_text (Resolve fault) = resolve_fault_text fault
-desk_fault_text (Conflict reference) = codes "Conflict " ++ printed_reference reference
-desk_fault_text (Read fault) = fault_text fault
-desk_fault_text (File offset) = codes "DeskFile offset " ++ decimal offset
-desk_fault_text fault = desk_fault_name fault
+-- the line, sub-message, message, record or element that the fault names
+abbrev pub desk_fault_place : DeskFault → Place
+desk_fault_place Memory = Nowhere
+desk_fault_place (Text fault) = text_fault_place fault
+desk_fault_place (Resolve fault) = resolve_fault_place fault
+desk_fault_place (Conflict reference) = Message reference
+desk_fault_place OtherBase = Nowhere
+desk_fault_place (Read fault) = record_fault_place fault
+desk_fault_place (File offset) = Offset offset
 
 -- a text that is no message, or for which there is no memory
 abbrev pub text_refused : TextFault → DeskFault

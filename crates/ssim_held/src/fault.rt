@@ -1,38 +1,41 @@
 //! Why a desk refuses.
 
-ghost use Rattle.std.specs.Prelude.{◌≡◌, Some};
+ghost use Rattle.std.specs.Prelude.{◌≡◌};
 
-use ssim_base::ResolveFault;
+use ssim_base::{Place, ResolveFault};
 use ssim_records::RecordFault;
 use ssim_text::{Reference, TextFault};
 use std::alloc::{AllocError, AllocFailed};
-use std::error::Error;
-use std::fmt;
+use thiserror::Error;
 
 /// Why a desk refuses a text, another desk or a file. The desk is unchanged.
-///
-/// It is displayed as its name and its place: `BadLeg line 8`, `Airline sub 1`, `Conflict SSM 01JUN25 00001 001`, `OtherBase`,
-/// `DeskFile offset 844`.
-#[derive(Clone, Copy, Debug, PartialEq, Eq)]
+#[derive(Clone, Copy, Debug, Error, PartialEq, Eq)]
 pub enum DeskFault {
     /// 90: out of memory.
+    #[error("out of memory")]
     Memory,
     /// 20 to 29: the text is no message.
+    #[error(transparent)]
     Text(TextFault),
     /// 40 to 43: the message does not resolve against the base.
+    #[error(transparent)]
     Resolve(ResolveFault),
     /// 60: another message is held under the reference.
+    #[error("another message is held under {0}")]
     Conflict(Reference),
     /// 61: the other desk has another base.
+    #[error("the other desk has another base")]
     OtherBase,
     /// 13 or 14, with record number 0: the file was not read.
+    #[error(transparent)]
     Read(RecordFault),
     /// 62: the file is no desk file; the number is that of the bytes before its first invalid element.
+    #[error("the element after {0} bytes is invalid")]
     File(u64),
 }
 
 impl DeskFault {
-    ghost use Rattle.ssim_held.specs.Fault.{desk_fault_name, desk_fault_number};
+    ghost use Rattle.ssim_held.specs.Fault.{desk_fault_name, desk_fault_number, desk_fault_place};
 
     /// The number by which the fault is known.
     pub fn number(self) -> u8
@@ -63,27 +66,21 @@ impl DeskFault {
             DeskFault::File(_) => "DeskFile",
         }
     }
-}
 
-impl fmt::Display for DeskFault {
-    ghost use Rattle.ssim_held.specs.Fault.{desk_fault_text};
-
-    ghost output = { λ fault. Some (desk_fault_text fault) };
-
-    fn fmt<W: fmt::Write>(&self, f: &mut fmt::Formatter<W>) -> fmt::Result {
+    /// The line, sub-message, message, record or element that the fault names.
+    pub fn place(self) -> Place
+        ensures { result ≡ desk_fault_place self }
+    {
         match self {
-            DeskFault::Memory => write!(f, "Memory"),
-            DeskFault::Text(fault) => write!(f, "{fault}"),
-            DeskFault::Resolve(fault) => write!(f, "{fault}"),
-            DeskFault::Conflict(reference) => write!(f, "Conflict {reference}"),
-            DeskFault::OtherBase => write!(f, "OtherBase"),
-            DeskFault::Read(fault) => write!(f, "{fault}"),
-            DeskFault::File(offset) => write!(f, "DeskFile offset {offset}"),
+            DeskFault::Memory | DeskFault::OtherBase => Place::Nowhere,
+            DeskFault::Text(fault) => Place::from(fault),
+            DeskFault::Resolve(fault) => fault.place(),
+            DeskFault::Conflict(reference) => Place::Message(reference),
+            DeskFault::Read(fault) => Place::from(fault),
+            DeskFault::File(offset) => Place::Offset(offset),
         }
     }
 }
-
-impl Error for DeskFault {}
 
 impl From<ssim_values::Memory> for DeskFault {
     ghost use Rattle.ssim_held.specs.declared.fault.DeskFault.TheVariants.{Memory};

@@ -1,20 +1,23 @@
 -- The line that a refusal prints, without its line end, and which refusal a fault becomes.
-use Rattle.std.specs.Prelude.{◌≡◌, ◌⊎◌, ℕ, List, ◌∷◌, ◌++◌, codes, string_bytes}
+use Rattle.std.specs.Prelude.{◌≡◌, ◌⊎◌, ℕ, List, [], ◌∷◌, ◌++◌, Option, Some, None, codes, string_bytes}
 use Rattle.std.specs.Fmt.{decimal}
 use Rattle.ssim_values.specs.Designator.{designator_text}
 use Rattle.ssim_values.specs.Fault.{fault_name, fault_number, memory_name}
 use Rattle.ssim_values.specs.declared.fault.Fault.{Fault}
 use Rattle.ssim_base.specs.Base.{base_fault_number}
-use Rattle.ssim_base.specs.Fault.{base_fault_text, station_fault_text}
-use Rattle.ssim_schedule.specs.Plan.{export_fault_name, export_fault_number, export_fault_text}
+use Rattle.ssim_base.specs.Fault.{base_fault_name, base_fault_place, station_fault_name, station_fault_place}
+use Rattle.ssim_schedule.specs.Plan.{export_fault_name, export_fault_number, export_fault_place}
 use Rattle.ssim_base.specs.Stations.{station_fault_number}
 use Rattle.ssim_schedule.specs.declared.export.ExportFault.{ExportFault}
 use Rattle.ssim_schedule.specs.declared.export.ExportFault.TheVariants as export
 use Rattle.ssim_base.specs.declared.fault.BaseFault.{BaseFault}
 use Rattle.ssim_base.specs.declared.fault.BaseFault.TheVariants as base
+use Rattle.ssim_base.specs.declared.place.Place.{Place}
+use Rattle.ssim_base.specs.declared.place.Place.TheVariants.{Nowhere, Record, Column, Line, SubMessage, Offset, Flight, Message}
 use Rattle.ssim_base.specs.declared.stations.StationFault.{StationFault}
 use Rattle.ssim_base.specs.declared.stations.StationFault.TheVariants as stations
-use Rattle.ssim_held.specs.Fault.{desk_fault_number, desk_fault_text}
+use Rattle.ssim_text.specs.Reference.{printed_reference}
+use Rattle.ssim_held.specs.Fault.{desk_fault_name, desk_fault_number, desk_fault_place}
 use Rattle.ssim_held.specs.declared.fault.DeskFault.{DeskFault}
 use Rattle.ssim_held.specs.declared.fault.DeskFault.TheVariants as desk
 use Rattle.ssim_program.specs.Names.{printed_name}
@@ -33,29 +36,55 @@ refusal_number (refusal.Script line) = 63
 refusal_number refusal.Memory = 90
 refusal_number (refusal.File name) = 91
 
--- as an export fault is displayed, with the flight as a designator
-abbrev pub designated_text : List ℕ → ExportFault → List ℕ
-designated_text airline (export.Variations flight) =
-    export_fault_name (export.Variations flight) ++ codes " flight " ++ designator_text (record { airline = airline; flight = flight })
-designated_text airline export.Records = export_fault_text export.Records
-designated_text airline export.WriteFault = export_fault_text export.WriteFault
-designated_text airline export.Memory = export_fault_text export.Memory
+-- the name is that of the fault
+abbrev pub refusal_name : Refusal → List ℕ
+refusal_name (refusal.Value fault) = fault_name fault
+refusal_name (refusal.DataSet fault) = base_fault_name fault
+refusal_name (refusal.Stations fault) = station_fault_name fault
+refusal_name (refusal.Desk fault) = desk_fault_name fault
+refusal_name (refusal.Export airline fault) = export_fault_name fault
+refusal_name refusal.WriteFault = export_fault_name export.WriteFault
+refusal_name (refusal.Script line) = codes "Script"
+refusal_name refusal.Memory = memory_name
+refusal_name (refusal.File name) = codes "File"
 
--- the name and the place, as the fault is displayed
-abbrev pub name_and_place : Refusal → List ℕ
-name_and_place (refusal.Value fault) = fault_name fault
-name_and_place (refusal.DataSet fault) = base_fault_text fault
-name_and_place (refusal.Stations fault) = station_fault_text fault
-name_and_place (refusal.Desk fault) = desk_fault_text fault
-name_and_place (refusal.Export airline fault) = designated_text airline fault
-name_and_place refusal.WriteFault = export_fault_text export.WriteFault
-name_and_place (refusal.Script line) = codes "Script line " ++ decimal line
-name_and_place refusal.Memory = memory_name
-name_and_place (refusal.File name) = codes "File " ++ string_bytes name
+-- what is named is what the fault names; the line of a script is one, and 91 names a file
+abbrev pub refusal_place : Refusal → Place
+refusal_place (refusal.Value fault) = Nowhere
+refusal_place (refusal.DataSet fault) = base_fault_place fault
+refusal_place (refusal.Stations fault) = station_fault_place fault
+refusal_place (refusal.Desk fault) = desk_fault_place fault
+refusal_place (refusal.Export airline fault) = export_fault_place airline fault
+refusal_place refusal.WriteFault = Nowhere
+refusal_place (refusal.Script line) = Line line
+refusal_place refusal.Memory = Nowhere
+refusal_place (refusal.File name) = Nowhere
 
--- refused, the number, the name and the place
+-- the file of 91
+abbrev pub refusal_file : Refusal → Option (List ℕ)
+refusal_file (refusal.File name) = Some (string_bytes name)
+refusal_file r = None
+
+-- a place in a line, after what comes before it
+abbrev pub place_text : Place → List ℕ
+place_text Nowhere = []
+place_text (Record n) = codes " record " ++ decimal n
+place_text (Column n column) = codes " record " ++ decimal n ++ codes " column " ++ decimal column
+place_text (Line n) = codes " line " ++ decimal n
+place_text (SubMessage n) = codes " sub " ++ decimal n
+place_text (Offset n) = codes " offset " ++ decimal n
+place_text (Flight flight) = codes " flight " ++ designator_text flight
+place_text (Message reference) = 32 ∷ printed_reference reference
+
+-- the file or the place that is named
+abbrev pub named_text : Option (List ℕ) → Place → List ℕ
+named_text (Some file) place = 32 ∷ file
+named_text None place = place_text place
+
+-- refused, the number, the name and what is named: refused 12 BadColumn record 3 column 37
 abbrev pub refusal_text : Refusal → List ℕ
-refusal_text r = codes "refused " ++ decimal (refusal_number r) ++ 32 ∷ name_and_place r
+refusal_text r =
+    codes "refused " ++ decimal (refusal_number r) ++ 32 ∷ refusal_name r ++ named_text (refusal_file r) (refusal_place r)
 
 -- ---- the refusal of a fault; each fault out of memory is refused as 90
 

@@ -14,7 +14,6 @@ mod file;
 pub(crate) mod file_kind;
 
 use crate::data_set::load_file;
-use crate::printed::line_of;
 use crate::refusal::Refusal;
 use crate::store::Store;
 use example::example;
@@ -84,8 +83,8 @@ fn on_number(alloc: Global, number: u8) -> Result<Vec<u8>, Memory>
 fn on_refusal(alloc: Global, refusal: &Refusal, place: &[u8]) -> Result<Vec<u8>, Memory>
     ensures { IfOk result (λ text. BeginsWith refusal.now text.items) }
 {
-    let mut text = line_of(alloc, refusal)?;
-    let words = words_on(alloc, refusal.number(), place)?;
+    let mut text = refusal.line(alloc)?;
+    let words = words_on(alloc, refusal.number(), refusal.name(), place)?;
     text.extend_from_slice(&words)?;
     Ok(text)
 }

@@ -17,7 +17,6 @@ use crate::explain::explain;
 use crate::export::export;
 use crate::findings::findings;
 use crate::merge::merge;
-use crate::printed::line_of;
 use crate::printer::{Printer, print_all, print_line};
 use crate::refusal::Refusal;
 use crate::rehearse::rehearse;
@@ -220,7 +219,7 @@ fn refuse<P: Write>(alloc: Global, refusal: &Refusal, err: &mut Printer<'_, P>) 
         print_line(b"refused 52 WriteFault\n", err);
         return 1;
     }
-    match line_of(alloc, refusal) {
+    match refusal.line(alloc) {
         Ok(line) => print_line(&line, err),
         Err(_) => print_line(b"refused 90 Memory\n", err),
     }

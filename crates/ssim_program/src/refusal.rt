@@ -1,18 +1,23 @@
 //! Why a command was refused, as it is printed.
-ghost use Rattle.std.specs.Prelude.{◌≡◌, Some};
-ghost use Rattle.ssim_program.specs.Refusal.{IsOfFile, refusal_number, refusal_of_base, refusal_of_desk, refusal_of_export, refusal_of_stations, refusal_of_value, refusal_text};
+ghost use Rattle.std.specs.Prelude.{◌≡◌, IfOk, Some, option_map};
+ghost use Rattle.ssim_base.specs.Export.{line};
+ghost use Rattle.ssim_program.specs.Refusal.{IsOfFile, refusal_file, refusal_name, refusal_number};
+ghost use Rattle.ssim_program.specs.Refusal.{refusal_of_base, refusal_of_desk, refusal_of_export};
+ghost use Rattle.ssim_program.specs.Refusal.{refusal_of_stations, refusal_of_value};
+ghost use Rattle.ssim_program.specs.Refusal.{refusal_place, refusal_text};
 
 use crate::name::printed_name;
-use ssim_base::{BaseFault, StationFault};
+use crate::printed::line_of;
+use ssim_base::{BaseFault, Place, StationFault};
 use ssim_desk::DeskFault;
 use ssim_schedule::ExportFault;
-use ssim_values::{Airline, Designator, Fault, Memory};
+use ssim_values::{Airline, Fault, Memory};
 use std::alloc::{AllocError, AllocFailed, Global};
 use std::error::Error;
 use std::fmt;
 
-/// Why a command was refused: a fault of one of the crates below, or one of the program's own. It is displayed as its line on
-/// standard error: `refused`, the number, the name, and the place.
+/// Why a command was refused: a fault of one of the crates below, or one of the program's own. It is
+/// displayed as its line on standard error: `refused`, the number, the name, and what it names.
 #[derive(Debug, Drop)]
 pub enum Refusal {
     /// 1 to 7: a word of the command line is no value of the kind.
@@ -59,6 +64,56 @@ impl Refusal {
             Refusal::File { .. } => 91,
         }
     }
+
+    /// The name by which the refusal is known, as `BadColumn`.
+    pub fn name(&self) -> &'static str
+        ensures { result.now ≡ refusal_name self.now }
+    {
+        match self {
+            Refusal::Value(fault) => fault.name(),
+            Refusal::DataSet(fault) => fault.name(),
+            Refusal::Stations(fault) => fault.name(),
+            Refusal::Desk(fault) => fault.name(),
+            Refusal::Export { airline: _, fault } => fault.name(),
+            Refusal::WriteFault => ExportFault::WriteFault.name(),
+            Refusal::Script { .. } => "Script",
+            Refusal::Memory => Memory.name(),
+            Refusal::File { .. } => "File",
+        }
+    }
+
+    /// What the refusal names, but for the file of 91.
+    pub fn place(&self) -> Place
+        ensures { result ≡ refusal_place self.now }
+    {
+        match self {
+            Refusal::DataSet(fault) => fault.place(),
+            Refusal::Stations(fault) => fault.place(),
+            Refusal::Desk(fault) => fault.place(),
+            Refusal::Export { airline, fault } => fault.place(*airline),
+            Refusal::Script { line } => Place::Line(*line),
+            Refusal::Value(_) | Refusal::WriteFault | Refusal::Memory | Refusal::File { .. } => {
+                Place::Nowhere
+            }
+        }
+    }
+
+    /// The name of the file of 91.
+    fn file(&self) -> Option<&str>
+        ensures { option_map (λ name. name.now) result ≡ refusal_file self.now }
+    {
+        match self {
+            Refusal::File { name } => Some(name.as_str()),
+            _ => None,
+        }
+    }
+
+    /// The line of the refusal, with its line end.
+    pub(crate) fn line(&self, alloc: Global) -> Result<Vec<u8>, Memory>
+        ensures { IfOk result (λ bytes. bytes.items ≡ line (refusal_text self.now)) }
+    {
+        line_of(alloc, self)
+    }
 }
 
 impl fmt::Display for Refusal {
@@ -66,31 +121,21 @@ impl fmt::Display for Refusal {
 
     fn fmt<W: fmt::Write>(&self, f: &mut fmt::Formatter<W>) -> fmt::Result {
         let number = self.number();
-        match self {
-            Refusal::Value(fault) => write!(f, "refused {number} {fault}"),
-            Refusal::DataSet(fault) => write!(f, "refused {number} {fault}"),
-            Refusal::Stations(fault) => write!(f, "refused {number} {fault}"),
-            Refusal::Desk(fault) => write!(f, "refused {number} {fault}"),
-            Refusal::Export { airline, fault } => match fault {
-                ExportFault::Variations(flight) => {
-                    let name = fault.name();
-                    let airline = *airline;
-                    let flight = *flight;
-                    let flight = Designator { airline, flight };
-                    write!(f, "refused {number} {name} flight {flight}")
-                }
-                _ => write!(f, "refused {number} {fault}"),
-            },
-            Refusal::WriteFault => {
-                let fault = ExportFault::WriteFault;
-                write!(f, "refused {number} {fault}")
+        let name = self.name();
+        if let Some(file) = self.file() {
+            return write!(f, "refused {number} {name} {file}");
+        }
+        match self.place() {
+            Place::Nowhere => write!(f, "refused {number} {name}"),
+            Place::Record(record) => write!(f, "refused {number} {name} record {record}"),
+            Place::Column { record, column } => {
+                write!(f, "refused {number} {name} record {record} column {column}")
             }
-            Refusal::Script { line } => write!(f, "refused {number} Script line {line}"),
-            Refusal::Memory => {
-                let fault = Memory;
-                write!(f, "refused {number} {fault}")
-            }
-            Refusal::File { name } => write!(f, "refused {number} File {name}"),
+            Place::Line(line) => write!(f, "refused {number} {name} line {line}"),
+            Place::SubMessage(sub) => write!(f, "refused {number} {name} sub {sub}"),
+            Place::Offset(offset) => write!(f, "refused {number} {name} offset {offset}"),
+            Place::Flight(flight) => write!(f, "refused {number} {name} flight {flight}"),
+            Place::Message(reference) => write!(f, "refused {number} {name} {reference}"),
         }
     }
 }

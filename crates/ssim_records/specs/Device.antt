@@ -1,7 +1,6 @@
 -- What devices count, and what a buffer holds.
-use Rattle.std.specs.Prelude.{ℕ, ◌≡◌, ◌+◌, ◌%◌, ◌^◌, ◌<◌, ◌≤◌, ◌==◌, ◌&&◌, nat_lt, if◌then◌else◌, Bool, true, false, List, ◌++◌, length, drop, codes, Option, Some, None, Result, Ok, Err}
+use Rattle.std.specs.Prelude.{ℕ, ◌≡◌, ◌+◌, ◌%◌, ◌^◌, ◌<◌, ◌≤◌, ◌==◌, ◌&&◌, nat_lt, if◌then◌else◌, Bool, true, false, List, ◌++◌, length, drop, Option, Some, None, Result, Ok, Err}
 use Rattle.ssim_records.specs.declared.device.DeviceFault.{DeviceFault}
-use Rattle.ssim_records.specs.declared.device.DeviceFault.TheVariants.{Memory, Failed}
 
 -- Of a source that tells its bytes nothing is counted. Of one that does not, and never will, the bytes that came are, and
 -- the count wraps.
@@ -34,7 +33,3 @@ SkipsAtHand old new count true = (left : List ℕ) × (old ≡ Some left) × (co
 pub record Buffer : Type 0 where
   pub bytes : List ℕ
   pub failures : ℕ
-
-abbrev pub device_fault_name : DeviceFault → List ℕ
-device_fault_name Memory = codes "Memory"
-device_fault_name Failed = codes "Failed"

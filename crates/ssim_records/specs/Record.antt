@@ -1,7 +1,6 @@
 -- Records of any type: what they say, how they are written, and why bytes are refused.
 use Rattle.std.specs.Prelude.{ℕ, false, ◌≡◌, ◌==◌, ◌+◌, if◌then◌else◌, List, [], ◌∷◌, ◌++◌, Option, Some, None, slice_index, map, codes}
 use Rattle.std.specs.List.{flat_map}
-use Rattle.std.specs.Fmt.{decimal}
 use Rattle.ssim_records.specs.declared.field.Field.{Field}
 use Rattle.ssim_records.specs.declared.fault.RecordFault.{RecordFault}
 use Rattle.ssim_records.specs.declared.fault.RecordFault.TheVariants.{Short, BadType, BadColumn, ReadFault, ReaderNeverEnds}
@@ -87,14 +86,6 @@ fault_name (BadType n) = codes "BadType"
 fault_name (BadColumn n column) = codes "BadColumn"
 fault_name (ReadFault n) = codes "ReadFault"
 fault_name (ReaderNeverEnds n) = codes "ReaderNeverEnds"
-
--- name and place, as the fault is displayed
-abbrev pub fault_text : RecordFault → List ℕ
-fault_text (Short n) = codes "Short record " ++ decimal n
-fault_text (BadType n) = codes "BadType record " ++ decimal n
-fault_text (BadColumn n column) = codes "BadColumn record " ++ decimal n ++ codes " column " ++ decimal column
-fault_text (ReadFault n) = codes "ReadFault record " ++ decimal n
-fault_text (ReaderNeverEnds n) = codes "ReaderNeverEnds record " ++ decimal n
 
 -- ---- serials
 

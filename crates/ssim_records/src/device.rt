@@ -3,35 +3,23 @@
 ghost use Rattle.std.specs.Prelude.{◌≡◌, List, ℕ, Option, Some, Ok, length, min};
 ghost use Rattle.std.specs.Io.{ReadsAtMost, WritesAtMost};
 ghost use Rattle.std.specs.Io.KnownBytes.{ReadConsumes, WriteAppends};
-ghost use Rattle.ssim_records.specs.Device.{CountsBytes, CountsFailure, CountsPut, IsAtHand, SkipsAtHand, device_fault_name};
+ghost use Rattle.ssim_records.specs.Device.{CountsBytes, CountsFailure, CountsPut, IsAtHand, SkipsAtHand};
 
-use std::error::Error;
-use std::fmt;
+use thiserror::Error;
 
-/// Why a device neither gave nor took bytes. A fault is displayed as its name.
+/// Why a device neither gave nor took bytes.
 ///
 /// It has no number of its own. The call that reads from the source returns 13, and the call that writes to the sink returns 52.
-#[derive(Clone, Copy, Debug, PartialEq, Eq)]
+#[derive(Clone, Copy, Debug, Error, PartialEq, Eq)]
 pub enum DeviceFault {
     /// A device that grows is out of memory.
+    #[error("out of memory")]
     Memory,
 
     /// The device itself failed.
+    #[error("the device failed")]
     Failed,
 }
-
-impl fmt::Display for DeviceFault {
-    ghost output = { λ f. Some (device_fault_name f) };
-
-    fn fmt<W: fmt::Write>(&self, f: &mut fmt::Formatter<W>) -> fmt::Result {
-        match self {
-            DeviceFault::Memory => write!(f, "Memory"),
-            DeviceFault::Failed => write!(f, "Failed"),
-        }
-    }
-}
-
-impl Error for DeviceFault {}
 
 /// A device that bytes come from. A fetch that returns 0 into a buffer with room is the end.
 pub trait Source {

@@ -1,28 +1,32 @@
 //! Why a record is refused.
 
-ghost use Rattle.std.specs.Prelude.{◌≡◌, Some};
-ghost use Rattle.ssim_records.specs.Record.{fault_name, fault_number, fault_record, fault_text};
+ghost use Rattle.std.specs.Prelude.{◌≡◌};
+ghost use Rattle.ssim_records.specs.Record.{fault_name, fault_number, fault_record};
 
-use std::error::Error;
-use std::fmt;
+use thiserror::Error;
 
-/// Why a record is refused, with its record number, counted from 1. The number is 0 if the bytes were read by themselves.
-/// A fault is displayed as its name and its place: `BadColumn record 3 column 37`.
-#[derive(Clone, Copy, Debug, PartialEq, Eq)]
+/// Why a record is refused, with its record number, counted from 1. The number is 0 if the bytes
+/// were read by themselves.
+#[derive(Clone, Copy, Debug, Error, PartialEq, Eq)]
 pub enum RecordFault {
     /// 10: the input ends within a record.
+    #[error("record {record}: the input ends within it")]
     Short { record: u64 },
 
     /// 11: column 1 is none of `1` to `5`.
+    #[error("record {record}: column 1 is none of 1 to 5")]
     BadType { record: u64 },
 
     /// 12: a field is invalid; the column is its first.
+    #[error("record {record}: the field at column {column} is invalid")]
     BadColumn { record: u64, column: usize },
 
     /// 13: the reader failed.
+    #[error("record {record}: the reader failed")]
     ReadFault { record: u64 },
 
     /// 14: more bytes came than the limit allows.
+    #[error("record {record}: more bytes came than the limit allows")]
     ReaderNeverEnds { record: u64 },
 }
 
@@ -66,23 +70,3 @@ impl RecordFault {
         }
     }
 }
-
-impl fmt::Display for RecordFault {
-    ghost output = { λ f. Some (fault_text f) };
-
-    fn fmt<W: fmt::Write>(&self, f: &mut fmt::Formatter<W>) -> fmt::Result {
-        match self {
-            RecordFault::Short { record } => write!(f, "Short record {record}"),
-            RecordFault::BadType { record } => write!(f, "BadType record {record}"),
-            RecordFault::BadColumn { record, column } => {
-                write!(f, "BadColumn record {record} column {column}")
-            }
-            RecordFault::ReadFault { record } => write!(f, "ReadFault record {record}"),
-            RecordFault::ReaderNeverEnds { record } => {
-                write!(f, "ReaderNeverEnds record {record}")
-            }
-        }
-    }
-}
-
-impl Error for RecordFault {}

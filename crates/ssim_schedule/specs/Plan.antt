@@ -2,7 +2,7 @@
 use Rattle.std.specs.Prelude.{◌≡◌, ℕ, ◌+◌, ◌%◌, ◌^◌, ◌&&◌, nat_lt, if◌then◌else◌, List, [], ◌∷◌, ◌++◌, map, length, Option, Some, None, Result, Ok, Err, codes}
 use Rattle.std.specs.List.{flat_map, All}
 use Rattle.std.specs.Io.KnownBytes.{Appends}
-use Rattle.ssim_values.specs.Flight.{FlightNumber, flight_text}
+use Rattle.ssim_values.specs.Flight.{FlightNumber}
 use Rattle.ssim_records.specs.Record.{written}
 use Rattle.ssim_records.specs.declared.record.Record.{Record}
 use Rattle.ssim_base.specs.ReadBack.{HasFrame, IsWritable, ReadsBackFrom}
@@ -13,6 +13,8 @@ use Rattle.ssim_schedule.specs.Schedule.{Table}
 use Rattle.ssim_base.specs.Sinks.{TakesFront}
 use Rattle.ssim_schedule.specs.declared.export.ExportFault.{ExportFault}
 use Rattle.ssim_schedule.specs.declared.export.ExportFault.TheVariants.{Variations, Records, WriteFault, Memory}
+use Rattle.ssim_base.specs.declared.place.Place.{Place}
+use Rattle.ssim_base.specs.declared.place.Place.TheVariants.{Nowhere, Flight}
 
 -- a flight and its pieces
 abbrev pub Planned : Type 0
@@ -105,12 +107,12 @@ export_fault_name Records = codes "Records"
 export_fault_name WriteFault = codes "WriteFault"
 export_fault_name Memory = codes "Memory"
 
--- how a fault is displayed: its name, and the flight if it names one
-abbrev pub export_fault_text : ExportFault → List ℕ
-export_fault_text (Variations flight) = codes "Variations flight " ++ flight_text flight
-export_fault_text Records = codes "Records"
-export_fault_text WriteFault = codes "WriteFault"
-export_fault_text Memory = codes "Memory"
+-- the flight of this airline, if the fault names one
+abbrev pub export_fault_place : List ℕ → ExportFault → Place
+export_fault_place airline (Variations flight) = Flight (record { airline = airline; flight = flight })
+export_fault_place airline Records = Nowhere
+export_fault_place airline WriteFault = Nowhere
+export_fault_place airline Memory = Nowhere
 
 -- the same for a base, whose header, carrier and trailer stand around it
 abbrev pub WritesBase : {W : Type 0} → (W → Option (List ℕ)) → (W → ℕ) → List Record → (FlightNumber → Days) → W → W → Type 0

@@ -16,31 +16,35 @@ use crate::export::plan::{divide, measure};
 use crate::flight_blocks::FlightBlocks;
 use crate::schedule::Schedule;
 use ssim_base::laws::{export_bytes_read_back, export_reads_back};
-use ssim_base::{Base, BaseFrame, DataSet};
+use ssim_base::{Base, BaseFrame, DataSet, Place};
 use ssim_records::{Carrier, Header, Sink, Trailer};
-use ssim_values::{Flight, Memory};
+use ssim_values::{Airline, Designator, Flight, Memory};
 use std::alloc::Global;
-use std::error::Error;
-use std::fmt;
+use thiserror::Error;
 
-/// Why a timetable was not exported. It is displayed as its name, with the flight if it names one.
-#[derive(Clone, Copy, Debug, PartialEq, Eq)]
+/// Why a timetable was not exported.
+#[derive(Clone, Copy, Debug, Error, PartialEq, Eq)]
 pub enum ExportFault {
     /// 50: the flight needs more than 99 itinerary variations. Nothing was written.
+    #[error("flight {0} needs more than 99 itinerary variations")]
     Variations(Flight),
 
     /// 51: there would be more than 999,999 records, fill not counted. Nothing was written.
+    #[error("the export needs more than 999,999 records")]
     Records,
 
     /// 52: the sink failed, or took no byte. It has taken a prefix of the export.
+    #[error("the sink failed, or took no byte")]
     WriteFault,
 
     /// 90: out of memory. Nothing was written.
+    #[error("out of memory")]
     Memory,
 }
 
 impl ExportFault {
     ghost use Rattle.ssim_schedule.specs.Plan.{export_fault_name, export_fault_number};
+    ghost use Rattle.ssim_schedule.specs.Plan.{export_fault_place};
 
     /// The number of the fault: 50, 51, 52 or 90.
     pub fn number(self) -> u8
@@ -65,28 +69,17 @@ impl ExportFault {
             ExportFault::Memory => "Memory",
         }
     }
-}
 
-impl fmt::Display for ExportFault {
-    ghost use Rattle.ssim_schedule.specs.Plan.{export_fault_text};
-
-    ghost output = { λ fault. Some (export_fault_text fault) };
-
-    fn fmt<W: fmt::Write>(&self, f: &mut fmt::Formatter<W>) -> fmt::Result {
+    /// The flight that the fault names, as a flight of the airline.
+    pub fn place(self, airline: Airline) -> Place
+        ensures { result ≡ export_fault_place airline self }
+    {
         match self {
-            ExportFault::Variations(flight) => {
-                let text = flight.write();
-                let text = str::from_utf8(text.as_slice()).map_err(|_| fmt::Error)?;
-                write!(f, "Variations flight {text}")
-            }
-            ExportFault::Records => write!(f, "Records"),
-            ExportFault::WriteFault => write!(f, "WriteFault"),
-            ExportFault::Memory => write!(f, "Memory"),
+            ExportFault::Variations(flight) => Place::Flight(Designator { airline, flight }),
+            ExportFault::Records | ExportFault::WriteFault | ExportFault::Memory => Place::Nowhere,
         }
     }
 }
-
-impl Error for ExportFault {}
 
 impl From<Memory> for ExportFault {
     ghost use Rattle.ssim_schedule.specs.declared.export.ExportFault.TheVariants.{Memory};

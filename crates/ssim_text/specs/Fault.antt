@@ -1,6 +1,5 @@
--- The numbers, names and printed texts of faults.
-use Rattle.std.specs.Prelude.{ℕ, Option, Some, None, List, ◌++◌, codes}
-use Rattle.std.specs.Fmt.{decimal}
+-- The numbers, names and lines of faults.
+use Rattle.std.specs.Prelude.{ℕ, Option, Some, None, List, codes}
 use Rattle.ssim_text.specs.declared.fault.Fault.{Fault}
 use Rattle.ssim_text.specs.declared.fault.Fault.TheVariants.{BadKind, BadReference, BadAction, BadFlight, BadPeriod, BadEquipment, BadLeg, Extra, TooMany, NotAscii}
 use Rattle.ssim_text.specs.declared.fault.TextFault.{TextFault}
@@ -41,8 +40,3 @@ text_fault_name (Refused fault line) = fault_name fault
 abbrev pub text_fault_line : TextFault → Option ℕ
 text_fault_line Memory = None
 text_fault_line (Refused fault line) = Some line
-
--- the name, and the line if there is one
-abbrev pub text_fault_text : TextFault → List ℕ
-text_fault_text Memory = codes "Memory"
-text_fault_text (Refused fault line) = fault_name fault ++ codes " line " ++ decimal line

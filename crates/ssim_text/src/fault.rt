@@ -1,33 +1,43 @@
 //! Why a text is refused.
-ghost use Rattle.std.specs.Prelude.{◌≡◌, Some};
-ghost use Rattle.ssim_text.specs.Fault.{fault_name, fault_number, text_fault_line, text_fault_name, text_fault_number, text_fault_text};
+ghost use Rattle.std.specs.Prelude.{◌≡◌};
+ghost use Rattle.ssim_text.specs.Fault.{fault_name, fault_number, text_fault_line, text_fault_name};
+ghost use Rattle.ssim_text.specs.Fault.{text_fault_number};
 
 use std::alloc::AllocError;
-use std::error::Error;
-use std::fmt;
+use thiserror::Error;
 
-/// What is wrong with a line of a text, or missing at its end. It is displayed as its name.
-#[derive(Clone, Copy, Debug, PartialEq, Eq)]
+/// What is wrong with a line of a text, or missing at its end.
+#[derive(Clone, Copy, Debug, Error, PartialEq, Eq)]
 pub enum Fault {
     /// 20: expected `SSM` or `ASM`, or an originator before them.
+    #[error("expected SSM or ASM, or an originator before them")]
     BadKind,
     /// 21: expected a reference.
+    #[error("expected a reference")]
     BadReference,
     /// 22: expected one of the five actions.
+    #[error("expected NEW, CNL, RPL, EQT or TIM")]
     BadAction,
     /// 23: expected a flight, in an ASM with its date.
+    #[error("expected a flight, in an ASM with its date")]
     BadFlight,
     /// 24: expected a period.
+    #[error("expected a first date, a last date and days of operation")]
     BadPeriod,
     /// 25: expected an equipment.
+    #[error("expected service type and aircraft type")]
     BadEquipment,
     /// 26: expected a leg line, or the line is not allowed after leg lines.
+    #[error("expected a leg line, or a segment line whose points are on the way")]
     BadLeg,
     /// 27: a further line after a complete sub-message.
+    #[error("a further line after a complete sub-message")]
     Extra,
     /// 28: more than 65,536 bytes, 250 sub-messages, 20 leg lines or 99 segment lines.
+    #[error("more than 65,536 bytes, 250 sub-messages, 20 leg lines or 99 segment lines")]
     TooMany,
     /// 29: a byte outside 32 to 126.
+    #[error("a byte outside 32 to 126")]
     NotAscii,
 }
 
@@ -69,23 +79,14 @@ impl Fault {
     }
 }
 
-impl fmt::Display for Fault {
-    ghost output = { λ fault. Some (fault_name fault) };
-
-    fn fmt<W: fmt::Write>(&self, f: &mut fmt::Formatter<W>) -> fmt::Result {
-        let name = self.name();
-        write!(f, "{name}")
-    }
-}
-
-impl Error for Fault {}
-
-/// Why a text is refused, and at which line. It is displayed as its name and the line: `BadLeg line 8`.
-#[derive(Clone, Copy, Debug, PartialEq, Eq)]
+/// Why a text is refused, and at which line.
+#[derive(Clone, Copy, Debug, Error, PartialEq, Eq)]
 pub enum TextFault {
     /// 90: out of memory.
+    #[error("out of memory")]
     Memory,
     /// 20 to 29, at a line of the text, from 1.
+    #[error("line {line}: {fault}")]
     Refused { fault: Fault, line: usize },
 }
 
@@ -120,19 +121,6 @@ impl TextFault {
         }
     }
 }
-
-impl fmt::Display for TextFault {
-    ghost output = { λ fault. Some (text_fault_text fault) };
-
-    fn fmt<W: fmt::Write>(&self, f: &mut fmt::Formatter<W>) -> fmt::Result {
-        match self {
-            TextFault::Memory => write!(f, "Memory"),
-            TextFault::Refused { fault, line } => write!(f, "{fault} line {line}"),
-        }
-    }
-}
-
-impl Error for TextFault {}
 
 impl From<AllocError> for TextFault {
     ghost use Rattle.ssim_text.specs.declared.fault.TextFault.TheVariants.{Memory};

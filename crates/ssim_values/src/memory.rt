@@ -1,13 +1,13 @@
 //! Out of memory.
-ghost use Rattle.std.specs.Prelude.{◌≡◌, Some};
+ghost use Rattle.std.specs.Prelude.{◌≡◌};
 ghost use Rattle.ssim_values.specs.Fault.{memory_name};
 
 use std::alloc::{AllocError, AllocFailed};
-use std::error::Error;
-use std::fmt;
+use thiserror::Error;
 
-/// Out of memory: refusal 90 of every crate that allocates. It is displayed as its name.
-#[derive(Clone, Copy, Debug, PartialEq, Eq)]
+/// Out of memory: refusal 90 of every crate that allocates.
+#[derive(Clone, Copy, Debug, Error, PartialEq, Eq)]
+#[error("out of memory")]
 pub struct Memory;
 
 impl Memory {
@@ -25,17 +25,6 @@ impl Memory {
         "Memory"
     }
 }
-
-impl fmt::Display for Memory {
-    ghost output = { λ _. Some memory_name };
-
-    fn fmt<W: fmt::Write>(&self, f: &mut fmt::Formatter<W>) -> fmt::Result {
-        let name = self.name();
-        write!(f, "{name}")
-    }
-}
-
-impl Error for Memory {}
 
 impl From<AllocError> for Memory {
     fn from(_refused: AllocError) -> Memory {

@@ -10,10 +10,10 @@ use super::on_refusal;
 use crate::data_set::sum_bytes;
 use crate::refusal::Refusal;
 use crate::rehearse::script::Script;
-use ssim_base::{BaseFault, BaseRefusal, StationFault, Stations};
+use ssim_base::{BaseFault, BaseRefusal, Place, StationFault, Stations};
 use ssim_desk::{DeskFault, Holdings};
 use ssim_guide::{words_on_line, words_on_offset, words_on_overlap, words_on_record};
-use ssim_records::{Parts, RecordFault};
+use ssim_records::Parts;
 use ssim_text::{TextFault, decode};
 use ssim_values::Memory;
 use std::alloc::{AllocError, Global};
@@ -132,42 +132,36 @@ fn station_table(alloc: Global, bytes: &[u8]) -> Result<Option<Refusal>, Memory>
 
 /// The words on the place of a refusal in the file.
 fn words_on_place(alloc: Global, bytes: &[u8], refusal: &Refusal) -> Result<Vec<u8>, AllocError> {
-    let number = refusal.number();
+    match refusal.place() {
+        Place::Record(record) => words_on_refused(alloc, bytes, record, refusal),
+        Place::Column { record, column } => words_on_record(alloc, bytes, record, Some(column)),
+        Place::Line(line) => words_on_line(alloc, bytes, line, refusal.number()),
+        Place::Offset(offset) => words_on_offset(alloc, bytes, offset),
+        _ => Ok(Vec::new(alloc)),
+    }
+}
+
+/// The words on a record that is refused.
+fn words_on_refused(
+    alloc: Global,
+    bytes: &[u8],
+    record: u64,
+    refusal: &Refusal,
+) -> Result<Vec<u8>, AllocError> {
     match refusal {
-        Refusal::DataSet(fault) => words_on_fault(alloc, bytes, *fault),
-        Refusal::Desk(DeskFault::File(offset)) => words_on_offset(alloc, bytes, *offset),
-        Refusal::Desk(DeskFault::Text(TextFault::Refused { line, .. })) => {
-            words_on_line(alloc, bytes, *line as u64, number)
+        Refusal::DataSet(BaseFault::Refused(_, BaseRefusal::Overlap)) => {
+            words_on_overlap(alloc, bytes, record)
         }
-        Refusal::Stations(StationFault::Stations(line)) => {
-            words_on_line(alloc, bytes, *line, number)
+        Refusal::DataSet(BaseFault::Refused(_, why)) => {
+            words_on_record(alloc, bytes, record, column_of(*why))
         }
-        Refusal::Script { line } => words_on_line(alloc, bytes, *line, number),
-        _ => Ok(Vec::new(alloc)),
+        _ => words_on_record(alloc, bytes, record, None),
     }
 }
 
-/// The words on the record of a fault.
-fn words_on_fault(alloc: Global, bytes: &[u8], fault: BaseFault) -> Result<Vec<u8>, AllocError> {
-    match fault {
-        BaseFault::Read(RecordFault::BadColumn { record, column }) => {
-            words_on_record(alloc, bytes, record, Some(column))
-        }
-        BaseFault::Read(RecordFault::Short { record } | RecordFault::BadType { record }) => {
-            words_on_record(alloc, bytes, record, None)
-        }
-        BaseFault::Refused(record, BaseRefusal::Overlap) => words_on_overlap(alloc, bytes, record),
-        BaseFault::Refused(record, refusal) => {
-            words_on_record(alloc, bytes, record, column_of(refusal))
-        }
-        _ => Ok(Vec::new(alloc)),
-    }
-}
-
-/// The first column of the field that is refused, if it is one field.
+/// The first column of the field for which a record is refused, if it is one field.
 fn column_of(refusal: BaseRefusal) -> Option<usize> {
     match refusal {
-        BaseRefusal::OpenEnd => Some(22),
         BaseRefusal::OtherAirline => Some(3),
         BaseRefusal::Frequency => Some(36),
         BaseRefusal::Overflow => Some(128),
