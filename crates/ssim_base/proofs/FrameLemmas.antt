@@ -10,7 +10,7 @@ use Rattle.ssim_records.specs.declared.record.Record.{Record}
 use Rattle.ssim_records.specs.declared.record.Record.TheVariants.{Header, Carrier, Leg, Segment, Trailer}
 use Rattle.ssim_base.specs.Base.{airline_of, first_refusal, kept, kept_all, notes_of}
 use Rattle.ssim_base.specs.BaseSeen.{AreOfFrame, WasRead}
-use Rattle.ssim_base.specs.Building.{IsClosed}
+use Rattle.ssim_base.specs.Closed.{IsClosed}
 use Rattle.ssim_base.specs.Export.{Frame, frame_from}
 use Rattle.ssim_base.specs.ReadBack.{CanExport, HasFrame}
 use Rattle.ssim_base.proofs.ReadingBack.{frame-is}

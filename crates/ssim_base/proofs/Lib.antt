@@ -20,7 +20,7 @@ pub mod Whole
 pub mod DateLemmas
 pub mod LegSequences
 pub mod LegTables
-pub mod KeptLemmas
+pub mod AcceptanceLemmas
 mod NotedReads
 mod RecordPieces
 pub mod ReadingBack

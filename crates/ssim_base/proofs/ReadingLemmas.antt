@@ -15,15 +15,15 @@ use Rattle.ssim_records.specs.declared.record.Record.{Record}
 use Rattle.ssim_records.specs.declared.records.Ending as records
 use Rattle.ssim_records.proofs.Framing.{takes_all}
 use Rattle.ssim_base.specs.Base.{Ending, Done, Broken, Outcome, at_record, check_notes, data_set, first_refusal, kept, kept_all, missing, note_if, notes_of, refusal_at, unless_refused}
-use Rattle.ssim_base.specs.Gathering.{IsSoFar, notes_at}
-use Rattle.ssim_base.specs.Kept.{IsKept, IsRefused, Stood}
+use Rattle.ssim_base.specs.DataSetReader.{IsSoFar, notes_at}
+use Rattle.ssim_base.specs.Acceptance.{HasAccepted, IsRefused, Stood}
 use Rattle.ssim_base.specs.Reading.{AreBlocks, AreGiven, AreGivenOf, Begins, Came, FailsAfter, Gives, IsReadOf, NeverEnds, Refuses, Stops}
 use Rattle.ssim_base.specs.ReadBack.{EachSpells}
 use Rattle.ssim_base.specs.declared.fault.BaseFault.{BaseFault}
 use Rattle.ssim_base.specs.declared.fault.BaseFault.TheVariants as fault
 use Rattle.ssim_base.specs.declared.fault.BaseFault.TheVariants.{Read, Refused}
 use Rattle.ssim_base.specs.declared.fault.BaseRefusal.{BaseRefusal}
-use Rattle.ssim_base.specs.declared.gathering.Gathering.{Gathering}
+use Rattle.ssim_base.specs.declared.data_set_reader.DataSetReader.{DataSetReader}
 use Rattle.ssim_base.specs.declared.note.Note.{Note}
 use Rattle.ssim_base.specs.declared.note.Note.TheVariants.{Serial}
 
@@ -36,7 +36,7 @@ abbrev records_in : List Numbered → List Record
 records_in = map (λ r. r.1)
 
 -- nothing was read
-pub nothing : (g : Gathering) → IsKept g.kept [] → g.notes.items ≡ [] → g.previous ≡ 0 → IsSoFar g [] []
+pub nothing : (g : DataSetReader) → HasAccepted g.kept [] → g.notes.items ≡ [] → g.previous ≡ 0 → IsSoFar g [] []
 nothing g is notes previous = record {
   is_kept = is;
   records = λ i x below. absurd (omega arith);
@@ -50,7 +50,7 @@ all-one x h zero d below = h
 all-one x h (suc k) d below = absurd (omega (arith, below))
 
 -- one record more was read
-pub one-more : (old new : Gathering) (earlier : List Record) (done : List Numbered) (x : Numbered) → IsSoFar old earlier done → Stood new.kept earlier x.1
+pub one-more : (old new : DataSetReader) (earlier : List Record) (done : List Numbered) (x : Numbered) → IsSoFar old earlier done → Stood new.kept earlier x.1
     → new.notes.items ≡ old.notes.items ++ notes_at x.0 old.previous x.1 → new.previous ≡ serial_of x.1 → IsRecord x.1
     → IsSoFar new (kept earlier x.1 ∷ earlier) (done ++ x ∷ [])
 one-more old new earlier done x so_far stood notes previous is = record {
@@ -75,7 +75,7 @@ one-more old new earlier done x so_far stood notes previous is = record {
 }
 
 -- the outcome where a record is refused, whatever comes behind it
-refused-outcome : (g : Gathering) (earlier : List Record) (done later : List Numbered) (ending : Ending) (x : Numbered) (refusal : BaseRefusal) → IsSoFar g earlier done
+refused-outcome : (g : DataSetReader) (earlier : List Record) (done later : List Numbered) (ending : Ending) (x : Numbered) (refusal : BaseRefusal) → IsSoFar g earlier done
     → refusal_at earlier x.1 ≡ Some refusal → Err (Refused x.0 refusal) ≡ data_set ending ((done ++ x ∷ []) ++ later)
 refused-outcome g earlier done later ending x refusal so_far is =
     sym (ap (λ o. unless_refused o (kept_all [] (records_in ((done ++ x ∷ []) ++ later)), notes_of 0 ((done ++ x ∷ []) ++ later)))
@@ -84,7 +84,7 @@ refused-outcome g earlier done later ending x refusal so_far is =
     ∙ ap (λ o. at_record x.0 o (first_refusal ending (kept earlier x.1 ∷ earlier) later)) is))
 
 -- the outcome where reading fails
-fault-outcome : (g : Gathering) (earlier : List Record) (done : List Numbered) (f : RecordFault) → IsSoFar g earlier done → Err (Read f) ≡ data_set (Broken f) done
+fault-outcome : (g : DataSetReader) (earlier : List Record) (done : List Numbered) (f : RecordFault) → IsSoFar g earlier done → Err (Read f) ≡ data_set (Broken f) done
 fault-outcome g earlier done f so_far =
     sym (ap (λ o. unless_refused o (kept_all [] (records_in done), notes_of 0 done))
     (ap (first_refusal (Broken f) []) (sym (append-nil done)) ∙ so_far.refused (Broken f) []))
@@ -230,7 +230,7 @@ stops limit all left left' r new done (ReaderNeverEnds n) same t given number =
     let last = a.0 in
     (last.0, subst (λ k. 0 < k) (over-is limit all left r done t same) a.1, number ∙ ap (λ n. n + 1) (last.1 ∙ t.count))
 
-pub told-fault : (limit : ℕ) (told left left' : Option (List ℕ)) (r new : Reading) (g : Gathering) (earlier : List Record) (done : List Numbered) (f : RecordFault) → r.limit ≡ limit
+pub told-fault : (limit : ℕ) (told left left' : Option (List ℕ)) (r new : Reading) (g : DataSetReader) (earlier : List Record) (done : List Numbered) (f : RecordFault) → r.limit ≡ limit
     → IsSoFar g earlier done → Told limit told left r done → GivesNext r left new left' (Err f) → HasNumber new.number (Err f) → IsReadOf limit told (Err (Read f))
 told-fault limit None left left' r new g earlier done f same so_far t given number = tt
 told-fault limit (Some all) None left' r new g earlier done f same so_far t given number = absurd t
@@ -243,7 +243,7 @@ told-fault limit (Some all) (Some left) (Some left') r new g earlier done f same
       is = fault-outcome g earlier done f so_far;
     })
 
-pub told-refused : (limit : ℕ) (told left left' : Option (List ℕ)) (r new : Reading) (g : Gathering) (earlier : List Record) (done : List Numbered) (x : Numbered) (refusal : BaseRefusal)
+pub told-refused : (limit : ℕ) (told left left' : Option (List ℕ)) (r new : Reading) (g : DataSetReader) (earlier : List Record) (done : List Numbered) (x : Numbered) (refusal : BaseRefusal)
     → IsSoFar g earlier done → Told limit told left r done → GivesNext r left new left' (Ok (Some x)) → refusal_at earlier x.1 ≡ Some refusal → IsReadOf limit told (Err (Refused x.0 refusal))
 told-refused limit None left left' r new g earlier done x refusal so_far t given is = tt
 told-refused limit (Some all) None left' r new g earlier done x refusal so_far t given is = absurd t
@@ -269,7 +269,7 @@ while-open None e h = h
 while-open (Some x) e h = absurd cc
 
 -- the refusal of a record, where one more was read
-pub step-refused : (limit : ℕ) (told left left' : Option (List ℕ)) (r new : Reading) (g : Gathering) (earlier : List Record) (done : List Numbered) (x : Numbered) (e : BaseFault)
+pub step-refused : (limit : ℕ) (told left left' : Option (List ℕ)) (r new : Reading) (g : DataSetReader) (earlier : List Record) (done : List Numbered) (x : Numbered) (e : BaseFault)
     → IsSoFar g earlier done → Told limit told left r done → GivesNext r left new left' (Ok (Some x)) → IsRefused x.0 earlier x.1 e → Refuses limit told e
 step-refused limit told left left' r new g earlier done x fault.Memory so_far t given is = tt
 step-refused limit told left left' r new g earlier done x (Read f) so_far t given is = absurd is
@@ -328,7 +328,7 @@ never-fails all left n earlier r (Refused m refusal) is = tt
 -- ---- behind the last record
 
 -- nothing is missing: the records and notes so far are the outcome
-pub whole-outcome : (g : Gathering) (earlier : List Record) (done : List Numbered) (number : ℕ) → IsSoFar g earlier done → missing earlier ≡ None
+pub whole-outcome : (g : DataSetReader) (earlier : List Record) (done : List Numbered) (number : ℕ) → IsSoFar g earlier done → missing earlier ≡ None
     → Ok (reverse earlier, g.notes.items) ≡ data_set (Done number) done
 whole-outcome g earlier done number so_far whole =
     ap (λ rs. outcome rs g.notes.items) (sym (append-nil (reverse earlier)) ∙ sym (so_far.kept []) ∙ ap (λ rs. kept_all [] (records_in rs)) (append-nil done))
@@ -340,7 +340,7 @@ whole-outcome g earlier done number so_far whole =
     outcome rs ns = Ok (rs, ns)
 
 -- something is missing
-pub missing-outcome : (g : Gathering) (earlier : List Record) (done : List Numbered) (number : ℕ) (refusal : BaseRefusal) → IsSoFar g earlier done → missing earlier ≡ Some refusal
+pub missing-outcome : (g : DataSetReader) (earlier : List Record) (done : List Numbered) (number : ℕ) (refusal : BaseRefusal) → IsSoFar g earlier done → missing earlier ≡ Some refusal
     → Err (Refused number refusal) ≡ data_set (Done number) done
 missing-outcome g earlier done number refusal so_far lacking =
     sym (ap (λ o. unless_refused o (kept_all [] (records_in done), notes_of 0 done))

@@ -4,8 +4,8 @@ use Rattle.ssim_records.specs.Carrier.{CarrierFields}
 use Rattle.ssim_text.specs.Message.{MessageValue}
 use Rattle.ssim_text.specs.declared.action.Sub.{Sub}
 use Rattle.ssim_base.specs.Resolve.{HasReferenceDate, IsFirstRefused, IsRefused, same_mode}
-use Rattle.ssim_base.specs.declared.resolving.ResolveFault.{ResolveFault}
-use Rattle.ssim_base.specs.declared.resolving.ResolveFault.TheVariants as fault
+use Rattle.ssim_base.specs.declared.resolution.ResolveFault.{ResolveFault}
+use Rattle.ssim_base.specs.declared.resolution.ResolveFault.TheVariants as fault
 
 -- no sub-message is refused for the time mode
 no-mode : (k : CarrierFields) (n : ℕ) (subs : List Sub) → IsFirstRefused k n subs fault.TimeMode → ⊥

@@ -19,10 +19,10 @@ use Rattle.ssim_text.specs.declared.reference.Reference.{Reference}
 use Rattle.ssim_base.specs.Export.{Frame}
 use Rattle.ssim_base.specs.ReadBack.{HasFrame}
 use Rattle.ssim_base.specs.Resolve.{AreDates, AreResolved, AreTurned, HasOneOutcome, IsFirstRefused, IsNext, IsOutcome, IsRefused, IsRefusedBySub, IsReferenceRefused, IsResolved, IsSameOutcome, IsSubRefused, LackYear, Means, MeansEnd, MeansNoEnd, MeansNone, Resolves, ResolvesIn, same_mode}
-use Rattle.ssim_base.specs.declared.resolved.ResolvedSub.{ResolvedSub}
-use Rattle.ssim_base.specs.declared.resolving.ResolveFault.{ResolveFault}
-use Rattle.ssim_base.specs.declared.resolving.ResolveFault.TheVariants as fault
-use Rattle.ssim_base.specs.declared.resolving.ResolvedText.{ResolvedText}
+use Rattle.ssim_base.specs.declared.sub_message.ResolvedSub.{ResolvedSub}
+use Rattle.ssim_base.specs.declared.resolution.ResolveFault.{ResolveFault}
+use Rattle.ssim_base.specs.declared.resolution.ResolveFault.TheVariants as fault
+use Rattle.ssim_base.specs.declared.resolution.ResolvedText.{ResolvedText}
 use Rattle.ssim_base.proofs.Bytes.{same-frame}
 
 -- ---- dates

@@ -27,13 +27,13 @@ kept-serial e n (Segment r) = refl
 kept-serial e n (Trailer r) = refl
 
 -- a record that a base keeps as it is
-abbrev pub IsKept : Record → Type 0
-IsKept r = (e : List Record) → kept e r ≡ r
+abbrev pub HasAccepted : Record → Type 0
+HasAccepted r = (e : List Record) → kept e r ≡ r
 
-leg-kept : (a : List ℕ) (f : FlightNumber) (v : ℕ) (period : DayRange) (l : LegValue) → Each IsKept (leg_records a f v period l)
-leg-kept a f v period l = (λ e. refl, each-map IsKept (tail_record (own_name a f v l) (slice_index l.columns 0)) l.tails (λ t e. refl))
+leg-kept : (a : List ℕ) (f : FlightNumber) (v : ℕ) (period : DayRange) (l : LegValue) → Each HasAccepted (leg_records a f v period l)
+leg-kept a f v period l = (λ e. refl, each-map HasAccepted (tail_record (own_name a f v l) (slice_index l.columns 0)) l.tails (λ t e. refl))
 
-kept-body : (e : List Record) (n : ℕ) (body : List Record) (t : TrailerFields) → Each IsKept body
+kept-body : (e : List Record) (n : ℕ) (body : List Record) (t : TrailerFields) → Each HasAccepted body
     → kept_all e (numbered n body ++ Trailer t ∷ []) ≡ body ++ Trailer (record t { check = 0; serial = 0 }) ∷ []
 kept-body e n [] t h = refl
 kept-body e n (r ∷ rs) t h =
@@ -46,7 +46,7 @@ based frame body =
     Header (record frame.header { serial = 0 }) ∷ Carrier (record frame.carrier { serial = 0 })
     ∷ (body ++ Trailer (record frame.trailer { check = 0; serial = 0 }) ∷ [])
 
-base-is : (frame : Frame) (body : List Record) → Each IsKept body → base_of (records_of (sections frame body)) ≡ based frame body
+base-is : (frame : Frame) (body : List Record) → Each HasAccepted body → base_of (records_of (sections frame body)) ≡ based frame body
 unfolding based
 base-is frame body h =
     let top : Record = Header (record frame.header { serial = 0 }) in
@@ -68,7 +68,7 @@ unfolding body_of
 base-export frame days s h =
     let body = flights_records frame.carrier.airline days all_flights in
     ap (λ t. base_of (records_of t)) (sym (exported (export_refusal frame.carrier.airline days 2 all_flights) (sections frame body) s h))
-    ∙ base-is frame body (each-flights IsKept leg-kept frame.carrier.airline days all_flights)
+    ∙ base-is frame body (each-flights HasAccepted leg-kept frame.carrier.airline days all_flights)
 
 pub base-frame : (frame : Frame) (days : FlightNumber → Days) (s : List (List Record)) → chapter7_records frame days ≡ Ok s
     → HasFrame (kept_frame frame) (base_of (records_of s))

@@ -3,13 +3,13 @@ pub mod Base
 pub mod Export
 pub mod ItineraryLaws
 pub mod ReadBack
-pub mod Building
+pub mod Closed
 pub mod Sinks
 pub mod Dates
 pub mod LegTable
-pub mod KeptRecords
-pub mod Kept
-pub mod Gathering
+pub mod AcceptedRecords
+pub mod Acceptance
+pub mod DataSetReader
 pub mod Stations
 pub mod BaseSeen
 pub mod Reading

@@ -18,12 +18,12 @@ use Rattle.ssim_values.specs.declared.time_mode.TimeMode.TheVariants.{Utc, Local
 use Rattle.ssim_base.specs.Base.{end_of}
 use Rattle.ssim_base.specs.Export.{Frame}
 use Rattle.ssim_base.specs.ReadBack.{HasFrame}
-use Rattle.ssim_base.specs.declared.resolving.DatesFault.{DatesFault}
-use Rattle.ssim_base.specs.declared.resolving.DatesFault.TheVariants as dates_fault
-use Rattle.ssim_base.specs.declared.resolving.ResolveFault.{ResolveFault}
-use Rattle.ssim_base.specs.declared.resolving.ResolveFault.TheVariants as fault
-use Rattle.ssim_base.specs.declared.resolving.ResolvedText.{ResolvedText}
-use Rattle.ssim_base.specs.declared.resolved.ResolvedSub.{ResolvedSub}
+use Rattle.ssim_base.specs.declared.resolution.DatesFault.{DatesFault}
+use Rattle.ssim_base.specs.declared.resolution.DatesFault.TheVariants as dates_fault
+use Rattle.ssim_base.specs.declared.resolution.ResolveFault.{ResolveFault}
+use Rattle.ssim_base.specs.declared.resolution.ResolveFault.TheVariants as fault
+use Rattle.ssim_base.specs.declared.resolution.ResolvedText.{ResolvedText}
+use Rattle.ssim_base.specs.declared.sub_message.ResolvedSub.{ResolvedSub}
 
 -- ---- dates
 

@@ -4,7 +4,7 @@ ghost use Rattle.std.specs.Prelude.{◌≡◌, ◌↔◌, IsTrue, IfOk, IfErr};
 ghost use Rattle.std.specs.List.{All};
 ghost use Rattle.ssim_base.specs.Base.{airline_of};
 ghost use Rattle.ssim_base.specs.BaseSeen.{AreFlights, WasRead};
-ghost use Rattle.ssim_base.specs.Building.{IsClosed};
+ghost use Rattle.ssim_base.specs.Closed.{IsClosed};
 ghost use Rattle.ssim_base.specs.ReadBack.{AreInOrder, HasFrame};
 ghost use Rattle.ssim_base.specs.Reading.{Answers, Came, FailsAfter, FailsAs, IsReadOf, NeverEnds};
 ghost use Rattle.ssim_base.specs.SavedBase.{IsBaseRecords};

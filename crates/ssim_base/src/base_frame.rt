@@ -8,7 +8,7 @@ ghost use Rattle.ssim_base.specs.Export.{Frame, frame_from};
 ghost use Rattle.ssim_base.specs.ReadBack.{HasFrame, IsFrame, IsWritableFrame};
 ghost use Rattle.ssim_base.specs.Resolve.{IsRefusedIn, ResolvesIn};
 
-use crate::resolving::{ResolveFault, ResolvedText, resolve_by};
+use crate::resolution::{ResolveFault, ResolvedText, resolve_by};
 use ssim_records::{Carrier, Header, Record, Trailer};
 use ssim_text::Message;
 use ssim_values::Airline;

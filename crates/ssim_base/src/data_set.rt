@@ -4,20 +4,19 @@ ghost use Rattle.std.specs.Prelude.{◌≡◌, ◌↔◌, ◌++◌, ℕ, List, O
 ghost use Rattle.std.specs.List.{All, flat_map};
 ghost use Rattle.ssim_records.specs.declared.record.Record.{Record};
 ghost use Rattle.ssim_base.specs.Base.{airline_of};
-ghost use Rattle.ssim_base.specs.Building.{IsClosed};
+ghost use Rattle.ssim_base.specs.Closed.{IsClosed};
 ghost use Rattle.ssim_base.specs.ReadBack.{AreInOrder, CanExport, HasFrame};
 ghost use Rattle.ssim_base.specs.Reading.{AnswersAs, AnswersRecords, Came, FailsAfter, FailsAs, IsReadOf, NeverEnds};
 ghost use Rattle.ssim_base.specs.SavedBase.{IsBaseRecords};
 ghost use Rattle.ssim_base.specs.Timetable.{days_of};
 
+use crate::acceptance::Acceptance;
+use crate::accepted_records::AcceptedRecords;
 use crate::base::Base;
 use crate::base_frame::BaseFrame;
+use crate::data_set_reader::{DataSetReader, read_records};
 use crate::fault::BaseFault;
-use crate::gathering::Gathering;
-use crate::kept::Kept;
-use crate::kept_records::KeptRecords;
 use crate::note::Note;
-use crate::reading::gather;
 use crate::record_pieces::RecordPieces;
 use crate::records_left::{RecordsLeft, are_same};
 use crate::stations::Stations;
@@ -50,9 +49,9 @@ impl Model for DataSet {
 }
 
 impl DataSet {
-    ghost use Rattle.ssim_base.specs.Gathering.{HasRead, IsWhole};
-    ghost use Rattle.ssim_base.specs.Kept.{IsKept, IsWholeBase};
-    ghost use Rattle.ssim_base.specs.KeptRecords.{InPieces, keeps};
+    ghost use Rattle.ssim_base.specs.DataSetReader.{HasRead, IsWhole};
+    ghost use Rattle.ssim_base.specs.Acceptance.{HasAccepted, IsWholeBase};
+    ghost use Rattle.ssim_base.specs.AcceptedRecords.{InPieces, keeps};
 
     /// Reads a data set, record by record. At most `limit` bytes and one more are fetched. The refusals are those of `Base::read`.
     pub fn read<R: Source>(alloc: Global, reader: &mut R, limit: u64) -> Result<DataSet, BaseFault>
@@ -78,25 +77,25 @@ impl DataSet {
         ensures fails_after { IfErr result (λ e. FailsAfter (R.left reader.old) (R.left reader.new) e) }
         ensures never_ends { IfErr result (λ e. NeverEnds limit (Came (R.left reader.old) (R.left reader.new) (R.came reader.old) (R.came reader.new)) e) }
     {
-        let records = KeptRecords::Pieces(RecordPieces::new(alloc));
-        let (gathering, number) = gather(alloc, records, reader, limit)?;
-        DataSet::finish(alloc, gathering, number)
+        let records = AcceptedRecords::Pieces(RecordPieces::new(alloc));
+        let (records_read, number) = read_records(alloc, records, reader, limit)?;
+        DataSet::finish(alloc, records_read, number)
     }
 
     // The data set of the records that were gathered, if none is missing after them, and the notes.
     fn finish(
         alloc: Global,
-        gathering: Gathering,
+        records_read: DataSetReader,
         number: u64,
     ) -> Result<(DataSet, Vec<Note>), BaseFault>
-        requires whole { IsWhole gathering }
-        requires keeps { keeps gathering.kept.records ≡ InPieces }
-        ensures read { (limit : ℕ) (told : Option (List ℕ)) → HasRead limit told gathering number → AnswersAs (λ read. (read.0, read.1.items)) result (IsReadOf limit told) }
+        requires whole { IsWhole records_read }
+        requires keeps { keeps records_read.kept.records ≡ InPieces }
+        ensures read { (limit : ℕ) (told : Option (List ℕ)) → HasRead limit told records_read number → AnswersAs (λ read. (read.0, read.1.items)) result (IsReadOf limit told) }
         ensures failure { (n : ℕ) → IfErr result (λ e. FailsAs n n e) }
         ensures fails_after { (all left : Option (List ℕ)) → IfErr result (λ e. FailsAfter all left e) }
         ensures never_ends { (limit old new : ℕ) (left others : Option (List ℕ)) → IfErr result (λ e. NeverEnds limit (Came left others old new) e) }
     {
-        let Gathering { kept, notes, .. } = gathering;
+        let DataSetReader { kept, notes, .. } = records_read;
         if let Some(refusal) = kept.missing() {
             return Err(BaseFault::Refused(number, refusal));
         }
@@ -105,10 +104,10 @@ impl DataSet {
     }
 
     /// The data set of the records that are kept, which are those of a base.
-    pub(crate) fn of_kept(alloc: Global, kept: Kept) -> Result<DataSet, Memory>
+    pub(crate) fn of_kept(alloc: Global, kept: Acceptance) -> Result<DataSet, Memory>
         requires whole { IsWholeBase kept }
         requires keeps { keeps kept.records ≡ InPieces }
-        ensures records { (earlier : List Record) → IsKept kept earlier → IfOk result (λ read. read ≡ reverse earlier) }
+        ensures records { (earlier : List Record) → HasAccepted kept earlier → IfOk result (λ read. read ≡ reverse earlier) }
     {
         let flights = kept.legs.flights()?;
         let records = kept.records.into_pieces();

@@ -9,48 +9,49 @@
 //! - [`BaseFrame`]: the header, the carrier record and the trailer of a base. Messages resolve by it, and a timetable is exported in it.
 //! - [`resolve`] and `BaseFrame::resolve`: resolve a message against a base: its reference with its year, its sub-messages with full
 //!   dates, or a [`ResolveFault`].
-//! - [`Block`]: bytes for a sink, filled by [`put_record`] and [`put_bytes`] and emptied by [`flush`], or [`WriteFault`].
+//! - [`OutputBuffer`]: bytes for a sink, filled by [`put_record`] and [`put_bytes`] and emptied by [`flush`], or [`WriteFault`].
 //! - [`laws`]: a base and its export read back; saved records read back; a message has one outcome.
 //!
 //! The promise: a data set, a station table and a message's dates are read exactly, however a reader cuts the bytes, and the first
 //! invalid record, line or date is the one that is named.
 #![tactic(auto)]
 
+mod acceptance;
+mod accepted_records;
 mod base;
 mod base_frame;
-mod block;
 mod data_set;
+mod data_set_reader;
 mod day_set;
 mod fault;
 mod flight_legs;
-mod gathering;
-mod kept;
-mod kept_records;
 pub mod laws;
 mod leg_sequence;
 mod leg_table;
 mod note;
+mod output_buffer;
 mod place;
-mod reading;
 mod record_pieces;
 mod records_left;
-mod resolved;
-mod resolving;
-mod saved;
+mod resolution;
+mod saved_lines;
 mod stations;
+mod sub_message;
 mod summary;
 mod used_dates;
 
 pub use base::{Base, BaseRead};
 pub use base_frame::BaseFrame;
-pub use block::{Block, WriteFault, flush, put_bytes, put_fill, put_leg, put_record, put_segment};
 pub use data_set::DataSet;
 pub use fault::{BaseFault, BaseRefusal};
 pub use note::Note;
+pub use output_buffer::{
+    OutputBuffer, WriteFault, flush, put_bytes, put_fill, put_leg, put_record, put_segment,
+};
 pub use place::Place;
 pub use records_left::RecordsLeft;
-pub use resolved::{Resolved, ResolvedSub};
-pub use resolving::{ResolveFault, ResolvedText, resolve};
-pub use saved::{SavedFault, read_saved};
+pub use resolution::{ResolveFault, ResolvedText, resolve};
+pub use saved_lines::{SavedFault, read_saved};
 pub use stations::{StationFault, StationRow, Stations, variation_at};
+pub use sub_message::{Resolved, ResolvedSub};
 pub use summary::Summary;

@@ -4,11 +4,10 @@ ghost use Rattle.std.specs.Prelude.{◌≡◌, ℕ, List, Option, IfOk, IfErr};
 ghost use Rattle.ssim_base.specs.Reading.{Came, FailsAfter, FailsAs, NeverEnds};
 ghost use Rattle.ssim_base.specs.Summary.{Sums};
 
+use crate::accepted_records::AcceptedRecords;
+use crate::data_set_reader::{DataSetReader, read_records};
 use crate::fault::BaseFault;
-use crate::gathering::Gathering;
-use crate::kept_records::KeptRecords;
 use crate::note::Note;
-use crate::reading::gather;
 use ssim_records::Source;
 use std::alloc::Global;
 
@@ -24,7 +23,7 @@ pub struct Summary {
 }
 
 impl Summary {
-    ghost use Rattle.ssim_base.specs.Gathering.{HasRead, IsWhole};
+    ghost use Rattle.ssim_base.specs.DataSetReader.{HasRead, IsWhole};
 
     /// Reads a data set, record by record. At most `limit` bytes and one more are fetched. The refusals are those of `Base::read`.
     pub fn read<R: Source>(alloc: Global, reader: &mut R, limit: u64) -> Result<Summary, BaseFault>
@@ -34,19 +33,19 @@ impl Summary {
         ensures fails_after { IfErr result (λ e. FailsAfter (R.left reader.old) (R.left reader.new) e) }
         ensures never_ends { IfErr result (λ e. NeverEnds limit (Came (R.left reader.old) (R.left reader.new) (R.came reader.old) (R.came reader.new)) e) }
     {
-        let (gathering, number) = gather(alloc, KeptRecords::Count(0), reader, limit)?;
-        Summary::finish(gathering, number)
+        let (records_read, number) = read_records(alloc, AcceptedRecords::Count(0), reader, limit)?;
+        Summary::finish(records_read, number)
     }
 
     // The summary of the records that were gathered, if none is missing after them.
-    fn finish(gathering: Gathering, number: u64) -> Result<Summary, BaseFault>
-        requires { IsWhole gathering }
-        ensures sums { (limit : ℕ) (told : Option (List ℕ)) → HasRead limit told gathering number → Sums limit told result }
+    fn finish(records_read: DataSetReader, number: u64) -> Result<Summary, BaseFault>
+        requires { IsWhole records_read }
+        ensures sums { (limit : ℕ) (told : Option (List ℕ)) → HasRead limit told records_read number → Sums limit told result }
         ensures failure { (n : ℕ) → IfErr result (λ e. FailsAs n n e) }
         ensures fails_after { (all left : Option (List ℕ)) → IfErr result (λ e. FailsAfter all left e) }
         ensures never_ends { (limit old new : ℕ) (left others : Option (List ℕ)) → IfErr result (λ e. NeverEnds limit (Came left others old new) e) }
     {
-        let Gathering { kept, notes, .. } = gathering;
+        let DataSetReader { kept, notes, .. } = records_read;
         if let Some(refusal) = kept.missing() {
             return Err(BaseFault::Refused(number, refusal));
         }

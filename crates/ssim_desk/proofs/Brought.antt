@@ -1,7 +1,7 @@
 -- What a desk is after the messages of another were brought.
 use Rattle.std.proofs.Common.{◌≡◌, ℕ, List, drop, All, ap, subst, ◌∙◌}
 use Rattle.ssim_held.specs.Held.{Agree}
-use Rattle.ssim_held.specs.Kept.{AreEntries, DeskSeen, Entry, map_of, state_of}
+use Rattle.ssim_held.specs.Entries.{AreEntries, DeskSeen, Entry, map_of, state_of}
 use Rattle.ssim_held.specs.Ordered.{IsFirstNew, IsMerged}
 use Rattle.ssim_held.proofs.Entries.{not_held}
 use Rattle.ssim_held.proofs.Unions.{IsHeldIn, union_first, union_held, union_is}

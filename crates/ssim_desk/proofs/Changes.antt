@@ -6,9 +6,9 @@ use Rattle.std.specs.FinMap.{get}
 use Rattle.ssim_records.specs.declared.record.Record.{Record}
 use Rattle.ssim_base.specs.BaseSeen.{BaseSeen}
 use Rattle.ssim_base.specs.Resolve.{IsRefusedIn, ResolvesIn}
-use Rattle.ssim_base.specs.declared.resolving.ResolveFault.{ResolveFault}
-use Rattle.ssim_base.specs.declared.resolving.ResolveFault.TheVariants as resolve_fault
-use Rattle.ssim_base.specs.declared.resolving.ResolvedText.{ResolvedText}
+use Rattle.ssim_base.specs.declared.resolution.ResolveFault.{ResolveFault}
+use Rattle.ssim_base.specs.declared.resolution.ResolveFault.TheVariants as resolve_fault
+use Rattle.ssim_base.specs.declared.resolution.ResolvedText.{ResolvedText}
 use Rattle.ssim_text.specs.Decoding.{IsRefusal, NoMessage}
 use Rattle.ssim_text.specs.Message.{MessageValue}
 use Rattle.ssim_text.specs.Spelling.{SpellsMessage}
@@ -17,7 +17,7 @@ use Rattle.ssim_text.specs.declared.fault.TextFault.TheVariants as text_fault
 use Rattle.ssim_text.specs.declared.reference.Reference.{Reference}
 use Rattle.ssim_held.specs.Fault.{message_refused, text_refused}
 use Rattle.ssim_held.specs.Held.{DeskState, Holds, Says}
-use Rattle.ssim_held.specs.Kept.{AreEntries, AreRising, DeskSeen, Entry, IsEntry, map_of, state_of}
+use Rattle.ssim_held.specs.Entries.{AreEntries, AreRising, DeskSeen, Entry, IsEntry, map_of, state_of}
 use Rattle.ssim_held.specs.Ordered.{Belongs}
 use Rattle.ssim_held.proofs.Entries.{map_of_with, not_held, rising_with}
 use Rattle.ssim_desk.specs.Desk.{IsReplayed}

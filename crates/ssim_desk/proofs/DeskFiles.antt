@@ -5,7 +5,7 @@ use Rattle.ssim_base.specs.BaseSeen.{BaseSeen, base_with}
 use Rattle.ssim_base.specs.SavedBase.{IsBaseRecords}
 use Rattle.ssim_base.specs.Stations.{Row}
 use Rattle.ssim_held.specs.File.{CanBeSaved, IsRow, IsSpelled, desk_file}
-use Rattle.ssim_held.specs.Kept.{AreEntries, Entry}
+use Rattle.ssim_held.specs.Entries.{AreEntries, Entry}
 
 pub file_is : (base : BaseSeen) (held es : List Entry) (records : List Record) (rows : List Row) → records ≡ base.records → rows ≡ base.rows → es ≡ held
     → desk_file (base_with records rows) es ≡ desk_file base held

@@ -11,7 +11,7 @@ use Rattle.ssim_base.specs.Stations.{Row}
 use Rattle.ssim_base.specs.Timetable.{Days, itinerary}
 use Rattle.ssim_schedule.specs.declared.export.ExportFault.{ExportFault}
 use Rattle.ssim_values.specs.Flight.{FlightNumber, IsFlight}
-use Rattle.ssim_held.specs.Kept.{Entry}
+use Rattle.ssim_held.specs.Entries.{Entry}
 use Rattle.ssim_desk.specs.Meaning.{after_entries, left_by}
 use Rattle.ssim_desk.specs.Private.{Shows}
 

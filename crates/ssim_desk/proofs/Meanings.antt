@@ -14,11 +14,11 @@ use Rattle.ssim_base.specs.BaseSeen.{BaseSeen}
 use Rattle.ssim_base.specs.Export.{Frame, chapter7}
 use Rattle.ssim_base.specs.ReadBack.{BasesExport, HasFrame}
 use Rattle.ssim_base.specs.Resolve.{ResolvesIn}
-use Rattle.ssim_base.specs.declared.resolving.ResolvedText.{ResolvedText}
+use Rattle.ssim_base.specs.declared.resolution.ResolvedText.{ResolvedText}
 use Rattle.ssim_text.specs.Message.{MessageValue}
 use Rattle.ssim_text.specs.declared.reference.Reference.{Reference}
 use Rattle.ssim_held.specs.Held.{DeskState, HasReference}
-use Rattle.ssim_held.specs.Kept.{Entry, keyed}
+use Rattle.ssim_held.specs.Entries.{Entry, keyed}
 use Rattle.ssim_held.proofs.References.{reference_apart, reference_total}
 use Rattle.ssim_held.proofs.Resolving.{one_subs}
 use Rattle.ssim_desk.specs.Meaning.{HasDates, HasExport, HasMeaning, HasOneExport, HasOneMeaning, Lists, Timetable, left_by}

@@ -7,7 +7,7 @@ use Rattle.ssim_base.specs.BaseSeen.{BaseSeen}
 use Rattle.ssim_schedule.specs.Schedule.{Table, days_in}
 use Rattle.ssim_base.specs.Timetable.{Legs}
 use Rattle.ssim_values.specs.Flight.{FlightNumber, IsFlight}
-use Rattle.ssim_held.specs.Kept.{AreEntries, DeskSeen, Entry, IsEntry, state_of}
+use Rattle.ssim_held.specs.Entries.{AreEntries, DeskSeen, Entry, IsEntry, state_of}
 use Rattle.ssim_held.proofs.Entries.{entries-map_of}
 use Rattle.ssim_desk.specs.Desk.{timetable_of}
 use Rattle.ssim_desk.specs.Meaning.{Finds, HasDates, Lists, Means, Timetable, found_by, left_by}

@@ -15,7 +15,7 @@ use Rattle.ssim_base.specs.Stations.{Row}
 use Rattle.ssim_text.specs.Message.{MessageValue}
 use Rattle.ssim_text.specs.declared.reference.Reference.{Reference}
 use Rattle.ssim_held.specs.Held.{DeskState, HasReference, IsDesk, reference_cmp}
-use Rattle.ssim_held.specs.Kept.{AreEntries, DeskSeen, Entry, IsEntry, keyed, state_of}
+use Rattle.ssim_held.specs.Entries.{AreEntries, DeskSeen, Entry, IsEntry, keyed, state_of}
 use Rattle.ssim_held.proofs.Entries.{get-map_of}
 use Rattle.ssim_held.proofs.References.{reference_apart}
 use Rattle.ssim_desk.specs.Agreement.{AnyTwoDesksAgree, DesksAgree, Run}

@@ -3,7 +3,7 @@ use Rattle.std.proofs.Common.{◌≡◌, ◌≢◌, ℕ, zero, suc, ◌-◌, ◌
 use Rattle.std.proofs.lemmas.Bool.Decides.{Decides-eqb}
 use Rattle.std.proofs.lemmas.List.{get_or-map, get_or_append_left, get_or-append_right, map-set, set-append_left, set-append_right, set-get_or}
 use Rattle.ssim_held.specs.Held.{DeskState, IsDesk, no_desk}
-use Rattle.ssim_held.specs.Kept.{DeskSeen, map_of, state_of}
+use Rattle.ssim_held.specs.Entries.{DeskSeen, map_of, state_of}
 use Rattle.ssim_desk.specs.Steps.{Acts, IsIdle, LeavesIdle, Merges, MergesAt, MergesOne, Runs, Takes, TakesAt, desk_at, is_change, with_held}
 use Rattle.ssim_desk.specs.declared.steps.Answer.{Answer}
 use Rattle.ssim_desk.specs.declared.steps.Answer.TheVariants.{Taken, Repeated, Merged, Refused}

@@ -6,8 +6,8 @@ use Rattle.ssim_schedule.specs.Schedule.{Table, cuts_in}
 use Rattle.ssim_base.specs.Stations.{Row}
 use Rattle.ssim_schedule.specs.declared.finding.Finding.{Finding}
 use Rattle.ssim_values.specs.Flight.{FlightNumber, IsFlight}
-use Rattle.ssim_held.specs.Kept.{Entry}
-use Rattle.ssim_desk.specs.Private.{AddsSubPoints, AreCheckpoints, IsAfter, IsTrail, Shows}
+use Rattle.ssim_held.specs.Entries.{Entry}
+use Rattle.ssim_desk.specs.Private.{AddsSubPoints, AreCheckpoints, IsAfter, IsHistory, Shows}
 use Rattle.ssim_desk.specs.Meaning.{Timetable, after_entries, after_entry, entries_findings, found_by, left_by, subs_findings}
 use Rattle.ssim_desk.proofs.Points.{more_at}
 
@@ -132,7 +132,7 @@ begun_each : (base : BaseSeen) (schedule : Table) → IsAfter base [] schedule �
 begun_each base schedule after zero = after
 begun_each base schedule after (suc k) = tt
 
-pub begun_trail : (base : BaseSeen) (schedule : Table) → IsAfter base [] schedule → IsTrail base [] (schedule ∷ []) schedule []
+pub begun_trail : (base : BaseSeen) (schedule : Table) → IsAfter base [] schedule → IsHistory base [] (schedule ∷ []) schedule []
 begun_trail base schedule after = record {
   latest_is = after;
   found_is = refl;

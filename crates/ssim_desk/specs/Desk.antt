@@ -4,12 +4,12 @@ use Rattle.std.specs.Prelude.{Some, Result, Ok, Err}
 use Rattle.std.specs.{FinMap.get, List.{count_by, flat_map, list_any}}
 use Rattle.ssim_periods.specs.Days.{each_day}
 use Rattle.ssim_base.specs.{BaseSeen.{BaseSeen, is_leg_of}, Stations.Row, Timetable.{Days, Legs, same_flight}}
-use Rattle.ssim_schedule.specs.{Points.is_point}
-use Rattle.ssim_base.specs.{declared.resolved.ResolvedSub.ResolvedSub}
+use Rattle.ssim_schedule.specs.{DivisionPoints.is_point}
+use Rattle.ssim_base.specs.{declared.sub_message.ResolvedSub.ResolvedSub}
 use Rattle.ssim_schedule.specs.{declared.finding.Finding.Finding}
 use Rattle.ssim_text.specs.{Grammar.identifier_of, declared.action.Sub.Sub, declared.reference.Reference.Reference}
 use Rattle.ssim_values.specs.Flight.{FlightNumber}
-use Rattle.ssim_held.specs.{Kept.{DeskSeen, Entry, map_of}, declared.fault.DeskFault.DeskFault}
+use Rattle.ssim_held.specs.{Entries.{DeskSeen, Entry, map_of}, declared.fault.DeskFault.DeskFault}
 use Rattle.ssim_desk.specs.{Meaning.{found_by, left_by}, declared.desk.Took.Took, declared.finding_line.FindingLine.FindingLine}
 use Rattle.ssim_desk.specs.declared.steps.Answer.{Answer}
 use Rattle.ssim_desk.specs.declared.steps.Answer.TheVariants.{Taken, Repeated, Merged, Refused}

@@ -6,10 +6,10 @@ use Rattle.ssim_base.specs.{BaseSeen.BaseSeen, Export.{ExportRefusal, Frame, cha
 use Rattle.ssim_schedule.specs.{Acts.{after_on, finding_of}}
 use Rattle.ssim_base.specs.{Resolve.ResolvesIn, Stations.Row, Timetable.{Legs, itinerary, same_flight}}
 use Rattle.ssim_schedule.specs.{declared.finding.Finding.Finding}
-use Rattle.ssim_base.specs.{declared.resolved.ResolvedSub.ResolvedSub, declared.resolving.ResolvedText.ResolvedText}
+use Rattle.ssim_base.specs.{declared.sub_message.ResolvedSub.ResolvedSub, declared.resolution.ResolvedText.ResolvedText}
 use Rattle.ssim_text.specs.declared.action.{Action.Action, Sub.Sub}
 use Rattle.ssim_values.specs.Flight.{FlightNumber}
-use Rattle.ssim_held.specs.{Held.{DeskState, IsDesk}, Kept.{Entry, keyed}}
+use Rattle.ssim_held.specs.{Held.{DeskState, IsDesk}, Entries.{Entry, keyed}}
 
 -- what each flight has on each date
 abbrev pub Timetable : Type 0

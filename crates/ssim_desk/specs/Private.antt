@@ -4,12 +4,12 @@ use Rattle.std.specs.List.{flat_map, list_any}
 use Rattle.ssim_periods.specs.Days.{each_day}
 use Rattle.ssim_base.specs.{BaseSeen.BaseSeen, Stations.Row}
 use Rattle.ssim_schedule.specs.{Schedule.{Table, cuts_in, days_in}, declared.finding.Finding.Finding}
-use Rattle.ssim_base.specs.declared.resolved.ResolvedSub.{ResolvedSub}
+use Rattle.ssim_base.specs.declared.sub_message.ResolvedSub.{ResolvedSub}
 use Rattle.ssim_text.specs.Message.{MessageValue}
 use Rattle.ssim_values.specs.Flight.{FlightNumber, IsFlight}
-use Rattle.ssim_held.specs.{Held.{DeskState, Holds, Says}, Kept.{DeskSeen, Entry, IsEntry}, Ordered.Belongs}
+use Rattle.ssim_held.specs.{Held.{DeskState, Holds, Says}, Entries.{DeskSeen, Entry, IsEntry}, Ordered.Belongs}
 use Rattle.ssim_desk.specs.{Desk.{AreDeskPoints, is_row_point, is_sub_point}, Meaning.{Timetable, found_by, left_by}}
-use Rattle.ssim_desk.specs.{declared.offer.Offer.Offer, declared.offer.Offer.TheVariants.{Known, New}, declared.tail.Tail.Tail}
+use Rattle.ssim_desk.specs.{declared.offer.Offer.Offer, declared.offer.Offer.TheVariants.{Known, New}, declared.replay.Replay.Replay}
 
 -- ---- a text that is offered
 
@@ -44,13 +44,13 @@ pub record AreCheckpoints (base : BaseSeen) (entries : List Entry) (first : ℕ)
   pub each : (k : ℕ) → IfSome (slice_get checkpoints k) (IsAfter base (take (32 * (first + k)) entries))
 
 -- what a trail keeps of a base and messages
-pub record IsTrail (base : BaseSeen) (entries : List Entry) (checkpoints : List Table) (latest : Table) (found : List (List Finding)) : Type 0 where
+pub record IsHistory (base : BaseSeen) (entries : List Entry) (checkpoints : List Table) (latest : Table) (found : List (List Finding)) : Type 0 where
   pub latest_is : IsAfter base entries latest
   pub found_is : found ≡ found_by base entries
   pub kept : AreCheckpoints base entries 0 checkpoints
 
 -- what follows the first `from` messages: the checkpoints, the findings, and how many messages were applied
-pub record IsTail (base : BaseSeen) (entries : List Entry) (from : ℕ) (tail : Tail) : Type 0 where
+pub record IsReplay (base : BaseSeen) (entries : List Entry) (from : ℕ) (tail : Replay) : Type 0 where
   pub within : from ≤ length entries
   pub latest_is : IsAfter base entries tail.latest
   pub found_is : found_by base (take from entries) ++ tail.found.items ≡ found_by base entries
@@ -59,7 +59,7 @@ pub record IsTail (base : BaseSeen) (entries : List Entry) (from : ℕ) (tail : 
   pub since_is : tail.since ≡ length entries % 32
 
 -- a tail counts the messages that were applied, and how many the last multiple of 32 leaves
-pub record IsCounted (tail : Tail) : Type 0 where
+pub record IsCounted (tail : Replay) : Type 0 where
   pub each : tail.applied ≡ length tail.found.items
   pub few : tail.since < 32
 

@@ -1,7 +1,7 @@
 -- What texts and merges do to desks, and what they return. Each of them may run out of memory, which changes nothing.
 use Rattle.std.specs.Prelude.{◌≡◌, ◌≢◌, ℕ, ◌<◌, ◌==◌, ◌&&◌, not, Bool, true, false, List, [], ◌∷◌, None, slice_get, slice_index_or, slice_set}
 use Rattle.std.specs.FinMap.{get, insert}
-use Rattle.ssim_base.specs.{Resolve.IsRefusedIn, declared.resolving.ResolveFault.ResolveFault}
+use Rattle.ssim_base.specs.{Resolve.IsRefusedIn, declared.resolution.ResolveFault.ResolveFault}
 use Rattle.ssim_text.specs.{Decoding.{IsRefusal, NoMessage}, Message.MessageValue, Spelling.SpellsMessage, declared.fault.TextFault.TextFault}
 use Rattle.ssim_text.specs.declared.reference.Reference.{Reference}
 use Rattle.ssim_held.specs.{Held.{Agree, DeskState, HeldMessages, Holds, IsLeastConflict, Says, no_desk, union}}
@@ -9,7 +9,7 @@ use Rattle.ssim_held.specs.declared.fault.DeskFault.{DeskFault}
 use Rattle.ssim_held.specs.declared.fault.DeskFault.TheVariants.{Memory, Text, Resolve, Conflict, OtherBase}
 use Rattle.ssim_desk.specs.{declared.steps.Answer.Answer, declared.steps.Answer.TheVariants.{Taken, Repeated, Merged, Refused}}
 use Rattle.ssim_desk.specs.{declared.steps.Step.Step, declared.steps.Step.TheVariants.{Take, Merge}}
-use Rattle.ssim_base.specs.declared.resolving.ResolveFault.TheVariants as resolve_fault
+use Rattle.ssim_base.specs.declared.resolution.ResolveFault.TheVariants as resolve_fault
 use Rattle.ssim_text.specs.declared.fault.TextFault.TheVariants as text_fault
 
 -- ---- a text

@@ -10,7 +10,7 @@ ghost use Rattle.ssim_base.specs.Sinks.{CountsFault, TakesFront};
 ghost use Rattle.ssim_held.specs.File.{CanBeSaved, desk_file};
 ghost use Rattle.ssim_held.specs.Opening.{FailsAs, NeverEnds, Opens, RefusesFile};
 ghost use Rattle.ssim_held.specs.Held.{Agree};
-ghost use Rattle.ssim_held.specs.Kept.{AreEntries, AreRising, IsEntry, map_of, state_of};
+ghost use Rattle.ssim_held.specs.Entries.{AreEntries, AreRising, IsEntry, map_of, state_of};
 ghost use Rattle.ssim_held.specs.Ordered.{Belongs};
 ghost use Rattle.ssim_desk.specs.Desk.{AreDeskPoints, IsReplayed, at_rest, days_of_desk, finding_lines, merge_answer, point_bound, take_answer, timetable_of};
 ghost use Rattle.ssim_desk.specs.Private.{IsReplaced};
@@ -18,8 +18,8 @@ ghost use Rattle.ssim_desk.specs.Meaning.{Finds, Means, Timetable, found_by};
 ghost use Rattle.ssim_desk.specs.Steps.{IsUnion, Merges, Takes};
 
 use crate::finding_line::{FindingLine, push_lines};
+use crate::history::History;
 use crate::offer::{Offer, offer_over};
-use crate::trail::Trail;
 use ssim_base::{Base, RecordsLeft, WriteFault};
 use ssim_held::{DeskFault, Held, Opened, first_conflict, first_new, merged, put_desk, read_desk};
 use ssim_records::{Sink, Source};
@@ -43,12 +43,12 @@ pub enum Took {
 /// schedule after every 32 messages, so that a late message is applied from there on.
 #[derive(Drop)]
 pub struct Desk {
-    trail: Trail,
+    trail: History,
 }
 
 impl Model for Desk {
     ghost use Rattle.ssim_held.specs.File.{CanBeSaved, desk_file};
-    ghost use Rattle.ssim_held.specs.Kept.{AreEntries, DeskSeen};
+    ghost use Rattle.ssim_held.specs.Entries.{AreEntries, DeskSeen};
 
     ghost Value = { DeskSeen };
 
@@ -63,7 +63,7 @@ impl Desk {
         ensures { IfOk result (λ desk. desk ≡ record { base = base; held = []; applied = 0 }) }
     {
         Ok(Desk {
-            trail: Trail::new(alloc, base)?,
+            trail: History::new(alloc, base)?,
         })
     }
 
@@ -232,7 +232,7 @@ impl Desk {
         requires { AreEntries base.records held.items }
         ensures { IfOk result (λ desk. desk ≡ record { base = base; held = held.items; applied = length held.items }) }
     {
-        let mut trail = Trail::new(alloc, base)?;
+        let mut trail = History::new(alloc, base)?;
         trail.replace_from(0, held)?;
         Ok(Desk { trail })
     }

@@ -4,7 +4,7 @@ ghost use Rattle.std.specs.Prelude.{◌≡◌, ◌<◌, ◌+◌, ◌^◌, ◌++�
 ghost use Rattle.ssim_text.specs.Grammar.{identifier_of};
 ghost use Rattle.ssim_desk.specs.Desk.{entry_lines, sub_lines};
 
-use crate::tail::Found;
+use crate::replay::MessageFindings;
 use ssim_held::Held;
 use ssim_schedule::Finding;
 use ssim_text::{Action, ActionIdentifier, Reference, Sub};
@@ -64,7 +64,7 @@ fn push_subs(
 pub(crate) fn push_lines(
     lines: &mut Vec<FindingLine>,
     held: &[Held],
-    found: &[Found],
+    found: &[MessageFindings],
 ) -> Result<(), Memory>
     requires { length held.now ≡ length found.now }
     ensures { OnOk result (lines.new.items ≡ lines.old.items ++ entry_lines held.now found.now) }

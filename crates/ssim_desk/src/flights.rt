@@ -7,8 +7,8 @@ ghost use Rattle.ssim_desk.specs.Desk.{is_sub_of};
 ghost use Rattle.ssim_desk.specs.Meaning.{Timetable, after_entries, entries_findings, found_by, left_by};
 ghost use Rattle.ssim_desk.specs.Private.{Shows, flights_of};
 
-use crate::replay::act;
-use crate::tail::Found;
+use crate::message_effect::act;
+use crate::replay::MessageFindings;
 use ssim_base::{DataSet, ResolvedSub, StationRow};
 use ssim_held::Held;
 use ssim_schedule::{PlacedLeg, Schedule};
@@ -42,7 +42,7 @@ pub(crate) fn found_by(
     data_set: &DataSet,
     rows: &[StationRow],
     messages: &[Held],
-) -> Result<Vec<Found>, Memory>
+) -> Result<Vec<MessageFindings>, Memory>
     ensures { IfOk result (λ found. found.items ≡ found_by (base_with data_set.now rows.now) messages.now) }
 {
     let flights = flights_of(alloc, messages)?;
@@ -76,12 +76,12 @@ fn act_all(
     rows: &[StationRow],
     schedule: &mut Schedule,
     messages: &[Held],
-) -> Result<Vec<Found>, Memory>
+) -> Result<Vec<MessageFindings>, Memory>
     ensures { IfOk result (λ found. (before : Timetable) → Shows schedule.old before → found.items ≡ entries_findings rows.now messages.now before) }
 {
     let mut found = Vec::new(alloc);
     for held in messages {
-        found.push(Found::new(act(alloc, rows, schedule, held)?))?;
+        found.push(MessageFindings::new(act(alloc, rows, schedule, held)?))?;
     }
     Ok(found)
 }

@@ -2,7 +2,7 @@
 
 ghost use Rattle.std.specs.Prelude.{◌≡◌, Ok, OnErr};
 ghost use Rattle.ssim_held.specs.Held.{IsDesk};
-ghost use Rattle.ssim_held.specs.Kept.{DeskSeen, map_of, state_of};
+ghost use Rattle.ssim_held.specs.Entries.{DeskSeen, map_of, state_of};
 ghost use Rattle.ssim_desk.specs.Desk.{merge_answer, take_answer};
 ghost use Rattle.ssim_desk.specs.Steps.{Merges, Takes};
 

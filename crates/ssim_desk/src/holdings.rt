@@ -9,7 +9,7 @@ ghost use Rattle.ssim_held.specs.File.{CanBeSaved, IsDeskFile, desk_file};
 ghost use Rattle.ssim_text.specs.Message.{MessageValue};
 ghost use Rattle.ssim_text.specs.declared.reference.Reference.{Reference};
 ghost use Rattle.ssim_held.specs.Held.{Says};
-ghost use Rattle.ssim_held.specs.Kept.{AreEntries, AreRising, IsEntry, map_of, state_of};
+ghost use Rattle.ssim_held.specs.Entries.{AreEntries, AreRising, IsEntry, map_of, state_of};
 ghost use Rattle.ssim_held.specs.Opening.{RefusesBytes};
 ghost use Rattle.ssim_held.specs.Ordered.{Belongs};
 ghost use Rattle.ssim_desk.specs.Desk.{days_of_desk, finding_lines, merge_answer, timetable_of, took_answer};
@@ -19,8 +19,8 @@ ghost use Rattle.ssim_desk.specs.Steps.{Merges, Takes};
 use crate::desk::Took;
 use crate::finding_line::{FindingLine, push_lines};
 use crate::flights::{found_by, legs_after};
+use crate::message_effect::act_in_order;
 use crate::offer::{Offer, offer_over};
-use crate::replay::act_in_order;
 use ssim_base::{DataSet, Stations, WriteFault};
 use ssim_held::{DeskFault, Held, Opened, first_conflict, merged, put_desk, read_parts};
 use ssim_records::{Parts, Sink};
@@ -45,7 +45,7 @@ pub struct Holdings {
 
 impl Model for Holdings {
     ghost use Rattle.ssim_base.specs.BaseSeen.{base_with};
-    ghost use Rattle.ssim_held.specs.Kept.{AreEntries, DeskSeen};
+    ghost use Rattle.ssim_held.specs.Entries.{AreEntries, DeskSeen};
 
     ghost Value = { DeskSeen };
 

@@ -21,14 +21,14 @@
 mod desk;
 mod finding_line;
 mod flights;
+mod history;
 mod holder;
 mod holdings;
 pub mod laws;
+mod message_effect;
 mod offer;
 mod replay;
 mod steps;
-mod tail;
-mod trail;
 
 pub use desk::{Desk, Took};
 pub use finding_line::FindingLine;

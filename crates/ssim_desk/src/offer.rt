@@ -6,12 +6,12 @@ ghost use Rattle.ssim_base.specs.BaseSeen.{BaseSeen};
 ghost use Rattle.ssim_base.specs.ReadBack.{HasFrame};
 ghost use Rattle.ssim_base.specs.Resolve.{ResolvesIn};
 ghost use Rattle.ssim_text.specs.Spelling.{SpellsMessage};
-ghost use Rattle.ssim_held.specs.Kept.{AreEntries, AreRising, map_of};
+ghost use Rattle.ssim_held.specs.Entries.{AreEntries, AreRising, map_of};
 ghost use Rattle.ssim_desk.specs.Private.{IsOffer};
 ghost use Rattle.ssim_desk.specs.Steps.{RefusesText};
 
 use ssim_base::{BaseFrame, ResolvedText};
-use ssim_held::{DeskFault, Found, Held, look};
+use ssim_held::{DeskFault, Held, LookUp, look};
 use ssim_text::{Message, Reference, decode};
 use std::alloc::Global;
 
@@ -56,9 +56,9 @@ fn offer_resolved(
     ensures err { (base : BaseSeen) (text : List ℕ) → SpellsMessage message text → ResolvesIn base.records message resolved → IfErr result (RefusesText (record { base = base; held = map_of held.now }) text) }
 {
     match look(held, &resolved.reference, &message) {
-        Found::Same => Ok(Offer::Known(resolved.reference)),
-        Found::Other => Err(DeskFault::Conflict(resolved.reference)),
-        Found::Absent(at) => {
+        LookUp::Same => Ok(Offer::Known(resolved.reference)),
+        LookUp::Other => Err(DeskFault::Conflict(resolved.reference)),
+        LookUp::Absent(at) => {
             let new = Held::of(alloc, resolved.reference, message, resolved.subs)?;
             Ok(Offer::New(at, new))
         }

@@ -1,66 +1,112 @@
-//! Messages act on a schedule, sub-message by sub-message.
+//! Schedule, findings and checkpoints of the messages from a checkpoint on.
 
-ghost use Rattle.std.specs.Prelude.{◌≡◌, ◌∷◌, [], IfOk, OnOk};
-ghost use Rattle.ssim_periods.specs.Days.{each_day};
-ghost use Rattle.ssim_schedule.specs.Acts.{finding_of};
-ghost use Rattle.ssim_schedule.specs.Schedule.{cuts_in};
-ghost use Rattle.ssim_values.specs.Flight.{FlightNumber, IsFlight};
-ghost use Rattle.ssim_desk.specs.Private.{AddsSubPoints, Shows};
-ghost use Rattle.ssim_desk.specs.Meaning.{Timetable, after_entries, after_entry, after_one, subs_findings};
+ghost use Rattle.std.specs.Prelude.{◌≡◌, ◌<◌, ◌%◌, ◌++◌, ◌∷◌, [], ℕ, List, length, IfOk, OnOk};
+ghost use Rattle.ssim_base.specs.BaseSeen.{BaseSeen};
+ghost use Rattle.ssim_held.specs.Entries.{Entry};
+ghost use Rattle.ssim_desk.specs.Private.{IsAfter, IsCounted, IsReplay};
 
-use ssim_base::{ResolvedSub, StationRow};
+use crate::message_effect::act;
+use ssim_base::Base;
 use ssim_held::Held;
 use ssim_schedule::{Finding, Schedule};
-use ssim_text::Sub;
 use ssim_values::Memory;
 use std::alloc::Global;
+use std::marker::Model;
 
-// A sub-message acts on its dates.
-fn act_one(
-    rows: &[StationRow],
-    schedule: &mut Schedule,
-    sub: &Sub,
-    dated: ResolvedSub,
-) -> Result<Finding, Memory>
-    ensures shows { OnOk result ((before : Timetable) → Shows schedule.old before → Shows schedule.new (after_one rows.now sub.now.action dated before)) }
-    ensures found { IfOk result (λ found. (before : Timetable) → Shows schedule.old before → found ≡ finding_of rows.now sub.now.action dated.period (each_day (before dated.flight))) }
-    ensures cuts { OnOk result ((g : FlightNumber) → IsFlight g → AddsSubPoints rows.now (dated ∷ []) g (cuts_in schedule.old g) (cuts_in schedule.new g)) }
-{
-    // No effect at run time. The proof reads from these uses that the flight is one.
-    let _ = dated.flight.number();
-    let _ = dated.flight.suffix();
-    schedule.apply_by(rows, &dated.with(&sub.action))
+/// How many messages lie between two checkpoints.
+pub(crate) const STEP: usize = 32;
+
+/// What each sub-message of a message found.
+#[derive(Drop)]
+pub(crate) struct MessageFindings {
+    findings: Vec<Finding>,
 }
 
-/// The sub-messages of a message act in their order. Returns what each found.
-pub(crate) fn act(
-    alloc: Global,
-    rows: &[StationRow],
-    schedule: &mut Schedule,
-    held: &Held,
-) -> Result<Vec<Finding>, Memory>
-    ensures shows { OnOk result ((before : Timetable) → Shows schedule.old before → Shows schedule.new (after_entry rows.now held.now before)) }
-    ensures found { IfOk result (λ found. (before : Timetable) → Shows schedule.old before → found.items ≡ subs_findings rows.now held.now.message.subs held.now.dates before) }
-    ensures cuts { OnOk result ((g : FlightNumber) → IsFlight g → AddsSubPoints rows.now held.now.dates g (cuts_in schedule.old g) (cuts_in schedule.new g)) }
-{
-    let mut found = Vec::new(alloc);
-    for (place, sub) in held.message().subs().iter().enumerate() {
-        found.push(act_one(rows, schedule, sub, held.dates()[place])?)?;
+impl Model for MessageFindings {
+    ghost use Rattle.std.specs.Prelude.{List};
+    ghost use Rattle.ssim_schedule.specs.declared.finding.Finding.{Finding};
+
+    ghost Value = { List Finding };
+
+    ghost view = { λ f. f.findings.items };
+}
+
+impl MessageFindings {
+    /// What was found, in the order of the sub-messages.
+    pub(crate) fn new(findings: Vec<Finding>) -> MessageFindings
+        ensures { result ≡ findings.items }
+    {
+        MessageFindings { findings }
     }
-    Ok(found)
+
+    /// In the order of the sub-messages.
+    pub(crate) fn findings(&self) -> &[Finding]
+        ensures { result.now ≡ self.now }
+    {
+        &self.findings
+    }
 }
 
-/// Messages act in their order. What they find is not kept.
-pub(crate) fn act_in_order(
+/// What follows some messages: the schedule after all that were applied since, their findings, and the checkpoints among them.
+#[derive(Drop)]
+pub(crate) struct Replay {
+    pub latest: Schedule,
+    /// Of each message that was applied.
+    pub found: Vec<MessageFindings>,
+    /// The schedule after every 32 messages, counted from the first message of all.
+    pub checkpoints: Vec<Schedule>,
+    /// How many messages were applied.
+    pub applied: u64,
+    /// How many messages the last multiple of 32 leaves.
+    pub since: usize,
+}
+
+impl Replay {
+    /// Nothing follows yet, after a schedule of messages that leave so many after the last multiple of 32.
+    pub(crate) fn after(alloc: Global, schedule: &Schedule, since: usize) -> Result<Replay, Memory>
+        requires { since < 32 }
+        ensures counted { IfOk result IsCounted }
+        ensures nothing { IfOk result (λ tail. (base : BaseSeen) (entries : List Entry) (from : ℕ) → from ≡ length entries → since ≡ from % 32 → IsAfter base entries schedule.now → IsReplay base entries from tail) }
+    {
+        Ok(Replay {
+            latest: schedule.copy()?,
+            found: Vec::new(alloc),
+            checkpoints: Vec::new(alloc),
+            applied: 0,
+            since,
+        })
+    }
+
+    /// One more message is applied.
+    pub(crate) fn apply(&mut self, alloc: Global, base: &Base, held: &Held) -> Result<(), Memory>
+        requires { IsCounted self.old }
+        ensures counted { IsCounted self.new }
+        ensures applied { OnOk result ((before : List Entry) (from : ℕ) → IsReplay base.now before from self.old → IsReplay base.now (before ++ held.now ∷ []) from self.new) }
+    {
+        let findings = act(alloc, base.rows(), &mut self.latest, held)?;
+        self.found.push(MessageFindings { findings })?;
+        self.applied += 1;
+        self.since = (self.since + 1) % STEP;
+        if self.since == 0 {
+            self.checkpoints.push(self.latest.copy()?)?;
+        }
+        Ok(())
+    }
+}
+
+/// More messages are applied.
+pub(crate) fn apply_all(
     alloc: Global,
-    rows: &[StationRow],
-    schedule: &mut Schedule,
+    base: &Base,
+    tail: &mut Replay,
     messages: &[Held],
 ) -> Result<(), Memory>
-    ensures { OnOk result ((before : Timetable) → Shows schedule.old before → Shows schedule.new (after_entries rows.now messages.now before)) }
+    requires { IsCounted tail.old }
+    ensures counted { IsCounted tail.new }
+    ensures applied { OnOk result ((before : List Entry) (from : ℕ) → IsReplay base.now before from tail.old → IsReplay base.now (before ++ messages.now) from tail.new) }
 {
     for held in messages {
-        act(alloc, rows, schedule, held)?;
+        tail.apply(alloc, base, held)?;
     }
     Ok(())
 }

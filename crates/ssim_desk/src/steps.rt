@@ -2,7 +2,7 @@
 
 ghost use Rattle.std.specs.Prelude.{◌≡◌, ◌≢◌, ◌<◌, ℕ, false, length, map, slice_get, All, IfOk, OnErr};
 ghost use Rattle.ssim_held.specs.Held.{IsDesk};
-ghost use Rattle.ssim_held.specs.Kept.{map_of, state_of};
+ghost use Rattle.ssim_held.specs.Entries.{map_of, state_of};
 ghost use Rattle.ssim_desk.specs.Agreement.{DesksAgree};
 ghost use Rattle.ssim_desk.specs.Steps.{Acts, IsInRange, IsOwnMerge, LeavesIdle, Merges, MergesAt, Runs, Takes, is_change};
 

@@ -11,7 +11,7 @@ use Rattle.std.specs.FinMap.Entries.{by_order, below_all}
 use Rattle.ssim_text.specs.Message.{MessageValue}
 use Rattle.ssim_text.specs.declared.reference.Reference.{Reference}
 use Rattle.ssim_held.specs.Held.{reference_cmp}
-use Rattle.ssim_held.specs.Kept.{AreRising, Entry, keyed, map_of}
+use Rattle.ssim_held.specs.Entries.{AreRising, Entry, keyed, map_of}
 use Rattle.ssim_held.specs.Ordered.{Belongs}
 use Rattle.ssim_held.proofs.References.{reference_total}
 

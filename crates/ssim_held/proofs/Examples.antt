@@ -16,7 +16,7 @@ use Rattle.ssim_held.specs.File.{after_first_line, counted, row_line, rows_part,
 use Rattle.ssim_held.specs.Held.{reference_cmp}
 use Rattle.ssim_held.specs.Opening.{FailsAs, NeverEnds, first_line, is_number}
 use Rattle.ssim_held.specs.declared.fault.DeskFault.TheVariants.{Text, Read}
-use Rattle.ssim_held.specs.declared.opening.version.FileVersion.TheVariants.{One, Two}
+use Rattle.ssim_held.specs.declared.desk_file_reader.version.FileVersion.TheVariants.{One, Two}
 
 -- ---- the order of references
 

@@ -1,8 +1,8 @@
 -- What an error for memory says, and one that was handed on.
 use Rattle.std.proofs.Common.{◌≡◌, ◌≢◌, Option, None, Err, sym, subst}
 use Rattle.std.specs.Prelude.{IfErr, IfNone, Result}
-use Rattle.ssim_held.specs.declared.opening.fault.PartFault.{PartFault}
-use Rattle.ssim_held.specs.declared.opening.fault.PartFault.TheVariants.{Memory}
+use Rattle.ssim_held.specs.declared.desk_file_reader.fault.PartFault.{PartFault}
+use Rattle.ssim_held.specs.declared.desk_file_reader.fault.PartFault.TheVariants.{Memory}
 
 pub none_is : {A : Type 0} (o : Option A) (Q : Type 0) → o ≡ None → Q → IfNone o Q
 none_is {A} o Q is q = subst (λ (x : Option A). IfNone x Q) (sym is) q

@@ -7,8 +7,8 @@ use Rattle.ssim_records.specs.declared.record.Record.TheVariants.{Header, Carrie
 use Rattle.ssim_base.specs.Export.{Frame}
 use Rattle.ssim_base.specs.ReadBack.{HasFrame}
 use Rattle.ssim_base.specs.Resolve.{AreDates, AreResolved, IsNext, IsResolved, Means, MeansEnd, Resolves, ResolvesIn}
-use Rattle.ssim_base.specs.declared.resolved.ResolvedSub.{ResolvedSub}
-use Rattle.ssim_base.specs.declared.resolving.ResolvedText.{ResolvedText}
+use Rattle.ssim_base.specs.declared.sub_message.ResolvedSub.{ResolvedSub}
+use Rattle.ssim_base.specs.declared.resolution.ResolvedText.{ResolvedText}
 use Rattle.ssim_text.specs.Message.{MessageValue}
 use Rattle.ssim_text.specs.declared.action.Sub.{Sub}
 use Rattle.ssim_text.specs.declared.dates.Dates.{Dates}

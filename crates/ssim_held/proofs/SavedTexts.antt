@@ -7,16 +7,16 @@ use Rattle.std.specs.List.{AllByRecursion as Each}
 use Rattle.std.specs.declared.cmp.Ordering.TheVariants.{Less}
 use Rattle.ssim_records.specs.declared.record.Record.{Record}
 use Rattle.ssim_base.specs.Resolve.{HasOneOutcome, IsRefusedIn, ResolvesIn}
-use Rattle.ssim_base.specs.declared.resolving.ResolveFault.{ResolveFault}
-use Rattle.ssim_base.specs.declared.resolving.ResolveFault.TheVariants as resolve_fault
-use Rattle.ssim_base.specs.declared.resolving.ResolvedText.{ResolvedText}
+use Rattle.ssim_base.specs.declared.resolution.ResolveFault.{ResolveFault}
+use Rattle.ssim_base.specs.declared.resolution.ResolveFault.TheVariants as resolve_fault
+use Rattle.ssim_base.specs.declared.resolution.ResolvedText.{ResolvedText}
 use Rattle.ssim_text.specs.Canonical.{canonical}
 use Rattle.ssim_text.specs.Message.{MessageValue}
 use Rattle.ssim_text.specs.Spelling.{EqualWhereWrittenEqual, SpellsMessage}
 use Rattle.ssim_text.specs.declared.reference.Reference.{Reference}
 use Rattle.ssim_held.specs.File.{IsSpelled, counted, text_element}
 use Rattle.ssim_held.specs.Held.{reference_cmp}
-use Rattle.ssim_held.specs.Kept.{AreRising, Entry, keyed}
+use Rattle.ssim_held.specs.Entries.{AreRising, Entry, keyed}
 use Rattle.ssim_held.specs.Opening.{IsTextOf}
 use Rattle.ssim_held.proofs.Files.{one_entry}
 use Rattle.ssim_held.proofs.Entries.{T-from_true, and_left, and_right, below_later, both, less-from_T, less-to_T, true-from_T}

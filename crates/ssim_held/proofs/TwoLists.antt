@@ -10,7 +10,7 @@ use Rattle.std.proofs.lemmas.List.Elements.{All-cons, All-head, All-nil, All-tai
 use Rattle.ssim_text.specs.Message.{MessageValue}
 use Rattle.ssim_text.specs.declared.reference.Reference.{Reference}
 use Rattle.ssim_held.specs.Held.{reference_cmp}
-use Rattle.ssim_held.specs.Kept.{Entry, keyed}
+use Rattle.ssim_held.specs.Entries.{Entry, keyed}
 use Rattle.ssim_held.specs.Ordered.{IsLesser, IsMerged}
 use Rattle.ssim_held.proofs.Entries.{and_left, and_right, both, find_below, flips, less-from_T, less-to_T}
 use Rattle.ssim_held.proofs.MapLemmas.{or_else}

@@ -11,10 +11,10 @@ use Rattle.ssim_records.specs.declared.record.Record.{Record}
 use Rattle.ssim_text.specs.Message.{MessageValue}
 use Rattle.ssim_text.specs.declared.reference.Reference.{Reference}
 use Rattle.ssim_held.specs.Held.{Agree, DifferAt, IsLeastConflict, reference_cmp, union}
-use Rattle.ssim_held.specs.Kept.{AreEntries, AreRising, Entry, IsEntry, keyed, map_of}
+use Rattle.ssim_held.specs.Entries.{AreEntries, AreRising, Entry, IsEntry, keyed, map_of}
 use Rattle.ssim_held.specs.Ordered.{IsFirstNew, IsFound, IsLesser, IsMerged}
-use Rattle.ssim_held.specs.declared.lookup.Found.{Found}
-use Rattle.ssim_held.specs.declared.lookup.Found.TheVariants.{Absent, Same, Other}
+use Rattle.ssim_held.specs.declared.lookup.LookUp.{LookUp}
+use Rattle.ssim_held.specs.declared.lookup.LookUp.TheVariants.{Absent, Same, Other}
 use Rattle.ssim_held.proofs.Entries.{T-from_true, and_left, flips, get-map_of, held_at, not_held, self_equal, true-from_T}
 use Rattle.ssim_held.proofs.MapLemmas.{get-union, or_else}
 use Rattle.ssim_held.proofs.References.{reference_apart, reference_total}
@@ -36,13 +36,13 @@ HeldAlike mine theirs = All (IsAlike mine) theirs
 -- ---- what looking up says
 
 -- whatever is found but another message is alike
-pub alike : (mine : List Entry) (e : Entry) (f : Found) → AreRising mine → IsFound mine e.reference e.message f → (f ≡ Other → ⊥) → IsAlike mine e
+pub alike : (mine : List Entry) (e : Entry) (f : LookUp) → AreRising mine → IsFound mine e.reference e.message f → (f ≡ Other → ⊥) → IsAlike mine e
 alike mine e (Absent at) rising gap n m h = let none : get (map_of mine) e.reference ≡ None = not_held mine at e.reference rising gap in cc
 alike mine e Same rising same n m h = cc
 alike mine e Other rising other n m h = absurd (n refl)
 
 -- whatever is found but nothing is held
-pub held_in : (mine : List Entry) (e : Entry) (f : Found) → IsFound mine e.reference e.message f → ((at : ℕ) → f ≡ Absent at → ⊥) → IsHeldIn mine e
+pub held_in : (mine : List Entry) (e : Entry) (f : LookUp) → IsFound mine e.reference e.message f → ((at : ℕ) → f ≡ Absent at → ⊥) → IsHeldIn mine e
 held_in mine e (Absent at) gap n = absurd (n at refl)
 held_in mine e Same same n = ap is_some same
 held_in mine e Other other n = ap is_some other.1

@@ -5,12 +5,12 @@ use Rattle.ssim_base.specs.Fault.{record_fault_place, resolve_fault_name, resolv
 use Rattle.ssim_base.specs.Resolve.{resolve_fault_number}
 use Rattle.ssim_base.specs.declared.place.Place.{Place}
 use Rattle.ssim_base.specs.declared.place.Place.TheVariants.{Nowhere, Message, Offset}
-use Rattle.ssim_base.specs.declared.resolving.ResolveFault.{ResolveFault}
+use Rattle.ssim_base.specs.declared.resolution.ResolveFault.{ResolveFault}
 use Rattle.ssim_text.specs.Fault.{text_fault_name, text_fault_number}
 use Rattle.ssim_text.specs.declared.fault.TextFault.{TextFault}
 use Rattle.ssim_held.specs.declared.fault.DeskFault.{DeskFault}
 use Rattle.ssim_held.specs.declared.fault.DeskFault.TheVariants.{Memory, Text, Resolve, Conflict, OtherBase, Read, File}
-use Rattle.ssim_base.specs.declared.resolving.ResolveFault.TheVariants as resolve_fault
+use Rattle.ssim_base.specs.declared.resolution.ResolveFault.TheVariants as resolve_fault
 use Rattle.ssim_text.specs.declared.fault.TextFault.TheVariants as text_fault
 
 -- the number by which a fault is known

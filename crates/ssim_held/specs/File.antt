@@ -5,7 +5,7 @@ use Rattle.ssim_records.specs.{Record.written, declared.record.Record.Record}
 use Rattle.ssim_base.specs.{BaseSeen.BaseSeen, SavedBase.{IsBaseRecords, saved}, Stations.Row}
 use Rattle.ssim_text.specs.{Canonical.canonical, Spelling.SpellsMessage, Values.no_originator}
 use Rattle.ssim_values.specs.{Calendar.day_limit, Day.day_text, Station.is_station, Variation.variation_text}
-use Rattle.ssim_held.specs.Kept.{AreEntries, Entry}
+use Rattle.ssim_held.specs.Entries.{AreEntries, Entry}
 
 -- ---- the elements
 

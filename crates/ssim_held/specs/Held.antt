@@ -2,7 +2,7 @@
 use Rattle.std.specs.{Prelude.{◌≡◌, ◌≢◌, ◌++◌, ℕ, List, [], Some}, Cmp.Lexicographic.slice_cmp, FinMap.{FinMap, empty, entries, from_entries, get}}
 use Rattle.std.specs.{Ordering.nat_cmp, declared.cmp.Ordering.Ordering}
 use Rattle.std.specs.declared.cmp.Ordering.TheVariants.{Less}
-use Rattle.ssim_base.specs.{BaseSeen.{BaseSeen, WasRead}, Resolve.ResolvesIn, declared.resolving.ResolvedText.ResolvedText}
+use Rattle.ssim_base.specs.{BaseSeen.{BaseSeen, WasRead}, Resolve.ResolvesIn, declared.resolution.ResolvedText.ResolvedText}
 use Rattle.ssim_text.specs.{Message.MessageValue, Reference.reference_numbers, Spelling.SpellsMessage, declared.reference.Reference.Reference}
 
 -- references are compared by date, group serial, message serial, kind and originator

@@ -1,6 +1,6 @@
 pub mod Fault
 pub mod Held
-pub mod Kept
+pub mod Entries
 pub mod Ordered
 pub mod File
 pub mod Opening

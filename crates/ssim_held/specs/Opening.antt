@@ -6,9 +6,9 @@ use Rattle.ssim_records.specs.{declared.fault.RecordFault.TheVariants.{ReadFault
 use Rattle.ssim_base.specs.BaseSeen.{BaseSeen}
 use Rattle.ssim_text.specs.Canonical.{canonical}
 use Rattle.ssim_values.specs.Characters.{is_digit}
-use Rattle.ssim_held.specs.{File.{HasNoOriginator, IsDeskFile, IsSpelled, counted}, Kept.{AreEntries, AreRising, Entry, IsEntry}}
+use Rattle.ssim_held.specs.{File.{HasNoOriginator, IsDeskFile, IsSpelled, counted}, Entries.{AreEntries, AreRising, Entry, IsEntry}}
 use Rattle.ssim_held.specs.declared.fault.DeskFault.{DeskFault}
-use Rattle.ssim_held.specs.declared.opening.version.FileVersion.{FileVersion, TheVariants.{One, Two}}
+use Rattle.ssim_held.specs.declared.desk_file_reader.version.FileVersion.{FileVersion, TheVariants.{One, Two}}
 use Rattle.ssim_held.specs.declared.fault.DeskFault.TheVariants as desk_fault
 
 -- ---- lines

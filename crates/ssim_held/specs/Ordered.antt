@@ -2,8 +2,8 @@
 use Rattle.std.specs.{Prelude.{◌≡◌, ◌≢◌, ℕ, ◌<◌, ◌≤◌, List, [], ◌∷◌, length, take, slice_get, All, Some, IsSome, IfSome}, FinMap.get}
 use Rattle.std.specs.{declared.cmp.Ordering.Ordering, declared.cmp.Ordering.TheVariants.{Less, Equal, Greater}}
 use Rattle.ssim_text.specs.{Message.MessageValue, declared.reference.Reference.Reference}
-use Rattle.ssim_held.specs.{Held.reference_cmp, Kept.{Entry, map_of}, declared.lookup.Found.Found}
-use Rattle.ssim_held.specs.declared.lookup.Found.TheVariants.{Absent, Same, Other}
+use Rattle.ssim_held.specs.{Held.reference_cmp, Entries.{Entry, map_of}, declared.lookup.LookUp.LookUp}
+use Rattle.ssim_held.specs.declared.lookup.LookUp.TheVariants.{Absent, Same, Other}
 
 -- ---- where a message is in a list in order of reference
 
@@ -15,7 +15,7 @@ pub record Belongs (entries : List Entry) (reference : Reference) (low high : �
   pub after : (j : ℕ) → high ≤ j → IfSome (slice_get entries j) (λ e. reference_cmp reference e.reference ≡ Less)
 
 -- what is held under the reference of a message
-abbrev pub IsFound : List Entry → Reference → MessageValue → Found → Type 0
+abbrev pub IsFound : List Entry → Reference → MessageValue → LookUp → Type 0
 IsFound entries reference message (Absent at) = Belongs entries reference at at
 IsFound entries reference message Same = get (map_of entries) reference ≡ Some message
 IsFound entries reference message Other = (other : MessageValue) × (get (map_of entries) reference ≡ Some other) × (other ≢ message)

@@ -17,7 +17,7 @@ pub struct Held {
 }
 
 impl Model for Held {
-    ghost use Rattle.ssim_held.specs.Kept.{Entry};
+    ghost use Rattle.ssim_held.specs.Entries.{Entry};
 
     ghost Value = { Entry };
 
@@ -34,7 +34,7 @@ struct Contents {
 
 impl Model for Contents {
     ghost use Rattle.std.specs.Prelude.{◌≡◌, length};
-    ghost use Rattle.ssim_held.specs.Kept.{Entry};
+    ghost use Rattle.ssim_held.specs.Entries.{Entry};
 
     ghost Value = { Entry };
 

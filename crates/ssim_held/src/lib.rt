@@ -1,7 +1,7 @@
 //! Messages held over a base, in order of reference, and the desk file that keeps them.
 //!
 //! - [`Held`]: a message that is held, with its reference, its canonical text and the full dates of its sub-messages.
-//! - [`look`]: looks a message up in a list in order of reference; [`Found`]: what is held under its reference.
+//! - [`look`]: looks a message up in a list in order of reference; [`LookUp`]: what is held under its reference.
 //! - [`first_conflict`], [`first_new`], [`merged`]: two such lists, compared and put together.
 //! - [`put_desk`]: writes the desk file of a base and the messages that are held over it; or [`WriteFault`], 52.
 //! - [`read_parts`], [`read_desk`]: what the desk file has whose bytes come in parts or from a reader ([`Opened`]); or [`DeskFault`].
@@ -15,19 +15,19 @@
 //! most, which are read from them, and written as them again.
 #![tactic(auto)]
 
+mod desk_file_reader;
+mod desk_file_writer;
 mod fault;
 mod held;
 pub mod laws;
 mod lookup;
-mod opening;
 mod row_line;
-mod saving;
 mod union;
 
+pub use desk_file_reader::{Opened, read_desk, read_parts};
+pub use desk_file_writer::put_desk;
 pub use fault::DeskFault;
 pub use held::Held;
-pub use lookup::{Found, look};
-pub use opening::{Opened, read_desk, read_parts};
-pub use saving::put_desk;
+pub use lookup::{LookUp, look};
 pub use ssim_base::WriteFault;
 pub use union::{first_conflict, first_new, merged};

@@ -2,7 +2,7 @@
 
 ghost use Rattle.std.specs.Prelude.{◌≡◌, ◌<◌, ◌-◌, slice_get, Some, IfErr, IfOk};
 ghost use Rattle.ssim_held.specs.Held.{reference_cmp};
-ghost use Rattle.ssim_held.specs.Kept.{AreRising, Entry};
+ghost use Rattle.ssim_held.specs.Entries.{AreRising, Entry};
 ghost use Rattle.ssim_held.specs.Ordered.{Belongs, IsFound};
 
 use crate::held::Held;
@@ -11,7 +11,7 @@ use std::cmp::Ordering;
 
 /// What is held under the reference of a message.
 #[derive(Clone, Copy, Debug, PartialEq, Eq)]
-pub enum Found {
+pub enum LookUp {
     /// Nothing, and the position where the message belongs.
     Absent(usize),
     /// The message itself.
@@ -21,24 +21,24 @@ pub enum Found {
 }
 
 /// Looks a message up in a list in order of reference.
-pub fn look(held: &[Held], reference: &Reference, message: &Message) -> Found
+pub fn look(held: &[Held], reference: &Reference, message: &Message) -> LookUp
     requires { AreRising held.now }
     ensures { IsFound held.now reference.now message.now result }
 {
     match search(held, reference) {
-        Err(at) => Found::Absent(at),
+        Err(at) => LookUp::Absent(at),
         Ok(at) => {
             if held[at].message().same(message) {
-                Found::Same
+                LookUp::Same
             } else {
-                Found::Other
+                LookUp::Other
             }
         }
     }
 }
 
 /// Looks up the message of another list.
-pub(crate) fn look_up(held: &[Held], one: &Held) -> Found
+pub(crate) fn look_up(held: &[Held], one: &Held) -> LookUp
     requires { AreRising held.now }
     ensures { IsFound held.now one.now.reference one.now.message result }
 {

@@ -2,12 +2,12 @@
 
 ghost use Rattle.std.specs.Prelude.{◌≡◌, [], All, IsSome, IfOk, IfSome, IfNone};
 ghost use Rattle.std.specs.FinMap.{get};
-ghost use Rattle.ssim_held.specs.Kept.{AreRising, map_of};
+ghost use Rattle.ssim_held.specs.Entries.{AreRising, map_of};
 ghost use Rattle.ssim_held.specs.Held.{Agree, IsLeastConflict};
 ghost use Rattle.ssim_held.specs.Ordered.{IsFirstNew, IsMerged, IsNext};
 
 use crate::held::Held;
-use crate::lookup::{Found, look_up};
+use crate::lookup::{LookUp, look_up};
 use ssim_text::Reference;
 use ssim_values::Memory;
 use std::alloc::Global;
@@ -21,7 +21,7 @@ pub fn first_conflict(mine: &[Held], theirs: &[Held]) -> Option<Reference>
     ensures none { IfNone result (Agree (map_of mine.now) (map_of theirs.now)) }
 {
     for held in theirs {
-        if let Found::Other = look_up(mine, held) {
+        if let LookUp::Other = look_up(mine, held) {
             return Some(held.reference());
         }
     }
@@ -35,7 +35,7 @@ pub fn first_new(mine: &[Held], theirs: &[Held]) -> Option<(usize, usize)>
     ensures none { IfNone result (All (λ e. IsSome (get (map_of mine.now) e.reference)) theirs.now) }
 {
     for (place, held) in theirs.iter().enumerate() {
-        if let Found::Absent(at) = look_up(mine, held) {
+        if let LookUp::Absent(at) = look_up(mine, held) {
             return Some((place, at));
         }
     }

@@ -5,7 +5,7 @@ use Rattle.ssim_base.specs.Export as exported
 use Rattle.ssim_schedule.specs.Plan.{RefusesBase, WritesBase}
 use Rattle.ssim_schedule.specs.declared.export.ExportFault.{ExportFault}
 use Rattle.ssim_schedule.specs.declared.export.ExportFault.TheVariants as export
-use Rattle.ssim_held.specs.Kept.{AreEntries, DeskSeen, state_of}
+use Rattle.ssim_held.specs.Entries.{AreEntries, DeskSeen, state_of}
 use Rattle.ssim_desk.specs.Desk.{days_of_desk, timetable_of}
 use Rattle.ssim_desk.specs.Meaning.{Exports}
 use Rattle.ssim_desk.proofs.Meant.{has_meaning}

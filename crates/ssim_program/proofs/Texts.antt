@@ -3,7 +3,7 @@ use Rattle.std.proofs.Common.{◌≡◌, ◌∙◌, inl, inr, ℕ, zero, suc, �
 use Rattle.std.specs.List.{slice_get}
 use Rattle.std.proofs.Math.Seq.{take-length}
 use Rattle.ssim_held.specs.File.{desk_file}
-use Rattle.ssim_held.specs.Kept.{DeskSeen}
+use Rattle.ssim_held.specs.Entries.{DeskSeen}
 use Rattle.ssim_program.specs.Desks.{PrintsTexts, ReadsDesk, RefusesDeskFile, RefusesFileText, RefusesKeep, TakesFirst, TakesText, TakesTexts}
 use Rattle.ssim_program.specs.Files.{Files, with_kept}
 use Rattle.ssim_command_line.specs.Line.{Text, Take}

@@ -6,13 +6,13 @@ use Rattle.ssim_values.specs.declared.fault.Fault.TheVariants as value_fault
 use Rattle.ssim_base.specs.Base.{airline_of}
 use Rattle.ssim_base.specs.BaseSeen.{BaseSeen}
 use Rattle.ssim_base.specs.Export.{line}
-use Rattle.ssim_base.specs.declared.resolving.ResolveFault.TheVariants as resolve_fault
+use Rattle.ssim_base.specs.declared.resolution.ResolveFault.TheVariants as resolve_fault
 use Rattle.ssim_text.specs.Lines.{day_in}
 use Rattle.ssim_text.specs.Message.{MessageValue}
 use Rattle.ssim_text.specs.declared.reference.Reference.{Reference}
 use Rattle.ssim_held.specs.File.{IsDeskFile}
 use Rattle.ssim_held.specs.Held.{Says}
-use Rattle.ssim_held.specs.Kept.{DeskSeen, Entry, map_of, state_of}
+use Rattle.ssim_held.specs.Entries.{DeskSeen, Entry, map_of, state_of}
 use Rattle.ssim_held.specs.declared.fault.DeskFault.{DeskFault}
 use Rattle.ssim_held.specs.declared.fault.DeskFault.TheVariants as desk_fault
 use Rattle.ssim_desk.specs.Desk.{days_of_desk, take_answer, timetable_of}

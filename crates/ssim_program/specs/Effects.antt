@@ -4,7 +4,7 @@ use Rattle.ssim_records.specs.declared.record.Record.{Record}
 use Rattle.ssim_base.specs.BaseSeen.{BaseSeen}
 use Rattle.ssim_base.specs.declared.note.Note.{Note}
 use Rattle.ssim_held.specs.File.{desk_file}
-use Rattle.ssim_held.specs.Kept.{AreRising, DeskSeen}
+use Rattle.ssim_held.specs.Entries.{AreRising, DeskSeen}
 use Rattle.ssim_desk.specs.Desk.{finding_lines}
 use Rattle.ssim_program.specs.Desks.{IsExportOfDesk, IsMergeOf, ReadsDesk, Shows, TakesFirst, TakesTexts, held_line}
 use Rattle.ssim_program.specs.Explained.{Explains}

@@ -19,7 +19,7 @@ use Rattle.ssim_text.specs.Message.{MessageValue}
 use Rattle.ssim_text.specs.Spelling.{SpellsMessage}
 use Rattle.ssim_text.specs.declared.fault.TextFault.{TextFault}
 use Rattle.ssim_held.specs.File.{IsDeskFile}
-use Rattle.ssim_held.specs.Kept.{DeskSeen}
+use Rattle.ssim_held.specs.Entries.{DeskSeen}
 use Rattle.ssim_held.specs.declared.fault.DeskFault.TheVariants as desk_fault
 use Rattle.ssim_program.specs.Desks.{IsNoDeskFile}
 use Rattle.ssim_program.specs.Files.{Files}

@@ -14,7 +14,7 @@ use Rattle.ssim_text.specs.Message.{MessageValue}
 use Rattle.ssim_text.specs.Reference.{printed_reference}
 use Rattle.ssim_text.specs.declared.reference.Reference.{Reference}
 use Rattle.ssim_held.specs.Held.{DeskState, Says}
-use Rattle.ssim_held.specs.Kept.{DeskSeen, state_of}
+use Rattle.ssim_held.specs.Entries.{DeskSeen, state_of}
 use Rattle.ssim_desk.specs.Meaning.{Exports}
 use Rattle.ssim_desk.specs.Reach.{IsStep}
 use Rattle.ssim_desk.specs.Steps.{Runs}

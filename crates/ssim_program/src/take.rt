@@ -1,7 +1,7 @@
 //! The command `take`: a desk takes texts, one after another.
 
 ghost use Rattle.std.specs.Prelude.{◌≡◌, IfErr, IfOk, map};
-ghost use Rattle.ssim_held.specs.Kept.{state_of};
+ghost use Rattle.ssim_held.specs.Entries.{state_of};
 ghost use Rattle.ssim_desk.specs.Steps.{RefusesText};
 ghost use Rattle.ssim_program.specs.Desks.{IsTaken, PrintsTexts, TakesOrRefuses, took_printed};
 ghost use Rattle.ssim_command_line.specs.Line.{Take};

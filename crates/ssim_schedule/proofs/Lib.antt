@@ -1,10 +1,10 @@
-pub mod BuildingLemmas
+pub mod TimetableBuilderLemmas
 pub mod ChangeLemmas
 pub mod FlightSets
-pub mod GrowingLemmas
+pub mod TableBuilderLemmas
 pub mod Planning
 pub mod Puts
-pub mod PutLemmas
+pub mod InsertedLegLemmas
 pub mod SameTails
 pub mod Serials
 pub mod TableLemmas

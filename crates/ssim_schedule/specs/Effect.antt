@@ -11,7 +11,7 @@ use Rattle.ssim_text.specs.declared.segment.SegmentLine.{SegmentLine}
 use Rattle.ssim_text.specs.declared.action.NewLegs.{NewLegs}
 use Rattle.ssim_text.specs.declared.action.Action.{Action}
 use Rattle.ssim_text.specs.declared.action.Action.TheVariants.{New, Cnl, Rpl, Eqt, Tim}
-use Rattle.ssim_schedule.specs.Columns.{new_columns, segment_tail, with_equipment, with_times}
+use Rattle.ssim_schedule.specs.MessageColumns.{new_columns, segment_tail, with_equipment, with_times}
 use Rattle.ssim_base.specs.Stations.{Row, variation_at}
 use Rattle.ssim_base.specs.Timetable.{LegValue, Legs}
 use Rattle.ssim_schedule.specs.declared.finding.Reason.{Reason}

@@ -3,10 +3,10 @@
 ghost use Rattle.std.specs.Prelude.{◌≡◌, ◌∷◌, [], true, IfOk, IfSome, OnOk, Some, reverse};
 ghost use Rattle.ssim_base.specs.Export.{same_itinerary};
 ghost use Rattle.ssim_schedule.specs.Group.{no_group};
-ghost use Rattle.ssim_schedule.specs.Put.{IsOrdered, StartsFrom};
+ghost use Rattle.ssim_schedule.specs.InsertedLegs.{IsOrdered, StartsFrom};
 
+use crate::inserted_legs::InsertedLegs;
 use crate::leg::PlacedLeg;
-use crate::put::Put;
 use ssim_records::{LegRecord, SegmentTail};
 use ssim_values::{Flight, Memory, Period};
 use std::alloc::Global;
@@ -37,7 +37,7 @@ pub(crate) struct LegGroup {
     /// The last leg first. The room stays when the legs are taken out, for the next group.
     legs: Vec<PlacedLeg>,
     /// The change of the latest group. Where each record is of one date, the next group mostly has the same legs.
-    latest: Option<Put>,
+    latest: Option<InsertedLegs>,
     /// How many itineraries were made since they were last counted.
     made: usize,
     alloc: Global,
@@ -46,7 +46,7 @@ pub(crate) struct LegGroup {
 impl Model for LegGroup {
     ghost use Rattle.std.specs.Prelude.{reverse};
     ghost use Rattle.ssim_schedule.specs.Group.{Group};
-    ghost use Rattle.ssim_schedule.specs.Put.{IsOrdered};
+    ghost use Rattle.ssim_schedule.specs.InsertedLegs.{IsOrdered};
 
     ghost Value = { Group };
 
@@ -110,7 +110,7 @@ impl LegGroup {
     }
 
     /// Takes the legs out, as the change that puts them, in the order of their records. No group is left.
-    pub(crate) fn take(&mut self) -> Result<Put, Memory>
+    pub(crate) fn take(&mut self) -> Result<InsertedLegs, Memory>
         ensures put { IfOk result (λ put. put ≡ self.old.legs) }
         ensures rest { OnOk result (self.new ≡ no_group) }
     {
@@ -125,7 +125,7 @@ impl LegGroup {
     }
 
     /// The latest change, with its legs shared, if it puts these legs.
-    fn repeated(&self) -> Result<Option<Put>, Memory>
+    fn repeated(&self) -> Result<Option<InsertedLegs>, Memory>
         ensures { IfOk result (λ repeated. IfSome repeated (λ put. put ≡ self.now.legs)) }
     {
         match &self.latest {
@@ -135,12 +135,12 @@ impl LegGroup {
     }
 
     /// Takes the legs out, as a change with an itinerary of its own, which is the latest then.
-    fn take_new(&mut self) -> Result<Put, Memory>
+    fn take_new(&mut self) -> Result<InsertedLegs, Memory>
         ensures put { IfOk result (λ put. put ≡ self.old.legs) }
         ensures rest { OnOk result (self.new ≡ record self.old { legs = [] }) }
     {
         let mut room = mem::replace(&mut self.legs, Vec::new(self.alloc));
-        let put = Put::of_reversed(self.alloc, &mut room)?;
+        let put = InsertedLegs::of_reversed(self.alloc, &mut room)?;
         self.legs = room;
         self.latest = Some(put.copy(self.alloc)?);
         self.made = self.made.saturating_add(1);

@@ -11,28 +11,28 @@
 //! chapter 7 of that timetable, which reads back to itself.
 #![tactic(auto)]
 
-mod acting;
-mod applying;
-mod building;
-mod columns;
-mod divided;
+mod division;
+mod division_points;
+mod effect;
 mod export;
 mod finding;
 mod flight_blocks;
 mod flight_set;
 mod flight_table;
-mod growing_table;
+mod inserted_legs;
 mod itinerary;
 mod leg;
 mod leg_group;
 mod leg_key;
+mod message_columns;
 mod new_legs;
-mod points;
-mod put;
+mod pending_segments;
 mod schedule;
 mod shared_periods;
 mod shared_table;
-mod waiting;
+mod sub_message_change;
+mod table_builder;
+mod timetable_builder;
 
 pub use export::{ExportFault, export_data_set};
 pub use finding::Finding;

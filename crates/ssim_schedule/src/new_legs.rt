@@ -4,9 +4,9 @@ ghost use Rattle.std.specs.Prelude.{◌≡◌, ◌<◌, ◌≤◌, length, IfOk,
 ghost use Rattle.ssim_text.specs.Grammar.{leg_pair};
 ghost use Rattle.ssim_schedule.specs.Effect.{leg_at, legs_from, new_legs, tail_for, tails_for, variation_on};
 
-use crate::columns::{new_columns, segment_tail};
 use crate::itinerary::Itinerary;
 use crate::leg::PlacedLeg;
+use crate::message_columns::{new_columns, segment_tail};
 use ssim_base::{StationRow, variation_at};
 use ssim_records::SegmentTail;
 use ssim_text::{LegLine, NewLegs, SegmentLine, leg_pair};

@@ -3,7 +3,7 @@ ghost use Rattle.std.specs.Prelude.{◌≡◌, ◌<◌, ◌≤◌, All, IfOk, le
 ghost use Rattle.ssim_text.specs.Message.{MessageValue};
 ghost use Rattle.ssim_text.specs.declared.reference.Reference.{Reference};
 ghost use Rattle.ssim_held.specs.Held.{Says};
-ghost use Rattle.ssim_held.specs.Kept.{state_of};
+ghost use Rattle.ssim_held.specs.Entries.{state_of};
 ghost use Rattle.ssim_desk.specs.Steps.{IsInRange};
 ghost use Rattle.ssim_program.specs.Rehearsal.{AreStepLines, HasLine, HasMergeLine, HasTakeLine, HaveLines, IsMergeLine, IsStepLine, IsTakeLine, Rehearses, desk_of, fresh};
 

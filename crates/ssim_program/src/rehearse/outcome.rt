@@ -1,6 +1,6 @@
 //! The exports of desks, and whether they are equal.
 ghost use Rattle.std.specs.Prelude.{◌≡◌, ◌↔◌, ◌<◌, ◌+◌, ◌^◌, ◌≤◌, ◌++◌, IfOk, IsTrue, OnOk, length, map, option_map};
-ghost use Rattle.ssim_held.specs.Kept.{state_of};
+ghost use Rattle.ssim_held.specs.Entries.{state_of};
 ghost use Rattle.ssim_desk.specs.Meaning.{Exports};
 ghost use Rattle.ssim_program.specs.Rehearsal.{AreEqualTo, AreExports, AreSame, HasEnds, IsVerdict, desk_line, desk_lines, outcome_of, refused_outcome};
 

@@ -13,7 +13,7 @@ ghost use Rattle.ssim_base.specs.Sinks.{CountsFault, TakesFront, TakesUpTo};
 use crate::export::plan::FlightPieces;
 use crate::itinerary::Itinerary;
 use crate::leg::PlacedLeg;
-use ssim_base::{Block, WriteFault, flush, put_fill, put_leg, put_record, put_segment};
+use ssim_base::{OutputBuffer, WriteFault, flush, put_fill, put_leg, put_record, put_segment};
 use ssim_records::{
     Carrier, Header, LegColumns, LegName, NameText, PeriodText, Record, SegmentTail, Sink, Trailer,
 };
@@ -35,7 +35,7 @@ pub(crate) fn put_export<W: Sink>(
     ensures failures { CountsFault (W.failures out.old) (W.failures out.new) result }
     ensures device { W.device out.new ≡ W.device out.old }
 {
-    let mut block = Block::new();
+    let mut block = OutputBuffer::new();
     put_alone(out, &mut block, &Record::Header(header.with_serial(1)))?;
     put_alone(out, &mut block, &Record::Carrier(carrier.with_serial(2)))?;
     let next = put_body(out, &mut block, carrier.airline(), plan)?;
@@ -48,7 +48,7 @@ pub(crate) fn put_export<W: Sink>(
 }
 
 // Puts one record, and fill up to five records.
-fn put_alone<W: Sink>(out: &mut W, block: &mut Block, one: &Record) -> Result<(), WriteFault>
+fn put_alone<W: Sink>(out: &mut W, block: &mut OutputBuffer, one: &Record) -> Result<(), WriteFault>
     ensures ok { OnOk result (TakesUpTo (block.old ++ section_bytes (one.now ∷ [])) block.new (W.taken out.old) (W.taken out.new)) }
     ensures err { OnErr result (TakesFront (block.old ++ section_bytes (one.now ∷ [])) (W.taken out.old) (W.taken out.new)) }
     ensures failures { CountsFault (W.failures out.old) (W.failures out.new) result }
@@ -61,7 +61,7 @@ fn put_alone<W: Sink>(out: &mut W, block: &mut Block, one: &Record) -> Result<()
 // Puts the flights, and fill up to a multiple of five records. Returns the next serial.
 fn put_body<W: Sink>(
     out: &mut W,
-    block: &mut Block,
+    block: &mut OutputBuffer,
     airline: Airline,
     plan: Vec<FlightPieces>,
 ) -> Result<u32, WriteFault>
@@ -88,7 +88,7 @@ fn fill_count(count: usize) -> usize
 // Puts the flights with serials from `serial` on. Returns the next serial.
 fn put_flights<W: Sink>(
     out: &mut W,
-    block: &mut Block,
+    block: &mut OutputBuffer,
     airline: Airline,
     plan: Vec<FlightPieces>,
     serial: u32,
@@ -119,7 +119,7 @@ fn put_flights<W: Sink>(
 // Puts the pieces of a flight as itinerary variations 1, 2, .. Returns the next serial.
 fn put_pieces<W: Sink>(
     out: &mut W,
-    block: &mut Block,
+    block: &mut OutputBuffer,
     airline: Airline,
     flight: Flight,
     pieces: &[(Period, Itinerary)],
@@ -156,7 +156,7 @@ fn put_pieces<W: Sink>(
 // Puts the legs of a piece, each followed by its tails. Returns the next serial.
 fn put_legs<W: Sink>(
     out: &mut W,
-    block: &mut Block,
+    block: &mut OutputBuffer,
     airline: Airline,
     flight: Flight,
     variation: u8,
@@ -187,7 +187,7 @@ fn put_legs<W: Sink>(
 // Puts the tails of a leg with this name and these columns. Returns the next serial.
 fn put_tails<W: Sink>(
     out: &mut W,
-    block: &mut Block,
+    block: &mut OutputBuffer,
     name: &NameText,
     columns: &LegColumns,
     tails: &[SegmentTail],

@@ -3,7 +3,7 @@ use Rattle.std.proofs.Common.{◌≡◌, List, take}
 use Rattle.ssim_values.specs.Flight.{FlightNumber}
 use Rattle.ssim_schedule.specs.Schedule.{Table}
 use Rattle.ssim_base.specs.Stations.{Row}
-use Rattle.ssim_held.specs.Kept.{Entry}
+use Rattle.ssim_held.specs.Entries.{Entry}
 use Rattle.ssim_desk.specs.Meaning.{Timetable, after_entries}
 use Rattle.ssim_desk.specs.Private.{Shows}
 use Rattle.ssim_desk.proofs.flights.act_on.Given as goal

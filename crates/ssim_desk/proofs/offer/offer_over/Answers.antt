@@ -2,7 +2,7 @@
 use Rattle.std.proofs.Common.{◌≡◌, Result, Err, IfErr, sym, subst, rules}
 use Rattle.ssim_held.specs.Fault.{message_refused, text_refused}
 use Rattle.ssim_held.specs.Held.{DeskState}
-use Rattle.ssim_held.specs.Kept.{map_of}
+use Rattle.ssim_held.specs.Entries.{map_of}
 use Rattle.ssim_held.specs.declared.fault.DeskFault.{DeskFault}
 use Rattle.ssim_desk.specs.Steps.{RefusesText}
 use Rattle.ssim_desk.specs.declared.offer.Offer.{Offer}

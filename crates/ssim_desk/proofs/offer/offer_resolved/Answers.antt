@@ -1,7 +1,7 @@
 -- The message is looked up among the messages.
 use Rattle.std.proofs.Common.{◌≡◌, sym, subst}
 use Rattle.ssim_held.specs.Held.{DeskState}
-use Rattle.ssim_held.specs.Kept.{Entry, map_of}
+use Rattle.ssim_held.specs.Entries.{Entry, map_of}
 use Rattle.ssim_desk.specs.Private.{IsOffer}
 use Rattle.ssim_desk.specs.declared.offer.Offer.TheVariants.{New}
 use Rattle.ssim_desk.proofs.Changes.{in_conflict, is_entry, is_known, says}

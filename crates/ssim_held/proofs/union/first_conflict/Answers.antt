@@ -1,7 +1,7 @@
 use Rattle.std.proofs.Common.{◌≡◌, ◌∙◌, Some, slice_get, ap, sym, subst}
 use Rattle.std.proofs.lemmas.List.Elements.{All-more, All-same}
 use Rattle.std.proofs.lemmas.List.{take_all}
-use Rattle.ssim_held.specs.Kept.{map_of}
+use Rattle.ssim_held.specs.Entries.{map_of}
 use Rattle.ssim_held.specs.Held.{IsLeastConflict}
 use Rattle.ssim_held.proofs.Searching.{at_index}
 use Rattle.ssim_held.proofs.Unions.{IsAlike, agree, alike, least_conflict}

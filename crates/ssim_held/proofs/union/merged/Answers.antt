@@ -1,6 +1,6 @@
 use Rattle.std.proofs.Common.{◌≡◌, ◌∷◌, ◌++◌, ◌∙◌, [], List, sym, ap, subst, append_assoc}
 use Rattle.std.proofs.lemmas.List.{append-nil}
-use Rattle.ssim_held.specs.Kept.{Entry}
+use Rattle.ssim_held.specs.Entries.{Entry}
 use Rattle.ssim_held.specs.Ordered.{IsMerged}
 use Rattle.ssim_held.proofs.union.merged.Goals as goal
 

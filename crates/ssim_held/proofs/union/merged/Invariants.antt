@@ -1,5 +1,5 @@
 use Rattle.std.proofs.Common.{List, ◌+◌, ◌++◌, length}
-use Rattle.ssim_held.specs.Kept.{Entry}
+use Rattle.ssim_held.specs.Entries.{Entry}
 use Rattle.ssim_held.specs.Ordered.{IsMerged}
 use Rattle.ssim_held.proofs.union.merged.Given as goal
 

@@ -1,7 +1,7 @@
 -- Two desks are opened and merged, and the merged one is kept.
 use Rattle.std.proofs.Common.{◌≡◌, ◌∙◌, List, length, Option, ap, subst, inl, inr, refl, rules, Err, Some}
 use Rattle.ssim_held.specs.File.{desk_file}
-use Rattle.ssim_held.specs.Kept.{AreRising, Entry}
+use Rattle.ssim_held.specs.Entries.{AreRising, Entry}
 use Rattle.ssim_program.specs.Desks.{ReadsDesk, RefusesDeskFile, held_line}
 use Rattle.ssim_program.specs.Files.{Files, with_kept}
 use Rattle.ssim_program.proofs.merge.merge.Goals as goal

@@ -2,7 +2,7 @@
 use Rattle.std.proofs.Common.{rules, ◌≡◌, ◌∙◌, inl, inr, refl, Err, List, None, Option, subst}
 use Rattle.std.specs.List.{flat_map}
 use Rattle.ssim_base.specs.BaseSeen.{base_with}
-use Rattle.ssim_held.specs.Kept.{DeskSeen}
+use Rattle.ssim_held.specs.Entries.{DeskSeen}
 use Rattle.ssim_desk.specs.declared.steps.Step.{Step}
 use Rattle.ssim_program.specs.Files.{Files}
 use Rattle.ssim_program.specs.Rehearsal.{HasSteps, RefusesSteps, Rehearses, RehearsesFiles, printed_line}

@@ -2,7 +2,7 @@
 use Rattle.std.proofs.Common.{◌≡◌, ◌∙◌, ap, inl, inr, refl, rules, Err, Some}
 use Rattle.ssim_base.specs.BaseSeen.{base_with}
 use Rattle.ssim_held.specs.File.{desk_file}
-use Rattle.ssim_held.specs.Kept.{DeskSeen}
+use Rattle.ssim_held.specs.Entries.{DeskSeen}
 use Rattle.ssim_program.specs.Files.{with_kept}
 use Rattle.ssim_program.proofs.start.start.Goals as goal
 

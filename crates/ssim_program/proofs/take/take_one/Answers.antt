@@ -3,7 +3,7 @@ use Rattle.std.proofs.Common.{◌≡◌, ℕ, List, Result, Ok, Err, IfErr, IfOk
 use Rattle.ssim_text.specs.Message.{MessageValue}
 use Rattle.ssim_text.specs.declared.reference.Reference.{Reference}
 use Rattle.ssim_held.specs.Held.{Says}
-use Rattle.ssim_held.specs.Kept.{DeskSeen, map_of, state_of}
+use Rattle.ssim_held.specs.Entries.{DeskSeen, map_of, state_of}
 use Rattle.ssim_held.specs.declared.fault.DeskFault.{DeskFault}
 use Rattle.ssim_desk.specs.Desk.{took_answer}
 use Rattle.ssim_desk.specs.Steps.{RefusesText, Takes}

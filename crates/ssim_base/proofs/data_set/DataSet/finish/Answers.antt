@@ -10,7 +10,7 @@ use Rattle.ssim_base.proofs.data_set.DataSet.finish.Goals as goal
 pub returns-in-Some-clause-read : goal.returns-in-Some-clause-read
 returns-in-Some-clause-read c = λ limit told h.
     of-all limit told h.done c.args.number (Err (Refused c.args.number c.in-Some.refusal)) h.given
-    (missing-outcome c.args.gathering h.earlier h.done c.args.number c.in-Some.refusal h.so_far (sym (c.missing.ensures h.earlier h.so_far.is_kept) ∙ c.in-Some.is))
+    (missing-outcome c.args.records_read h.earlier h.done c.args.number c.in-Some.refusal h.so_far (sym (c.missing.ensures h.earlier h.so_far.is_kept) ∙ c.in-Some.is))
 
 pub of_kept-requires-clause-whole : goal.of_kept-requires-clause-whole
 of_kept-requires-clause-whole c =
@@ -22,9 +22,9 @@ of_kept-requires-clause-whole c =
       was_read = record {
         ending = Done c.args.number;
         records = r.done;
-        notes = c.args.gathering.notes.items;
+        notes = c.args.records_read.notes.items;
         spelt = r.so_far.records;
-        read = sym (whole-outcome c.args.gathering r.earlier r.done c.args.number r.so_far (sym (c.missing.ensures r.earlier r.so_far.is_kept) ∙ none));
+        read = sym (whole-outcome c.args.records_read r.earlier r.done c.args.number r.so_far (sym (c.missing.ensures r.earlier r.so_far.is_kept) ∙ none));
       };
     }
 
@@ -35,6 +35,6 @@ pub returns-clause-read : goal.returns-clause-read
 returns-clause-read c = λ limit told h.
     let none : c.missing.result ≡ None = search rules in
     of-all limit told h.done c.args.number _ h.given
-    (ap (λ (rs : List Record). outcome_of rs c.args.gathering.notes.items)
+    (ap (λ (rs : List Record). outcome_of rs c.args.records_read.notes.items)
     (c.in_ok-data_set.ensures.records h.earlier h.so_far.is_kept)
-    ∙ whole-outcome c.args.gathering h.earlier h.done c.args.number h.so_far (sym (c.missing.ensures h.earlier h.so_far.is_kept) ∙ none))
+    ∙ whole-outcome c.args.records_read h.earlier h.done c.args.number h.so_far (sym (c.missing.ensures h.earlier h.so_far.is_kept) ∙ none))

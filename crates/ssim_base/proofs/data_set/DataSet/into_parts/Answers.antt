@@ -2,7 +2,7 @@
 use Rattle.std.proofs.Common.{List, sym, subst}
 use Rattle.std.specs.List.{All}
 use Rattle.ssim_records.specs.declared.record.Record.{Record}
-use Rattle.ssim_base.specs.Building.{IsClosed}
+use Rattle.ssim_base.specs.Closed.{IsClosed}
 use Rattle.ssim_base.proofs.FrameLemmas.{closed-records}
 use Rattle.ssim_base.proofs.data_set.DataSet.into_parts.Goals as goal
 

@@ -4,15 +4,15 @@ use Rattle.ssim_values.specs.Flight.{FlightNumber}
 use Rattle.ssim_records.specs.declared.record.Record.{Record}
 use Rattle.ssim_base.specs.BaseSeen.{AreFlights, WasRead}
 use Rattle.ssim_base.specs.Export.{Frame}
-use Rattle.ssim_base.specs.Kept.{IsWholeBase}
-use Rattle.ssim_base.specs.KeptRecords.{AreKept}
+use Rattle.ssim_base.specs.Acceptance.{IsWholeBase}
+use Rattle.ssim_base.specs.AcceptedRecords.{AreAccepted}
 use Rattle.ssim_base.specs.ReadBack.{HasFrame}
-use Rattle.ssim_base.specs.declared.kept.Kept.{Kept}
+use Rattle.ssim_base.specs.declared.acceptance.Acceptance.{Acceptance}
 use Rattle.ssim_base.proofs.FrameLemmas.{are-of-frame, exportable, length-framed}
 use Rattle.ssim_base.proofs.LegTables.{flights-are}
 use Rattle.ssim_base.proofs.data_set.DataSet.of_kept.Goals as goal
 
-was_read : (k : Kept) (whole : IsWholeBase k) (rs : List Record) → ((earlier : List Record) → AreKept k.records earlier → rs ≡ reverse earlier) → WasRead rs
+was_read : (k : Acceptance) (whole : IsWholeBase k) (rs : List Record) → ((earlier : List Record) → AreAccepted k.records earlier → rs ≡ reverse earlier) → WasRead rs
 was_read k whole rs are = subst (λ (xs : List Record). WasRead xs) (sym (are whole.earlier whole.is_kept.records)) whole.was_read
 
 pub at-header-requires : goal.at-header-requires

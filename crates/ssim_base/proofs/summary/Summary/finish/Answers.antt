@@ -11,7 +11,7 @@ use Rattle.ssim_base.proofs.summary.Summary.finish.Goals as goal
 pub returns-in-Some-clause-sums : goal.returns-in-Some-clause-sums
 returns-in-Some-clause-sums c = λ limit told h.
     of-all limit told h.done c.args.number (Err (Refused c.args.number c.in-Some.refusal)) h.given
-    (missing-outcome c.args.gathering h.earlier h.done c.args.number c.in-Some.refusal h.so_far (sym (c.missing.ensures h.earlier h.so_far.is_kept) ∙ c.in-Some.is))
+    (missing-outcome c.args.records_read h.earlier h.done c.args.number c.in-Some.refusal h.so_far (sym (c.missing.ensures h.earlier h.so_far.is_kept) ∙ c.in-Some.is))
 
 pub returns-clause-sums : goal.returns-clause-sums
 returns-clause-sums c = λ limit told h.
@@ -20,9 +20,9 @@ returns-clause-sums c = λ limit told h.
       base = reverse h.earlier;
       flights = c.in_ok-flights.flights.items;
       read = of-all limit told h.done c.args.number _ h.given
-          (whole-outcome c.args.gathering h.earlier h.done c.args.number h.so_far (sym (c.missing.ensures h.earlier h.so_far.is_kept) ∙ none));
+          (whole-outcome c.args.records_read h.earlier h.done c.args.number h.so_far (sym (c.missing.ensures h.earlier h.so_far.is_kept) ∙ none));
       are_flights = subst (λ (fs : List FlightNumber). AreFlights (reverse h.earlier) fs) (sym c.in_ok-flights.ensures)
-          (flights-are c.args.gathering.kept.legs h.earlier h.so_far.is_kept.legs.flown);
+          (flights-are c.args.records_read.kept.legs h.earlier h.so_far.is_kept.legs.flown);
       records_are = c.len.ensures h.earlier h.so_far.is_kept.records ∙ sym (length-reverse h.earlier);
       flights_are = search rules;
     }

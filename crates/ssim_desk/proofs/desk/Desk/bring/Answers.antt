@@ -1,7 +1,7 @@
 use Rattle.std.proofs.Common.{◌≡◌, ◌-◌, ◌∙◌, inl, length, List, All, take, drop, ap, sym, subst, arith}
 use Rattle.std.proofs.lemmas.Grind.{common_steps}
 use Rattle.ssim_base.specs.BaseSeen.{BaseSeen}
-use Rattle.ssim_held.specs.Kept.{AreEntries, DeskSeen, Entry, map_of, state_of}
+use Rattle.ssim_held.specs.Entries.{AreEntries, DeskSeen, Entry, map_of, state_of}
 use Rattle.ssim_held.specs.Ordered.{IsFirstNew, IsMerged}
 use Rattle.ssim_held.proofs.Unions.{IsHeldIn, union_entries}
 use Rattle.ssim_desk.specs.Desk.{at_rest}

@@ -4,7 +4,7 @@ use Rattle.std.specs.Prelude.{ℕ, IsTrue}
 use Rattle.ssim_schedule.specs.Schedule.{days_in}
 use Rattle.ssim_base.specs.Timetable.{on_day}
 use Rattle.ssim_values.specs.Flight.{IsFlight, is_suffix}
-use Rattle.ssim_held.specs.Kept.{DeskSeen}
+use Rattle.ssim_held.specs.Entries.{DeskSeen}
 use Rattle.ssim_desk.specs.Desk.{AreDeskPoints, timetable_of}
 use Rattle.ssim_desk.proofs.Meant.{legs_after}
 use Rattle.ssim_desk.proofs.Points.{within_bound}

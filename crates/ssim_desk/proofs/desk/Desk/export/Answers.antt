@@ -2,7 +2,7 @@ use Rattle.std.proofs.Common.{OnOk, IfErr, Result, Ok, Err, subst}
 use Rattle.ssim_base.specs.BaseSeen.{BaseSeen}
 use Rattle.ssim_schedule.specs.Plan.{RefusesBase, WritesBase}
 use Rattle.ssim_schedule.specs.Schedule.{days_in}
-use Rattle.ssim_held.specs.Kept.{DeskSeen}
+use Rattle.ssim_held.specs.Entries.{DeskSeen}
 use Rattle.ssim_desk.specs.Desk.{days_of_desk}
 use Rattle.ssim_desk.proofs.Exports.{refuses, writes}
 use Rattle.ssim_desk.proofs.desk.Desk.export.Goals as goal

@@ -1,7 +1,7 @@
 use Rattle.std.proofs.Common.{List, ◌∙◌, length, sym, ap, subst}
 use Rattle.ssim_schedule.specs.declared.finding.Finding.{Finding}
 use Rattle.ssim_base.specs.Timetable.{itinerary}
-use Rattle.ssim_held.specs.Kept.{AreEntries, DeskSeen, Entry}
+use Rattle.ssim_held.specs.Entries.{AreEntries, DeskSeen, Entry}
 use Rattle.ssim_desk.proofs.Meant.{has_findings}
 use Rattle.ssim_desk.proofs.Trails.{length-findings}
 use Rattle.ssim_desk.proofs.desk.Desk.findings.Goals as goal

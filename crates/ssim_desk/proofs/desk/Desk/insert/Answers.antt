@@ -1,6 +1,6 @@
 use Rattle.std.proofs.Common.{◌≡◌, ◌∷◌, ◌++◌, List, take, drop, sym, subst, arith}
 use Rattle.std.proofs.lemmas.Grind.{common_steps}
-use Rattle.ssim_held.specs.Kept.{AreEntries, Entry}
+use Rattle.ssim_held.specs.Entries.{AreEntries, Entry}
 use Rattle.ssim_desk.proofs.Changes.{inserted_entries}
 use Rattle.ssim_desk.proofs.desk.Desk.insert.Goals as goal
 

@@ -1,7 +1,7 @@
 use Rattle.std.proofs.Common.{◌≡◌, ◌≤◌, ◌<◌, ◌∙◌, ap, subst}
 use Rattle.std.specs.Prelude.{IsTrue}
 use Rattle.ssim_values.specs.Flight.{IsFlight, is_suffix}
-use Rattle.ssim_held.specs.Kept.{AreEntries, DeskSeen}
+use Rattle.ssim_held.specs.Entries.{AreEntries, DeskSeen}
 use Rattle.ssim_desk.specs.Desk.{timetable_of}
 use Rattle.ssim_desk.specs.Meaning.{Timetable}
 use Rattle.ssim_desk.proofs.Meant.{has_meaning, legs_after, only_meaning}

@@ -1,6 +1,6 @@
 use Rattle.std.proofs.Common.{◌∙◌, List, refl, sym, subst}
 use Rattle.ssim_held.specs.Held.{Agree}
-use Rattle.ssim_held.specs.Kept.{Entry, map_of}
+use Rattle.ssim_held.specs.Entries.{Entry, map_of}
 use Rattle.ssim_desk.proofs.desk.Desk.merge.Goals as goal
 
 pub bring-requires-clause-base : goal.bring-requires-clause-base

@@ -1,5 +1,5 @@
 use Rattle.std.proofs.Common.{◌++◌, take, subst, sym}
-use Rattle.ssim_held.specs.Kept.{AreEntries, DeskSeen}
+use Rattle.ssim_held.specs.Entries.{AreEntries, DeskSeen}
 use Rattle.ssim_desk.proofs.Changes.{replaced_entries}
 use Rattle.ssim_desk.proofs.desk.Desk.replace_from.Goals as goal
 

@@ -6,7 +6,7 @@ use Rattle.ssim_base.specs.SavedBase.{IsBaseRecords}
 use Rattle.ssim_base.specs.Sinks.{TakesFront}
 use Rattle.ssim_base.specs.Stations.{Row}
 use Rattle.ssim_held.specs.File.{IsRow, IsSpelled}
-use Rattle.ssim_held.specs.Kept.{Entry}
+use Rattle.ssim_held.specs.Entries.{Entry}
 use Rattle.ssim_desk.proofs.DeskFiles.{file_is, from_parts}
 use Rattle.ssim_desk.proofs.desk.Desk.save.Goals as goal
 

@@ -2,7 +2,7 @@
 use Rattle.std.proofs.Common.{◌≡◌, List, Result, Err, drop, refl, sym, subst, rules}
 use Rattle.ssim_base.specs.BaseSeen.{BaseSeen}
 use Rattle.ssim_base.specs.ReadBack.{HasFrame}
-use Rattle.ssim_held.specs.Kept.{AreEntries, Entry, map_of, state_of}
+use Rattle.ssim_held.specs.Entries.{AreEntries, Entry, map_of, state_of}
 use Rattle.ssim_held.specs.declared.fault.DeskFault.{DeskFault}
 use Rattle.ssim_held.proofs.Entries.{not_held}
 use Rattle.ssim_desk.specs.Desk.{take_answer}

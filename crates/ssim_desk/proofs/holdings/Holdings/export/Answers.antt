@@ -4,7 +4,7 @@ use Rattle.ssim_base.specs.BaseSeen.{base_with}
 use Rattle.ssim_schedule.specs.Plan.{ReadsBackBase, RefusesBase, WritesBase}
 use Rattle.ssim_schedule.specs.Schedule.{days_in}
 use Rattle.ssim_base.specs.Timetable.{itinerary}
-use Rattle.ssim_held.specs.Kept.{DeskSeen}
+use Rattle.ssim_held.specs.Entries.{DeskSeen}
 use Rattle.ssim_desk.specs.Desk.{days_of_desk}
 use Rattle.ssim_desk.proofs.Exports.{left, reads_back, refuses, writes}
 use Rattle.ssim_desk.proofs.holdings.Holdings.export.Goals as goal

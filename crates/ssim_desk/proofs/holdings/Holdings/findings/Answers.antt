@@ -4,7 +4,7 @@ use Rattle.ssim_schedule.specs.declared.finding.Finding.{Finding}
 use Rattle.ssim_base.specs.BaseSeen.{base_with}
 use Rattle.ssim_base.specs.Stations.{Row}
 use Rattle.ssim_base.specs.Timetable.{itinerary}
-use Rattle.ssim_held.specs.Kept.{AreEntries, DeskSeen, Entry}
+use Rattle.ssim_held.specs.Entries.{AreEntries, DeskSeen, Entry}
 use Rattle.ssim_desk.specs.Meaning.{found_by}
 use Rattle.ssim_desk.proofs.Meant.{has_findings}
 use Rattle.ssim_desk.proofs.Trails.{length-findings}

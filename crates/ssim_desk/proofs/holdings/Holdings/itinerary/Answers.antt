@@ -2,7 +2,7 @@
 use Rattle.std.proofs.Common.{List, Result, Ok, Err, IfOk, ap, subst, ◌∙◌}
 use Rattle.ssim_base.specs.BaseSeen.{base_with}
 use Rattle.ssim_base.specs.Stations.{Row}
-use Rattle.ssim_held.specs.Kept.{AreEntries, DeskSeen, Entry}
+use Rattle.ssim_held.specs.Entries.{AreEntries, DeskSeen, Entry}
 use Rattle.ssim_desk.specs.Desk.{timetable_of}
 use Rattle.ssim_desk.specs.Meaning.{Timetable, left_by}
 use Rattle.ssim_desk.proofs.Meant.{has_meaning, only_meaning}

@@ -2,7 +2,7 @@
 use Rattle.std.proofs.Common.{◌≡◌, List, refl, sym, subst}
 use Rattle.ssim_base.specs.BaseSeen.{BaseSeen, base_with}
 use Rattle.ssim_held.specs.Held.{Agree}
-use Rattle.ssim_held.specs.Kept.{AreEntries, DeskSeen, Entry, map_of, state_of}
+use Rattle.ssim_held.specs.Entries.{AreEntries, DeskSeen, Entry, map_of, state_of}
 use Rattle.ssim_held.specs.Ordered.{IsMerged}
 use Rattle.ssim_held.proofs.Unions.{whole_entries, whole_is}
 use Rattle.ssim_desk.specs.Steps.{IsUnion}

@@ -5,7 +5,7 @@ use Rattle.ssim_base.specs.BaseSeen.{base_with}
 use Rattle.ssim_base.specs.Sinks.{TakesFront}
 use Rattle.ssim_base.specs.Stations.{Row}
 use Rattle.ssim_held.specs.File.{CanBeSaved, IsRow, IsSpelled, desk_file}
-use Rattle.ssim_held.specs.Kept.{DeskSeen, Entry}
+use Rattle.ssim_held.specs.Entries.{DeskSeen, Entry}
 use Rattle.ssim_desk.proofs.DeskFiles.{file_is, from_parts}
 use Rattle.ssim_desk.proofs.holdings.Holdings.save.Goals as goal
 

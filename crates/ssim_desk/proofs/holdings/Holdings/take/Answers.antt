@@ -3,7 +3,7 @@ use Rattle.std.proofs.Common.{◌≡◌, List, Result, Err, refl, sym, subst, ru
 use Rattle.ssim_base.specs.BaseSeen.{base_with}
 use Rattle.ssim_text.specs.declared.reference.Reference.{Reference}
 use Rattle.ssim_held.specs.Held.{Says}
-use Rattle.ssim_held.specs.Kept.{AreEntries, AreRising, DeskSeen, Entry, map_of, state_of}
+use Rattle.ssim_held.specs.Entries.{AreEntries, AreRising, DeskSeen, Entry, map_of, state_of}
 use Rattle.ssim_held.specs.declared.fault.DeskFault.{DeskFault}
 use Rattle.ssim_desk.specs.Desk.{took_answer}
 use Rattle.ssim_desk.specs.Private.{IsOffer}

@@ -1,7 +1,7 @@
 -- The answers of the run have their lines, and the desks after it have theirs.
 use Rattle.std.proofs.Common.{rules, ◌≡◌, ◌∙◌, ◌++◌, List, All, drop, length, map, take, refl, sym, ap, subst, arith}
 use Rattle.std.proofs.Math.Seq.{take-append_seam}
-use Rattle.ssim_held.specs.Kept.{DeskSeen, state_of}
+use Rattle.ssim_held.specs.Entries.{DeskSeen, state_of}
 use Rattle.ssim_desk.specs.Steps.{IsInRange, Runs}
 use Rattle.ssim_program.specs.Rehearsal.{HasEnds, fresh}
 use Rattle.ssim_program.proofs.Rehearsing.{have_lines}

@@ -1,7 +1,7 @@
 -- The buffer was empty, so it has the export of the copy, which is that of the desk.
 use Rattle.std.proofs.Common.{Ok, ap, sym, subst}
 use Rattle.ssim_records.specs.Device.{Buffer}
-use Rattle.ssim_held.specs.Kept.{AreEntries, DeskSeen, state_of}
+use Rattle.ssim_held.specs.Entries.{AreEntries, DeskSeen, state_of}
 use Rattle.ssim_desk.specs.Meaning.{Exports}
 use Rattle.ssim_program.specs.Rehearsal.{outcome_of}
 use Rattle.ssim_program.proofs.Outcomes.{exports_err, exports_ok}

@@ -1,6 +1,6 @@
 -- The exports so far are those of the desks so far.
 use Rattle.std.proofs.Common.{◌≡◌, length, map, take}
-use Rattle.ssim_held.specs.Kept.{state_of}
+use Rattle.ssim_held.specs.Entries.{state_of}
 use Rattle.ssim_program.specs.Rehearsal.{AreExports, outcome_of}
 use Rattle.ssim_program.proofs.rehearse.outcome.exports_of.Given as goal
 

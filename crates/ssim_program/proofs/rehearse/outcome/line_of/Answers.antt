@@ -1,7 +1,7 @@
 -- As many messages as the map has entries.
 use Rattle.std.proofs.Common.{◌≡◌, ◌∙◌, suc, List, [], ◌∷◌, length, sym, ap, subst, refl}
 use Rattle.std.specs.FinMap.{entries}
-use Rattle.ssim_held.specs.Kept.{AreRising, Entry, keyed, map_of, state_of}
+use Rattle.ssim_held.specs.Entries.{AreRising, Entry, keyed, map_of, state_of}
 use Rattle.ssim_held.proofs.Entries.{entries-map_of}
 use Rattle.ssim_program.specs.Rehearsal.{desk_line, outcome_of}
 use Rattle.ssim_program.specs.declared.rehearse.line.RehearsalLine.TheVariants as printed

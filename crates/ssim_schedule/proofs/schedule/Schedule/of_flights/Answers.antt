@@ -3,7 +3,7 @@ use Rattle.std.proofs.Common.{List, sym, subst, ◌∙◌}
 use Rattle.std.specs.List.{All}
 use Rattle.ssim_periods.specs.Days.{each_day}
 use Rattle.ssim_records.specs.declared.record.Record.{Record}
-use Rattle.ssim_base.specs.Building.{IsClosed}
+use Rattle.ssim_base.specs.Closed.{IsClosed}
 use Rattle.ssim_schedule.specs.Schedule.{days_in}
 use Rattle.ssim_base.specs.Timetable.{itinerary_among}
 use Rattle.ssim_base.proofs.Calendars.{length-each_day}

@@ -1,0 +1,95 @@
+-- What is known of the records that a base has so far, the latest of which comes first.
+use Rattle.std.specs.Prelude.{◌≡◌, ℕ, Bool, true, false, ◌&&◌, nat_eq, nat_lt, unwrap_or, Some, None, List, [], ◌∷◌, reverse}
+use Rattle.std.specs.List.{list_any}
+use Rattle.std.specs.Str.{bytes_eq}
+use Rattle.ssim_values.specs.Flight.{FlightNumber, IsFlight}
+use Rattle.ssim_values.specs.Period.{DayRange}
+use Rattle.ssim_periods.specs.Calendar.{holds}
+use Rattle.ssim_records.specs.Leg.{LegFields, Name}
+use Rattle.ssim_records.specs.declared.record.Record.{Record}
+use Rattle.ssim_records.specs.declared.record.Record.TheVariants.{Header, Carrier, Leg, Segment, Trailer}
+use Rattle.ssim_base.specs.Base.{airline_of, carrier_end, is_trailer, is_leg_named, is_overflow, is_rate, refusal_at, kept}
+use Rattle.ssim_base.specs.BaseSeen.{WasRead, is_leg_of}
+use Rattle.ssim_base.specs.AcceptedRecords.{AddsRecord, AreAccepted}
+use Rattle.ssim_base.specs.LegTable.{has_legs, legs_at, names_leg, uses_date}
+use Rattle.ssim_base.specs.ReadBack.{place_of}
+use Rattle.ssim_base.specs.Timetable.{same_flight, period_of}
+use Rattle.ssim_base.specs.declared.acceptance.CarrierTerms.{CarrierTerms}
+use Rattle.ssim_base.specs.declared.acceptance.Acceptance.{Acceptance}
+use Rattle.ssim_base.specs.declared.acceptance.Expected.{Expected}
+use Rattle.ssim_base.specs.declared.acceptance.Expected.TheVariants as expected
+use Rattle.ssim_base.specs.declared.accepted_records.AcceptedRecords.{AcceptedRecords}
+use Rattle.ssim_base.specs.declared.leg_table.LegTable.{LegTable}
+use Rattle.ssim_base.specs.declared.fault.BaseFault.{BaseFault}
+use Rattle.ssim_base.specs.declared.fault.BaseFault.TheVariants as fault
+
+-- two records at least, the latest of which is a trailer or not
+abbrev pub Follows : Bool → List Record → Type 0
+Follows ended [] = ⊥
+Follows ended (last ∷ []) = ⊥
+Follows ended (last ∷ second ∷ more) = is_trailer last ≡ ended
+
+abbrev pub IsHeaderAlone : List Record → Type 0
+IsHeaderAlone [] = ⊥
+IsHeaderAlone (last ∷ []) = Unit {0}
+IsHeaderAlone (last ∷ second ∷ more) = ⊥
+
+-- the records so far stand before this place
+abbrev pub IsExpectedAfter : Expected → List Record → Type 0
+IsExpectedAfter expected.Header earlier = earlier ≡ []
+IsExpectedAfter expected.Carrier earlier = IsHeaderAlone earlier
+IsExpectedAfter (expected.Legs heading) earlier = Follows false earlier × (heading.airline ≡ airline_of earlier) × (heading.end ≡ carrier_end earlier)
+IsExpectedAfter expected.End earlier = Follows true earlier
+
+-- whether a record gives a leg of this flight and sequence on a day
+abbrev pub gives : FlightNumber → ℕ → ℕ → Record → Bool
+gives flight sequence day (Header e) = false
+gives flight sequence day (Carrier e) = false
+gives flight sequence day (Leg e) = (same_flight flight e.name.flight && nat_eq sequence e.name.sequence) && holds (period_of e) day
+gives flight sequence day (Segment e) = false
+gives flight sequence day (Trailer e) = false
+
+-- the names, dates and flights of the table are those of these records
+pub record AreLegs (table : LegTable) (earlier : List Record) : Type 0 where
+  pub named : (name : Name) → IsFlight name.flight → names_leg (legs_at table (place_of name.flight)) name.sequence name.variation ≡ list_any (is_leg_named name) earlier
+  pub used : (flight : FlightNumber) (sequence day : ℕ) → IsFlight flight → uses_date (legs_at table (place_of flight)) sequence day ≡ list_any (gives flight sequence day) earlier
+  pub flown : (flight : FlightNumber) → IsFlight flight → has_legs (legs_at table (place_of flight)) ≡ list_any (is_leg_of flight) earlier
+
+-- what is kept of these records
+pub record HasAccepted (k : Acceptance) (earlier : List Record) : Type 0 where
+  pub records : AreAccepted k.records earlier
+  pub is_expected : IsExpectedAfter k.expected earlier
+  pub legs : AreLegs k.legs earlier
+
+-- a record more stands, and is kept
+pub record Stood (new : Acceptance) (earlier : List Record) (r : Record) : Type 0 where
+  pub stands : refusal_at earlier r ≡ None
+  pub is_kept : HasAccepted new (kept earlier r ∷ earlier)
+
+-- A record is accepted, and closed. It stands once its closed form is with the records.
+abbrev pub Accepts : Acceptance → Acceptance → Record → Record → Type 0
+Accepts old new one closed =
+    (earlier : List Record) (records : AcceptedRecords) → HasAccepted old earlier → AddsRecord old.records records closed
+    → Stood (record { records = records; expected = new.expected; legs = new.legs }) earlier one
+
+-- the refusal is that of the record, or the want of memory
+abbrev pub IsRefused : ℕ → List Record → Record → BaseFault → Type 0
+IsRefused number earlier r fault.Memory = Unit {0}
+IsRefused number earlier r (fault.Read f) = ⊥
+IsRefused number earlier r (fault.Refused n refusal) = (n ≡ number) × (refusal_at earlier r ≡ Some refusal)
+
+-- the airline, overflow, rate and end of a leg record stand, and this is its period
+pub record LegStands (heading : CarrierTerms) (r : LegFields) (period : DayRange) : Type 0 where
+  pub airline : bytes_eq r.name.airline heading.airline ≡ true
+  pub blank : is_overflow r.overflow ≡ false
+  pub weekly : is_rate r.rate ≡ true
+  pub first_is : period.first ≡ r.first
+  pub last_is : period.last ≡ unwrap_or r.last heading.end
+  pub days_is : period.days ≡ r.days
+  pub in_order : nat_lt period.last r.first ≡ false
+
+-- what is kept are the records of a base
+pub record IsWholeBase (k : Acceptance) : Type 0 where
+  pub earlier : List Record
+  pub is_kept : HasAccepted k earlier
+  pub was_read : WasRead (reverse earlier)

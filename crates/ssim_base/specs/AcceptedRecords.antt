@@ -1,0 +1,23 @@
+-- What is kept of records.
+use Rattle.std.specs.Prelude.{◌≡◌, List, ◌∷◌, length, reverse}
+use Rattle.ssim_records.specs.declared.record.Record.{Record}
+use Rattle.ssim_base.specs.declared.accepted_records.AcceptedRecords.{AcceptedRecords}
+use Rattle.ssim_base.specs.declared.accepted_records.AcceptedRecords.TheVariants.{Count, Pieces}
+
+-- how records are kept: in pieces, or by their number alone
+pub data Form : Type 0 where
+  InPieces : Form
+  InNumber : Form
+
+abbrev pub keeps : AcceptedRecords → Form
+keeps (Pieces records) = InPieces
+keeps (Count n) = InNumber
+
+-- these records are kept, or counted; the latest of them comes first
+abbrev pub AreAccepted : AcceptedRecords → List Record → Type 0
+AreAccepted (Pieces records) earlier = records ≡ reverse earlier
+AreAccepted (Count n) earlier = n ≡ length earlier
+
+-- one record more
+abbrev pub AddsRecord : AcceptedRecords → AcceptedRecords → Record → Type 0
+AddsRecord old new one = (earlier : List Record) → AreAccepted old earlier → AreAccepted new (one ∷ earlier)

@@ -1,0 +1,36 @@
+-- What is known of the records of a data set so far.
+use Rattle.std.specs.Prelude.{◌≡◌, ℕ, ◌+◌, not, nat_eq, List, [], ◌++◌, reverse, map, Option}
+use Rattle.std.specs.List.{All}
+use Rattle.ssim_records.specs.Record.{IsRecord, serial_of}
+use Rattle.ssim_records.specs.declared.record.Record.{Record}
+use Rattle.ssim_base.specs.Base.{Ending, Done, kept_all, first_refusal, note_if, check_notes, notes_of}
+use Rattle.ssim_base.specs.Acceptance.{HasAccepted}
+use Rattle.ssim_base.specs.Reading.{AreGivenOf}
+use Rattle.ssim_base.specs.declared.data_set_reader.DataSetReader.{DataSetReader}
+use Rattle.ssim_base.specs.declared.note.Note.{Note}
+use Rattle.ssim_base.specs.declared.note.Note.TheVariants.{Serial}
+
+-- the notes of one record
+abbrev pub notes_at : ℕ → ℕ → Record → List Note
+notes_at number previous r = note_if (not (nat_eq (serial_of r) (previous + 1))) (Serial number) ++ check_notes number previous r
+
+-- The records so far, with their numbers, are read as these; what is to come is read behind them.
+pub record IsSoFar (g : DataSetReader) (earlier : List Record) (done : List (ℕ × Record)) : Type 0 where
+  pub is_kept : HasAccepted g.kept earlier
+  pub records : All (λ r. IsRecord r.1) done
+  pub refused : (ending : Ending) (later : List (ℕ × Record)) → first_refusal ending [] (done ++ later) ≡ first_refusal ending earlier later
+  pub kept : (later : List (ℕ × Record)) → kept_all [] (map (λ r. r.1) (done ++ later)) ≡ reverse earlier ++ kept_all earlier (map (λ r. r.1) later)
+  pub noted : (later : List (ℕ × Record)) → notes_of 0 (done ++ later) ≡ g.notes.items ++ notes_of g.previous later
+
+-- the records of some bytes, where these are told, were gathered, and end behind the one before this number
+pub record HasRead (limit : ℕ) (told : Option (List ℕ)) (g : DataSetReader) (number : ℕ) : Type 0 where
+  pub earlier : List Record
+  pub done : List (ℕ × Record)
+  pub so_far : IsSoFar g earlier done
+  pub given : AreGivenOf limit told done (Done number)
+
+-- whatever was read is known
+pub record IsWhole (g : DataSetReader) : Type 0 where
+  pub earlier : List Record
+  pub done : List (ℕ × Record)
+  pub so_far : IsSoFar g earlier done

@@ -1,0 +1,13 @@
+use Rattle.std.proofs.Common.{ℕ, List, take, ◌++◌}
+use Rattle.ssim_base.specs.BaseSeen.{BaseSeen}
+use Rattle.ssim_held.specs.Entries.{Entry}
+use Rattle.ssim_desk.specs.Private.{IsCounted, IsReplay}
+use Rattle.ssim_desk.specs.declared.replay.Replay.{Replay}
+use Rattle.ssim_desk.proofs.replay.apply_all.Given as goal
+
+pub record AreApplied (base : BaseSeen) (messages : List Entry) (old now : Replay) : Type 0 where
+  pub counted : IsCounted now
+  pub applied : (before : List Entry) (from : ℕ) → IsReplay base before from old → IsReplay base (before ++ messages) from now
+
+abbrev pub invariant-loop-held : goal.invariant-loop-held
+invariant-loop-held l = AreApplied l.base (take l.held-index l.messages) l.fn.tail l.tail

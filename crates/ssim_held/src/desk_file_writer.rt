@@ -1,0 +1,129 @@
+//! The desk file, written from a base and the messages that are held.
+
+ghost use Rattle.std.specs.Prelude.{◌≡◌, ◌++◌, ◌∷◌, [], decimal, length, OnOk, OnErr};
+ghost use Rattle.std.specs.Io.KnownBytes.{Appends};
+ghost use Rattle.std.specs.List.{All};
+ghost use Rattle.ssim_base.specs.BaseSeen.{base_with};
+ghost use Rattle.ssim_base.specs.Sinks.{CountsFault, TakesFront, TakesUpTo};
+ghost use Rattle.ssim_held.specs.File.{IsRow, IsSpelled, desk_file, records_part, rows_part, text_element, texts_part};
+
+use crate::held::Held;
+use crate::row_line::write_row;
+use itoa::Buffer;
+use ssim_base::{OutputBuffer, RecordsLeft, StationRow, WriteFault, flush, put_bytes, put_record};
+use ssim_records::Sink;
+
+/// Puts the desk file of the base with these records, `count` in number, and these rows, and of the
+/// messages that are held.
+pub fn put_desk<W: Sink>(
+    out: &mut W,
+    count: usize,
+    records: RecordsLeft<'_>,
+    rows: &[StationRow],
+    held: &[Held],
+) -> Result<(), WriteFault>
+    requires { count ≡ length records }
+    ensures ok { OnOk result (Appends (W.taken out.old) (W.taken out.new) (desk_file (base_with records.entry rows.now) held.now)) }
+    ensures rows { OnOk result (All IsRow rows.now) }
+    ensures spelled { OnOk result (All IsSpelled held.now) }
+    ensures err { OnErr result (TakesFront (desk_file (base_with records.entry rows.now) held.now) (W.taken out.old) (W.taken out.new)) }
+    ensures failures { CountsFault (W.failures out.old) (W.failures out.new) result }
+    ensures device { W.device out.new ≡ W.device out.old }
+{
+    let mut block = OutputBuffer::new();
+    put_counted(out, &mut block, b"SSIMDESK ", 2)?;
+    put_records(out, &mut block, count, records)?;
+    put_rows(out, &mut block, rows)?;
+    put_texts(out, &mut block, held)?;
+    put_bytes(out, &mut block, b"END\n")?;
+    flush(out, &mut block)
+}
+
+// Puts a line: a word with a blank after it, and a number.
+fn put_counted<W: Sink>(
+    out: &mut W,
+    block: &mut OutputBuffer,
+    word: &[u8],
+    number: usize,
+) -> Result<(), WriteFault>
+    ensures ok { OnOk result (TakesUpTo (block.old ++ (word.now ++ (decimal number ++ 10 ∷ []))) block.new (W.taken out.old) (W.taken out.new)) }
+    ensures err { OnErr result (TakesFront (block.old ++ (word.now ++ (decimal number ++ 10 ∷ []))) (W.taken out.old) (W.taken out.new)) }
+    ensures failures { CountsFault (W.failures out.old) (W.failures out.new) result }
+    ensures device { W.device out.new ≡ W.device out.old }
+{
+    let mut digits = Buffer::new();
+    put_bytes(out, block, word)?;
+    put_bytes(out, block, digits.format(number).as_bytes())?;
+    put_bytes(out, block, b"\n")
+}
+
+// Puts the records of a base and their number.
+fn put_records<W: Sink>(
+    out: &mut W,
+    block: &mut OutputBuffer,
+    count: usize,
+    mut records: RecordsLeft<'_>,
+) -> Result<(), WriteFault>
+    requires { count ≡ length records }
+    ensures ok { OnOk result (TakesUpTo (block.old ++ records_part records.entry) block.new (W.taken out.old) (W.taken out.new)) }
+    ensures err { OnErr result (TakesFront (block.old ++ records_part records.entry) (W.taken out.old) (W.taken out.new)) }
+    ensures failures { CountsFault (W.failures out.old) (W.failures out.new) result }
+    ensures device { W.device out.new ≡ W.device out.old }
+{
+    put_counted(out, block, b"RECORDS ", count)?;
+    while let Some(record) = records.next() {
+        put_record(out, block, record)?;
+    }
+    Ok(())
+}
+
+// Puts the rows of a station table and their number.
+fn put_rows<W: Sink>(
+    out: &mut W,
+    block: &mut OutputBuffer,
+    rows: &[StationRow],
+) -> Result<(), WriteFault>
+    ensures ok { OnOk result (TakesUpTo (block.old ++ rows_part rows.now) block.new (W.taken out.old) (W.taken out.new)) }
+    ensures rows { OnOk result (All IsRow rows.now) }
+    ensures err { OnErr result (TakesFront (block.old ++ rows_part rows.now) (W.taken out.old) (W.taken out.new)) }
+    ensures failures { CountsFault (W.failures out.old) (W.failures out.new) result }
+    ensures device { W.device out.new ≡ W.device out.old }
+{
+    put_counted(out, block, b"STATIONS ", rows.len())?;
+    for row in rows {
+        put_bytes(out, block, &write_row(row))?;
+    }
+    Ok(())
+}
+
+// Puts the messages that are held and their number.
+fn put_texts<W: Sink>(
+    out: &mut W,
+    block: &mut OutputBuffer,
+    held: &[Held],
+) -> Result<(), WriteFault>
+    ensures ok { OnOk result (TakesUpTo (block.old ++ texts_part held.now) block.new (W.taken out.old) (W.taken out.new)) }
+    ensures spelled { OnOk result (All IsSpelled held.now) }
+    ensures err { OnErr result (TakesFront (block.old ++ texts_part held.now) (W.taken out.old) (W.taken out.new)) }
+    ensures failures { CountsFault (W.failures out.old) (W.failures out.new) result }
+    ensures device { W.device out.new ≡ W.device out.old }
+{
+    put_counted(out, block, b"TEXTS ", held.len())?;
+    for message in held {
+        put_text(out, block, message)?;
+    }
+    Ok(())
+}
+
+// Puts the canonical text of a message and its length.
+fn put_text<W: Sink>(out: &mut W, block: &mut OutputBuffer, held: &Held) -> Result<(), WriteFault>
+    ensures ok { OnOk result (TakesUpTo (block.old ++ text_element held.now) block.new (W.taken out.old) (W.taken out.new)) }
+    ensures spelled { IsSpelled held.now }
+    ensures err { OnErr result (TakesFront (block.old ++ text_element held.now) (W.taken out.old) (W.taken out.new)) }
+    ensures failures { CountsFault (W.failures out.old) (W.failures out.new) result }
+    ensures device { W.device out.new ≡ W.device out.old }
+{
+    let text = held.message().text();
+    put_counted(out, block, b"TEXT ", text.len())?;
+    put_bytes(out, block, text)
+}

@@ -1,0 +1,222 @@
+-- One more record before those that were built: each case of the definitions, day by day and name by name.
+use Rattle.std.proofs.Common.{◌≡◌, ℕ, ◌+◌, ◌-◌, ◌*◌, ◌<◌, Bool, ◌⊎◌, inl, inr, Contains, true, false, ◌&&◌, ◌||◌, nat_eq, if◌then◌else◌, IsTrue, List, [], ◌∷◌, ◌++◌, length, take, drop, Option, Some, None, unwrap_or, refl, sym, ap, subst, ◌∙◌, arith, append_assoc}
+use Rattle.std.proofs.Math.Seq.{drop-append_seam, take-append_seam}
+use Rattle.std.proofs.lemmas.List.Elements.{All-drop, All-take, filter-append}
+use Rattle.std.specs.List.{All, filter, list_any}
+use Rattle.std.proofs.lemmas.Bool.Decides.{nat_tests}
+use Rattle.ssim_values.specs.Flight.{FlightNumber, IsFlight, is_suffix}
+use Rattle.ssim_values.specs.Period.{DayRange}
+use Rattle.ssim_periods.specs.Calendar.{holds}
+use Rattle.ssim_periods.specs.Days.{changed_on}
+use Rattle.ssim_periods.proofs.DayLemmas.{changed_on-each_day, each_day-same}
+use Rattle.ssim_records.specs.Carrier.{CarrierFields}
+use Rattle.ssim_records.specs.Header.{HeaderFields}
+use Rattle.ssim_records.specs.Leg.{LegFields, Name}
+use Rattle.ssim_records.specs.Trailer.{TrailerFields}
+use Rattle.ssim_records.specs.Segment.{SegmentFields}
+use Rattle.ssim_records.specs.declared.record.Record.{Record}
+use Rattle.ssim_records.specs.declared.record.Record.TheVariants.{Header, Carrier, Leg, Segment, Trailer}
+use Rattle.ssim_base.specs.Timetable.{Days, LegValue, Legs, days_of, itinerary, leg_of, period_of, placed, same_flight, same_name, tails_of}
+use Rattle.ssim_base.specs.Closed.{IsClosed}
+use Rattle.ssim_schedule.specs.LegKey.{IsPlaced, name_place}
+use Rattle.ssim_schedule.specs.TimetableBuilder.{IsBuilt, IsCut, OpensGroup, PutsGroup, TakesLeg, TakesSegment, days_with}
+use Rattle.ssim_schedule.specs.Group.{Group, IsBound, with_legs}
+use Rattle.ssim_schedule.specs.InsertedLegs.{StartsFrom, placed_each}
+use Rattle.ssim_base.specs.ReadBack.{place_of}
+use Rattle.ssim_base.proofs.Places.{same_flight-place}
+use Rattle.ssim_schedule.specs.DivisionPoints.{is_point}
+use Rattle.ssim_schedule.specs.Schedule.{Table, cuts_in, days_in}
+use Rattle.ssim_schedule.specs.PendingSegments.{waiting_at}
+use Rattle.ssim_schedule.specs.declared.timetable_builder.TimetableBuilder.{TimetableBuilder}
+use Rattle.ssim_schedule.specs.declared.leg_group.Heading.{Heading}
+use Rattle.ssim_schedule.proofs.InsertedLegLemmas.{changed_not, changed_twice}
+
+parts_told : (x y v w s t : ℕ) → v < 100 → w < 100 → s < 100 → t < 100 → (x * 100 + v) * 100 + s ≡ (y * 100 + w) * 100 + t → (x ≡ y) × (v ≡ w) × (s ≡ t)
+parts_told x y v w s t a b c d e = (omega arith, omega arith, omega arith)
+
+-- the place of a leg's name tells it from all others
+pub same_name-place : (a b : Name) → IsPlaced a → IsPlaced b → same_name a b ≡ nat_eq (name_place a) (name_place b)
+same_name-place a b p q = by (same_flight a.flight b.flight) refl
+  where
+    flights : same_flight a.flight b.flight ≡ nat_eq (place_of a.flight) (place_of b.flight)
+    flights = same_flight-place a.flight b.flight p.flight q.flight
+
+    by : (x : Bool) → same_flight a.flight b.flight ≡ x → (x && (nat_eq a.variation b.variation && nat_eq a.sequence b.sequence)) ≡ nat_eq (name_place a) (name_place b)
+    by true e =
+        let same : place_of a.flight ≡ place_of b.flight = grind (arith, nat_tests, flights) in
+        rw same (grind (arith, nat_tests, p.variation, q.variation, p.sequence, q.sequence))
+    by false e =
+        let other : nat_eq (place_of a.flight) (place_of b.flight) ≡ false = sym flights ∙ e in
+        sym (differ other)
+      where
+        differ : nat_eq (place_of a.flight) (place_of b.flight) ≡ false → nat_eq (name_place a) (name_place b) ≡ false
+        differ other = elim (nat_eq (name_place a) (name_place b)) as (λ z. nat_eq (name_place a) (name_place b) ≡ z → z ≡ false) [
+          | true ↦ λ t.
+              let same : name_place a ≡ name_place b = grind (arith, nat_tests) in
+              let parts = parts_told (place_of a.flight) (place_of b.flight) a.variation b.variation a.sequence b.sequence p.variation q.variation p.sequence q.sequence same in
+              absurd (grind (arith, nat_tests, parts.0))
+          | false ↦ λ f. refl
+        ] refl
+
+-- ---- a record more
+
+eq-self : (n : ℕ) → nat_eq n n ≡ true
+eq-self n = grind (arith, nat_tests)
+
+or-true : (a b : Bool) → b ≡ true → (a || b) ≡ true
+or-true true b h = refl
+or-true false b h = h
+
+pub built-other : (b : TimetableBuilder) (r : Record) (done : List Record) → ((g : FlightNumber) (n : ℕ) → itinerary (r ∷ done) g n ≡ itinerary done g n) → ((n : Name) → tails_of n (r ∷ done) ≡ tails_of n done)
+    → ((g : FlightNumber) → IsFlight g → (cut : ℕ) → IsCut b g cut → IsTrue (list_any (is_point g cut) (r ∷ done))) → IsBuilt b done → IsBuilt b (r ∷ done)
+built-other b r done days tails points h = record {
+  days = λ g is. h.days g is ∙ sym (each_day-same (itinerary (r ∷ done) g) (itinerary done g) (λ n l. days g n));
+  tails = λ n is. h.tails n is ∙ sym (tails n);
+  cuts = points;
+}
+
+-- a record that is neither leg nor segment
+pub built-plain : (b : TimetableBuilder) (r : Record) (done : List Record) → ((x : HeaderFields) × (r ≡ Header x)) ⊎ ((x : CarrierFields) × (r ≡ Carrier x)) ⊎ ((x : TrailerFields) × (r ≡ Trailer x))
+    → IsBuilt b done → IsBuilt b (r ∷ done)
+built-plain b r done (inl (x, is)) h = subst (λ r. IsBuilt b (r ∷ done)) (sym is) (built-other b (Header x) done (λ g n. refl) (λ n. refl) h.cuts h)
+built-plain b r done (inr (inl (x, is))) h = subst (λ r. IsBuilt b (r ∷ done)) (sym is) (built-other b (Carrier x) done (λ g n. refl) (λ n. refl) h.cuts h)
+built-plain b r done (inr (inr (x, is))) h = subst (λ r. IsBuilt b (r ∷ done)) (sym is) (built-other b (Trailer x) done (λ g n. refl) (λ n. refl) h.cuts h)
+
+pub built-segment : (old new : TimetableBuilder) (r : SegmentFields) (done : List Record) → TakesSegment old new r → IsBuilt old done → IsBuilt new (Segment r ∷ done)
+built-segment old new r done t h = record {
+  days = λ g is. rw (t.group, t.table) (h.days g is ∙ sym (each_day-same (itinerary (Segment r ∷ done) g) (itinerary done g) (λ n l. refl)));
+  tails = λ n is.
+      t.tails (name_place n)
+      ∙ ap (λ b. if b then r.tail ∷ waiting_at old.waiting (name_place n) else waiting_at old.waiting (name_place n)) (sym (same_name-place n r.name is t.named))
+      ∙ ap (λ ts. if same_name n r.name then r.tail ∷ ts else ts) (h.tails n is);
+  cuts = λ g is cut has. h.cuts g is cut (subst (λ (group : Group). Contains (cuts_in old.table g) cut ⊎ IsBound group.heading g cut) t.group (subst (λ (table : Table). Contains (cuts_in table g) cut ⊎ IsBound new.group.heading g cut) t.table has));
+}
+
+pub built-leg : (old new : TimetableBuilder) (r : LegFields) (done : List Record) → TakesLeg old new r → IsBuilt old done → IsBuilt new (Leg r ∷ done)
+built-leg old new r done t h = record {
+  days = λ g is. one g is;
+  tails = λ n is.
+      t.tails (name_place n)
+      ∙ ap (λ b. if b then [] else waiting_at old.waiting (name_place n)) (sym (same_name-place n r.name is t.named))
+      ∙ ap (λ ts. if same_name n r.name then [] else ts) (h.tails n is);
+  cuts = λ g is cut has. at_point g is cut (t.cuts g cut has);
+}
+  where
+    point : (g : FlightNumber) → IsFlight g → (cut : ℕ) → place_of r.name.flight ≡ place_of g → (nat_eq cut r.first || nat_eq cut ((period_of r).last + 1)) ≡ true
+        → (is_point g cut (Leg r) || list_any (is_point g cut) done) ≡ true
+    point g is cut same at =
+        let flight : same_flight r.name.flight g ≡ true = same_flight-place r.name.flight g t.named.flight is ∙ ap (λ k. nat_eq k (place_of g)) same ∙ eq-self (place_of g) in
+        rw (flight, at) refl
+
+    at_point : (g : FlightNumber) → IsFlight g → (cut : ℕ) → IsCut old g cut ⊎ ((place_of r.name.flight ≡ place_of g) × ((cut ≡ r.first) ⊎ (cut ≡ (period_of r).last + 1)))
+        → (is_point g cut (Leg r) || list_any (is_point g cut) done) ≡ true
+    at_point g is cut (inl has) = or-true (is_point g cut (Leg r)) (list_any (is_point g cut) done) (h.cuts g is cut has)
+    at_point g is cut (inr (same, inl at)) = point g is cut same (rw (ap (λ n. nat_eq n r.first) at ∙ eq-self r.first) refl)
+    at_point g is cut (inr (same, inr at)) = point g is cut same (or-true (nat_eq cut r.first) (nat_eq cut ((period_of r).last + 1)) (ap (λ n. nat_eq n ((period_of r).last + 1)) at ∙ eq-self ((period_of r).last + 1)))
+
+    its : LegValue
+    its = record { sequence = r.name.sequence; columns = r.columns; tails = waiting_at old.waiting (name_place r.name) }
+
+    is_leg : its ≡ leg_of r done
+    is_leg = ap (λ (ts : List (List ℕ)). record { sequence = r.name.sequence; columns = r.columns; tails = ts }) (h.tails r.name t.named)
+
+    choose : (b : Bool) (g : FlightNumber) → same_flight r.name.flight g ≡ b
+        → (if b then changed_on (holds (period_of r)) (placed (leg_of r done)) 0 (days_of done g) else days_of done g) ≡ days_of (Leg r ∷ done) g
+    choose true g e =
+        changed_on-each_day (holds (period_of r)) (placed (leg_of r done)) (itinerary done g)
+        ∙ each_day-same (λ n. if holds (period_of r) n then placed (leg_of r done) (itinerary done g n) else itinerary done g n) (itinerary (Leg r ∷ done) g)
+        (λ n l. ap (λ b. if b && holds (period_of r) n then placed (leg_of r done) (itinerary done g n) else itinerary done g n) (sym e))
+    choose false g e =
+        each_day-same (itinerary done g) (itinerary (Leg r ∷ done) g)
+        (λ n l. ap (λ b. if b && holds (period_of r) n then placed (leg_of r done) (itinerary done g n) else itinerary done g n) (sym e))
+
+    one : (g : FlightNumber) → IsFlight g → days_with new g ≡ days_of (Leg r ∷ done) g
+    one g is =
+        t.days g
+        ∙ ap (λ b. if b then changed_on (holds (period_of r)) (placed its) 0 (days_with old g) else days_with old g) (sym (same_flight-place r.name.flight g t.named.flight is))
+        ∙ ap (λ (l : LegValue). if same_flight r.name.flight g then changed_on (holds (period_of r)) (placed l) 0 (days_with old g) else days_with old g) is_leg
+        ∙ ap (λ (ds : List Legs). if same_flight r.name.flight g then changed_on (holds (period_of r)) (placed (leg_of r done)) 0 ds else ds) (h.days g is)
+        ∙ choose (same_flight r.name.flight g) g refl
+
+-- ---- the group
+
+-- a leg more before those of a group is put after them
+pub one_more : (h : Heading) (l : LegValue) (legs : Legs) (g : FlightNumber) (days : Days)
+    → with_legs (Some h) (l ∷ legs) g days
+    ≡ (if nat_eq (place_of h.flight) (place_of g) then changed_on (holds h.period) (placed l) 0 (with_legs (Some h) legs g days) else with_legs (Some h) legs g days)
+one_more h l legs g days = by (nat_eq (place_of h.flight) (place_of g))
+  where
+    by : (b : Bool) → (if b then changed_on (holds h.period) (placed_each (l ∷ legs)) 0 days else days)
+        ≡ (if b then changed_on (holds h.period) (placed l) 0 (if b then changed_on (holds h.period) (placed_each legs) 0 days else days) else (if b then changed_on (holds h.period) (placed_each legs) 0 days else days))
+    by true = changed_twice (holds h.period) (placed l) (placed_each legs) 0 days
+    by false = refl
+
+-- a group without legs puts nothing
+pub none_yet : (heading : Option Heading) (g : FlightNumber) (days : Days) → with_legs heading [] g days ≡ days
+none_yet None g days = refl
+none_yet (Some h) g days = by (nat_eq (place_of h.flight) (place_of g))
+  where
+    by : (b : Bool) → (if b then changed_on (holds h.period) (placed_each []) 0 days else days) ≡ days
+    by true = changed_not (holds h.period) 0 days
+    by false = refl
+
+-- those that waited are put, and others can come
+pub opened : (old put new : TimetableBuilder) (h : Heading) (sequence : ℕ) → PutsGroup old put → new.table ≡ put.table → new.waiting ≡ put.waiting → new.group ≡ record { heading = Some h; legs = [] }
+    → OpensGroup old new h sequence
+opened old put new h sequence puts table waiting group = record {
+  heading = ap (λ (a : Group). a.heading) group;
+  order = subst (λ (a : Group). StartsFrom sequence a.legs) (sym group) tt;
+  days = λ g.
+      ap (λ (a : Group). with_legs a.heading a.legs g (days_in new.table g)) group
+      ∙ none_yet (Some h) g (days_in new.table g)
+      ∙ ap (λ (t : Table). days_in t g) table
+      ∙ puts.days g;
+  cuts = λ g cut has. by g cut has;
+  waiting = waiting ∙ puts.waiting;
+}
+  where
+    by : (g : FlightNumber) (cut : ℕ) → IsCut new g cut → IsCut old g cut ⊎ IsBound (Some h) g cut
+    by g cut (inl has) = inl (puts.cuts g cut (subst (λ (t : Table). Contains (cuts_in t g) cut) table has))
+    by g cut (inr bound) = inr (subst (λ (a : Group). IsBound a.heading g cut) group bound)
+
+-- a leg joins those that wait
+module _ (old opened new : TimetableBuilder) (h : Heading) (l : LegValue) (sequence : ℕ) (opens : OpensGroup old opened h sequence) (table : new.table ≡ opened.table)
+    (group : new.group ≡ record { heading = opened.group.heading; legs = l ∷ opened.group.legs }) where
+  pub joined_days : (g : FlightNumber) → days_with new g ≡ (if nat_eq (place_of h.flight) (place_of g) then changed_on (holds h.period) (placed l) 0 (days_with old g) else days_with old g)
+  joined_days g =
+      ap (λ (a : Group). with_legs a.heading a.legs g (days_in new.table g)) group
+      ∙ ap (λ (t : Table). with_legs opened.group.heading (l ∷ opened.group.legs) g (days_in t g)) table
+      ∙ ap (λ (o : Option Heading). with_legs o (l ∷ opened.group.legs) g (days_in opened.table g)) opens.heading
+      ∙ one_more h l opened.group.legs g (days_in opened.table g)
+      ∙ ap (λ (ds : Days). if nat_eq (place_of h.flight) (place_of g) then changed_on (holds h.period) (placed l) 0 ds else ds)
+      (ap (λ (o : Option Heading). with_legs o opened.group.legs g (days_in opened.table g)) (sym opens.heading) ∙ opens.days g)
+
+  pub joined_cuts : (g : FlightNumber) (cut : ℕ) → IsCut new g cut → IsCut old g cut ⊎ IsBound (Some h) g cut
+  joined_cuts g cut has =
+      opens.cuts g cut
+      (subst (λ (a : Group). Contains (cuts_in opened.table g) cut ⊎ IsBound a.heading g cut) group
+      (subst (λ (t : Table). Contains (cuts_in t g) cut ⊎ IsBound new.group.heading g cut) table has))
+
+pub same_period : (p : DayRange) (r : LegFields) (last : ℕ) → p.first ≡ r.first → p.last ≡ last → p.days ≡ r.days → r.last ≡ Some last → p ≡ period_of r
+same_period p r last first end' days some =
+    let known : last ≡ unwrap_or r.last 0 = rw some refl in
+    let firsts : p ≡ record { first = r.first; last = p.last; days = p.days } = ap (λ (f : ℕ). record { first = f; last = p.last; days = p.days }) first in
+    let lasts : record { first = r.first; last = p.last; days = p.days } ≡ record { first = r.first; last = unwrap_or r.last 0; days = p.days } = ap (λ (l : ℕ). record { first = r.first; last = l; days = p.days }) (end' ∙ known) in
+    let masks : record { first = r.first; last = unwrap_or r.last 0; days = p.days } ≡ period_of r = ap (λ (d : List Bool). record { first = r.first; last = unwrap_or r.last 0; days = d }) days in
+    firsts ∙ lasts ∙ masks
+
+-- ---- records in pieces
+
+-- those between others are closed
+pub closed_between : (front mid done all : List Record) → front ++ (mid ++ done) ≡ all → All IsClosed all → All IsClosed mid
+closed_between front mid done all is closed =
+    let later : drop (length front) all ≡ mid ++ done = ap (λ (rs : List Record). drop (length front) rs) (sym is) ∙ drop-append_seam front (mid ++ done) in
+    subst (λ (rs : List Record). All IsClosed rs) (ap (λ (rs : List Record). take (length mid) rs) later ∙ take-append_seam mid done)
+    (All-take IsClosed (length mid) (drop (length front) all) (All-drop IsClosed (length front) all closed))
+
+-- those of a piece that are put before those that were put
+pub kept_step : (p : Record → Bool) (here items rest done : List Record) → here ≡ items → filter p here ++ (filter p rest ++ done) ≡ filter p (items ++ rest) ++ done
+kept_step p here items rest done is =
+    ap (λ (rs : List Record). filter p rs ++ (filter p rest ++ done)) is
+    ∙ sym (append_assoc (filter p items) (filter p rest) done)
+    ∙ ap (λ (rs : List Record). rs ++ done) (sym (filter-append p items rest))

@@ -1,0 +1,34 @@
+-- The flight's entry is new at the head, or is changed among the blocks.
+use Rattle.std.proofs.Common.{◌≡◌, ℕ, List, nat_eq, if◌then◌else◌, ◌∷◌, Option, sym, ap, subst, ◌∙◌}
+use Rattle.ssim_periods.specs.Calendar.{holds}
+use Rattle.ssim_periods.specs.Days.{changed_on}
+use Rattle.ssim_schedule.specs.TableBuilder.{with_current}
+use Rattle.ssim_schedule.specs.InsertedLegs.{placed_each}
+use Rattle.ssim_base.specs.ReadBack.{place_of}
+use Rattle.ssim_schedule.specs.Schedule.{Table, AddsOnlyAt, cuts_in, days_in}
+use Rattle.ssim_base.specs.Timetable.{Days}
+use Rattle.ssim_schedule.specs.declared.table_builder.CurrentFlight.{CurrentFlight}
+use Rattle.ssim_schedule.proofs.TableBuilderLemmas.{cuts-before, days-before}
+use Rattle.ssim_schedule.proofs.table_builder.TableBuilder.put_other.Goals as goal
+
+pub returns-then-not-is_empty-clause-cuts : goal.returns-then-not-is_empty-clause-cuts
+returns-then-not-is_empty-clause-cuts c = λ g.
+    let q = c.args.flight in let p = c.args.period.now in
+    subst (λ (cs : List ℕ). AddsOnlyAt q p g cs (cuts_in (with_current c.take-before.new.self c.change.new.self) g))
+    (c.in_ok-put_back.ensures.cuts g ∙ ap (λ (o : Option CurrentFlight). cuts_in (with_current o c.self.inside.blocks) g) c.take-before.ensures.value ∙ ap (λ (t : Table). cuts_in t g) c.self.view_is)
+    (subst (λ (o : Option CurrentFlight). AddsOnlyAt q p g (cuts_in c.put_back.new.blocks g) (cuts_in (with_current o c.change.new.self) g)) (sym c.take-before.ensures.after) (c.in_ok-change.ensures.cuts g))
+
+pub returns-clause-days : goal.returns-clause-days
+returns-clause-days c = λ g.
+    let q = c.args.flight in let s = holds c.args.period.now in let after = placed_each c.args.legs.now in
+    let was : days_in c.put_back.new.blocks g ≡ days_in c.args.self.now g =
+    c.in_ok-put_back.ensures.days g ∙ ap (λ (o : Option CurrentFlight). days_in (with_current o c.self.inside.blocks) g) c.take-before.ensures.value ∙ ap (λ (t : Table). days_in t g) c.self.view_is in
+    days-before s after q c.put_back.new.blocks c.in_ok-periods.periods c.replace.new.self c.in_ok-periods.ensures.days c.in_ok-replace.ensures.days g
+    ∙ ap (λ (ds : Days). if nat_eq (place_of q) (place_of g) then changed_on s after 0 ds else ds) was
+
+pub returns-clause-cuts : goal.returns-clause-cuts
+returns-clause-cuts c = λ g.
+    let q = c.args.flight in let p = c.args.period.now in
+    let was = c.in_ok-put_back.ensures.cuts g ∙ ap (λ (o : Option CurrentFlight). cuts_in (with_current o c.self.inside.blocks) g) c.take-before.ensures.value ∙ ap (λ (t : Table). cuts_in t g) c.self.view_is in
+    subst (λ (cs : List ℕ). AddsOnlyAt q p g cs (cuts_in (record { flight = q; periods = c.replace.new.self } ∷ c.put_back.new.blocks) g)) was
+    (cuts-before p q c.put_back.new.blocks c.in_ok-periods.periods c.replace.new.self c.in_ok-periods.ensures.cuts c.in_ok-replace.ensures.cuts g)

@@ -1,0 +1,130 @@
+//! The effect of sub-messages on a schedule.
+
+ghost use Rattle.std.specs.Prelude.{◌≡◌, ℕ, ◌<◌, true, IfOk, OnErr, OnOk};
+ghost use Rattle.ssim_values.specs.Flight.{FlightNumber, IsFlight};
+ghost use Rattle.ssim_periods.specs.Calendar.{day_count, holds};
+ghost use Rattle.ssim_schedule.specs.Acts.{AddsPointsOf, IsUniform, after_sub, counts_by, finding_of, itinerary_after};
+ghost use Rattle.ssim_schedule.specs.Schedule.{cuts_in, days_in};
+ghost use Rattle.ssim_base.specs.Timetable.{on_day};
+
+use crate::division::act_on_parts;
+use crate::division_points::{lines_of, next_point};
+use crate::finding::Finding;
+use crate::flight_blocks::FlightBlocks;
+use crate::flight_table::place;
+use crate::schedule::Schedule;
+use crate::sub_message_change::SubMessageChange;
+use ssim_base::{Base, Resolved, StationRow};
+use ssim_text::Action;
+use ssim_values::{Flight, Memory, Period};
+
+// Whether no station row divides the period for the action.
+fn is_uniform(rows: &[StationRow], action: &Action, period: &Period) -> bool
+    ensures { result ≡ true → IsUniform rows.now action.now period.now }
+{
+    let first = period.first().number() as u32;
+    let end = period.last().number() as u32 + 1;
+    next_point(rows, action, first, end) == end
+}
+
+impl Schedule {
+    /// Applies a sub-message to each date of its period, by the rows of the base's station table. The finding counts the dates by
+    /// their results. No other flight or date changes. If memory is out, nothing has changed.
+    ///
+    /// The cost is that of finding the flight and of the ranges of the flight that the period touches. The new legs of `NEW` and
+    /// `RPL` are made once for each part of the period in which no row of their stations begins or ends. If there are several
+    /// such parts, the flight's periods are copied first; they are also copied if a copy of the schedule shares them.
+    pub fn apply_sub(&mut self, base: &Base, sub: &Resolved) -> Result<Finding, Memory>
+        ensures days { OnOk result ((g : FlightNumber) → days_in self.new g ≡ after_sub base.now.rows sub.now.action.now sub.now.flight sub.now.period self.old g) }
+        ensures finding { IfOk result (λ finding. finding ≡ finding_of base.now.rows sub.now.action.now sub.now.period (days_in self.old sub.now.flight)) }
+
+        // A new cut is the first day or the day after the last of the period, or of a row whose station the new legs have.
+        ensures cuts { OnOk result ((g : FlightNumber) → AddsPointsOf sub.now.flight base.now.rows sub.now.action.now sub.now.period g (cuts_in self.old g) (cuts_in self.new g)) }
+
+        // The itinerary of a date afterwards is the action's effect if the sub-message names the flight and its period holds the
+        // date, else the itinerary before.
+        ensures each_date { OnOk result ((g : FlightNumber) (n : ℕ) → IsFlight g → n < day_count → on_day (days_in self.new g) n ≡ itinerary_after base.now.rows sub.now.action.now sub.now.flight sub.now.period g n (on_day (days_in self.old g) n)) }
+        ensures err { OnErr result (self.new ≡ self.old) }
+    {
+        self.apply_by(base.rows(), sub)
+    }
+
+    /// The same by these rows of a station table.
+    pub fn apply_by(&mut self, rows: &[StationRow], sub: &Resolved) -> Result<Finding, Memory>
+        ensures days { OnOk result ((g : FlightNumber) → days_in self.new g ≡ after_sub rows.now sub.now.action.now sub.now.flight sub.now.period self.old g) }
+        ensures finding { IfOk result (λ finding. finding ≡ finding_of rows.now sub.now.action.now sub.now.period (days_in self.old sub.now.flight)) }
+
+        // A new cut is the first day or the day after the last of the period, or of a row whose station the new legs have.
+        ensures cuts { OnOk result ((g : FlightNumber) → AddsPointsOf sub.now.flight rows.now sub.now.action.now sub.now.period g (cuts_in self.old g) (cuts_in self.new g)) }
+
+        // The itinerary of a date afterwards is the action's effect if the sub-message names the flight and its period holds the
+        // date, else the itinerary before.
+        ensures each_date { OnOk result ((g : FlightNumber) (n : ℕ) → IsFlight g → n < day_count → on_day (days_in self.new g) n ≡ itinerary_after rows.now sub.now.action.now sub.now.flight sub.now.period g n (on_day (days_in self.old g) n)) }
+        ensures err { OnErr result (self.new ≡ self.old) }
+    {
+        // No effect at run time. The proof reads from these uses that there are at most twenty new legs, and that the flight is one.
+        let _ = lines_of(sub.action);
+        let _ = place(sub.flight);
+        let counts = self.table.act(rows, sub.action, sub.flight, &sub.period)?;
+        Ok(Finding::of(&counts))
+    }
+}
+
+impl FlightBlocks {
+    fn act(
+        &mut self,
+        rows: &[StationRow],
+        action: &Action,
+        flight: Flight,
+        period: &Period,
+    ) -> Result<[u32; 5], Memory>
+        ensures days { OnOk result ((g : FlightNumber) → days_in self.new g ≡ after_sub rows.now action.now flight period.now self.old g) }
+        ensures counts { IfOk result (λ counts. counts ≡ counts_by rows.now action.now (holds period.now) (days_in self.old flight)) }
+        ensures cuts { OnOk result ((g : FlightNumber) → AddsPointsOf flight rows.now action.now period.now g (cuts_in self.old g) (cuts_in self.new g)) }
+        ensures err { OnErr result (self.new ≡ self.old) }
+    {
+        if is_uniform(rows, action, period) {
+            self.act_at_once(rows, action, flight, period)
+        } else {
+            self.act_by_parts(rows, action, flight, period)
+        }
+    }
+
+    // The effect is the same on all days of the period.
+    fn act_at_once(
+        &mut self,
+        rows: &[StationRow],
+        action: &Action,
+        flight: Flight,
+        period: &Period,
+    ) -> Result<[u32; 5], Memory>
+        requires { IsUniform rows.now action.now period.now }
+        ensures days { OnOk result ((g : FlightNumber) → days_in self.new g ≡ after_sub rows.now action.now flight period.now self.old g) }
+        ensures counts { IfOk result (λ counts. counts ≡ counts_by rows.now action.now (holds period.now) (days_in self.old flight)) }
+        ensures cuts { OnOk result ((g : FlightNumber) → AddsPointsOf flight rows.now action.now period.now g (cuts_in self.old g) (cuts_in self.new g)) }
+        ensures err { OnErr result (self.new ≡ self.old) }
+    {
+        let change = SubMessageChange::on(self.allocator(), rows, action, period.first())?;
+        self.change(flight, period, &change)
+    }
+
+    // Acts on a copy of the flight's periods, which replaces them after the last part.
+    fn act_by_parts(
+        &mut self,
+        rows: &[StationRow],
+        action: &Action,
+        flight: Flight,
+        period: &Period,
+    ) -> Result<[u32; 5], Memory>
+        ensures days { OnOk result ((g : FlightNumber) → days_in self.new g ≡ after_sub rows.now action.now flight period.now self.old g) }
+        ensures counts { IfOk result (λ counts. counts ≡ counts_by rows.now action.now (holds period.now) (days_in self.old flight)) }
+        ensures cuts { OnOk result ((g : FlightNumber) → AddsPointsOf flight rows.now action.now period.now g (cuts_in self.old g) (cuts_in self.new g)) }
+        ensures err { OnErr result (self.new ≡ self.old) }
+    {
+        let alloc = self.allocator();
+        let mut periods = self.copy_of(flight)?;
+        let counts = act_on_parts(alloc, rows, action, period, &mut periods)?;
+        self.put(flight, periods)?;
+        Ok(counts)
+    }
+}
