@@ -29,12 +29,13 @@ Follows ended [] = ⊥
 Follows ended (last ∷ []) = ⊥
 Follows ended (last ∷ second ∷ more) = is_trailer last ≡ ended
 
+-- there is one record, the header
 abbrev pub IsHeaderAlone : List Record → Type 0
 IsHeaderAlone [] = ⊥
 IsHeaderAlone (last ∷ []) = Unit {0}
 IsHeaderAlone (last ∷ second ∷ more) = ⊥
 
--- the records so far stand before this place
+-- the records accepted so far are those after which this record is expected
 abbrev pub IsExpectedAfter : Expected → List Record → Type 0
 IsExpectedAfter expected.Header earlier = earlier ≡ []
 IsExpectedAfter expected.Carrier earlier = IsHeaderAlone earlier
@@ -55,30 +56,31 @@ pub record AreLegs (table : LegTable) (earlier : List Record) : Type 0 where
   pub used : (flight : FlightNumber) (sequence day : ℕ) → IsFlight flight → uses_date (legs_at table (place_of flight)) sequence day ≡ list_any (gives flight sequence day) earlier
   pub flown : (flight : FlightNumber) → IsFlight flight → has_legs (legs_at table (place_of flight)) ≡ list_any (is_leg_of flight) earlier
 
--- what is kept of these records
+-- the state of the checker after these records
 pub record HasAccepted (k : Acceptance) (earlier : List Record) : Type 0 where
   pub records : AreAccepted k.records earlier
   pub is_expected : IsExpectedAfter k.expected earlier
   pub legs : AreLegs k.legs earlier
 
--- a record more stands, and is kept
+-- one more record is allowed after the earlier ones, and the new state has it
 pub record Stood (new : Acceptance) (earlier : List Record) (r : Record) : Type 0 where
   pub stands : refusal_at earlier r ≡ None
   pub is_kept : HasAccepted new (kept earlier r ∷ earlier)
 
--- A record is accepted, and closed. It stands once its closed form is with the records.
+-- A record is accepted and closed: it is allowed after the earlier records, and the new state has
+-- it once its closed form is among the stored records.
 abbrev pub Accepts : Acceptance → Acceptance → Record → Record → Type 0
 Accepts old new one closed =
     (earlier : List Record) (records : AcceptedRecords) → HasAccepted old earlier → AddsRecord old.records records closed
     → Stood (record { records = records; expected = new.expected; legs = new.legs }) earlier one
 
--- the refusal is that of the record, or the want of memory
+-- the refusal is the record's own, or memory ran out
 abbrev pub IsRefused : ℕ → List Record → Record → BaseFault → Type 0
 IsRefused number earlier r fault.Memory = Unit {0}
 IsRefused number earlier r (fault.Read f) = ⊥
 IsRefused number earlier r (fault.Refused n refusal) = (n ≡ number) × (refusal_at earlier r ≡ Some refusal)
 
--- the airline, overflow, rate and end of a leg record stand, and this is its period
+-- the airline, overflow, rate and end of a leg record are valid, and its period is this one
 pub record LegStands (heading : CarrierTerms) (r : LegFields) (period : DayRange) : Type 0 where
   pub airline : bytes_eq r.name.airline heading.airline ≡ true
   pub blank : is_overflow r.overflow ≡ false
@@ -88,7 +90,7 @@ pub record LegStands (heading : CarrierTerms) (r : LegFields) (period : DayRange
   pub days_is : period.days ≡ r.days
   pub in_order : nat_lt period.last r.first ≡ false
 
--- what is kept are the records of a base
+-- the records accepted so far are the records of a base
 pub record IsWholeBase (k : Acceptance) : Type 0 where
   pub earlier : List Record
   pub is_kept : HasAccepted k earlier

@@ -1,19 +1,20 @@
--- What is kept of records.
+-- How the accepted records are stored.
 use Rattle.std.specs.Prelude.{◌≡◌, List, ◌∷◌, length, reverse}
 use Rattle.ssim_records.specs.declared.record.Record.{Record}
 use Rattle.ssim_base.specs.declared.accepted_records.AcceptedRecords.{AcceptedRecords}
 use Rattle.ssim_base.specs.declared.accepted_records.AcceptedRecords.TheVariants.{Count, Pieces}
 
--- how records are kept: in pieces, or by their number alone
+-- how records are stored: in pieces, or only as their number
 pub data Form : Type 0 where
   InPieces : Form
   InNumber : Form
 
+-- how these records are stored
 abbrev pub keeps : AcceptedRecords → Form
 keeps (Pieces records) = InPieces
 keeps (Count n) = InNumber
 
--- these records are kept, or counted; the latest of them comes first
+-- these records are stored or counted; the latest comes first
 abbrev pub AreAccepted : AcceptedRecords → List Record → Type 0
 AreAccepted (Pieces records) earlier = records ≡ reverse earlier
 AreAccepted (Count n) earlier = n ≡ length earlier

@@ -1,4 +1,4 @@
--- The base of a data set, and the first record that cannot stand.
+-- The base of a data set, and the first invalid record.
 use Rattle.std.specs.Prelude.{ℕ, ◌+◌, ◌-◌, Bool, true, false, not, ◌&&◌, ◌||◌, ◌==◌, nat_eq, nat_lt, min, if◌then◌else◌, List, [], ◌∷◌, ◌++◌, map, Option, Some, None, Result, Ok, Err, unwrap_or}
 use Rattle.std.specs.List.{list_any, range_with_len}
 use Rattle.std.specs.Str.{bytes_eq}
@@ -22,15 +22,16 @@ use Rattle.ssim_base.specs.declared.fault.BaseRefusal.TheVariants as refused
 use Rattle.ssim_base.specs.declared.note.Note.{Note}
 use Rattle.ssim_base.specs.declared.note.Note.TheVariants.{Serial, CheckReference}
 
--- the refusal where the test holds
+-- the refusal if the test holds
 abbrev pub refuse_if : Bool → BaseRefusal → Option BaseRefusal
 refuse_if test refusal = if test then Some refusal else None
 
+-- the first refusal, or else the second
 abbrev pub or_else : Option BaseRefusal → Option BaseRefusal → Option BaseRefusal
 or_else (Some refusal) later = Some refusal
 or_else None later = later
 
--- the first of several answers that is one
+-- the first refusal of the list
 abbrev pub first_of : List (Option BaseRefusal) → Option BaseRefusal
 first_of [] = None
 first_of (answer ∷ answers) = or_else answer (first_of answers)
@@ -46,7 +47,8 @@ airline_of (Leg r ∷ records) = airline_of records
 airline_of (Segment r ∷ records) = airline_of records
 airline_of (Trailer r ∷ records) = airline_of records
 
--- the end that an open one stands for: the start and 730 days, within the calendar
+-- the last day of a carrier record's validity; an open end means 730 days after the start, within
+-- the calendar
 abbrev pub end_of : CarrierFields → ℕ
 end_of r = unwrap_or r.last (min (r.first + 730) (day_limit - 1))
 
@@ -59,10 +61,11 @@ carrier_end (Leg r ∷ records) = carrier_end records
 carrier_end (Segment r ∷ records) = carrier_end records
 carrier_end (Trailer r ∷ records) = carrier_end records
 
--- a leg record with its end, the carrier's where its own is open
+-- a leg record with its last day; an open end means the last day of the carrier's validity
 abbrev pub closed : ℕ → LegFields → LegFields
 closed end' r = record r { last = Some (unwrap_or r.last end') }
 
+-- whether a record is a trailer
 abbrev pub is_trailer : Record → Bool
 is_trailer (Header r) = false
 is_trailer (Carrier r) = false
@@ -82,6 +85,7 @@ overlaps name period (Leg e) = (same_flight name.flight e.name.flight && nat_eq 
 overlaps name period (Segment e) = false
 overlaps name period (Trailer e) = false
 
+-- whether a record is a leg record with this name
 abbrev pub is_leg_named : Name → Record → Bool
 is_leg_named name (Header r) = false
 is_leg_named name (Carrier r) = false
@@ -89,9 +93,10 @@ is_leg_named name (Leg r) = same_name name r.name
 is_leg_named name (Segment r) = false
 is_leg_named name (Trailer r) = false
 
--- ---- where a record cannot stand
+-- ---- why a record is refused
 
--- its place: a header first, then a carrier, then legs and segments, then a trailer, and nothing behind it
+-- the refusal of a record out of order: a header comes first, then a carrier, then legs and
+-- segments, then a trailer, and nothing after it
 abbrev pub place_refusal : List Record → Record → Option BaseRefusal
 place_refusal [] (Header r) = None
 place_refusal [] _ = Some refused.NoHeader
@@ -107,14 +112,16 @@ place_refusal (last ∷ second ∷ more) (Trailer r) = refuse_if (is_trailer las
 abbrev pub is_overflow : ℕ → Bool
 is_overflow b = not (b == 32 || b == 48)
 
+-- whether a frequency rate is valid: blank or 1
 abbrev pub is_rate : ℕ → Bool
 is_rate b = b == 32 || b == 49
 
+-- whether the end code of a trailer announces a continuation
 abbrev pub is_continued : EndCode → Bool
 is_continued Continuation = true
 is_continued End = false
 
--- its own fields against those before it, in order
+-- the first refusal of a record's own fields, checked against the earlier records
 abbrev pub own_refusal : List Record → Record → Option BaseRefusal
 own_refusal earlier (Header r) = None
 own_refusal earlier (Carrier r) = None
@@ -137,6 +144,7 @@ own_refusal earlier (Trailer r) = first_of (
     ∷ refuse_if (is_continued r.code) refused.Continuation
     ∷ [])
 
+-- the refusal of a record after the earlier ones: of its order first, then of its fields
 abbrev pub refusal_at : List Record → Record → Option BaseRefusal
 refusal_at earlier r = or_else (place_refusal earlier r) (own_refusal earlier r)
 
@@ -156,31 +164,38 @@ kept earlier (Leg r) = Leg (record (closed (carrier_end earlier) r) { rate = 32;
 kept earlier (Segment r) = Segment (record r { overflow = 32; serial = 0 })
 kept earlier (Trailer r) = Trailer (record r { check = 0; serial = 0 })
 
--- how the records of an input end: behind the last, whose number is one less, or at a record that cannot be read
+-- how the records of an input end: `Done n` after the last record, whose number is n - 1, or
+-- `Broken` at a record that cannot be read
 pub data Ending : Type 0 where
   Done : ℕ → Ending
   Broken : RecordFault → Ending
 
+-- the refusal of the record with this number, or else a later fault
 abbrev pub at_record : ℕ → Option BaseRefusal → Option BaseFault → Option BaseFault
 at_record number (Some refusal) later = Some (Refused number refusal)
 at_record number None later = later
 
+-- the fault at the end of the records: the reader's, or a record that is missing
 abbrev pub at_end : Ending → Option BaseRefusal → Option BaseFault
 at_end (Broken fault) lacking = Some (Read fault)
 at_end (Done number) lacking = at_record number lacking None
 
--- the records of a base in order, behind those that it has so far, the latest of which comes first
+-- the records of a base in order, after the earlier ones; of the earlier ones the latest comes
+-- first
 abbrev pub kept_all : List Record → List Record → List Record
 kept_all earlier [] = []
 kept_all earlier (r ∷ later) = kept earlier r ∷ kept_all (kept earlier r ∷ earlier) later
 
--- the first record that cannot stand, of records with their numbers, and how they end
+-- The fault of a data set names the first invalid record: the least n such that record n is refused
+-- after records 1 to n - 1. If no record is refused, the fault is that of the end. `earlier` has
+-- the accepted records, the latest first.
 abbrev pub first_refusal : Ending → List Record → List (ℕ × Record) → Option BaseFault
 first_refusal ending earlier [] = at_end ending (missing earlier)
 first_refusal ending earlier (r ∷ later) = at_record r.0 (refusal_at earlier r.1) (first_refusal ending (kept earlier r.1 ∷ earlier) later)
 
 -- ---- the numbers of refusals
 
+-- the number of each refusal
 abbrev pub refusal_number : BaseRefusal → ℕ
 refusal_number refused.BadType = 11
 refusal_number refused.OpenEnd = 12
@@ -194,6 +209,7 @@ refusal_number refused.Overflow = 36
 refusal_number refused.Frequency = 37
 refusal_number refused.Continuation = 38
 
+-- the number of each fault
 abbrev pub base_fault_number : BaseFault → ℕ
 base_fault_number fault.Memory = 90
 base_fault_number (Read f) = fault_number f
@@ -201,6 +217,7 @@ base_fault_number (Refused n refusal) = refusal_number refusal
 
 -- ---- notes
 
+-- the note if the test holds
 abbrev pub note_if : Bool → Note → List Note
 note_if test note = if test then note ∷ [] else []
 
@@ -225,10 +242,11 @@ notes_of previous (r ∷ later) =
 abbrev pub Outcome : Type 0
 Outcome = Result (List Record × List Note) BaseFault
 
+-- the refusal, or else the base
 abbrev pub unless_refused : Option BaseFault → List Record × List Note → Outcome
 unless_refused (Some refusal) base = Err refusal
 unless_refused None base = Ok base
 
--- the records and notes of a base, or the first record that cannot stand
+-- what a data set is read as: its records and notes, or the fault of its first invalid record
 abbrev pub data_set : Ending → List (ℕ × Record) → Outcome
 data_set ending records = unless_refused (first_refusal ending [] records) (kept_all [] (map (λ r. r.1) records), notes_of 0 records)

@@ -14,7 +14,8 @@ use Rattle.ssim_base.specs.declared.note.Note.TheVariants.{Serial}
 abbrev pub notes_at : ℕ → ℕ → Record → List Note
 notes_at number previous r = note_if (not (nat_eq (serial_of r) (previous + 1))) (Serial number) ++ check_notes number previous r
 
--- The records so far, with their numbers, are read as these; what is to come is read behind them.
+-- The reader's state has exactly these earlier records and their notes. Reading the numbered
+-- records done and then any later ones gives the same as reading the later ones from this state.
 pub record IsSoFar (g : DataSetReader) (earlier : List Record) (done : List (ℕ × Record)) : Type 0 where
   pub is_kept : HasAccepted g.kept earlier
   pub records : All (λ r. IsRecord r.1) done
@@ -22,7 +23,8 @@ pub record IsSoFar (g : DataSetReader) (earlier : List Record) (done : List (ℕ
   pub kept : (later : List (ℕ × Record)) → kept_all [] (map (λ r. r.1) (done ++ later)) ≡ reverse earlier ++ kept_all earlier (map (λ r. r.1) later)
   pub noted : (later : List (ℕ × Record)) → notes_of 0 (done ++ later) ≡ g.notes.items ++ notes_of g.previous later
 
--- the records of some bytes, where these are told, were gathered, and end behind the one before this number
+-- The records done are those of the bytes before the record with this number. If the bytes are not
+-- reported, nothing is said of them.
 pub record HasRead (limit : ℕ) (told : Option (List ℕ)) (g : DataSetReader) (number : ℕ) : Type 0 where
   pub earlier : List Record
   pub done : List (ℕ × Record)

@@ -72,7 +72,7 @@ one_note = refl
 two_notes : notes_of 0 ((1, top) ∷ (2, season) ∷ (3, leg) ∷ (4, bottom 2 9) ∷ []) ≡ Serial 4 ∷ CheckReference 4 ∷ []
 two_notes = refl
 
--- an open end stands for 730 days from the start: 30MAR25 to 30MAR27
+-- an open end means 730 days after the start: 30MAR25 to 30MAR27
 open_end : end_of (record { time_mode = Utc; airline = airline; season = []; first = 9220; last = None; created = 9163; details = []; serial = 2 }) ≡ 9950
 open_end = refl
 
@@ -81,7 +81,7 @@ open_end = refl
 abbrev numbered_flight : ℕ → ℕ → FlightNumber
 numbered_flight number suffix = record { number = number; suffix = suffix }
 
--- flights stand by number and then by suffix, the blank first
+-- flights are ordered by number and then by suffix, the blank suffix first
 first_flight : flight_at 0 ≡ numbered_flight 0 32
 first_flight = refl
 

@@ -21,26 +21,31 @@ pub record Frame : Type 0 where
   pub carrier : CarrierFields
   pub trailer : TrailerFields
 
+-- the frame with this header, carrier and trailer
 abbrev pub frame_from : HeaderFields → CarrierFields → TrailerFields → Frame
 frame_from header carrier trailer = record { header = header; carrier = carrier; trailer = trailer }
 
 -- ---- pieces
 
+-- whether two lists of segment tails are equal
 abbrev pub same_tails : List (List ℕ) → List (List ℕ) → Bool
 same_tails [] [] = true
 same_tails (t ∷ tails) (u ∷ others) = bytes_eq t u && same_tails tails others
 same_tails [] (u ∷ others) = false
 same_tails (t ∷ tails) [] = false
 
+-- whether two legs are equal
 abbrev pub same_leg : LegValue → LegValue → Bool
 same_leg l m = nat_eq l.sequence m.sequence && (bytes_eq l.columns m.columns && same_tails l.tails m.tails)
 
+-- whether two itineraries are equal
 abbrev pub same_itinerary : Legs → Legs → Bool
 same_itinerary [] [] = true
 same_itinerary (l ∷ legs) (m ∷ others) = same_leg l m && same_itinerary legs others
 same_itinerary [] (m ∷ others) = false
 same_itinerary (l ∷ legs) [] = false
 
+-- a period with the itinerary on its dates
 abbrev pub Piece : Type 0
 Piece = DayRange × Legs
 
@@ -71,6 +76,7 @@ pieces_records airline flight variation [] = []
 pieces_records airline flight variation (piece ∷ later) =
     piece_records airline flight variation piece ++ pieces_records airline flight (variation + 1) later
 
+-- the records of a flight, with itinerary variations from 1 on
 abbrev pub flight_records : List ℕ → (FlightNumber → Days) → FlightNumber → List Record
 flight_records airline days flight = pieces_records airline flight 1 (pieces (days flight))
 
@@ -88,6 +94,7 @@ flight_count = 270000
 abbrev pub flight_at : ℕ → FlightNumber
 flight_at n = record { number = n / 27; suffix = if nat_eq (n % 27) 0 then 32 else 64 + n % 27 }
 
+-- all flights in order
 abbrev pub all_flights : List FlightNumber
 all_flights = map flight_at (range_with_len 0 flight_count)
 
@@ -101,6 +108,7 @@ with_serial n (Leg r) = Leg (record r { serial = n })
 with_serial n (Segment r) = Segment (record r { serial = n })
 with_serial n (Trailer r) = Trailer (record r { serial = n })
 
+-- records with serials from n on
 abbrev pub numbered : ℕ → List Record → List Record
 numbered n [] = []
 numbered n (r ∷ records) = with_serial n r ∷ numbered (n + 1) records
@@ -119,7 +127,8 @@ pub data ExportRefusal : Type 0 where
   Variations : FlightNumber → ExportRefusal  -- 50, with the flight
   Records : ExportRefusal  -- 51
 
--- the refusal of the first flight that cannot be exported, where so many records stand before it
+-- the refusal of the first flight that cannot be exported; `count` is the number of records before
+-- it
 abbrev pub export_refusal : List ℕ → (FlightNumber → Days) → ℕ → List FlightNumber → Option ExportRefusal
 export_refusal airline days count [] = None
 export_refusal airline days count (flight ∷ flights) =
@@ -129,6 +138,7 @@ export_refusal airline days count (flight ∷ flights) =
     else (if nat_lt 0 (length of_flight) && nat_lt 999999 (after + 1) then Some Records
     else export_refusal airline days after flights)
 
+-- the refusal, or else the records
 abbrev pub unless_refused : Option ExportRefusal → List (List Record) → Result (List (List Record)) ExportRefusal
 unless_refused (Some refusal) records = Err refusal
 unless_refused None records = Ok records
@@ -145,10 +155,11 @@ chapter7_records frame days = export_of all_flights frame days
 
 -- ---- bytes
 
+-- bytes with an LF
 abbrev pub line : List ℕ → List ℕ
 line bytes = bytes ++ 10 ∷ []
 
--- how many records of fill follow so many records
+-- the number of records of fill after n records
 abbrev pub fill_count : ℕ → ℕ
 fill_count n = (5 - n % 5) % 5
 
@@ -156,9 +167,11 @@ fill_count n = (5 - n % 5) % 5
 abbrev pub section_bytes : List Record → List ℕ
 section_bytes records = flat_map (λ r. line (written r)) records ++ flat_map line (replicate (fill_count (length records)) fill)
 
+-- the bytes of all sections
 abbrev pub export_bytes : List (List Record) → List ℕ
 export_bytes = flat_map section_bytes
 
+-- the result with its value mapped
 abbrev pub result_map : {A B E : Type 0} → (A → B) → Result A E → Result B E
 result_map f (Ok a) = Ok (f a)
 result_map f (Err e) = Err e

@@ -16,6 +16,7 @@ use Rattle.ssim_base.specs.declared.resolution.ResolveFault.TheVariants as resol
 use Rattle.ssim_base.specs.declared.stations.StationFault.{StationFault}
 use Rattle.ssim_base.specs.declared.stations.StationFault.TheVariants as stations
 
+-- the name of each refusal
 abbrev pub refusal_name : BaseRefusal → List ℕ
 refusal_name refused.BadType = codes "BadType"
 refusal_name refused.OpenEnd = codes "BadColumn"
@@ -29,15 +30,18 @@ refusal_name refused.Overflow = codes "Overflow"
 refusal_name refused.Frequency = codes "Frequency"
 refusal_name refused.Continuation = codes "Continuation"
 
+-- the name of each fault of a base
 abbrev pub base_fault_name : BaseFault → List ℕ
 base_fault_name base.Memory = codes "Memory"
 base_fault_name (base.Read fault) = fault_name fault
 base_fault_name (base.Refused n refusal) = refusal_name refusal
 
+-- the name of each fault of a station table
 abbrev pub station_fault_name : StationFault → List ℕ
 station_fault_name stations.Memory = codes "Memory"
 station_fault_name (stations.Stations n) = codes "Stations"
 
+-- the name of each fault of resolving a message
 abbrev pub resolve_fault_name : ResolveFault → List ℕ
 resolve_fault_name resolve.Memory = codes "Memory"
 resolve_fault_name resolve.TimeMode = codes "TimeMode"
@@ -47,6 +51,7 @@ resolve_fault_name (resolve.Period n) = codes "Period"
 
 -- ---- what a fault names: nothing if memory ran out
 
+-- what a fault of a record names: the record, or a column of it
 abbrev pub record_fault_place : RecordFault → Place
 record_fault_place (record_fault.Short n) = Record n
 record_fault_place (record_fault.BadType n) = Record n
@@ -54,6 +59,7 @@ record_fault_place (record_fault.BadColumn n column) = Column n column
 record_fault_place (record_fault.ReadFault n) = Record n
 record_fault_place (record_fault.ReaderNeverEnds n) = Record n
 
+-- what a fault of a text names: the line
 abbrev pub text_fault_place : TextFault → Place
 text_fault_place text_fault.Memory = Nowhere
 text_fault_place (text_fault.Refused fault line) = Line line
@@ -65,11 +71,12 @@ base_fault_place (base.Read fault) = record_fault_place fault
 base_fault_place (base.Refused n refused.OpenEnd) = Column n 22
 base_fault_place (base.Refused n refusal) = Record n
 
+-- what a fault of a station table names: the line
 abbrev pub station_fault_place : StationFault → Place
 station_fault_place stations.Memory = Nowhere
 station_fault_place (stations.Stations n) = Line n
 
--- the time mode is that of the message as a whole
+-- what a fault of resolving names: a sub-message, or the message as a whole for its time mode
 abbrev pub resolve_fault_place : ResolveFault → Place
 resolve_fault_place resolve.Memory = Nowhere
 resolve_fault_place resolve.TimeMode = SubMessage 0

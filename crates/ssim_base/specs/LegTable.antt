@@ -30,6 +30,7 @@ has_variation legs variation = nat_eq (bit_at legs.variations variation) 1
 
 -- ---- the leg sequences of a flight
 
+-- whether an entry is of this leg sequence
 abbrev pub is_numbered : ℕ → LegSequence → Bool
 is_numbered sequence legs = nat_eq legs.number sequence
 
@@ -44,13 +45,16 @@ abbrev pub index_of : List LegSequence → ℕ → ℕ
 index_of entries sequence =
     if is_of sequence (slice_get entries (sequence - 1)) then sequence - 1 else position_or_len (is_numbered sequence) entries
 
+-- the entry of a leg sequence, if there is one
 abbrev pub entry_of : List LegSequence → ℕ → Option LegSequence
 entry_of entries sequence = slice_get entries (index_of entries sequence)
 
+-- whether there is an entry and it has this itinerary variation
 abbrev pub variation_of : Option LegSequence → ℕ → Bool
 variation_of None variation = false
 variation_of (Some legs) variation = has_variation legs variation
 
+-- whether there is an entry and it uses this date
 abbrev pub used_of : Option LegSequence → ℕ → Bool
 used_of None n = false
 used_of (Some legs) n = is_used legs.dates n
@@ -76,6 +80,7 @@ pub record AddsLeg (old new : List LegSequence) (sequence variation : ℕ) (peri
 
 -- ---- the flights of a flight number, and all flights
 
+-- the entries of a flight, none if the flight has no leg record
 abbrev pub entries_of : Option FlightLegs → List LegSequence
 entries_of None = []
 entries_of (Some flight) = flight.entries.items
@@ -84,6 +89,7 @@ entries_of (Some flight) = flight.entries.items
 abbrev pub legs_in : List FlightLegs → ℕ → List LegSequence
 legs_in flights suffix = entries_of (slice_get flights suffix)
 
+-- the flights of a flight number, none if it has no leg record
 abbrev pub flights_of : Option (Vec FlightLegs Global) → List FlightLegs
 flights_of None = []
 flights_of (Some flights) = flights.items
@@ -99,7 +105,7 @@ pub record AddsLegAt (old new : LegTable) (place sequence variation : ℕ) (peri
 
 -- ---- the flights that have leg records
 
--- of so many flights from a place on, those that pass a test, in order
+-- the flights that pass a test, in order, among the `count` flights from an index on
 abbrev pub flights_from : (ℕ → Bool) → ℕ → ℕ → List FlightNumber
 flights_from has place zero = []
 flights_from has place (suc count) = if has place then flight_at place ∷ flights_from has (place + 1) count else flights_from has (place + 1) count

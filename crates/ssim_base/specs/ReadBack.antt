@@ -18,7 +18,8 @@ use Rattle.ssim_base.specs.Base.{Ending, Done, first_refusal, kept_all, data_set
 use Rattle.ssim_base.specs.declared.note.Note.{Note}
 use Rattle.ssim_base.specs.Export.{Frame, pieces, chapter7_records, export_of, fill_count, chapter7}
 
--- On each date the legs of a flight stand by rising leg sequence, from 1 to 99: so no sequence stands twice.
+-- On each date the legs of a flight are ordered by rising leg sequence, from 1 to 99. No sequence
+-- is there twice.
 abbrev pub AreInOrder : (FlightNumber → Days) → Type 0
 AreInOrder days = (flight : FlightNumber) (n : ℕ) → IsFlight flight → n < day_count → Above 0 (on_day (days flight) n)
 
@@ -53,39 +54,40 @@ abbrev pub GivesBack : (FlightNumber → Days) → List (List Record) → Type 0
 GivesBack days sections = (flight : FlightNumber) (n : ℕ) → IsFlight flight → n < day_count
     → itinerary (base_of (records_of sections)) flight n ≡ on_day (days flight) n
 
--- first: the same itinerary of each flight on each date
+-- Reading back, part 1: each flight has the same itinerary on each date.
 abbrev pub ReadsBack : Type 0
 ReadsBack = (frame : Frame) (days : FlightNumber → Days) (sections : List (List Record)) → IsTimetable days
     → chapter7_records frame days ≡ Ok sections → GivesBack days sections
 
--- second: the export of what was read is the same
+-- Reading back, part 2: the records that were read are exported as the same records.
 abbrev pub ExportsAgain : Type 0
 ExportsAgain = (frame : Frame) (days : FlightNumber → Days) (sections : List (List Record)) → IsTimetable days
     → chapter7_records frame days ≡ Ok sections
     → chapter7_records (kept_frame frame) (days_of (base_of (records_of sections))) ≡ Ok sections
 
--- third: no record of an export is refused, whatever the numbers of its records among fill
+-- Reading back, part 3: no record of an export is refused, whatever numbers its records have among
+-- the fill.
 abbrev pub Stands : Type 0
 Stands = (frame : Frame) (days : FlightNumber → Days) (sections : List (List Record)) → IsFrame frame → IsTimetable days
     → chapter7_records frame days ≡ Ok sections
     → (number : ℕ) (records : List (ℕ × Record)) → map (λ r. r.1) records ≡ records_of sections → first_refusal (Done number) [] records ≡ None
 
--- so equal exports are of equal timetables
+-- Equal exports are exports of equal timetables.
 abbrev pub ExportsTell : Type 0
 ExportsTell = (frame : Frame) (days others : FlightNumber → Days) (sections : List (List Record)) → IsTimetable days → IsTimetable others
     → chapter7_records frame days ≡ Ok sections → chapter7_records frame others ≡ Ok sections
     → (flight : FlightNumber) (n : ℕ) → IsFlight flight → n < day_count → on_day (days flight) n ≡ on_day (others flight) n
 
--- and the other way round
+-- Equal timetables have equal exports.
 abbrev pub SameExport : Type 0
 SameExport = (frame : Frame) (days others : FlightNumber → Days) → ((flight : FlightNumber) → IsFlight flight → days flight ≡ others flight)
     → chapter7_records frame days ≡ chapter7_records frame others
 
--- the place of a flight among all flights
+-- the rank of a flight among all flights
 abbrev pub place_of : FlightNumber → ℕ
 place_of f = 27 * f.number + (if nat_eq f.suffix 32 then 0 else f.suffix - 64)
 
--- flights that exist, rising by number and suffix, from a place on
+-- flights that exist, rising by number and suffix, from a rank on
 abbrev pub Rise : ℕ → List FlightNumber → Type 0
 Rise low [] = Unit {0}
 Rise low (f ∷ fs) = (low ≤ place_of f) × IsFlight f × Rise (place_of f + 1) fs
@@ -106,20 +108,21 @@ pub record IsWritable (l : LegValue) : Type 0 where
   pub columns : AreLegColumns l.columns
   pub tails : All IsTail l.tails
 
--- so have all legs of a timetable
+-- all legs of a timetable have columns and tails that records may have
 abbrev pub AreWritable : (FlightNumber → Days) → Type 0
 AreWritable days = (flight : FlightNumber) (n : ℕ) → IsFlight flight → n < day_count → All IsWritable (on_day (days flight) n)
 
--- header, carrier and trailer are such as records have
+-- the header, carrier and trailer have fields that records may have
 pub record IsWritableFrame (frame : Frame) : Type 0 where
   pub header : IsHeader frame.header
   pub carrier : IsCarrier frame.carrier
   pub trailer : IsTrailer frame.trailer
 
--- the records and the fill of an export, as they stand in its bytes
+-- the records of an export, each as `Some`, followed by its records of fill, each as `None`
 abbrev pub section_items : List Record → List (Option Record)
 section_items records = map (λ r. Some r) records ++ replicate (fill_count (length records)) None
 
+-- the records and the fill of all sections, in the order of the bytes
 abbrev pub items_of : List (List Record) → List (Option Record)
 items_of = flat_map section_items
 
@@ -130,19 +133,21 @@ EachSpells [] (r ∷ records) = ⊥
 EachSpells (block ∷ blocks) [] = ⊥
 EachSpells (block ∷ blocks) (r ∷ records) = (block.0 ≡ r.0) × Spells r.1 block.1 × EachSpells blocks records
 
--- the bytes are so many blocks with nothing left over, and those that are not fill spell these records with their numbers
+-- The bytes are `count` blocks with nothing left over. The blocks that are not fill spell these
+-- records, with their numbers.
 pub record AreRead (bytes : List ℕ) (count : ℕ) (records : List (ℕ × Record)) : Type 0 where
   pub blocks : List (List ℕ)
   pub framed : Frames 0 false bytes blocks []
   pub counted : length blocks ≡ count
   pub spelled : EachSpells (others 0 blocks) records
 
--- the header, carrier and trailer of a base stand around its legs and segments
+-- a base begins with the header and the carrier of the frame and ends with its trailer
 abbrev pub HasFrame : Frame → List Record → Type 0
 HasFrame frame base = (body : List Record) × (base ≡ Header frame.header ∷ Carrier frame.carrier ∷ (body ++ Trailer frame.trailer ∷ []))
 
--- The bytes are read as records; none of them is refused and nothing is noted; the base has the frame, and on each day the
--- itineraries that were exported; and its export is these bytes.
+-- The bytes of an export read back. They are read as records, of which none is refused and none has
+-- a note. The base has the frame, and on each day the itineraries that were exported. The base's
+-- own export is these bytes again.
 pub record ReadsBackFrom (frame : Frame) (days : FlightNumber → Days) (bytes : List ℕ) : Type 0 where
   pub count : ℕ
   pub records : List (ℕ × Record)
@@ -153,7 +158,7 @@ pub record ReadsBackFrom (frame : Frame) (days : FlightNumber → Days) (bytes :
   pub same : (flight : FlightNumber) (n : ℕ) → IsFlight flight → n < day_count → itinerary base flight n ≡ on_day (days flight) n
   pub again : chapter7 (kept_frame frame) (days_of base) ≡ Ok bytes
 
--- the bytes are the export of a frame and a timetable such as a desk holds
+-- the bytes are the export of a frame and of a timetable that a desk may hold
 pub record IsExport (frame : Frame) (days : FlightNumber → Days) (bytes : List ℕ) : Type 0 where
   pub frame_is : IsFrame frame
   pub frame_writable : IsWritableFrame frame
@@ -161,22 +166,22 @@ pub record IsExport (frame : Frame) (days : FlightNumber → Days) (bytes : List
   pub legs : AreWritable days
   pub written : chapter7 frame days ≡ Ok bytes
 
--- the law on bytes
+-- Each export reads back from its bytes.
 abbrev pub BytesReadBack : Type 0
 BytesReadBack = (frame : Frame) (days : FlightNumber → Days) (bytes : List ℕ) → IsExport frame days bytes → ReadsBackFrom frame days bytes
 
--- bytes are read in one way
+-- Bytes are read in at most one way.
 abbrev pub ReadOnce : Type 0
 ReadOnce = (bytes : List ℕ) (count other : ℕ) (records others : List (ℕ × Record)) → AreRead bytes count records → AreRead bytes other others
     → (count ≡ other) × (records ≡ others)
 
--- so equal bytes are of frames that a base keeps alike, and of equal timetables
+-- Equal bytes are exports of equal timetables, in frames that a base keeps alike.
 abbrev pub BytesTell : Type 0
 BytesTell = (frame other : Frame) (days others : FlightNumber → Days) (bytes : List ℕ) → IsExport frame days bytes → IsExport other others bytes
     → (kept_frame frame ≡ kept_frame other)
     × ((flight : FlightNumber) (n : ℕ) → IsFlight flight → n < day_count → on_day (days flight) n ≡ on_day (others flight) n)
 
--- and the other way round
+-- Equal timetables in frames that a base keeps alike have the same bytes.
 abbrev pub SameBytes : Type 0
 SameBytes = (frame other : Frame) (days others : FlightNumber → Days) → kept_frame frame ≡ kept_frame other → IsTimetable days → IsTimetable others
     → ((flight : FlightNumber) (n : ℕ) → IsFlight flight → n < day_count → on_day (days flight) n ≡ on_day (others flight) n)
@@ -189,7 +194,8 @@ pub record CanReadBack (days : FlightNumber → Days) : Type 0 where
 
 -- ---- what a base gives
 
--- a base has a frame, which a base keeps as it is, and gives a timetable, and both can be exported
+-- A base can be exported: it has a frame, which a base keeps as it is, and gives a timetable, and
+-- both can be written.
 pub record CanExport (base : List Record) : Type 0 where
   pub frame : Frame
   pub has_frame : HasFrame frame base
@@ -199,7 +205,7 @@ pub record CanExport (base : List Record) : Type 0 where
   pub timetable : IsTimetable (days_of base)
   pub legs : AreWritable (days_of base)
 
--- so does each base that is read
+-- Each base that is read can be exported.
 abbrev pub BasesExport : Type 0
 BasesExport = (ending : Ending) (records : List (ℕ × Record)) (base : List Record) (notes : List Note) → All (λ r. IsRecord r.1) records
     → data_set ending records ≡ Ok (base, notes) → CanExport base

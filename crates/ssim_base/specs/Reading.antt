@@ -12,12 +12,14 @@ use Rattle.ssim_base.specs.declared.fault.BaseFault.{BaseFault}
 use Rattle.ssim_base.specs.declared.fault.BaseFault.TheVariants as fault
 use Rattle.ssim_base.specs.declared.note.Note.{Note}
 
--- the first of the numbered blocks that are left spells no record
+-- the first of these numbered blocks spells no record, for the reason that the fault names
 abbrev pub IsFaulty : List (ℕ × List ℕ) → ℕ → RecordFault → Type 0
 IsFaulty left number fault = (block : List ℕ) × (later : List (ℕ × List ℕ)) × (left ≡ (number, block) ∷ later) × (fault_of number block ≡ Some fault)
 
--- How the records end where these numbered blocks, none of them fill, are left of so many in all, behind them a rest, and so many
--- bytes behind the limit: at the end; within a record; behind the limit; where the reader fails; or at a block that is no record.
+-- How the records end. `left` has the numbered blocks that are not yet read, none of them fill;
+-- `count` is the number of all blocks, `rest` the bytes after them, `beyond` the number of bytes
+-- after the limit. The records end at the end of the bytes, within a record, at the limit, at a
+-- failure of the reader, or at a block that spells no record.
 abbrev pub Stops : ℕ → List ℕ → ℕ → List (ℕ × List ℕ) → Ending → Type 0
 Stops count rest beyond left (Done number) = (left ≡ []) × (rest ≡ []) × (beyond ≡ 0) × (number ≡ count + 1)
 Stops count rest beyond left (Broken (Short number)) = (left ≡ []) × (0 < length rest) × (beyond ≡ 0) × (number ≡ count + 1)
@@ -26,84 +28,88 @@ Stops count rest beyond left (Broken (ReadFault number)) = number ≤ count + 1
 Stops count rest beyond left (Broken (BadType number)) = IsFaulty left number (BadType number)
 Stops count rest beyond left (Broken (BadColumn number column)) = IsFaulty left number (BadColumn number column)
 
--- the numbered blocks spell these records, one after another, up to how they end
+-- the numbered blocks spell these records, one after another, and then the records end in this way
 abbrev pub Gives : ℕ → List ℕ → ℕ → List (ℕ × List ℕ) → List (ℕ × Record) → Ending → Type 0
 Gives count rest beyond left [] ending = Stops count rest beyond left ending
 Gives count rest beyond [] (r ∷ records) ending = ⊥
 Gives count rest beyond (block ∷ left) (r ∷ records) ending = (block.0 ≡ r.0) × Spells r.1 block.1 × Gives count rest beyond left records ending
 
--- the numbered blocks begin with those that spell these records
+-- the first of the numbered blocks spell these records
 abbrev pub Begins : List (ℕ × List ℕ) → List (ℕ × Record) → Type 0
 Begins left [] = Unit {0}
 Begins [] (r ∷ records) = ⊥
 Begins (block ∷ left) (r ∷ records) = (block.0 ≡ r.0) × Spells r.1 block.1 × Begins left records
 
--- The bytes are these blocks and this rest. No block reaches behind the limit.
+-- The bytes are these blocks and this rest. No block extends past the limit.
 abbrev pub AreBlocks : ℕ → List ℕ → List (List ℕ) → List ℕ → Type 0
 AreBlocks limit bytes blocks rest = Frames (length bytes - limit) false bytes blocks rest
 
--- the bytes give these records, which end so
+-- the bytes have exactly these records and then this ending
 pub record AreGiven (limit : ℕ) (bytes : List ℕ) (records : List (ℕ × Record)) (ending : Ending) : Type 0 where
   pub blocks : List (List ℕ)
   pub rest : List ℕ
   pub framed : AreBlocks limit bytes blocks rest
   pub given : Gives (length blocks) rest (length bytes - limit) (others 0 blocks) records ending
 
--- the bytes begin with these records
+-- the first records of the bytes are these
 pub record AreFirst (limit : ℕ) (bytes : List ℕ) (records : List (ℕ × Record)) : Type 0 where
   pub blocks : List (List ℕ)
   pub rest : List ℕ
   pub framed : AreBlocks limit bytes blocks rest
   pub begins : Begins (others 0 blocks) records
 
--- the outcome is that of all records and of how they end
+-- the outcome follows from all records of the bytes and from their ending
 pub record IsOfAll (limit : ℕ) (bytes : List ℕ) (outcome : Outcome) : Type 0 where
   pub records : List (ℕ × Record)
   pub ending : Ending
   pub given : AreGiven limit bytes records ending
   pub is : outcome ≡ data_set ending records
 
--- the outcome is that of the first records, whatever comes behind them
+-- the outcome follows from the first records of the bytes, whatever bytes come after them
 pub record IsOfFirst (limit : ℕ) (bytes : List ℕ) (outcome : Outcome) : Type 0 where
   pub records : List (ℕ × Record)
   pub first : AreFirst limit bytes records
   pub is : (later : List (ℕ × Record)) (ending : Ending) → outcome ≡ data_set ending (records ++ later)
 
--- the bytes of a data set are read so: to their end, or as far as a record that cannot stand
+-- The records of the bytes are checked in order. The outcome is the base with its notes, or the
+-- fault of the first invalid record. The bytes after that record make no difference.
 abbrev pub IsReadAs : ℕ → List ℕ → Outcome → Type 0
 IsReadAs limit bytes outcome = IsOfAll limit bytes outcome ⊎ IsOfFirst limit bytes outcome
 
--- where the bytes are told
+-- what bytes are read as; nothing is said if the reader does not report its bytes
 abbrev pub IsReadOf : ℕ → Option (List ℕ) → Outcome → Type 0
 IsReadOf limit None outcome = Unit {0}
 IsReadOf limit (Some bytes) outcome = IsReadAs limit bytes outcome
 
+-- what records bytes have; nothing is said if the reader does not report its bytes
 abbrev pub AreGivenOf : ℕ → Option (List ℕ) → List (ℕ × Record) → Ending → Type 0
 AreGivenOf limit None records ending = Unit {0}
 AreGivenOf limit (Some bytes) records ending = AreGiven limit bytes records ending
 
--- what holds of the outcome that is answered; want of memory is none
+-- the result of `Base::read` as an outcome has the property P; out of memory is no outcome
 abbrev pub Answers : Result BaseRead BaseFault → (Outcome → Type 0) → Type 0
 Answers (Ok read) P = P (Ok (read.base.records, read.notes.items))
 Answers (Err fault.Memory) P = Unit {0}
 Answers (Err (fault.Read f)) P = P (Err (fault.Read f))
 Answers (Err (fault.Refused number refusal)) P = P (Err (fault.Refused number refusal))
 
--- the same of any value that has the records and the notes
+-- a result whose value has records and notes, read by `seen`, has as an outcome the property P; out
+-- of memory is no outcome
 abbrev pub AnswersAs : {X : Type 0} → (X → List Record × List Note) → Result X BaseFault → (Outcome → Type 0) → Type 0
 AnswersAs seen (Ok read) P = P (Ok (seen read))
 AnswersAs seen (Err fault.Memory) P = Unit {0}
 AnswersAs seen (Err (fault.Read f)) P = P (Err (fault.Read f))
 AnswersAs seen (Err (fault.Refused number refusal)) P = P (Err (fault.Refused number refusal))
 
--- the same of the records alone of a data set, where its notes are not told
+-- the records of a data set have the property P, together with some notes; out of memory is no
+-- outcome
 abbrev pub AnswersRecords : Result (List Record) BaseFault → (Outcome → Type 0) → Type 0
 AnswersRecords (Ok records) P = (notes : List Note) × P (Ok (records, notes))
 AnswersRecords (Err fault.Memory) P = Unit {0}
 AnswersRecords (Err (fault.Read f)) P = P (Err (fault.Read f))
 AnswersRecords (Err (fault.Refused number refusal)) P = P (Err (fault.Refused number refusal))
 
--- a failure of the reader was counted exactly where it is answered
+-- the reader's failures are counted: one more if the fault is 13, else none
 abbrev pub FailsAs : ℕ → ℕ → BaseFault → Type 0
 FailsAs old new fault.Memory = new ≡ old
 FailsAs old new (fault.Read (Short number)) = new ≡ old
@@ -113,7 +119,8 @@ FailsAs old new (fault.Read (ReadFault number)) = new ≡ (old + 1) % 2 ^ 64
 FailsAs old new (fault.Read (ReaderNeverEnds number)) = new ≡ old
 FailsAs old new (fault.Refused number refusal) = new ≡ old
 
--- so many bytes came from a reader: so many fewer are left, or, if it does not report its bytes, so many more are counted
+-- n bytes were fetched: the reader has n fewer bytes left or, if it does not report them, has
+-- counted n more
 abbrev pub Came : Option (List ℕ) → Option (List ℕ) → ℕ → ℕ → ℕ → Type 0
 Came (Some left) (Some left') old new n = n + length left' ≡ length left
 Came (Some left) None old new n = ⊥
@@ -147,7 +154,7 @@ FailsAfter all left (fault.Read (ReadFault number)) = IsAfterComplete all left n
 FailsAfter all left (fault.Read (ReaderNeverEnds number)) = Unit {0}
 FailsAfter all left (fault.Refused number refusal) = Unit {0}
 
--- the refusal is that of the bytes
+-- the refusal is what the bytes are read as; out of memory says nothing of the bytes
 abbrev pub Refuses : ℕ → Option (List ℕ) → BaseFault → Type 0
 Refuses limit told fault.Memory = Unit {0}
 Refuses limit told (fault.Read f) = IsReadOf limit told (Err (fault.Read f))
@@ -155,11 +162,12 @@ Refuses limit told (fault.Refused number refusal) = IsReadOf limit told (Err (fa
 
 -- ---- reading back what was written
 
--- the reader failed, which is not in the bytes
+-- the reader failed, which the bytes do not determine
 abbrev pub FailedReader : Outcome → Type 0
 FailedReader outcome = (number : ℕ) × (outcome ≡ Err (fault.Read (ReadFault number)))
 
--- bytes within the limit that spell the records of a base, and nothing else, are read as this base with its notes, unless the reader fails
+-- Bytes within the limit that spell the records of a base, and nothing else, are read as this base
+-- with its notes, unless the reader fails.
 abbrev pub IsReadBack : Type 0
 IsReadBack = (bytes : List ℕ) (count : ℕ) (records : List (ℕ × Record)) (base : List Record) (notes : List Note) (limit : ℕ) (outcome : Outcome)
     → AreRead bytes count records → data_set (Done (count + 1)) records ≡ Ok (base, notes) → length bytes ≤ limit → IsReadAs limit bytes outcome
@@ -167,7 +175,7 @@ IsReadBack = (bytes : List ℕ) (count : ℕ) (records : List (ℕ × Record)) (
 
 -- ---- the same bytes
 
--- the same bytes are read as the same base with the same notes, whatever the limits
+-- Equal bytes are read as the same base with the same notes, whatever the limits.
 abbrev pub SameBytesSameBase : Type 0
 SameBytesSameBase = (bytes : List ℕ) (limit other : ℕ) (base these : List Record) (notes noted : List Note)
     → IsReadAs limit bytes (Ok (base, notes)) → IsReadAs other bytes (Ok (these, noted)) → (base ≡ these) × (notes ≡ noted)

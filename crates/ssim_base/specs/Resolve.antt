@@ -52,10 +52,12 @@ abbrev pub MeansEnd : CarrierFields → ℕ → GivenEnd → ℕ → Type 0
 MeansEnd carrier first (Until date) meant = Means first date meant
 MeansEnd carrier first Open meant = meant ≡ end_of carrier
 
+-- the last day of a period means no date: it is given, and means none
 abbrev pub MeansNoEnd : ℕ → GivenEnd → Type 0
 MeansNoEnd first (Until date) = MeansNone first date
 MeansNoEnd first Open = ⊥
 
+-- all seven weekdays
 abbrev pub every_day : List Bool
 every_day = true ∷ true ∷ true ∷ true ∷ true ∷ true ∷ true ∷ []
 
@@ -146,7 +148,8 @@ pub record IsRefusedBySub (carrier : CarrierFields) (message : MessageValue) (fa
   pub date : HasReferenceDate carrier message
   pub first : IsFirstRefused carrier 1 message.subs fault
 
--- the first refusal of a message: 40, 42 of the reference, then that of the first sub-message that has one; Memory says nothing
+-- The first refusal of a message: 40 and 42 of the reference come first, then the refusal of the
+-- first sub-message that has one. Out of memory says nothing.
 abbrev pub IsRefused : CarrierFields → MessageValue → ResolveFault → Type 0
 IsRefused carrier message fault.Memory = Unit {0}
 IsRefused carrier message fault.TimeMode = same_mode carrier.time_mode message.mode ≡ false
@@ -154,10 +157,11 @@ IsRefused carrier message (fault.NoSuchDate number) = IsReferenceRefused carrier
 IsRefused carrier message (fault.Airline number) = IsRefusedBySub carrier message (fault.Airline number)
 IsRefused carrier message (fault.Period number) = IsRefusedBySub carrier message (fault.Period number)
 
--- the same against a base, whose carrier record counts
+-- a message resolves against a base, by the carrier record of the base
 abbrev pub ResolvesIn : List Record → MessageValue → ResolvedText → Type 0
 ResolvesIn base message text = (frame : Frame) × HasFrame frame base × Resolves frame.carrier message text
 
+-- a message is refused against a base, by the carrier record of the base
 abbrev pub IsRefusedIn : List Record → MessageValue → ResolveFault → Type 0
 IsRefusedIn base message fault = (frame : Frame) × HasFrame frame base × IsRefused frame.carrier message fault
 
@@ -172,7 +176,7 @@ IsOutcome base message (Err (fault.Airline number)) = IsRefusedIn base message (
 IsOutcome base message (Err (fault.NoSuchDate number)) = IsRefusedIn base message (fault.NoSuchDate number)
 IsOutcome base message (Err (fault.Period number)) = IsRefusedIn base message (fault.Period number)
 
--- the same reference and the same sub-messages, or the same refusal
+-- two results have the same reference and the same sub-messages, or the same refusal
 abbrev pub IsSameOutcome : Result ResolvedText ResolveFault → Result ResolvedText ResolveFault → Type 0
 IsSameOutcome (Ok text) (Ok other) = (text.reference ≡ other.reference) × (text.subs.items ≡ other.subs.items)
 IsSameOutcome (Ok text) (Err fault) = ⊥
@@ -186,6 +190,7 @@ HasOneOutcome = (base : List Record) (message : MessageValue) (outcome other : R
 
 -- ---- the numbers of refusals
 
+-- the number of each fault
 abbrev pub resolve_fault_number : ResolveFault → ℕ
 resolve_fault_number fault.Memory = 90
 resolve_fault_number fault.TimeMode = 40

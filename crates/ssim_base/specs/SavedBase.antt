@@ -38,29 +38,29 @@ pub record IsLine (r : Record) (bytes rest : List ℕ) : Type 0 where
   pub bare : IsBare r
   pub written_is : bytes ≡ (written r ++ 10 ∷ []) ++ rest
 
--- the same of the record in a place
+-- the bytes are the line of the bare record that is there, and this rest
 abbrev pub IsLineOf : Option Record → List ℕ → List ℕ → Type 0
 IsLineOf None bytes rest = ⊥
 IsLineOf (Some r) bytes rest = IsLine r bytes rest
 
--- no more bytes are left than there are
+-- the fault has at most as many bytes left as the lines have
 abbrev pub IsWithin : List ℕ → SavedFault → Type 0
 IsWithin lines fault.Memory = Unit {0}
 IsWithin lines (fault.Invalid left) = left ≤ length lines
 
--- these records, whatever is noted of them
+-- the outcome has these records, with any notes
 abbrev pub IsOfRecords : List Record → Outcome → Type 0
 IsOfRecords base outcome = (notes : List Note) × (outcome ≡ Ok (base, notes))
 
--- saved records can be read as the same records
+-- Saved records can be read as the same records.
 abbrev pub SavedCanBeRead : Type 0
 SavedCanBeRead = (base : List Record) (limit : ℕ) → IsBaseRecords base → length (saved base) ≤ limit → (notes : List Note) × IsReadAs limit (saved base) (Ok (base, notes))
 
--- and only so, unless the reader fails
+-- Saved records are read only as the same records, unless the reader fails.
 abbrev pub SavedIsRead : Type 0
 SavedIsRead = (base : List Record) (limit : ℕ) (outcome : Outcome) → IsBaseRecords base → length (saved base) ≤ limit → IsReadAs limit (saved base) outcome
     → IsOfRecords base outcome ⊎ FailedReader outcome
 
--- the same bytes are of the same records
+-- Equal saved bytes are the bytes of equal records.
 abbrev pub SavedIsOne : Type 0
 SavedIsOne = (base other : List Record) → IsBaseRecords base → IsBaseRecords other → saved base ≡ saved other → base ≡ other

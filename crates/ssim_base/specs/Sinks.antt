@@ -1,16 +1,16 @@
--- What a sink takes of bytes that are gathered before they go to it.
+-- What a sink takes of the bytes that a buffer holds for it.
 use Rattle.std.specs.Prelude.{◌≡◌, ℕ, ◌+◌, ◌%◌, ◌^◌, List, ◌++◌, Option, Result, Ok, Err}
 use Rattle.std.specs.Io.KnownBytes.{Appends}
 
--- the sink took the front of these bytes, up to the rest
+-- the sink took a prefix of these bytes, up to the rest
 abbrev pub TakesUpTo : List ℕ → List ℕ → Option (List ℕ) → Option (List ℕ) → Type 0
 TakesUpTo bytes rest old new = (front : List ℕ) × (bytes ≡ front ++ rest) × Appends old new front
 
--- it took a front of these bytes
+-- the sink took some prefix of these bytes
 abbrev pub TakesFront : List ℕ → Option (List ℕ) → Option (List ℕ) → Type 0
 TakesFront bytes old new = (rest : List ℕ) × TakesUpTo bytes rest old new
 
--- a failure is counted where there is one, and the count wraps
+-- a failure is counted if there is one, and the count wraps
 abbrev pub CountsFault : {A E : Type 0} → ℕ → ℕ → Result A E → Type 0
 CountsFault old new (Ok answer) = new ≡ old
 CountsFault old new (Err fault) = new ≡ (old + 1) % 2 ^ 64

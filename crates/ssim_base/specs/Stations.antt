@@ -36,26 +36,26 @@ AreRows [] (line ∷ lines) = ⊥
 AreRows (row ∷ rows) [] = ⊥
 AreRows (row ∷ rows) (line ∷ lines) = SpellsRow row line.1 × AreRows rows lines
 
--- the bytes are a table of these rows: each line that is left, as lines of messages are, spells one
+-- the bytes are a table of these rows: each line that is not dropped spells one row
 abbrev pub SpellsTable : List Row → List ℕ → Type 0
 SpellsTable rows text = AreRows rows (lines_left text)
 
--- the same bytes are a table of the same rows
+-- Equal bytes are tables of equal rows.
 abbrev pub SameBytesSameRows : Type 0
 SameBytesSameRows = (text : List ℕ) (rows others : List Row) → SpellsTable rows text → SpellsTable others text → rows ≡ others
 
--- the number is that of the first of these lines that spells no row
+-- n is the number of the first of these lines that spells no row
 abbrev pub IsFirstOther : List (ℕ × List ℕ) → ℕ → Type 0
 IsFirstOther [] n = ⊥
 IsFirstOther (line ∷ lines) n =
     ((line.0 ≡ n) × ((row : Row) → SpellsRow row line.1 → ⊥)) ⊎ ((row : Row) × SpellsRow row line.1 × IsFirstOther lines n)
 
--- a refusal names that line; want of memory says nothing of the lines
+-- the fault names the first line that spells no row; out of memory says nothing of the lines
 abbrev pub NamesLine : List (ℕ × List ℕ) → StationFault → Type 0
 NamesLine lines Memory = Unit {0}
 NamesLine lines (Stations n) = IsFirstOther lines n
 
--- the answer to a table: these rows, unless memory is refused
+-- the result of reading a table: these rows, unless memory is refused
 abbrev pub Gives : List Row → Result (List Row) StationFault → Type 0
 Gives rows (Ok answer) = answer ≡ rows
 Gives rows (Err fault) = fault ≡ Memory
@@ -71,7 +71,7 @@ abbrev pub variation_at : List Row → List ℕ → ℕ → Option Offset
 variation_at [] station day = None
 variation_at (row ∷ rows) station day = if covers row station day then Some row.variation else variation_at rows station day
 
--- ---- the same as functions
+-- ---- tables read by functions
 
 -- the row that a line spells
 unfoldable pub row_of : List ℕ → Option Row
@@ -82,10 +82,13 @@ row_of line = do
   variation ← variation_in (behind (behind (behind line)))
   if nat_le first last then Some (record { station = station; first = first; last = last; variation = variation }) else None
 
+-- a row before the rows of the later lines
 abbrev pub row_before : Row → Result (List Row) ℕ → Result (List Row) ℕ
 row_before row (Ok rows) = Ok (row ∷ rows)
 row_before row (Err n) = Err n
 
+-- the rows from a line on: its own row before the later ones, or the line's number if it spells
+-- none
 abbrev pub row_then : ℕ → Option Row → Result (List Row) ℕ → Result (List Row) ℕ
 row_then n None later = Err n
 row_then n (Some row) later = row_before row later
@@ -95,11 +98,12 @@ abbrev pub rows_of : List (ℕ × List ℕ) → Result (List Row) ℕ
 rows_of [] = Ok []
 rows_of (line ∷ lines) = row_then line.0 (row_of line.1) (rows_of lines)
 
--- a refusal at a line, as that function has it; want of memory says nothing
+-- the fault names the same line as `rows_of`; out of memory says nothing of the lines
 abbrev pub StopsAs : Result (List Row) ℕ → StationFault → Type 0
 StopsAs read Memory = Unit {0}
 StopsAs read (Stations n) = read ≡ Err n
 
+-- the number of each fault
 abbrev pub station_fault_number : StationFault → ℕ
 station_fault_number Memory = 90
 station_fault_number (Stations n) = 39

@@ -8,7 +8,7 @@ use Rattle.ssim_base.specs.declared.fault.BaseFault.{BaseFault}
 use Rattle.ssim_base.specs.declared.fault.BaseFault.TheVariants as fault
 use Rattle.ssim_base.specs.declared.summary.Summary.{Summary}
 
--- the bytes of a data set are read as records with notes; the summary has the notes, the number of the records and that of their flights
+-- the summary of a data set has its notes and the numbers of its records and of its flights
 pub record IsSummary (limit : ℕ) (told : Option (List ℕ)) (summary : Summary) : Type 0 where
   pub base : List Record
   pub flights : List FlightNumber

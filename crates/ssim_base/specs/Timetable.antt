@@ -19,10 +19,11 @@ pub record LegValue : Type 0 where
 abbrev pub Legs : Type 0
 Legs = List LegValue
 
+-- whether two flights are the same: number and suffix
 abbrev pub same_flight : FlightNumber → FlightNumber → Bool
 same_flight a b = nat_eq a.number b.number && nat_eq a.suffix b.suffix
 
--- the same leg of the same itinerary variation
+-- whether two legs have the same flight, itinerary variation and leg sequence
 abbrev pub same_name : Name → Name → Bool
 same_name a b = same_flight a.flight b.flight && (nat_eq a.variation b.variation && nat_eq a.sequence b.sequence)
 
@@ -82,7 +83,7 @@ days_of records flight = each_day (itinerary records flight)
 abbrev pub on_day : Days → ℕ → Legs
 on_day days n = slice_index_or days n []
 
--- the legs stand by rising sequence, to 99
+-- the legs are ordered by rising sequence, above n and up to 99
 abbrev pub Above : ℕ → Legs → Type 0
 Above n [] = Unit {0}
 Above n (l ∷ legs) = (n < l.sequence) × (l.sequence < 100) × Above l.sequence legs

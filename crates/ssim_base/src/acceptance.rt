@@ -60,7 +60,7 @@ impl Acceptance {
         }
     }
 
-    /// Accepts one more record, with its number, or refuses it. It may be changed.
+    /// Accepts one more record with its number, or refuses it. The record may be changed.
     #[inline(always)]
     pub(crate) fn put(&mut self, number: u64, one: &mut Record) -> Result<(), BaseFault>
         ensures stood { OnOk result ((earlier : List Record) → HasAccepted self.old earlier → Stood self.new earlier one.old) }
@@ -75,7 +75,8 @@ impl Acceptance {
         }
     }
 
-    // Accepts a record after the carrier, or refuses it. A leg and a segment are closed where they stand, and then copied.
+    // Accepts a record after the carrier, or refuses it. A leg and a segment are closed in place
+    // and then copied.
     #[inline(always)]
     fn put_next(
         &mut self,
@@ -112,7 +113,7 @@ impl Acceptance {
         }
     }
 
-    // Keeps a record, after which another place is expected.
+    // Adds a record, and sets which record is expected next.
     fn push(&mut self, expected: Expected, one: Record) -> Result<(), Memory>
         ensures records { OnOk result (AddsRecord self.old.records self.new.records one) }
         ensures keeps { OnOk result (keeps self.new.records ≡ keeps self.old.records) }

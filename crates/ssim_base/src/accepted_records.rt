@@ -1,4 +1,4 @@
-//! The records that are kept of a data set, or how many there are.
+//! The accepted records of a data set, or their number.
 
 ghost use Rattle.std.specs.Prelude.{◌≡◌, List, OnOk, length, reverse};
 ghost use Rattle.ssim_records.specs.declared.record.Record.{Record};
@@ -8,7 +8,7 @@ use crate::record_pieces::RecordPieces;
 use ssim_records::Record;
 use ssim_values::Memory;
 
-/// What is kept of the records of a data set.
+/// The accepted records of a data set, as pieces or as their number.
 #[derive(Drop)]
 pub(crate) enum AcceptedRecords {
     /// The records, in order, in pieces.
@@ -36,7 +36,7 @@ impl AcceptedRecords {
         }
     }
 
-    /// The records that were kept in pieces.
+    /// The records that were stored in pieces.
     pub(crate) fn into_pieces(self) -> RecordPieces
         requires { keeps self ≡ InPieces }
         ensures { (earlier : List Record) → AreAccepted self earlier → result ≡ reverse earlier }

@@ -23,7 +23,8 @@ use std::marker::Model;
 
 /// A data set as it was read: its records other than fill, in order, without serials, and the rows of a station table.
 ///
-/// The rate and the overflow of its legs are blank. The end of each leg is a date; that of the carrier may be open.
+/// The rate and the overflow of its legs are blank. The end of each leg is a date; the end of the
+/// carrier may be open.
 #[derive(Drop)]
 pub struct Base {
     records: Vec<Record>,

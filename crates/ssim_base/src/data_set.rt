@@ -25,8 +25,9 @@ use ssim_values::{Airline, Flight, Memory};
 use std::alloc::Global;
 use std::marker::Model;
 
-/// A data set as it was read, without a station table. It is seen as the records of a base, and these are kept in pieces. So they fit into
-/// the memory that the parts of a file leave, and are freed while the timetable is made.
+/// A data set as it was read, without a station table. Contracts see it as the records of a base.
+/// The records are stored in pieces, which fit into the memory that the parts of a file leave, and
+/// which are freed while the timetable is made.
 #[derive(Drop)]
 pub struct DataSet {
     records: RecordPieces,
@@ -82,7 +83,8 @@ impl DataSet {
         DataSet::finish(alloc, records_read, number)
     }
 
-    // The data set of the records that were gathered, if none is missing after them, and the notes.
+    // The data set of the records that were read, and the notes; an error if a record is missing at
+    // the end.
     fn finish(
         alloc: Global,
         records_read: DataSetReader,
@@ -103,7 +105,7 @@ impl DataSet {
         Ok((data_set, notes))
     }
 
-    /// The data set of the records that are kept, which are those of a base.
+    /// The data set of the stored records, which are the records of a base.
     pub(crate) fn of_kept(alloc: Global, kept: Acceptance) -> Result<DataSet, Memory>
         requires whole { IsWholeBase kept }
         requires keeps { keeps kept.records ≡ InPieces }

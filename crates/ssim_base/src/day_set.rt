@@ -27,7 +27,7 @@ impl DaySet {
         Ok(DaySet { words })
     }
 
-    /// The dates of a period are added. Answers whether one of them was in the set.
+    /// Adds the dates of a period. Returns whether one of them was in the set.
     pub(crate) fn add_period(&mut self, period: &Period) -> bool
         ensures days { (n : ℕ) → has_date self.new.words.items n ≡ (holds period.now n || has_date self.old.words.items n) }
         ensures met { result ≡ have_common_date (holds period.now) (has_date self.old.words.items) }
@@ -52,7 +52,7 @@ impl DaySet {
         (self.words[day / 64] >> (day % 64)) & 1 == 1
     }
 
-    // A date is added. Answers whether it was in the set.
+    // Adds a date. Returns whether it was in the set.
     fn add(&mut self, day: usize) -> bool
         requires { day < 36525 }
         ensures days { (n : ℕ) → has_date self.new.words.items n ≡ (nat_eq n day || has_date self.old.words.items n) }

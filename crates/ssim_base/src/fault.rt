@@ -69,7 +69,7 @@ impl BaseRefusal {
         }
     }
 
-    /// The name by which the refusal is known. That of an open end is `BadColumn`.
+    /// The name of the refusal. The name of an open end that is refused is `BadColumn`.
     pub fn name(self) -> &'static str
         ensures { result.now ≡ refusal_name self }
     {

@@ -3,7 +3,8 @@
 /// Something unusual in a data set that is not refused, with the record number, counted from 1 with fill.
 #[derive(Clone, Copy, Debug, PartialEq, Eq)]
 pub enum Note {
-    /// The record's serial is not one more than that of the record before, fill aside; the first's is not 000001.
+    /// The serial is not one more than the serial before it, fill aside; the serial before the
+    /// first is taken as 0.
     Serial(u64),
 
     /// The trailer's check reference is not the serial of the record before, fill aside.

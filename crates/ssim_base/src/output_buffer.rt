@@ -14,7 +14,7 @@ use ssim_records::{LegColumns, NameText, PeriodText, Record, SegmentTail, Sink, 
 use std::marker::Model;
 use thiserror::Error;
 
-/// The size of a block: 320 lines.
+/// The size of a buffer: 320 lines.
 const ROOM: usize = 64_320;
 
 /// A record of fill.
@@ -62,7 +62,7 @@ impl Model for OutputBuffer {
 }
 
 impl OutputBuffer {
-    /// A block without bytes.
+    /// A buffer without bytes.
     pub fn new() -> OutputBuffer
         ensures { result ≡ [] }
     {
@@ -167,8 +167,8 @@ fn put_all<W: Sink>(out: &mut W, bytes: &[u8]) -> Result<(), WriteFault>
     Ok(())
 }
 
-/// Puts the bytes of the block into the sink, and empties the block. After a 52 the block is unchanged: it holds the bytes of which the sink
-/// took a prefix.
+/// Puts the bytes of the buffer into the sink, and empties the buffer. After a 52 the buffer is
+/// unchanged: it holds the bytes of which the sink took a prefix.
 pub fn flush<W: Sink>(out: &mut W, block: &mut OutputBuffer) -> Result<(), WriteFault>
     ensures ok { OnOk result (Appends (W.taken out.old) (W.taken out.new) block.old) }
     ensures empty { OnOk result (block.new ≡ []) }
@@ -182,7 +182,8 @@ pub fn flush<W: Sink>(out: &mut W, block: &mut OutputBuffer) -> Result<(), Write
     Ok(())
 }
 
-// Makes room in the block for a record and LF: if it has none, its bytes are put into the sink. After a 52 the block is unchanged.
+// Makes room in the buffer for a record and LF: if there is no room, the buffer's bytes are put
+// into the sink. After a 52 the buffer is unchanged.
 fn make_room<W: Sink>(out: &mut W, block: &mut OutputBuffer) -> Result<(), WriteFault>
     ensures ok { OnOk result (TakesUpTo block.old block.new (W.taken out.old) (W.taken out.new)) }
     ensures room { OnOk result (length block.new + 201 ≤ 64320) }
@@ -197,8 +198,8 @@ fn make_room<W: Sink>(out: &mut W, block: &mut OutputBuffer) -> Result<(), Write
     Ok(())
 }
 
-/// Appends a record and LF to the block. If the block has no room for them, its bytes are put into the sink first. After a 52 the block is
-/// unchanged.
+/// Appends a record and LF to the buffer. If the buffer has no room for them, its bytes are put
+/// into the sink first. After a 52 the buffer is unchanged.
 fn put_line<W: Sink>(
     out: &mut W,
     block: &mut OutputBuffer,
@@ -215,7 +216,7 @@ fn put_line<W: Sink>(
     Ok(())
 }
 
-/// Appends a record as it is written, and LF, to the block, as `put_line` does.
+/// Appends a record as it is written, and LF, to the buffer, as `put_line` does.
 pub fn put_record<W: Sink>(
     out: &mut W,
     block: &mut OutputBuffer,
@@ -274,8 +275,9 @@ pub fn put_segment<W: Sink>(
     Ok(())
 }
 
-/// Appends bytes to the block. If the block has no room for them, its bytes are put into the sink first; bytes that are longer than a
-/// block follow them directly. After a 52 the block is unchanged.
+/// Appends bytes to the buffer. If the buffer has no room for them, its bytes are put into the sink
+/// first. Bytes longer than a buffer go directly to the sink after them. After a 52 the buffer is
+/// unchanged.
 pub fn put_bytes<W: Sink>(
     out: &mut W,
     block: &mut OutputBuffer,

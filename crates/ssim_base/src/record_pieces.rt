@@ -175,7 +175,8 @@ fn record_at<'a>(full: &'a [Vec<Record>], last: &'a [Record], place: usize) -> &
     &last[left]
 }
 
-// The records of some pieces and of the last one in one list, which is made for so many.
+// The records of some pieces and of the last one in one list. `len` is the number of records to
+// reserve.
 fn list_of(
     alloc: Global,
     len: usize,

@@ -27,7 +27,7 @@ pub enum ResolveFault {
     /// 90: out of memory.
     #[error("out of memory")]
     Memory,
-    /// 40: the message's time mode is not that of the data set.
+    /// 40: the message and the data set have different time modes.
     #[error("the message has the other time mode than the data set")]
     TimeMode,
     /// 41: the sub-message names another airline than the data set's.
@@ -141,7 +141,7 @@ enum DatesFault {
     Turned,
 }
 
-// The full period of dates: that of an SSM, or the one date of an ASM.
+// The full period of dates: the period of an SSM, or the one date of an ASM.
 fn period_meant(carrier: &Carrier, dates: Dates) -> Result<Period, DatesFault>
     ensures ok { IfOk result (AreDates carrier.now dates) }
     ensures err { IfErr result (AreFaulty carrier.now dates) }
@@ -227,9 +227,10 @@ fn resolve_subs(
 /// the next such date. It is looked for from the start of the carrier's validity, the end of a period from the period's start, and
 /// the date of a reference from the day on which the data set was made.
 ///
-/// The error is the first of these: 40 `TimeMode` for another time mode; 42 `NoSuchDate` with sub-message 0 if the reference has no
-/// date up to 2099; then that of the first invalid sub-message, which is 41 `Airline` for another airline, 42 for a date that does
-/// not exist up to 2099, or 43 `Period` for a last day before the first.
+/// The error is the first of these: 40 `TimeMode` for another time mode; 42 `NoSuchDate` with
+/// sub-message 0 if the reference has no date up to 2099; then the error of the first invalid
+/// sub-message: 41 `Airline` for another airline, 42 for a date that does not exist up to 2099, or
+/// 43 `Period` for a last day before the first.
 pub fn resolve(base: &Base, message: &Message) -> Result<ResolvedText, ResolveFault>
     ensures ok { IfOk result (ResolvesIn base.now.records message.now) }
     ensures err { IfErr result (IsRefusedIn base.now.records message.now) }

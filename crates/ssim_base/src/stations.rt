@@ -244,7 +244,7 @@ impl Stations {
         &self.rows
     }
 
-    /// The variation of a station on a day: that of the first row that covers both. Allocates nothing.
+    /// The variation of a station on a day, from the first row that covers both. Allocates nothing.
     pub fn at(&self, station: Station, day: Day) -> Option<Variation>
         ensures { result ≡ variation_at self.now station day }
     {

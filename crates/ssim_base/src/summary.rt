@@ -11,7 +11,8 @@ use crate::note::Note;
 use ssim_records::Source;
 use std::alloc::Global;
 
-/// What a data set has. Its records are read and checked as `Base::read` does, and none is kept.
+/// The number of records and flights of a data set, and its notes. Records are read and checked as
+/// `Base::read` does; none is stored.
 #[derive(Drop)]
 pub struct Summary {
     /// The number of the records other than fill.
@@ -37,7 +38,7 @@ impl Summary {
         Summary::finish(records_read, number)
     }
 
-    // The summary of the records that were gathered, if none is missing after them.
+    // The summary of the records that were read; an error if a record is missing at the end.
     fn finish(records_read: DataSetReader, number: u64) -> Result<Summary, BaseFault>
         requires { IsWhole records_read }
         ensures sums { (limit : ℕ) (told : Option (List ℕ)) → HasRead limit told records_read number → Sums limit told result }

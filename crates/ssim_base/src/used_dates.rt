@@ -40,7 +40,7 @@ impl UsedDates {
         UsedDates::Empty
     }
 
-    /// The dates of a period are used. Answers whether one of them was used before.
+    /// The dates of a period are used. Returns whether one of them was used before.
     pub(crate) fn take(&mut self, alloc: Global, period: &Period) -> Result<bool, Memory>
         ensures days { OnOk result ((n : ℕ) → is_used self.new n ≡ (holds period.now n || is_used self.old n)) }
         ensures met { IfOk result (λ met. met ≡ have_common_date (holds period.now) (is_used self.old)) }
@@ -55,7 +55,8 @@ impl UsedDates {
         self.take_in_next_form(alloc, period)
     }
 
-    // The same as `take`, where the dates are kept in another form afterwards, or as a set. It stands apart, so that `take` stays short.
+    // Does what `take` does if the dates change their form or are already a set. It is a function
+    // of its own so that `take` stays short.
     #[inline(never)]
     fn take_in_next_form(&mut self, alloc: Global, period: &Period) -> Result<bool, Memory>
         ensures days { OnOk result ((n : ℕ) → is_used self.new n ≡ (holds period.now n || is_used self.old n)) }

@@ -351,7 +351,7 @@ impl<'t> Case<'t> {
         }
     }
 
-    /// Runs the program, and prints its answer.
+    /// Runs the program, and prints what it returned.
     fn run(&mut self, rest: &str) -> Result<(), Fault> {
         let words = words_of(self.alloc, rest)?;
         let answer = self.answer_of(&words);
@@ -360,8 +360,8 @@ impl<'t> Case<'t> {
         Ok(self.printed.extend_from_slice(&answer.out)?)
     }
 
-    /// Runs the program on each prefix of a file, which then has the name `prefix`, and prints the answers. Lengths that follow
-    /// one another and have one answer are printed together.
+    /// Runs the program on each prefix of a file, which then has the name `prefix`, and prints the
+    /// results. Neighbouring lengths with the same result are printed together.
     fn run_on_prefixes(&mut self, rest: &str) -> Result<(), Fault> {
         let (name, rest) = parts(rest)?;
         let words = words_of(self.alloc, rest)?;

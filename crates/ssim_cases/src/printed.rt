@@ -149,7 +149,8 @@ fn print_applied(desk: &Desk, rest: &str, out: &mut Vec<u8>) -> Result<(), Fault
     Ok(out.push(b'\n')?)
 }
 
-/// Adds sub-messages that each cancel a flight on one date, every so many days from the first on.
+/// Adds sub-messages that each cancel a flight on one date, from the first date on at equal
+/// distances.
 pub fn add_cancels(bytes: &mut Vec<u8>, rest: &str) -> Result<(), Fault> {
     let (flight, rest) = parts(rest)?;
     let (first, rest) = parts(rest)?;

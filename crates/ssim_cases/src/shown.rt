@@ -116,7 +116,7 @@ fn show_run(out: &mut Vec<u8>, run: &[u8]) -> Result<(), Fault> {
     Ok(out.push(b'>')?)
 }
 
-/// Shows a byte by its hexadecimal digits, so many times.
+/// Shows a byte `count` times by its hexadecimal digits.
 fn show_digits(out: &mut Vec<u8>, byte: u8, count: usize) -> Result<(), Fault> {
     for _ in 0..count {
         if write!(out, "<x{byte:02X}>").is_err() {

@@ -14,12 +14,15 @@ needed id = record (new_rule id) { value_names = 1; required = true }
 abbrev pub several_texts : Rule
 several_texts = record (needed (codes "texts")) { action = Some Append }
 
+-- the values of a command with one value
 abbrev pub one_value : List Rule
 one_value = needed (codes "first") ∷ []
 
+-- the values of a command with three values
 abbrev pub three_values : List Rule
 three_values = needed (codes "first") ∷ needed (codes "second") ∷ needed (codes "third") ∷ []
 
+-- the values of a command with two values and one or more texts
 abbrev pub two_values_and_texts : List Rule
 two_values_and_texts = needed (codes "first") ∷ needed (codes "second") ∷ several_texts ∷ []
 
@@ -31,12 +34,14 @@ leaf name rules = record (new_shape name) { rules = rules }
 abbrev pub IsLeaf : Shape → Command → Type 0
 IsLeaf s c = (shape_of c ≡ s) × ((out-Command c).has_globals ≡ false)
 
+-- the program without its commands
 abbrev pub bare_program : App
 bare_program = record {
   top = record (new_shape (codes "ssimdesk")) { subcommand_required = true; has_version = true };
   subs = [];
 }
 
+-- the program with these commands added in order
 abbrev pub add_all : App → List Shape → App
 add_all a [] = a
 add_all a (s ∷ rest) = add_all (with_subcommand a s) rest
@@ -53,6 +58,7 @@ on_desks = leaf (codes "take") two_values_and_texts ∷ leaf (codes "merge") thr
 abbrev pub of_desks : List Shape
 of_desks = leaf (codes "show") three_values ∷ leaf (codes "findings") one_value ∷ leaf (codes "export") one_value ∷ []
 
+-- the command that runs a script
 abbrev pub rehearsals : List Shape
 rehearsals = leaf (codes "rehearse") three_values ∷ []
 
@@ -60,5 +66,6 @@ rehearsals = leaf (codes "rehearse") three_values ∷ []
 abbrev pub explanations : List Shape
 explanations = leaf (codes "explain") one_value ∷ []
 
+-- the program with all its commands
 abbrev pub whole_program : App
 whole_program = add_all (add_all (add_all (add_all (add_all bare_program on_data_sets) on_desks) of_desks) rehearsals) explanations

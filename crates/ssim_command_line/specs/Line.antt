@@ -2,6 +2,7 @@
 use Rattle.std.specs.Prelude.{◌≡◌, ◌==◌, ℕ, Bool, true, false, not, List, [], ◌∷◌, codes}
 use Rattle.std.specs.List.{list_all}
 
+-- a text as its bytes
 abbrev pub Text : Type 0
 Text = List ℕ
 
@@ -18,6 +19,7 @@ pub data Line : Type 0 where
   Rehearse : Text → Text → Text → Line
   Explain : Text → Line
 
+-- the name of the command of a line
 abbrev pub name_of : Line → Text
 name_of (Check dataset) = codes "check"
 name_of (Tidy dataset) = codes "tidy"
@@ -30,6 +32,7 @@ name_of (Export desk) = codes "export"
 name_of (Rehearse dataset stations script) = codes "rehearse"
 name_of (Explain word) = codes "explain"
 
+-- the values of a line, in the order in which they are written
 abbrev pub values_of : Line → List Text
 values_of (Check dataset) = dataset ∷ []
 values_of (Tidy dataset) = dataset ∷ []

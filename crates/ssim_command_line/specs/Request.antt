@@ -6,6 +6,7 @@ use Rattle.ssim_command_line.specs.Line.{Line, Text, Check, Tidy, Start, Take, M
 use Rattle.ssim_command_line.specs.declared.command_line.Request.{Request}
 use Rattle.ssim_command_line.specs.declared.command_line.Request.TheVariants as request
 
+-- the command line of a request
 abbrev pub line_of : Request → Line
 line_of (request.Check dataset) = Check dataset.now
 line_of (request.Tidy dataset) = Tidy dataset.now
@@ -20,18 +21,23 @@ line_of (request.Explain word) = Explain word.now
 
 -- ---- the values of a subcommand, by the ids of its arguments
 
+-- the first value and the second, if both are given
 abbrev pub two_of : List Row → Option (Text × Text)
 two_of rows = option_and_then (λ a. option_map (λ b. (a, b)) (first_of (codes "second") rows)) (first_of (codes "first") rows)
 
+-- the first value, the second and the third, if all are given
 abbrev pub three_of : List Row → Option (Text × Text × Text)
 three_of rows = option_and_then (λ p. option_map (λ c. (p.0, p.1, c)) (first_of (codes "third") rows)) (two_of rows)
 
+-- the line of a command with one value, if it is given
 abbrev pub with_one : (Text → Line) → List Row → Option Line
 with_one make rows = option_map make (first_of (codes "first") rows)
 
+-- the line of a command with three values, if all are given
 abbrev pub with_three : (Text → Text → Text → Line) → List Row → Option Line
 with_three make rows = option_map (λ p. make p.0 p.1 p.2) (three_of rows)
 
+-- the `take` line of a desk, an output file and texts, if the first two are given
 abbrev pub with_texts : List Row → Option Line
 with_texts rows = option_and_then (λ p. option_map (Take p.0 p.1) (all_of (codes "texts") rows)) (two_of rows)
 

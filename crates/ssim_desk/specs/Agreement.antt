@@ -63,7 +63,7 @@ AnyTwoDesksAgree =
     (one other : Run) (d e : ℕ) → TookTheSame one other d e → BeganAlike (desk_at one.start d) (desk_at other.start e)
     → AreAgreed (desk_at one.after d) (desk_at other.after e)
 
--- the same of any two desks of one run
+-- any two desks of one run that began alike and that the same messages reached agree
 abbrev pub DesksAgree : List DeskState → List Step → List Answer → List DeskState → Type 0
 DesksAgree start steps answers after =
     (d e : ℕ) → d < length start → e < length start → BeganAlike (desk_at start d) (desk_at start e)
@@ -81,13 +81,14 @@ abbrev pub AreApart : List DeskState → List Step → Type 0
 AreApart start steps =
     (reference : Reference) (one other : MessageValue) → IsThere start steps reference one → IsThere start steps reference other → one ≡ other
 
--- then no step is refused as a conflict
+-- if the messages of a run are apart, no step of the run is refused as a conflict
 abbrev pub NoConflict : Type 0
 NoConflict =
     (run : Run) → AreApart run.start run.steps → (k : ℕ) (step : Step) (reference : Reference)
     → IsStep run.steps run.answers k step (Refused (Conflict reference)) → ⊥
 
--- and each message that a text says to a desk has reached the desk, unless memory was refused
+-- if the messages of a run are apart, each message offered to a desk in a text has reached the
+-- desk, unless memory was refused
 abbrev pub OfferedIsReached : Type 0
 OfferedIsReached =
     (run : Run) → AreApart run.start run.steps → (k d : ℕ) (text : Vec ℕ Global) (answer : Answer) (reference : Reference) (message : MessageValue)

@@ -15,18 +15,18 @@ use Rattle.ssim_desk.specs.declared.steps.Answer.{Answer}
 use Rattle.ssim_desk.specs.declared.steps.Answer.TheVariants.{Taken, Repeated, Merged, Refused}
 use Rattle.ssim_desk.specs.declared.desk.Took.TheVariants as took
 
--- the answer that the result of `take` is
+-- the answer for a result of `take`
 abbrev pub take_answer : Result Took DeskFault → Answer
 take_answer (Ok took.Taken) = Taken
 take_answer (Ok took.Repeated) = Repeated
 take_answer (Err fault) = Refused fault
 
--- the same where the reference of the message is returned, too
+-- the answer for a result of `take` that has the reference of the message, too
 abbrev pub took_answer : Result (Took × Reference) DeskFault → Answer
 took_answer (Ok taken) = take_answer (Ok taken.0)
 took_answer (Err fault) = Refused fault
 
--- the answer that the result of `merge` is
+-- the answer for a result of `merge`
 abbrev pub merge_answer : Result (Unit {0}) DeskFault → Answer
 merge_answer (Ok done) = Merged
 merge_answer (Err fault) = Refused fault
@@ -53,7 +53,7 @@ at_rest desk = record desk { applied = 0 }
 abbrev pub timetable_of : DeskSeen → FlightNumber → ℕ → Legs
 timetable_of desk = left_by desk.base desk.held
 
--- the same, as the itineraries of a flight by day
+-- the timetable of a desk as the itineraries of a flight by day
 abbrev pub days_of_desk : DeskSeen → FlightNumber → Days
 days_of_desk desk flight = each_day (timetable_of desk flight)
 

@@ -41,7 +41,7 @@ subs_findings rows (sub ∷ subs) (dated ∷ dates) before =
     ∷ subs_findings rows subs dates (after_one rows sub.action dated before)
 subs_findings _ _ _ _ = []
 
--- and those of entries, a list for each
+-- the findings of each entry in order, one list an entry
 abbrev pub entries_findings : List Row → List Entry → Timetable → List (List Finding)
 entries_findings rows [] before = []
 entries_findings rows (e ∷ entries) before =
@@ -76,11 +76,12 @@ Finds desk findings = (listed : List Entry) × Lists desk listed × (findings �
 abbrev pub HasMeaning : Type 0
 HasMeaning = (desk : DeskState) → IsDesk desk → (timetable : Timetable) × Means desk timetable
 
--- and only one
+-- a desk has at most one meaning
 abbrev pub HasOneMeaning : Type 0
 HasOneMeaning = (desk : DeskState) (one other : Timetable) → Means desk one → Means desk other → one ≡ other
 
--- the answer to an export: the chapter 7 bytes of the desk's meaning, or why it has none
+-- the result of an export: the chapter 7 bytes of the desk's meaning, or the reason why there are
+-- none
 pub record Exports (desk : DeskState) (answer : Result (List ℕ) ExportRefusal) : Type 0 where
   pub frame : Frame
   pub has_frame : HasFrame frame desk.base.records
@@ -88,10 +89,10 @@ pub record Exports (desk : DeskState) (answer : Result (List ℕ) ExportRefusal)
   pub means : Means desk timetable
   pub exported : answer ≡ chapter7 frame (λ flight. each_day (timetable flight))
 
--- every desk has an answer
+-- every desk has an export result
 abbrev pub HasExport : Type 0
 HasExport = (desk : DeskState) → IsDesk desk → (answer : Result (List ℕ) ExportRefusal) × Exports desk answer
 
--- and only one
+-- a desk has at most one export result
 abbrev pub HasOneExport : Type 0
 HasOneExport = (desk : DeskState) (one other : Result (List ℕ) ExportRefusal) → Exports desk one → Exports desk other → one ≡ other

@@ -1,4 +1,4 @@
--- Laws of merging, and what determines an answer.
+-- Laws of merging, and what determines the result of a step.
 use Rattle.std.specs.Prelude.{◌≡◌, ◌≢◌, List, ℕ}
 use Rattle.ssim_held.specs.{Held.{Agree, DeskState, HeldMessages, union}, declared.fault.DeskFault.TheVariants.Memory}
 use Rattle.ssim_desk.specs.{Steps.{Merges, Takes}, declared.steps.Answer.Answer, declared.steps.Answer.TheVariants.{Merged, Refused}}
@@ -41,17 +41,19 @@ pub record MergeFreely (a b c : DeskState) : Type 0 where
   pub ab_c : IsMergedTo (merged a b) c (merged (merged a b) c)
   pub a_bc : IsMergedTo a (merged b c) (merged (merged a b) c)
 
--- so three such desks are merged in any order and grouping
+-- three desks whose messages agree are merged with one result in any order and grouping
 abbrev pub ThreeDesksMerge : Type 0
 ThreeDesksMerge = (a b c : DeskState) → AreMergeable a b c → MergeFreely a b c
 
--- unless memory is refused, the desk and the text determine the answer and what is held afterwards
+-- Unless memory is refused, the desk and the text determine the result of `take` and the messages
+-- held afterwards.
 abbrev pub TakesAreDetermined : Type 0
 TakesAreDetermined =
     (desk : DeskState) (text : List ℕ) (answer other : Answer) (held others : HeldMessages) → Takes desk text answer held → Takes desk text other others
     → answer ≢ Refused Memory → other ≢ Refused Memory → (answer ≡ other) × (held ≡ others)
 
--- and so do two desks that are merged
+-- Unless memory is refused, two desks determine the result of merging them and the messages held
+-- afterwards.
 abbrev pub MergesAreDetermined : Type 0
 MergesAreDetermined =
     (mine theirs : DeskState) (answer other : Answer) (held others : HeldMessages) → Merges mine theirs answer held → Merges mine theirs other others

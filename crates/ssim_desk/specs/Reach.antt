@@ -7,13 +7,13 @@ use Rattle.ssim_desk.specs.{Steps.{IsInRange, Runs, desk_at}, declared.steps.Ans
 use Rattle.ssim_desk.specs.{declared.steps.Answer.TheVariants.{Taken, Repeated, Merged}, declared.steps.Step.Step}
 use Rattle.ssim_desk.specs.declared.steps.Step.TheVariants.{Take, Merge}
 
--- whether an answer says that the text's message is held
+-- whether a result says that the text's message is held
 abbrev pub is_accepted : Answer → Bool
 is_accepted Taken = true
 is_accepted Repeated = true
 is_accepted _ = false
 
--- the step with this number, counted from 0, and its answer
+-- the step with this number, counted from 0, and its result
 abbrev pub IsStep : List Step → List Answer → ℕ → Step → Answer → Type 0
 IsStep steps answers k step answer = (slice_get steps k ≡ Some step) × (slice_get answers k ≡ Some answer)
 

@@ -19,7 +19,7 @@ abbrev pub IsUnspelt : List ℕ → TextFault → Type 0
 IsUnspelt text text_fault.Memory = ⊥
 IsUnspelt text (text_fault.Refused fault line) = NoMessage text (text_fault.Refused fault line) × IsRefusal text (text_fault.Refused fault line)
 
--- its message does not resolve, and this is why
+-- the message of the text does not resolve, for the reason that the fault names
 pub record IsUnresolved (desk : DeskState) (text : List ℕ) (fault : ResolveFault) : Type 0 where
   pub message : MessageValue
   pub spelt : SpellsMessage message text
@@ -34,7 +34,7 @@ pub record IsInConflict (desk : DeskState) (text : List ℕ) (reference : Refere
   pub holds : Holds desk reference other
   pub apart : other ≢ message
 
--- its message is new, and is held afterwards
+-- the message of the text is new to the desk, and is held afterwards
 pub record IsNew (desk : DeskState) (text : List ℕ) (held : HeldMessages) : Type 0 where
   pub reference : Reference
   pub message : MessageValue
@@ -42,7 +42,7 @@ pub record IsNew (desk : DeskState) (text : List ℕ) (held : HeldMessages) : Ty
   pub absent : get desk.held reference ≡ None
   pub added : held ≡ insert desk.held reference message
 
--- its message is held already
+-- the desk holds the message of the text already
 pub record IsKnown (desk : DeskState) (text : List ℕ) : Type 0 where
   pub reference : Reference
   pub message : MessageValue
@@ -57,7 +57,7 @@ RefusesText desk text (Resolve fault) = IsUnresolved desk text fault
 RefusesText desk text (Conflict reference) = IsInConflict desk text reference
 RefusesText _ _ _ = ⊥
 
--- what a desk answers to a text, and what it holds afterwards
+-- the result of taking a text, and the messages held afterwards
 abbrev pub Takes : DeskState → List ℕ → Answer → HeldMessages → Type 0
 Takes desk text Taken held = IsNew desk text held
 Takes desk text Repeated held = IsKnown desk text × (held ≡ desk.held)
@@ -79,7 +79,7 @@ pub record IsUnion (mine theirs : DeskState) (held : HeldMessages) : Type 0 wher
   pub agree : Agree mine.held theirs.held
   pub all : held ≡ union mine.held theirs.held
 
--- what a desk answers to another, and what it holds afterwards
+-- the result of merging another desk, and the messages held afterwards
 abbrev pub Merges : DeskState → DeskState → Answer → HeldMessages → Type 0
 Merges mine theirs Merged held = IsUnion mine theirs held
 Merges mine theirs (Refused fault) held = RefusesDesk mine theirs fault × (held ≡ mine.held)
@@ -91,7 +91,7 @@ Merges _ _ _ _ = ⊥
 abbrev pub desk_at : List DeskState → ℕ → DeskState
 desk_at desks i = slice_index_or desks i no_desk
 
--- the desks, where that of a number holds this from now on
+-- the desks after desk i holds these messages
 abbrev pub with_held : List DeskState → ℕ → HeldMessages → List DeskState
 with_held desks i held = let desk = desk_at desks i in slice_set desks i (record desk { held = held })
 
@@ -122,12 +122,12 @@ abbrev pub MergesOne : Bool → List DeskState → ℕ → ℕ → Answer → Li
 MergesOne true desks into from answer after = (answer ≡ Merged) × (after ≡ desks)
 MergesOne false desks into from answer after = MergesAt desks into from answer after
 
--- what a step answers, and the desks after it
+-- the result of one step, and the desks after it
 abbrev pub Acts : List DeskState → Step → Answer → List DeskState → Type 0
 Acts desks (Take i text) answer after = TakesAt desks i text.items answer after
 Acts desks (Merge into from) answer after = MergesOne (into == from) desks into from answer after
 
--- what steps answer, and the desks after them all
+-- the results of some steps, and the desks after all of them
 abbrev pub Runs : List DeskState → List Step → List Answer → List DeskState → Type 0
 Runs desks [] [] after = after ≡ desks
 Runs desks (step ∷ steps) (answer ∷ answers) after =
@@ -145,6 +145,7 @@ abbrev pub IsIdle : ℕ → List Step → List Answer → Type 0
 IsIdle d (step ∷ steps) (answer ∷ answers) = (is_change d step answer ≡ false) × IsIdle d steps answers
 IsIdle _ _ _ = Unit {0}
 
--- Then the desk with this number is what it was, with the count of messages that its latest change applied.
+-- An idle desk, one that no step changed, is what it was, with the same count of messages applied
+-- by its latest change.
 abbrev pub LeavesIdle : {X : Type 0} → List X → List Step → List Answer → List X → Type 0
 LeavesIdle old steps answers new = (d : ℕ) → IsIdle d steps answers → slice_get new d ≡ slice_get old d

@@ -30,9 +30,10 @@ use ssim_values::{Day, Flight, Memory};
 use std::alloc::Global;
 use std::marker::Model;
 
-/// What a desk holds: a base, and messages in order of reference. It takes texts and merges as a desk does. It keeps no timetable, so it
-/// takes less time and memory than a desk where no timetable is asked for, or once that of few flights: each such call makes the timetable of
-/// the flights that it needs. The export makes the whole timetable, and consumes what is held.
+/// What a desk holds: a base, and messages in order of reference. It takes texts and merges as a
+/// desk does, but keeps no timetable. It takes less time and memory than a desk if the caller never
+/// asks for a timetable, or asks once for few flights: each call makes the timetable of the flights
+/// that it needs. The export makes the whole timetable, and consumes what is held.
 ///
 /// Contracts see it as a desk whose latest change applied no message.
 #[derive(Drop)]

@@ -61,8 +61,8 @@ pub fn merging_is_free()
     ensures three { ThreeDesksMerge }
 {}
 
-/// Unless memory is refused, the messages that are held and the text, or the other desk, determine the answer and what is held
-/// afterwards.
+/// Unless memory is refused, two things determine the result and the messages held afterwards: the
+/// messages held before, and the text or the other desk.
 pub fn answers_are_determined()
     ensures takes { TakesAreDetermined }
     ensures merges { MergesAreDetermined }

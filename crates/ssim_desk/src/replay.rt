@@ -62,7 +62,8 @@ pub(crate) struct Replay {
 }
 
 impl Replay {
-    /// Nothing follows yet, after a schedule of messages that leave so many after the last multiple of 32.
+    /// Nothing follows yet. `since` is the number of the schedule's messages after the last
+    /// multiple of 32.
     pub(crate) fn after(alloc: Global, schedule: &Schedule, since: usize) -> Result<Replay, Memory>
         requires { since < 32 }
         ensures counted { IfOk result IsCounted }

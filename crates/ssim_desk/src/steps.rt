@@ -106,10 +106,10 @@ fn each_is_desk<D: Holder>(desks: &[D])
     }
 }
 
-/// Tries each step in order, whatever the earlier ones returned. Returns one answer a step.
+/// Tries each step in order, whatever the earlier ones returned. Returns one [`Answer`] a step.
 ///
-/// Out of memory is an error only if the list of answers itself cannot be allocated; then no step is tried. A step that runs out of
-/// memory is refused with 90 and changes nothing.
+/// Out of memory is an error only if the list of results itself cannot be allocated; then no step
+/// is tried. A step that runs out of memory is refused with 90 and changes nothing.
 pub fn run_steps<D: Holder>(
     alloc: Global,
     desks: &mut [D],
@@ -120,7 +120,7 @@ pub fn run_steps<D: Holder>(
     ensures runs { IfOk result (λ answers. Runs (map (λ d. state_of (D.seen d)) desks.old) steps.now answers.items (map (λ d. state_of (D.seen d)) desks.new)) }
     ensures own { All IsOwnMerge steps.now → desks.new ≡ desks.old }
 
-    // A desk of whose steps none was answered `Taken` or `Merged` is what it was, `applied` included.
+    // A desk is unchanged, `applied` included, if none of its steps returned `Taken` or `Merged`.
     ensures idle { IfOk result (λ answers. LeavesIdle desks.old steps.now answers.items desks.new) }
 
     // Any two of these desks that began alike, and that the same messages reached, have afterwards the same base, messages,
@@ -136,7 +136,8 @@ pub fn run_steps<D: Holder>(
     any_two_desks_agree();
     let mut answers = Vec::with_capacity(alloc, steps.len())?;
     for next in steps {
-        // No effect at run time. The borrow checker learns from this use which type the answers contain.
+        // No effect at run time. The borrow checker learns from this use which type the list
+        // contains.
         let _fault: Option<DeskFault> = None;
         let answer = run_step(desks, next);
         answers.push(answer).unwrap();

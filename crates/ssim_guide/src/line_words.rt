@@ -22,7 +22,8 @@ pub fn words_on_line(
     Ok(lines)
 }
 
-/// The lines on the element of a desk file that begins after so many bytes: its first line, or that the file ends there.
+/// The lines on the element of a desk file that begins at this offset: its first line, or that the
+/// file ends there.
 pub fn words_on_offset(alloc: Global, bytes: &[u8], offset: u64) -> Result<Vec<u8>, AllocError> {
     let mut lines = Vec::new(alloc);
     match rest_at(bytes, offset) {
@@ -75,7 +76,7 @@ fn first_line(bytes: &[u8]) -> &[u8] {
     }
 }
 
-/// The bytes after so many, if there are any.
+/// The bytes from this offset on, if there are any.
 fn rest_at(bytes: &[u8], offset: u64) -> Option<&[u8]> {
     if offset >= bytes.len() as u64 {
         return None;

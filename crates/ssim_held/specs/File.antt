@@ -21,7 +21,7 @@ record_line r = written r ++ 10 ∷ []
 abbrev pub row_text : Row → List ℕ
 row_text row = row.station ++ 32 ∷ (day_text row.first ++ 32 ∷ (day_text row.last ++ 32 ∷ variation_text row.variation))
 
--- the same with its LF, 26 bytes
+-- the text of a row with its LF: 26 bytes
 abbrev pub row_line : Row → List ℕ
 row_line row = row_text row ++ 10 ∷ []
 
@@ -104,6 +104,7 @@ pub record IsSavedAgain (bytes : List ℕ) (base : BaseSeen) (entries : List Ent
   pub version_2 : take 11 bytes ≡ counted (codes "SSIMDESK") 2 → desk_file base entries ≡ bytes
   pub version_1 : desk_file base entries ≡ counted (codes "SSIMDESK") 2 ++ drop 11 bytes
 
--- and so is every file that was opened
+-- A desk opened from any valid file is saved as that file's bytes, but for the version in the first
+-- line.
 abbrev pub SavesAsOpened : Type 0
 SavesAsOpened = (bytes : List ℕ) (base : BaseSeen) (entries : List Entry) → IsDeskFile bytes base entries → IsSavedAgain bytes base entries

@@ -61,7 +61,7 @@ module _ {K X : Type 0} {R : K → K → Ordering} where
     pub in_other : get n q ≡ Some other
     pub apart : one ≢ other
 
-  -- and under none that comes before it
+  -- no key before q has different values
   pub record IsLeastConflict (m n : FinMap R X) (q : K) : Type 0 where
     pub differ : DifferAt m n q
     pub least : (p : K) → DifferAt m n p → R p q ≢ Less

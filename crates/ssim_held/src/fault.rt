@@ -29,7 +29,8 @@ pub enum DeskFault {
     /// 13 or 14, with record number 0: the file was not read.
     #[error(transparent)]
     Read(RecordFault),
-    /// 62: the file is no desk file; the number is that of the bytes before its first invalid element.
+    /// 62: the file is not a desk file. The number is the count of bytes before the first invalid
+    /// element.
     #[error("the element after {0} bytes is invalid")]
     File(u64),
 }
@@ -52,7 +53,7 @@ impl DeskFault {
         }
     }
 
-    /// The name by which the fault is known. That of 62 is `DeskFile`.
+    /// The name of the fault. The name of 62 is `DeskFile`.
     pub fn name(self) -> &'static str
         ensures { result.now ≡ desk_fault_name self }
     {

@@ -13,8 +13,9 @@ pub fn no_two_desks_have_one_file()
     equal_where_written_equal();
 }
 
-/// A desk that is opened from the file of another has the same base and holds the same messages. A desk that was opened is saved as the
-/// bytes that it was opened from, but the first line of version 1 becomes that of version 2.
+/// A desk opened from another desk's file has the same base and holds the same messages. An opened
+/// desk is saved as the bytes that it was opened from, except that a first line of version 1
+/// becomes the first line of version 2.
 pub fn opened_is_saved()
     ensures opens { OpensAsSaved }
     ensures saves { SavesAsOpened }

@@ -42,7 +42,7 @@ meet-none p q days other first last own its f l none n =
     ∙ ap (λ ds. slice_index_or days (slot n) false && slice_index_or ds (slot n) false) (sym its)
     ∙ none n from to)
 
--- the test of a program is that of the definition
+-- the program's test of a day is the definition's
 pub holds-is : (p : DayRange) (n : ℕ) (b : Bool) → (IsTrue b ↔ Holds p n) → b ≡ holds p n
 holds-is p n b h =
     elim b as (λ x. b ≡ x → x ≡ holds p n) [

@@ -84,7 +84,7 @@ pub place-with_cut-after : (cuts : List ℕ) (day n : ℕ) → day ≤ n → pla
 place-with_cut-after [] day n h = grind (arith, nat_tests)
 place-with_cut-after (cut ∷ cuts) day n h = let ih = place-with_cut-after cuts day n h in grind (arith, nat_tests)
 
--- a new cut stands between the days before it and its own
+-- a new cut separates the days before it from its own day
 pub place-with_cut-at : (cuts : List ℕ) (day n : ℕ) → n < day → place (with_cut cuts day) n < place (with_cut cuts day) day
 place-with_cut-at [] day n h = grind (arith, nat_tests)
 place-with_cut-at (cut ∷ cuts) day n h = let ih = place-with_cut-at cuts day n h in grind (arith, nat_tests)

@@ -1,4 +1,4 @@
--- Gathering values from one list after another.
+-- Collecting values from one list after another.
 use Rattle.std.proofs.Common.{◌≡◌, ℕ, zero, suc, ◌+◌, ◌<◌, ◌≤◌, Bool, ◌||◌, if◌then◌else◌, List, [], ◌∷◌, ◌++◌, length, get_or, drop, map, add-one, refl, ap, sym, arith}
 use Rattle.std.specs.List.{list_any, flat_map}
 use Rattle.ssim_periods.specs.Gather.{gathered}

@@ -261,7 +261,7 @@ pushed_one pieces more x q v one same is = is ∙ ap (λ w. pieces ++ (q, w) ∷
 pub pushed_none : {V : Type 0} (pieces : List (DayRange × V)) (x : DayRange × V) → cover (holds x.0) day_count ≡ [] → pieces ≡ pieces ++ own_cover x
 pushed_none pieces x none = sym (append-nil pieces) ∙ ap (λ qs. pieces ++ map (λ (period : DayRange). (period, x.1)) qs) (sym none)
 
--- the cover of a value that only the last period has is that of the period's days
+-- if only the last period has a value, the value's cover is the cover of that period's days
 pub cover-own : {V : Type 0} (alike : V → V → Bool) → ((x y : V) → IsTrue (alike x y) ↔ (x ≡ y)) → (xs : List (DayRange × V)) (x : DayRange × V) → list_any (λ (y : DayRange × V). alike x.1 y.1) xs ≡ false → own_cover x ≡ given_cover alike (xs ++ x ∷ []) x.1
 cover-own alike exact xs x none = ap (λ is_in. map (λ (period : DayRange). (period, x.1)) (cover is_in day_count)) (fun_ext (λ n. on-own alike exact xs x n none))
 

@@ -38,7 +38,7 @@ get-known alike exact (v ∷ known) x (suc n) h = ap (λ b. alike x v || b) (get
     or-true true = refl
     or-true false = refl
 
--- a value with a number is not gathered again
+-- a value with a number is not added again
 pub gathered-numbered : {V : Type 0} (alike : V → V → Bool) (nothing : V) → ((x y : V) → IsTrue (alike x y) ↔ (x ≡ y)) → (known : List V) (x : V) (n : ℕ) → numbered nothing known n ≡ Some x → gathered alike nothing known (x ∷ []) ≡ known
 gathered-numbered alike nothing exact known x n h = ap (λ b. if b then known else known ++ x ∷ []) (get-known alike exact (nothing ∷ known) x n h)
 
@@ -47,7 +47,7 @@ get-append [] ys n x h = cc
 get-append (v ∷ xs) ys zero x h = h
 get-append (v ∷ xs) ys (suc n) x h = get-append xs ys n x h
 
--- a number keeps its value when more are gathered
+-- a number keeps its value when more values are added
 pub numbered-gathered : {V : Type 0} (alike : V → V → Bool) (nothing : V) (known values : List V) (n : ℕ) (x : V) → numbered nothing known n ≡ Some x → numbered nothing (gathered alike nothing known values) n ≡ Some x
 numbered-gathered alike nothing known [] n x h = h
 numbered-gathered alike nothing known (v ∷ values) n x h =
@@ -72,7 +72,7 @@ rows-gathered alike nothing known values more (ns ∷ numbers) (row ∷ rows) is
     ap (λ y. y ∷ map (map (numbered nothing more)) numbers) (row-gathered alike nothing known values more ns row is here)
     ∙ ap (λ ys. map Some row ∷ ys) (rows-gathered alike nothing known values more numbers rows is rest)
 
--- no value stands at two places
+-- no value is in the list twice
 abbrev pub AreDistinct : {V : Type 0} → List V → Type 0
 AreDistinct {V} values = (i j : ℕ) (x : V) → slice_get values i ≡ Some x → slice_get values j ≡ Some x → i ≡ j
 
@@ -104,7 +104,7 @@ distinct-from alike nothing exact known (v ∷ values) d =
       | false ↦ λ e. distinct-append alike exact (nothing ∷ known) v d e
     ] refl)
 
--- the gathered values are distinct, and none is empty
+-- the collected values are distinct, and none is empty
 pub gathered-distinct : {V : Type 0} (alike : V → V → Bool) (nothing : V) → ((x y : V) → IsTrue (alike x y) ↔ (x ≡ y)) → (values : List V) → AreDistinct (nothing ∷ gathered alike nothing [] values)
 gathered-distinct alike nothing exact values = distinct-from alike nothing exact [] values one
   where
@@ -146,7 +146,7 @@ pieces_with-number alike nothing exact values d k v own numbers days h =
     ap (λ is_in. map (λ (period : DayRange). (period, v)) (cover is_in (length numbers))) (fun_ext (has-number alike nothing exact values d k v own numbers days h))
     ∙ ap (λ end. map (λ (period : DayRange). (period, v)) (cover (has_value alike days v) end)) (length-same (numbered nothing values) Some numbers days h)
 
--- a day's number is that of its value
+-- the number of a day refers to the day's value
 index-numbered : {V : Type 0} (nothing : V) (values : List V) (numbers : List ℕ) (row : List V) (s : ℕ) → map (numbered nothing values) numbers ≡ map Some row → numbered nothing values (slice_index_or numbers s 0) ≡ Some (slice_index_or row s nothing)
 index-numbered nothing values [] [] s h = refl
 index-numbered nothing values [] (x ∷ row) s h = cc

@@ -1,4 +1,5 @@
--- The pieces of the gathered values, sorted, are those of the definition: both are the same pieces, and no day is held twice.
+-- The pieces of the collected values, sorted, equal the pieces of the definition: both are the same
+-- pieces, and no day is in two pieces.
 use Rattle.std.proofs.Common.{◌≡◌, ℕ, zero, suc, ◌<◌, ◌≤◌, Bool, true, false, ◌||◌, if◌then◌else◌, List, [], ◌∷◌, ◌++◌, length, slice_index_or, filter, refl, ap, subst, ◌∙◌, sym, arith, ◌⊎◌, inl, inr, IsTrue, ◌↔◌}
 use Rattle.std.specs.List.{list_any, flat_map}
 use Rattle.std.specs.List.Sorted.{IsPermutation, IsNonDecreasingBy}

@@ -11,7 +11,8 @@ use Rattle.ssim_periods.specs.Pieces.{held_on}
 abbrev pub empty_week : {V : Type 0} → V → List V
 empty_week nothing = nothing ∷ nothing ∷ nothing ∷ nothing ∷ nothing ∷ nothing ∷ nothing ∷ []
 
--- the value of a day: that of the last period of the list that holds it; `nothing` if none does
+-- the value of a day: the value of the last period in the list that holds the day, or `nothing` if
+-- no period holds it
 abbrev pub value_in : {V : Type 0} → V → List (DayRange × V) → ℕ → V
 value_in nothing [] n = nothing
 value_in nothing (given ∷ later) n = value_in (if holds given.0 n then given.1 else nothing) later n

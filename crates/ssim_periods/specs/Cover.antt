@@ -34,7 +34,8 @@ break_after is_in a end = first_where (breaks is_in (weekdays_of is_in a)) a (en
 abbrev pub period_at : (ℕ → Bool) → ℕ → ℕ → DayRange
 period_at is_in a after = record { first = a; last = last_where is_in a (after - a); days = weekdays_of is_in a }
 
--- the periods of the set's days from `from` on: that of its least day, followed by those of the days after its break; at most `count`
+-- the cover of the set's days from `from` on: the period that begins on the least such day, then
+-- the cover of the days after its break; at most `count` periods
 abbrev pub cover_from : ℕ → (ℕ → Bool) → ℕ → ℕ → List DayRange
 cover_from zero is_in from end = []
 cover_from (suc count) is_in from end =

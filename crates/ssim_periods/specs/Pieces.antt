@@ -26,6 +26,7 @@ abbrev pub insert_by_first : {V : Type 0} → DayRange × V → List (DayRange �
 insert_by_first p [] = p ∷ []
 insert_by_first p (q ∷ pieces) = if nat_lt p.0.first q.0.first then p ∷ q ∷ pieces else q ∷ insert_by_first p pieces
 
+-- the pieces in order of their first day
 abbrev pub sort_by_first : {V : Type 0} → List (DayRange × V) → List (DayRange × V)
 sort_by_first [] = []
 sort_by_first (p ∷ pieces) = insert_by_first p (sort_by_first pieces)

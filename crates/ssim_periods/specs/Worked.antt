@@ -7,24 +7,31 @@ use Rattle.ssim_periods.specs.Cover.{cover, holding}
 use Rattle.ssim_periods.specs.Gather.{gathered, numbered}
 use Rattle.ssim_periods.specs.Pieces.{pieces_of, held_on}
 
+-- all seven weekdays
 abbrev pub daily : List Bool
 daily = true ∷ true ∷ true ∷ true ∷ true ∷ true ∷ true ∷ []
 
+-- Monday alone
 abbrev pub mondays : List Bool
 mondays = true ∷ false ∷ false ∷ false ∷ false ∷ false ∷ false ∷ []
 
+-- all weekdays but Monday
 abbrev pub no_mondays : List Bool
 no_mondays = false ∷ true ∷ true ∷ true ∷ true ∷ true ∷ true ∷ []
 
+-- Tuesday alone
 abbrev pub tuesdays : List Bool
 tuesdays = false ∷ true ∷ false ∷ false ∷ false ∷ false ∷ false ∷ []
 
+-- all weekdays but Tuesday
 abbrev pub no_tuesdays : List Bool
 no_tuesdays = true ∷ false ∷ true ∷ true ∷ true ∷ true ∷ true ∷ []
 
+-- Saturday and Sunday
 abbrev pub weekends : List Bool
 weekends = false ∷ false ∷ false ∷ false ∷ false ∷ true ∷ true ∷ []
 
+-- the period from a first to a last day on some weekdays
 abbrev pub on_days : ℕ → ℕ → List Bool → DayRange
 on_days first last days = record { first = first; last = last; days = days }
 
@@ -32,6 +39,7 @@ on_days first last days = record { first = first; last = last; days = days }
 abbrev pub with_value : DayRange → ℕ → List ℕ → List ℕ
 with_value period v = changed_on (holds period) (λ _. v) 0
 
+-- a list of 40 days without a value
 abbrev pub no_values : List ℕ
 no_values = replicate 40 0
 
@@ -55,6 +63,7 @@ with_gap n = nat_lt n 12 || (nat_le 14 n && nat_lt n 16)
 abbrev pub no_eighth_days : ℕ → Bool
 no_eighth_days n = nat_lt n 24 && not (nat_eq (n % 8) 7)
 
+-- the pieces of the example after one change on its Mondays
 pub record WorkedPieces : Type 0 where
   -- of the days of the changed period, the three Mondays had the value 8 and are counted
   pub counts : counts_on (holds (on_days 9 23 mondays)) (λ v. if nat_eq v 7 then 1 else 0) season ≡ 3 ∷ 0 ∷ 0 ∷ 0 ∷ 0 ∷ []

@@ -31,7 +31,8 @@ pub(crate) fn unlike_in_row<V: Value>(
     to
 }
 
-// The last day of a range whose weekday is one of `days`; that of the first day is one.
+// The last day of a range whose weekday is one of `days`. The weekday of the first day is one of
+// them.
 pub(crate) fn last_in(days: &[bool; 7], first: u32, after: u32) -> u32
     requires ordered { first < after }
     requires own { slice_index_or days.now (slot first) false ≡ true }

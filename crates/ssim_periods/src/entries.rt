@@ -13,7 +13,7 @@ use crate::{Change, Value};
 use ssim_values::{Day, Memory, Period};
 use std::alloc::Global;
 
-// The value of a day: that of the last period that holds it, or the empty value.
+// The value of a day: the value of the last period that holds it, or the empty value.
 pub(crate) fn value_at<'a, V: Value>(entries: &'a [(Period, V)], empty: &'a V, day: Day) -> &'a V
     ensures { result.now ≡ value_in empty.now entries.now day }
 {

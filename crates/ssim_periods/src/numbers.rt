@@ -54,7 +54,7 @@ impl Value for ValueNumber {
 
 const NONE: ValueNumber = ValueNumber { number: 0 };
 
-// Whether a number is that of a value which is not empty.
+// Whether a number refers to a value that is not empty.
 fn is_number_of<V: Value>(values: &[&V], number: ValueNumber, value: &V) -> bool
     ensures { IsTrue result → numbered V.nothing (map (λ other. other.now) values.now) number ≡ Some value.now }
 {

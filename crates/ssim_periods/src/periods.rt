@@ -63,9 +63,11 @@ impl<V: Value> Periods<V> {
     /// Replaces the value of each day of the period by the outcome of the change, and keeps the value of each other day. Returns for each
     /// class the number of days of the period whose old value is of that class.
     ///
-    /// All new values are computed, and all memory is reserved, before the first value is replaced: after an error nothing has changed.
-    /// While the days of each period that is given a value had none before, the cost is that of one new value, and of comparing the
-    /// period with the earlier ones. Otherwise it is that of the ranges that the period touches, and of moving the later ranges.
+    /// All new values are computed, and all memory is reserved, before the first value is replaced:
+    /// after an error nothing has changed. If no day of a period had a value before, applying a
+    /// change costs one new value and the comparison of the period with the earlier ones. Otherwise
+    /// the cost grows with the ranges that the period touches and with the later ranges, which are
+    /// moved.
     pub fn apply<C: Change<V>>(&mut self, period: &Period, change: &C) -> Result<[u32; 5], Memory>
         ensures days { OnOk result (self.new.days ≡ changed_on (holds period.now) (C.outcome change.now) 0 self.old.days) }
         ensures counts { IfOk result (λ counts. counts ≡ counts_on (holds period.now) (C.class_of change.now) self.old.days) }

@@ -77,8 +77,9 @@ impl<V: Value> RangeRows<V> {
     /// Replaces the value of each day of the period by the outcome of the change, and keeps the value of each other day. Returns for each
     /// class the number of days of the period whose old value is of that class.
     ///
-    /// All new values are computed, and all memory is reserved, before the first value is replaced: after an error nothing has changed.
-    /// The cost is that of the ranges that the period touches, and of moving the later ranges.
+    /// All new values are computed, and all memory is reserved, before the first value is replaced:
+    /// after an error nothing has changed. The cost grows with the ranges that the period touches
+    /// and with the later ranges, which are moved.
     pub(crate) fn apply<C: Change<V>>(
         &mut self,
         period: &Period,

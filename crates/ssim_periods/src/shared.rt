@@ -60,7 +60,8 @@ fn shared_row<V: Value>(alloc: Global, latest: &[V; 7], row: &[V; 7]) -> Result<
     ])
 }
 
-// The value of a weekday: that of the row before, or of an earlier weekday, if it is the same.
+// The equal value to share for a weekday: from the row before, or from an earlier weekday of this
+// row; else the value itself.
 fn source<'a, V: Value>(latest: &'a [V; 7], row: &'a [V; 7], weekday: usize) -> &'a V
     requires { weekday < 7 }
     ensures { result.now ≡ slice_index_or row.now weekday result.now }

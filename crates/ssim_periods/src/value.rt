@@ -11,7 +11,7 @@ pub trait Value: Drop {
     /// Whether two values are the same.
     ghost alike: { Self → Self → Bool };
 
-    /// The empty value, which is that of a day without another one.
+    /// The empty value: the value of a day that has no other.
     fn empty() -> Self
         ensures { result ≡ nothing };
 

@@ -40,7 +40,7 @@ fn devices_that_fail(rt: HostRuntime) {
     assert_eq!(rt; refusal(alloc, &mut in_pieces(&a, 1, 301), 804), (13, 2));
 }
 
-/// A writer that takes so many bytes at a time, and 1,000 in all.
+/// A writer that takes a limited number of bytes at a time, and 1,000 in all.
 #[derive(Drop)]
 struct Limited {
     bytes: [u8; 1000],

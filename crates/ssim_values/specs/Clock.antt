@@ -19,6 +19,7 @@ minutes_to limit (Some h) (Some m) = if nat_lt m 60 && nat_le (h * 60 + m) limit
 minutes_to limit (Some h) None = None
 minutes_to limit None minutes = None
 
+-- the minutes of a text of four digits, hours and then minutes, if the sum is at most the limit
 abbrev pub hours_and_minutes : ℕ → List ℕ → Option ℕ
 hours_and_minutes limit (h₁ ∷ h₂ ∷ m₁ ∷ m₂ ∷ []) = minutes_to limit (two_digits_of h₁ h₂) (two_digits_of m₁ m₂)
 hours_and_minutes limit _ = None

@@ -5,6 +5,7 @@ use Rattle.std.specs.Str.{bytes_eq}
 use Rattle.ssim_values.specs.Calendar.{IsDate, is_date, day_number, year_of, month_of, day_of_month}
 use Rattle.ssim_values.specs.Characters.{two_digits, two_digits_of}
 
+-- the three letters of each month, from January to December
 abbrev pub month_names : List (List ℕ)
 month_names =
     codes "JAN" ∷ codes "FEB" ∷ codes "MAR" ∷ codes "APR" ∷ codes "MAY" ∷ codes "JUN" ∷ codes "JUL" ∷ codes "AUG"
@@ -18,7 +19,7 @@ month_name m = slice_index_or month_names (m - 1) []
 abbrev pub date_text : ℕ → ℕ → ℕ → List ℕ
 date_text y m d = two_digits d ++ month_name m ++ two_digits (y - 2000)
 
--- the text is that of the date with this day number
+-- the text spells the date with this day number, as 01JAN26
 pub record SpellsDay (n : ℕ) (text : List ℕ) : Type 0 where
   pub year : ℕ
   pub month : ℕ

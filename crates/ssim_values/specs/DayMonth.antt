@@ -9,16 +9,18 @@ pub record MonthDay : Type 0 where
   pub month : ℕ
   pub day : ℕ
 
+-- the text of a day and month, as 01JAN
 abbrev pub month_day_text : MonthDay → List ℕ
 month_day_text x = two_digits x.day ++ month_name x.month
 
--- the text is that of a day that some year has
+-- the text spells a day and month that exist in some year
 pub record SpellsDayMonth (x : MonthDay) (text : List ℕ) : Type 0 where
   pub is_date : IsDayMonth x.month x.day
   pub spelled : text ≡ month_day_text x
 
 -- ---- the same as a function
 
+-- the day and month, if the month has that day in a leap year
 abbrev pub month_day : Option ℕ → Option ℕ → Option MonthDay
 month_day (Some m) (Some d) =
     if (nat_le 1 m && nat_le m 12) && (nat_le 1 d && nat_le d (month_length 2000 m))

@@ -7,15 +7,18 @@ pub record Offset : Type 0 where
   pub negative : Bool
   pub minutes : ℕ
 
+-- the text of a UTC variation: a sign and four digits, as +0100
 abbrev pub variation_text : Offset → List ℕ
 variation_text v = (if v.negative then 45 else 43) ∷ clock_text v.minutes
 
+-- the text spells the UTC variation, which is at most 15 hours
 pub record SpellsVariation (v : Offset) (text : List ℕ) : Type 0 where
   pub to : v.minutes ≤ 900
   pub spelled : text ≡ variation_text v
 
 -- ---- the same as a function
 
+-- the UTC variation with this sign, if there are minutes
 abbrev pub signed : Bool → Option ℕ → Option Offset
 signed negative None = None
 signed negative (Some m) = Some (record { negative = negative; minutes = m })

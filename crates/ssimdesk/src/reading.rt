@@ -14,7 +14,7 @@ const PART: usize = 1_048_576;
 /// The bytes that a block is filled with at a time.
 const CHUNK: usize = 4_096;
 
-/// So many of them are more than a part of a file.
+/// This number of chunks is larger than a part of a file.
 const CHUNKS: usize = 270;
 
 /// Reads bytes after those that are there, through `chunk`, until there are `most` of them or the reader ends.

@@ -1,4 +1,4 @@
--- The numbers of the first row stay those of its values when the other rows' are gathered.
+-- The values of the first row keep their numbers when the values of the other rows are added.
 use Rattle.std.proofs.Common.{◌≡◌, [], Some, List, ℕ, map, ap, subst, sym, ◌∙◌}
 use Rattle.std.specs.List.{flat_map}
 use Rattle.ssim_periods.specs.Days.{each_day}

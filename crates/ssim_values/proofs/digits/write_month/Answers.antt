@@ -1,4 +1,4 @@
--- The name stands among the others.
+-- The name is one of the list of names.
 use Rattle.ssim_values.proofs.MonthNames.{name_at}
 use Rattle.ssim_values.proofs.digits.write_month.Goals as goal
 

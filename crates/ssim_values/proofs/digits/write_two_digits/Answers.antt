@@ -1,4 +1,4 @@
--- The two digits stand in the table.
+-- The table has the two digits.
 use Rattle.ssim_values.proofs.Pairs.{digits_at}
 use Rattle.ssim_values.proofs.digits.write_two_digits.Goals as goal
 

@@ -6,7 +6,7 @@ use Rattle.ssim_periods.proofs.DayLemmas.{get-each_day}
 use Rattle.ssim_periods.proofs.RowLemmas.{row_on-place, value_on-at}
 use Rattle.ssim_periods.proofs.range_rows.RangeRows.at.Goals as goal
 
--- the value found in a row is that of the list of days
+-- the value found in a row is the value in the list of days
 seen : {V : Type 0} (s : Seen V) (e : V) (row : List V) (cuts : List ℕ) (rows : List (List V)) (day n : ℕ) (found : List V) (x : V) → each_day (value_on e row cuts rows) ≡ s.days → AreRows row cuts rows → n ≡ day → n < 36525 → row_on row cuts rows n ≡ found → x ≡ slice_index_or found (slot n) x → slice_get s.days day ≡ Some (slice_index_or found (slot n) x)
 seen s e row cuts rows day n found x view inv same lt f is =
     ap (λ l. slice_get l day) (sym view) ∙ ap (λ d. slice_get (each_day (value_on e row cuts rows)) d) (sym same)

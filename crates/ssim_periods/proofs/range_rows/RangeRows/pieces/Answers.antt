@@ -1,4 +1,4 @@
--- The covers of the gathered values, sorted, are the pieces of the definition.
+-- The covers of the collected values, sorted, are the pieces of the definition.
 use Rattle.std.proofs.Common.{◌≡◌, ◌+◌, ◌<◌, List, ℕ, Some, [], ◌∷◌, ◌++◌, append-nil, length, map, drop, append_assoc, refl, ap, subst, sym, ◌∙◌, arith, rules}
 use Rattle.std.specs.List.{flat_map}
 use Rattle.std.proofs.lemmas.List.Sorted.{IsNonDecreasingBy-from_sort_by_key}
