@@ -1,4 +1,5 @@
--- A time and a variation are read from exactly the texts that spell them: their hours and minutes are two digits each.
+-- A time and a variation are read from exactly the texts that spell them: their hours and minutes
+-- are two digits each.
 use Rattle.std.proofs.Common.{◌≡◌, ℕ, ◌+◌, ◌*◌, ◌/◌, ◌%◌, ◌<◌, ◌≤◌, Bool, true, false, ◌&&◌, ◌==◌, nat_lt, nat_le, if◌then◌else◌, List, [], ◌∷◌, refl, ap, ◌∙◌, arith, Option, Some, None}
 use Rattle.std.proofs.lemmas.Bool.Decides.{nat_tests}
 use Rattle.ssim_values.specs.Characters.{two_digits_of}

@@ -1,4 +1,5 @@
--- A day is read from exactly the texts that spell it: the parts of a text, read one by one, are the parts of its date.
+-- A day is read from exactly the texts that spell it: the parts of a text, read one by one, are the
+-- parts of its date.
 use Rattle.std.proofs.Common.{◌≡◌, ℕ, ◌+◌, ◌-◌, ◌/◌, ◌%◌, ◌<◌, Bool, true, false, if◌then◌else◌, List, [], ◌∷◌, ◌++◌, length, refl, sym, ap, ◌∙◌, arith, Option, Some, None}
 use Rattle.std.proofs.lemmas.Bool.Decides.{nat_tests}
 use Rattle.ssim_values.specs.Calendar.{IsDate, is_date, day_number, day_limit, year_of, month_of, day_of_month}

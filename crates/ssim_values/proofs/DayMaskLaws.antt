@@ -1,4 +1,5 @@
--- Days of operation are read from exactly the texts that spell them: the digits of the text decide the days.
+-- Days of operation are read from exactly the texts that spell them: the digits of the text decide
+-- the days.
 use Rattle.std.proofs.Common.{◌≡◌, ℕ, ◌+◌, ◌<◌, ◌≤◌, Bool, true, false, ◌&&◌, nat_le, if◌then◌else◌, List, [], ◌∷◌, length, refl, sym, ap, ◌∙◌, arith, Some, None}
 use Rattle.std.specs.Str.{bytes_eq}
 use Rattle.std.proofs.lemmas.Bool.Decides.{nat_tests}

@@ -1,4 +1,5 @@
--- Where the airline of a designator ends: its third character is a letter, or the digits of the flight begin there.
+-- Where the airline of a designator ends: its third character is a letter, or the digits of the
+-- flight begin there.
 use Rattle.std.proofs.Common.{◌≡◌, ℕ, ◌-◌, ◌≤◌, Bool, true, false, IsTrue, List, [], ◌∷◌, ◌++◌, length, refl, sym, ap, ◌∙◌, arith, length-append, slice_index, get_or, take, drop, subst}
 use Rattle.std.proofs.lemmas.List.{length-take, take_rest}
 use Rattle.std.proofs.lemmas.Bool.Decides.{nat_tests}

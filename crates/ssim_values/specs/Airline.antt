@@ -13,6 +13,6 @@ is_airline t =
     is_station t
     || ((length t == 3) && (is_pair (slice_index t 0) (slice_index t 1) && (slice_index t 2 == 32)))
 
--- the two or three characters of the three columns, as messages have them
+-- an airline's two or three characters without the blank, as messages have them
 abbrev pub airline_text : List ℕ → List ℕ
 airline_text columns = if slice_index columns 2 == 32 then take 2 columns else columns

@@ -6,14 +6,14 @@ use Rattle.ssim_values.specs.Characters.{two_digits, two_digits_of}
 abbrev pub clock_text : ℕ → List ℕ
 clock_text minutes = two_digits (minutes / 60) ++ two_digits (minutes % 60)
 
--- 0000 to 2359, or 2400
+-- the text spells the time of day, from 0000 to 2359, or 2400
 pub record SpellsClock (minutes : ℕ) (text : List ℕ) : Type 0 where
   pub to : minutes ≤ 1440
   pub spelled : text ≡ clock_text minutes
 
 -- ---- the same as a function
 
--- hours and minutes up to a limit
+-- the minutes of hours and minutes, if both are there and the sum is at most the limit
 abbrev pub minutes_to : ℕ → Option ℕ → Option ℕ → Option ℕ
 minutes_to limit (Some h) (Some m) = if nat_lt m 60 && nat_le (h * 60 + m) limit then Some (h * 60 + m) else None
 minutes_to limit (Some h) None = None

@@ -15,7 +15,7 @@ month_names =
 abbrev pub month_name : ℕ → List ℕ
 month_name m = slice_index_or month_names (m - 1) []
 
--- DDMMMYY
+-- the text of a year, month and day, as 01JAN26
 abbrev pub date_text : ℕ → ℕ → ℕ → List ℕ
 date_text y m d = two_digits d ++ month_name m ++ two_digits (y - 2000)
 
@@ -34,7 +34,7 @@ pub record SpellsDay (n : ℕ) (text : List ℕ) : Type 0 where
 abbrev pub month_named : List ℕ → Option ℕ
 month_named name = option_map (λ i. i + 1) (position (bytes_eq name) month_names)
 
--- the number of a date, if the calendar has it; a part that is not there spells none
+-- the number of a date, if all three parts are there and the calendar has the date
 abbrev pub date_number : Option ℕ → Option ℕ → Option ℕ → Option ℕ
 date_number (Some y) (Some m) (Some d) =
     if is_date (2000 + y) m d then Some (day_number (2000 + y) m d) else None

@@ -1,4 +1,5 @@
--- What holds of each spelling as a function: it reads exactly what its relation spells, and reads back each written text.
+-- What holds of each spelling as a function: it reads exactly what its relation spells, and reads
+-- back each written text.
 use Rattle.std.specs.Prelude.{◌≡◌, ◌↔◌, ℕ, ◌<◌, ◌≤◌, Bool, List, Option, Some}
 use Rattle.ssim_values.specs.Calendar.{day_limit, IsDayMonth}
 use Rattle.ssim_values.specs.Day.{SpellsDay, day_of, day_text}
@@ -19,7 +20,7 @@ DaysAreRead = Reads day_of SpellsDay
 abbrev pub DaysReadBack : Type 0
 DaysReadBack = (n : ℕ) → n < day_limit → day_of (day_text n) ≡ Some n
 
--- a day has one text
+-- Each day has only one text.
 abbrev pub DaysHaveOneText : Type 0
 DaysHaveOneText = (n : ℕ) (text : List ℕ) → day_of text ≡ Some n → text ≡ day_text n
 
@@ -35,7 +36,7 @@ DayMonthsReadBack = (x : MonthDay) → IsDayMonth x.month x.day → month_day_of
 abbrev pub DayMasksAreRead : Type 0
 DayMasksAreRead = Reads days_of SpellsDays
 
--- Both texts of days of operation read back as the same days.
+-- Each of the two texts of days of operation reads back as the same days.
 abbrev pub DayMasksReadBack : Type 0
 DayMasksReadBack = (days : List Bool) → IsMask days → (days_of (places_of days) ≡ Some days) × (days_of (digits_of days) ≡ Some days)
 

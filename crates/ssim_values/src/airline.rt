@@ -5,8 +5,8 @@ use crate::Fault;
 use std::fmt;
 use std::marker::Model;
 
-/// An airline designator in the three columns of a record: two letters or digits, not both digits, and a blank, or
-/// three letters. It is displayed without the blank, as messages have it.
+/// An airline designator in the three columns of a record: two letters or digits, not both digits,
+/// and a blank, or three letters. It is displayed without the blank, as messages have it.
 #[derive(Clone, Copy, Debug, PartialEq, Eq, PartialOrd, Ord, Hash)]
 pub struct Airline {
     columns: [u8; 3],

@@ -6,7 +6,8 @@ use crate::{Airline, Fault, Flight};
 use arrayvec::ArrayVec;
 use std::fmt;
 
-/// A flight designator: an airline's flight, as `LX544`. It is displayed as [`Designator::write`] writes it.
+/// A flight designator: an airline's flight, as `LX544`. It is displayed as [`Designator::write`]
+/// writes it.
 #[derive(Clone, Copy, Debug, PartialEq, Eq, PartialOrd, Ord, Hash)]
 pub struct Designator {
     pub airline: Airline,
@@ -17,8 +18,9 @@ impl Designator {
     ghost use Rattle.ssim_values.specs.Designator.{SpellsDesignator, designator_text};
     ghost use Rattle.ssim_values.specs.declared.designator.Designator.{Designator};
 
-    /// Reads an airline, without the blank of its third column, and a flight. Any other text is 6 `BadDesignator`.
-    /// The airline has three letters if the third byte is a letter, else two characters.
+    /// Reads an airline, without the blank of its third column, and a flight. Any other text is 6
+    /// `BadDesignator`. The airline has three letters if the third byte is a letter, else two
+    /// characters.
     pub fn parse(text: &[u8]) -> Result<Designator, Fault>
         ensures accepts { IsOk result ↔ ((d : Designator) × SpellsDesignator d text.now) }
         ensures value { IfOk result (λ d. SpellsDesignator d text.now) }
@@ -36,7 +38,8 @@ impl Designator {
         }
     }
 
-    /// Writes the airline's two or three characters, at least three digits, and the suffix if there is one.
+    /// Writes the airline's two or three characters, at least three digits, and the suffix if there
+    /// is one.
     pub fn write(self) -> ArrayVec<u8, 8>
         ensures value { result.items ≡ designator_text self }
         ensures spells { SpellsDesignator self result.items }

@@ -1,7 +1,8 @@
 //! Laws of the spellings, for the proofs of other crates.
 ghost use Rattle.ssim_values.specs.Spellings.{DaysAreRead, DaysReadBack, DaysHaveOneText, DayMonthsAreRead, DayMonthsReadBack, DayMasksAreRead, DayMasksReadBack, ClocksAreRead, ClocksReadBack, VariationsAreRead, VariationsReadBack};
 
-/// A day, a day of a month, days of operation, a time and a variation are read from exactly the texts that spell them.
+/// A day, a day of a month, days of operation, a time and a variation are read from exactly the
+/// texts that spell them.
 pub fn spellings_are_read()
     ensures days { DaysAreRead }
     ensures day_months { DayMonthsAreRead }

@@ -5,7 +5,8 @@ use crate::Fault;
 use std::fmt;
 use std::marker::Model;
 
-/// A station: the three letters of an airport or a city, as `ZRH`. It is displayed as these letters.
+/// A station: the three letters of an airport or a city, as `ZRH`. It is displayed as these
+/// letters.
 #[derive(Clone, Copy, Debug, PartialEq, Eq, PartialOrd, Ord, Hash)]
 pub struct Station {
     letters: [u8; 3],

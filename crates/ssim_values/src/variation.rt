@@ -5,8 +5,8 @@ use crate::Fault;
 use crate::clock::{read_clock, write_clock};
 use std::marker::Model;
 
-/// A UTC variation: how far the local time of a station is ahead of UTC, in minutes. The sign is kept as written, so
-/// `-0000` and `+0000` differ.
+/// A UTC variation: how far the local time of a station is ahead of UTC, in minutes. The sign is
+/// kept as written, so `-0000` and `+0000` differ.
 #[derive(Clone, Copy, Debug, PartialEq, Eq, Hash)]
 pub struct Variation {
     negative: bool,

@@ -1,4 +1,5 @@
--- The characters of the airline and the text of the flight are the designator's text, which spells it alone.
+-- The characters of the airline and the text of the flight are the designator's text, which spells
+-- it alone.
 use Rattle.std.proofs.Common.{◌∙◌, refl}
 use Rattle.ssim_values.proofs.DesignatorLemmas.{SpellsDesignator-unique}
 use Rattle.ssim_values.proofs.designator.Designator.write.Goals as goal
