@@ -1,4 +1,5 @@
--- Each day of a set is in exactly one period of its cover: by recursion over the periods, a day before the first, before its break, or after it.
+-- Each day of a set is in exactly one period of its cover: by recursion over the periods, a day
+-- before the first, before its break, or after it.
 use Rattle.std.proofs.Common.{◌≡◌, ℕ, zero, suc, ◌-◌, ◌<◌, ◌≤◌, Bool, true, false, ◌&&◌, if◌then◌else◌, nat_lt, nat_le, [], ◌∷◌, slice_index_or, refl, ap, ◌∙◌, sym, arith, inl, inr}
 use Rattle.std.proofs.lemmas.Bool.Decides.{nat_tests}
 use Rattle.ssim_periods.specs.Calendar.{slot, holds}

@@ -118,7 +118,8 @@ same-differ false false h = refl
 same-differ true false h = h
 same-differ false true h = sym h
 
--- the break lies after the first day and not after the end, and each day before it is in the set exactly if its weekday is in the mask
+-- the break lies after the first day and not after the end, and each day before it is in the set
+-- exactly if its weekday is in the mask
 pub break_after-is : (is_in : ℕ → Bool) (a end : ℕ) → a < end →
     (a < break_after is_in a end) × (break_after is_in a end ≤ end) × ((m : ℕ) → a ≤ m → m < break_after is_in a end → is_in m ≡ slice_index_or (weekdays_of is_in a) (slot m) false)
 break_after-is is_in a end h =

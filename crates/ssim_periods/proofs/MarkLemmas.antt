@@ -73,7 +73,8 @@ under x y n day h = grind (arith, nat_tests)
 over : {X : Type 0} (x y : X) (n day : ℕ) → day ≤ n → (if nat_lt n day then x else y) ≡ y
 over x y n day h = grind (arith, nat_tests)
 
--- a row of marks from its first day on, and the old last row from the day after its last on, mark its days
+-- a row of marks from its first day on, and the old last row from the day after its last on, mark
+-- its days
 pub values-appended : (before : List ℕ) (cuts c1 c2 : List ℕ) (rows r1 r2 : List (List ℕ)) (first last : ℕ) (mask : List Bool) (old marked : List ℕ) (n : ℕ) → length rows ≡ length cuts → All (λ cut. cut ≤ first) cuts → first ≤ last
     → old ≡ slice_index_or (before ∷ rows) (length rows) [] → ((s : ℕ) → s < 7 → slice_index_or marked s 0 ≡ (if slice_index_or mask s false then 1 else slice_index_or old s 0))
     → row_on before c1 r1 n ≡ (if nat_lt n first then row_on before cuts rows n else marked) → row_on before c2 r2 n ≡ (if nat_lt n (last + 1) then row_on before c1 r1 n else old)

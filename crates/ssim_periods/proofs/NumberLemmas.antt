@@ -1,4 +1,5 @@
--- Numbers in place of values: they stay those of their values when more are known, and two are equal where their values are.
+-- Numbers in place of values: they stay those of their values when more are known, and two are
+-- equal where their values are.
 use Rattle.std.proofs.Common.{◌≡◌, ℕ, zero, suc, ◌+◌, ◌<◌, Bool, true, false, ◌||◌, if◌then◌else◌, nat_eq, nat_lt, Option, Some, List, [], ◌∷◌, ◌++◌, map, length, slice_get, slice_index_or, refl, ap, ◌∙◌, sym, arith, ◌⊎◌, inl, inr, IsTrue, ◌↔◌, eqb-true, eq-eqb, option_map, length-append, drop, take, slice_set}
 use Rattle.std.specs.List.{All, list_any, range_with_len}
 use Rattle.std.proofs.Math.Path.{fun_ext}

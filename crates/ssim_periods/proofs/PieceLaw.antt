@@ -1,4 +1,5 @@
--- On each day exactly one piece holds: exactly one of the distinct values is the day's, its cover holds the day once, and a sort moves pieces only.
+-- On each day exactly one piece holds: exactly one of the distinct values is the day's, its cover
+-- holds the day once, and a sort moves pieces only.
 use Rattle.std.proofs.Common.{◌≡◌, ℕ, zero, suc, ◌-◌, ◌<◌, ◌≤◌, Bool, true, false, ◌||◌, if◌then◌else◌, nat_lt, List, [], ◌∷◌, ◌++◌, map, length, slice_index_or, filter, replicate, refl, ap, subst, ◌∙◌, sym, arith, ◌⊎◌, inl, inr, IsTrue, ◌↔◌}
 use Rattle.std.specs.List.{All, list_any, flat_map}
 use Rattle.std.proofs.lemmas.Bool.Decides.{nat_tests}

@@ -18,7 +18,7 @@ use Rattle.ssim_periods.proofs.CoverLemmas.{le_or_lt}
 use Rattle.ssim_periods.proofs.PieceLaw.{alike-self, alike-turned, has_value-at, has_value-past, held_on-with, held_on-all, held_on-sort, values_of-once, none_alike, some_alike, filter-same, filter-none, is-among, alone-short, Every, Every-sort, All-every, Begins, pieces_with-begins}
 use Rattle.ssim_periods.proofs.PieceOrder.{In, same-pieces, rises-from, sort-ascends, sort-in, in-sort, ascends-from, held-moved, in-moved, every-all}
 
--- each value that is gathered is so once
+-- each collected value is collected once
 gathered-kept : {V : Type 0} (alike : V → V → Bool) (nothing : V) → ((x y : V) → IsTrue (alike x y) ↔ (x ≡ y)) → (x : V) (known values : List V) → filter (λ v. alike v x) known ≡ x ∷ [] → filter (λ v. alike v x) (gathered alike nothing known values) ≡ x ∷ []
 gathered-kept alike nothing exact x known [] h = h
 gathered-kept {V} alike nothing exact x known (v ∷ values) h =

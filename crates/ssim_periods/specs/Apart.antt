@@ -21,7 +21,8 @@ value_in nothing (given ∷ later) n = value_in (if holds given.0 n then given.1
 abbrev pub AreDivided : {V : Type 0} → List ℕ → List (DayRange × V) → Type 0
 AreDivided cuts periods = All (λ given. Contains cuts given.0.first × Contains cuts (given.0.last + 1)) periods
 
--- no day is held twice, no value is empty, and the cuts rise to at most 36,525 and have the ends of each period
+-- no day is held twice, no value is empty, and the cuts rise to at most 36,525 and have the ends of
+-- each period
 pub record AreApart {V : Type 0} (nothing : V) (periods : List (DayRange × V)) (cuts : List ℕ) : Type 0 where
   pub once : (n : ℕ) → length (held_on periods n) ≤ 1
   pub given : All (λ (given : DayRange × V). given.1 ≢ nothing) periods

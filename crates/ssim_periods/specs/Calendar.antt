@@ -3,11 +3,12 @@ use Rattle.std.specs.Prelude.{ℕ, ◌+◌, ◌%◌, Bool, false, ◌&&◌, nat_
 use Rattle.ssim_values.specs.Calendar.{day_limit}
 use Rattle.ssim_values.specs.Period.{DayRange}
 
--- how many days the calendar has. Opaque, so that a list of one value per day is never written out
+-- the number of days of the calendar; opaque, so that a list of one value per day is never written
+-- out
 unfoldable pub day_count : ℕ
 day_count = day_limit
 
--- the place of a day's weekday among the seven, from 0 for Monday to 6 for Sunday
+-- the index of a day's weekday, from 0 for Monday to 6 for Sunday
 abbrev pub slot : ℕ → ℕ
 slot n = (n + 5) % 7
 

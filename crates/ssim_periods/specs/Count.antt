@@ -3,11 +3,12 @@ use Rattle.ssim_periods.specs.Calendar.{slot}
 use Rattle.ssim_periods.specs.Rows.{value_on}
 use Rattle.std.specs.Prelude.{[], ◌∷◌, nat_le, nat_lt, ℕ, zero, suc, ◌+◌, ◌-◌, ◌/◌, ◌%◌, Bool, false, ◌&&◌, nat_eq, List, slice_index_or, if◌then◌else◌}
 
--- how many days before x have the weekday at this place
+-- how many days before x have the weekday with this index
 abbrev pub below : ℕ → ℕ → ℕ
 below w x = (x + 6 - (w + 2) % 7) / 7
 
--- the weekdays of a mask that have a day from `from` to before `to`; w is the first one's place
+-- the weekdays of a mask that have a day from `from` to before `to`; w is the index of the first
+-- weekday
 abbrev pub with_days : ℕ → List Bool → ℕ → ℕ → List Bool
 with_days w [] from to = []
 with_days w (on ∷ mask) from to = (on && nat_lt (below w from) (below w to)) ∷ with_days (w + 1) mask from to
@@ -22,7 +23,7 @@ abbrev pub weigh : (ℕ → Bool) → ℕ → ℕ → ℕ
 weigh t zero x = 0
 weigh t (suc w) x = weigh t w x + (if t w then below w x else 0)
 
--- whether the weekday at place w is in the mask and its value in the row is of class k
+-- whether weekday w is in the mask and its value in the row is of class k
 abbrev pub is_counted : {V : Type 0} → V → List Bool → (V → ℕ) → List V → ℕ → ℕ → Bool
 is_counted nothing mask class row k w = slice_index_or mask w false && nat_eq (class (slice_index_or row w nothing)) k
 

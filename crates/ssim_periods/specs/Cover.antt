@@ -1,19 +1,20 @@
--- The canonical division of a set of days into periods. A set is a test on days that none from day `end` on passes.
+-- The canonical division of a set of days into periods. A set is a test on days that none from day
+-- `end` on passes.
 use Rattle.std.specs.Prelude.{◌≡◌, ℕ, zero, suc, ◌+◌, ◌-◌, ◌%◌, ◌≤◌, Bool, true, false, not, if◌then◌else◌, nat_lt, List, [], ◌∷◌, map, slice_index_or}
 use Rattle.ssim_values.specs.Period.{DayRange}
 use Rattle.ssim_periods.specs.Calendar.{slot, holds}
 
--- the first of the k days from n on that passes; n + k where none does
+-- the first of the k days from n on that passes; n + k if none does
 abbrev pub first_where : (ℕ → Bool) → ℕ → ℕ → ℕ
 first_where test n zero = n
 first_where test n (suc k) = if test n then n else first_where test (n + 1) k
 
--- the last of the k days from n on that passes; n where none does
+-- the last of the k days from n on that passes; n if none does
 abbrev pub last_where : (ℕ → Bool) → ℕ → ℕ → ℕ
 last_where test n zero = n
 last_where test n (suc k) = if test (n + k) then n + k else last_where test n k
 
--- which weekdays, Monday first, the set's days from a to a + 6 have
+-- the weekdays, Monday first, of the set's days from a to a + 6
 abbrev pub weekdays_of : (ℕ → Bool) → ℕ → List Bool
 weekdays_of is_in a = map (λ weekday. is_in (a + (weekday + 7 - slot a) % 7)) (0 ∷ 1 ∷ 2 ∷ 3 ∷ 4 ∷ 5 ∷ 6 ∷ [])
 
@@ -26,11 +27,13 @@ differ false b = b
 abbrev pub breaks : (ℕ → Bool) → List Bool → ℕ → Bool
 breaks is_in mask n = differ (is_in n) (slice_index_or mask (slot n) false)
 
--- the day after the greatest day b such that each day from a to b is in the set exactly if its weekday is one of its first seven days'
+-- the first day from a on that breaks the pattern of the set's first seven days, or `end`: it is in
+-- the set although its weekday is not in the pattern, or the other way round
 abbrev pub break_after : (ℕ → Bool) → ℕ → ℕ → ℕ
 break_after is_in a end = first_where (breaks is_in (weekdays_of is_in a)) a (end - a)
 
--- the period from a to the last day of the set before day `after`, on the weekdays of the set's first seven days
+-- the period from a to the last day of the set before day `after`, on the weekdays of the set's
+-- first seven days
 abbrev pub period_at : (ℕ → Bool) → ℕ → ℕ → DayRange
 period_at is_in a after = record { first = a; last = last_where is_in a (after - a); days = weekdays_of is_in a }
 
@@ -47,11 +50,12 @@ cover_from (suc count) is_in from end =
 abbrev pub cover : (ℕ → Bool) → ℕ → List DayRange
 cover is_in end = cover_from end is_in 0 end
 
--- how many of the periods hold a day
+-- the number of periods that hold a day
 abbrev pub holding : List DayRange → ℕ → ℕ
 holding [] n = 0
 holding (period ∷ later) n = if holds period n then suc (holding later n) else holding later n
 
--- the law of covers: each day of the set is in exactly one of its periods, and no other day is in any
+-- the law of covers: each day of the set is in exactly one of its periods, and no other day is in
+-- any
 abbrev pub CoverLaw : Type 0
 CoverLaw = (is_in : ℕ → Bool) (end : ℕ) → ((n : ℕ) → end ≤ n → is_in n ≡ false) → (n : ℕ) → holding (cover is_in end) n ≡ (if is_in n then 1 else 0)

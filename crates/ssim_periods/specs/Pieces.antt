@@ -31,7 +31,8 @@ abbrev pub sort_by_first : {V : Type 0} → List (DayRange × V) → List (DayRa
 sort_by_first [] = []
 sort_by_first (p ∷ pieces) = insert_by_first p (sort_by_first pieces)
 
--- the covers of the distinct values other than the empty one, each period with its value, sorted by first day
+-- the covers of the distinct values other than the empty one, each period with its value, sorted by
+-- first day
 abbrev pub pieces_of : {V : Type 0} → (V → V → Bool) → V → List V → List (DayRange × V)
 pieces_of alike nothing days = sort_by_first (flat_map (pieces_with alike days) (values_of alike nothing days))
 
@@ -40,12 +41,13 @@ abbrev pub held_on : {V : Type 0} → List (DayRange × V) → ℕ → List V
 held_on [] n = []
 held_on (piece ∷ later) n = if holds piece.0 n then piece.1 ∷ held_on later n else held_on later n
 
--- a value by itself, or none where it is empty
+-- a value in a list of its own; an empty list for the empty value
 abbrev pub alone : {V : Type 0} → (V → V → Bool) → V → V → List V
 alone alike nothing v = if alike v nothing then [] else v ∷ []
 
--- the law of pieces: on each day exactly one piece holds, the one with the day's value, or none where the value is empty or the
--- day is past the end; and each piece is a period of these days that holds its own first day
+-- The law of pieces. On each day exactly one piece holds, the one with the day's value; none does
+-- if the value is empty or the day is past the end. Each piece is a period of these days that holds
+-- its own first day.
 pub record ArePieces {V : Type 0} (alike : V → V → Bool) (nothing : V) (days : List V) (pieces : List (DayRange × V)) : Type 0 where
   pub on_each_day : (n : ℕ) → held_on pieces n ≡ alone alike nothing (slice_index_or days n nothing)
   pub each_begins : All (λ piece. (piece.0.first ≤ piece.0.last) × (piece.0.last < length days) × (holds piece.0 piece.0.first ≡ true)) pieces

@@ -72,7 +72,8 @@ pub record WorkedPieces : Type 0 where
   -- only the piece with 8 holds a changed Monday, and no piece holds an empty day
   pub one_holds : held_on (pieces_of nat_eq 0 season) 16 ≡ 8 ∷ []
   pub none_holds : held_on (pieces_of nat_eq 0 season) 38 ≡ []
-  -- the days before and after the changed Tuesdays are not joined over the Tuesdays that keep their value
+  -- the days before and after the changed Tuesdays are not joined over the Tuesdays that keep their
+  -- value
   pub tuesdays_changed : pieces_of nat_eq 0 june ≡ (on_days 1 9 daily, 7) ∷ (on_days 10 24 tuesdays, 8) ∷ (on_days 11 30 no_tuesdays, 7) ∷ []
   -- two neighbouring periods with one value are one piece
   pub joined : pieces_of nat_eq 0 divided ≡ (on_days 2 30 daily, 7) ∷ []
@@ -87,5 +88,5 @@ pub record WorkedPieces : Type 0 where
   pub eighth_days : cover no_eighth_days 40 ≡ on_days 0 6 daily ∷ on_days 8 14 daily ∷ on_days 16 22 daily ∷ []
   -- a day of the set is in one period of its cover
   pub in_one : holding (cover with_gap 40) 14 ≡ 1
-  -- the distinct values of 0, 7, 9 and 7, where 0 is empty, have the numbers 0, 1 and 2
+  -- the distinct values of 0, 7, 9 and 7 have the numbers 0, 1 and 2, if 0 is the empty value
   pub numbers : map (numbered 0 (gathered nat_eq 0 [] (0 ∷ 7 ∷ 9 ∷ 7 ∷ []))) (0 ∷ 1 ∷ 2 ∷ []) ≡ Some 0 ∷ Some 7 ∷ Some 9 ∷ []

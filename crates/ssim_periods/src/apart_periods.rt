@@ -30,7 +30,8 @@ const FIRST: usize = 8;
 pub(crate) struct ApartPeriods<V: Value> {
     /// The values by weekday of a range that no period holds: each is the empty value.
     empty: [V; 7],
-    /// Periods without a common day, in the order in which they came, and their values, which are not empty.
+    /// Periods without a common day, in the order in which they came, and their values, which are
+    /// not empty.
     entries: Vec<(Period, V)>,
     /// The first day of each period and the day after its last, rising.
     cuts: Vec<u32>,
@@ -79,8 +80,8 @@ impl<V: Value> ApartPeriods<V> {
         self.entries.len() < MOST && is_free(&self.entries, &self.cuts, period)
     }
 
-    /// Gives the days of the period, which have the empty value, the outcome of the change for it. Returns for each class the number of
-    /// these days if the empty value is of that class.
+    /// Gives the days of the period, which have the empty value, the outcome of the change for it.
+    /// Returns for each class the number of these days if the empty value is of that class.
     pub(crate) fn apply<C: Change<V>>(
         &mut self,
         period: &Period,
@@ -161,7 +162,8 @@ impl<V: Value> ApartPeriods<V> {
         })
     }
 
-    /// A copy in which a value that is equal to the one before it in the list is a copy of that copy.
+    /// A copy in which a value that is equal to the one before it in the list is a copy of that
+    /// copy.
     pub(crate) fn shared(&self) -> Result<ApartPeriods<V>, Memory>
         ensures { IfOk result (λ shared. shared ≡ self.now) }
     {
@@ -195,14 +197,16 @@ impl<V: Value> ApartPeriods<V> {
         rows_of(self.alloc, &self.entries)
     }
 
-    /// The cover of the days of each value, each period with its value, sorted by first day. The days of a value of one period are
-    /// those of this period. For a value of several periods, rows are made of these periods.
+    /// The cover of the days of each value, each period with its value, sorted by first day. The
+    /// days of a value of one period are those of this period. For a value of several periods, rows
+    /// are made of these periods.
     pub(crate) fn pieces(&self) -> Result<Vec<(Period, V)>, Memory>
         ensures pieces { IfOk result (λ pieces. pieces.items ≡ pieces_of V.alike V.nothing self.now.days) }
         ensures each_day { OnOk result (length self.now.days ≡ day_count) }
     {
         let mut pieces = covers(self.alloc, &self.entries)?;
-        // The periods mostly come from the last to the first, and what is in order is sorted sooner.
+        // The periods mostly come from the last to the first, and what is in order is sorted
+        // sooner.
         pieces.reverse();
         pieces.sort_by_key(|piece| piece.0.first().number())?;
         Ok(pieces)
@@ -235,7 +239,8 @@ fn empty_counts<V: Value, C: Change<V>>(empty: &[V; 7], period: &Period, change:
     class_counts(empty, &[], &[], first, last, &mask, change)
 }
 
-// Whether a period has no day in common with any of a list. One before all of them or after all of them is not compared with each.
+// Whether a period has no day in common with any of a list. One before all of them or after all of
+// them is not compared with each.
 fn is_free<V: Value>(entries: &[(Period, V)], cuts: &[u32], period: &Period) -> bool
     requires rising { IsStrictlyIncreasing cuts.now }
     requires divided { AreDivided cuts.now entries.now }

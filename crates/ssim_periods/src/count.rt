@@ -8,7 +8,8 @@ ghost use Rattle.ssim_periods.specs.Rows.{AreRows};
 use crate::rows::{days_before, has_days, place_of, range_end, row_at};
 use crate::{Change, Value};
 
-// Adds to the count of each class the days of a range whose weekday is in the mask and whose old value is of that class.
+// Adds to the count of each class the days of a range whose weekday is in the mask and whose old
+// value is of that class.
 fn count_range<V: Value, C: Change<V>>(
     counts: &mut [u32; 5],
     row: &[V; 7],

@@ -7,8 +7,9 @@ ghost use Rattle.ssim_periods.specs.Cover.{first_where, last_where, differ};
 use crate::Value;
 use ssim_values::{Day, DayMask, Period};
 
-// The first day of a range with one row that has the value although its weekday is not one of `days`, or the other way round. The end
-// of the range if there is none. Looks at no more than seven days.
+// The first day of a range with one row that has the value although its weekday is not one of
+// `days`, or the other way round. The end of the range if there is none. Looks at no more than
+// seven days.
 pub(crate) fn unlike_in_row<V: Value>(
     row: &[V; 7],
     value: &V,

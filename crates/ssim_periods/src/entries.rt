@@ -103,8 +103,9 @@ impl<'a, V: Value> Change<V> for SetTo<'a, V> {
     }
 }
 
-// The rows with these values, if no day is held twice. Their cuts are those that divide the periods. The periods mostly come from the
-// last day to the first. So they are put in from the end of the list: each then lies after those before it.
+// The rows with these values, if no day is held twice. Their cuts are those that divide the
+// periods. The periods mostly come from the last day to the first. So they are put in from the end
+// of the list: each then lies after those before it.
 pub(crate) fn rows_of<V: Value>(
     alloc: Global,
     entries: &[(Period, V)],
@@ -123,8 +124,9 @@ pub(crate) fn rows_of<V: Value>(
     Ok(rows)
 }
 
-// The rows with 1 on each day of the value of a period and of the earlier ones that have it, and 0 on each other day. The periods are
-// marked from the end of the list, so that most lie after those before them.
+// The rows with 1 on each day of the value of a period and of the earlier ones that have it, and 0
+// on each other day. The periods are marked from the end of the list, so that most lie after those
+// before them.
 pub(crate) fn rows_of_value<V: Value>(
     alloc: Global,
     earlier: &[(Period, V)],

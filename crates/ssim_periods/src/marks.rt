@@ -16,7 +16,8 @@ use ssim_values::{Memory, Period};
 const MARK: ValueNumber = ValueNumber { number: 1 };
 
 impl RangeRows<ValueNumber> {
-    /// Gives each day of the period the number 1. A period that comes after all earlier ones is appended, at the cost of two rows.
+    /// Gives each day of the period the number 1. A period that comes after all earlier ones is
+    /// appended, at the cost of two rows.
     pub(crate) fn mark(&mut self, period: &Period) -> Result<(), Memory>
         ensures { OnOk result (self.new.days ≡ changed_on (holds period.now) (λ _. 1) 0 self.old.days) }
     {
@@ -39,7 +40,7 @@ impl RangeRows<ValueNumber> {
     }
 }
 
-// Marks the days of a period that no cut is after.
+// Marks the days of a period. No cut is after its first day.
 fn append(
     before: &[ValueNumber; 7],
     cuts: &mut Vec<u32>,
@@ -74,7 +75,7 @@ fn marked(row: &[ValueNumber; 7], mask: &[bool; 7]) -> [ValueNumber; 7]
     marked
 }
 
-// Lets a row hold from a day on, which no cut is after.
+// Sets the row from a day on. No cut is after this day.
 fn set_from(
     cuts: &mut Vec<u32>,
     rows: &mut Vec<[ValueNumber; 7]>,

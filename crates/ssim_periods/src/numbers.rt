@@ -1,4 +1,5 @@
-//! Small numbers in place of values: values are compared only to number them, and from then on the numbers are compared.
+//! Small numbers in place of values: values are compared only to number them, and from then on the
+//! numbers are compared.
 ghost use Rattle.std.specs.Prelude.{◌≡◌, ℕ, [], ◌∷◌, false, Some, map, nat_eq, IsTrue, IfOk, OnOk, IfSome, IfNone};
 ghost use Rattle.std.specs.List.{list_any, flat_map};
 ghost use Rattle.std.proofs.Common.{eqb-true, eq-eqb};
@@ -12,7 +13,7 @@ use ssim_values::Memory;
 use std::alloc::Global;
 use std::marker::Model;
 
-/// 0 for the empty value, else the place of a value among distinct ones, counted from 1.
+/// 0 for the empty value, else the index of a value among distinct ones, counted from 1.
 #[derive(Clone, Copy)]
 pub(crate) struct ValueNumber {
     pub(crate) number: usize,
@@ -79,8 +80,8 @@ fn known_number<V: Value>(values: &[&V], value: &V) -> Option<ValueNumber>
     None
 }
 
-// The number of a value, which joins the others if it is not empty and not yet there. Two likely numbers are tried first, so that
-// most values are compared with one other.
+// The number of a value, which joins the others if it is not empty and not yet there. Two likely
+// numbers are tried first, so that most values are compared with one other.
 fn number_of<'a, V: Value>(
     values: &mut Vec<&'a V>,
     value: &'a V,
@@ -108,7 +109,8 @@ fn number_of<'a, V: Value>(
     })
 }
 
-// The numbers of a row's values, tried first with those of the row before and of the weekday before.
+// The numbers of a row's values, tried first with those of the row before and of the weekday
+// before.
 fn number_row<'a, V: Value>(
     values: &mut Vec<&'a V>,
     row: &'a [V; 7],

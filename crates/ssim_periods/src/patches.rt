@@ -12,8 +12,9 @@ use crate::{Change, Value};
 use ssim_values::Memory;
 use std::alloc::Global;
 
-// The new value for an old one: a copy of the latest new value, if that was made for an equal old one, so that the two share memory.
-// If it cannot be copied, it is made again: a copy that fails is no error unless a range is divided.
+// The new value for an old one: a copy of the latest new value, if that was made for an equal old
+// one, so that the two share memory. If it cannot be copied, it is made again: a copy that fails is
+// no error unless a range is divided.
 fn new_value<V: Value, C: Change<V>>(
     alloc: Global,
     old: &V,

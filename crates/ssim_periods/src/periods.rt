@@ -60,8 +60,9 @@ impl<V: Value> Periods<V> {
         }
     }
 
-    /// Replaces the value of each day of the period by the outcome of the change, and keeps the value of each other day. Returns for each
-    /// class the number of days of the period whose old value is of that class.
+    /// Replaces the value of each day of the period by the outcome of the change, and keeps the
+    /// value of each other day. Returns for each class the number of days of the period whose old
+    /// value is of that class.
     ///
     /// All new values are computed, and all memory is reserved, before the first value is replaced:
     /// after an error nothing has changed. If no day of a period had a value before, applying a
@@ -119,9 +120,9 @@ impl<V: Value> Periods<V> {
         Ok(Periods { form })
     }
 
-    /// A copy with the same values and cuts. Equal values of neighbouring ranges are copies of one value, and so are equal values of a
-    /// range, or of one period and the one that was given a value before it. If copies of a value share memory, that memory is used
-    /// once.
+    /// A copy with the same values and cuts. Equal values of neighbouring ranges are copies of one
+    /// value, and so are equal values of a range, or of one period and the one that was given a
+    /// value before it. If copies of a value share memory, that memory is used once.
     pub fn shared(&self) -> Result<Periods<V>, Memory>
         ensures { IfOk result (λ shared. shared ≡ self.now) }
     {
@@ -132,13 +133,15 @@ impl<V: Value> Periods<V> {
         Ok(Periods { form })
     }
 
-    /// The rising days at which a stored range begins or ends. 36,525 is a cut if a period ended with the calendar.
+    /// The rising days at which a stored range begins or ends. 36,525 is a cut if a period ended
+    /// with the calendar.
     pub fn cuts(&self) -> &[u32]
         ensures cuts { result.now ≡ self.now.cuts }
         ensures rising { IsStrictlyIncreasing result.now }
         ensures in_calendar { All (λ cut. cut ≤ 36525) result.now }
 
-        // Two days of one weekday have the same value if no cut is after the earlier and not after the later.
+        // Two days of one weekday have the same value if no cut is after the earlier and not after
+        // the later.
         ensures weekly { (m n : ℕ) → m ≤ n → n < 36525 → weekday m ≡ weekday n → ((cut : ℕ) → Contains result.now cut → m < cut → n < cut) → slice_get self.now.days m ≡ slice_get self.now.days n }
     {
         match &self.form {

@@ -20,7 +20,8 @@ use std::marker::Model;
 pub(crate) struct RangeRows<V: Value> {
     /// The values by weekday up to the first cut.
     pub(crate) before: [V; 7],
-    /// The days at which a range begins, rising; the last may be 36,525, the day after the calendar.
+    /// The days at which a range begins, rising; the last may be 36,525, the day after the
+    /// calendar.
     pub(crate) cuts: Vec<u32>,
     /// For each cut the values by weekday from it to the next.
     pub(crate) rows: Vec<[V; 7]>,
@@ -74,8 +75,9 @@ impl<V: Value> RangeRows<V> {
         }
     }
 
-    /// Replaces the value of each day of the period by the outcome of the change, and keeps the value of each other day. Returns for each
-    /// class the number of days of the period whose old value is of that class.
+    /// Replaces the value of each day of the period by the outcome of the change, and keeps the
+    /// value of each other day. Returns for each class the number of days of the period whose old
+    /// value is of that class.
     ///
     /// All new values are computed, and all memory is reserved, before the first value is replaced:
     /// after an error nothing has changed. The cost grows with the ranges that the period touches
@@ -162,13 +164,15 @@ impl<V: Value> RangeRows<V> {
         })
     }
 
-    /// The rising days at which a stored range begins or ends. 36,525 is a cut if a period ended with the calendar.
+    /// The rising days at which a stored range begins or ends. 36,525 is a cut if a period ended
+    /// with the calendar.
     pub(crate) fn cuts(&self) -> &[u32]
         ensures cuts { result.now ≡ self.now.cuts }
         ensures rising { IsStrictlyIncreasing result.now }
         ensures in_calendar { All (λ cut. cut ≤ 36525) result.now }
 
-        // Two days of one weekday have the same value if no cut is after the earlier and not after the later.
+        // Two days of one weekday have the same value if no cut is after the earlier and not after
+        // the later.
         ensures weekly { (m n : ℕ) → m ≤ n → n < 36525 → weekday m ≡ weekday n → ((cut : ℕ) → Contains result.now cut → m < cut → n < cut) → slice_get self.now.days m ≡ slice_get self.now.days n }
     {
         &self.cuts

@@ -13,8 +13,8 @@ use std::alloc::Global;
 /// The number of days from 1 January 2000 to 31 December 2099.
 pub(crate) const DAYS: u32 = 36_525;
 
-// The number of cuts that are not after the day: the place of its row. Periods mostly come from the last to the first, so the first cuts
-// are looked at before the others.
+// The number of cuts that are not after the day, which is the index of its row. Periods mostly come
+// from the last to the first, so the first cuts are compared first.
 pub(crate) fn place_of(cuts: &[u32], day: u32) -> usize
     requires { IsStrictlyIncreasing cuts.now }
     ensures place { result ≡ place cuts.now day }
@@ -77,7 +77,7 @@ pub(crate) fn is_last(cuts: &[u32], count: usize, day: u32) -> bool
     }
 }
 
-// The row at a place.
+// The row with this index.
 pub(crate) fn row_at<'a, V: Value>(
     before: &'a [V; 7],
     rows: &'a [[V; 7]],
@@ -89,7 +89,7 @@ pub(crate) fn row_at<'a, V: Value>(
     if place == 0 { before } else { &rows[place - 1] }
 }
 
-// Where the range at a place ends, or `end` if that is earlier.
+// The end of the range with this index, or `end` if that is earlier.
 pub(crate) fn range_end(cuts: &[u32], place: usize, end: u32) -> u32
     ensures before_end { result ≤ end }
     ensures before_cut { place < length cuts.now → result ≤ slice_index cuts.now place }

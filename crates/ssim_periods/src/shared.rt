@@ -7,8 +7,9 @@ use ssim_values::Memory;
 use std::alloc::Global;
 
 impl<V: Value> RangeRows<V> {
-    /// A copy with the same values and cuts. Equal values of a range, and equal values of one weekday in neighbouring ranges, are copies
-    /// of one value. If copies of a value share memory, that memory is used once.
+    /// A copy with the same values and cuts. Equal values of a range, and equal values of one
+    /// weekday in neighbouring ranges, are copies of one value. If copies of a value share memory,
+    /// that memory is used once.
     pub(crate) fn shared(&self) -> Result<RangeRows<V>, Memory>
         ensures { IfOk result (λ shared. shared ≡ self.now) }
     {

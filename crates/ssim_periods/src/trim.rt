@@ -7,7 +7,8 @@ ghost use Rattle.ssim_periods.specs.Cover.{cover, first_where};
 use crate::cover::{last_in, period_of};
 use ssim_values::Period;
 
-// The period from the first to the last day of a period that it holds, on the weekdays that these days have. None if it holds no day.
+// The period from the first to the last day of a period that it holds, on the weekdays that these
+// days have. None if it holds no day.
 pub(crate) fn trimmed(period: &Period) -> Option<Period>
     ensures some { IfSome result (λ trimmed. cover (holds period.now) day_count ≡ trimmed ∷ []) }
     ensures none { IfNone result (cover (holds period.now) day_count ≡ []) }
@@ -39,7 +40,8 @@ fn first_in(days: &[bool; 7], from: u32, to: u32) -> u32
     to
 }
 
-// Whether the first day from `first` on that has a weekday is before `end`, and the weekday is one of `days`.
+// Whether the first day from `first` on that has a weekday is before `end`, and the weekday is one
+// of `days`.
 fn has_weekday(days: &[bool; 7], weekday: u32, first: u32, end: u32) -> bool
     requires weekday { weekday < 7 }
     requires in_calendar { first < 36525 }

@@ -31,7 +31,8 @@ pub trait Value: Drop {
     ghost exact: { (x y : Self) → IsTrue (alike x y) ↔ (x ≡ y) };
 }
 
-/// A change of the value of each day of a period. Both calls are made only with values that some day of the period has.
+/// A change of the value of each day of a period. Both calls are made only with values that some
+/// day of the period has.
 pub trait Change<V> {
     /// The new value.
     ghost outcome: { Self → V → V };

@@ -10,13 +10,16 @@ use crate::{Periods, Value};
 use ssim_values::{Memory, Period};
 
 impl<V: Value> Periods<V> {
-    /// The cover of the days of each value other than the empty one, each period with its value, sorted by first day.
+    /// The cover of the days of each value other than the empty one, each period with its value,
+    /// sorted by first day.
     ///
-    /// In a list of a few periods without a common date, each value is compared with the others. A value of one period gives this
-    /// period, trimmed to the days that it holds. For a value of several periods, rows are made of these periods alone. Otherwise each
-    /// value of a row first gets a number: mostly by one comparison, with the value of the same weekday in the row before, else by
-    /// comparisons with the distinct values. From then on only numbers are compared. Each distinct value costs one pass over the ranges,
-    /// with at most seven comparisons in each.
+    /// In a list of a few periods without a common date, each value is compared with the others. A
+    /// value of one period gives this period, trimmed to the days that it holds. For a value of
+    /// several periods, rows are made of these periods alone. Otherwise each value of a row first
+    /// gets a number: mostly by one comparison, with the value of the same weekday in the row
+    /// before, else by comparisons with the distinct values. From then on only numbers are
+    /// compared. Each distinct value costs one pass over the ranges, with at most seven comparisons
+    /// in each.
     pub fn pieces(&self) -> Result<Vec<(Period, V)>, Memory>
         ensures pieces { IfOk result (λ pieces. pieces.items ≡ pieces_of V.alike V.nothing self.now.days) }
         ensures each_day { OnOk result (length self.now.days ≡ day_count) }
@@ -28,13 +31,14 @@ impl<V: Value> Periods<V> {
     }
 }
 
-/// The law of covers: each day of a set is in exactly one period of its cover, and no other day is in any.
+/// The law of covers: each day of a set is in exactly one period of its cover, and no other day is
+/// in any.
 pub fn covers_hold_each_day_once()
     ensures { CoverLaw }
 {}
 
-/// The law of pieces: exactly one piece holds each day, the piece with the value of that day; if that value is empty, none does. Each
-/// piece holds its own first day.
+/// The law of pieces: exactly one piece holds each day, the piece with the value of that day; if
+/// that value is empty, none does. Each piece holds its own first day.
 pub fn pieces_hold_each_day_once<V: Value>()
     ensures { (days : List V) → ArePieces V.alike V.nothing days (pieces_of V.alike V.nothing days) }
 {}

@@ -14,11 +14,13 @@ use ssim_values::{Day, Memory, Period};
 const NO_DAYS: [bool; 7] = [false; 7];
 
 impl<V: Value> RangeRows<V> {
-    /// The cover of the days of each value other than the empty one, each period with its value, sorted by first day.
+    /// The cover of the days of each value other than the empty one, each period with its value,
+    /// sorted by first day.
     ///
-    /// Each value of a row first gets a number: mostly by one comparison, with the value of the same weekday in the row before, else by
-    /// comparisons with the distinct values. From then on only numbers are compared. Each distinct value costs one pass over the ranges,
-    /// with at most seven comparisons in each.
+    /// Each value of a row first gets a number: mostly by one comparison, with the value of the
+    /// same weekday in the row before, else by comparisons with the distinct values. From then on
+    /// only numbers are compared. Each distinct value costs one pass over the ranges, with at most
+    /// seven comparisons in each.
     pub(crate) fn pieces(&self) -> Result<Vec<(Period, V)>, Memory>
         ensures pieces { IfOk result (λ pieces. pieces.items ≡ pieces_of V.alike V.nothing self.now.days) }
         ensures each_day { OnOk result (length self.now.days ≡ day_count) }
@@ -53,8 +55,8 @@ impl<V: Value> RangeRows<V> {
         Ok(())
     }
 
-    // The first day from a day on that has the value although its weekday is not one of `days`, or does not have it although its
-    // weekday is one. 36,525 if there is none.
+    // The first day from a day on that has the value although its weekday is not one of `days`, or
+    // does not have it although its weekday is one. 36,525 if there is none.
     fn first_unlike(&self, value: &V, days: &[bool; 7], from: u32) -> u32
         requires { from ≤ 36525 }
         ensures { result ≡ first_where (breaks (has_value V.alike self.now.days value.now) days.now) from (length self.now.days - from) }
@@ -74,7 +76,8 @@ impl<V: Value> RangeRows<V> {
         DAYS
     }
 
-    // The day after the last day up to which the value is on exactly these weekdays, from a first day on.
+    // The day after the last day up to which the value is on exactly these weekdays, from a first
+    // day on.
     fn break_after(&self, value: &V, days: &[bool; 7], first: u32) -> u32
         requires { first ≤ 36525 }
         ensures { result ≡ first_where (breaks (has_value V.alike self.now.days value.now) days.now) first (length self.now.days - first) }

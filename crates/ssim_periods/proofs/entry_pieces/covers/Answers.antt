@@ -1,4 +1,5 @@
--- A value that no later period has gives the cover of its days, and one that comes later too gives nothing yet.
+-- A value that no later period has gives the cover of its days, and one that comes later too gives
+-- nothing yet.
 use Rattle.std.proofs.Common.{◌++◌, ◌+◌, drop, ap, sym, ◌∙◌}
 use Rattle.std.specs.List.{flat_map, list_any}
 use Rattle.ssim_periods.specs.Apart.{given_cover, last_values}

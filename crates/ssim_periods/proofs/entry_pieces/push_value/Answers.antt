@@ -1,4 +1,5 @@
--- If no earlier period has the value, its days are those of the period, else they are the marked days of the rows.
+-- If no earlier period has the value, its days are those of the period, else they are the marked
+-- days of the rows.
 use Rattle.std.proofs.Common.{◌<◌, ◌++◌, ◌∷◌, [], ap, sym, ◌∙◌}
 use Rattle.std.proofs.lemmas.Result.{on_ok_weaker}
 use Rattle.ssim_periods.proofs.ListPieces.{cover-marked, cover-own}

@@ -1,4 +1,5 @@
--- What is pushed, with the cover from the next day that has the value on, is always the whole cover.
+-- What is pushed, with the cover from the next day that has the value on, is always the whole
+-- cover.
 use Rattle.std.proofs.Common.{◌≡◌, ◌-◌, ◌++◌, map, length, append-nil, ap, sym, ◌∙◌, arith, rules}
 use Rattle.ssim_periods.specs.Calendar.{slot}
 use Rattle.ssim_periods.specs.Cover.{first_where, break_after, period_at}

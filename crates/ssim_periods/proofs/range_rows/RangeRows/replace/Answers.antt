@@ -1,4 +1,5 @@
--- Head, tail and patches are made from the old rows; the lemmas on a split say what the new rows give for each day.
+-- Head, tail and patches are made from the old rows; the lemmas on a split say what the new rows
+-- give for each day.
 use Rattle.std.proofs.Common.{◌≡◌, ◌+◌, ◌-◌, List, [], map, length, slice_index_or, Vec, Global, Option, Some, None, if◌then◌else◌, false, ap, sym, subst, ◌∙◌, arith, rules}
 use Rattle.std.specs.List.Sorted.{IsStrictlyIncreasing}
 use Rattle.ssim_periods.specs.Calendar.{slot}
