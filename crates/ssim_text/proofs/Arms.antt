@@ -42,7 +42,7 @@ some_same a b h = cc
 never : {A : Type 0} (o : Option A) (a : A) → o ≡ None → o ≡ Some a → ⊥
 never o a h k = none_some a (sym h ∙ k)
 
--- ---- the front
+-- ---- the lines before the sub-messages
 
 pub take_originator : (originator line : List ℕ) → originator_of line ≡ Some originator → Takes AtStart line (AtKind originator)
 take_originator originator line h = record { part = OriginatorPart originator; spelled = h; step = refl }
@@ -150,7 +150,7 @@ take_segment m b s line h fits short = record { part = SegmentPart s; spelled = 
 pub take_divider : (m : MessageValue) (b : Body) (line : List ℕ) → line ≡ codes "//" → is_whole b ≡ true → Takes (AtLegs m b) line (AtNext (with_body m b))
 take_divider m b line h whole = record { part = Divider; spelled = h; step = choose_some (is_whole b) (AtNext (with_body m b)) whole }
 
--- what stands in a leg line's place is no other part
+-- a divider is no leg line
 no_leg_divider : (leg : LegLine) → leg_of (codes "//") ≡ Some leg → ⊥
 unfolding leg_of end_of
 no_leg_divider leg h = none_some leg h
@@ -165,7 +165,8 @@ leg_or_divider leg line h e = no_leg_divider leg (ap leg_of (sym e) ∙ h)
 pub segment_or_divider : (s : SegmentLine) (line : List ℕ) → segment_of line ≡ Some s → line ≡ codes "//" → ⊥
 segment_or_divider s line h e = no_segment_divider s (ap segment_of (sym e) ∙ h)
 
--- ---- a leg line is no segment line: its first word has seven bytes or more, and that of a segment line six
+-- ---- a leg line is no segment line: its first word has seven bytes or more, that of a segment
+-- line six
 
 some_of_if : {A : Type 0} (b : Bool) (o : Option A) (y : A) → (if b then o else None) ≡ Some y → (b ≡ true) × (o ≡ Some y)
 some_of_if true o y h = (refl, h)
@@ -230,13 +231,13 @@ leg_or_segment leg s line h k =
     let six = points_length (word line) p.0 p.1 in
     omega (arith, seven, six)
 
--- ---- lines that may not stand among legs
+-- ---- lines that are not allowed among legs
 
 none_where : {A : Type 0} (o : Option A) → ((a : A) → o ≡ Some a → ⊥) → o ≡ None
 none_where None never_so = refl
 none_where (Some a) never_so = absurd (never_so a refl)
 
--- a line that is no leg line, segment line or divider that may stand
+-- a line that is no leg line, segment line or divider that is allowed here
 not_among_legs : (m : MessageValue) (b : Body) (line : List ℕ) → ((leg : LegLine) → leg_of line ≡ Some leg → takes_leg b ≡ false) → ((s : SegmentLine) → segment_of line ≡ Some s → takes_segment b s ≡ false) → (line ≡ codes "//" → is_whole b ≡ false) → Refuses (AtLegs m b) line
 not_among_legs m b line no_leg no_segment no_divider (LegPart leg) h = choose_none (takes_leg b) (AtLegs m (with_leg b leg)) (no_leg leg h)
 not_among_legs m b line no_leg no_segment no_divider (SegmentPart s) h = choose_none (takes_segment b s) (AtLegs m (with_segment b s)) (no_segment s h)
@@ -250,7 +251,7 @@ leg_fault m b line leg segment h k = rw (h, k) refl
 no_segment_there : (leg : LegLine) (line : List ℕ) → leg_of line ≡ Some leg → segment_of line ≡ None
 no_segment_there leg line h = none_where (segment_of line) (λ s k. leg_or_segment leg s line h k)
 
--- a leg line behind a segment line
+-- a leg line after a segment line
 pub leg_behind_segments : (m : MessageValue) (b : Body) (leg : LegLine) (line : List ℕ) → leg_of line ≡ Some leg → is_none_yet b.segments ≡ false → Refuses (AtLegs m b) line × (fault.BadLeg ≡ fault_of (AtLegs m b) line)
 leg_behind_segments m b leg line h none = (
   not_among_legs m b line (λ _ _. left_false (is_none_yet b.segments) (nat_lt (length b.legs) 20) none) (λ s k. absurd (leg_or_segment leg s line h k)) (λ e. absurd (leg_or_divider leg line h e)),
@@ -295,7 +296,7 @@ no_leg_part m b line h k no_divider = (
   sym (leg_fault m b line None None h k),
 )
 
--- ---- behind a sub-message
+-- ---- after a sub-message
 
 pub take_end : (m : MessageValue) (line : List ℕ) → line ≡ codes "//" → Takes (AtEnd m) line (AtNext m)
 take_end m line h = record { part = Divider; spelled = h; step = refl }

@@ -71,7 +71,7 @@ run_segments m d dates c legs (s ∷ more) segments qs has h f =
     ∙ run_segments m d dates c legs more (segments ++ s ∷ []) qs has le f.1
     ∙ ap (λ (x : List SegmentLine). run (AtLegs m (body_of d dates c legs x)) qs) (append_assoc segments (s ∷ []) more)
 
--- the state behind a sub-message
+-- the state after a sub-message
 abbrev pub ended : MessageValue → Designator → Dates → Action → State
 ended m d dates (action.New new) = AtLegs m (body_of d dates (change.New new.equipment) new.legs new.segments)
 ended m d dates action.Cnl = AtEnd (with_sub m (sub_of d dates action.Cnl))
@@ -196,7 +196,7 @@ run_originator : (o : List ℕ) (kind : Kind) (os qs : List Part) → IsOriginat
 run_originator o kind os qs (inl w) = ap (λ (x : List Part). run AtStart ((x ++ KindPart kind ∷ []) ++ qs)) w.1 ∙ ap (λ (x : List ℕ). run (AtMode x kind) qs) (sym w.0)
 run_originator o kind os qs (inr e) = ap (λ (x : List Part). run AtStart ((x ++ KindPart kind ∷ []) ++ qs)) e
 
--- the front with the kind alone in the middle
+-- the first parts, with the kind alone in the middle
 regrouped : (os ms qs : List Part) (k r : Part) → (os ++ (k ∷ (ms ++ r ∷ []))) ++ qs ≡ (os ++ k ∷ []) ++ ((ms ++ r ∷ []) ++ qs)
 regrouped os ms qs k r = append_assoc os (k ∷ (ms ++ r ∷ [])) qs ∙ sym (append_assoc os (k ∷ []) ((ms ++ r ∷ []) ++ qs))
 

@@ -1,5 +1,5 @@
--- The flight lines and the period lines that are written are read as what they were written from: a date, an end and
--- days have one text each, and a designator's text has letters and digits alone.
+-- The flight lines and the period lines that are written are read as what they were written from: a
+-- date, an end and days have one text each, and a designator's text has letters and digits alone.
 use Rattle.std.proofs.Common.{◌≡◌, ◌≤◌, ℕ, ◌+◌, ◌/◌, ◌%◌, Bool, true, false, not, IsTrue, List, [], ◌∷◌, ◌++◌, length, refl, sym, ap, subst, ◌∙◌, append_assoc, arith, Option, Some, None, codes, drop, length-append, length-drop}
 use Rattle.std.specs.Prelude.{◌==◌, nat_lt, if◌then◌else◌, option_map}
 use Rattle.std.specs.List.{list_all}

@@ -1,4 +1,4 @@
--- From what was read of the lines to what decoding answers for the text.
+-- From what was read of the lines to what decoding returns for the text.
 use Rattle.std.proofs.Common.{◌≡◌, ◌≤◌, ℕ, List, [], ◌∷◌, length, refl, sym, ap, subst, inr, ◌∙◌, None, arith, map, Ok, Err}
 use Rattle.std.specs.Prelude.{Result, IfOk, IfErr}
 use Rattle.ssim_text.specs.declared.fault.Fault.{Fault}

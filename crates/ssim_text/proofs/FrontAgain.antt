@@ -1,4 +1,5 @@
--- The originator line and the reference line that are written are read as what they were written from.
+-- The originator line and the reference line that are written are read as what they were written
+-- from.
 use Rattle.std.proofs.Common.{◌≡◌, ◌≤◌, ◌<◌, ℕ, true, ◌&&◌, List, [], ◌∷◌, ◌++◌, length, refl, sym, ap, subst, ◌∙◌, append_assoc, arith, Option, Some, None, codes, take, drop, eqb-true, eq-eqb, drop_of_length-le, take_all}
 use Rattle.std.specs.Prelude.{◌==◌, nat_le, if◌then◌else◌}
 use Rattle.std.specs.List.{list_all}
@@ -37,7 +38,7 @@ address_complete originator l h =
     chosen (length originator == 7) (if list_all is_alphanumeric originator then Some originator else None) None (eq-eqb (length originator) 7 l)
     ∙ chosen (list_all is_alphanumeric originator) (Some originator) None h
 
--- an address behind a dot
+-- an address after a dot
 dotted : (originator : List ℕ) → length originator ≡ 7 → list_all is_alphanumeric originator ≡ true → originator_of (46 ∷ originator) ≡ Some originator
 unfolding originator_of
 dotted originator l h =

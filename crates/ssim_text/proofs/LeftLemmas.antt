@@ -68,7 +68,7 @@ length_before_from b (x ∷ xs) = one_byte (x == b) x (before b xs) (from b xs) 
 pub from_shorter : (b x : ℕ) (xs next : List ℕ) → from b xs ≡ x ∷ next → length next + 1 ≤ length xs
 from_shorter b x xs next h = grind (arith, length_before_from b xs, ap length h)
 
--- ---- lines with a byte that may not stand
+-- ---- lines with a byte that is not allowed
 
 pub first_bad : (xs : List (ℕ × List ℕ)) (i : ℕ) (d : ℕ × List ℕ) → i < length xs → first_unprintable (drop i xs) ≡ (if list_all is_printable (get_or xs i d).1 then first_unprintable (drop (i + 1) xs) else Some (get_or xs i d).0)
 first_bad xs i d h = let e : drop i xs ≡ get_or xs i d ∷ drop (i + 1) xs = rw (add-one, drop-cons xs i d) refl in ap first_unprintable e

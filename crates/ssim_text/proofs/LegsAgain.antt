@@ -110,7 +110,7 @@ with_both o q v p h k = rw (h, k) refl
 same_pair : (v w p q : ℕ) → v ≡ w → p ≡ q → Some (a_pair v p) ≡ Some (a_pair w q)
 same_pair v w p q h k = rw (h, k) refl
 
--- what is left out stands for nothing else
+-- parts that are left out are read as their defaults
 variations_at : (none same : Bool) (time v p : ℕ) → (v == 0) ≡ none → (p == time) ≡ same → v ≤ 7 → p ≤ 1440
     → variations_of time ((if none then [] else 47 ∷ (48 + v % 10) ∷ []) ++ (if same then [] else 47 ∷ clock_text p)) ≡ Some (a_pair v p)
 unfolding variations_of

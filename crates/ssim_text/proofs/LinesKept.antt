@@ -1,4 +1,4 @@
--- What is left of a line is a line; written lines, each with LF behind it, are left as they are.
+-- What is left of a line is a line; written lines, each followed by LF, are left as they are.
 use Rattle.std.proofs.Common.{◌≡◌, ◌≤◌, ℕ, zero, suc, ◌+◌, Bool, true, false, cond, List, [], ◌∷◌, ◌++◌, length, map, refl, sym, ap, ◌∙◌, append_assoc, arith, None, Some, Option, drop, take, length-drop}
 use Rattle.std.specs.Prelude.{◌==◌, if◌then◌else◌}
 use Rattle.std.specs.List.{AllByRecursion, list_all, onto_first}
@@ -105,7 +105,7 @@ line_tail b (c ∷ rest) h some = record {
   ended = ended_after b c rest (without_end (c ∷ rest)) h.ended;
 }
 
--- printable bytes and a line behind them are a line
+-- printable bytes followed by a line are a line
 pub line_behind : (xs ys : List ℕ) → list_all is_printable xs ≡ true → IsLine ys → IsLine (xs ++ ys)
 line_behind [] ys h l = l
 line_behind (x ∷ xs) ys h l =

@@ -1,4 +1,5 @@
--- A text has one refusal: the four kinds exclude each other, and the place is the first after which no text is possible.
+-- A text has one refusal: the four kinds exclude each other, and the place is the first after which
+-- no text is possible.
 use Rattle.std.proofs.Common.{◌≡◌, ◌<◌, ◌≤◌, ◌+◌, ◌⊎◌, inl, inr, ℕ, List, [], ◌∷◌, ◌++◌, Some, None, length, drop, take, refl, sym, ap, subst, ◌∙◌, append_assoc, arith}
 use Rattle.std.specs.List.{AllZip}
 use Rattle.std.proofs.lemmas.List.{take-take}

@@ -1,4 +1,5 @@
--- The canonical text of a message spells it: each of its parts reads again, and its lines are its parts' lines.
+-- The canonical text of a message spells it: each of its parts reads again, and its lines are its
+-- parts' lines.
 use Rattle.std.proofs.Common.{◌≡◌, ℕ, Bool, true, false, List, [], ◌∷◌, ◌++◌, map, refl, sym, ap, subst, inl, inr, ◌∙◌, append_assoc, arith}
 use Rattle.std.specs.Prelude.{if◌then◌else◌}
 use Rattle.std.specs.List.{AllByRecursion, AllZip}
@@ -82,7 +83,7 @@ all_both : (xs ys : List Part) → AllByRecursion ReadsAgain xs → AllByRecursi
 all_both [] ys h k = k
 all_both (x ∷ xs) ys h k = (h.0, all_both xs ys h.1 k)
 
--- ---- the front
+-- ---- the lines before the sub-messages
 
 -- the parts that the canonical text writes for an originator
 abbrev choice : Bool → List ℕ → List Part

@@ -1,4 +1,5 @@
--- Runs of the machine over parts: they follow the lines, and no two runs over the same lines differ.
+-- Runs of the machine over parts: they follow the lines, and no two runs over the same lines
+-- differ.
 use Rattle.std.proofs.Common.{◌≡◌, ℕ, List, [], ◌∷◌, ◌++◌, refl, sym, ap, ◌∙◌, Option, Some, None, codes, true, false}
 use Rattle.std.specs.Prelude.{option_and_then, Bool, if◌then◌else◌}
 use Rattle.std.specs.List.{AllZip}
@@ -69,7 +70,7 @@ reads_on s t lines line r h = record {
   reached = run_on AtStart s t r.parts h.part r.reached h.step;
 }
 
--- ---- a line is spelled by one of the parts that may stand
+-- ---- a line is spelled by one of the parts that are allowed here
 
 unique : {A B : Type 0} (f : B → Option A) (a b : A) (line : B) → f line ≡ Some a → f line ≡ Some b → a ≡ b
 unique f a b line h k = some_same a b (sym h ∙ k)

@@ -191,7 +191,7 @@ new_segment : (equipment : EquipmentValue) (legs : List LegLine) (segments : Lis
 new_segment equipment legs segments s =
     ap (λ (x : List Part). EquipmentPart equipment ∷ x) (append_assoc (map LegPart legs) (map SegmentPart segments) (SegmentPart s ∷ []) ∙ ap (λ (x : List Part). map LegPart legs ++ x) (sym (map-push SegmentPart segments s)))
 
--- a part behind flight and dates
+-- a part after flight and dates
 behind_flight : (a : ActionIdentifier) (d : Designator) (dates : Dates) (body longer : List Part) (p : Part) → body ++ p ∷ [] ≡ longer
     → (ActionPart a ∷ (flight_parts d dates ++ body)) ++ p ∷ [] ≡ ActionPart a ∷ (flight_parts d dates ++ longer)
 behind_flight a d dates body longer p e = ap (λ (x : List Part). ActionPart a ∷ x) (append_assoc (flight_parts d dates) body (p ∷ []) ∙ ap (λ (x : List Part). flight_parts d dates ++ x) e)
@@ -289,7 +289,7 @@ free_on m line ps (t, h, some) = (
   some_more m.free line,
 )
 
--- ---- the front
+-- ---- the lines before the sub-messages
 
 first_base : (o : List ℕ) (kind : Kind) (mode : TimeMode) (r : GivenReference) (front : List Part) → IsFront o kind mode r front → Base (begun o kind mode r) front
 first_base o kind mode r front h = record { front = front; is_front = h; whole = sym (append_none front); few = omega arith; subs = tt; no_free = refl }

@@ -76,7 +76,7 @@ solid_line (x ∷ y ∷ xs) some h =
     let p = and_parts (is_solid x) (list_all is_solid (y ∷ xs)) h in
     line_behind (x ∷ []) (y ∷ xs) (and_from (is_printable x) true (solid_printable x p.0) refl) (solid_line (y ∷ xs) (omega arith) p.1)
 
--- ---- where a mark stands
+-- ---- the position of a mark
 
 same_not : (b : Bool) → not b ≡ true → b ≡ false
 same_not true h = absurd (false_true h)
@@ -119,7 +119,7 @@ before_lacks_at : (mark x : ℕ) (t : Bool) (rest : List ℕ) → (x == mark) �
 before_lacks_at mark x true rest e h = refl
 before_lacks_at mark x false rest e h = and_from (not (x == mark)) (lacks mark rest) (ap not e) h
 
--- what stands before a mark lacks it
+-- the bytes before a mark lack it
 pub before_lacks : (mark : ℕ) (xs : List ℕ) → lacks mark (before mark xs) ≡ true
 before_lacks mark [] = refl
 before_lacks mark (x ∷ xs) = before_lacks_at mark x (x == mark) (before mark xs) refl (before_lacks mark xs)
@@ -167,7 +167,7 @@ some_before (x ∷ xs) h = omega arith
 rest_some : (text : List ℕ) → 1 ≤ length (behind text) → 1 ≤ length (from 32 text)
 rest_some text h = some_before (from 32 text) h
 
--- what stands behind the first word of a line is a line
+-- the bytes after the first word of a line are a line
 pub line_after : (line : List ℕ) → IsLine line → 1 ≤ length (behind line) → IsLine (behind line)
 line_after line l some = line_blanks (from 32 line) (line_from 32 line l (rest_some line some)) some
 

@@ -13,7 +13,7 @@ written_both (p ∷ a) b = ap (λ (x : List ℕ). (part_text p ++ 10 ∷ []) ++ 
 line : Part → List ℕ
 line p = part_text p ++ 10 ∷ []
 
--- one more sub-message behind a divider
+-- one more sub-message after a divider
 pub written_later : (args out mid new : List ℕ) (xs : List Sub) (i : ℕ) (x : Sub) → i < length xs → x ≡ get_or xs i x → out ≡ args ++ written (later_parts (take i xs))
     → mid ≡ out ++ (codes "//" ++ 10 ∷ []) → new ≡ mid ++ written (sub_parts x) → new ≡ args ++ written (later_parts (take (i + 1) xs))
 written_later args out mid new xs i x lt is h k j =

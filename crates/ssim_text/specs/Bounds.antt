@@ -12,18 +12,19 @@ use Rattle.ssim_text.specs.declared.action.Sub.{Sub}
 use Rattle.ssim_text.specs.Bytes.{is_alphanumeric, is_printable}
 use Rattle.ssim_text.specs.Values.{EquipmentValue}
 
--- a variation from 0 to 7
+-- the date variations of a leg line are from 0 to 7
 abbrev pub IsLegBounded : LegLine → Type 0
 IsLegBounded leg = (leg.departure.variation ≤ 7) × (leg.arrival.variation ≤ 7)
 
--- an identifier of three digits, and 1 to 155 bytes that can be printed
+-- a segment line has an identifier of at most three digits and a text of 1 to 155 printable bytes
 pub record IsSegmentBounded (s : SegmentLine) : Type 0 where
   pub identifier : s.identifier ≤ 999
   pub some : 1 ≤ length s.text
   pub few : length s.text ≤ 155
   pub printable : list_all is_printable s.text ≡ true
 
--- a letter; three letters or digits; up to twenty letters; up to twenty letters or digits
+-- An equipment line has a service type of one letter, an aircraft type of three letters or digits,
+-- up to twenty booking designators, and a configuration of up to twenty letters or digits.
 pub record IsEquipmentBounded (e : EquipmentValue) : Type 0 where
   pub service : is_letter e.service ≡ true
   pub aircraft_three : length e.aircraft ≡ 3
@@ -33,11 +34,13 @@ pub record IsEquipmentBounded (e : EquipmentValue) : Type 0 where
   pub configuration_few : length e.configuration ≤ 20
   pub configuration : list_all is_alphanumeric e.configuration ≡ true
 
+-- the lines of new legs have values within their bounds
 pub record AreNewLegsBounded (new : NewLegs) : Type 0 where
   pub equipment : IsEquipmentBounded new.equipment
   pub legs : AllByRecursion IsLegBounded new.legs
   pub segments : AllByRecursion IsSegmentBounded new.segments
 
+-- the lines of an action have values within their bounds
 abbrev pub IsActionBounded : Action → Type 0
 IsActionBounded (action.New new) = AreNewLegsBounded new
 IsActionBounded action.Cnl = Unit {0}
@@ -45,21 +48,23 @@ IsActionBounded (action.Rpl new) = AreNewLegsBounded new
 IsActionBounded (action.Eqt equipment) = IsEquipmentBounded equipment
 IsActionBounded (action.Tim legs) = AllByRecursion IsLegBounded legs
 
+-- the lines of all sub-messages have values within their bounds
 abbrev pub AreSubsBounded : List Sub → Type 0
 AreSubsBounded = AllByRecursion (λ sub. IsActionBounded sub.action)
 
--- 1 to 35 bytes that can be printed
+-- a creator reference has 1 to 35 printable bytes
 pub record IsCreatorBounded (creator : List ℕ) : Type 0 where
   pub some : 1 ≤ length creator
   pub few : length creator ≤ 35
   pub printable : list_all is_printable creator ≡ true
 
--- five and three digits, and the creator's own reference
+-- a reference has a group of at most five digits, a serial of at most three, and a creator
+-- reference within its bounds
 pub record IsReferenceBounded (r : GivenReference) : Type 0 where
   pub group : r.group ≤ 99999
   pub serial : r.serial ≤ 999
   pub creator : IfSome r.creator IsCreatorBounded
 
--- each line can be printed
+-- each line of free text is printable
 abbrev pub AreFreeLinesBounded : List (List ℕ) → Type 0
 AreFreeLinesBounded = AllByRecursion (λ line. list_all is_printable line ≡ true)

@@ -4,7 +4,7 @@ use Rattle.std.specs.List.{list_all}
 use Rattle.ssim_values.specs.Characters.{is_letter, is_digit}
 
 infixl 10 ◌>>=◌
--- a part that says nothing leaves nothing said
+-- what the function gives for the value; None if there is no value
 abbrev pub ◌>>=◌ : {A B : Type 0} → Option A → (A → Option B) → Option B
 (Some x) >>= f = f x
 None >>= f = None
@@ -32,13 +32,14 @@ word = before 32
 abbrev pub behind : List ℕ → List ℕ
 behind line = drop_blanks (from 32 line)
 
+-- whether a byte is a letter or a digit
 abbrev pub is_alphanumeric : ℕ → Bool
 is_alphanumeric b = is_letter b || is_digit b
 
--- the bytes that are allowed in a line
+-- whether a byte is allowed in a line
 abbrev pub is_printable : ℕ → Bool
 is_printable b = nat_le 32 b && nat_le b 126
 
--- a text of a length in bounds, each byte of which passes
+-- whether a text has a length in bounds and each byte passes the test
 abbrev pub is_text_of : (ℕ → Bool) → ℕ → ℕ → List ℕ → Bool
 is_text_of test low high text = nat_le low (length text) && nat_le (length text) high && list_all test text

@@ -14,18 +14,19 @@ use Rattle.ssim_text.specs.Left.{lines_left, texts, numbers, place_number, first
 use Rattle.ssim_text.specs.Canonical.{canonical}
 use Rattle.ssim_text.specs.Spelling.{SpellsMessage}
 
--- the fault is that of the line at this index, or of the end, in the state to which the lines before lead
+-- The lines before the index lead to a state. The fault is the fault of the next line in that
+-- state, or of the end if no line is left.
 pub record IsFaultAt (lines : List (List ℕ)) (index : ℕ) (f : Fault) : Type 0 where
   pub state : State
   pub reads : Reads state (take index lines)
   pub fault : f ≡ fault_before state (drop index lines)
 
--- a refusal for memory says nothing of the lines
+-- the refusal names the first line that is not valid; out of memory says nothing of the lines
 abbrev pub IsPlace : List (List ℕ) → Refusal → Type 0
 IsPlace lines NoMemory = Unit {0}
 IsPlace lines (Misplaced f index) = NamesPlace lines index × IsFaultAt lines index f
 
--- first: the text is too long
+-- check 1: the text is too long
 pub record IsTooLong (text : List ℕ) (f : Fault) (n : ℕ) : Type 0 where
   pub long : 65536 < length text
   pub fault : f ≡ fault.TooMany
@@ -36,13 +37,13 @@ pub record IsReadable (text : List ℕ) : Type 0 where
   pub short : length text ≤ 65536
   pub printable : first_unprintable (lines_left text) ≡ None
 
--- second: a line has a byte outside 32 to 126; it is the first such line
+-- check 2: a line has a byte outside 32 to 126; this is the first such line
 pub record IsNotAscii (text : List ℕ) (f : Fault) (n : ℕ) : Type 0 where
   pub short : length text ≤ 65536
   pub fault : f ≡ fault.NotAscii
   pub line : first_unprintable (lines_left text) ≡ Some n
 
--- third: a line is not valid at its place, or the text ends too early
+-- check 3: a line is not valid at its place, or the text ends too early
 pub record IsMisplaced (text : List ℕ) (f : Fault) (n : ℕ) : Type 0 where
   pub readable : IsReadable text
   pub index : ℕ
@@ -50,7 +51,7 @@ pub record IsMisplaced (text : List ℕ) (f : Fault) (n : ℕ) : Type 0 where
   pub fault : IsFaultAt (texts (lines_left text)) index f
   pub line : n ≡ place_number (numbers (lines_left text)) index
 
--- last: the lines spell a message whose canonical text is too long
+-- check 4: the lines spell a message whose canonical text is too long
 pub record IsWrittenTooLong (text : List ℕ) (f : Fault) (n : ℕ) : Type 0 where
   pub readable : IsReadable text
   pub message : MessageValue
@@ -59,21 +60,22 @@ pub record IsWrittenTooLong (text : List ℕ) (f : Fault) (n : ℕ) : Type 0 whe
   pub fault : f ≡ fault.TooMany
   pub line : n ≡ 1
 
--- the fault and its line, each kind only if none before it applies
+-- the fault of a text and its line: that of the first check that fails
 abbrev pub IsRefusal : List ℕ → TextFault → Type 0
 IsRefusal text answer.Memory = Unit {0}
 IsRefusal text (answer.Refused f n) = IsTooLong text f n ⊎ IsNotAscii text f n ⊎ IsMisplaced text f n ⊎ IsWrittenTooLong text f n
 
--- a text has one fault, at one line
+-- A text has at most one fault, at one line.
 abbrev pub OneRefusal : Type 0
 OneRefusal = (text : List ℕ) (f g : Fault) (m n : ℕ) → IsRefusal text (answer.Refused f m) → IsRefusal text (answer.Refused g n) → (f ≡ g) × (m ≡ n)
 
--- what is refused, but for memory, spells no message
+-- a text that is refused for another reason than memory spells no message
 abbrev pub NoMessage : List ℕ → TextFault → Type 0
 NoMessage text answer.Memory = Unit {0}
 NoMessage text (answer.Refused f n) = (m : MessageValue) → SpellsMessage m text → ⊥
 
--- only the canonical text of what was read is too long
+-- the refusal, if it is not for memory, says that the canonical text of the message is too long:
+-- TooMany at line 1
 abbrev pub IsTooManyAtOne : MessageValue → TextFault → Type 0
 IsTooManyAtOne m answer.Memory = Unit {0}
 IsTooManyAtOne m (answer.Refused f n) = (f ≡ fault.TooMany) × (n ≡ 1) × (65536 < length (canonical m))

@@ -5,6 +5,7 @@ use Rattle.ssim_text.specs.declared.fault.Fault.TheVariants.{BadKind, BadReferen
 use Rattle.ssim_text.specs.declared.fault.TextFault.{TextFault}
 use Rattle.ssim_text.specs.declared.fault.TextFault.TheVariants.{Memory, Refused}
 
+-- the number of each fault
 abbrev pub fault_number : Fault → ℕ
 fault_number BadKind = 20
 fault_number BadReference = 21
@@ -17,6 +18,7 @@ fault_number Extra = 27
 fault_number TooMany = 28
 fault_number NotAscii = 29
 
+-- the name of each fault
 abbrev pub fault_name : Fault → List ℕ
 fault_name BadKind = codes "BadKind"
 fault_name BadReference = codes "BadReference"
@@ -29,14 +31,17 @@ fault_name Extra = codes "Extra"
 fault_name TooMany = codes "TooMany"
 fault_name NotAscii = codes "NotAscii"
 
+-- the number of a text's fault
 abbrev pub text_fault_number : TextFault → ℕ
 text_fault_number Memory = 90
 text_fault_number (Refused fault line) = fault_number fault
 
+-- the name of a text's fault
 abbrev pub text_fault_name : TextFault → List ℕ
 text_fault_name Memory = codes "Memory"
 text_fault_name (Refused fault line) = fault_name fault
 
+-- the line that a text's fault names, if it names one
 abbrev pub text_fault_line : TextFault → Option ℕ
 text_fault_line Memory = None
 text_fault_line (Refused fault line) = Some line

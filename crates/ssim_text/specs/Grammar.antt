@@ -25,7 +25,7 @@ use Rattle.ssim_text.specs.Values.{EquipmentValue, no_originator}
 use Rattle.ssim_text.specs.Lines.{originator_of, kind_text, mode_text, reference_of, identifier_text, SpellsDatedFlight, period_of, equipment_of, leg_of, segment_of, begins_free}
 use Rattle.ssim_text.specs.Message.{MessageValue}
 
--- what one line says
+-- what one line of a message says
 pub data Part : Type 0 where
   OriginatorPart : List ℕ → Part
   KindPart : Kind → Part
@@ -41,7 +41,7 @@ pub data Part : Type 0 where
   Divider : Part
   FreePart : List ℕ → Part
 
--- the line says it
+-- the line spells the part
 abbrev pub Spells : Part → List ℕ → Type 0
 Spells (OriginatorPart originator) line = originator_of line ≡ Some originator
 Spells (KindPart kind) line = line ≡ kind_text kind
@@ -59,14 +59,17 @@ Spells (FreePart free) line = line ≡ free
 
 -- ---- the order of the parts
 
--- an SSM names a flight and then a period, an ASM a flight with its date
+-- the parts of a flight and its dates: in an SSM a flight and then a period, in an ASM a flight
+-- with its date
 abbrev pub flight_parts : Designator → Dates → List Part
 flight_parts designator (Period period) = FlightPart designator ∷ PeriodPart period ∷ []
 flight_parts designator (Date date) = DatedFlightPart designator date ∷ []
 
+-- the parts of new legs: the equipment line, the leg lines, the segment lines
 abbrev pub new_parts : NewLegs → List Part
 new_parts new = EquipmentPart new.equipment ∷ (map LegPart new.legs ++ map SegmentPart new.segments)
 
+-- the identifier of an action
 abbrev pub identifier_of : Action → ActionIdentifier
 identifier_of (action.New new) = identifier.New
 identifier_of action.Cnl = identifier.Cnl
@@ -74,7 +77,7 @@ identifier_of (action.Rpl new) = identifier.Rpl
 identifier_of (action.Eqt equipment) = identifier.Eqt
 identifier_of (action.Tim legs) = identifier.Tim
 
--- the parts after flight and period
+-- the parts of a sub-message after its flight and period
 abbrev pub body_parts : Action → List Part
 body_parts (action.New new) = new_parts new
 body_parts action.Cnl = []
@@ -82,40 +85,45 @@ body_parts (action.Rpl new) = new_parts new
 body_parts (action.Eqt equipment) = EquipmentPart equipment ∷ []
 body_parts (action.Tim legs) = map LegPart legs
 
+-- the parts of a sub-message: the action, the flight with its period or date, and the rest
 abbrev pub sub_parts : Sub → List Part
 sub_parts sub = ActionPart (identifier_of sub.action) ∷ (flight_parts sub.designator sub.dates ++ body_parts sub.action)
 
--- the sub-messages after the first
+-- the parts of the sub-messages after the first
 abbrev pub later_parts : List Sub → List Part
 later_parts [] = []
 later_parts (sub ∷ subs) = Divider ∷ (sub_parts sub ++ later_parts subs)
 
+-- the parts of all sub-messages, with a divider between two of them
 abbrev pub subs_parts : List Sub → List Part
 subs_parts [] = []
 subs_parts (sub ∷ subs) = sub_parts sub ++ later_parts subs
 
+-- the parts of free text, after a divider
 abbrev pub free_parts : List (List ℕ) → List Part
 free_parts [] = []
 free_parts (line ∷ lines) = Divider ∷ map FreePart (line ∷ lines)
 
--- the line before all others, if there is an originator
+-- the parts of an originator: one line, or none if there is no originator
 abbrev pub IsOriginatorPart : List ℕ → List Part → Type 0
 IsOriginatorPart originator parts = ((originator ≡ no_originator) × (parts ≡ [])) ⊎ (parts ≡ OriginatorPart originator ∷ [])
 
--- the line of the time mode, which may be left out for UTC
+-- the parts of a time mode: one line, which may be left out for UTC
 abbrev pub IsModePart : TimeMode → List Part → Type 0
 IsModePart mode parts = (parts ≡ ModePart mode ∷ []) ⊎ ((mode ≡ Utc) × (parts ≡ []))
 
 -- ---- what a message may be
 
--- the n-th leg and the k-th from it on, if the n-th departs there and there is such a k; else a later pair
+-- the pair (n, n + k) if leg n departs from the board point and leg n + k is the next to arrive at
+-- the off point; else a later pair
 abbrev pub pair_at : Bool → Option ℕ → ℕ → Option (ℕ × ℕ) → Option (ℕ × ℕ)
 pair_at true (Some k) n later = Some (n, n + k)
 pair_at true None n later = later
 pair_at false arrival n later = later
 
--- the first leg line that departs the board point and from which on one arrives at the off point, and the first
--- such; n is the number of the first leg of the list
+-- The pair of legs that a segment flies: the first leg that departs from the board point and has,
+-- from it on, a leg that arrives at the off point, and the first such arrival. Both are given by
+-- their indices; n is the index of the first leg of the list.
 abbrev pub leg_pair : List ℕ → List ℕ → ℕ → List LegLine → Option (ℕ × ℕ)
 leg_pair board off n [] = None
 leg_pair board off n (leg ∷ legs) =
@@ -125,12 +133,14 @@ leg_pair board off n (leg ∷ legs) =
 abbrev pub flies : List LegLine → SegmentLine → Bool
 flies legs segment = is_some (leg_pair segment.board segment.off 0 legs)
 
+-- new legs are allowed: 1 to 20 legs and up to 99 segments, each flown by the legs
 pub record IsNewLegs (new : NewLegs) : Type 0 where
   pub some : 1 ≤ length new.legs
   pub legs : length new.legs ≤ 20
   pub segments : length new.segments ≤ 99
   pub flown : AllByRecursion (λ segment. flies new.legs segment ≡ true) new.segments
 
+-- the lines of an action are allowed
 abbrev pub IsBody : Action → Type 0
 IsBody (action.New new) = IsNewLegs new
 IsBody action.Cnl = Unit {0}
@@ -138,21 +148,23 @@ IsBody (action.Rpl new) = IsNewLegs new
 IsBody (action.Eqt equipment) = Unit {0}
 IsBody (action.Tim legs) = (1 ≤ length legs) × (length legs ≤ 20)
 
--- an SSM gives periods, an ASM single dates
+-- the dates fit the kind of message: periods in an SSM, single dates in an ASM
 abbrev pub AreDates : Kind → Dates → Type 0
 AreDates Ssm (Period period) = Unit {0}
 AreDates Asm (Date date) = Unit {0}
 AreDates kind dates = ⊥
 
+-- the sub-message is allowed in a message of this kind
 pub record IsSub (kind : Kind) (sub : Sub) : Type 0 where
   pub dates : AreDates kind sub.dates
   pub body : IsBody sub.action
 
--- free text begins with SI
+-- the free text, if there is any, begins with SI
 abbrev pub BeginsFree : List (List ℕ) → Type 0
 BeginsFree [] = Unit {0}
 BeginsFree (line ∷ lines) = begins_free line ≡ true
 
+-- the message is allowed: 1 to 250 sub-messages, each allowed, and free text that begins with SI
 pub record IsShape (m : MessageValue) : Type 0 where
   pub some : 1 ≤ length m.subs
   pub few : length m.subs ≤ 250
@@ -182,7 +194,7 @@ pub record SpellsText (m : MessageValue) (lines : List (List ℕ)) : Type 0 wher
   pub has_parts : HasParts m parts
   pub spelled : AllZip Spells parts lines
 
--- what an action needs
+-- the last lines of a shortest message with this action
 abbrev pub needs : ActionIdentifier → List (List ℕ)
 needs identifier.New = codes "J 320" ∷ codes "ZRH0000 LHR0000" ∷ []
 needs identifier.Cnl = []
@@ -195,24 +207,27 @@ abbrev pub shortest : Kind → ActionIdentifier → List (List ℕ)
 shortest Ssm a = codes "SSM" ∷ codes "UTC" ∷ codes "01JAN00001E001" ∷ identifier_text a ∷ codes "LX1" ∷ codes "01JAN25 01JAN25 1" ∷ needs a
 shortest Asm a = codes "ASM" ∷ codes "UTC" ∷ codes "01JAN00001E001" ∷ identifier_text a ∷ codes "LX1/01JAN25" ∷ needs a
 
--- what lines may be completed with: free text, or the end of a shortest text
+-- What valid lines may be completed with: a line of free text, or the last lines of a shortest
+-- message. NamesPlace needs no other completions.
 abbrev pub IsCompletion : List (List ℕ) → Type 0
 IsCompletion c = (c ≡ codes "SI" ∷ []) ⊎ ((n : ℕ) × (kind : Kind) × (a : ActionIdentifier) × (c ≡ drop n (shortest kind a)))
 
--- a text begins so
+-- The lines are the beginning of some message's text.
 pub record Starts (lines : List (List ℕ)) : Type 0 where
   pub completion : List (List ℕ)
   pub is_completion : IsCompletion completion
   pub message : MessageValue
   pub spelled : SpellsText message (lines ++ completion)
 
--- the line with this index is the first after which no text is possible, or the lines end too early
+-- The lines are no message's text. The index names the first line after which no message is
+-- possible: the lines before it begin some message, and with it they begin none. If the index is
+-- the number of lines, the text ends too early.
 pub record NamesPlace (lines : List (List ℕ)) (index : ℕ) : Type 0 where
   pub starts : Starts (take index lines)
   pub within : index ≤ length lines
   pub no_text : (m : MessageValue) → SpellsText m lines → ⊥
   pub starts_no_more : index < length lines → Starts (take (index + 1) lines) → ⊥
 
--- no text spells two messages
+-- No text spells two messages.
 abbrev pub OneMessage : Type 0
 OneMessage = (a b : MessageValue) (lines : List (List ℕ)) → SpellsText a lines → SpellsText b lines → a ≡ b

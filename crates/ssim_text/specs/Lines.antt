@@ -31,47 +31,51 @@ use Rattle.ssim_values.specs.Designator.{SpellsDesignator}
 use Rattle.ssim_text.specs.Values.{EquipmentValue}
 use Rattle.ssim_text.specs.Bytes.{◌>>=◌, before, from, word, behind, is_alphanumeric, is_text_of}
 
--- ---- the front
+-- ---- the lines before the sub-messages
 
--- DDMMM
+-- the day and month of a text of five bytes, as 01JAN
 abbrev pub month_day_in : List ℕ → Option MonthDay
 month_day_in text = if length text == 5 then month_day_of text else None
 
+-- an address: seven letters or digits
 abbrev pub address_of : List ℕ → Option (List ℕ)
 address_of text = if length text == 7 then (if list_all is_alphanumeric text then Some text else None) else None
 
--- nothing, or a blank
+-- whether a text is empty or a blank
 abbrev pub is_blank_or_none : List ℕ → Bool
 is_blank_or_none text = bytes_eq text [] || bytes_eq text (codes " ")
 
--- a dot and seven letters or digits; what follows a blank is dropped
+-- the originator of a line: a dot and seven letters or digits; text after a blank is dropped
 unfoldable pub originator_of : List ℕ → Option (List ℕ)
 originator_of line =
     if bytes_eq (take 1 line) (codes ".")
     then (if is_blank_or_none (take 1 (drop 7 (drop 1 line))) then address_of (take 7 (drop 1 line)) else None) else None
 
+-- the line of a message kind
 abbrev pub kind_text : Kind → List ℕ
 kind_text Ssm = codes "SSM"
 kind_text Asm = codes "ASM"
 
+-- the line of a time mode
 abbrev pub mode_text : TimeMode → List ℕ
 mode_text Utc = codes "UTC"
 mode_text Local = codes "LT"
 
--- the number that low to high digits spell
+-- the number that a text of `low` to `high` digits spells
 abbrev pub digits_in : ℕ → ℕ → List ℕ → Option ℕ
 digits_in low high text = if is_text_of is_digit low high text then Some (number_of text) else None
 
+-- the group code of a letter
 abbrev pub group_code_of : List ℕ → Option GroupCode
 group_code_of (b ∷ []) = if b == 67 then Some Continuation else (if b == 69 then Some End else None)
 group_code_of text = None
 
--- nothing, or a solidus and 1 to 35 bytes
+-- the creator reference: nothing, or a solidus and 1 to 35 bytes
 abbrev pub creator_of : List ℕ → Option (Option (List ℕ))
 creator_of [] = Some None
 creator_of (b ∷ text) = if (b == 47) && nat_le 1 (length text) && nat_le (length text) 35 then Some (Some text) else None
 
--- day and month, five digits, the group code, three digits
+-- the reference without its creator: day and month, five digits, the group code, three digits
 unfoldable pub numbers_of : List ℕ → Option (MonthDay × ℕ × GroupCode × ℕ)
 numbers_of text = do
   date ← month_day_in (take 5 text)
@@ -80,7 +84,7 @@ numbers_of text = do
   serial ← digits_in 3 3 (drop 1 (drop 5 (drop 5 text)))
   Some (date, group, code, serial)
 
--- fourteen bytes, and the creator reference
+-- the reference of a line: fourteen bytes, and the creator reference
 unfoldable pub reference_of : List ℕ → Option GivenReference
 reference_of line = do
   numbers ← numbers_of (take 14 line)
@@ -89,28 +93,28 @@ reference_of line = do
 
 -- ---- the flight and its dates
 
--- DDMMMYY, a day
+-- the day of a text of seven bytes, as 01JAN26
 abbrev pub day_in : List ℕ → Option ℕ
 day_in text = if length text == 7 then day_of text else None
 
--- with a year or without
+-- the date of a text, with a year or without
 abbrev pub date_of : List ℕ → Option GivenDate
 date_of text = if length text == 7 then option_map Full (day_of text) else option_map Yearless (month_day_in text)
 
--- a date, or the open end
+-- the last date of a text, or the open end
 abbrev pub last_date_of : List ℕ → Option GivenEnd
 last_date_of text = if bytes_eq text (codes "00XXX00") then Some Open else option_map Until (date_of text)
 
--- days of operation without blanks
+-- the days of operation of a text without blanks
 abbrev pub compact_days_of : List ℕ → Option (List Bool)
 compact_days_of text = if list_all is_digit text then days_of text else None
 
--- the flight line of an SSM is a designator, that of an ASM a designator, a solidus and a date
+-- the flight line of an ASM: a designator, a solidus and a date
 pub record SpellsDatedFlight (designator : Designator) (date : GivenDate) (line : List ℕ) : Type 0 where
   pub designator_spelled : SpellsDesignator designator (before 47 line)
   pub date_spelled : date_of (drop 1 (from 47 line)) ≡ Some date
 
--- first date, last date, days
+-- the period of a line: first date, last date, days
 unfoldable pub period_of : List ℕ → Option GivenPeriod
 period_of line = do
   first ← date_of (word line)
@@ -120,22 +124,25 @@ period_of line = do
 
 -- ---- the equipment
 
+-- the service type: one letter
 abbrev pub service_of : List ℕ → Option ℕ
 service_of (b ∷ []) = if is_letter b then Some b else None
 service_of text = None
 
+-- the aircraft type: three letters or digits
 abbrev pub aircraft_of : List ℕ → Option (List ℕ)
 aircraft_of text = if is_text_of is_alphanumeric 3 3 text then Some text else None
 
+-- the booking designators: up to 20 letters
 abbrev pub designators_of : List ℕ → Option (List ℕ)
 designators_of text = if is_text_of is_letter 0 20 text then Some text else None
 
--- nothing, or a dot and the configuration
+-- the configuration: nothing, or a dot and 1 to 20 letters or digits
 abbrev pub configuration_of : List ℕ → Option (List ℕ)
 configuration_of [] = Some []
 configuration_of (b ∷ text) = if (b == 46) && is_text_of is_alphanumeric 1 20 text then Some text else None
 
--- service type, aircraft type, and a third part that may be left out
+-- the equipment of a line: service type, aircraft type, and a third part that may be left out
 unfoldable pub equipment_of : List ℕ → Option EquipmentValue
 equipment_of line = do
   service ← service_of (word line)
@@ -146,23 +153,25 @@ equipment_of line = do
 
 -- ---- the leg lines
 
+-- the station of a text of three letters
 abbrev pub station_in : List ℕ → Option (List ℕ)
 station_in text = if length text == 3 then (if is_station text then Some text else None) else None
 
+-- the time of a text of four digits
 abbrev pub clock_in : List ℕ → Option ℕ
 clock_in text = if length text == 4 then clock_of text else None
 
--- a solidus and a digit from 0 to 7
+-- the date variation of a text: a solidus and a digit from 0 to 7
 abbrev pub variation_of : List ℕ → Option ℕ
 variation_of (b ∷ d ∷ []) = if (b == 47) && nat_le 48 d && nat_le d 55 then Some (d - 48) else None
 variation_of text = None
 
--- a solidus and a time
+-- the passenger time of a text: a solidus and a time
 abbrev pub passenger_of : List ℕ → Option ℕ
 passenger_of [] = None
 passenger_of (b ∷ text) = if b == 47 then clock_in text else None
 
--- the date variation and the passenger time, either of which may be left out
+-- the date variation and the passenger time of a text, either of which may be left out
 unfoldable pub variations_of : ℕ → List ℕ → Option (ℕ × ℕ)
 variations_of time text =
     if length text == 0 then Some (0, time)
@@ -170,7 +179,7 @@ variations_of time text =
     else if length text == 5 then (passenger_of text >>= λ p. Some (0, p))
     else (variation_of (take 2 text) >>= λ v. passenger_of (drop 2 text) >>= λ p. Some (v, p))
 
--- a station, a time, and the rest
+-- one end of a leg line: a station, a time, and the variations
 unfoldable pub end_of : List ℕ → Option LegEnd
 end_of text = do
   station ← station_in (take 3 text)
@@ -178,7 +187,7 @@ end_of text = do
   rest ← variations_of time (drop 4 (drop 3 text))
   Some (record { station = station; time = time; variation = rest.0; passenger = rest.1 })
 
--- departure and arrival
+-- the leg of a line: departure and arrival
 unfoldable pub leg_of : List ℕ → Option LegLine
 leg_of line = do
   departure ← end_of (word line)
@@ -187,18 +196,18 @@ leg_of line = do
 
 -- ---- the segment lines
 
--- a solidus and 1 to 155 bytes
+-- the text of a segment line: a solidus and 1 to 155 bytes
 abbrev pub segment_text_of : List ℕ → Option (List ℕ)
 segment_text_of [] = None
 segment_text_of (b ∷ text) = if (b == 47) && nat_le 1 (length text) && nat_le (length text) 155 then Some text else None
 
--- two stations in one word, but not all points
+-- the board and off point: two stations in one word, which is not the word for all points
 abbrev pub points_of : List ℕ → Option (List ℕ × List ℕ)
 points_of text =
     if bytes_eq text (codes "QQQQQQ") then None
     else (station_in (take 3 text) >>= λ board. station_in (drop 3 text) >>= λ off. Some (board, off))
 
--- board and off point, identifier, and a text
+-- the segment of a line: board and off point, identifier, and a text
 unfoldable pub segment_of : List ℕ → Option SegmentLine
 segment_of line = do
   points ← points_of (word line)
@@ -208,6 +217,7 @@ segment_of line = do
 
 -- ---- the words
 
+-- the line of an action identifier
 abbrev pub identifier_text : ActionIdentifier → List ℕ
 identifier_text identifier.New = codes "NEW"
 identifier_text identifier.Cnl = codes "CNL"

@@ -1,4 +1,4 @@
--- How a message grows, part by part.
+-- The states of reading a message part by part, and the fault of each state.
 use Rattle.std.specs.Prelude.{option_and_then, ◌≡◌, ℕ, nat_lt, if◌then◌else◌, Bool, true, false, ◌&&◌, Option, Some, None, List, [], ◌∷◌, ◌++◌, length, ◌||◌, is_some}
 use Rattle.std.specs.List.{list_any, AllZip}
 use Rattle.std.specs.Str.{bytes_eq}
@@ -31,18 +31,20 @@ use Rattle.ssim_text.specs.Lines.{begins_free, identifier_text, leg_of, segment_
 use Rattle.ssim_text.specs.Message.{MessageValue, begun, with_sub, with_free}
 use Rattle.ssim_text.specs.Grammar.{Part, OriginatorPart, KindPart, ModePart, ReferencePart, ActionPart, FlightPart, DatedFlightPart, PeriodPart, EquipmentPart, LegPart, SegmentPart, Divider, FreePart, Spells, flies}
 
+-- the sub-message with this flight, these dates and this action
 abbrev pub sub_of : Designator → Dates → Action → Sub
 sub_of designator dates action = record { designator = designator; dates = dates; action = action }
 
--- next in an SSM is a flight, in an ASM a flight with its date
+-- the state after the action line: an SSM has a flight line next, an ASM a flight line with a date
 abbrev pub flight_wanted : Kind → MessageValue → ActionIdentifier → State
 flight_wanted Ssm m a = AtFlight m a
 flight_wanted Asm m a = AtDatedFlight m a
 
+-- a sub-message that has no leg line yet
 abbrev pub no_legs : Designator → Dates → Change → Body
 no_legs designator dates change = record { designator = designator; dates = dates; change = change; legs = []; segments = [] }
 
--- after flight and period
+-- the state after the flight with its period or date: expects the lines that the action needs
 abbrev pub body_wanted : ActionIdentifier → MessageValue → Designator → Dates → State
 body_wanted identifier.New m designator dates = AtEquipment m equipped.New designator dates
 body_wanted identifier.Cnl m designator dates = AtEnd (with_sub m (sub_of designator dates action.Cnl))
@@ -50,41 +52,48 @@ body_wanted identifier.Rpl m designator dates = AtEquipment m equipped.Rpl desig
 body_wanted identifier.Eqt m designator dates = AtEquipment m equipped.Eqt designator dates
 body_wanted identifier.Tim m designator dates = AtLegs m (no_legs designator dates change.Tim)
 
--- after the equipment line
+-- the state after the equipment line: expects leg lines for NEW and RPL, nothing more for EQT
 abbrev pub after_equipment : Equipped → MessageValue → Designator → Dates → EquipmentValue → State
 after_equipment equipped.New m designator dates equipment = AtLegs m (no_legs designator dates (change.New equipment))
 after_equipment equipped.Rpl m designator dates equipment = AtLegs m (no_legs designator dates (change.Rpl equipment))
 after_equipment equipped.Eqt m designator dates equipment = AtEnd (with_sub m (sub_of designator dates (action.Eqt equipment)))
 
+-- whether a list is empty
 abbrev pub is_none_yet : {A : Type 0} → List A → Bool
 is_none_yet [] = true
 is_none_yet (x ∷ xs) = false
 
+-- the sub-message with one more leg line
 abbrev pub with_leg : Body → LegLine → Body
 with_leg b leg = record b { legs = b.legs ++ leg ∷ [] }
 
+-- the sub-message with one more segment line
 abbrev pub with_segment : Body → SegmentLine → Body
 with_segment b segment = record b { segments = b.segments ++ segment ∷ [] }
 
--- a further leg line is allowed
+-- whether one more leg line is allowed: fewer than 20 leg lines so far, and no segment line
 abbrev pub takes_leg : Body → Bool
 takes_leg b = is_none_yet b.segments && nat_lt (length b.legs) 20
 
+-- whether the action may have segment lines
 abbrev pub has_segments : Change → Bool
 has_segments change.Tim = false
 has_segments (change.New equipment) = true
 has_segments (change.Rpl equipment) = true
 
--- the segment line is allowed, their number aside
+-- whether the segment line fits the legs, whatever the number of segment lines
 abbrev pub fits_segment : Body → SegmentLine → Bool
 fits_segment b segment = has_segments b.change && flies b.legs segment
 
+-- whether the segment line is allowed: it fits the legs, and there are fewer than 99
 abbrev pub takes_segment : Body → SegmentLine → Bool
 takes_segment b segment = fits_segment b segment && nat_lt (length b.segments) 99
 
+-- whether the sub-message has the leg line that it needs
 abbrev pub is_whole : Body → Bool
 is_whole b = nat_lt 0 (length b.legs)
 
+-- the action with these legs and segments
 abbrev pub action_of : Change → List LegLine → List SegmentLine → Action
 action_of change.Tim legs segments = action.Tim legs
 action_of (change.New equipment) legs segments = action.New (record { equipment = equipment; legs = legs; segments = segments })
@@ -94,7 +103,8 @@ action_of (change.Rpl equipment) legs segments = action.Rpl (record { equipment 
 abbrev pub with_body : MessageValue → Body → MessageValue
 with_body m b = with_sub m (sub_of b.designator b.dates (action_of b.change b.legs b.segments))
 
--- the state after this part, if it is allowed here
+-- The state after this part, or None if the part is not allowed in this state. A state says which
+-- parts may come next.
 abbrev pub step : State → Part → Option State
 step AtStart (OriginatorPart originator) = Some (AtKind originator)
 step AtStart (KindPart kind) = Some (AtMode no_originator kind)
@@ -116,25 +126,25 @@ step (AtNext m) (FreePart line) = if begins_free line then Some (AtFree (with_fr
 step (AtFree m) (FreePart line) = Some (AtFree (with_free m line))
 step s p = None
 
--- what is read after these parts
+-- the state after these parts, or None if one of them is not allowed
 abbrev pub run : State → List Part → Option State
 run s [] = Some s
 run s (p ∷ ps) = option_and_then (λ t. run t ps) (step s p)
 
--- these lines lead to this state
+-- these lines lead from the start to this state
 pub record Reads (s : State) (lines : List (List ℕ)) : Type 0 where
   pub parts : List Part
   pub spelled : AllZip Spells parts lines
   pub reached : run AtStart parts ≡ Some s
 
--- the message, if the text may end here
+-- the message of a text that ends in this state, if it may end here
 abbrev pub finish : State → Option MessageValue
 finish (AtLegs m b) = if is_whole b then Some (with_body m b) else None
 finish (AtEnd m) = Some m
 finish (AtFree m) = Some m
 finish s = None
 
--- the fault of a text that ends here
+-- The fault of a text that ends in this state. Its number says which part was expected.
 abbrev pub fault_at : State → Fault
 fault_at AtStart = fault.BadKind
 fault_at (AtKind originator) = fault.BadKind
@@ -150,22 +160,24 @@ fault_at (AtEnd m) = fault.Extra
 fault_at (AtNext m) = fault.BadAction
 fault_at (AtFree m) = fault.Extra
 
--- one of the five actions
+-- whether a line is one of the five action identifiers
 abbrev pub is_action : List ℕ → Bool
 is_action line = list_any (λ a. bytes_eq line (identifier_text a)) (identifier.New ∷ identifier.Cnl ∷ identifier.Rpl ∷ identifier.Eqt ∷ identifier.Tim ∷ [])
 
+-- whether the line is a segment line that fits the legs
 abbrev pub fits_if_segment : Body → Option SegmentLine → Bool
 fits_if_segment b None = false
 fits_if_segment b (Some segment) = fits_segment b segment
 
--- the fault of a line that is not allowed: TooMany only if it would be allowed but for the number
+-- The fault of a line that is not allowed in this state. It says which part was expected, or
+-- TooMany if only the number of lines or sub-messages forbids the line.
 abbrev pub fault_of : State → List ℕ → Fault
 fault_of (AtLegs m b) line =
     if (is_some (leg_of line) && is_none_yet b.segments) || fits_if_segment b (segment_of line) then fault.TooMany else fault.BadLeg
 fault_of (AtNext m) line = if is_action line then fault.TooMany else fault.BadAction
 fault_of s line = fault_at s
 
--- the fault of the first line left, which is not allowed, or of the end
+-- the fault of the first of these lines, which is not allowed, or of the end if there is no line
 abbrev pub fault_before : State → List (List ℕ) → Fault
 fault_before s [] = fault_at s
 fault_before s (line ∷ lines) = fault_of s line
@@ -176,18 +188,21 @@ pub record Takes (s : State) (line : List ℕ) (next : State) : Type 0 where
   pub spelled : Spells part line
   pub step : step s part ≡ Some next
 
--- no part that is allowed here is spelled so
+-- the line spells no part that is allowed in this state
 abbrev pub Refuses : State → List ℕ → Type 0
 Refuses s line = (part : Part) → Spells part line → step s part ≡ None
 
--- reading stops for memory, or since no part is spelled so
+-- reading stops at this line: memory ran out, or the line spells no part that is allowed in this
+-- state
 abbrev pub StopsAt : State → List ℕ → Stop → Type 0
 StopsAt s line OutOfMemory = Unit {0}
 StopsAt s line (Refused f) = Refuses s line × (f ≡ fault_of s line)
 
+-- the text may end in this state, and spells this message
 abbrev pub Finishes : State → MessageValue → Type 0
 Finishes s m = finish s ≡ Some m
 
+-- why a text that ends in this state has no message; out of memory says nothing of the text
 abbrev pub EndsShort : State → Stop → Type 0
 EndsShort s OutOfMemory = Unit {0}
 EndsShort s (Refused f) = (finish s ≡ None) × (f ≡ fault_at s)

@@ -5,6 +5,7 @@ use Rattle.ssim_values.specs.declared.time_mode.TimeMode.{TimeMode}
 use Rattle.ssim_text.specs.declared.reference.GivenReference.{GivenReference}
 use Rattle.ssim_text.specs.declared.action.Sub.{Sub}
 
+-- a message
 pub record MessageValue : Type 0 where
   pub originator : List ℕ
   pub kind : Kind
@@ -13,12 +14,14 @@ pub record MessageValue : Type 0 where
   pub subs : List Sub
   pub free : List (List ℕ)
 
--- a message without sub-messages yet
+-- a message that has no sub-message yet
 abbrev pub begun : List ℕ → Kind → TimeMode → GivenReference → MessageValue
 begun originator kind mode reference = record { originator = originator; kind = kind; mode = mode; reference = reference; subs = []; free = [] }
 
+-- the message with one more sub-message
 abbrev pub with_sub : MessageValue → Sub → MessageValue
 with_sub m sub = record m { subs = m.subs ++ sub ∷ [] }
 
+-- the message with one more line of free text
 abbrev pub with_free : MessageValue → List ℕ → MessageValue
 with_free m line = record m { free = m.free ++ line ∷ [] }

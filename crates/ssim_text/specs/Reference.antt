@@ -9,20 +9,21 @@ use Rattle.ssim_text.specs.Canonical.{five_digits, three_digits}
 use Rattle.ssim_text.specs.Lines.{kind_text}
 use Rattle.ssim_text.specs.Values.{no_originator}
 
--- an SSM comes before an ASM
+-- the number of a message kind; an SSM comes before an ASM
 abbrev pub kind_number : Kind → ℕ
 kind_number Ssm = 0
 kind_number Asm = 1
 
--- references are compared as these lists, from the first number on
+-- the list of numbers by which references are ordered, the first number first
 abbrev pub reference_numbers : Reference → List ℕ
 reference_numbers r = r.date ∷ r.group ∷ r.serial ∷ kind_number r.kind ∷ r.originator
 
--- nothing if the originator is blank
+-- the text of an originator; nothing if it is blank
 abbrev pub printed_originator : List ℕ → List ℕ
 printed_originator originator = if bytes_eq originator no_originator then [] else 32 ∷ originator
 
--- the kind, the date with its year, the group serial, the message serial and the originator: SSM 01JUN25 00001 001
+-- the kind, the date with its year, the group serial, the message serial and the originator: SSM
+-- 01JUN25 00001 001
 abbrev pub printed_reference : Reference → List ℕ
 printed_reference r =
     kind_text r.kind ++ 32 ∷ day_text r.date ++ 32 ∷ five_digits r.group ++ 32 ∷ three_digits r.serial ++ printed_originator r.originator

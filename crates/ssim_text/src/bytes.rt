@@ -28,7 +28,8 @@ pub(crate) fn skip_blanks(text: &[u8]) -> &[u8]
     text
 }
 
-/// The first word, and the bytes after the blanks that follow it. The word is empty if the line begins with a blank.
+/// The first word, and the bytes after the blanks that follow it. The word is empty if the line
+/// begins with a blank.
 pub fn first_word(line: &[u8]) -> (&[u8], &[u8])
     ensures word { result.0.now ≡ word line.now }
     ensures behind { result.1.now ≡ behind line.now }

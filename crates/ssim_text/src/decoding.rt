@@ -61,8 +61,8 @@ fn finished(alloc: Global, draft: Draft) -> Result<Message, TextFault>
 /// A text that spells no message is refused, in this order:
 /// - 28 at line 1 if it has more than 65,536 bytes;
 /// - 29 at the first line with a byte outside 32 to 126, after the dropping;
-/// - the number of what was expected, 20 to 28, at the first line after which no valid message is possible, or at the
-///   line after the last if the text ends too early;
+/// - the number of what was expected, 20 to 28, at the first line after which no valid message is
+///   possible, or at the line after the last if the text ends too early;
 /// - 28 at line 1 if only the canonical text has more than 65,536 bytes.
 pub fn decode(alloc: Global, text: &[u8]) -> Result<Message, TextFault>
     ensures found { IfOk result (λ m. SpellsMessage m text.now) }

@@ -5,8 +5,8 @@ ghost use Rattle.ssim_text.specs.Lines.{kind_text, mode_text, identifier_text};
 use ssim_values::TimeMode;
 use std::fmt;
 
-/// Whether a message is a Standard Schedules Message (chapter 4) or an Ad hoc Schedules Message (chapter 5). It is
-/// displayed as its name.
+/// Whether a message is a Standard Schedules Message (chapter 4) or an Ad hoc Schedules Message
+/// (chapter 5). It is displayed as its name.
 #[derive(Clone, Copy, Debug, PartialEq, Eq, PartialOrd, Ord)]
 pub enum Kind {
     Ssm,

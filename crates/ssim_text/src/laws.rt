@@ -9,8 +9,8 @@ pub fn one_message()
     ensures { OneMessage }
 {}
 
-/// A text that spells no message has one fault, at one line. So all refusals of the text by [`decode`](crate::decode), but for memory, are
-/// equal.
+/// A text that spells no message has one fault, at one line. So all refusals of the text by
+/// [`decode`](crate::decode), but for memory, are equal.
 pub fn one_refusal()
     ensures { OneRefusal }
 {}

@@ -18,7 +18,7 @@ pub struct LegEnd {
     pub time: Clock,
     /// Days after the flight's date of origin, 0 to 7.
     pub variation: u8,
-    /// The passengers' time, that of the aircraft unless another was given.
+    /// The passengers' time; the aircraft's time if none was given.
     pub passenger: Clock,
 }
 
@@ -187,15 +187,16 @@ fn departs_from(leg: &LegLine, station: Station) -> bool
     leg.departure.station == station
 }
 
-/// The place of the first leg line that arrives at a station.
+/// The index of the first leg line that arrives at a station.
 fn arrival_in(legs: &[LegLine], station: Station) -> Option<usize>
     ensures { result ≡ position (λ l. bytes_eq l.arrival.station station) legs.now }
 {
     legs.iter().position(|leg| arrives_at(leg, station))
 }
 
-/// The first leg line that departs the board point and has one, itself or a later one, that arrives
-/// at the off point, and the first such; counted from 0.
+/// The pair of leg lines that a segment flies: the first that departs from the board point and has,
+/// from it on, one that arrives at the off point, and the first such arrival. Both are counted from
+/// 0.
 pub fn leg_pair(legs: &[LegLine], board: Station, off: Station) -> Option<(usize, usize)>
     ensures { result ≡ leg_pair board off 0 legs.now }
 {

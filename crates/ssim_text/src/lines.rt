@@ -1,4 +1,4 @@
-//! The lines of a text that are left after the dropping.
+//! The lines of a text without empty lines, and without blanks and CR bytes at their ends.
 ghost use Rattle.std.specs.Prelude.{◌≡◌, ◌≤◌, ◌++◌, [], length, map, IfOk};
 ghost use Rattle.ssim_text.specs.Left.{is_dropped, without_end, numbered, lines_left, place_number, numbers, first_unprintable};
 ghost use Rattle.ssim_text.specs.Bytes.{is_printable};
@@ -7,7 +7,7 @@ ghost use Rattle.std.specs.List.{list_all};
 use crate::bytes::cut;
 use std::alloc::{AllocError, Global};
 
-/// A line that is left after the dropping.
+/// A line of a text that is not empty.
 #[derive(Clone, Copy)]
 pub(crate) struct Line<'a> {
     /// Its number in the text, from 1.
@@ -50,7 +50,7 @@ fn with_line<'a>(
     Ok(lines)
 }
 
-/// The lines that are left of a text, with their numbers.
+/// The lines of a text that are not empty, with their numbers.
 pub(crate) fn lines_left<'a>(alloc: Global, text: &'a [u8]) -> Result<Vec<Line<'a>>, AllocError>
     requires { length text.now ≤ 65536 }
     ensures { IfOk result (λ v. map (λ l. (l.number, l.bytes.now)) v.items ≡ lines_left text.now) }
@@ -89,7 +89,7 @@ pub(crate) fn first_unprintable(lines: &[Line]) -> Option<u32>
     None
 }
 
-/// The number of the line at an index, or one more than that of the last line, or 1 without lines.
+/// The number of the line at an index; past the last line, its number plus one; 1 without lines.
 pub(crate) fn number_at(lines: &[Line], index: usize) -> usize
     ensures { result ≡ place_number (numbers (map (λ l. (l.number, l.bytes.now)) lines.now)) index }
 {

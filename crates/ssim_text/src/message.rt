@@ -200,8 +200,9 @@ impl Message {
         Message { content, text }
     }
 
-    /// The canonical text: one LF after each line, the mode line always, single blanks between parts, and each value in
-    /// its one written form. It spells the message, so decoding it gives an equal one.
+    /// The canonical text: one LF after each line, the mode line always, single blanks between
+    /// parts, and each value in its one written form. It spells the message, so decoding it gives
+    /// an equal one.
     pub fn text(&self) -> &[u8]
         ensures written { result.now ≡ canonical self.now }
         ensures spells { SpellsMessage self.now result.now }
@@ -246,8 +247,8 @@ impl Message {
         self.content.mode()
     }
 
-    /// The reference as it was given: its group has five digits at most, its serial three, and the creator's own
-    /// reference 1 to 35 bytes from 32 to 126.
+    /// The reference as it was given: its group has five digits at most, its serial three, and the
+    /// creator's own reference 1 to 35 bytes from 32 to 126.
     pub fn reference(&self) -> &GivenReference
         ensures value { result.now ≡ self.now.reference }
         ensures bounded { IsReferenceBounded self.now.reference }
@@ -255,8 +256,8 @@ impl Message {
         self.content.reference()
     }
 
-    /// The sub-messages, in their order: 1 to 250, each with the dates of the message's kind, 1 to 20 leg lines if its
-    /// action has any, and values in their bounds.
+    /// The sub-messages, in their order: 1 to 250, each with the dates of the message's kind, 1 to
+    /// 20 leg lines if its action has any, and values in their bounds.
     pub fn subs(&self) -> &[Sub]
         ensures value { result.now ≡ self.now.subs }
         ensures shape { IsShape self.now }

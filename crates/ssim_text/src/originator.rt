@@ -7,8 +7,8 @@ use crate::bytes::{all_alphanumeric, front};
 use std::fmt;
 use std::marker::Model;
 
-/// The address of the sender of a text: seven letters or digits, or seven blanks if the text has none. It is displayed
-/// as these seven characters.
+/// The address of the sender of a text: seven letters or digits, or seven blanks if the text has
+/// none. It is displayed as these seven characters.
 #[derive(Clone, Copy, Debug, PartialEq, Eq, PartialOrd, Ord)]
 pub struct Originator {
     bytes: [u8; 7],

@@ -16,10 +16,11 @@ use std::cmp::Ordering;
 use std::fmt;
 use std::marker::Model;
 
-/// The reference of a message, with its year. References are compared field by field, from the first.
+/// The reference of a message, with its year. References are compared field by field, from the
+/// first.
 ///
-/// It is displayed as kind, date, group serial and message serial (`SSM 01JUN25 00001 001`), and the originator if it is
-/// not blank.
+/// It is displayed as kind, date, group serial and message serial (`SSM 01JUN25 00001 001`), and
+/// the originator if it is not blank.
 #[derive(Clone, Copy, Debug, PartialEq, Eq, PartialOrd, Ord)]
 pub struct Reference {
     /// The date of the reference, with its year.
@@ -37,8 +38,8 @@ impl Reference {
     ghost use Rattle.std.specs.Cmp.Lexicographic.{slice_cmp};
     ghost use Rattle.ssim_text.specs.Reference.{reference_numbers};
 
-    /// Which of two references comes first: by date, group serial, message serial, kind (SSM before ASM),
-    /// and the bytes of the originator.
+    /// Which of two references comes first: by date, group serial, message serial, kind (SSM before
+    /// ASM), and the bytes of the originator.
     pub fn order(&self, other: &Reference) -> Ordering
         ensures { result ≡ slice_cmp nat_cmp (reference_numbers self.now) (reference_numbers other.now) }
     {

@@ -1,4 +1,4 @@
--- The bytes passed stand before the mark.
+-- The bytes passed come before the mark.
 use Rattle.std.proofs.Common.{◌≡◌, ◌++◌, take, drop}
 use Rattle.ssim_text.specs.Bytes.{before, from}
 use Rattle.ssim_text.proofs.bytes.cut.Given as goal

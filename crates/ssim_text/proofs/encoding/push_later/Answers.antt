@@ -1,4 +1,4 @@
--- A divider stands before each sub-message.
+-- A divider comes before each sub-message.
 use Rattle.ssim_text.proofs.Writing.{written_later}
 use Rattle.ssim_text.proofs.encoding.push_later.Goals as goal
 

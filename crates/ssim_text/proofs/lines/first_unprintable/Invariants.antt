@@ -1,4 +1,4 @@
--- Each line passed may stand.
+-- Each line passed has printable bytes alone.
 use Rattle.std.proofs.Common.{◌≡◌, map, drop}
 use Rattle.ssim_text.specs.Left.{first_unprintable}
 use Rattle.ssim_text.proofs.lines.first_unprintable.Given as goal

@@ -1,4 +1,4 @@
--- The number so far is that of the digits passed.
+-- The number so far is the number of the digits passed.
 use Rattle.std.proofs.Common.{◌≡◌, ◌<◌, ◌^◌, take}
 use Rattle.ssim_values.specs.Flight.{number_of}
 use Rattle.ssim_text.proofs.reference.number.Given as goal

@@ -1,4 +1,4 @@
--- A flight with its date leads on; what is none may not stand.
+-- A flight with its date is allowed, and no other line.
 use Rattle.std.proofs.Common.{refl, sym, subst}
 use Rattle.ssim_text.specs.declared.state.State.{State}
 use Rattle.ssim_text.specs.declared.state.State.TheVariants.{AtDatedFlight}

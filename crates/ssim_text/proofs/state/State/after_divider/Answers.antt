@@ -1,4 +1,4 @@
--- Behind a divider stands an action, while there is room, or free text.
+-- After a divider comes an action, while there is room, or free text.
 use Rattle.std.proofs.Common.{arith, sym, ◌∙◌}
 use Rattle.ssim_text.proofs.Arms.{take_next, take_first_free, no_next}
 use Rattle.ssim_text.proofs.state.State.after_divider.Goals as goal

@@ -1,4 +1,4 @@
--- A leg line behind a segment line, and the 21st.
+-- A leg line after a segment line, and the 21st leg line.
 use Rattle.std.proofs.Common.{arith, sym, ap, ◌∙◌, length}
 use Rattle.ssim_text.proofs.Arms.{leg_behind_segments, legs_full}
 use Rattle.ssim_text.proofs.state.State.after_leg.Goals as goal
