@@ -1,4 +1,4 @@
--- A block that is read where it stands: it is as if its bytes had been fetched, and the block taken.
+-- Reading a block without a copy gives the same as fetching its bytes and taking the block.
 use Rattle.std.proofs.Common.{◌≡◌, ℕ, ◌+◌, ◌-◌, ◌≤◌, Bool, true, false, List, [], ◌∷◌, ◌++◌, length, take, drop, Option, Some, Ok, refl, sym, ap, ◌∙◌, append_assoc, arith}
 use Rattle.std.proofs.lemmas.List.{length-append, length-take, length-take-le, append-nil, take_at, take-append-le, take-append-drop}
 use Rattle.std.specs.Prelude.{nat_lt}
@@ -9,13 +9,13 @@ use Rattle.ssim_records.proofs.Framing.{Stays, fetches_first, fetches_on, gives_
 use Rattle.ssim_records.proofs.LineEnds.{is_end, trim_front, trim_less, trim_pass}
 use Rattle.ssim_records.proofs.Slices.{front_length, same_front}
 
--- ---- the block that stands first
+-- ---- the block at the beginning
 
 trimmed_end : (behind : Bool) (bytes : List ℕ) → (front : List ℕ) × (bytes ≡ front ++ trim behind bytes)
 trimmed_end true bytes = is_end bytes
 trimmed_end false bytes = ([], refl)
 
--- Line ends in front of a block are passed over without what follows the block.
+-- Line ends before a block are passed over, whatever follows the block.
 trimmed_alone : (behind : Bool) (first block later : List ℕ) → 2 ≤ length block → trim behind (first ++ later) ≡ block ++ later → trim behind first ≡ block
 trimmed_alone behind first block later long is =
     let t = trim behind first in

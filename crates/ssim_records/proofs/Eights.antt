@@ -1,4 +1,4 @@
--- Texts that are the same in front, and at the end, are the same.
+-- Texts with the same first bytes and the same last bytes are the same.
 use Rattle.std.proofs.Common.{◌≡◌, ℕ, ◌+◌, ◌-◌, ◌≤◌, IsTrue, Bool, true, false, List, length, take, drop, refl, sym, ap, ◌∙◌, arith}
 use Rattle.std.specs.Prelude.{slice_range}
 use Rattle.std.proofs.lemmas.List.{take-take, take_all}
@@ -20,7 +20,7 @@ front_grows x y p front part =
 shorter_front : (x y : List ℕ) (p q : ℕ) → q ≤ p → take p x ≡ take p y → take q x ≡ take q y
 shorter_front x y p q le front = sym (take-take q p x le) ∙ ap (take q) front ∙ take-take q p y le
 
--- the front reaches the last eight bytes
+-- the first part reaches the last eight bytes
 pub same_by_end : (x y : List ℕ) (p last : ℕ) → last ≤ p → length x ≡ last + 8 → length y ≡ last + 8 → take p x ≡ take p y → slice_range x last (last + 8) ≡ slice_range y last (last + 8) → x ≡ y
 same_by_end x y p last le len other front end =
     sym (take_all (last + 8) x (omega (arith, len))) ∙ front_grows x y last (shorter_front x y p last le front) end ∙ take_all (last + 8) y (omega (arith, other))

@@ -1,4 +1,5 @@
--- The steps of framing: what is ahead stays the same while bytes are fetched, and falls by the blocks that are given.
+-- The steps of framing: what is ahead stays the same while bytes are fetched, and falls by the
+-- blocks that are given.
 use Rattle.std.proofs.Common.{◌≡◌, ℕ, ◌+◌, ◌-◌, ◌%◌, ◌^◌, ◌<◌, ◌≤◌, Bool, true, false, List, [], ◌∷◌, ◌++◌, length, Option, Some, None, Ok, Err, refl, sym, ap, subst, ◌∙◌, append_assoc, arith}
 use Rattle.std.specs.Prelude.{nat_lt, Result}
 use Rattle.std.specs.Io.KnownBytes.{IsAtEnd}
@@ -14,14 +15,15 @@ use Rattle.ssim_records.specs.Blocks.{SameAhead, NextBlock, GivesBlock, GivesOth
 use Rattle.ssim_records.proofs.LineEnds.{trim_front, trim_pass, trim_twice, trim_less}
 use Rattle.ssim_records.proofs.Slices.{same_front, same_back}
 
--- what came and what is held, where it is told: the bytes that were fetched are held behind those from before, but for line ends in front
+-- what came and what is held, if the reader reports its bytes: the fetched bytes are held after the
+-- earlier ones, without line ends at the beginning
 abbrev pub Stays : Bool → ℕ → List ℕ → Option (List ℕ) → ℕ → List ℕ → Option (List ℕ) → Type 0
 Stays behind came held None came' held' left' = Unit {0}
 Stays behind came held (Some left) came' held' None = ⊥
 Stays behind came held (Some left) came' held' (Some left') =
     (fetched : List ℕ) × (came' + length left' ≡ came + length left) × (left ≡ fetched ++ left') × (trim behind (held ++ fetched) ≡ trim behind held')
 
--- what stands ahead is the same, line ends in front left out
+-- what is ahead is the same, without line ends at the beginning
 same_ahead : (behind : Bool) (came came' : ℕ) (held held' x y : List ℕ) → Stays behind came held (Some x) came' held' (Some y) → trim behind (held' ++ y) ≡ trim behind (held ++ x)
 same_ahead behind came came' held held' x y stays =
     sym (trim_pass behind held' y)
@@ -39,7 +41,7 @@ grown (b ∷ held) (c ∷ held') x y n same len =
     let on = grown held held' x y n later (omega (arith, len)) in
     (on.0, ap (λ (k : ℕ). k ∷ held') first ∙ ap (λ (t : List ℕ). b ∷ t) on.1, on.2)
 
--- the bytes that were fetched, where an answer counts no block
+-- the bytes that were fetched, if the result counts no block
 pub none_taken : (behind : Bool) (came0 came : ℕ) (old held : List ℕ) (left0 left1 : Option (List ℕ)) → Stays behind came0 old left0 came held left1 → Fetches behind 0 old left0 0 held left1
 none_taken behind came0 came old held None left1 stays = tt
 none_taken behind came0 came old held (Some x) None stays = stays
@@ -159,7 +161,7 @@ counts_twice None None None r0 r1 r2 came0 came1 came2 h k = omega (arith, h, k)
 pub some_before : (n : ℕ) → nat_lt 0 (n + 1) ≡ true
 some_before n = grind (arith, nat_tests)
 
--- what holds of bytes holds with more behind them
+-- what holds of bytes holds with more bytes after them
 takes_more : (behind : Bool) (bytes more : List ℕ) (blocks : List (List ℕ)) (held : List ℕ) → Takes behind bytes blocks held → Takes behind (bytes ++ more) blocks (held ++ more)
 takes_more behind bytes more [] held t = sym (trim_pass behind bytes more) ∙ ap (λ (x : List ℕ). trim behind (x ++ more)) t ∙ trim_pass behind held more
 takes_more behind bytes more (b ∷ bs) held t =
@@ -203,14 +205,15 @@ fetches_on n n1 n2 m m1 held held1 held2 (Some x) (Some y) (Some z) a b e = (
       (takes_on n ((held ++ a.0) ++ b.0) a.1 b.1 (held1 ++ b.0) held2 (takes_more (nat_lt 0 n) (held ++ a.0) b.0 a.1 held1 a.4) (subst (λ (k : ℕ). Takes (nat_lt 0 k) (held1 ++ b.0) b.1 held2) a.3 b.4)),
 )
 
--- Where too few bytes for a block are held, the blocks are all that there are in the bytes that came.
+-- Where too few bytes for a block are held, the blocks are all that there are in the bytes that
+-- came.
 pub takes_all : (behind : Bool) (bytes : List ℕ) (blocks : List (List ℕ)) (held : List ℕ) → Takes behind bytes blocks held → length held < 200 → (rest : List ℕ) × Frames 0 behind bytes blocks rest
 takes_all behind bytes [] held t few = (trim behind bytes, (refl, omega (arith, ap length t, trim_less behind held, few)))
 takes_all behind bytes (b ∷ bs) held t few =
     let later = takes_all true t.0 bs held t.3 few in
     (later.0, (t.0, t.1, t.2, omega arith, later.1))
 
--- The block in front is the first of the frames, where it lies before the limit.
+-- The block at the beginning is the first of the frames, if it ends within the limit.
 pub first_frame : (over : ℕ) (behind : Bool) (bytes block later : List ℕ) (blocks : List (List ℕ)) (rest : List ℕ) → length block ≡ 200 → trim behind bytes ≡ block ++ later → over ≤ length later → Frames over behind bytes blocks rest
     → (more : List (List ℕ)) × (blocks ≡ block ∷ more) × Frames over true later more rest
 first_frame over behind bytes block later [] rest len parts room h =
@@ -230,7 +233,7 @@ no_frame over behind bytes (b ∷ bs) rest few h = absurd (omega (arith, ap leng
 
 -- ---- blocks of fill
 
--- what is left, behind the blocks of fill that were counted
+-- what is left after the blocks of fill that were counted
 abbrev pub Skipped : ℕ → ℕ → ℕ → List ℕ → Option (List ℕ) → ℕ → ℕ → List ℕ → Option (List ℕ) → Type 0
 Skipped limit n came held None n' came' held' left' = Unit {0}
 Skipped limit n came held (Some left) n' came' held' None = ⊥
@@ -266,7 +269,7 @@ one_more limit n n1 came came1 came2 held held1 held2 (Some x) (Some y) (Some z)
       (g.0, t.1 ∙ same, omega (arith, t.2, ap length g.1), g.2),
 )
 
--- the number of the answer
+-- the number of the result
 abbrev pub Counts : ℕ → ℕ → Result (Option (List ℕ)) Stop → Type 0
 Counts n n' (Ok None) = n' ≡ n
 Counts n n' (Ok (Some block)) = (n' ≡ n + 1) × (is_fill block ≡ false)

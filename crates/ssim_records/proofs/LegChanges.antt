@@ -1,4 +1,5 @@
--- Times and equipment land in their columns of a leg, the other columns stay, and the result is valid.
+-- Times and equipment land in their columns of a leg, the other columns stay, and the result is
+-- valid.
 use Rattle.std.proofs.Common.{◌≡◌, ◌≤◌, ◌<◌, ◌+◌, ◌-◌, ℕ, List, [], ◌∷◌, length, None, refl, sym, subst, ap, ◌∙◌, lit<, lit≤, IsTrue}
 use Rattle.std.specs.Prelude.{slice_range, replicate}
 use Rattle.std.specs.List.{list_all, AllZip}
@@ -247,7 +248,8 @@ times_stand t d x ok h n c =
       );
     }
 
--- the columns from first to last are carried if those up to and those from a column between them are
+-- the columns from first to last are carried if those up to and those from a column between them
+-- are
 carried_both : (b : List ℕ) (i j k : ℕ) → i ≤ j → j ≤ k → IsTrue (list_all is_carried (slice_range b i j)) → IsTrue (list_all is_carried (slice_range b j k)) → IsTrue (list_all is_carried (slice_range b i k))
 carried_both b i j k ij jk h g =
     subst (λ (z : List ℕ). IsTrue (list_all is_carried z)) (sym (slice_cut b i j k ij jk)) (carried_append (slice_range b i j) (slice_range b j k) h g)

@@ -53,7 +53,7 @@ texts_lie r fits =
     let three = length_slice r.columns 92 158 (lit≤ tt) (omega arith) in
     (refl, (refl, (length_airline r.name.airline fits.name.airline, (refl, (refl, (refl, (one, (length_day r.first fits.first, (length_end r.first r.last fits.last, (length_places r.days fits.days, (refl, (two, (refl, (three, (refl, tt)))))))))))))))
 
--- where each field stands in what is written
+-- the position of each field in what is written
 record Lies (r : LegFields) (b : List ℕ) : Type 0 where
   kind : columns 1 1 b ≡ codes "3"
   name : NameLies r.name b
@@ -76,7 +76,7 @@ lies r fits =
 abbrev behind_middle : List Field
 behind_middle = field 128 128 Carried ∷ field 129 194 Carried ∷ field 195 200 Digits ∷ []
 
--- fields that stand so spell the record
+-- valid fields at these positions spell the record
 spells : (r : LegFields) (b : List ℕ) → IsLeg r → Lies r b → SpellsLeg r b
 spells r b fits at =
     let name = spells_name r.name b fits.name at.name in
@@ -138,7 +138,7 @@ length_leg r fits = length_concat (1 ∷ 1 ∷ 3 ∷ 4 ∷ 2 ∷ 2 ∷ 1 ∷ 7 �
 
 -- ---- bytes that spell a leg, and the leg as it is written
 
--- where the parts of the own columns stand in the bytes
+-- the positions of the parts of the own columns in the bytes
 own_parts : (b : List ℕ) (d : List ℕ) → length b ≡ 200 → own_columns b ≡ d → (columns 14 14 b ≡ slice_range d 0 1) × (columns 37 127 b ≡ slice_range d 1 92) × (columns 129 194 b ≡ slice_range d 92 158)
 own_parts b d len own =
     let one = length_slice b 13 14 (lit≤ tt) (omega arith) in

@@ -1,4 +1,4 @@
--- Line ends at the front of bytes, passed over in one go or in two.
+-- Line ends at the beginning of bytes, passed over in one step or in two.
 use Rattle.std.proofs.Common.{◌≡◌, ℕ, ◌<◌, ◌≤◌, ◌==◌, Bool, true, false, ◌&&◌, List, [], ◌∷◌, ◌++◌, length, refl, sym, ap, ◌∙◌, arith, ◌⊎◌, inl, inr}
 use Rattle.std.proofs.lemmas.Bool.Decides.{nat_tests}
 use Rattle.std.proofs.lemmas.List.{length-append, append-nil}
@@ -8,7 +8,7 @@ pub pick : (t : Bool) → (t ≡ true) ⊎ (t ≡ false)
 pick true = inl refl
 pick false = inr refl
 
--- what is passed over in front is passed over with what follows
+-- line ends that are passed over are passed over whatever follows
 pub pass_front : (P L : List ℕ) → drop_line_ends (drop_line_ends P ++ L) ≡ drop_line_ends (P ++ L)
 pass_front [] L = refl
 pass_front (b ∷ []) [] = elim (pick (b == 10)) [ inl t ↦ simp t | inr f ↦ simp f ]
@@ -19,7 +19,7 @@ pass_front (b ∷ c ∷ bs) L =
       | inr f ↦ elim (pick (b == 13 && c == 10)) [ inl t ↦ simp (f, t) (pass_front bs L) | inr u ↦ simp (f, u) ]
     ]
 
--- two bytes or more that are left in front are left
+-- if two bytes or more are left at the beginning, they stay with more bytes after them
 pub left_front : (P L : List ℕ) → 2 ≤ length (drop_line_ends P) → drop_line_ends (P ++ L) ≡ drop_line_ends P ++ L
 left_front [] L h = absurd (omega (arith, h))
 left_front (b ∷ []) L h = elim (pick (b == 10)) [ inl t ↦ let k = simp t at h in absurd (omega (arith, k)) | inr f ↦ let k = simp f at h in absurd (omega (arith, k)) ]
@@ -29,7 +29,7 @@ left_front (b ∷ c ∷ bs) L h =
       | inr f ↦ elim (pick (b == 13 && c == 10)) [ inl t ↦ let k = simp (f, t) at h in simp (f, t) (left_front bs L k) | inr u ↦ simp (f, u) ]
     ]
 
--- what is left behind line ends is the end of the bytes
+-- what is left after line ends is the end of the bytes
 pub is_end : (P : List ℕ) → (front : List ℕ) × (P ≡ front ++ drop_line_ends P)
 is_end [] = ([], refl)
 is_end (b ∷ []) = elim (pick (b == 10)) [ inl t ↦ (b ∷ [], simp t) | inr f ↦ ([], simp f) ]
@@ -53,7 +53,7 @@ no_line_end b (c ∷ bs) h = let lf : (b == 10) ≡ false = grind (arith, nat_te
 pub one_line_end : (b : ℕ) (more : List ℕ) → 13 < b → drop_line_ends (10 ∷ b ∷ more) ≡ b ∷ more
 one_line_end b more h = no_line_end b more h
 
--- ---- behind a block or not
+-- ---- after a block or not
 
 pub trim_front : (started : Bool) (P L : List ℕ) → 2 ≤ length (trim started P) → trim started (P ++ L) ≡ trim started P ++ L
 trim_front true P L h = left_front P L h

@@ -1,4 +1,5 @@
--- Which leg a record speaks of: columns 2 to 13 say one name, and what is written for it is read again.
+-- Which leg a record speaks of: columns 2 to 13 say one name, and what is written for it is read
+-- again.
 use Rattle.std.proofs.Common.{◌≡◌, ℕ, suc, ◌^◌, ◌<◌, Bool, ◌&&◌, List, [], ◌∷◌, length, Option, Some, None, refl, sym, ap, ◌∙◌, arith, inl, inr, lit≤}
 use Rattle.std.specs.Prelude.{IsSome, IsTrue, ◌==◌}
 use Rattle.std.specs.Bool.{Decides}
@@ -40,7 +41,7 @@ names_decide m n =
     let parts = Decides-and _ _ airline (Decides-and _ _ flight place) in
     (λ h. let p = parts.0 h in sym (made m) ∙ (rw (p.0, p.1.0.0, p.1.0.1, p.1.1.0, p.1.1.1) refl) ∙ made n, λ e. parts.1 (rw e (refl, ((refl, refl), (refl, refl)))))
 
--- where each part of the name stands in what is written
+-- the position of each part of the name in what is written
 pub record NameLies (n : Name) (b : List ℕ) : Type 0 where
   pub suffix : columns 2 2 b ≡ n.flight.suffix ∷ []
   pub airline : columns 3 5 b ≡ n.airline
@@ -59,7 +60,7 @@ spells_name n b fits at =
       sequence = ap sequence_of at.sequence ∙ sequence_of-digits 1 n.sequence fits.sequence_from fits.sequence_to;
     }
 
--- a name whose numbers are digits alone stands as it is written
+-- a name whose numbers have only digits is as it is written
 number_written : (t : List ℕ) (w n : ℕ) → length t ≡ w → IsSome (digits_of t) → number_of t ≡ Some n → t ≡ digits w n
 number_written t w n len some read = by (digits_of t) refl some
   where

@@ -1,4 +1,5 @@
--- Texts written over parts of a list: each is in its place afterwards, and the other places are as before.
+-- Texts written over parts of a list: each is in its place afterwards, and the other places are as
+-- before.
 use Rattle.std.proofs.Common.{◌≡◌, ℕ, ◌+◌, ◌-◌, ◌≤◌, Bool, true, ◌&&◌, ◌||◌, List, [], ◌∷◌, ◌++◌, length, take, drop, refl, sym, ap, ◌∙◌, append_assoc, IsTrue, arith, inl, inr}
 use Rattle.std.specs.Prelude.{slice_range, nat_le}
 use Rattle.std.specs.List.{concat}

@@ -61,7 +61,7 @@ length_own b len =
 abbrev behind_middle : List Field
 behind_middle = field 128 128 Carried ∷ field 129 194 Carried ∷ field 195 200 Digits ∷ []
 
--- a record's leg columns stand apart from it
+-- a record's leg columns are copied out of the record
 pub are_leg_columns : (b : List ℕ) → length b ≡ 200 → EachStands b leg_table → AreLegColumns (own_columns b)
 are_leg_columns b len h =
     let s = spread_parts (own_columns b) (length_own b len) in

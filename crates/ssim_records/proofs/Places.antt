@@ -1,4 +1,4 @@
--- Parts that stand one after another, each in its place.
+-- Parts one after another, each at its position.
 use Rattle.std.proofs.Common.{◌≡◌, ℕ, ◌+◌, ◌-◌, List, [], ◌∷◌, ◌++◌, length, take, drop, Option, Some, None, refl, sym, ap, ◌∙◌, append_assoc, arith}
 use Rattle.std.specs.Prelude.{slice_range}
 use Rattle.std.specs.List.{concat, AllZip}
@@ -9,7 +9,7 @@ use Rattle.ssim_records.specs.declared.field.Kind.TheVariants.{Dates}
 use Rattle.ssim_records.specs.Columns.{columns, fault_in, dates_fault, end_from}
 use Rattle.ssim_records.proofs.Slices.{slice_in}
 
--- the parts stand one after another, from place n on, each as wide as it is said to be
+-- the parts come one after another, from position n on, each of its width
 abbrev pub Placed : ℕ → List ℕ → List (List ℕ) → List ℕ → Type 0
 Placed n [] ps b = Unit {0}
 Placed n (w ∷ ws) [] b = Unit {0}

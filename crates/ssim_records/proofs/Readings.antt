@@ -1,4 +1,4 @@
--- The answer of a reading, from the next block that is not fill.
+-- The result of a reading, from the next block that is not fill.
 use Rattle.std.proofs.Common.{◌≡◌, ℕ, ◌+◌, ◌*◌, ◌<◌, ◌≤◌, List, Option, Some, None, Ok, Err, refl}
 use Rattle.std.specs.Prelude.{Result, slice_index}
 use Rattle.ssim_records.specs.declared.blocks.Stop.{Stop}
@@ -69,7 +69,7 @@ refused_holds n held (BadColumn m column) h = tt
 refused_holds n held (ReadFault m) h = absurd h
 refused_holds n held (ReaderNeverEnds m) h = tt
 
--- ---- answers
+-- ---- results
 
 -- what the blocks of a reading give
 abbrev pub Gives : Reading → Option (List ℕ) → Reading → Option (List ℕ) → Result (Option (List ℕ)) Stop → Type 0

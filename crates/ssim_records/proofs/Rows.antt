@@ -1,4 +1,4 @@
--- Fields that stand, in one list of bytes and in another.
+-- Valid fields, in one list of bytes and in another.
 use Rattle.std.proofs.Common.{◌≡◌, ℕ, ◌+◌, ◌-◌, ◌<◌, ◌≤◌, Bool, true, false, List, [], ◌∷◌, ◌++◌, Option, Some, None, refl, sym, ap, ◌∙◌, arith, ◌&&◌, inl, inr}
 use Rattle.std.specs.Prelude.{slice_range}
 use Rattle.ssim_records.specs.declared.field.Field.{Field}

@@ -1,5 +1,5 @@
--- Records with the same bytes in columns that are parsed have the same flight, the same leg of it, the same ends of a period, and the same
--- days.
+-- Records with the same bytes in columns that are parsed have the same flight, the same leg of it,
+-- the same ends of a period, and the same days.
 use Rattle.std.proofs.Common.{◌≡◌, ℕ, Bool, ◌+◌, ◌≤◌, List, sym, ap, ◌∙◌, lit≤}
 use Rattle.std.specs.Prelude.{slice_range, Some}
 use Rattle.ssim_values.specs.Day.{day_of}

@@ -182,7 +182,7 @@ length_segment r fits = length_concat (1 ∷ 1 ∷ 3 ∷ 4 ∷ 2 ∷ 2 ∷ 1 ∷
 
 -- ---- bytes that spell a segment, and the segment as it is written
 
--- where the parts of the tail stand in the bytes
+-- the positions of the parts of the tail in the bytes
 tail_stands : (b : List ℕ) (d : List ℕ) → length b ≡ 200 → tail_of b ≡ d → (columns 15 27 b ≡ slice_range d 0 13) × (columns 29 194 b ≡ slice_range d 13 179)
 tail_stands b d len tail =
     let one = length_slice b 14 27 (lit≤ tt) (omega arith) in

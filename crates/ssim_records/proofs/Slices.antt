@@ -13,7 +13,7 @@ slice_in x from to i j le h =
     let s : j - i ≤ to - from - i = omega arith in
     rw (w, m, drop-take i (to - from - i) (drop from x), drop-drop i from x) (take-take (j - i) (to - from - i) (drop (from + i) x) s)
 
--- one list begins in one way with so many elements
+-- a list has one prefix of each length
 pub same_front : (a b x y : List ℕ) → length a ≡ length b → a ++ x ≡ b ++ y → a ≡ b
 same_front a b x y len e = sym (take_at a x (length b) len) ∙ ap (take (length b)) e ∙ take_at b y (length b) refl
 

@@ -1,4 +1,5 @@
--- Bytes that are held: what a fetch, a block that is taken, and line ends that are passed over leave of them.
+-- Bytes that are held: what a fetch, a block that is taken, and line ends that are passed over
+-- leave of them.
 use Rattle.std.proofs.Common.{◌≡◌, ℕ, suc, ◌+◌, ◌-◌, ◌≤◌, List, [], ◌∷◌, ◌++◌, length, take, drop, Option, Some, None, refl, sym, ap, ◌∙◌, append_assoc, arith}
 use Rattle.std.specs.Prelude.{slice_range}
 use Rattle.std.specs.List.{copy_within}

@@ -4,17 +4,19 @@ use Rattle.ssim_records.specs.declared.blocks.Stop.{Stop}
 use Rattle.ssim_records.specs.declared.blocks.Stop.TheVariants.{Short, ReadFault, ReaderNeverEnds}
 use Rattle.ssim_records.specs.Frames.{trim, Frames, is_fill, others}
 
--- What is held, followed by what is left, stays the same, where it is told.
+-- No byte is lost or added: the held bytes followed by the reader's remaining bytes stay the same.
+-- Nothing is said if the reader does not report its bytes.
 abbrev pub SameAhead : List ℕ → Option (List ℕ) → List ℕ → Option (List ℕ) → Type 0
 SameAhead held None held' left' = Unit {0}
 SameAhead held (Some left) held' None = ⊥
 SameAhead held (Some left) held' (Some left') = held' ++ left' ≡ held ++ left
 
--- how many of all bytes come behind the limit
+-- the number of bytes after the limit, of those that came and those left
 abbrev pub beyond : ℕ → ℕ → List ℕ → ℕ
 beyond limit came left = (came + length left) - limit
 
--- the answer, of all that stands ahead
+-- the result of looking for the next block in the bytes ahead: the end, a block, or why there is
+-- none; `over` is the number of bytes after the limit
 abbrev pub NextBlock : ℕ → List ℕ → List ℕ → Result (Option (List ℕ)) Stop → Type 0
 NextBlock over ahead later (Ok None) = (ahead ≡ []) × (over ≡ 0)
 NextBlock over ahead later (Ok (Some block)) = (length block ≡ 200) × (ahead ≡ block ++ later) × (over ≤ length later)
@@ -22,48 +24,52 @@ NextBlock over ahead later (Err Short) = (0 < length ahead) × (length ahead < 2
 NextBlock over ahead later (Err ReadFault) = Unit {0}
 NextBlock over ahead later (Err ReaderNeverEnds) = (0 < over) × (length ahead < 200 + over)
 
+-- the result of fetching the next block is right for the bytes that were held and left; nothing is
+-- said if the reader does not report its bytes
 abbrev pub GivesBlock : ℕ → Bool → ℕ → List ℕ → Option (List ℕ) → ℕ → List ℕ → Option (List ℕ) → Result (Option (List ℕ)) Stop → Type 0
 GivesBlock limit behind came held None came' held' left' result = Unit {0}
 GivesBlock limit behind came held (Some left) came' held' None result = ⊥
 GivesBlock limit behind came held (Some left) came' held' (Some left') result =
     (came' + length left' ≡ came + length left) × NextBlock (beyond limit came left) (trim behind (held ++ left)) (held' ++ left') result
 
--- what is ahead, where blocks were counted
+-- the blocks and the rest ahead of a reading that has counted this number of blocks
 abbrev pub Ahead : ℕ → ℕ → ℕ → List ℕ → List ℕ → List (List ℕ) → List ℕ → Type 0
 Ahead limit number came held left blocks rest = Frames (beyond limit came left) (nat_lt 0 number) (held ++ left) blocks rest
 
--- The bytes are these blocks, line ends behind each, and then those that are held, but for line ends in front of these.
+-- The bytes are these blocks, line ends after each, and then the held bytes; line ends before the
+-- held bytes do not count.
 abbrev pub Takes : Bool → List ℕ → List (List ℕ) → List ℕ → Type 0
 Takes behind bytes [] held = trim behind bytes ≡ trim behind held
 Takes behind bytes (block ∷ blocks) held = (later : List ℕ) × (length block ≡ 200) × (trim behind bytes ≡ block ++ later) × Takes true later blocks held
 
--- Of the bytes that the reader had left, some were fetched. With what was held before them they are the blocks that were counted since,
--- and then what is held now.
+-- Some of the reader's bytes were fetched. Together with the bytes held before, they are the blocks
+-- counted since, followed by the bytes held now.
 abbrev pub Fetches : Bool → ℕ → List ℕ → Option (List ℕ) → ℕ → List ℕ → Option (List ℕ) → Type 0
 Fetches behind number held None number' held' left' = Unit {0}
 Fetches behind number held (Some left) number' held' None = ⊥
 Fetches behind number held (Some left) number' held' (Some left') =
     (fetched : List ℕ) × (blocks : List (List ℕ)) × (left ≡ fetched ++ left') × (number' ≡ number + length blocks) × Takes behind (held ++ fetched) blocks held'
 
--- the answer of a call that says whether the bytes that are held begin with the next block
+-- the next block as a result, if the call says whether the held bytes begin with it
 abbrev pub with_front : List ℕ → Result Bool Stop → Result (Option (List ℕ)) Stop
 with_front held (Ok false) = Ok None
 with_front held (Ok true) = Ok (Some (take 200 held))
 with_front held (Err stop) = Err stop
 
--- what is held after that block, or all if there is none
+-- the bytes held after the block is taken; all of them if there is none
 abbrev pub behind_front : Result Bool Stop → List ℕ → List ℕ
 behind_front (Ok false) held = held
 behind_front (Ok true) held = drop 200 held
 behind_front (Err stop) held = held
 
--- how many blocks an answer counts
+-- the number of blocks in a result
 abbrev pub block_count : Result (Option (List ℕ)) Stop → ℕ
 block_count (Ok None) = 0
 block_count (Ok (Some block)) = 1
 block_count (Err stop) = 0
 
--- The first `count` of the bytes are a block that is not fill, and line ends in front of it if they are behind a block.
+-- The first `count` bytes are a block that is not fill. If `behind` is true, line ends may come
+-- before it.
 abbrev pub StandsFirst : Bool → List ℕ → List ℕ → ℕ → Type 0
 StandsFirst behind bytes block count = (length block ≡ 200) × (count ≤ length bytes) × (trim behind (take count bytes) ≡ block) × (is_fill block ≡ false)
 
@@ -74,7 +80,8 @@ HoldsFew held (Err Short) = Unit {0}
 HoldsFew held (Err ReadFault) = length held < 200
 HoldsFew held (Err ReaderNeverEnds) = Unit {0}
 
--- the answer, of the blocks and the rest that are ahead
+-- The result for the blocks and the rest ahead: the next block that is not fill, with its number;
+-- or the end; or the fault at the end. A failure of the reader leaves only fill counted.
 abbrev pub NextOther : ℕ → ℕ → List (List ℕ) → List ℕ → ℕ → (List (List ℕ) → Type 0) → Result (Option (List ℕ)) Stop → Type 0
 NextOther over number blocks rest number' After (Ok None) = (others number blocks ≡ []) × (number' ≡ number + length blocks) × (rest ≡ []) × (over ≡ 0)
 NextOther over number blocks rest number' After (Ok (Some block)) =
@@ -83,6 +90,8 @@ NextOther over number blocks rest number' After (Err Short) = (others number blo
 NextOther over number blocks rest number' After (Err ReadFault) = (later : List (List ℕ)) × (others number blocks ≡ others number' later) × (number' + length later ≡ number + length blocks)
 NextOther over number blocks rest number' After (Err ReaderNeverEnds) = (others number blocks ≡ []) × (number' ≡ number + length blocks) × (0 < over)
 
+-- the result of fetching the next block other than fill is right for the blocks and the rest that
+-- were ahead; nothing is said if the reader does not report its bytes
 abbrev pub GivesOther : ℕ → ℕ → ℕ → List ℕ → Option (List ℕ) → ℕ → ℕ → List ℕ → Option (List ℕ) → Result (Option (List ℕ)) Stop → Type 0
 GivesOther limit number came held None number' came' held' left' result = Unit {0}
 GivesOther limit number came held (Some left) number' came' held' None result = ⊥
@@ -91,14 +100,14 @@ GivesOther limit number came held (Some left) number' came' held' (Some left') r
     × ((blocks : List (List ℕ)) → (rest : List ℕ) → Ahead limit number came held left blocks rest
     → NextOther (beyond limit came left) number blocks rest number' (λ later. Ahead limit number' came' held' left' later rest) result)
 
--- a failure was counted exactly where the answer is a read fault
+-- the reader's failures are counted: one more if the result is a read fault, else none
 abbrev pub FailsOnce : ℕ → ℕ → Result (Option (List ℕ)) Stop → Type 0
 FailsOnce old new (Ok o) = new ≡ old
 FailsOnce old new (Err Short) = new ≡ old
 FailsOnce old new (Err ReadFault) = new ≡ (old + 1) % 2 ^ 64
 FailsOnce old new (Err ReaderNeverEnds) = new ≡ old
 
--- A source that does not tell its bytes counted as many as came.
+-- A source that does not report its bytes has counted the bytes that came.
 abbrev pub CountsOn : Option (List ℕ) → Option (List ℕ) → ℕ → ℕ → ℕ → ℕ → Type 0
 CountsOn (Some left) left' old new came came' = Unit {0}
 CountsOn None (Some left) old new came came' = ⊥

@@ -12,8 +12,8 @@ use Rattle.ssim_records.specs.Numbers.{digits_of, digits}
 use Rattle.ssim_records.specs.Columns.{columns, field, is_carried, end_from, time_mode_of, EachStands}
 use Rattle.ssim_records.specs.Leg.{end_text, IsEnd}
 
--- what a carrier record says: time mode, airline, columns 6 to 14 (the season among them), validity, creation date,
--- columns 36 to 194, and its serial; the end is none where it is open
+-- what a carrier record says: time mode, airline, columns 6 to 14 (the season among them),
+-- validity, creation date, columns 36 to 194, and its serial; `last` is none if the end is open
 pub record CarrierFields : Type 0 where
   pub time_mode : TimeMode
   pub airline : List ℕ
@@ -24,6 +24,7 @@ pub record CarrierFields : Type 0 where
   pub details : List ℕ
   pub serial : ℕ
 
+-- the fields of a carrier record
 abbrev pub carrier_table : List Field
 carrier_table =
     field 2 2 Mode
@@ -48,10 +49,12 @@ pub record SpellsCarrier (r : CarrierFields) (bytes : List ℕ) : Type 0 where
   pub details : columns 36 194 bytes ≡ r.details
   pub serial : digits_of (columns 195 200 bytes) ≡ Some r.serial
 
+-- the letter of a time mode
 abbrev pub time_mode_text : TimeMode → List ℕ
 time_mode_text Utc = codes "U"
 time_mode_text Local = codes "L"
 
+-- the fields of a carrier record as they are written, in the order of the columns
 abbrev pub carrier_texts : CarrierFields → List (List ℕ)
 carrier_texts r =
     codes "2"
@@ -65,11 +68,11 @@ carrier_texts r =
     ∷ digits 6 r.serial
     ∷ []
 
--- the one written spelling
+-- the bytes as which a carrier record is written
 abbrev pub written_carrier : CarrierFields → List ℕ
 written_carrier r = concat (carrier_texts r)
 
--- what has a spelling
+-- the carrier record has a spelling: each value fits its columns
 pub record IsCarrier (r : CarrierFields) : Type 0 where
   pub airline : IsTrue (is_airline r.airline)
   pub season_len : length r.season ≡ 9

@@ -1,4 +1,5 @@
--- The fields of a record by their columns: what each kind of field may say, and the first column that cannot stand.
+-- The fields of a record by their columns: which texts each kind of field allows, and the first
+-- invalid column.
 use Rattle.std.specs.Prelude.{ℕ, zero, suc, ◌≡◌, ◌+◌, ◌-◌, ◌≤◌, ◌<◌, ◌==◌, Bool, true, not, ◌&&◌, nat_lt, nat_le, if◌then◌else◌, List, [], ◌∷◌, ◌++◌, length, take, drop, slice_range, codes, Option, Some, None, is_some, option_map}
 use Rattle.std.specs.List.{list_all}
 use Rattle.std.specs.Str.{bytes_eq}
@@ -22,81 +23,84 @@ use Rattle.ssim_records.specs.declared.end_code.EndCode.TheVariants.{Continuatio
 abbrev pub columns : ℕ → ℕ → List ℕ → List ℕ
 columns first last bytes = slice_range bytes (first - 1) last
 
--- any byte but 0 to 31 and 127
+-- whether a byte may be carried: any byte but 0 to 31 and 127
 abbrev pub is_carried : ℕ → Bool
 is_carried b = nat_le 32 b && not (b == 127)
 
--- 32 to 126: a byte that is carried, and below 128
+-- whether a byte is printed: from 32 to 126
 abbrev pub is_printed : ℕ → Bool
 is_printed b = nat_le 32 b && nat_lt b 127
 
 -- ---- what is written
 
--- the byte, or a blank for a byte that no record carries
+-- the byte itself, or a blank for a byte that no record carries
 abbrev pub carried : ℕ → ℕ
 carried b = if is_carried b then b else 32
 
--- a text in n columns, with blanks after it
+-- a text in n columns, followed by blanks
 abbrev pub filled : ℕ → List ℕ → List ℕ
 filled zero text = []
 filled (suc n) [] = 32 ∷ filled n []
 filled (suc n) (b ∷ text) = carried b ∷ filled n text
 
--- a text over the bytes from a place on, counted from 0
+-- the bytes with a text written over them from an index on
 abbrev pub over : ℕ → List ℕ → List ℕ → List ℕ
 over at text d = take at d ++ (text ++ drop (at + length text) d)
 
 -- ---- what a field says
 
--- the open end, or a day not before the start
+-- the open end, or a day that is not before the start
 abbrev pub day_from : ℕ → Option ℕ → Option (Option ℕ)
 day_from start None = None
 day_from start (Some end') = if nat_lt end' start then None else Some (Some end')
 
--- the day on which a period ends: none where it is open
+-- the day on which a period ends: none if its end is open
 unfoldable pub end_from : Option ℕ → List ℕ → Option (Option ℕ)
 end_from None text = None
 end_from (Some start) text = if bytes_eq text (codes "00XXX00") then Some None else day_from start (day_of text)
 
--- a time, or none in blank columns
+-- the time of a text, or none for blanks
 unfoldable pub passenger_time_of : List ℕ → Option (Option ℕ)
 passenger_time_of text = if list_all is_blank text then Some None else option_map (λ t. Some t) (clock_of text)
 
--- a UTC variation, or none in blank columns
+-- the UTC variation of a text, or none for blanks
 unfoldable pub utc_variation_of : List ℕ → Option (Option Offset)
 utc_variation_of text = if list_all is_blank text then Some None else option_map (λ v. Some v) (variation_of text)
 
--- `U` or `L`
+-- the time mode of `U` or `L`
 unfoldable pub time_mode_of : List ℕ → Option TimeMode
 time_mode_of text = if bytes_eq text (codes "U") then Some Utc else (if bytes_eq text (codes "L") then Some Local else None)
 
--- `C` or `E`
+-- the end code of `C` or `E`
 unfoldable pub end_code_of : List ℕ → Option EndCode
 end_code_of text = if bytes_eq text (codes "C") then Some Continuation else (if bytes_eq text (codes "E") then Some End else None)
 
+-- columns 2 to 35 of a header record
 abbrev pub title : List ℕ
 title = codes "AIRLINE STANDARD SCHEDULE DATA SET"
 
+-- whether a text is the title
 unfoldable pub is_title : List ℕ → Bool
 is_title text = bytes_eq text title
 
--- ---- what may stand in a field
+-- ---- which bytes a field allows
 
--- the first byte that may not stand
+-- the index of the first byte that the test rejects, counted from n
 abbrev pub place_of_other : (ℕ → Bool) → ℕ → List ℕ → Option ℕ
 place_of_other test n [] = None
 place_of_other test n (b ∷ bs) = if test b then place_of_other test (n + 1) bs else Some n
 
+-- no fault if the test holds, else a fault at the first column
 abbrev pub unless : Bool → Option ℕ
 unless ok = if ok then None else Some 0
 
--- of a start and an end, which are two fields
+-- a start and an end of seven columns each: 0 names the start, 7 the end
 unfoldable pub dates_fault : List ℕ → Option ℕ
 dates_fault text =
     if is_some (day_of (take 7 text)) then (if is_some (end_from (day_of (take 7 text)) (drop 7 text)) then None else Some 7) else Some 0
 
--- Where the columns of a field say nothing, the place of the first that a fault names, from 0. Each carried column is a
--- field of its own.
+-- The index of the column that a fault names, counted from 0 in a field of this kind, if the text
+-- is invalid. In carried columns, each a field of its own, it is the first invalid one.
 abbrev pub fault_in : Kind → List ℕ → Option ℕ
 fault_in Suffix text = unless (list_all is_suffix text)
 fault_in AirlineCode text = unless (is_airline text)
@@ -115,7 +119,7 @@ fault_in Mode text = unless (is_some (time_mode_of text))
 fault_in Code text = unless (is_some (end_code_of text))
 fault_in Title text = unless (is_title text)
 
--- a row of a table
+-- a field of a table, with its first and last column and its kind
 abbrev pub field : ℕ → ℕ → Kind → Field
 field first last kind = record { first = first; last = last; kind = kind }
 
@@ -124,34 +128,36 @@ abbrev pub column_after : ℕ → Option ℕ → Option ℕ
 column_after first None = None
 column_after first (Some n) = Some (first + n)
 
+-- the column that a fault of this field names, if the field is invalid
 abbrev pub field_fault : List ℕ → Field → Option ℕ
 field_fault bytes f = column_after f.first (fault_in f.kind (columns f.first f.last bytes))
 
+-- the first fault, or else the second
 abbrev pub or_else : Option ℕ → Option ℕ → Option ℕ
 or_else None later = later
 or_else (Some n) later = Some n
 
--- the first column of the first field of a table that says nothing
+-- the first column that a fault names, if a field of the table is invalid
 abbrev pub first_fault : List ℕ → List Field → Option ℕ
 first_fault bytes [] = None
 first_fault bytes (f ∷ fs) = or_else (field_fault bytes f) (first_fault bytes fs)
 
--- each field of a table says something
+-- each field of a table is valid
 abbrev pub EachStands : List ℕ → List Field → Type 0
 EachStands bytes [] = Unit {0}
 EachStands bytes (f ∷ fs) = (fault_in f.kind (columns f.first f.last bytes) ≡ None) × EachStands bytes fs
 
 -- ---- tables that are in order
 
--- columns of a record
+-- the columns are within a record
 abbrev pub AreColumns : ℕ → ℕ → Type 0
 AreColumns first last = (0 < first) × (first ≤ last) × (last ≤ 200)
 
--- a field of a record has one column or more
+-- whether a field has one column or more and is within a record
 abbrev pub is_field : Field → Bool
 is_field f = nat_lt 0 f.first && nat_le f.first f.last && nat_le f.last 200
 
--- as wide as its kind may be
+-- whether a field of this kind may have n columns
 abbrev pub fits_kind : Kind → ℕ → Bool
 fits_kind Number n = nat_le n 6
 fits_kind Sequence n = nat_le n 6
@@ -165,5 +171,6 @@ fits_kind PassengerTime n = n == 4
 fits_kind UtcVariation n = n == 5
 fits_kind _ n = true
 
+-- whether all fields are within a record and as wide as their kinds allow
 abbrev pub are_fields : List Field → Bool
 are_fields fs = list_all (λ f. is_field f && fits_kind f.kind (f.last + 1 - f.first)) fs

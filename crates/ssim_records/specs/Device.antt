@@ -2,8 +2,8 @@
 use Rattle.std.specs.Prelude.{ℕ, ◌≡◌, ◌+◌, ◌%◌, ◌^◌, ◌<◌, ◌≤◌, ◌==◌, ◌&&◌, nat_lt, if◌then◌else◌, Bool, true, false, List, ◌++◌, length, drop, Option, Some, None, Result, Ok, Err}
 use Rattle.ssim_records.specs.declared.device.DeviceFault.{DeviceFault}
 
--- Of a source that tells its bytes nothing is counted. Of one that does not, and never will, the bytes that came are, and
--- the count wraps.
+-- A source that reports its bytes counts nothing. A source that does not, and never will, counts
+-- the bytes that came, and the count wraps.
 abbrev pub CountsBytes : Option (List ℕ) → Option (List ℕ) → ℕ → ℕ → Result ℕ DeviceFault → Type 0
 CountsBytes (Some bytes) left old new result = Unit {0}
 CountsBytes None (Some bytes) old new result = ⊥
@@ -15,12 +15,13 @@ abbrev pub CountsFailure : ℕ → ℕ → Result ℕ DeviceFault → Type 0
 CountsFailure old new (Ok n) = new ≡ old
 CountsFailure old new (Err e) = new ≡ (old + 1) % 2 ^ 64
 
--- So is a put that took no byte where there was one.
+-- A put that failed, or that took none of at least one byte, is counted as a failure, and the count
+-- wraps.
 abbrev pub CountsPut : ℕ → ℕ → Result ℕ DeviceFault → List ℕ → Type 0
 CountsPut old new (Err e) bytes = new ≡ (old + 1) % 2 ^ 64
 CountsPut old new (Ok n) bytes = new ≡ (if n == 0 && nat_lt 0 (length bytes) then (old + 1) % 2 ^ 64 else old)
 
--- The bytes that are at hand come next. Only a source that tells its bytes has any.
+-- The bytes at hand come next. Only a source that reports its bytes has any.
 abbrev pub IsAtHand : Option (List ℕ) → List ℕ → Type 0
 IsAtHand left bytes = 0 < length bytes → (more : List ℕ) × (left ≡ Some (bytes ++ more))
 

@@ -11,6 +11,7 @@ pub record HeaderFields : Type 0 where
   pub details : List ℕ
   pub serial : ℕ
 
+-- the fields of a header record
 abbrev pub header_table : List Field
 header_table =
     field 2 35 Title
@@ -25,6 +26,7 @@ pub record SpellsHeader (r : HeaderFields) (bytes : List ℕ) : Type 0 where
   pub details : columns 36 194 bytes ≡ r.details
   pub serial : digits_of (columns 195 200 bytes) ≡ Some r.serial
 
+-- the fields of a header record as they are written, in the order of the columns
 abbrev pub header_texts : HeaderFields → List (List ℕ)
 header_texts r =
     codes "1"
@@ -33,11 +35,11 @@ header_texts r =
     ∷ digits 6 r.serial
     ∷ []
 
--- the one written spelling
+-- the bytes as which a header is written
 abbrev pub written_header : HeaderFields → List ℕ
 written_header r = concat (header_texts r)
 
--- what has a spelling
+-- the header has a spelling: each value fits its columns
 pub record IsHeader (r : HeaderFields) : Type 0 where
   pub len : length r.details ≡ 159
   pub carried : IsTrue (list_all is_carried r.details)

@@ -9,7 +9,7 @@ use Rattle.ssim_records.specs.Columns.{columns, end_from, EachStands}
 use Rattle.ssim_records.specs.Leg.{IsName, SpellsName, IsEnd, leg_table}
 use Rattle.ssim_records.specs.Segment.{segment_table}
 
--- each field of the flight leg is valid, and these columns say this
+-- each field of the flight leg record is valid, and the parsed columns spell this
 pub record IsLegHead (h : LegHead) (bytes : List ℕ) : Type 0 where
   pub stands : EachStands bytes leg_table
   pub name : SpellsName h.name bytes
@@ -21,7 +21,7 @@ pub record IsLegHead (h : LegHead) (bytes : List ℕ) : Type 0 where
   pub serial : digits_of (columns 195 200 bytes) ≡ Some h.serial
   pub small : h.serial < 1000000
 
--- each field of the segment data is valid, and these columns say this
+-- each field of the segment record is valid, and the parsed columns spell this
 pub record IsSegmentHead (h : SegmentHead) (bytes : List ℕ) : Type 0 where
   pub stands : EachStands bytes segment_table
   pub name : SpellsName h.name bytes
@@ -29,7 +29,7 @@ pub record IsSegmentHead (h : SegmentHead) (bytes : List ℕ) : Type 0 where
   pub serial : digits_of (columns 195 200 bytes) ≡ Some h.serial
   pub small : h.serial < 1000000
 
--- the numbers of a name are digits alone, without blanks
+-- the numbers of a name are digits without blanks
 pub record HasDigits (bytes : List ℕ) : Type 0 where
   pub number : IsSome (digits_of (columns 6 9 bytes))
   pub variation : IsSome (digits_of (columns 10 11 bytes))

@@ -34,14 +34,17 @@ pub record SpellsFlightLeg (l : FlightLeg) (bytes : List ℕ) : Type 0 where
   pub sequence_from : 0 < l.sequence
   pub sequence_to : l.sequence < 100
 
+-- the flight of the latest record, with the columns that spelled it
 pub record FlightRead : Type 0 where
   pub columns : List ℕ
   pub named : AirlineFlight
 
+-- the leg of the latest record, with the columns that spelled it
 pub record FlightLegRead : Type 0 where
   pub columns : List ℕ
   pub leg : FlightLeg
 
+-- the first and last day of the latest record, with the columns that spelled them
 pub record EndsRead : Type 0 where
   pub first : List ℕ
   pub last : List ℕ
@@ -59,6 +62,7 @@ IsFlightLegRead r = (bytes : List ℕ) → slice_range bytes 9 13 ≡ r.columns 
 abbrev pub AreEndsRead : EndsRead → Type 0
 AreEndsRead r = (bytes : List ℕ) → columns 15 22 bytes ≡ r.first → columns 21 28 bytes ≡ r.last → SpellsEnds r.ends bytes
 
+-- the days of operation of the latest record, with the columns that spelled them
 pub record DaysRead : Type 0 where
   pub columns : List ℕ
   pub days : List Bool

@@ -21,6 +21,7 @@ pub record Name : Type 0 where
   pub variation : ℕ
   pub sequence : ℕ
 
+-- the fields of a leg's name
 abbrev pub name_table : List Field
 name_table =
     field 2 2 Suffix
@@ -30,6 +31,7 @@ name_table =
     ∷ field 12 13 Sequence
     ∷ []
 
+-- columns 2 to 13 of a record spell this leg's name
 pub record SpellsName (n : Name) (bytes : List ℕ) : Type 0 where
   pub suffix : columns 2 2 bytes ≡ n.flight.suffix ∷ []
   pub airline : columns 3 5 bytes ≡ n.airline
@@ -37,9 +39,11 @@ pub record SpellsName (n : Name) (bytes : List ℕ) : Type 0 where
   pub variation : number_of (columns 10 11 bytes) ≡ Some n.variation
   pub sequence : sequence_of (columns 12 13 bytes) ≡ Some n.sequence
 
+-- the fields of a leg's name as they are written
 abbrev pub name_texts : Name → List (List ℕ)
 name_texts n = (n.flight.suffix ∷ []) ∷ n.airline ∷ digits 4 n.flight.number ∷ digits 2 n.variation ∷ digits 2 n.sequence ∷ []
 
+-- the name is one that a record may have
 pub record IsName (n : Name) : Type 0 where
   pub airline : IsTrue (is_airline n.airline)
   pub flight : IsFlight n.flight
@@ -49,6 +53,7 @@ pub record IsName (n : Name) : Type 0 where
 
 -- ---- the columns of a leg itself: 14, 37 to 127 and 129 to 194
 
+-- the fields of columns 37 to 127
 abbrev pub middle_table : List Field
 middle_table =
     field 37 39 StationCode
@@ -63,14 +68,15 @@ middle_table =
     ∷ field 71 127 Carried
     ∷ []
 
+-- the fields of the columns that a leg keeps as they are: 14, 37 to 127 and 129 to 194
 abbrev pub own_table : List Field
 own_table = field 14 14 Carried ∷ (middle_table ++ field 129 194 Carried ∷ [])
 
--- these columns of a record
+-- the own columns of a leg record: 14, 37 to 127 and 129 to 194
 abbrev pub own_columns : List ℕ → List ℕ
 own_columns bytes = concat (columns 14 14 bytes ∷ columns 37 127 bytes ∷ columns 129 194 bytes ∷ [])
 
--- the same in their places, and blanks elsewhere
+-- a leg's 158 own columns at their positions in a record, with blanks elsewhere
 abbrev pub spread : List ℕ → List ℕ
 spread d = concat (replicate 13 32 ∷ slice_range d 0 1 ∷ replicate 22 32 ∷ slice_range d 1 92 ∷ (32 ∷ []) ∷ slice_range d 92 158 ∷ replicate 6 32 ∷ [])
 
@@ -78,14 +84,14 @@ spread d = concat (replicate 13 32 ∷ slice_range d 0 1 ∷ replicate 22 32 ∷
 abbrev pub leg_columns : ℕ → ℕ → List ℕ → List ℕ
 leg_columns first last d = columns first last (spread d)
 
--- each of these bytes may stand in its column
+-- each of these bytes is allowed in its column
 pub record AreLegColumns (d : List ℕ) : Type 0 where
   pub len : length d ≡ 158
   pub stands : EachStands (spread d) own_table
 
 -- ---- the record
 
--- what a flight leg record says; the end is none where it is open
+-- what a flight leg record says; `last` is none if the end is open
 pub record LegFields : Type 0 where
   pub name : Name
   pub first : ℕ
@@ -96,6 +102,7 @@ pub record LegFields : Type 0 where
   pub overflow : ℕ
   pub serial : ℕ
 
+-- the fields of a leg record
 abbrev pub leg_table : List Field
 leg_table =
     name_table
@@ -122,6 +129,7 @@ pub record SpellsLeg (r : LegFields) (bytes : List ℕ) : Type 0 where
   pub overflow : columns 128 128 bytes ≡ r.overflow ∷ []
   pub serial : digits_of (columns 195 200 bytes) ≡ Some r.serial
 
+-- the text of a last day; an open end is 00XXX00
 abbrev pub end_text : Option ℕ → List ℕ
 end_text None = codes "00XXX00"
 end_text (Some day) = day_text day
@@ -130,7 +138,7 @@ end_text (Some day) = day_text day
 abbrev pub period_texts : DayRange → List (List ℕ)
 period_texts p = day_text p.first ∷ day_text p.last ∷ places_of p.days ∷ []
 
--- its fields as they are written, in the order of the columns
+-- the fields of a leg record as they are written, in the order of the columns
 abbrev pub leg_texts : LegFields → List (List ℕ)
 leg_texts r =
     codes "3"
@@ -146,15 +154,15 @@ leg_texts r =
     ∷ digits 6 r.serial
     ∷ [])
 
--- the one written spelling
+-- the bytes as which a leg record is written
 abbrev pub written_leg : LegFields → List ℕ
 written_leg r = concat (leg_texts r)
 
--- an end is not before its start
+-- the end, if there is one, is not before the start
 abbrev pub IsEnd : ℕ → Option ℕ → Type 0
 IsEnd first last = IfSome last (λ day. (first ≤ day) × (day < day_limit))
 
--- what has a spelling
+-- the leg record has a spelling: each value fits its columns
 pub record IsLeg (r : LegFields) : Type 0 where
   pub name : IsName r.name
   pub first : r.first < day_limit

@@ -38,7 +38,7 @@ with_times t d =
     ∷ date_variations t
     ∷ [])
 
--- these columns have the times, and all others are as before
+-- columns 40 to 47, 58 to 65, 193 and 194 have the times, and all others are as before
 pub record ChangesTimes (t : LegTimes) (before after : List ℕ) : Type 0 where
   pub column_14 : leg_columns 14 14 after ≡ leg_columns 14 14 before
   pub columns_37_to_39 : leg_columns 37 39 after ≡ leg_columns 37 39 before
@@ -53,12 +53,14 @@ pub record ChangesTimes (t : LegTimes) (before after : List ℕ) : Type 0 where
 
 -- ---- equipment
 
+-- the equipment of a leg
 pub record EquipmentFields : Type 0 where
   pub service_type : ℕ
   pub aircraft_type : List ℕ
   pub booking_designators : List ℕ
   pub configuration : List ℕ
 
+-- the equipment of a leg, with its texts as bytes
 abbrev pub equipment_fields : LegEquipment → EquipmentFields
 equipment_fields e = record {
   service_type = e.service_type;
@@ -67,7 +69,8 @@ equipment_fields e = record {
   configuration = e.configuration.now;
 }
 
--- a leg's columns with this equipment in columns 14, 73 to 95 and 173 to 192, and blanks for what it leaves out
+-- a leg's columns with this equipment in columns 14, 73 to 95 and 173 to 192, and blanks for what
+-- it leaves out
 unfoldable pub with_equipment : EquipmentFields → List ℕ → List ℕ
 with_equipment e d =
     concat (filled 1 (e.service_type ∷ [])
@@ -80,7 +83,7 @@ with_equipment e d =
     ∷ leg_columns 193 194 d
     ∷ [])
 
--- these columns have the equipment, and all others are as before
+-- columns 14, 73 to 95 and 173 to 192 have the equipment, and all others are as before
 pub record ChangesEquipment (e : EquipmentFields) (before after : List ℕ) : Type 0 where
   pub service_type : leg_columns 14 14 after ≡ filled 1 (e.service_type ∷ [])
   pub columns_37_to_72 : leg_columns 37 72 after ≡ leg_columns 37 72 before
@@ -107,6 +110,7 @@ station_columns s =
     ∷ replicate 123 32
     ∷ [])
 
--- the columns of a new leg: stations, UTC variations, times and equipment, and blanks in all other columns
+-- the columns of a new leg: stations, UTC variations, times and equipment, and blanks in all other
+-- columns
 unfoldable pub new_leg : LegStations → LegTimes → EquipmentFields → List ℕ
 new_leg s t e = with_equipment e (with_times t (station_columns s))

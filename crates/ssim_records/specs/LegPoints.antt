@@ -4,7 +4,8 @@ use Rattle.ssim_values.specs.Clock.{clock_of}
 use Rattle.ssim_values.specs.Station.{is_station}
 use Rattle.ssim_records.specs.Columns.{columns, passenger_time_of, utc_variation_of}
 
--- the station, the passenger time, the aircraft time and the UTC variation of the departure are valid
+-- the station, the passenger time, the aircraft time and the UTC variation of the departure are
+-- valid
 unfoldable pub departure_is_valid : List ℕ → Bool
 departure_is_valid bytes =
     is_station (columns 37 39 bytes)

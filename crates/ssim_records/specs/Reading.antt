@@ -1,4 +1,4 @@
--- Reading the records of a stream: what is ahead, and the answers to it.
+-- Reading the records of a stream: what is ahead, and what each call returns.
 use Rattle.std.specs.Prelude.{ℕ, ◌≡◌, ◌+◌, ◌*◌, ◌%◌, ◌^◌, ◌<◌, ◌≤◌, List, [], ◌∷◌, ◌++◌, length, nat_lt, Option, Some, None, Result, Ok, Err}
 use Rattle.ssim_records.specs.declared.fault.RecordFault.{RecordFault}
 use Rattle.ssim_records.specs.declared.fault.RecordFault.TheVariants.{Short, BadType, BadColumn, ReadFault, ReaderNeverEnds}
@@ -9,8 +9,8 @@ use Rattle.ssim_records.specs.Frames.{Frames, others}
 use Rattle.ssim_records.specs.Blocks.{Fetches, beyond}
 use Rattle.ssim_records.specs.Record.{Spells, fault_of}
 
--- a reading: how many bytes may come, how many came, how many records were counted, which bytes are held, and how it
--- ended
+-- The state of reading: the most bytes that may come, how many came, how many records were counted,
+-- which bytes are held, and how reading ended.
 pub record Reading : Type 0 where
   pub limit : ℕ
   pub came : ℕ
@@ -18,40 +18,42 @@ pub record Reading : Type 0 where
   pub held : List ℕ
   pub ended : Option Ending
 
--- The bytes that are held, followed by those that the reader has left, are these blocks and this rest. No block reaches
--- behind the limit.
+-- The held bytes, followed by the bytes that the reader has left, are these blocks and this rest.
+-- No block extends past the limit.
 abbrev pub IsAhead : Reading → List ℕ → List (List ℕ) → List ℕ → Type 0
 IsAhead r left blocks rest = Frames (beyond r.limit r.came left) (nat_lt 0 r.number) (r.held ++ left) blocks rest
 
+-- what a call returns: a record with its number, the end, or a fault
 abbrev pub Answer : Type 0
 Answer = Result (Option (ℕ × Record)) RecordFault
 
--- what a place has, with a number
+-- the record that was put in, with a number
 abbrev pub with_number : ℕ → Option Record → Option (ℕ × Record)
 with_number number None = None
 with_number number (Some r) = Some (number, r)
 
--- the answer of a call that puts the record into a place, and returns its number
+-- the result of a call that puts the record into `into` and returns its number
 abbrev pub given : Option Record → Result ℕ RecordFault → Answer
 given into (Ok number) = Ok (with_number number into)
 given into (Err fault) = Err fault
 
--- no block but fill is left, and the fault's number is that behind the last
+-- only fill is left, and all blocks are counted
 abbrev pub IsLast : Reading → List (List ℕ) → Reading → Type 0
 IsLast old blocks new = (others old.number blocks ≡ []) × (new.number ≡ old.number + length blocks)
 
--- the next block that is not fill is this, with this number
+-- this is the next block that is not fill, and it has the new number
 abbrev pub IsNext : Reading → List (List ℕ) → Reading → List ℕ → List (List ℕ) → Type 0
 IsNext old blocks new block later =
     (others old.number blocks ≡ (new.number, block) ∷ others new.number later) × (new.number + length later ≡ old.number + length blocks)
 
--- the fault that a block has
+-- the next block that is not fill spells no record, for the reason that the fault names
 abbrev pub IsRefused : Reading → List (List ℕ) → Reading → RecordFault → Type 0
 IsRefused old blocks new fault = (block : List ℕ) × (later : List (List ℕ)) × IsNext old blocks new block later × (fault_of new.number block ≡ Some fault)
 
--- The answer, where these blocks and this rest are ahead: the record that the next block other than fill spells, with
--- its number, and then what stands behind it is ahead; or the block's fault; or the end, a rest that is cut, or more
--- bytes than the limit. A reader that failed had given fill alone.
+-- The result of reading the next record, if these blocks and this rest are ahead. A record: the
+-- next block other than fill spells it, its number is the block's, and the blocks after it satisfy
+-- `After`. The end: only fill is left. A fault: the next block spells no record, the bytes end
+-- within a record, more bytes came than the limit, or the reader failed after nothing but fill.
 abbrev pub Answers : Reading → List ℕ → List (List ℕ) → List ℕ → Reading → (List (List ℕ) → Type 0) → Answer → Type 0
 Answers old left blocks rest new After (Ok None) = IsLast old blocks new × (rest ≡ []) × (beyond old.limit old.came left ≡ 0)
 Answers old left blocks rest new After (Ok (Some found)) =
@@ -63,7 +65,8 @@ Answers old left blocks rest new After (Err (ReadFault n)) =
     (later : List (List ℕ)) × (others old.number blocks ≡ others new.number later) × (new.number + length later ≡ old.number + length blocks)
 Answers old left blocks rest new After (Err (ReaderNeverEnds n)) = IsLast old blocks new × (0 < beyond old.limit old.came left)
 
--- what is given where the reader tells its bytes, whatever they are
+-- The result is right for whatever blocks and rest are ahead. Nothing is said if the reader does
+-- not report its bytes.
 abbrev pub GivesNext : Reading → Option (List ℕ) → Reading → Option (List ℕ) → Answer → Type 0
 GivesNext old None new left' result = Unit {0}
 GivesNext old (Some left) new None result = ⊥
@@ -72,12 +75,12 @@ GivesNext old (Some left) new (Some left') result =
     × ((blocks : List (List ℕ)) → (rest : List ℕ) → IsAhead old left blocks rest
     → Answers old left blocks rest new (λ later. IsAhead new left' later rest) result)
 
--- Of the bytes that the reader had left, some were fetched. With those that were held they are the records that were counted since, fill
--- among them, and then the bytes that are held now.
+-- Some of the reader's bytes were fetched. Together with the bytes held before, they are the
+-- records counted since, fill included, followed by the bytes held now.
 abbrev pub FetchesNext : Reading → Option (List ℕ) → Reading → Option (List ℕ) → Type 0
 FetchesNext old left new left' = Fetches (nat_lt 0 old.number) old.number old.held left new.number new.held left'
 
--- a reader that failed left too few bytes for a record
+-- after a failure of the reader too few bytes are held for a record
 abbrev pub HoldsFew : List ℕ → Answer → Type 0
 HoldsFew held (Ok found) = Unit {0}
 HoldsFew held (Err (Short n)) = Unit {0}
@@ -86,13 +89,13 @@ HoldsFew held (Err (BadColumn n column)) = Unit {0}
 HoldsFew held (Err (ReadFault n)) = length held < 200
 HoldsFew held (Err (ReaderNeverEnds n)) = Unit {0}
 
--- a record that is given is counted, and so are its 200 bytes
+-- a returned record is counted, and its 200 bytes are within the limit
 abbrev pub Counts : Reading → Reading → Answer → Type 0
 Counts old new (Ok None) = Unit {0}
 Counts old new (Ok (Some found)) = (old.number < new.number) × (200 * new.number ≤ new.limit + 1)
 Counts old new (Err fault) = Unit {0}
 
--- A refused record has the number of those counted, and any other refusal one more.
+-- An invalid record has the number of the records counted. Any other fault has the number after it.
 abbrev pub HasNumber : ℕ → Answer → Type 0
 HasNumber number (Ok None) = Unit {0}
 HasNumber number (Ok (Some found)) = found.0 ≡ number
@@ -102,7 +105,7 @@ HasNumber number (Err (BadColumn n column)) = n ≡ number
 HasNumber number (Err (ReadFault n)) = n ≡ number + 1
 HasNumber number (Err (ReaderNeverEnds n)) = n ≡ number + 1
 
--- a failure of the reader was counted exactly where the answer is a read fault
+-- the reader's failures are counted: one more if the result is a read fault, else none
 abbrev pub FailsAs : ℕ → ℕ → Answer → Type 0
 FailsAs old new (Ok found) = new ≡ old
 FailsAs old new (Err (Short n)) = new ≡ old
@@ -111,18 +114,18 @@ FailsAs old new (Err (BadColumn n column)) = new ≡ old
 FailsAs old new (Err (ReadFault n)) = new ≡ (old + 1) % 2 ^ 64
 FailsAs old new (Err (ReaderNeverEnds n)) = new ≡ old
 
--- More bytes than the limit came, and no record is held that ends within it.
+-- If the fault is 14, more bytes came than the limit, and no record within the limit is held.
 abbrev pub NeverEnds : Reading → Answer → Type 0
 NeverEnds new (Ok found) = Unit {0}
 NeverEnds new (Err (ReaderNeverEnds n)) = (new.limit < new.came) × (length new.held < 201)
 NeverEnds new (Err fault) = Unit {0}
 
--- what an ended reading answers
+-- what each call returns after the end
 abbrev pub last_answer : Ending → Answer
 last_answer End = Ok None
 last_answer (Refused fault) = Err fault
 
--- the end that an answer is
+-- the end that a result means, if it is one
 abbrev pub ending_of : Answer → Option Ending
 ending_of (Ok None) = Some End
 ending_of (Ok (Some found)) = None

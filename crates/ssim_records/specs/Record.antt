@@ -22,7 +22,7 @@ Spells (Leg r) bytes = SpellsLeg r bytes
 Spells (Segment r) bytes = SpellsSegment r bytes
 Spells (Trailer r) bytes = SpellsTrailer r bytes
 
--- the place has the record that the bytes spell
+-- the record that was put in is the one that the bytes spell
 abbrev pub HasSpelt : Option Record → List ℕ → Type 0
 HasSpelt None bytes = ⊥
 HasSpelt (Some r) bytes = Spells r bytes
@@ -35,7 +35,7 @@ IsRecord (Leg r) = IsLeg r
 IsRecord (Segment r) = IsSegment r
 IsRecord (Trailer r) = IsTrailer r
 
--- its one written spelling
+-- the bytes as which a record is written
 abbrev pub written : Record → List ℕ
 written (Header r) = written_header r
 written (Carrier r) = written_carrier r
@@ -54,18 +54,21 @@ table_of kind =
     else (if kind == 52 then Some segment_table
     else (if kind == 53 then Some trailer_table else None))))
 
+-- the fault of a record with an invalid column, if there is one
 abbrev pub column_fault : ℕ → Option ℕ → Option RecordFault
 column_fault n None = None
 column_fault n (Some column) = Some (BadColumn n column)
 
+-- the fault of a record by the table of its type; without a table its type is invalid
 abbrev pub fault_by : ℕ → List ℕ → Option (List Field) → Option RecordFault
 fault_by n bytes None = Some (BadType n)
 fault_by n bytes (Some table) = column_fault n (first_fault bytes table)
 
--- the fault of 200 bytes: a type that is none, else the first column of the first field that says nothing
+-- the fault of 200 bytes: an unknown type, or else the first column of the first invalid field
 abbrev pub fault_of : ℕ → List ℕ → Option RecordFault
 fault_of n bytes = fault_by n bytes (table_of (slice_index bytes 0))
 
+-- the number of each fault
 abbrev pub fault_number : RecordFault → ℕ
 fault_number (Short n) = 10
 fault_number (BadType n) = 11
@@ -73,6 +76,7 @@ fault_number (BadColumn n column) = 12
 fault_number (ReadFault n) = 13
 fault_number (ReaderNeverEnds n) = 14
 
+-- the record that a fault names
 abbrev pub fault_record : RecordFault → ℕ
 fault_record (Short n) = n
 fault_record (BadType n) = n
@@ -80,6 +84,7 @@ fault_record (BadColumn n column) = n
 fault_record (ReadFault n) = n
 fault_record (ReaderNeverEnds n) = n
 
+-- the name of each fault
 abbrev pub fault_name : RecordFault → List ℕ
 fault_name (Short n) = codes "Short"
 fault_name (BadType n) = codes "BadType"
@@ -89,6 +94,7 @@ fault_name (ReaderNeverEnds n) = codes "ReaderNeverEnds"
 
 -- ---- serials
 
+-- the serial of a record
 abbrev pub serial_of : Record → ℕ
 serial_of (Header r) = r.serial
 serial_of (Carrier r) = r.serial
@@ -96,6 +102,7 @@ serial_of (Leg r) = r.serial
 serial_of (Segment r) = r.serial
 serial_of (Trailer r) = r.serial
 
+-- a record with this serial
 abbrev pub with_serial : ℕ → Record → Record
 with_serial n (Header r) = Header (record r { serial = n })
 with_serial n (Carrier r) = Carrier (record r { serial = n })
@@ -120,20 +127,22 @@ numbered n [] = []
 numbered n (None ∷ later) = numbered (n + 1) later
 numbered n (Some r ∷ later) = (n + 1, written r) ∷ numbered (n + 1) later
 
+-- fill, or a record that can be written
 abbrev pub IsItem : Option Record → Type 0
 IsItem None = Unit {0}
 IsItem (Some r) = IsRecord r
 
--- each record has a spelling
+-- each record among these can be written
 abbrev pub AreItems : List (Option Record) → Type 0
 AreItems [] = Unit {0}
 AreItems (x ∷ later) = IsItem x × AreItems later
 
--- Records and fill that are written so are framed as these blocks, and the records have their numbers.
+-- Records and fill, written as lines, are framed as their blocks, and the records have their
+-- numbers.
 abbrev pub WrittenIsFramed : Type 0
 WrittenIsFramed = (items : List (Option Record)) → AreItems items
     → Frames 0 false (lines items) (map block_of items) [] × (others 0 (map block_of items) ≡ numbered 0 items)
 
--- what is written for a record spells it
+-- The bytes as which a record is written spell it.
 abbrev pub WrittenSpells : Type 0
 WrittenSpells = (r : Record) → IsRecord r → Spells r (written r)

@@ -9,11 +9,11 @@ use Rattle.ssim_records.specs.Leg.{Name, name_table, SpellsName, name_texts, IsN
 
 -- ---- the columns of a tail: 15 to 27 and 29 to 194
 
--- these columns of a record
+-- the columns of a record that are its tail: 15 to 27 and 29 to 194
 abbrev pub tail_of : List ℕ → List ℕ
 tail_of bytes = concat (columns 15 27 bytes ∷ columns 29 194 bytes ∷ [])
 
--- the same in their places, and blanks elsewhere
+-- a tail's 179 columns at their positions in a record, with blanks elsewhere
 abbrev pub spread_tail : List ℕ → List ℕ
 spread_tail d = concat (replicate 14 32 ∷ slice_range d 0 13 ∷ (32 ∷ []) ∷ slice_range d 13 179 ∷ replicate 6 32 ∷ [])
 
@@ -21,20 +21,22 @@ spread_tail d = concat (replicate 14 32 ∷ slice_range d 0 13 ∷ (32 ∷ []) �
 abbrev pub tail_columns : ℕ → ℕ → List ℕ → List ℕ
 tail_columns first last d = columns first last (spread_tail d)
 
--- each of these bytes is carried
+-- a tail has 179 bytes, each of which is carried
 pub record IsTail (d : List ℕ) : Type 0 where
   pub len : length d ≡ 179
   pub carried : IsTrue (list_all is_carried d)
 
--- a new tail: columns 15 to 27 are blank; from column 29 on it has the letters of the board and off point, the data element
--- identifier in three digits, the stations of the points, and the text with blanks after it
+-- a new tail: columns 15 to 27 are blank; from column 29 on it has the letters of the board and off
+-- point, the data element identifier in three digits, the stations of the points, and the text with
+-- blanks after it
 unfoldable pub new_tail : List ℕ → ℕ → List ℕ → List ℕ → List ℕ → List ℕ
 new_tail points identifier board off text =
     concat (replicate 13 32 ∷ filled 2 points ∷ digits 3 identifier ∷ board ∷ off ∷ filled 155 text ∷ [])
 
 -- ---- the record
 
--- what a segment data record says: the leg, its service type, the tail, the overflow of column 28, and its serial
+-- what a segment data record says: the leg, its service type, the tail, the overflow of column 28,
+-- and its serial
 pub record SegmentFields : Type 0 where
   pub name : Name
   pub service : ℕ
@@ -42,6 +44,7 @@ pub record SegmentFields : Type 0 where
   pub overflow : ℕ
   pub serial : ℕ
 
+-- the fields of a segment record
 abbrev pub segment_table : List Field
 segment_table =
     name_table
@@ -62,6 +65,7 @@ pub record SpellsSegment (r : SegmentFields) (bytes : List ℕ) : Type 0 where
   pub overflow : columns 28 28 bytes ≡ r.overflow ∷ []
   pub serial : digits_of (columns 195 200 bytes) ≡ Some r.serial
 
+-- the fields of a segment record as they are written, in the order of the columns
 abbrev pub segment_texts : SegmentFields → List (List ℕ)
 segment_texts r =
     codes "4"
@@ -73,11 +77,11 @@ segment_texts r =
     ∷ digits 6 r.serial
     ∷ [])
 
--- the one written spelling
+-- the bytes as which a segment record is written
 abbrev pub written_segment : SegmentFields → List ℕ
 written_segment r = concat (segment_texts r)
 
--- what has a spelling
+-- the segment record has a spelling: each value fits its columns
 pub record IsSegment (r : SegmentFields) : Type 0 where
   pub name : IsName r.name
   pub service : IsTrue (is_carried r.service)

@@ -9,8 +9,8 @@ use Rattle.ssim_records.specs.declared.end_code.EndCode.TheVariants.{Continuatio
 use Rattle.ssim_records.specs.Numbers.{digits_of, digits}
 use Rattle.ssim_records.specs.Columns.{columns, field, is_carried, end_code_of, EachStands}
 
--- what a trailer says: column 2, the airline, columns 6 to 187 (the release date among them), the serial that it
--- checks, whether more carriers follow, and its own serial
+-- what a trailer says: column 2, the airline, columns 6 to 187 (the release date among them), the
+-- serial that it checks, whether more carriers follow, and its own serial
 pub record TrailerFields : Type 0 where
   pub spare : ℕ
   pub airline : List ℕ
@@ -19,6 +19,7 @@ pub record TrailerFields : Type 0 where
   pub code : EndCode
   pub serial : ℕ
 
+-- the fields of a trailer record
 abbrev pub trailer_table : List Field
 trailer_table =
     field 2 2 Carried
@@ -40,10 +41,12 @@ pub record SpellsTrailer (r : TrailerFields) (bytes : List ℕ) : Type 0 where
   pub code : end_code_of (columns 194 194 bytes) ≡ Some r.code
   pub serial : digits_of (columns 195 200 bytes) ≡ Some r.serial
 
+-- the letter of an end code
 abbrev pub end_code_text : EndCode → List ℕ
 end_code_text Continuation = codes "C"
 end_code_text End = codes "E"
 
+-- the fields of a trailer record as they are written, in the order of the columns
 abbrev pub trailer_texts : TrailerFields → List (List ℕ)
 trailer_texts r =
     codes "5"
@@ -55,11 +58,11 @@ trailer_texts r =
     ∷ digits 6 r.serial
     ∷ []
 
--- the one written spelling
+-- the bytes as which a trailer is written
 abbrev pub written_trailer : TrailerFields → List ℕ
 written_trailer r = concat (trailer_texts r)
 
--- what has a spelling
+-- the trailer has a spelling: each value fits its columns
 pub record IsTrailer (r : TrailerFields) : Type 0 where
   pub spare : IsTrue (is_carried r.spare)
   pub airline : IsTrue (is_airline r.airline)

@@ -28,8 +28,8 @@ fn needed(came: u128, limit: u64) -> usize
     if came > limit as u128 { 201 } else { 200 }
 }
 
-/// Brings the next block to the beginning of the window, of all that the window holds and the reader has left. Says whether
-/// there is one.
+/// Brings the next block to the beginning of the window, of all that the window holds and the
+/// reader has left. Says whether there is one.
 fn next_block<R: Source>(
     window: &mut Window,
     came: &mut u128,
@@ -48,7 +48,8 @@ fn next_block<R: Source>(
     ensures fault { FailsOnce (R.failures reader.old) (R.failures reader.new) (with_front window.new result) }
     ensures count { CountsOn (R.left reader.old) (R.left reader.new) (R.came reader.old) (R.came reader.new) came.old came.new }
 {
-    // Of a reader with bytes at hand only this block is fetched: the blocks after it can be read where they are.
+    // If the reader has bytes at hand, only this block is fetched: the blocks after it can be read
+    // without a copy.
     let near = !reader.at_hand().is_empty();
     loop {
         window.trim(behind);
@@ -86,8 +87,8 @@ fn is_fill(block: &[u8; 200]) -> bool
     block.as_slice() == FILL.as_slice()
 }
 
-/// The block that stands first in bytes, and how many bytes it takes with the line ends in front of it. There is none if it is cut, is
-/// fill, or ends after the first `most` bytes.
+/// The block at the beginning of the bytes, and how many bytes it takes with the line ends before
+/// it. None if the block is cut, is fill, or ends after the first `most` bytes.
 #[inline(always)]
 pub fn first_block(bytes: &[u8], behind: bool, most: u128) -> Option<(&[u8; 200], usize)>
     ensures { IfSome result (λ found. StandsFirst behind bytes.now found.0.now found.1 × (found.1 ≤ most)) }
@@ -100,8 +101,8 @@ pub fn first_block(bytes: &[u8], behind: bool, most: u128) -> Option<(&[u8; 200]
     Some((block, count))
 }
 
-/// Brings the next block that is not fill to the beginning of the window, of all that the window holds and the reader has
-/// left. Says whether there is one. Each block is counted.
+/// Brings the next block that is not fill to the beginning of the window, of all that the window
+/// holds and the reader has left. Says whether there is one. Each block is counted.
 pub fn next_other<R: Source>(
     window: &mut Window,
     came: &mut u128,

@@ -9,8 +9,8 @@ use crate::device::{DeviceFault, Sink};
 use std::alloc::Global;
 use std::marker::Model;
 
-/// A buffer that grows, and holds in order the bytes that were put into it. A put fails only if memory is out, and then
-/// takes no byte.
+/// A buffer that grows, and holds in order the bytes that were put into it. A put fails only if
+/// memory is out, and then takes no byte.
 #[derive(Drop)]
 pub struct Bytes {
     bytes: Vec<u8>,

@@ -9,13 +9,14 @@ use crate::field::four;
 /// The text `0000`.
 const ZEROS: u32 = 0x3030_3030;
 
-/// What fills a byte up to 127 from 9, and from 5 where the tens of the minutes stand.
+/// Added to each byte, it gives 128 or more if the byte is above 9, or above 5 for the tens of the
+/// minutes.
 const TO_TOP: u32 = 0x7676_7a76;
 
 /// The highest bit of each byte.
 const TOPS: u32 = 0x8080_8080;
 
-// Whether four bytes, one after another, are digits up to 9, and up to 5 where the tens of the minutes stand.
+// Whether four bytes are digits, each up to 9, and up to 5 for the tens of the minutes.
 fn are_digits(digits: u32) -> bool
     requires { digits < 2 ^ 26 }
     ensures { IsTrue result → HasClockDigits digits }
@@ -23,7 +24,7 @@ fn are_digits(digits: u32) -> bool
     (digits | (digits + TO_TOP)) & TOPS == 0
 }
 
-/// Whether a text is hours and minutes up to so many hours.
+/// Whether a text is a time, hours and minutes, up to this number of hours.
 pub fn is_clock_to(text: &[u8], hours: u32) -> bool
     requires len { length text.now ≡ 4 }
     requires day { hours ≤ 24 }

@@ -16,7 +16,8 @@ use crate::field::{day_of, days_of, end_from, three};
 use crate::number::{digits_of, number_of, sequence_of};
 use ssim_values::{Airline, Day, DayMask};
 
-/// The bytes of a text by value. They overlap nothing, so a part that is written from them is copied in whole words.
+/// The bytes of a text by value. They overlap nothing, so a part that is written from them is
+/// copied in whole words.
 pub fn bytes_of<const N: usize>(text: &[u8]) -> [u8; N]
     requires { length text.now ≡ N }
     ensures { result ≡ text.now }
@@ -38,8 +39,8 @@ pub fn join(out: &mut [u8], parts: &[&[u8]])
     }
 }
 
-/// Writes a part from a place on, and returns the place after it. A record of parts whose lengths are known is written so in less time
-/// than by `join`.
+/// Writes a part from an index on, and returns the index after it. A record whose parts have known
+/// lengths is written in less time than by `join`.
 pub fn append(out: &mut [u8], at: usize, part: &[u8]) -> usize
     requires { at + length part.now ≤ length out.old }
     ensures place { result ≡ at + length part.now }
@@ -50,7 +51,7 @@ pub fn append(out: &mut [u8], at: usize, part: &[u8]) -> usize
     at + part.len()
 }
 
-/// Writes the text over the bytes from a place on.
+/// Writes the text over the bytes from an index on.
 pub fn put(bytes: &mut [u8], at: usize, text: &[u8])
     requires { at + length text.now ≤ length bytes.old }
     ensures { bytes.new ≡ over at text.now bytes.old }
@@ -58,7 +59,7 @@ pub fn put(bytes: &mut [u8], at: usize, text: &[u8])
     bytes[at..at + text.len()].copy_from_slice(text);
 }
 
-/// Writes the text, and blanks after it, over `width` bytes from a place on.
+/// Writes the text, and blanks after it, over `width` bytes from an index on.
 pub fn put_filled(bytes: &mut [u8], at: usize, width: usize, text: &[u8])
     requires { at + width ≤ length bytes.old }
     ensures { bytes.new ≡ over at (filled width text.now) bytes.old }

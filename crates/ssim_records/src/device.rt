@@ -9,7 +9,8 @@ use thiserror::Error;
 
 /// Why a device neither gave nor took bytes.
 ///
-/// It has no number of its own. The call that reads from the source returns 13, and the call that writes to the sink returns 52.
+/// It has no number of its own. The call that reads from the source returns 13, and the call that
+/// writes to the sink returns 52.
 #[derive(Clone, Copy, Debug, Error, PartialEq, Eq)]
 pub enum DeviceFault {
     /// A device that grows is out of memory.
@@ -39,15 +40,15 @@ pub trait Source {
         ensures count { CountsBytes (left self.old) (left self.new) (came self.old) (came self.new) result }
         ensures failures { CountsFailure (failures self.old) (failures self.new) result };
 
-    /// The bytes that come next, as far as they are in memory. They need not be fetched, but can be read where they are, and skipped.
-    /// Only a source whose bytes the contract knows has any.
+    /// The bytes that come next, as far as they are in memory. They can be read here and skipped,
+    /// without a fetch. Only a source whose bytes the contract knows has any.
     fn at_hand(&self) -> &[u8]
         ensures { IsAtHand (left self.now) result.now }
     {
         &[]
     }
 
-    /// Skips the next bytes, if so many are at hand. Says whether it did.
+    /// Skips the next `count` bytes, if they are at hand. Returns whether it did.
     fn skip_at_hand(&mut self, count: usize) -> bool
         ensures left { SkipsAtHand (left self.old) (left self.new) count result }
         ensures came { came self.new ≡ came self.old }
@@ -63,11 +64,13 @@ pub trait Sink {
     /// The bytes that were taken, if the contract knows them.
     ghost taken: { Self → Option (List ℕ) };
 
-    /// The number of puts that failed, or took no byte of a text that is not empty. It wraps at 2^64.
+    /// The number of puts that failed, or took no byte of a text that is not empty. It wraps at
+    /// 2^64.
     ghost failures: { Self → ℕ };
 
-    /// The number of the device that the bytes go to, 0 if it has none. No put changes it. So a caller that lends its sink
-    /// to a function over any sink knows that it still writes to the same device afterwards.
+    /// The number of the device that the bytes go to, 0 if it has none. No put changes it. So a
+    /// caller that lends its sink to a function over any sink knows that it still writes to the
+    /// same device afterwards.
     ghost device: { Self → ℕ } = { λ _. 0 };
 
     /// Takes bytes from the beginning of `bytes`, and returns their number.

@@ -1,4 +1,5 @@
-//! The fields of a record: their columns, their valid texts, and the first column of the first invalid field.
+//! The fields of a record: their columns, their valid texts, and the first column of the first
+//! invalid field.
 
 ghost use Rattle.std.specs.Prelude.{◌≡◌, ◌≤◌, ◌<◌, length, Some, None, IsTrue, IfSome, is_some};
 ghost use Rattle.std.specs.List.{list_all};
@@ -70,7 +71,8 @@ fn are_blank(text: &[u8]) -> bool
     text.iter().all(|b| is_blank(*b))
 }
 
-/// Whether each byte can be carried. No byte ends the loop, so that many are looked at together.
+/// Whether each byte can be carried. The loop has no early exit, so that several bytes are tested
+/// at once.
 pub fn are_carried(text: &[u8]) -> bool
     ensures { result ≡ list_all is_carried text.now }
 {
@@ -105,7 +107,7 @@ fn place_of_other(text: &[u8]) -> Option<usize>
     None
 }
 
-// The place of the first byte that cannot be carried. Mostly there is none.
+// The index of the first byte that cannot be carried. Mostly there is none.
 #[tactic(auto, using(crate::proofs::Rows::none_other))]
 fn carried_fault(text: &[u8]) -> Option<usize>
     requires { length text.now ≤ 200 }
@@ -313,7 +315,7 @@ fn dates_fault(text: &[u8]) -> Option<usize>
     }
 }
 
-/// The place of the first fault in the columns of a field, from 0.
+/// The index of the first fault in the columns of a field, from 0.
 fn fault_in(kind: Kind, text: &[u8]) -> Option<usize>
     requires fits { IsTrue (fits_kind kind (length text.now)) }
     requires len { length text.now ≤ 200 }
@@ -340,7 +342,8 @@ fn fault_in(kind: Kind, text: &[u8]) -> Option<usize>
     }
 }
 
-// Whether each byte is from 32 to 126. No byte ends the loop, so that many are looked at together.
+// Whether each byte is from 32 to 126. The loop has no early exit, so that several bytes are tested
+// at once.
 fn are_printed(text: &[u8]) -> bool
     ensures { result ≡ list_all is_printed text.now }
 {
@@ -376,7 +379,8 @@ fn is_signed_clock(text: &[u8]) -> bool
     (text[0] == b'+' || text[0] == b'-') && is_clock_to(&text[1..5], 15)
 }
 
-// `is_variation` for the other texts. It is not put into its caller, which looks at most texts as numbers.
+// Does what `is_variation` does for texts that are not compared as numbers. It is not inlined,
+// since few texts need it.
 #[inline(never)]
 fn is_other_variation(text: &[u8]) -> bool
     requires { length text.now ≡ 5 }

@@ -21,8 +21,8 @@ fn header_fault(bytes: &[u8; 200]) -> Option<usize>
     first_fault(&TABLE, bytes)
 }
 
-/// The header of a data set. Columns 36 to 194 are carried: the number of seasons in 41, the data set serial in 192
-/// to 194.
+/// The header of a data set. Columns 36 to 194 are carried: the number of seasons in 41, the data
+/// set serial in 192 to 194.
 #[derive(Clone, Copy, Debug, PartialEq, Eq)]
 pub struct Header {
     /// Columns 36 to 194.

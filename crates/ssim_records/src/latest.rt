@@ -1,4 +1,5 @@
-//! What the latest records had in columns that are parsed. Mostly the next record has the same, and it is not parsed again.
+//! What the latest records had in columns that are parsed. Mostly the next record has the same, and
+//! it is not parsed again.
 
 ghost use Rattle.std.specs.Prelude.{◌≡◌, ◌<◌, IfSome, Some};
 ghost use Rattle.ssim_values.specs.DayMask.{days_of};
@@ -31,7 +32,8 @@ impl Model for FlightRead {
     ghost invariant = { λ r. IsFlightRead (record { columns = r.columns; named = r.named }) };
 }
 
-/// Columns 15 to 35 of a leg: the first day of its period, its last day, or none if it is open, and the days of operation.
+/// Columns 15 to 35 of a leg: the first day of its period, its last day, or none if it is open, and
+/// the days of operation.
 #[derive(Clone, Copy, Debug)]
 pub(crate) struct LegDates {
     pub(crate) first: Day,
@@ -81,7 +83,8 @@ impl Model for DaysRead {
     ghost invariant = { λ r. AreDaysRead (record { columns = r.columns; days = r.days }) };
 }
 
-/// The bytes of columns 195 to 198, the first four digits of a serial, and the number that they spell.
+/// The bytes of columns 195 to 198, the first four digits of a serial, and the number that they
+/// spell.
 #[derive(Drop)]
 struct SerialRead {
     columns: [u8; 4],
@@ -241,8 +244,8 @@ impl SerialRead {
     }
 }
 
-/// The latest flight, its latest leg, the latest ends of a period, the latest days of operation and the first digits of the latest
-/// serial of the records so far.
+/// The latest flight, its latest leg, the latest ends of a period, the latest days of operation and
+/// the first digits of the latest serial of the records so far.
 #[derive(Drop)]
 pub(crate) struct Latest {
     flight: Option<FlightRead>,
@@ -263,7 +266,8 @@ impl Latest {
         }
     }
 
-    // `flight_in` where the flight is another. It is not put into its caller, which mostly finds the same.
+    // Does what `flight_in` does if the flight is another one. It is not inlined, since the flight
+    // is mostly the same.
     #[inline(never)]
     fn other_flight_in(&mut self, bytes: &[u8; 200]) -> Option<AirlineFlight>
         ensures { IfSome result (λ named. SpellsFlight named bytes.now) }
@@ -286,7 +290,8 @@ impl Latest {
         self.other_flight_in(bytes)
     }
 
-    // The leg of a flight in columns 10 to 13, if they spell one. A segment has that of the record before it.
+    // The leg of a flight in columns 10 to 13, if they spell one. A segment mostly has the leg of
+    // the record before it.
     #[inline(always)]
     fn leg_in(&mut self, bytes: &[u8; 200]) -> Option<FlightLeg>
         ensures { IfSome result (λ leg. SpellsFlightLeg leg bytes.now) }
@@ -349,7 +354,8 @@ impl Latest {
         Some(LegDates { first, last, days })
     }
 
-    // `serial_in` where the first digits are others. It is not put into its caller, which mostly finds the same.
+    // Does what `serial_in` does if the first digits are others. It is not inlined, since they are
+    // mostly the same.
     #[inline(never)]
     fn other_serial_in(&mut self, bytes: &[u8; 200]) -> Option<u32>
         ensures below { IfSome result (λ serial. serial < 1000000) }

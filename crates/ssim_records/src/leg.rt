@@ -51,7 +51,8 @@ impl Model for LegRecord {
     ghost inverse = { λ v. record { name = v.name; first = v.first; last = v.last; days = v.days; rate = v.rate; columns = v.columns; overflow = v.overflow; serial = v.serial } };
 }
 
-/// The flight leg that a record spells, of the columns that were parsed. The other columns are copied.
+/// The flight leg that a record spells, of the columns that were parsed. The other columns are
+/// copied.
 pub(crate) fn leg_with(bytes: &[u8; 200], head: &LegHead) -> LegRecord
     requires kind { columns 1 1 bytes.now ≡ 51 ∷ [] }
     requires head { IsLegHead head.now bytes.now }
@@ -82,7 +83,8 @@ fn same_end(mine: Option<Day>, theirs: Option<Day>) -> bool
 }
 
 impl LegRecord {
-    /// The record of a leg in a period, with blanks for frequency rate and overflow, and the serial 0.
+    /// The record of a leg in a period, with blanks for frequency rate and overflow, and the serial
+    /// 0.
     pub fn new(name: LegName, period: Period, columns: LegColumns) -> LegRecord
         ensures { result ≡ record { name = name; first = period.first; last = Some period.last; days = period.days; rate = 32; columns = columns; overflow = 32; serial = 0 } }
     {
@@ -203,7 +205,8 @@ impl LegRecord {
         leg
     }
 
-    /// The last day becomes this one, frequency rate and overflow become blanks, and the serial becomes 0.
+    /// The last day becomes this one, frequency rate and overflow become blanks, and the serial
+    /// becomes 0.
     pub fn close(&mut self, last: Day)
         requires { self.old.first ≤ last }
         ensures { self.new ≡ record self.old { last = Some last; rate = 32; overflow = 32; serial = 0 } }
@@ -215,7 +218,8 @@ impl LegRecord {
         self.serial = 0;
     }
 
-    /// A segment record of this leg: its name, its service type, this tail, a blank for overflow, and the serial 0.
+    /// A segment record of this leg: its name, its service type, this tail, a blank for overflow,
+    /// and the serial 0.
     pub fn segment(&self, tail: SegmentTail) -> SegmentRecord
         ensures name { result.name ≡ self.now.name }
         ensures service { leg_columns 14 14 self.now.columns ≡ result.service ∷ [] }
@@ -303,8 +307,9 @@ impl LegRecord {
         bytes
     }
 
-    /// Whether the bytes, which spell this record, are its written spelling: the numbers of the name have no blanks, and each day of
-    /// operation is in its place. The other columns are carried, or have one spelling.
+    /// Whether the bytes, which spell this record, are its written spelling: the numbers of the
+    /// name have no blanks, and each day of operation is in its place. The other columns are
+    /// carried, or have one spelling.
     pub(crate) fn is_written(&self, bytes: &[u8; 200]) -> bool
         requires { SpellsLeg self.now bytes.now }
         ensures same { IsTrue result ↔ (bytes.now ≡ written_leg self.now) }

@@ -32,8 +32,9 @@ const TABLE: [Field; 12] = [
     field!(129 194 Carried),
 ];
 
-/// The columns of a leg itself: the bytes of columns 14, 37 to 127 and 129 to 194 of its record, all of them valid. The
-/// readers are named by the columns of the record. Times are local or UTC as the carrier record has it.
+/// The columns of a leg itself: the bytes of columns 14, 37 to 127 and 129 to 194 of its record,
+/// all of them valid. The readers are named by the columns of the record. Times are local or UTC as
+/// the carrier record has it.
 #[derive(Clone, Copy, Debug, PartialEq, Eq, Hash)]
 pub struct LegColumns {
     bytes: [u8; 158],
@@ -179,7 +180,8 @@ impl LegColumns {
         }
     }
 
-    /// The columns of a new leg with these stations, times and equipment, and blanks in all other columns.
+    /// The columns of a new leg with these stations, times and equipment, and blanks in all other
+    /// columns.
     pub fn new(stations: &LegStations, times: &LegTimes, equipment: &LegEquipment) -> LegColumns
         ensures { result ≡ new_leg stations.now times.now (equipment_fields equipment.now) }
     {

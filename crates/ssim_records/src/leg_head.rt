@@ -99,7 +99,8 @@ fn head_in(bytes: &[u8; 200], latest: &mut Latest) -> Option<LegHead>
     })
 }
 
-/// The head of a flight leg all of whose fields are valid, or the first column of the first invalid field.
+/// The head of a flight leg all of whose fields are valid, or the first column of the first invalid
+/// field.
 pub(crate) fn read_leg_head(bytes: &[u8; 200], latest: &mut Latest) -> Result<LegHead, usize>
     ensures ok { IfOk result (λ head. IsLegHead head bytes.now) }
     ensures err { IfErr result (λ column. first_fault bytes.now leg_table ≡ Some column) }

@@ -11,8 +11,8 @@ use crate::number::{number_of, sequence_of};
 use ssim_values::{Airline, Flight};
 use std::marker::Model;
 
-/// The name of a leg in a record of type 3 or 4: an airline's flight, the itinerary variation and the leg sequence, in
-/// columns 2 to 13.
+/// The name of a leg in a record of type 3 or 4: an airline's flight, the itinerary variation and
+/// the leg sequence, in columns 2 to 13.
 #[derive(Clone, Copy, Debug, PartialEq, Eq, Hash)]
 pub struct LegName {
     airline: Airline,
@@ -77,7 +77,8 @@ pub(crate) struct FlightLeg {
     pub(crate) sequence: u8,
 }
 
-/// The leg of a flight in columns 10 to 13, if they spell an itinerary variation and a leg sequence.
+/// The leg of a flight in columns 10 to 13, if they spell an itinerary variation and a leg
+/// sequence.
 pub(crate) fn read_flight_leg(bytes: &[u8; 200]) -> Option<FlightLeg>
     ensures { IfSome result (λ leg. SpellsFlightLeg leg bytes.now) }
 {

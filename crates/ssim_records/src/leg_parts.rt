@@ -1,4 +1,5 @@
-//! The parts of a leg's columns that are written together: its stations, its times and its equipment.
+//! The parts of a leg's columns that are written together: its stations, its times and its
+//! equipment.
 
 ghost use Rattle.std.specs.Prelude.{◌≡◌, ◌≤◌, ◌+◌, ◌%◌, IsTrue};
 ghost use Rattle.ssim_values.specs.Station.{is_station};
@@ -7,12 +8,13 @@ ghost use Rattle.ssim_records.specs.LegParts.{AreTimes, ChangesEquipment, Change
 use crate::columns::{join, put, put_filled};
 use ssim_values::{Clock, Station, Variation};
 
-/// A column from 37 to 127 is this many bytes after its place in a leg's own columns.
+/// A column from 37 to 127 is this number of bytes after its index in a leg's own columns.
 const MIDDLE: usize = 36;
-/// A column from 129 to 194 is this many bytes after its place in a leg's own columns.
+/// A column from 129 to 194 is this number of bytes after its index in a leg's own columns.
 const TAIL: usize = 37;
 
-/// The stations of a leg and their UTC variations. Fields are named by the columns of a flight leg record, type 3.
+/// The stations of a leg and their UTC variations. Fields are named by the columns of a flight leg
+/// record, type 3.
 #[derive(Clone, Copy, Debug, PartialEq, Eq)]
 pub struct LegStations {
     /// Columns 37 to 39: the departure station.
@@ -36,27 +38,31 @@ pub struct LegTimes {
     pub aircraft_arrival: Clock,
     /// Columns 62 to 65: the passenger arrival time.
     pub passenger_arrival: Clock,
-    /// Column 193: the days from the date of origin to the departure. The column has its last digit.
+    /// Column 193: the days from the date of origin to the departure. The column has its last
+    /// digit.
     pub departure_date_variation: u8,
     /// Column 194: the days from the date of origin to the arrival. The column has its last digit.
     pub arrival_date_variation: u8,
 }
 
-/// The equipment of a leg. A byte that a record cannot carry (0 to 31 and 127) is written as a blank.
+/// The equipment of a leg. A byte that a record cannot carry (0 to 31 and 127) is written as a
+/// blank.
 #[derive(Clone, Copy, Debug)]
 pub struct LegEquipment<'a> {
     /// Column 14: the service type.
     pub service_type: u8,
     /// Columns 73 to 75: the aircraft type.
     pub aircraft_type: [u8; 3],
-    /// Columns 76 to 95: the booking designators (PRBD), with blanks after them. A longer text is cut.
+    /// Columns 76 to 95: the booking designators (PRBD), with blanks after them. A longer text is
+    /// cut.
     pub booking_designators: &'a [u8],
     /// Columns 173 to 192: the aircraft configuration, with blanks after it. A longer text is cut.
     pub configuration: &'a [u8],
 }
 
 impl LegStations {
-    /// The columns of a leg that has these stations and UTC variations, and blanks in all other columns.
+    /// The columns of a leg that has these stations and UTC variations, and blanks in all other
+    /// columns.
     pub(crate) fn columns(&self) -> [u8; 158]
         ensures value { result ≡ station_columns self.now }
         ensures departure { IsTrue (is_station self.now.departure) }

@@ -1,20 +1,24 @@
-//! The 200-byte records of a schedule data set, as chapter 7 of IATA's Standard Schedules Information Manual has them,
-//! and the devices that they come from and go to.
+//! The 200-byte records of a schedule data set, as chapter 7 of IATA's Standard Schedules
+//! Information Manual has them, and the devices that they come from and go to.
 //!
-//! - [`Record`]: a [`Header`], [`Carrier`], [`LegRecord`], [`SegmentRecord`] or [`Trailer`], read by [`read_record`] or a [`RecordReader`] and
-//!   written by [`write_record`] and [`write_over`]. [`LegName`] identifies the leg of a record. [`LegColumns`] and [`SegmentTail`] are the
-//!   columns that a leg or a segment has of its own, with a reader for each field. [`NameText`] and [`PeriodText`] are texts that
-//!   several records have in common, so that they are written once.
-//! - [`LegStations`], [`LegTimes`] and [`LegEquipment`]: the parts of a new leg's columns, and what messages change in them.
+//! - [`Record`]: a [`Header`], [`Carrier`], [`LegRecord`], [`SegmentRecord`] or [`Trailer`], read
+//!   by [`read_record`] or a [`RecordReader`] and written by [`write_record`] and [`write_over`].
+//!   [`LegName`] identifies the leg of a record. [`LegColumns`] and [`SegmentTail`] are the columns
+//!   that a leg or a segment has of its own, with a reader for each field. [`NameText`] and
+//!   [`PeriodText`] are texts that several records have in common, so that they are written once.
+//! - [`LegStations`], [`LegTimes`] and [`LegEquipment`]: the parts of a new leg's columns, and what
+//!   messages change in them.
 //! - [`Records`]: the records of a stream, one after another, from any [`Source`].
-//! - [`Source`] and [`Sink`]: devices that bytes come from and go to. Contracts know the bytes of a `&[u8]`, of [`Bytes`]
-//!   and of [`Parts`]. [`Input`] and [`Output`], over std's readers and writers, count their bytes and failures.
+//! - [`Source`] and [`Sink`]: devices that bytes come from and go to. Contracts know the bytes of a
+//!   `&[u8]`, of [`Bytes`] and of [`Parts`]. [`Input`] and [`Output`], over std's readers and
+//!   writers, count their bytes and failures.
 //! - [`RecordFault`]: refusals 10 to 14, with the record number.
 //!
-//! **Promise.** Records are read and written exactly. If 200 bytes spell a record, that record is read; else the fault
-//! names the first column of the first invalid field. What is written is read back as it was. The records of a stream come
-//! in order, with their numbers, in whatever pieces its reader returns the bytes. 13 comes only if the reader failed, and 14
-//! only if more bytes came than the limit. Only [`Bytes`] and [`Parts`] allocate, when they grow.
+//! **Promise.** Records are read and written exactly. If 200 bytes spell a record, that record is
+//! read; else the fault names the first column of the first invalid field. What is written is read
+//! back as it was. The records of a stream come in order, with their numbers, in whatever pieces
+//! its reader returns the bytes. 13 comes only if the reader failed, and 14 only if more bytes came
+//! than the limit. Only [`Bytes`] and [`Parts`] allocate, when they grow.
 #![tactic(auto)]
 
 // A row of a table: the columns of a field, and its kind.

@@ -27,7 +27,8 @@ pub fn name_text(name: LegName) -> [u8; 12]
     text
 }
 
-/// Whether the numbers in columns 6 to 13 have no blanks. If these columns spell a name, they then are as it is written.
+/// Whether the numbers in columns 6 to 13 have no blanks. If these columns spell a name, they then
+/// are as it is written.
 pub fn has_digits(bytes: &[u8; 200]) -> bool
     ensures { IsTrue result ↔ HasDigits bytes.now }
 {

@@ -13,7 +13,8 @@ fn is_digit(byte: u8) -> bool
     byte.is_ascii_digit()
 }
 
-/// Whether each byte is a digit. No byte ends the loop, so that many are looked at together.
+/// Whether each byte is a digit. The loop has no early exit, so that several bytes are tested at
+/// once.
 pub fn are_digits(text: &[u8]) -> bool
     ensures { result ≡ list_all is_digit text.now }
 {
@@ -67,7 +68,8 @@ fn drop_blanks_at_end(text: &[u8]) -> &[u8]
     text
 }
 
-// `number_of` where there are other bytes than digits. It is not put into its caller, which mostly finds digits alone.
+// Does what `number_of` does if there are other bytes than digits. It is not inlined, since there
+// are mostly only digits.
 #[inline(never)]
 #[tactic(auto, unfolding(crate::specs::Numbers::number_of))]
 fn number_beside_blanks(text: &[u8]) -> Option<u32>
@@ -79,7 +81,7 @@ fn number_beside_blanks(text: &[u8]) -> Option<u32>
 }
 
 /// The number that digits spell, with blanks before or after.
-// Mostly there are digits alone.
+// Mostly there are only digits.
 #[tactic(auto, unfolding(crate::specs::Numbers::number_of), using(crate::proofs::Numbers::digits_alone))]
 pub fn number_of(text: &[u8]) -> Option<u32>
     requires { length text.now ≤ 6 }
@@ -92,7 +94,7 @@ pub fn number_of(text: &[u8]) -> Option<u32>
     number_beside_blanks(text)
 }
 
-/// The same from 1.
+/// The number that digits spell, with blanks before or after, if it is not 0.
 #[tactic(auto, unfolding(crate::specs::Numbers::sequence_of))]
 pub fn sequence_of(text: &[u8]) -> Option<u32>
     requires { length text.now ≤ 6 }
@@ -124,7 +126,7 @@ pub fn three_digits(number: u32) -> [u8; 3]
     [digit(number / 10 / 10), digit(number / 10), digit(number)]
 }
 
-/// The two digits of a number that has no more.
+/// The two digits of a number below 100.
 #[tactic(auto, using(crate::proofs::Numbers::two_alone))]
 pub fn both_digits(number: u8) -> [u8; 2]
     requires { number < 100 }
@@ -133,7 +135,7 @@ pub fn both_digits(number: u8) -> [u8; 2]
     write_two_digits(number)
 }
 
-/// The four digits of a number that has no more.
+/// The four digits of a number below 10,000.
 pub fn four_digits(number: u32) -> [u8; 4]
     requires { number < 10000 }
     ensures { result ≡ digits 4 number }

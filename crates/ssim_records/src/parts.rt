@@ -11,8 +11,9 @@ use std::alloc::Global;
 use std::collections::VecDeque;
 use std::marker::Model;
 
-/// Bytes in parts, seen as those that are left. As a source it gives them in order, and frees each part when the next one begins: so
-/// what is made of the bytes grows in the memory that they leave.
+/// Bytes in parts. Contracts see them as the bytes that are left. As a source it gives the bytes in
+/// order, and frees each part when the next one begins: what is built from the bytes can use the
+/// memory that is freed.
 #[derive(Drop)]
 pub struct Parts {
     /// The part that is being given, of which `used` bytes were.
@@ -71,7 +72,7 @@ impl Parts {
         }
     }
 
-    /// The next `count` bytes in their place, if they are all in one part.
+    /// The next `count` bytes by reference, if they are all in one part.
     pub fn front(&self, count: usize) -> Option<&[u8]>
         ensures { IfSome result (λ bytes. (length bytes.now ≡ count) × (bytes.now ≡ take count self.now)) }
     {
@@ -96,7 +97,7 @@ impl Parts {
         }
     }
 
-    // `skip` where the bytes are in several parts.
+    // Does what `skip` does if the bytes are in several parts.
     fn skip_far(&mut self, count: usize)
         requires { count ≤ length self.old }
         ensures { self.new ≡ drop count self.old }
@@ -107,7 +108,7 @@ impl Parts {
         }
     }
 
-    /// Takes the next bytes, as many as there is place for. If fewer are left, they stay.
+    /// Takes the next bytes, as many as there is room for. If fewer are left, none are taken.
     pub fn fill(&mut self, into: &mut [u8]) -> bool
         ensures full { IsTrue result → self.old ≡ into.new ++ self.new }
         ensures short { IsTrue result ↔ length into.old ≤ length self.old }

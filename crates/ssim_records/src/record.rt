@@ -36,7 +36,8 @@ fn kind_of(bytes: &[u8; 200]) -> u8
     bytes[0]
 }
 
-// `put_record` for the other types. It is not put into its caller, which would fill the room for these records for each leg too.
+// Does what `put_record` does for the other types. It is not inlined, which would reserve stack
+// space for their records for each leg, too.
 #[inline(never)]
 fn put_other(bytes: &[u8; 200], into: &mut Option<Record>) -> Result<bool, usize>
     requires leg { columns 1 1 bytes.now ≢ 51 ∷ [] }
@@ -54,7 +55,8 @@ fn put_other(bytes: &[u8; 200], into: &mut Option<Record>) -> Result<bool, usize
     Ok(true)
 }
 
-// Puts a flight leg into a place. Where there is one already, it is overwritten, which copies its columns once.
+// Puts a flight leg into `into`. A leg that is there already is overwritten, so that its columns
+// are copied once.
 fn put_leg(bytes: &[u8; 200], latest: &mut Latest, into: &mut Option<Record>) -> Result<(), usize>
     requires { columns 1 1 bytes.now ≡ 51 ∷ [] }
     ensures ok { OnOk result (HasSpelt into.new bytes.now) }
@@ -68,8 +70,8 @@ fn put_leg(bytes: &[u8; 200], latest: &mut Latest, into: &mut Option<Record>) ->
     Ok(())
 }
 
-// Puts segment data into a place. Where there are none, blank ones are put first: all are overwritten in the place, which copies their
-// columns once.
+// Puts segment data into `into`. If there are none, blank ones are put first: then all are
+// overwritten, so that their columns are copied once.
 fn put_segment(
     bytes: &[u8; 200],
     latest: &mut Latest,
@@ -91,8 +93,8 @@ fn put_segment(
     Ok(())
 }
 
-// Puts the record of its type into a place, or returns the first column of the first invalid field. Says whether there is
-// such a type.
+// Puts the record of its type into `into`, or returns the first column of the first invalid field.
+// Says whether there is such a type.
 fn put_record(
     bytes: &[u8; 200],
     latest: &mut Latest,
@@ -110,8 +112,8 @@ fn put_record(
     Ok(true)
 }
 
-/// A reader of records one after another, which takes note of the latest flight and dates: the same columns are not parsed
-/// again.
+/// A reader of records one after another, which remembers the latest flight and dates: equal
+/// columns are not parsed again.
 #[derive(Drop)]
 pub struct RecordReader {
     latest: Latest,
@@ -125,8 +127,8 @@ impl RecordReader {
         }
     }
 
-    /// Puts the record that 200 bytes spell into a place, or returns the fault at this record number. After a fault the
-    /// place may have any record or none.
+    /// Puts the record that 200 bytes spell into `into`, or returns the fault at this record
+    /// number. After a fault `into` may have any record or none.
     pub fn read_into(
         &mut self,
         bytes: &[u8; 200],
@@ -147,8 +149,8 @@ impl RecordReader {
     }
 }
 
-/// Puts the record that 200 bytes spell into a place, or returns the fault at this record number. After a fault the place
-/// may have any record or none.
+/// Puts the record that 200 bytes spell into `into`, or returns the fault at this record number.
+/// After a fault `into` may have any record or none.
 pub fn read_into(
     bytes: &[u8; 200],
     number: u64,
@@ -160,7 +162,8 @@ pub fn read_into(
     RecordReader::new().read_into(bytes, number, into)
 }
 
-/// The record that 200 bytes spell. A refusal is 11 `BadType` or 12 `BadColumn`, with record number 0.
+/// The record that 200 bytes spell. A refusal is 11 `BadType` or 12 `BadColumn`, with record number
+/// 0.
 pub fn read_record(bytes: &[u8; 200]) -> Result<Record, RecordFault>
     ensures ok { IfOk result (λ r. Spells r bytes.now) }
     ensures only { (r : Record) → Spells r bytes.now → result ≡ Ok r }
@@ -189,7 +192,8 @@ pub fn write_record(value: &Record) -> [u8; 200]
     }
 }
 
-// `write_over` for the other types. It is not put into its caller, which would fill the room for this spelling for each leg too.
+// Does what `write_over` does for the other types. It is not inlined, which would reserve stack
+// space for the spelling for each leg, too.
 #[inline(never)]
 fn write_other_over(value: &Record, out: &mut [u8])
     requires { length out.old ≡ 200 }
@@ -212,8 +216,8 @@ pub fn write_over(value: &Record, out: &mut [u8])
     }
 }
 
-// Whether the bytes are the written spelling of a record. It is not put into its caller, which would fill the room for this spelling for each
-// leg too.
+// Whether the bytes are the written spelling of a record. It is not inlined, which would reserve
+// stack space for the spelling for each leg, too.
 #[inline(never)]
 fn is_written_whole(value: &Record, bytes: &[u8; 200]) -> bool
     ensures same { IsTrue result ↔ (bytes.now ≡ written value.now) }
@@ -223,7 +227,8 @@ fn is_written_whole(value: &Record, bytes: &[u8; 200]) -> bool
 }
 
 impl Record {
-    /// Whether two records are the same. Those of a frame are compared by their spellings, since each spelling is of one record.
+    /// Whether two records are the same. Those of a frame are compared by their spellings, since
+    /// each spelling is of one record.
     pub fn same(&self, other: &Record) -> bool
         ensures { IsTrue result ↔ (self.now ≡ other.now) }
     {
@@ -234,8 +239,8 @@ impl Record {
         }
     }
 
-    /// Whether the bytes, which spell this record, are its one written spelling. Of a leg and a segment only the columns are looked at that
-    /// can be spelled in several ways.
+    /// Whether the bytes, which spell this record, are its one written spelling. Of a leg and a
+    /// segment only the columns that can be spelled in several ways are compared.
     pub fn is_written(&self, bytes: &[u8; 200]) -> bool
         requires { Spells self.now bytes.now }
         ensures same { IsTrue result ↔ (bytes.now ≡ written self.now) }

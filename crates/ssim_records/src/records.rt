@@ -18,11 +18,12 @@ pub enum Ending {
     Refused(RecordFault),
 }
 
-/// A reading of the records of a stream: blocks of 200 bytes, each followed by any number of line ends, LF or CR LF.
-/// A block of 200 zero digits is fill: it is counted and skipped. The same reader is passed at each call.
+/// A reading of the records of a stream: blocks of 200 bytes, each followed by any number of line
+/// ends, LF or CR LF. A block of 200 zero digits is fill: it is counted and skipped. The same
+/// reader is passed at each call.
 ///
-/// A refusal is 10 `Short`, 11 `BadType`, 12 `BadColumn`, 13 `ReadFault` or 14 `ReaderNeverEnds`, with the record
-/// number from 1. At most one byte more than the limit is fetched.
+/// A refusal is 10 `Short`, 11 `BadType`, 12 `BadColumn`, 13 `ReadFault` or 14 `ReaderNeverEnds`,
+/// with the record number from 1. At most one byte more than the limit is fetched.
 #[derive(Drop)]
 pub struct Records {
     /// The number of bytes that may come.
@@ -73,7 +74,8 @@ impl Records {
         self.number
     }
 
-    // What `next_into` returns before the end. A block that the reader has at hand is read where it is.
+    // Returns what `next_into` returns before the end. A block that the reader has at hand is read
+    // without a copy.
     fn answer<R: Source>(
         &mut self,
         reader: &mut R,
@@ -108,7 +110,7 @@ impl Records {
         self.fetched_answer(reader, into)
     }
 
-    // `answer` where the next block is brought into the window.
+    // Does what `answer` does if the next block has to be fetched into the window.
     fn fetched_answer<R: Source>(
         &mut self,
         reader: &mut R,
@@ -158,9 +160,10 @@ impl Records {
         }
     }
 
-    /// Puts the next record that is not fill into a place, and returns its number. After the last record the place is
-    /// `None`, and the number is that of the last block. After the end, and after a refusal, each call returns the same.
-    /// After a refusal the place may have any record or none.
+    /// Puts the next record that is not fill into `into`, and returns its number. After the last
+    /// record `into` is `None`, and the number is the number of the last block. After the end, and
+    /// after a refusal, each call returns the same. After a refusal `into` may have any record or
+    /// none.
     pub fn next_into<R: Source>(
         &mut self,
         reader: &mut R,
@@ -171,16 +174,19 @@ impl Records {
         ensures ended { self.new.ended ≡ ending_of (given into.new result) }
         ensures limit { self.new.limit ≡ self.old.limit }
 
-        // If the contract knows the reader's bytes, the result is the next record of the bytes ahead.
+        // If the contract knows the reader's bytes, the result is the next record of the bytes
+        // ahead.
         ensures record { IfNone self.old.ended (GivesNext self.old (R.left reader.old) self.new (R.left reader.new) (given into.new result)) }
         ensures number { IfNone self.old.ended (HasNumber self.new.number (given into.new result)) }
         ensures counts { IfNone self.old.ended (Counts self.old self.new (given into.new result)) }
 
-        // The records that were counted, and then the bytes that are held, are those that came: at 13 these are too few for a record.
+        // The counted records, and then the held bytes, are the bytes that came. At 13 the held
+        // bytes are too few for a record.
         ensures fetched { IfNone self.old.ended (FetchesNext self.old (R.left reader.old) self.new (R.left reader.new)) }
         ensures few_left { IfNone self.old.ended (HoldsFew self.new.held (given into.new result)) }
 
-        // 13 comes if the reader failed, 14 after the limit, and the bytes that came are those of the reader.
+        // 13 is returned if the reader failed, 14 after the limit. The bytes that came are those of
+        // the reader.
         ensures fault { IfNone self.old.ended (FailsAs (R.failures reader.old) (R.failures reader.new) (given into.new result)) }
         ensures never_ends { IfNone self.old.ended (NeverEnds self.new (given into.new result)) }
         ensures count { IfNone self.old.ended (CountsOn (R.left reader.old) (R.left reader.new) (R.came reader.old) (R.came reader.new) self.old.came self.new.came) }
@@ -205,23 +211,27 @@ impl Records {
         answer
     }
 
-    /// The next record that is not fill, and its number. After the end, and after a refusal, each call returns the same.
+    /// The next record that is not fill, and its number. After the end, and after a refusal, each
+    /// call returns the same.
     pub fn next<R: Source>(&mut self, reader: &mut R) -> Result<Option<(u64, Record)>, RecordFault>
         // After an end the same result is returned, and nothing else happens.
         ensures again { IfSome self.old.ended (λ e. (result ≡ last_answer e) × (self.new ≡ self.old) × (reader.new ≡ reader.old)) }
         ensures ended { self.new.ended ≡ ending_of result }
         ensures limit { self.new.limit ≡ self.old.limit }
 
-        // If the contract knows the reader's bytes, the result is the next record of the bytes ahead.
+        // If the contract knows the reader's bytes, the result is the next record of the bytes
+        // ahead.
         ensures record { IfNone self.old.ended (GivesNext self.old (R.left reader.old) self.new (R.left reader.new) result) }
         ensures number { IfNone self.old.ended (HasNumber self.new.number result) }
         ensures counts { IfNone self.old.ended (Counts self.old self.new result) }
 
-        // The records that were counted, and then the bytes that are held, are those that came: at 13 these are too few for a record.
+        // The counted records, and then the held bytes, are the bytes that came. At 13 the held
+        // bytes are too few for a record.
         ensures fetched { IfNone self.old.ended (FetchesNext self.old (R.left reader.old) self.new (R.left reader.new)) }
         ensures few_left { IfNone self.old.ended (HoldsFew self.new.held result) }
 
-        // 13 comes if the reader failed, 14 after the limit, and the bytes that came are those of the reader.
+        // 13 is returned if the reader failed, 14 after the limit. The bytes that came are those of
+        // the reader.
         ensures fault { IfNone self.old.ended (FailsAs (R.failures reader.old) (R.failures reader.new) result) }
         ensures never_ends { IfNone self.old.ended (NeverEnds self.new result) }
         ensures count { IfNone self.old.ended (CountsOn (R.left reader.old) (R.left reader.new) (R.came reader.old) (R.came reader.new) self.old.came self.new.came) }

@@ -46,7 +46,8 @@ pub fn are_same_seven(text: [u8; 7], other: [u8; 7]) -> bool
     are_same(&with_zero(text), &with_zero(other))
 }
 
-/// Whether two texts of one length are the same: eight bytes at a time, and the last eight at the end.
+/// Whether two texts of one length are the same: eight bytes at a time, and the last eight at the
+/// end.
 pub fn are_same_texts(text: &[u8], other: &[u8]) -> bool
     requires some { 8 ≤ length text.now }
     requires same_length { length other.now ≡ length text.now }

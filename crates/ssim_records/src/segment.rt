@@ -14,7 +14,8 @@ use crate::segment_tail::SegmentTail;
 use ssim_values::Airline;
 use std::marker::Model;
 
-/// Data of a segment that begins with a leg, as its record has them: the name of the leg, and the tail.
+/// Data of a segment that begins with a leg, as its record has them: the name of the leg, and the
+/// tail.
 #[derive(Clone, Copy, Debug, PartialEq, Eq)]
 pub struct SegmentRecord {
     /// Columns 2 to 13.
@@ -133,7 +134,8 @@ impl SegmentRecord {
         self.serial = 0;
     }
 
-    /// The segment becomes the one that a record spells. The columns that were not parsed are copied.
+    /// The segment becomes the one that a record spells. The columns that were not parsed are
+    /// copied.
     pub(crate) fn put(&mut self, bytes: &[u8; 200], head: &SegmentHead)
         requires kind { columns 1 1 bytes.now ≡ 52 ∷ [] }
         requires head { IsSegmentHead head.now bytes.now }
@@ -181,8 +183,8 @@ impl SegmentRecord {
         bytes
     }
 
-    /// Whether the bytes, which spell this record, are its written spelling: the numbers of the name have no blanks. The other columns
-    /// are carried, or have one spelling.
+    /// Whether the bytes, which spell this record, are its written spelling: the numbers of the
+    /// name have no blanks. The other columns are carried, or have one spelling.
     pub(crate) fn is_written(&self, bytes: &[u8; 200]) -> bool
         requires { SpellsSegment self.now bytes.now }
         ensures same { IsTrue result ↔ (bytes.now ≡ written_segment self.now) }

@@ -61,7 +61,8 @@ fn head_in(bytes: &[u8; 200], latest: &mut Latest) -> Option<SegmentHead>
     Some(SegmentHead { name, serial })
 }
 
-/// The head of segment data all of whose fields are valid, or the first column of the first invalid field.
+/// The head of segment data all of whose fields are valid, or the first column of the first invalid
+/// field.
 pub(crate) fn read_segment_head(
     bytes: &[u8; 200],
     latest: &mut Latest,

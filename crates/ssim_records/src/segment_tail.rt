@@ -12,11 +12,11 @@ use crate::same::are_same_texts;
 use ssim_values::Station;
 use std::marker::Model;
 
-/// A column from 29 to 194 is this many bytes after its place in a tail.
+/// A column from 29 to 194 is this number of bytes after its index in a tail.
 const FRONT: usize = 16;
 
-/// The tail of a segment record: the bytes of its columns 15 to 27 and 29 to 194, all carried. The readers are named by
-/// the columns of the record.
+/// The tail of a segment record: the bytes of its columns 15 to 27 and 29 to 194, all carried. The
+/// readers are named by the columns of the record.
 #[derive(Clone, Copy, Debug, PartialEq, Eq, Hash)]
 pub struct SegmentTail {
     bytes: [u8; 179],
@@ -56,9 +56,10 @@ fn part(tail: &[u8; 179], first: usize, last: usize) -> &[u8]
 }
 
 impl SegmentTail {
-    /// A tail with blanks in columns 15 to 27. Columns 29 and 30 have the letters of the board and off point, 31 to 33 the
-    /// last three digits of the data element identifier, 34 to 39 the stations of the two points, and 40 to 194 the text
-    /// with blanks after it. A longer text is cut, and a byte that a record cannot carry is written as a blank.
+    /// A tail with blanks in columns 15 to 27. Columns 29 and 30 have the letters of the board and
+    /// off point, 31 to 33 the last three digits of the data element identifier, 34 to 39 the
+    /// stations of the two points, and 40 to 194 the text with blanks after it. A longer text is
+    /// cut, and a byte that a record cannot carry is written as a blank.
     pub fn new(
         points: [u8; 2],
         identifier: u16,
@@ -102,7 +103,7 @@ impl SegmentTail {
         self.bytes
     }
 
-    /// The same bytes, in their place.
+    /// The same bytes, by reference.
     pub(crate) fn bytes_held(&self) -> &[u8; 179]
         ensures value { result.now ≡ self.now }
         ensures is_tail { IsTail result.now }

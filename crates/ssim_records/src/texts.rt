@@ -92,7 +92,8 @@ impl NameText {
         }
     }
 
-    /// Writes the record of this leg in a period, with these columns and this serial, and with blanks for frequency rate and overflow.
+    /// Writes the record of this leg in a period, with these columns and this serial, and with
+    /// blanks for frequency rate and overflow.
     pub fn write_leg(&self, period: &PeriodText, columns: &LegColumns, serial: u32, out: &mut [u8])
         requires serial { serial < 1000000 }
         requires room { length out.old ≡ 200 }
@@ -116,8 +117,8 @@ impl NameText {
         );
     }
 
-    /// Writes the record of a segment that begins with this leg, which has these columns: with this tail and this serial, and with a blank
-    /// for overflow.
+    /// Writes the record of a segment that begins with this leg, which has these columns: with this
+    /// tail and this serial, and with a blank for overflow.
     pub fn write_segment(
         &self,
         columns: &LegColumns,

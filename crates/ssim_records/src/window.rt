@@ -9,10 +9,12 @@ ghost use Rattle.ssim_records.specs.Blocks.{SameAhead};
 use crate::device::{DeviceFault, Source};
 use std::marker::Model;
 
-/// How many bytes a window has room for. A fetch asks for this many, but for a rest below a block, if the source has no bytes at hand.
+/// The number of bytes that a window has room for. A fetch asks for this number, less a rest below
+/// a block, if the source has no bytes at hand.
 const ROOM: usize = 16384;
 
-/// The bytes after the line ends at the beginning. It is not put into its callers, which mostly find one line end.
+/// The bytes after the line ends at the beginning. It is not inlined, since there is mostly one
+/// line end.
 #[inline(never)]
 fn after_line_ends(bytes: &[u8]) -> &[u8]
     ensures len { length result.now ≤ length bytes.now }
@@ -28,7 +30,7 @@ fn after_line_ends(bytes: &[u8]) -> &[u8]
     }
 }
 
-// `after_line_ends` where there is one LF and then the type of a record.
+// Does what `after_line_ends` does for one LF and then the type of a record.
 #[tactic(auto, using(crate::proofs::LineEnds::one_line_end))]
 fn after_one_line_end(bytes: &[u8]) -> Option<&[u8]>
     ensures { IfSome result (λ rest. rest.now ≡ drop_line_ends bytes.now) }
@@ -55,7 +57,8 @@ pub fn trimmed(bytes: &[u8], behind: bool) -> &[u8]
     }
 }
 
-/// Bytes that came and are not used yet, seen as their list. They are held inline, since reading does not allocate.
+/// Bytes that came and are not used yet, seen as their list. They are held inline, since reading
+/// does not allocate.
 #[derive(Drop)]
 pub struct Window {
     bytes: [u8; ROOM],
@@ -110,7 +113,7 @@ impl Window {
         }
     }
 
-    /// The block at the beginning, where it stands.
+    /// The block at the beginning, by reference.
     pub fn front(&self) -> &[u8; 200]
         requires { 200 ≤ length self.now }
         ensures { result.now ≡ take 200 self.now }

@@ -1,4 +1,5 @@
--- A block of fill is counted and passed over; any other answer is that of the blocks behind the fill.
+-- A block of fill is counted and passed over; any other result is that of the blocks after the
+-- fill.
 use Rattle.std.proofs.Common.{◌≡◌, ◌+◌, ◌∙◌, Ok, Err, Some, None, true, false, take, length, ap, sym, refl, arith, rules}
 use Rattle.std.proofs.lemmas.List.{length-drop}
 use Rattle.ssim_records.proofs.Framing.{one_more, counts_none, counts_twice, fetches_first, fetches_on, gives_other, none_skipped}

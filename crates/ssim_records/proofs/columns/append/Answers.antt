@@ -1,4 +1,4 @@
--- The part is written over the bytes behind the parts before it.
+-- The part is written over the bytes after the parts before it.
 use Rattle.std.proofs.Common.{List, ℕ, ◌+◌, ◌++◌, take, length, ap, ◌∙◌}
 use Rattle.ssim_records.proofs.Overwriting.{text_added}
 use Rattle.ssim_records.proofs.columns.append.Goals as goal

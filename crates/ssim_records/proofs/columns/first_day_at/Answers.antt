@@ -1,4 +1,4 @@
--- A start that stands is a day.
+-- A valid start is a day.
 use Rattle.std.proofs.Common.{sym, ◌∙◌}
 use Rattle.ssim_records.proofs.Places.{no_first_day}
 use Rattle.ssim_records.proofs.columns.first_day_at.Goals as goal

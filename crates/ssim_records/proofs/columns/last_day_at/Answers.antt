@@ -1,4 +1,4 @@
--- An end that stands is open or a day not before its start.
+-- A valid end is open or a day not before its start.
 use Rattle.std.proofs.Common.{sym, ◌∙◌}
 use Rattle.ssim_records.proofs.Places.{no_last_day}
 use Rattle.ssim_records.proofs.Days.{is_end}

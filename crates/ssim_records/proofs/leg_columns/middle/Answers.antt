@@ -1,4 +1,4 @@
--- The middle columns stand one after another in a leg's bytes.
+-- The middle columns are next to each other in a leg's bytes.
 use Rattle.ssim_records.proofs.OwnColumns.{own_middle}
 use Rattle.ssim_records.proofs.leg_columns.middle.Goals as goal
 

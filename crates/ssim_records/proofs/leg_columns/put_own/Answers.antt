@@ -1,4 +1,4 @@
--- The parts, each written behind those before it, are the columns.
+-- The parts, each written after those before it, are the columns.
 use Rattle.std.proofs.Common.{◌∙◌, arith, refl}
 use Rattle.ssim_records.proofs.Overwriting.{all_added}
 use Rattle.ssim_records.proofs.leg_columns.put_own.Goals as goal

@@ -1,4 +1,4 @@
--- The last columns stand one after another in a leg's bytes.
+-- The last columns are next to each other in a leg's bytes.
 use Rattle.ssim_records.proofs.OwnColumns.{own_tail}
 use Rattle.ssim_records.proofs.leg_columns.tail.Goals as goal
 

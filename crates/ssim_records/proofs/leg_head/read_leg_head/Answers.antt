@@ -1,4 +1,4 @@
--- Each field stands where the table has no fault.
+-- Each field is valid if the table has no fault.
 use Rattle.std.proofs.Common.{sym, ◌∙◌}
 use Rattle.ssim_records.specs.Leg.{leg_table}
 use Rattle.ssim_records.proofs.Rows.{each_stands}

@@ -1,4 +1,4 @@
--- Texts are the same where they are with a zero behind them.
+-- Texts are the same if they are with a zero after them.
 use Rattle.std.proofs.Common.{[], ◌∷◌, ◌++◌, sym, ap, ◌∙◌}
 use Rattle.std.proofs.lemmas.List.{append_cancel_right}
 use Rattle.std.proofs.lemmas.Slice.Eq.{bytes_eq-Decides}

@@ -1,4 +1,4 @@
--- The last columns stand one after another in a tail's bytes.
+-- The last columns are next to each other in a tail's bytes.
 use Rattle.ssim_records.proofs.Segments.{tail_part}
 use Rattle.ssim_records.proofs.segment_tail.part.Goals as goal
 

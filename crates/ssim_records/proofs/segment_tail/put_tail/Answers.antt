@@ -1,4 +1,4 @@
--- The parts, each written behind those before it, are the tail.
+-- The parts, each written after those before it, are the tail.
 use Rattle.std.proofs.Common.{◌∙◌, arith}
 use Rattle.ssim_records.proofs.Overwriting.{all_added}
 use Rattle.ssim_records.proofs.Segments.{tail_cut}

@@ -1,4 +1,4 @@
--- Each field stands where the table has no fault, and one record is spelt.
+-- Each field is valid if the table has no fault, and one record is spelt.
 use Rattle.std.proofs.Common.{◌≡◌, sym, ◌∙◌}
 use Rattle.ssim_records.specs.Trailer.{trailer_table}
 use Rattle.ssim_records.proofs.Rows.{each_stands, none_fault}

@@ -1,4 +1,4 @@
--- The table has no fault exactly where each field stands.
+-- The table has no fault exactly if each field is valid.
 use Rattle.std.proofs.Common.{refl, sym, ◌∙◌}
 use Rattle.ssim_records.specs.Columns.{first_fault}
 use Rattle.ssim_records.specs.Leg.{own_table, spread}

@@ -1,4 +1,4 @@
--- The fields of a record stand apart from it.
+-- The fields of a record are copied out of it.
 use Rattle.ssim_records.proofs.OwnColumns.{are_leg_columns}
 use Rattle.ssim_records.proofs.leg_columns.LegColumns.put.Goals as goal
 

@@ -1,4 +1,4 @@
--- The bytes that are copied are the first of the front, which has some unless nothing is left.
+-- The copied bytes are the first of the current part, which has some unless nothing is left.
 use Rattle.std.proofs.Common.{◌≡◌, ◌<◌, ◌≤◌, ℕ, ◌+◌, ◌-◌, List, ◌++◌, min, length, take, drop, sym, ap, ◌∙◌, append_assoc, length-append, length-drop, arith}
 use Rattle.std.proofs.Math.Seq.{take-length}
 use Rattle.std.proofs.lemmas.List.{drop-drop, length-take, length-take-le, take_at, take-append-drop}

@@ -1,4 +1,4 @@
--- A block that is read where it stands is the next block that is not fill.
+-- A block that is read without a copy is the next block that is not fill.
 use Rattle.std.proofs.Common.{◌≡◌, ◌+◌, ◌≤◌, length, ap, arith, refl, sym, ◌∙◌}
 use Rattle.ssim_records.specs.Reading.{Reading}
 use Rattle.ssim_records.proofs.AtHand.{block_bytes, fetches_standing, gives_standing}

@@ -1,4 +1,4 @@
--- Each answer is that of the next block that is not fill.
+-- Each result is that of the next block that is not fill.
 use Rattle.std.proofs.Common.{◌≡◌, Ok, true, take, drop, refl, rules}
 use Rattle.ssim_records.specs.Reading.{Reading}
 use Rattle.ssim_records.proofs.Readings.{block_fault, gives_placed, gives_refusal, refused_holds}

@@ -1,4 +1,4 @@
--- The parts, each written behind those before it, are the written spelling.
+-- The parts, each written after those before it, are the written spelling.
 use Rattle.std.proofs.Common.{[], ◌∷◌, ◌++◌, ◌∙◌, arith}
 use Rattle.std.specs.Prelude.{codes, slice_range}
 use Rattle.ssim_records.specs.Leg.{name_texts}

@@ -1,4 +1,4 @@
--- What is left behind line ends is the end of the bytes, so a new start shows it.
+-- What is left after line ends is the end of the bytes, so moving the start is enough.
 use Rattle.std.proofs.Common.{◌≡◌, arith}
 use Rattle.std.specs.Prelude.{slice_range, ◌-◌, length}
 use Rattle.ssim_records.specs.Frames.{drop_line_ends}
