@@ -1,4 +1,5 @@
--- One more record before those that are kept: what its leg adds to the table of leg records, and that it stands.
+-- One more record after the accepted ones: what its leg adds to the table of leg records, and that
+-- it is allowed.
 use Rattle.std.proofs.Common.{◌≡◌, ◌≢◌, ℕ, Bool, true, false, ◌&&◌, ◌||◌, nat_eq, nat_lt, List, [], ◌∷◌, Some, None, unwrap_or, refl, sym, ap, subst, ◌∙◌, arith}
 use Rattle.std.proofs.lemmas.Bool.Decides.{nat_tests}
 use Rattle.std.specs.List.{list_any, range_with_len}
@@ -118,7 +119,7 @@ legs-same old new k earlier legs same unnamed none other = subst (λ t. AreLegs 
   flown = λ f is. legs.flown f is ∙ ap (λ b. b || list_any (is_leg_of f) earlier) (sym (other f));
 })
 
--- ---- it stands
+-- ---- the record is allowed
 
 -- a record that gives no leg
 kept-other : (old new : Acceptance) (k : Record) (earlier : List Record) → HasAccepted old earlier → AddsRecord old.records new.records (k) → IsExpectedAfter new.expected (k ∷ earlier)
@@ -154,7 +155,7 @@ is_legs (Leg r) = true
 is_legs (Segment r) = true
 is_legs (Trailer r) = true
 
--- behind header and carrier the place of legs, segments and trailers is right
+-- after header and carrier, legs, segments and trailers are in order
 legs-follow : (e : List Record) → Follows false e → (r : Record) → is_legs r ≡ true → base.place_refusal e r ≡ None
 legs-follow [] f r is = absurd f
 legs-follow (x ∷ []) f r is = absurd f
@@ -164,7 +165,7 @@ legs-follow (x ∷ y ∷ e) f (Leg r) is = rw f refl
 legs-follow (x ∷ y ∷ e) f (Segment r) is = rw f refl
 legs-follow (x ∷ y ∷ e) f (Trailer r) is = rw f refl
 
--- one more record behind two
+-- one more record after two
 more-follow : (e : List Record) (k : Record) (ended : Bool) → Follows false e → is_trailer k ≡ ended → Follows ended (k ∷ e)
 more-follow [] k ended f is = absurd f
 more-follow (x ∷ []) k ended f is = absurd f

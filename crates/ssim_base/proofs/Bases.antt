@@ -1,5 +1,6 @@
--- A base has a frame, and gives a timetable, that can be exported: behind records that stand, each later leg record of a flight and day has
--- another sequence, so the legs of a day have rising sequences; and the order of the types leaves no other form than that with a frame.
+-- A base has a frame, and gives a timetable, that can be exported: among valid records each later
+-- leg record of a flight and day has another sequence, so the legs of a day have rising sequences;
+-- and the order of the types leaves no other form than that with a frame.
 use Rattle.std.proofs.Common.{◌≡◌, ℕ, zero, suc, ◌+◌, ◌<◌, ◌≤◌, Bool, true, false, not, ◌&&◌, ◌||◌, nat_eq, nat_lt, if◌then◌else◌, List, [], ◌∷◌, ◌++◌, map, Option, Some, None, Ok, refl, sym, ap, subst, ◌∙◌, arith}
 use Rattle.std.proofs.lemmas.Bool.Decides.{nat_tests}
 use Rattle.std.proofs.lemmas.List.Elements.{recursion_from_All, All-from_recursion}
@@ -78,7 +79,8 @@ none-at test low (suc k) h n from to = by (nat_eq low n) refl (λ above. none-at
     by true e later = let same : low ≡ n = grind (arith, nat_tests) in ap test (sym same) ∙ parts.0
     by false e later = let above : low + 1 ≤ n = grind (arith, nat_tests) in later above
 
--- no earlier leg record of the flight and day has the sequence of a leg record that does not overlap
+-- no earlier leg record of the flight and day has the sequence of a leg record that does not
+-- overlap
 no-taken : (name : Name) (period : DayRange) (f : FlightNumber) (n : ℕ) (e : List Record) → list_any (overlaps name period) e ≡ false → same_flight name.flight f ≡ true
     → holds period n ≡ true → n < day_count → list_any (nat_eq name.sequence) (taken e f n) ≡ false
 no-taken name period f n [] clear same on within = refl
@@ -158,7 +160,7 @@ all-sound e (r ∷ rs) h = (sound-kept e r h.0, all-sound (kept e r ∷ e) rs h.
 abbrev Rises : List Record → List Record → FlightNumber → ℕ → Type 0
 Rises e rs f n = Above 0 (itinerary (kept_all e rs) f n) × Fresh (taken e f n) (itinerary (kept_all e rs) f n)
 
--- a leg's sequence is apart from those behind it
+-- a leg's sequence differs from those after it
 fresh-first : (s : ℕ) (xs : List ℕ) (legs : Legs) → Fresh (s ∷ xs) legs → Each (λ (m : LegValue). nat_eq m.sequence s ≡ false) legs × Fresh xs legs
 fresh-first s xs [] h = (tt, tt)
 fresh-first s xs (m ∷ legs) h =

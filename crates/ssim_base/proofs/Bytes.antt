@@ -1,5 +1,5 @@
--- The law on bytes: the bytes are lines of records that have a spelling and of fill, which the crate of records reads back, and the law
--- on records says the rest.
+-- The law on bytes: the bytes are lines of records that have a spelling and of fill, which the
+-- crate of records reads back, and the law on records says the rest.
 use Rattle.std.proofs.Common.{arith, ◌≡◌, ℕ, ◌+◌, false, List, [], ◌∷◌, ◌++◌, map, length, Ok, refl, sym, ap, subst, ◌∙◌}
 use Rattle.ssim_records.specs.Frames.{Frames}
 use Rattle.ssim_records.specs.Record.{block_of, WrittenIsFramed, WrittenSpells}

@@ -24,11 +24,12 @@ pub each-both : {X : Type 0} (P Q : X → Type 0) (xs : List X) → Each P xs �
 each-both P Q [] a b = tt
 each-both P Q (x ∷ xs) a b = ((a.0, b.0), each-both P Q xs a.1 b.1)
 
--- the element at hand, behind those before it
+-- the current element, after those before it
 pub all_more : {X : Type 0} (P : X → Type 0) (xs : List X) (i : ℕ) (x : X) → i < length xs → x ≡ get_or xs i x → All P (take i xs) → P x → All P (take (i + 1) xs)
 all_more P xs i x less is before one = All-more P xs i x less before (subst P is one)
 
--- what follows from a fact of all that are left follows from that of all but the first, of which it is known
+-- what follows from a fact of all elements that are left follows from that fact of all but the
+-- first, if the first is known to have it
 pub all_left : {X : Type 0} (P : X → Type 0) (G : Type 0) (left rest : List X) (x : X) → left ≡ x ∷ rest → P x → (All P left → G) → All P rest → G
 all_left P G left rest x is one all others = all (subst (λ xs. All P xs) (sym is) (All-from_recursion P (x ∷ rest) (one, recursion_from_All P rest others)))
 

@@ -1,4 +1,4 @@
--- The records of a base stand in its frame: header and carrier first, the trailer last.
+-- A base has its frame around its records: header and carrier first, the trailer last.
 use Rattle.std.proofs.Common.{◌≡◌, suc, ◌+◌, ◌-◌, List, [], ◌∷◌, ◌++◌, length, map, slice_index_or, refl, sym, ap, subst, ◌∙◌, arith}
 use Rattle.std.proofs.lemmas.List.{length-append}
 use Rattle.std.proofs.lemmas.List.Elements.{All-from_recursion}

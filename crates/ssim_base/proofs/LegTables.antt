@@ -1,4 +1,5 @@
--- The flights of a table of leg records: which of them a change concerns, and which have leg records.
+-- The flights of a table of leg records: which of them a change concerns, and which have leg
+-- records.
 use Rattle.std.proofs.Common.{◌≡◌, ◌≢◌, ℕ, zero, suc, ◌+◌, ◌-◌, ◌*◌, ◌/◌, ◌%◌, ◌<◌, ◌≤◌, Bool, true, false, ◌||◌, nat_eq, if◌then◌else◌, List, [], ◌∷◌, ◌++◌, length, reverse, set, slice_get, refl, sym, ap, subst, ◌∙◌, append_assoc, arith}
 use Rattle.std.proofs.lemmas.Bool.Decides.{nat_tests}
 use Rattle.std.proofs.lemmas.List.{reverse-append}
@@ -123,7 +124,7 @@ push-next has n fs all l e h = append_assoc fs (flight_at n ∷ []) (flights_lef
 pub pass-next : (has : ℕ → Bool) (n : ℕ) (fs : List FlightNumber) (all : List FlightNumber) → n < flight_count → has n ≡ false → fs ++ flights_left has n ≡ all → fs ++ flights_left has (n + 1) ≡ all
 pass-next has n fs all l e h = ap (λ gs. fs ++ gs) (sym (step has n false l e)) ∙ h
 
--- behind the last list there are no leg records
+-- after the last list there are no leg records
 pub past-flights : (flights : List FlightLegs) (k : ℕ) → length flights ≤ k → has_legs (legs_in flights k) ≡ false
 past-flights flights k l = ap (λ o. has_legs (entries_of o)) (slice_get_past flights k l)
 
@@ -142,7 +143,7 @@ count-is : flight_count ≡ 270000
 unfolding flight_count
 count-is = refl
 
--- the flights of a number whose suffixes are behind its list have no leg records
+-- the flights of a number whose suffixes are after its list have no leg records
 pub skip-flights : (has : ℕ → Bool) (flights : List FlightLegs) (number suffix : ℕ) → number < 10000 → suffix ≤ 27 → (suffix < 27 → length flights ≤ suffix)
     → ((s : ℕ) → s < 27 → has (27 * number + s) ≡ has_legs (legs_in flights s)) → flights_left has (27 * number + suffix) ≡ flights_left has (27 * number + 27)
 skip-flights has flights number suffix l m end is =
@@ -156,7 +157,7 @@ skip-flights has flights number suffix l m end is =
         let past : length flights ≤ suffix = end (omega arith) in
         ap has at ∙ is (j - 27 * number) (omega arith) ∙ past-flights flights (j - 27 * number) (omega arith)
 
--- behind the last number no flight has leg records
+-- after the last number no flight has leg records
 pub none-past : (numbers : List (Vec FlightLegs Global)) (number : ℕ) → number ≤ 10000 → (number < 10000 → length numbers ≤ number)
     → flights_left (λ place. has_legs (legs_in (flights_of (slice_get numbers (place / 27))) (place % 27))) (27 * number) ≡ []
 none-past numbers number l end =

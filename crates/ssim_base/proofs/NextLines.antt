@@ -18,7 +18,7 @@ pub was_not : {A : Type 0} (P : Type 0) (read : Option A) → is_some read ≡ f
 was_not P None none holds = holds
 was_not P (Some a) none holds = absurd cc
 
--- bytes of which so many are in one part
+-- bytes of which this number is in one part
 pub enough : (n : ℕ) (bytes front : List ℕ) → length front ≡ n → front ≡ take n bytes → n ≤ length bytes
 enough n bytes front long is = let t = length-take n bytes in let l = ap length is in omega (arith, t, l, long)
 

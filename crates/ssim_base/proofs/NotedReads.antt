@@ -1,4 +1,5 @@
--- What is said of the records and the notes of a data set is said of its base, and of its records alone.
+-- What is said of the records and the notes of a data set is said of its base, and of its records
+-- alone.
 use Rattle.std.proofs.Common.{List, Vec, Global, Ok, Err}
 use Rattle.ssim_records.specs.declared.record.Record.{Record}
 use Rattle.ssim_base.specs.Base.{Outcome}

@@ -1,4 +1,5 @@
--- Nothing is noted of an export: its serials count on from 1, and the trailer's check reference is the serial before it.
+-- Nothing is noted of an export: its serials count on from 1, and the trailer's check reference is
+-- the serial before it.
 use Rattle.std.proofs.Common.{◌≡◌, ℕ, ◌+◌, true, false, not, nat_eq, List, [], ◌∷◌, ◌++◌, map, length, refl, sym, ap, subst, ◌∙◌, arith}
 use Rattle.std.proofs.lemmas.Bool.Decides.{nat_tests}
 use Rattle.std.specs.List.{AllByRecursion as Each}

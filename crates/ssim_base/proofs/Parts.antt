@@ -1,5 +1,6 @@
--- What the records of an export say, part by part: a leg with its tails, a piece, a flight, all flights. What is written is
--- always followed by `more`, of which it is only known that it gives nothing; so the parts compose.
+-- What the records of an export say, part by part: a leg with its tails, a piece, a flight, all
+-- flights. What is written is always followed by `more`, of which it is only known that it gives
+-- nothing; so the parts compose.
 use Rattle.std.proofs.Common.{◌≡◌, ℕ, zero, suc, ◌+◌, ◌<◌, ◌≤◌, Bool, true, false, ◌&&◌, nat_eq, nat_lt, if◌then◌else◌, List, [], ◌∷◌, ◌++◌, map, slice_index, refl, ap, ◌∙◌, arith, append_assoc}
 use Rattle.std.proofs.lemmas.Bool.Decides.{nat_tests}
 use Rattle.std.specs.List.{flat_map, range_with_len, AllByRecursion as Each}
@@ -120,7 +121,7 @@ itinerary-off a f v period (l ∷ legs) more g n h =
     ∙ itinerary-tails own (slice_index l.columns 0) l.tails (next ++ more) g n
     ∙ itinerary-off a f v period legs more g n h
 
--- a leg before legs of higher sequence stands first
+-- a leg comes first among legs of higher sequence
 placed-first : (l : LegValue) (legs : Legs) → Above l.sequence legs → placed l legs ≡ l ∷ legs
 placed-first l [] h = refl
 placed-first l (m ∷ legs) h =

@@ -1,4 +1,5 @@
--- A flight and its place among all flights determine each other, so what holds of the numbers of a range holds of all flights.
+-- A flight and its place among all flights determine each other, so what holds of the numbers of a
+-- range holds of all flights.
 use Rattle.std.proofs.Common.{◌≡◌, ℕ, ◌+◌, ◌-◌, ◌*◌, ◌/◌, ◌%◌, ◌<◌, ◌≤◌, Bool, true, false, nat_eq, if◌then◌else◌, IsTrue, refl, ap, sym, ◌∙◌, arith}
 use Rattle.std.proofs.lemmas.Bool.Decides.{nat_tests}
 use Rattle.ssim_values.specs.Flight.{FlightNumber, IsFlight, is_suffix}

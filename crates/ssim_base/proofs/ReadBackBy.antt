@@ -1,4 +1,5 @@
--- Bytes that spell the records of a base are read as this base, unless the reader fails: their blocks are one, and each spells one record.
+-- Bytes that spell the records of a base are read as this base, unless the reader fails: their
+-- blocks are one, and each spells one record.
 use Rattle.std.proofs.Common.{◌≡◌, ◌⊎◌, ℕ, ◌+◌, ◌-◌, ◌≤◌, false, List, [], ◌∷◌, ◌++◌, length, map, Some, None, Ok, inl, inr, refl, sym, ap, subst, ◌∙◌, arith}
 use Rattle.ssim_records.specs.Frames.{Frames, FramesAreOne, others}
 use Rattle.ssim_records.specs.Record.{Spells}
@@ -70,7 +71,7 @@ gives-begins count rest over left [] ending gives = tt
 gives-begins count rest over [] (r ∷ given) ending gives = absurd gives
 gives-begins count rest over (b ∷ left) (r ∷ given) ending gives = (gives.0, gives.1, gives-begins count rest over left given ending gives.2)
 
--- where all records stand, reading that fails behind some of them is refused for that
+-- if all records are valid, reading that fails after some of them is refused for that failure
 front-stands : (n : ℕ) (f : RecordFault) (e : List Record) (given later : List Numbered) → first_refusal (Done n) e (given ++ later) ≡ None → first_refusal (Broken f) e given ≡ Some (Read f)
 front-stands n f e [] later none = refl
 front-stands n f e (r ∷ given) later none =

@@ -30,7 +30,7 @@ use Rattle.ssim_base.specs.declared.note.Note.TheVariants.{Serial}
 abbrev pub Numbered : Type 0
 Numbered = ℕ × Record
 
--- ---- what was gathered so far
+-- ---- what was read so far
 
 abbrev records_in : List Numbered → List Record
 records_in = map (λ r. r.1)
@@ -74,7 +74,7 @@ one-more old new earlier done x so_far stood notes previous is = record {
       ∙ ap (λ n. new.notes.items ++ notes_of n later) (sym previous);
 }
 
--- the outcome where a record is refused, whatever comes behind it
+-- the outcome if a record is refused, whatever comes after it
 refused-outcome : (g : DataSetReader) (earlier : List Record) (done later : List Numbered) (ending : Ending) (x : Numbered) (refusal : BaseRefusal) → IsSoFar g earlier done
     → refusal_at earlier x.1 ≡ Some refusal → Err (Refused x.0 refusal) ≡ data_set ending ((done ++ x ∷ []) ++ later)
 refused-outcome g earlier done later ending x refusal so_far is =
@@ -104,7 +104,7 @@ pub record IsTold (limit : ℕ) (all left : List ℕ) (r : Reading) (done : List
   pub split : others 0 blocks ≡ before ++ others r.number later
   pub spelled : EachSpells before done
 
--- where the bytes are told
+-- if the reader reports its bytes
 abbrev pub Told : ℕ → Option (List ℕ) → Option (List ℕ) → Reading → List Numbered → Type 0
 Told limit None left r done = Unit {0}
 Told limit (Some all) None r done = ⊥
@@ -179,7 +179,7 @@ told-step limit (Some all) (Some left) (Some left') r new done x t given = step 
 
 -- ---- how reading ends
 
--- behind the records so far come these blocks
+-- after the records so far come these blocks
 given-by : (limit : ℕ) (all left : List ℕ) (r : Reading) (done : List Numbered) (ending : Ending) → (t : IsTold limit all left r done)
     → Stops (length t.blocks) t.rest (length all - limit) (others r.number t.later) ending → AreGiven limit all done ending
 given-by limit all left r done ending t stops = record {
@@ -325,7 +325,7 @@ never-fails all left n earlier r fault.Memory is = tt
 never-fails all left n earlier r (Read f) is = absurd is
 never-fails all left n earlier r (Refused m refusal) is = tt
 
--- ---- behind the last record
+-- ---- after the last record
 
 -- nothing is missing: the records and notes so far are the outcome
 pub whole-outcome : (g : DataSetReader) (earlier : List Record) (done : List Numbered) (number : ℕ) → IsSoFar g earlier done → missing earlier ≡ None

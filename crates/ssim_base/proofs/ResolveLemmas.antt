@@ -1,4 +1,5 @@
--- The refusal of a message is that of its first sub-message that has one, where mode and reference stand.
+-- The refusal of a message is that of its first sub-message that has one, if its mode and reference
+-- are valid.
 use Rattle.std.proofs.Common.{◌≡◌, ◌⊎◌, ℕ, ◌+◌, true, List, [], ◌∷◌, inl, inr}
 use Rattle.ssim_records.specs.Carrier.{CarrierFields}
 use Rattle.ssim_text.specs.Message.{MessageValue}

@@ -1,4 +1,5 @@
--- A base and a message have at most one outcome: a date is the least of its kind, so dates, sub-messages and refusals are one.
+-- A base and a message have at most one outcome: a date is the least of its kind, so dates,
+-- sub-messages and refusals are one.
 use Rattle.std.proofs.Common.{◌≡◌, ◌⊎◌, ℕ, ◌+◌, ◌<◌, ◌≤◌, Bool, true, false, nat_lt, List, [], ◌∷◌, Ok, Err, inl, inr, refl, sym, ap, subst, ◌∙◌, arith}
 use Rattle.std.proofs.lemmas.Bool.Decides.{nat_tests}
 use Rattle.ssim_values.specs.DayMonth.{MonthDay}

@@ -1,4 +1,5 @@
--- The same bytes are read as the same base: they have one list of blocks, each of which spells one record, and a base is read to the end.
+-- The same bytes are read as the same base: they have one list of blocks, each of which spells one
+-- record, and a base is read to the end.
 use Rattle.std.proofs.Common.{◌≡◌, ℕ, ◌+◌, ◌-◌, false, List, [], ◌∷◌, ◌++◌, length, map, None, Ok, inl, inr, refl, sym, ap, subst, ◌∙◌}
 use Rattle.ssim_records.specs.Frames.{Frames, others}
 use Rattle.ssim_records.specs.declared.fault.RecordFault.{RecordFault}

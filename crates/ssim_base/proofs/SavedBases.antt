@@ -1,5 +1,6 @@
--- The records of a base are kept as they are: what a base leaves out of a record is left out already, and a record that is not refused is not
--- refused without it. So the bytes of these records are read as the same records.
+-- The records of a base are kept as they are: what a base leaves out of a record is left out
+-- already, and a record that is not refused is not refused without it. So the bytes of these
+-- records are read as the same records.
 use Rattle.std.proofs.Common.{◌≡◌, ◌⊎◌, ℕ, ◌+◌, ◌-◌, ◌<◌, ◌≤◌, false, not, nat_lt, min, unwrap_or, List, [], ◌∷◌, map, length, Option, Some, None, Ok, inl, inr, refl, sym, ap, subst, ◌∙◌, arith}
 use Rattle.std.specs.Prelude.{IsSome}
 use Rattle.std.proofs.lemmas.Bool.Decides.{nat_tests}
@@ -80,7 +81,8 @@ place-kept (x ∷ y ∷ e) (Leg r) = refl
 place-kept (x ∷ y ∷ e) (Segment r) = refl
 place-kept (x ∷ y ∷ e) (Trailer r) = refl
 
--- the refusals of a leg record, without those for overflow and rate, which are blank in what is kept
+-- the refusals of a leg record, without those for overflow and rate, which are blank in what is
+-- kept
 leg-parts : (a b c d f : Option BaseRefusal) → first_of (a ∷ b ∷ c ∷ d ∷ f ∷ []) ≡ None → (a ≡ None) × (d ≡ None) × (f ≡ None)
 leg-parts a b c d f h =
     let one = or_else-none a (first_of (b ∷ c ∷ d ∷ f ∷ [])) h in

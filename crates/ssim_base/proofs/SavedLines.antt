@@ -1,5 +1,6 @@
--- Lines are read as the records of a base, one after another: what is left after some records begins with the lines of records that
--- complete these to a base, exactly if the bytes begin with the lines of a base.
+-- Lines are read as the records of a base, one after another: what is left after some records
+-- begins with the lines of records that complete these to a base, exactly if the bytes begin with
+-- the lines of a base.
 use Rattle.std.proofs.Common.{◌≡◌, ℕ, ◌+◌, ◌<◌, List, [], ◌∷◌, ◌++◌, map, reverse, length, take, drop, Option, Result, IfErr, Some, None, Ok, Err, true, false, refl, sym, ap, subst, ◌∙◌, append_assoc, length-append, arith}
 use Rattle.std.proofs.lemmas.List.{append_cancel_left, append-nil, reverse-append, take-append-drop}
 use Rattle.std.proofs.lemmas.List.Elements.{recursion_from_All, All-from_recursion}
@@ -22,7 +23,7 @@ use Rattle.ssim_base.proofs.Stands.{StandsTo, not_refused}
 
 -- ---- the records that complete a base
 
--- these records stand behind the earlier ones up to the end of a base, and a base can have each
+-- these records are valid after the earlier ones up to the end of a base, and a base can have each
 pub record Completes (earlier records : List Record) : Type 0 where
   pub each_record : Each IsRecord records
   pub each_bare : Each IsBare records
@@ -93,8 +94,9 @@ one-line r x rest more is are e =
 
 -- ---- what is left of the lines
 
--- what is left after these records, the latest of which comes first, begins with the lines of records that complete a base of so many,
--- exactly if the bytes begin with the lines of such a base
+-- what is left after these records, the latest of which comes first, begins with the lines of the
+-- records that complete a base of this size, exactly if the bytes begin with the lines of such a
+-- base
 pub record IsLeft (bytes rest : List ℕ) (count : ℕ) (earlier : List Record) : Type 0 where
   pub whole : (later : List Record) (tail : List ℕ) → rest ≡ saved later ++ tail → Completes earlier later → (bytes ≡ saved (in_order earlier later) ++ tail) × Completes [] (in_order earlier later)
   pub only : (records : List Record) (tail : List ℕ) → bytes ≡ saved records ++ tail → length records ≡ count → Completes [] records
@@ -136,7 +138,8 @@ left-more bytes rest after count earlier r left line stands few = record {
         )
 
 module _ (bytes rest : List ℕ) (count : ℕ) (earlier : List Record) (left : IsLeft bytes rest count earlier) where
-  -- where no record of a base can come next, and more are to come, the bytes begin with no such base
+  -- where no record of a base can come next, and more are to come, the bytes begin with no such
+  -- base
   pub left-none : (length earlier ≡ count → ⊥) → ((r : Record) (after : List ℕ) → IsLine r rest after → refusal_at earlier r ≡ None → ⊥)
       → (records : List Record) (tail : List ℕ) → IsBaseRecords records → length records ≡ count → bytes ≡ saved records ++ tail → ⊥
   left-none few none records tail is n e =
@@ -186,7 +189,7 @@ line-short r bytes rest line short =
     let two = length-append (written r) (10 ∷ []) in
     omega (arith, long, whole, one, two, short)
 
--- a block that is refused is that of no line
+-- a block that is refused is no line's block
 pub line-refused : {A : Type 0} (r : Record) (bytes rest block : List ℕ) (read : Result A RecordFault) → IsLine r bytes rest → block ≡ take 200 bytes → is_err read ≡ true
     → IfErr read (λ e. fault_of 0 block ≡ Some e) → ⊥
 line-refused r bytes rest block (Ok a) line is refused fault = absurd cc
@@ -224,7 +227,7 @@ pub read-ok : {A E : Type 0} (P : Type 0) (read : Result A E) → is_err read �
 read-ok P (Ok a) ok holds = holds
 read-ok P (Err e) ok holds = absurd cc
 
--- a record that is refused is that of its line
+-- a record that is refused is the record of its line
 pub next-refused : (one r : Record) (rest after more : List ℕ) (earlier : List Record) (refusal : BaseRefusal) → IsLine one rest after → IsLine r rest more
     → refusal_at earlier one ≡ Some refusal → refusal_at earlier r ≡ None → ⊥
 next-refused one r rest after more earlier refusal line other refused stands =

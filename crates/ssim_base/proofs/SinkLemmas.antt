@@ -1,5 +1,5 @@
--- What a sink has taken, put by put: a front of the bytes, up to a rest that shrinks. A rest can be taken in parts, and bytes more
--- behind both change nothing.
+-- What a sink has taken, put by put: a prefix of the bytes, up to a rest that shrinks. A rest can
+-- be taken in parts, and more bytes after both change nothing.
 use Rattle.std.proofs.Common.{◌≡◌, ℕ, zero, suc, ◌+◌, ◌-◌, ◌<◌, ◌≤◌, List, [], ◌∷◌, ◌++◌, length, replicate, take, drop, set, Option, Some, None, Result, Ok, Err, OnOk, OnErr, append_assoc, refl, sym, ap, subst, ◌∙◌, arith}
 use Rattle.std.specs.List.{flat_map}
 use Rattle.std.proofs.lemmas.Grind.{common_steps}
@@ -38,7 +38,7 @@ start bytes t = ([], refl, appends-none t)
 pub then : (a b c : List ℕ) (t u v : Option (List ℕ)) → TakesUpTo a b t u → TakesUpTo b c u v → TakesUpTo a c t v
 then a b c t u v h k = (h.0 ++ k.0, h.1 ∙ ap (λ (bs : List ℕ). h.0 ++ bs) k.1 ∙ sym (append_assoc h.0 k.0 c), appends-then t u v h.0 k.0 h.2 k.2)
 
--- and more of them behind
+-- with more bytes after them
 pub more : (a b x : List ℕ) (t u : Option (List ℕ)) → TakesUpTo a b t u → TakesUpTo (a ++ x) (b ++ x) t u
 more a b x t u h = (h.0, ap (λ (bs : List ℕ). bs ++ x) h.1 ∙ append_assoc h.0 b x, h.2)
 
@@ -65,11 +65,11 @@ halt all h x rest whole t u v split before put = (put.0 ++ rest, step all h x re
 pub finish : (all h : List ℕ) (t u : Option (List ℕ)) → TakesUpTo all (h ++ []) t u → TakesUpTo all h t u
 finish all h t u before = subst (λ (bs : List ℕ). TakesUpTo all bs t u) (nothing_after h) before
 
--- a front of more bytes
+-- a prefix of more bytes
 pub front_more : (a x whole : List ℕ) (t u : Option (List ℕ)) → whole ≡ a ++ x → TakesFront a t u → TakesFront whole t u
 front_more a x whole t u split h = subst (λ (bs : List ℕ). TakesFront bs t u) (sym split) (h.0 ++ x, more a h.0 x t u h.1)
 
--- after some were taken, a front of the rest was
+-- after some bytes were taken, a prefix of the rest was taken
 pub then_front : (a b : List ℕ) (t u v : Option (List ℕ)) → TakesUpTo a b t u → TakesFront b u v → TakesFront a t v
 then_front a b t u v h k = (k.0, then a b k.0 t u v h k.1)
 
@@ -84,7 +84,7 @@ halt_last h x y kept t u v one two = then_front (h ++ (x ++ y)) (kept ++ y) t u 
 pub front_taken : (n : ℕ) (bytes rest : List ℕ) (t u : Option (List ℕ)) → rest ≡ drop n bytes → Appends t u (take n bytes) → TakesUpTo bytes rest t u
 front_taken n bytes rest t u is h = (take n bytes, sym (take-append-drop n bytes) ∙ ap (λ (bs : List ℕ). take n bytes ++ bs) (sym is), h)
 
--- ---- answers
+-- ---- results
 
 pub at_fault : {A E P : Type 0} (r : Result A E) → P → OnErr r P
 at_fault (Ok a) p = tt

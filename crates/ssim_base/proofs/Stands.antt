@@ -1,5 +1,5 @@
--- No record of an export is refused. "These records stand" is said with what follows them, so that facts on what stands before
--- travel through legs, pieces and flights.
+-- No record of an export is refused. "These records are valid" is stated with what follows them, so
+-- that facts on the records before them travel through legs, pieces and flights.
 use Rattle.std.proofs.Common.{subst, ◌≡◌, ℕ, zero, suc, ◌+◌, ◌<◌, ◌≤◌, Bool, true, false, ◌&&◌, nat_eq, nat_lt, if◌then◌else◌, List, [], ◌∷◌, ◌++◌, map, length, slice_index, Some, None, ◌⊎◌, inl, inr, refl, sym, ap, ◌∙◌, arith}
 use Rattle.std.proofs.lemmas.Bool.Decides.{nat_tests}
 use Rattle.std.specs.List.{flat_map, range_with_len, list_any, All}
@@ -22,7 +22,8 @@ use Rattle.ssim_base.proofs.Pieces.{bytes-self, itinerary_pieces}
 use Rattle.ssim_base.proofs.Parts.{and_false, false_and, same_name-self, own_name, own_tails, flights_from}
 use Rattle.ssim_base.proofs.Whole.{exported, kept-serial}
 
--- the records stand one after another behind the earlier ones, and what is then behind them is a P
+-- the records are valid one after another after the earlier ones, and what is then after them is a
+-- P
 abbrev pub StandsTo : List Record → List Record → (List Record → Type 0) → Type 0
 StandsTo e [] P = P e
 StandsTo e (r ∷ rs) P = (refusal_at e r ≡ None) × StandsTo (kept e r ∷ e) rs P
@@ -56,7 +57,7 @@ stands-numbered n (r ∷ rs) P e h = (
   subst (λ k. StandsTo (k ∷ e) (numbered (n + 1) rs) P) (sym (kept-serial e n r)) (stands-numbered (n + 1) rs P (kept e r ∷ e) h.1),
 )
 
--- ---- what stands before
+-- ---- what comes before
 
 -- a carrier of this airline, at least two records, and no trailer last
 abbrev Good : List ℕ → List Record → Type 0
@@ -165,7 +166,7 @@ stands-tails a name service (t ∷ tails) P e good same named next = (
   stands-tails a name service tails P (tail_record name service t ∷ e) (good-tail a (record { name = name; service = service; tail = t; overflow = 32; serial = 0 }) e good) same named next,
 )
 
--- the legs of a piece stand, where lower sequences stand before them on its days
+-- the legs of a piece are valid, if lower sequences come before them on its days
 stands-legs : (a : List ℕ) (f : FlightNumber) (v : ℕ) (period : DayRange) (legs : Legs) (k : ℕ) (P : List Record → Type 0) (e : List Record) → Good a e
     → period.first ≤ period.last → Above k legs
     → ((n : ℕ) → n < day_count → holds period n ≡ true → Upto k (taken e f n))
@@ -203,7 +204,8 @@ stands-legs a f v period (l ∷ legs) k P e good le above low next = (
 
 -- ---- pieces
 
--- a day's itinerary stands in at most one of the pieces that are left, and then nothing of the flight stands before on that day
+-- a day's itinerary is in at most one of the pieces that are left, and then no record of the flight
+-- before them is on that day
 abbrev Left : (ℕ → Legs) → List Piece → (ℕ → List ℕ) → Type 0
 Left w ps before = (n : ℕ) → n < day_count → (held_on ps n ≡ []) ⊎ ((held_on ps n ≡ alone same_itinerary [] (w n)) × (before n ≡ []))
 
@@ -298,7 +300,7 @@ stands-flights a days low (suc k) P e is fit good free next =
 
 -- ---- the whole
 
--- the first refusal, from what stands one after another
+-- the first refusal, from records that are valid one after another
 pub not_refused : (number : ℕ) (e : List Record) (rs : List Record) (records : List (ℕ × Record)) → map (λ r. r.1) records ≡ rs
     → StandsTo e rs (λ d. missing d ≡ None) → first_refusal (Done number) e records ≡ None
 not_refused number e [] [] is h = rw h refl

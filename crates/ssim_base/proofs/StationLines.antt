@@ -1,4 +1,5 @@
--- The rows of a station table: a table is cut at LF, and its lines are read one after another up to the first that is no row.
+-- The rows of a station table: a table is cut at LF, and its lines are read one after another up to
+-- the first that is no row.
 use Rattle.std.proofs.Common.{◌≡◌, ◌≤◌, ℕ, ◌+◌, Bool, true, false, List, [], ◌∷◌, ◌++◌, Option, Some, None, Result, Ok, Err, inl, inr, refl, sym, ap, subst, ◌∙◌, append_assoc, arith}
 use Rattle.std.specs.Prelude.{nat_le, if◌then◌else◌}
 use Rattle.std.proofs.lemmas.Bool.Decides.{nat_tests}
@@ -166,7 +167,7 @@ first_other : (lines : List (ℕ × List ℕ)) (m : ℕ) → rows_of lines ≡ E
 first_other [] m h = absurd cc
 first_other (line ∷ lines) m h = other_by line.0 m line.1 (row_of line.1) lines (rows_of lines) refl refl (first_other lines m) h
 
--- what is answered names the first line that is no row
+-- the result names the first line that is no row
 pub names_line : (lines : List (ℕ × List ℕ)) (fault : StationFault) → StopsAs (rows_of lines) fault → NamesLine lines fault
 names_line lines Memory h = tt
 names_line lines (Stations n) h = first_other lines n h

@@ -1,5 +1,6 @@
--- Each record of an export has a spelling: its flight exists, its variation, sequence and serial fit their columns since the export
--- was not refused, its period is one of the calendar by the law of pieces, and its columns and tails are those of the timetable.
+-- Each record of an export has a spelling: its flight exists, its variation, sequence and serial
+-- fit their columns since the export was not refused, its period is one of the calendar by the law
+-- of pieces, and its columns and tails are those of the timetable.
 use Rattle.std.proofs.Common.{◌≡◌, ℕ, zero, suc, ◌+◌, ◌<◌, ◌≤◌, Bool, true, false, ◌&&◌, nat_lt, if◌then◌else◌, IsTrue, List, [], ◌∷◌, ◌++◌, map, length, length-append, ◌-◌, slice_index, slice_index_or, replicate, Option, Some, None, Ok, ◌⊎◌, inl, inr, refl, sym, ap, subst, ◌∙◌, arith}
 use Rattle.std.proofs.lemmas.Bool.Decides.{nat_tests}
 use Rattle.std.proofs.lemmas.List.Elements.{recursion_from_All}
@@ -81,7 +82,7 @@ IsPiece days piece = IsPeriod piece.0 × ((n : ℕ) × (n < day_count) × (piece
 abbrev Begins : ℕ → Piece → Type 0
 Begins end piece = (piece.0.first ≤ piece.0.last) × (piece.0.last < end) × (holds piece.0 piece.0.first ≡ true)
 
--- a day's itinerary stands in at most one of the pieces that are left
+-- a day's itinerary is in at most one of the pieces that are left
 abbrev Left : Days → List Piece → Type 0
 Left days ps = (n : ℕ) → (held_on ps n ≡ []) ⊎ (held_on ps n ≡ alone same_itinerary [] (on_day days n))
 

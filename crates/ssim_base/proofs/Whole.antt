@@ -1,4 +1,5 @@
--- The whole of an export: its frame, its serials, which a base does not keep, and the export of what was read.
+-- The whole of an export: its frame, its serials, which a base does not keep, and the export of
+-- what was read.
 use Rattle.std.proofs.Common.{◌≡◌, ℕ, zero, suc, ◌+◌, ◌<◌, ◌&&◌, nat_lt, if◌then◌else◌, List, [], ◌∷◌, ◌++◌, map, length, slice_index, Option, Some, None, Ok, refl, sym, ap, subst, ◌∙◌, arith}
 use Rattle.std.specs.List.{range_with_len, AllByRecursion as Each}
 use Rattle.ssim_values.specs.Flight.{FlightNumber}

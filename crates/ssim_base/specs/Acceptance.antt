@@ -23,7 +23,7 @@ use Rattle.ssim_base.specs.declared.leg_table.LegTable.{LegTable}
 use Rattle.ssim_base.specs.declared.fault.BaseFault.{BaseFault}
 use Rattle.ssim_base.specs.declared.fault.BaseFault.TheVariants as fault
 
--- two records at least, the latest of which is a trailer or not
+-- there are at least two records, and the latest is or is not a trailer
 abbrev pub Follows : Bool → List Record → Type 0
 Follows ended [] = ⊥
 Follows ended (last ∷ []) = ⊥

@@ -19,6 +19,6 @@ abbrev pub AreAccepted : AcceptedRecords → List Record → Type 0
 AreAccepted (Pieces records) earlier = records ≡ reverse earlier
 AreAccepted (Count n) earlier = n ≡ length earlier
 
--- one record more
+-- the new records are the old ones and one more
 abbrev pub AddsRecord : AcceptedRecords → AcceptedRecords → Record → Type 0
 AddsRecord old new one = (earlier : List Record) → AreAccepted old earlier → AreAccepted new (one ∷ earlier)

@@ -108,7 +108,7 @@ place_refusal (last ∷ second ∷ more) (Leg r) = refuse_if (is_trailer last) r
 place_refusal (last ∷ second ∷ more) (Segment r) = refuse_if (is_trailer last) refused.BadType
 place_refusal (last ∷ second ∷ more) (Trailer r) = refuse_if (is_trailer last) refused.BadType
 
--- IVI overflow is left blank or 0, the frequency rate blank or 1
+-- whether an overflow byte means an overflow: it is neither blank nor 0
 abbrev pub is_overflow : ℕ → Bool
 is_overflow b = not (b == 32 || b == 48)
 
@@ -148,7 +148,7 @@ own_refusal earlier (Trailer r) = first_of (
 abbrev pub refusal_at : List Record → Record → Option BaseRefusal
 refusal_at earlier r = or_else (place_refusal earlier r) (own_refusal earlier r)
 
--- what is missing at the end
+-- the refusal at the end of the records, if a header, carrier or trailer is missing
 abbrev pub missing : List Record → Option BaseRefusal
 missing [] = Some refused.NoHeader
 missing (only ∷ []) = Some refused.NoCarrier
@@ -221,7 +221,7 @@ base_fault_number (Refused n refusal) = refusal_number refusal
 abbrev pub note_if : Bool → Note → List Note
 note_if test note = if test then note ∷ [] else []
 
--- the check reference of a trailer
+-- the note on the check reference of a trailer
 abbrev pub check_notes : ℕ → ℕ → Record → List Note
 check_notes number previous (Trailer r) = note_if (not (nat_eq r.check previous)) (CheckReference number)
 check_notes number previous (Header r) = []
@@ -238,7 +238,7 @@ notes_of previous (r ∷ later) =
 
 -- ---- the whole
 
--- what a data set is read as
+-- what a data set is read as: records and notes, or a fault
 abbrev pub Outcome : Type 0
 Outcome = Result (List Record × List Note) BaseFault
 

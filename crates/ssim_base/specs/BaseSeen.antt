@@ -1,4 +1,4 @@
--- What contracts see of a base, and what it always is.
+-- What contracts see of a base, and what always holds of it.
 use Rattle.std.specs.Prelude.{◌≡◌, ℕ, Bool, false, List, Ok}
 use Rattle.std.specs.List.{All, list_any}
 use Rattle.ssim_values.specs.Flight.{FlightNumber, IsFlight}
@@ -21,7 +21,7 @@ pub record BaseSeen : Type 0 where
 abbrev pub base_with : List Record → List Row → BaseSeen
 base_with records rows = record { records = records; rows = rows }
 
--- these are the records of a base: what some records, each of which can be spelt, are read as
+-- these are the records of a base: some valid records are read as them
 pub record WasRead (base : List Record) : Type 0 where
   pub ending : Ending
   pub records : List (ℕ × Record)

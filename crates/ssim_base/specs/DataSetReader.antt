@@ -31,7 +31,7 @@ pub record HasRead (limit : ℕ) (told : Option (List ℕ)) (g : DataSetReader) 
   pub so_far : IsSoFar g earlier done
   pub given : AreGivenOf limit told done (Done number)
 
--- whatever was read is known
+-- the reader's state is that of some records done
 pub record IsWhole (g : DataSetReader) : Type 0 where
   pub earlier : List Record
   pub done : List (ℕ × Record)

@@ -1,4 +1,5 @@
--- The canonical export of a timetable: its flights in order, their pieces, the legs of each with their tails.
+-- The canonical export of a timetable: its flights in order, their pieces, the legs of each with
+-- their tails.
 use Rattle.std.specs.Prelude.{ℕ, ◌+◌, ◌-◌, ◌%◌, ◌/◌, Bool, true, false, ◌&&◌, nat_eq, nat_lt, if◌then◌else◌, List, [], ◌∷◌, ◌++◌, map, length, replicate, slice_index, Option, Some, None, Result, Ok, Err}
 use Rattle.std.specs.List.{flat_map, range_with_len}
 use Rattle.std.specs.Str.{bytes_eq}
@@ -59,18 +60,18 @@ pieces days = pieces_of same_itinerary [] days
 abbrev pub tail_record : Name → ℕ → List ℕ → Record
 tail_record name service tail = Segment (record { name = name; service = service; tail = tail; overflow = 32; serial = 0 })
 
--- a leg's record, and those of its tails
+-- the record of a leg, followed by the records of its tails
 abbrev pub leg_records : List ℕ → FlightNumber → ℕ → DayRange → LegValue → List Record
 leg_records airline flight variation period l =
     let name : Name = record { airline = airline; flight = flight; variation = variation; sequence = l.sequence } in
     Leg (record { name = name; first = period.first; last = Some period.last; days = period.days; rate = 32; columns = l.columns; overflow = 32; serial = 0 })
     ∷ map (tail_record name (slice_index l.columns 0)) l.tails
 
--- a piece: its legs by sequence, each followed by its tails
+-- the records of a piece: its legs by sequence, each followed by its tails
 abbrev pub piece_records : List ℕ → FlightNumber → ℕ → Piece → List Record
 piece_records airline flight variation piece = flat_map (leg_records airline flight variation piece.0) piece.1
 
--- the pieces of a flight, with itinerary variations from `variation` on
+-- the records of the pieces of a flight, with itinerary variations from `variation` on
 abbrev pub pieces_records : List ℕ → FlightNumber → ℕ → List Piece → List Record
 pieces_records airline flight variation [] = []
 pieces_records airline flight variation (piece ∷ later) =
@@ -86,11 +87,11 @@ flights_records airline days flights = flat_map (flight_records airline days) fl
 
 -- ---- all flights, by number and then by suffix, the blank first
 
--- how many flights there are. Opaque, so that they are never written out
+-- the number of flights; opaque, so that the list of all flights is never written out
 unfoldable pub flight_count : ℕ
 flight_count = 270000
 
--- the flight at a place: 27 suffixes a number
+-- the flight with this rank: 27 suffixes a number
 abbrev pub flight_at : ℕ → FlightNumber
 flight_at n = record { number = n / 27; suffix = if nat_eq (n % 27) 0 then 32 else 64 + n % 27 }
 
@@ -149,7 +150,7 @@ export_of flights frame days =
     let airline = frame.carrier.airline in
     unless_refused (export_refusal airline days 2 flights) (sections frame (flights_records airline days flights))
 
--- the sections of the export, or its refusal
+-- the sections of the whole export, or its refusal
 abbrev pub chapter7_records : Frame → (FlightNumber → Days) → Result (List (List Record)) ExportRefusal
 chapter7_records frame days = export_of all_flights frame days
 
@@ -163,7 +164,7 @@ line bytes = bytes ++ 10 ∷ []
 abbrev pub fill_count : ℕ → ℕ
 fill_count n = (5 - n % 5) % 5
 
--- a section: each record with LF, and fill up to a multiple of five
+-- the bytes of a section: each record with LF, and fill up to a multiple of five
 abbrev pub section_bytes : List Record → List ℕ
 section_bytes records = flat_map (λ r. line (written r)) records ++ flat_map line (replicate (fill_count (length records)) fill)
 

@@ -64,7 +64,7 @@ abbrev pub text_fault_place : TextFault → Place
 text_fault_place text_fault.Memory = Nowhere
 text_fault_place (text_fault.Refused fault line) = Line line
 
--- an open end is the field at column 22
+-- what a fault of a base names: the record, or a column of it; a refused open end names column 22
 abbrev pub base_fault_place : BaseFault → Place
 base_fault_place base.Memory = Nowhere
 base_fault_place (base.Read fault) = record_fault_place fault

@@ -34,13 +34,13 @@ has_variation legs variation = nat_eq (bit_at legs.variations variation) 1
 abbrev pub is_numbered : ℕ → LegSequence → Bool
 is_numbered sequence legs = nat_eq legs.number sequence
 
--- whether an entry is there, and is of this leg sequence
+-- whether there is an entry of this leg sequence
 abbrev pub is_of : ℕ → Option LegSequence → Bool
 is_of sequence None = false
 is_of sequence (Some legs) = is_numbered sequence legs
 
--- the index of the entry of a leg sequence: one less than its number if that entry is of it, else the first index of such an entry, or
--- the number of entries if there is none
+-- the index of the entry of a leg sequence: one less than its number if that entry is of it, else
+-- the first index of such an entry, or the number of entries if there is none
 abbrev pub index_of : List LegSequence → ℕ → ℕ
 index_of entries sequence =
     if is_of sequence (slice_get entries (sequence - 1)) then sequence - 1 else position_or_len (is_numbered sequence) entries
@@ -94,11 +94,11 @@ abbrev pub flights_of : Option (Vec FlightLegs Global) → List FlightLegs
 flights_of None = []
 flights_of (Some flights) = flights.items
 
--- the leg sequences of the flight whose place among all flights is this
+-- the leg sequences of the flight with this rank among all flights
 abbrev pub legs_at : LegTable → ℕ → List LegSequence
 legs_at table place = legs_in (flights_of (slice_get table.numbers.items (place / 27))) (place % 27)
 
--- one more leg record of one flight; those of the others stay
+-- one more leg record of the flight with this rank; the records of the others stay
 pub record AddsLegAt (old new : LegTable) (place sequence variation : ℕ) (period : DayRange) : Type 0 where
   pub its : AddsLeg (legs_at old place) (legs_at new place) sequence variation period
   pub others : (k : ℕ) → k ≢ place → legs_at new k ≡ legs_at old k
@@ -110,10 +110,10 @@ abbrev pub flights_from : (ℕ → Bool) → ℕ → ℕ → List FlightNumber
 flights_from has place zero = []
 flights_from has place (suc count) = if has place then flight_at place ∷ flights_from has (place + 1) count else flights_from has (place + 1) count
 
--- of all flights from a place on, those that pass a test, in order
+-- the flights that pass a test, in order, among all flights from a rank on
 abbrev pub flights_left : (ℕ → Bool) → ℕ → List FlightNumber
 flights_left has place = flights_from has place (flight_count - place)
 
--- of all flights, those that have a leg record, in order
+-- the flights that have a leg record, in order
 abbrev pub flights_in : LegTable → List FlightNumber
 flights_in table = flights_left (λ place. has_legs (legs_at table place)) 0

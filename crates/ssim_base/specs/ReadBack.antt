@@ -28,16 +28,16 @@ pub record IsTimetable (days : FlightNumber → Days) : Type 0 where
   pub each_day : (flight : FlightNumber) → IsFlight flight → length (days flight) ≡ day_count
   pub rising : AreInOrder days
 
--- the trailer of a base is of the carrier's airline, and ends the data set
+-- the trailer of a frame names the carrier's airline and ends the data set
 pub record IsFrame (frame : Frame) : Type 0 where
   pub airline : frame.trailer.airline ≡ frame.carrier.airline
   pub code : frame.trailer.code ≡ End
 
--- the records of an export, as they are read
+-- the records of an export, in the order in which they are read
 abbrev pub records_of : List (List Record) → List Record
 records_of sections = flat_map (λ s. s) sections
 
--- the records of the base that reads them
+-- the records of the base that an export is read as
 abbrev pub base_of : List Record → List Record
 base_of records = kept_all [] records
 
@@ -49,7 +49,7 @@ kept_frame frame = record {
   trailer = record frame.trailer { check = 0; serial = 0 };
 }
 
--- the itineraries by day that an export gives are those that were exported
+-- An export gives the itineraries by day that were exported.
 abbrev pub GivesBack : (FlightNumber → Days) → List (List Record) → Type 0
 GivesBack days sections = (flight : FlightNumber) (n : ℕ) → IsFlight flight → n < day_count
     → itinerary (base_of (records_of sections)) flight n ≡ on_day (days flight) n
@@ -92,11 +92,12 @@ abbrev pub Rise : ℕ → List FlightNumber → Type 0
 Rise low [] = Unit {0}
 Rise low (f ∷ fs) = (low ≤ place_of f) × IsFlight f × Rise (place_of f + 1) fs
 
--- a flight that is none of these has no piece
+-- the flights that are not in the list have no piece
 abbrev pub NoOther : (FlightNumber → Days) → List FlightNumber → Type 0
 NoOther days fs = (g : FlightNumber) → IsFlight g → list_any (same_flight g) fs ≡ false → pieces (days g) ≡ []
 
--- flights without a flown day add nothing, so the flights of a map serve in place of all flights
+-- Flights without a flown day add nothing to an export, so the flights of a map serve in place of
+-- all flights.
 abbrev pub FlownSuffice : Type 0
 FlownSuffice = (frame : Frame) (days : FlightNumber → Days) (fs : List FlightNumber) → Rise 0 fs → NoOther days fs
     → chapter7_records frame days ≡ export_of fs frame days
@@ -187,7 +188,8 @@ SameBytes = (frame other : Frame) (days others : FlightNumber → Days) → kept
     → ((flight : FlightNumber) (n : ℕ) → IsFlight flight → n < day_count → on_day (days flight) n ≡ on_day (others flight) n)
     → chapter7 frame days ≡ chapter7 other others
 
--- each day has its legs by rising sequence, with columns and tails that records may have
+-- a timetable can be exported and read back: each day has its legs by rising sequence, with columns
+-- and tails that records may have
 pub record CanReadBack (days : FlightNumber → Days) : Type 0 where
   pub timetable : IsTimetable days
   pub legs : AreWritable days

@@ -127,7 +127,7 @@ Came (Some left) None old new n = ⊥
 Came None (Some left') old new n = ⊥
 Came None None old new n = new % 2 ^ 128 ≡ (old + n) % 2 ^ 128
 
--- 14 is returned only if more bytes came than the limit
+-- if the fault is 14, more bytes came than the limit
 abbrev pub NeverEnds : ℕ → (ℕ → Type 0) → BaseFault → Type 0
 NeverEnds limit CameFrom fault.Memory = Unit {0}
 NeverEnds limit CameFrom (fault.Read (Short number)) = Unit {0}
@@ -137,14 +137,16 @@ NeverEnds limit CameFrom (fault.Read (ReadFault number)) = Unit {0}
 NeverEnds limit CameFrom (fault.Read (ReaderNeverEnds number)) = (n : ℕ) × (limit < n) × CameFrom n
 NeverEnds limit CameFrom (fault.Refused number refusal) = Unit {0}
 
--- the number after the complete records of the bytes that came: all of them but those that the reader has left
+-- the number after the complete records of the bytes that came, which are all bytes but those that
+-- the reader has left
 abbrev pub IsAfterComplete : Option (List ℕ) → Option (List ℕ) → ℕ → Type 0
 IsAfterComplete None left number = Unit {0}
 IsAfterComplete (Some all) None number = ⊥
 IsAfterComplete (Some all) (Some left) number =
     (came : List ℕ) × (blocks : List (List ℕ)) × (rest : List ℕ) × (all ≡ came ++ left) × Frames 0 false came blocks rest × (number ≡ length blocks + 1)
 
--- 13 has the number after the complete records that came before the reader failed, fill among them
+-- if the fault is 13, its number is the one after the complete records that came before the reader
+-- failed, fill included
 abbrev pub FailsAfter : Option (List ℕ) → Option (List ℕ) → BaseFault → Type 0
 FailsAfter all left fault.Memory = Unit {0}
 FailsAfter all left (fault.Read (Short number)) = Unit {0}

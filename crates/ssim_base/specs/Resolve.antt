@@ -1,4 +1,5 @@
--- A message resolved against a base: its reference and its sub-messages with full dates, or why it cannot be.
+-- A message resolved against a base: its reference and its sub-messages with full dates, or why it
+-- cannot be.
 use Rattle.std.specs.Prelude.{◌≡◌, ◌≢◌, ◌⊎◌, ℕ, ◌+◌, ◌<◌, ◌≤◌, Bool, true, false, List, [], ◌∷◌, Result, Ok, Err}
 use Rattle.ssim_values.specs.Calendar.{HasDayMonth}
 use Rattle.ssim_values.specs.DayMonth.{MonthDay}
@@ -27,32 +28,32 @@ use Rattle.ssim_base.specs.declared.sub_message.ResolvedSub.{ResolvedSub}
 
 -- ---- dates
 
--- the least day not below `from` with this day and month
+-- the least day, from `from` on, with this day and month
 pub record IsNext (from : ℕ) (date : MonthDay) (day : ℕ) : Type 0 where
   pub from_on : from ≤ day
   pub has : HasDayMonth day date.month date.day
   pub least : (k : ℕ) → from ≤ k → k < day → HasDayMonth k date.month date.day → ⊥
 
--- there is none up to the end of 2099
+-- no day from `from` to the end of 2099 has this day and month
 abbrev pub HasNone : ℕ → MonthDay → Type 0
 HasNone from date = (k : ℕ) → from ≤ k → HasDayMonth k date.month date.day → ⊥
 
--- the day that a date means, where one without a year is the next on or after `from`
+-- the day that a date means; a date without a year means the next such day from `from` on
 abbrev pub Means : ℕ → GivenDate → ℕ → Type 0
 Means from (Full day) meant = meant ≡ day
 Means from (Yearless date) meant = IsNext from date meant
 
--- no day is meant
+-- the date means no day: it has no year, and there is no such day up to the end of 2099
 abbrev pub MeansNone : ℕ → GivenDate → Type 0
 MeansNone from (Full day) = ⊥
 MeansNone from (Yearless date) = HasNone from date
 
--- the day that the end of a period means, where an open one is the end of the carrier's validity
+-- the day that the end of a period means; an open end means the end of the carrier's validity
 abbrev pub MeansEnd : CarrierFields → ℕ → GivenEnd → ℕ → Type 0
 MeansEnd carrier first (Until date) meant = Means first date meant
 MeansEnd carrier first Open meant = meant ≡ end_of carrier
 
--- the last day of a period means no date: it is given, and means none
+-- the end of the period means no day
 abbrev pub MeansNoEnd : ℕ → GivenEnd → Type 0
 MeansNoEnd first (Until date) = MeansNone first date
 MeansNoEnd first Open = ⊥
@@ -61,25 +62,27 @@ MeansNoEnd first Open = ⊥
 abbrev pub every_day : List Bool
 every_day = true ∷ true ∷ true ∷ true ∷ true ∷ true ∷ true ∷ []
 
--- the full period of some dates: those of an SSM from the start of the carrier's validity on; the one date of an ASM
+-- The full period of some dates. A first date without a year is the next one from the start of the
+-- carrier's validity on, and a last date without a year the next one from the first date on. An ASM
+-- has the one date.
 abbrev pub AreDates : CarrierFields → Dates → DayRange → Type 0
 AreDates carrier (Period given) range =
     Means carrier.first given.first range.first × MeansEnd carrier range.first given.last range.last × (range.first ≤ range.last) × (range.days ≡ given.days)
 AreDates carrier (Date given) range = Means carrier.first given range.first × (range.last ≡ range.first) × (range.days ≡ every_day)
 
--- a date of them has no year left
+-- one of the dates means no day
 abbrev pub LackYear : CarrierFields → Dates → Type 0
 LackYear carrier (Period given) =
     MeansNone carrier.first given.first ⊎ ((first : ℕ) × Means carrier.first given.first first × MeansNoEnd first given.last)
 LackYear carrier (Date given) = MeansNone carrier.first given
 
--- the last of them is before the first
+-- the last date is before the first
 abbrev pub AreTurned : CarrierFields → Dates → Type 0
 AreTurned carrier (Period given) =
     (first : ℕ) × (last : ℕ) × Means carrier.first given.first first × MeansEnd carrier first given.last last × (last < first)
 AreTurned carrier (Date given) = ⊥
 
--- why dates are no period
+-- why dates mean no period: a date that does not exist, or a last date before the first
 abbrev pub AreFaulty : CarrierFields → Dates → DatesFault → Type 0
 AreFaulty carrier dates dates_fault.NoSuchDate = LackYear carrier dates
 AreFaulty carrier dates dates_fault.Turned = AreTurned carrier dates
@@ -92,7 +95,7 @@ pub record IsResolved (carrier : CarrierFields) (sub : Sub) (resolved : Resolved
   pub dates : AreDates carrier sub.dates resolved.period
   pub flight : resolved.flight ≡ sub.designator.flight
 
--- why the sub-message with this number has none
+-- why the sub-message with this number does not resolve
 abbrev pub IsSubRefused : CarrierFields → ℕ → Sub → ResolveFault → Type 0
 IsSubRefused carrier n sub fault.Memory = ⊥
 IsSubRefused carrier n sub fault.TimeMode = ⊥
@@ -100,14 +103,14 @@ IsSubRefused carrier n sub (fault.Airline number) = (number ≡ n) × (sub.desig
 IsSubRefused carrier n sub (fault.NoSuchDate number) = (number ≡ n) × (sub.designator.airline ≡ carrier.airline) × LackYear carrier sub.dates
 IsSubRefused carrier n sub (fault.Period number) = (number ≡ n) × (sub.designator.airline ≡ carrier.airline) × AreTurned carrier sub.dates
 
--- each of the sub-messages, in order
+-- each sub-message resolves, in order
 abbrev pub AreResolved : CarrierFields → List Sub → List ResolvedSub → Type 0
 AreResolved carrier [] [] = Unit {0}
 AreResolved carrier [] (r ∷ resolved) = ⊥
 AreResolved carrier (sub ∷ subs) [] = ⊥
 AreResolved carrier (sub ∷ subs) (r ∷ resolved) = IsResolved carrier sub r × AreResolved carrier subs resolved
 
--- the first that is refused, of those from number n on
+-- the first sub-message that is refused, among those from number n on
 abbrev pub IsFirstRefused : CarrierFields → ℕ → List Sub → ResolveFault → Type 0
 IsFirstRefused carrier n [] fault = ⊥
 IsFirstRefused carrier n (sub ∷ subs) fault =
@@ -115,14 +118,15 @@ IsFirstRefused carrier n (sub ∷ subs) fault =
 
 -- ---- the message
 
--- the time modes of message and carrier are one
+-- whether the time modes of message and carrier are the same
 abbrev pub same_mode : TimeMode → TimeMode → Bool
 same_mode Utc Utc = true
 same_mode Utc Local = false
 same_mode Local Utc = false
 same_mode Local Local = true
 
--- the reference and the sub-messages with full dates; a reference is from the day on which the data set was made
+-- The message resolves to its reference with a full date, on or after the day on which the data set
+-- was made, and to its sub-messages with full dates.
 pub record Resolves (carrier : CarrierFields) (message : MessageValue) (text : ResolvedText) : Type 0 where
   pub mode : same_mode carrier.time_mode message.mode ≡ true
   pub date : IsNext carrier.created message.reference.date text.reference.date
@@ -132,17 +136,18 @@ pub record Resolves (carrier : CarrierFields) (message : MessageValue) (text : R
   pub originator : text.reference.originator ≡ message.originator
   pub subs : AreResolved carrier message.subs text.subs.items
 
--- the reference has a date
+-- the date of the reference means a day
 abbrev pub HasReferenceDate : CarrierFields → MessageValue → Type 0
 HasReferenceDate carrier message = (day : ℕ) × IsNext carrier.created message.reference.date day
 
--- the time modes are one, and the reference has no date
+-- the time modes are the same, and the date of the reference means no day
 pub record IsReferenceRefused (carrier : CarrierFields) (message : MessageValue) (number : ℕ) : Type 0 where
   pub mode : same_mode carrier.time_mode message.mode ≡ true
   pub is_zero : number ≡ 0
   pub none : HasNone carrier.created message.reference.date
 
--- the time modes are one, the reference has a date, and this is the refusal of the first sub-message that has one
+-- the time modes are the same, the reference has a date, and this is the refusal of the first
+-- invalid sub-message
 pub record IsRefusedBySub (carrier : CarrierFields) (message : MessageValue) (fault : ResolveFault) : Type 0 where
   pub mode : same_mode carrier.time_mode message.mode ≡ true
   pub date : HasReferenceDate carrier message
@@ -167,7 +172,7 @@ IsRefusedIn base message fault = (frame : Frame) × HasFrame frame base × IsRef
 
 -- ---- one outcome
 
--- what a base and a message determine: the message with full dates, or a refusal that is not for memory
+-- what a base and a message determine: the resolved message, or a refusal other than out of memory
 abbrev pub IsOutcome : List Record → MessageValue → Result ResolvedText ResolveFault → Type 0
 IsOutcome base message (Ok text) = ResolvesIn base message text
 IsOutcome base message (Err fault.Memory) = ⊥

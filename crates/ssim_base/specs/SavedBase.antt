@@ -20,8 +20,8 @@ IsBare (Leg r) = (r.serial ≡ 0) × (r.rate ≡ 32) × (r.overflow ≡ 32) × I
 IsBare (Segment r) = (r.serial ≡ 0) × (r.overflow ≡ 32)
 IsBare (Trailer r) = (r.serial ≡ 0) × (r.check ≡ 0)
 
--- The records of a base: a header, a carrier, then legs and segments, then a trailer. Each can be written, and is bare.
--- As a data set they are read as themselves, whatever their numbers.
+-- The records of a base: a header, a carrier, then legs and segments, then a trailer. Each can be
+-- written, and is bare. As a data set they are read as themselves, whatever their numbers.
 pub record IsBaseRecords (base : List Record) : Type 0 where
   pub framed : (frame : Frame) × HasFrame frame base
   pub each_written : All IsRecord base

@@ -17,11 +17,12 @@ pub record Row : Type 0 where
   pub last : ℕ
   pub variation : Offset
 
--- a sign and HHMM
+-- the variation of a text: a sign and four digits
 abbrev pub variation_in : List ℕ → Option Offset
 variation_in text = if length text == 5 then variation_of text else None
 
--- the line is a station, a first day, a last day not before it, and a variation, with one or more blanks between them
+-- the line is a station, a first day, a last day not before it, and a variation, with one or more
+-- blanks between them
 pub record SpellsRow (row : Row) (line : List ℕ) : Type 0 where
   pub station : station_in (word line) ≡ Some row.station
   pub first : day_in (word (behind line)) ≡ Some row.first

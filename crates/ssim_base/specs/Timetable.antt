@@ -15,7 +15,7 @@ pub record LegValue : Type 0 where
   pub columns : List ℕ
   pub tails : List (List ℕ)
 
--- an itinerary: legs by rising sequence; none where there is no flight
+-- an itinerary: legs by rising sequence; the empty list if there is no flight
 abbrev pub Legs : Type 0
 Legs = List LegValue
 
@@ -27,7 +27,8 @@ same_flight a b = nat_eq a.number b.number && nat_eq a.suffix b.suffix
 abbrev pub same_name : Name → Name → Bool
 same_name a b = same_flight a.flight b.flight && (nat_eq a.variation b.variation && nat_eq a.sequence b.sequence)
 
--- the tails of a leg record: of the segment records of its name that follow it, up to the next leg record of that name
+-- the tails of a leg record: those of the later segment records with its name, up to the next leg
+-- record with that name
 abbrev pub tails_of : Name → List Record → List (List ℕ)
 tails_of name [] = []
 tails_of name (Header r ∷ later) = tails_of name later
@@ -40,7 +41,7 @@ tails_of name (Trailer r ∷ later) = tails_of name later
 abbrev pub leg_of : LegFields → List Record → LegValue
 leg_of r later = record { sequence = r.name.sequence; columns = r.columns; tails = tails_of r.name later }
 
--- the period of a leg record; in a base no end is open
+-- the period of a leg record; the legs of a base have no open end
 abbrev pub period_of : LegFields → DayRange
 period_of r = record { first = r.first; last = unwrap_or r.last 0; days = r.days }
 
@@ -48,12 +49,13 @@ period_of r = record { first = r.first; last = unwrap_or r.last 0; days = r.days
 abbrev pub is_on : LegFields → FlightNumber → ℕ → Bool
 is_on r flight day = same_flight r.name.flight flight && holds (period_of r) day
 
--- a leg put among others by its sequence
+-- the legs with one more, in order of sequence
 abbrev pub placed : LegValue → Legs → Legs
 placed l [] = l ∷ []
 placed l (m ∷ legs) = if nat_lt m.sequence l.sequence then m ∷ placed l legs else l ∷ m ∷ legs
 
--- the itinerary of a flight on a day: the legs, by sequence, of all its leg records whose period holds the day
+-- the itinerary of a flight on a day: the legs, by sequence, of all its leg records whose period
+-- holds the day
 abbrev pub itinerary : List Record → FlightNumber → ℕ → Legs
 itinerary [] flight day = []
 itinerary (Header r ∷ later) flight day = itinerary later flight day
@@ -63,11 +65,11 @@ itinerary (Leg r ∷ later) flight day =
 itinerary (Segment r ∷ later) flight day = itinerary later flight day
 itinerary (Trailer r ∷ later) flight day = itinerary later flight day
 
--- whether the flight is among these
+-- whether the flight is in the list
 abbrev pub is_among : List FlightNumber → FlightNumber → Bool
 is_among flights flight = list_any (same_flight flight) flights
 
--- the itinerary of a flight on a day if it is among these; none of any other flight
+-- the itinerary of a flight on a day if the flight is in the list; else no legs
 abbrev pub itinerary_among : List FlightNumber → List Record → FlightNumber → ℕ → Legs
 itinerary_among flights records flight day = if is_among flights flight then itinerary records flight day else []
 
@@ -75,7 +77,7 @@ itinerary_among flights records flight day = if is_among flights flight then iti
 abbrev pub Days : Type 0
 Days = List Legs
 
--- those of the records
+-- the itineraries of each flight by day that records give
 abbrev pub days_of : List Record → FlightNumber → Days
 days_of records flight = each_day (itinerary records flight)
 

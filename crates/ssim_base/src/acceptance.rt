@@ -37,7 +37,7 @@ pub(crate) enum Expected {
     End,
 }
 
-/// What is kept of the records accepted so far, and the state for checking the next one.
+/// The records accepted so far, and the state for checking the next one.
 #[derive(Drop)]
 pub(crate) struct Acceptance {
     pub records: AcceptedRecords,

@@ -18,7 +18,8 @@ pub(crate) enum AcceptedRecords {
 }
 
 impl AcceptedRecords {
-    /// One more record. Out of memory is returned also if there are more records than a `usize` counts.
+    /// One more record. Out of memory is returned also if there are more records than a `usize`
+    /// counts.
     #[inline(always)]
     pub(crate) fn push(&mut self, one: &Record) -> Result<(), Memory>
         ensures kept { OnOk result (AddsRecord self.old self.new one.now) }

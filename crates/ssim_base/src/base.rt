@@ -21,7 +21,8 @@ use ssim_values::{Airline, Flight, Memory};
 use std::alloc::Global;
 use std::marker::Model;
 
-/// A data set as it was read: its records other than fill, in order, without serials, and the rows of a station table.
+/// A data set as it was read: its records other than fill, in order, without serials, and the rows
+/// of a station table.
 ///
 /// The rate and the overflow of its legs are blank. The end of each leg is a date; the end of the
 /// carrier may be open.
@@ -54,12 +55,15 @@ pub struct BaseRead {
 }
 
 impl Base {
-    /// Reads a data set, record by record, and keeps the station table with it. At most `limit` bytes and one more are fetched.
+    /// Reads a data set, record by record, and keeps the station table with it. At most `limit`
+    /// bytes and one more are fetched.
     ///
-    /// The error names the first invalid record by its number, counted from 1 with fill; 13 names the one after the last that came whole. For one record the order is 13 `ReadFault`,
-    /// 14 `ReaderNeverEnds`, 10 `Short`, 11 `BadType`, 12 `BadColumn`; 30 `NoHeader`, 31 `NoCarrier` or 11 for its place; then
-    /// 33 `OtherAirline`, 36 `Overflow`, 37 `Frequency`, 12 at column 22 for an open end before the start, 34 `Overlap`, 35 `Segment`,
-    /// 38 `Continuation`. If a record is missing at the end, 30, 31 or 32 `NoTrailer` has the number after the last.
+    /// The error names the first invalid record by its number, counted from 1 with fill; 13 names
+    /// the one after the last that came whole. For one record the order is 13 `ReadFault`, 14
+    /// `ReaderNeverEnds`, 10 `Short`, 11 `BadType`, 12 `BadColumn`; 30 `NoHeader`, 31 `NoCarrier`
+    /// or 11 for its place; then 33 `OtherAirline`, 36 `Overflow`, 37 `Frequency`, 12 at column 22
+    /// for an open end before the start, 34 `Overlap`, 35 `Segment`, 38 `Continuation`. If a record
+    /// is missing at the end, 30, 31 or 32 `NoTrailer` has the number after the last.
     pub fn read<R: Source>(
         alloc: Global,
         reader: &mut R,
@@ -141,8 +145,9 @@ impl Base {
         &self.frame
     }
 
-    /// The records, in order: a header, a carrier, legs and segments, and a trailer. Serials and the check reference are 0; rates and
-    /// overflows are blank. The end of each leg record is a date. Two leg records of one flight and leg sequence have no date in common.
+    /// The records, in order: a header, a carrier, legs and segments, and a trailer. Serials and
+    /// the check reference are 0; rates and overflows are blank. The end of each leg record is a
+    /// date. Two leg records of one flight and leg sequence have no date in common.
     pub fn records(&self) -> &[Record]
         ensures value { result.now ≡ self.now.records }
         ensures is_base { IsBaseRecords result.now }

@@ -15,14 +15,14 @@ use ssim_values::Airline;
 use std::alloc::Global;
 use std::marker::Model;
 
-/// The header, the carrier record and the trailer of a base. Messages resolve by its carrier record, and a timetable is exported between
-/// its records.
+/// The header, the carrier record and the trailer of a base. Messages resolve by its carrier
+/// record, and a timetable is exported between its records.
 #[derive(Drop)]
 pub struct BaseFrame {
     pub(crate) header: Header,
     pub(crate) carrier: Carrier,
     pub(crate) trailer: Trailer,
-    /// From where the memory of timetables and of plans of exports comes.
+    /// The allocator of timetables and of plans of exports.
     pub(crate) alloc: Global,
 }
 
@@ -82,7 +82,7 @@ impl BaseFrame {
         (&self.header, &self.carrier, &self.trailer)
     }
 
-    /// From where the memory of timetables and of plans of exports comes.
+    /// The allocator of timetables and of plans of exports.
     pub fn allocator(&self) -> Global {
         self.alloc
     }

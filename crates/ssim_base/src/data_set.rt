@@ -54,7 +54,8 @@ impl DataSet {
     ghost use Rattle.ssim_base.specs.Acceptance.{HasAccepted, IsWholeBase};
     ghost use Rattle.ssim_base.specs.AcceptedRecords.{InPieces, keeps};
 
-    /// Reads a data set, record by record. At most `limit` bytes and one more are fetched. The refusals are those of `Base::read`.
+    /// Reads a data set, record by record. At most `limit` bytes and one more are fetched. The
+    /// refusals are those of `Base::read`.
     pub fn read<R: Source>(alloc: Global, reader: &mut R, limit: u64) -> Result<DataSet, BaseFault>
         ensures read { AnswersRecords result (IsReadOf limit (R.left reader.old)) }
         ensures no_failure { IfOk result (λ _. R.failures reader.new ≡ R.failures reader.old) }

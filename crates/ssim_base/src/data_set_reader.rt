@@ -43,9 +43,10 @@ impl DataSetReader {
         }
     }
 
-    /// Accepts one more record, with its number, or refuses it. It may be changed.
+    /// Accepts one more record, with its number, or refuses it. The record may be changed.
     ///
-    /// This and what it calls for each record are put into the loop that reads the records.
+    /// This function and those that it calls for each record are inlined into the loop that reads
+    /// the records.
     #[inline(always)]
     pub(crate) fn take(&mut self, number: u64, one: &mut Record) -> Result<(), BaseFault>
         ensures stood { OnOk result ((earlier : List Record) → HasAccepted self.old.kept earlier → Stood self.new.kept earlier one.old) }
@@ -93,7 +94,7 @@ impl DataSetReader {
     }
 }
 
-/// What there is of the records of a reader, and the number after the last of them.
+/// The records of a reader, and the number after the last of them.
 pub(crate) fn read_records<R: Source>(
     alloc: Global,
     records: AcceptedRecords,

@@ -33,7 +33,8 @@ pub enum BaseRefusal {
     /// 34: a flight and leg sequence twice on one date.
     #[error("an earlier record has the same flight and leg sequence on one of its dates")]
     Overlap,
-    /// 35: no earlier leg record has the flight, itinerary variation and leg sequence of the segment data.
+    /// 35: no earlier leg record has the flight, itinerary variation and leg sequence of the
+    /// segment data.
     #[error("no earlier leg record has its flight, itinerary variation and leg sequence")]
     Segment,
     /// 36: an overflow of the itinerary variation.
@@ -89,7 +90,8 @@ impl BaseRefusal {
     }
 }
 
-/// Why bytes are not a data set: the first record that cannot be read, or is not allowed at its place.
+/// Why bytes are not a data set: the first record that cannot be read, or is not allowed at its
+/// place.
 #[derive(Clone, Copy, Debug, Error, PartialEq, Eq)]
 pub enum BaseFault {
     /// 90: out of memory.

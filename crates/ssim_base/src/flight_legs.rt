@@ -27,8 +27,8 @@ impl FlightLegs {
         }
     }
 
-    /// One more leg record, of a leg sequence, an itinerary variation and a period. Returns whether another one of the leg sequence
-    /// had one of the dates.
+    /// One more leg record, of a leg sequence, an itinerary variation and a period. Returns whether
+    /// another one of the leg sequence had one of the dates.
     pub(crate) fn add(
         &mut self,
         alloc: Global,
@@ -64,7 +64,7 @@ impl FlightLegs {
         !self.entries.is_empty()
     }
 
-    // The same as `add` for a leg sequence that has no entry yet.
+    // Does what `add` does for a leg sequence that has no entry yet.
     #[inline(never)]
     fn add_first(
         &mut self,
@@ -88,7 +88,8 @@ impl FlightLegs {
         Ok(met)
     }
 
-    // The index of the entry of a leg sequence, or the number of entries. Mostly the records name the leg sequences in order.
+    // The index of the entry of a leg sequence, or the number of entries. Mostly the records name
+    // the leg sequences in order.
     fn index_of(&self, sequence: u8) -> usize
         ensures { result ≡ index_of self.now.entries.items sequence }
     {

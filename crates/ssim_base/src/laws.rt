@@ -4,13 +4,14 @@ ghost use Rattle.ssim_base.specs.Reading.{IsReadBack, SameBytesSameBase};
 ghost use Rattle.ssim_base.specs.Resolve.{HasOneOutcome};
 ghost use Rattle.ssim_base.specs.SavedBase.{SavedCanBeRead, SavedIsOne, SavedIsRead};
 ghost use Rattle.ssim_base.specs.Stations.{SameBytesSameRows};
-// The examples that are worked out by computing: a false one is an error of this file.
+// The worked examples, which are computed: a false one is an error in this file.
 ghost use Rattle.ssim_base.specs.Examples;
 
 use ssim_records::{frames_are_one, written_records_read_back};
 
-/// An export reads back to the timetable that was exported. No record of it is refused, and exporting what was read gives
-/// the same records. So two exports in one frame are equal exactly if their timetables are.
+/// An export reads back to the timetable that was exported. No record of it is refused, and
+/// exporting what was read gives the same records. So two exports in one frame are equal exactly if
+/// their timetables are.
 pub fn export_reads_back()
     ensures stands { Stands }
     ensures same { ReadsBack }
@@ -24,9 +25,10 @@ pub fn flown_flights_suffice()
     ensures { FlownSuffice }
 {}
 
-/// The bytes of an export are read as records. None is refused, and there are no notes. The base has the frame and, on each
-/// date, the itineraries that were exported, and its export is the same bytes. Bytes are read in only one way. So the bytes of
-/// two exports are equal exactly if their timetables are equal and a base keeps their frames alike.
+/// The bytes of an export are read as records. None is refused, and there are no notes. The base
+/// has the frame and, on each date, the itineraries that were exported, and its export is the same
+/// bytes. Bytes are read in only one way. So the bytes of two exports are equal exactly if their
+/// timetables are equal and a base keeps their frames alike.
 pub fn export_bytes_read_back()
     ensures read { BytesReadBack }
     ensures once { ReadOnce }
@@ -37,16 +39,17 @@ pub fn export_bytes_read_back()
     written_records_read_back();
 }
 
-/// Bytes that spell the records of a base, and nothing else, are read as this base with its notes, unless the reader fails. So the
-/// bytes of an export are read as the base of `export_bytes_read_back`, without notes.
+/// Bytes that spell the records of a base, and nothing else, are read as this base with its notes,
+/// unless the reader fails. So the bytes of an export are read as the base of
+/// `export_bytes_read_back`, without notes.
 pub fn written_bases_are_read()
     ensures { IsReadBack }
 {
     frames_are_one();
 }
 
-/// The records of a base, each written and followed by LF, are read as the same records, unless the reader fails. Two bases whose
-/// records are written as the same bytes have the same records.
+/// The records of a base, each written and followed by LF, are read as the same records, unless the
+/// reader fails. Two bases whose records are written as the same bytes have the same records.
 pub fn saved_records_are_read()
     ensures can_be_read { SavedCanBeRead }
     ensures only { SavedIsRead }
@@ -68,8 +71,8 @@ pub fn same_bytes_same_rows()
     ensures { SameBytesSameRows }
 {}
 
-/// A base and a message have at most one outcome: the message with full dates, or its first refusal. So what `resolve` returns is
-/// determined by them, unless it is out of memory.
+/// A base and a message have at most one outcome: the message with full dates, or its first
+/// refusal. So what `resolve` returns is determined by them, unless it is out of memory.
 pub fn resolving_has_one_outcome()
     ensures { HasOneOutcome }
 {}

@@ -34,7 +34,8 @@ impl LegSequence {
         }
     }
 
-    /// One more leg record, of an itinerary variation and a period. Returns whether another one had one of the dates.
+    /// One more leg record, of an itinerary variation and a period. Returns whether another one had
+    /// one of the dates.
     pub(crate) fn add(
         &mut self,
         alloc: Global,

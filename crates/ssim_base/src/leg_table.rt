@@ -19,12 +19,12 @@ const NUMBERS: usize = 10_000;
 /// The number of flights of one number: without a suffix, and A to Z.
 const SUFFIXES: usize = 27;
 
-/// What the leg records so far name and which dates they have, by flight. A look-up is by index, and takes the same time however
-/// many flights there are.
+/// What the leg records so far name and which dates they have, by flight. A look-up is by index,
+/// and takes the same time however many flights there are.
 #[derive(Drop)]
 pub(crate) struct LegTable {
-    /// At the index of a flight number a list of flights, and there at the index of a suffix its flight. The lists end at the last
-    /// number and suffix of a leg record.
+    /// At the index of a flight number a list of flights, and there at the index of a suffix its
+    /// flight. The lists end at the last number and suffix of a leg record.
     numbers: Vec<Vec<FlightLegs>>,
     alloc: Global,
 }
@@ -40,7 +40,8 @@ impl LegTable {
         }
     }
 
-    /// One more leg record, of a period. Returns whether another one of its flight and leg sequence had one of the dates.
+    /// One more leg record, of a period. Returns whether another one of its flight and leg sequence
+    /// had one of the dates.
     pub(crate) fn add(&mut self, name: LegName, period: &Period) -> Result<bool, Memory>
         ensures ok { OnOk result (AddsLegAt self.old self.new (place_of name.flight) name.sequence name.variation period.now) }
         ensures met { IfOk result (λ met. met ≡ have_common_date (holds period.now) (uses_date (legs_at self.old (place_of name.flight)) name.sequence)) }
@@ -71,7 +72,8 @@ impl LegTable {
     }
 }
 
-// The index of the list of a flight's number, and the index of the flight in that list. To divide its place would take longer.
+// The index of the list of a flight's number, and the index of the flight in that list. Dividing
+// the flight's rank would take longer.
 fn indexes(flight: Flight) -> (usize, usize)
     ensures number { result.0 ≡ place_of flight / 27 }
     ensures number_to { result.0 < 10000 }
@@ -86,7 +88,7 @@ fn indexes(flight: Flight) -> (usize, usize)
     (flight.number() as usize, suffix)
 }
 
-// Makes a list of flights be there for a flight number. Mostly it is there.
+// Makes the list of a flight number exist. Mostly it exists.
 #[inline(always)]
 fn grow_numbers(
     alloc: Global,
@@ -103,7 +105,7 @@ fn grow_numbers(
     push_numbers(alloc, numbers, number)
 }
 
-// The same where the list is not there.
+// Does what `grow_numbers` does if the list does not exist.
 #[inline(never)]
 fn push_numbers(
     alloc: Global,
@@ -137,7 +139,7 @@ fn add_to(
     flights[suffix].add(alloc, name.sequence(), name.variation(), period)
 }
 
-// Makes a flight be there at an index. Mostly it is there.
+// Makes the flight at an index exist. Mostly it exists.
 #[inline(always)]
 fn grow_flights(alloc: Global, flights: &mut Vec<FlightLegs>, suffix: usize) -> Result<(), Memory>
     requires { suffix < 27 }
@@ -150,7 +152,7 @@ fn grow_flights(alloc: Global, flights: &mut Vec<FlightLegs>, suffix: usize) -> 
     push_missing(alloc, flights, suffix)
 }
 
-// The same where the flight is not there.
+// Does what `grow_flights` does if the flight does not exist.
 #[inline(never)]
 fn push_missing(alloc: Global, flights: &mut Vec<FlightLegs>, suffix: usize) -> Result<(), Memory>
     requires { suffix < 27 }

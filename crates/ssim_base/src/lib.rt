@@ -1,23 +1,27 @@
-//! The base of a desk: a data set as it was read, with a table of stations, and messages resolved against it.
+//! The base of a desk: a data set as it was read, with a table of stations, and messages resolved
+//! against it.
 //!
-//! - [`Stations`]: which UTC variation a station has on a day, read from a table of [`StationRow`]s. [`variation_at`] looks it up in rows.
-//! - [`Base`]: a data set as it was read, record by record, with a station table; or a [`BaseFault`], which names the first invalid
-//!   record. What is unusual but not refused is a [`Note`].
-//! - [`DataSet`]: the records of a base in pieces, which can be freed one after another. [`RecordsLeft`] reads them in order.
+//! - [`Stations`]: which UTC variation a station has on a day, read from a table of
+//!   [`StationRow`]s. [`variation_at`] looks it up in rows.
+//! - [`Base`]: a data set as it was read, record by record, with a station table; or a
+//!   [`BaseFault`], which names the first invalid record. What is unusual but not refused is a
+//!   [`Note`].
+//! - [`DataSet`]: the records of a base in pieces, which can be freed one after another.
+//!   [`RecordsLeft`] reads them in order.
 //! - [`read_saved`]: the data set whose records the next lines of a file are, or a [`SavedFault`].
 //! - [`Summary`]: how many records and flights a data set has, and its notes. It is read as a base
-//! is, but no record is stored.
-//! - [`BaseFrame`]: the header, the carrier record and the trailer of a base. Messages resolve by it, and a timetable is exported in it.
-//! - [`resolve`] and `BaseFrame::resolve`: resolve a message against a base: its reference with its year, its sub-messages with full
-//!   dates, or a [`ResolveFault`].
+//!   is, but no record is stored.
+//! - [`BaseFrame`]: the header, the carrier record and the trailer of a base. Messages resolve by
+//!   it, and a timetable is exported in it.
+//! - [`resolve`] and `BaseFrame::resolve`: resolve a message against a base: its reference with its
+//!   year, its sub-messages with full dates, or a [`ResolveFault`].
 //! - [`OutputBuffer`]: bytes for a sink, or a [`WriteFault`]. [`put_record`], [`put_leg`],
-//! [`put_segment`], [`put_fill`] and
-//!   [`put_bytes`] fill it, and [`flush`] empties it.
-//! - [`Place`]: what a fault names: a record, a column, a line, a sub-message, a flight or a message.
+//!   [`put_segment`], [`put_fill`] and [`put_bytes`] fill it, and [`flush`] empties it.
+//! - [`Place`]: what a fault names, such as a record, a column, a line, a sub-message or a flight.
 //! - [`laws`]: a base and its export read back; saved records read back; a message has one outcome.
 //!
-//! The promise: a data set, a station table and a message's dates are read exactly, however a reader cuts the bytes, and the first
-//! invalid record, line or date is the one that is named.
+//! The promise: a data set, a station table and a message's dates are read exactly, however a
+//! reader cuts the bytes, and the first invalid record, line or date is the one that is named.
 #![tactic(auto)]
 
 mod acceptance;

@@ -1,6 +1,7 @@
 //! Notes: what is unusual in a data set but not refused.
 
-/// Something unusual in a data set that is not refused, with the record number, counted from 1 with fill.
+/// Something unusual in a data set that is not refused, with the record number, counted from 1 with
+/// fill.
 #[derive(Clone, Copy, Debug, PartialEq, Eq)]
 pub enum Note {
     /// The serial is not one more than the serial before it, fill aside; the serial before the

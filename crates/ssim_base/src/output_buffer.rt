@@ -44,7 +44,8 @@ impl WriteFault {
     }
 }
 
-/// Bytes for a sink, seen as their list; at most 64,320. The buffer is an array, so writing allocates nothing.
+/// Bytes for a sink, seen as their list; at most 64,320. The buffer is an array, so writing
+/// allocates nothing.
 #[derive(Drop)]
 pub struct OutputBuffer {
     bytes: [u8; ROOM],

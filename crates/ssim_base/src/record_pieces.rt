@@ -11,8 +11,8 @@ use std::marker::Model;
 // The number of records of a piece.
 const PIECE: usize = 1_024;
 
-/// Records in pieces, seen as one list. A piece never grows, so it fits into memory that parts of a file leave, and the records that are
-/// there are never copied.
+/// Records in pieces, seen as one list. A piece never grows, so it fits into memory that parts of a
+/// file leave, and the records that are there are never copied.
 #[derive(Drop)]
 pub(crate) struct RecordPieces {
     /// The pieces before the last one.
@@ -55,7 +55,8 @@ impl RecordPieces {
         self.len
     }
 
-    /// One more record. Out of memory is returned also if there are more records than a `usize` counts.
+    /// One more record. Out of memory is returned also if there are more records than a `usize`
+    /// counts.
     pub(crate) fn push(&mut self, one: &Record) -> Result<(), Memory>
         ensures { OnOk result (self.new ≡ self.old ++ one.now ∷ []) }
     {
@@ -69,7 +70,7 @@ impl RecordPieces {
         Ok(())
     }
 
-    /// The record at this place.
+    /// The record at this index.
     pub(crate) fn at(&self, place: usize) -> &Record
         requires { place < length self.now }
         ensures { result.now ≡ slice_index_or self.now place result.now }
@@ -157,7 +158,7 @@ fn begin_piece(
     }
 }
 
-// The record at this place of some pieces and the last one.
+// The record at this index of some pieces and the last one.
 fn record_at<'a>(full: &'a [Vec<Record>], last: &'a [Record], place: usize) -> &'a Record
     requires { place < length (flat_map (λ piece. piece.items) full.now ++ last.now) }
     ensures { result.now ≡ slice_index_or (flat_map (λ piece. piece.items) full.now ++ last.now) place result.now }

@@ -21,7 +21,8 @@ pub struct ResolvedText {
     pub subs: Vec<ResolvedSub>,
 }
 
-/// Why a message does not resolve. Sub-messages are numbered from 1; the number 0 is the message as a whole.
+/// Why a message does not resolve. Sub-messages are numbered from 1; the number 0 is the message as
+/// a whole.
 #[derive(Clone, Copy, Debug, Error, PartialEq, Eq)]
 pub enum ResolveFault {
     /// 90: out of memory.
@@ -223,9 +224,10 @@ fn resolve_subs(
     Ok(resolved)
 }
 
-/// Resolves a message against a base: its reference gets its year, and each sub-message its full dates. A date without a year is
-/// the next such date. It is looked for from the start of the carrier's validity, the end of a period from the period's start, and
-/// the date of a reference from the day on which the data set was made.
+/// Resolves a message against a base: its reference gets its year, and each sub-message its full
+/// dates. A date without a year is the next such date. It is looked for from the start of the
+/// carrier's validity, the end of a period from the period's start, and the date of a reference
+/// from the day on which the data set was made.
 ///
 /// The error is the first of these: 40 `TimeMode` for another time mode; 42 `NoSuchDate` with
 /// sub-message 0 if the reference has no date up to 2099; then the error of the first invalid

@@ -20,7 +20,8 @@ pub enum SavedFault {
     /// Out of memory.
     #[error("out of memory")]
     Memory,
-    /// A line is invalid, or a record is missing after the last. This is the number of bytes from there on.
+    /// A line is invalid, or a record is missing after the last. This is the number of bytes from
+    /// there on.
     #[error("the line {0} bytes before the end is invalid, or a record is missing there")]
     Invalid(usize),
 }
@@ -48,7 +49,8 @@ impl From<AllocError> for SavedFault {
 // The number of bytes of a record and its LF.
 const RECORD_LINE: usize = 201;
 
-// Whether a record is without serial, check reference, rate and overflow, and the end of a leg is a date.
+// Whether a record is without serial, check reference, rate and overflow, and the end of a leg is a
+// date.
 fn is_bare(one: &Record) -> bool
     ensures { IsTrue result ↔ IsBare one.now }
 {
@@ -66,7 +68,8 @@ fn is_bare(one: &Record) -> bool
     }
 }
 
-// Puts the record of the first line into a place, if it is one that a base can have, and returns the bytes after the line.
+// Puts the record of the first line into `into`, if a base can have it, and returns the bytes after
+// the line.
 fn read_line<'a>(
     reader: &mut RecordReader,
     bytes: &'a [u8],
@@ -86,8 +89,8 @@ fn read_line<'a>(
     }
 }
 
-// Takes the next line, and puts its record into a place, if it is one that a base can have. Nearly every line is all in one part, and is
-// read in its place.
+// Takes the next line, and puts its record into `into`, if a base can have it. Nearly every line is
+// in one part, and is read without a copy.
 fn next_line(reader: &mut RecordReader, parts: &mut Parts, into: &mut Option<Record>) -> bool
     ensures some { IsTrue result → IsLineOf into.new parts.old parts.new }
     ensures none { IsFalse result → (r : Record) (rest : List ℕ) → IsLine r parts.old rest → ⊥ }
@@ -100,7 +103,7 @@ fn next_line(reader: &mut RecordReader, parts: &mut Parts, into: &mut Option<Rec
     is_line
 }
 
-// The same of a line that may go on in the next part.
+// Does what `next_line` does if the line may go on in the next part.
 fn next_line_copied(reader: &mut RecordReader, parts: &mut Parts, into: &mut Option<Record>) -> bool
     ensures some { IsTrue result → IsLineOf into.new parts.old parts.new }
     ensures none { IsFalse result → (r : Record) (rest : List ℕ) → IsLine r parts.old rest → ⊥ }
@@ -109,11 +112,11 @@ fn next_line_copied(reader: &mut RecordReader, parts: &mut Parts, into: &mut Opt
     parts.fill(&mut line) && read_line(reader, &line, into).is_some()
 }
 
-/// The data set whose records the next `count` lines of the parts are. Each line is read once: what it spells is compared with it as it is
-/// written, and kept.
+/// The data set whose records the next `count` lines of the parts are. Each line is read once: what
+/// it spells is compared with it as it is written, and kept.
 ///
-/// The error names the first line that is no record as a base has it, or at which the base is invalid. A base without header, carrier
-/// or trailer is invalid after its lines.
+/// The error names the first line that is no record as a base has it, or at which the base is
+/// invalid. A base without header, carrier or trailer is invalid after its lines.
 pub fn read_saved(alloc: Global, count: usize, parts: &mut Parts) -> Result<DataSet, SavedFault>
     ensures ok { IfOk result (λ read. IsBaseRecords read × (length read ≡ count) × (parts.old ≡ saved read ++ parts.new)) }
     ensures err { IfErr result (λ e. e ≢ SavedFault.Memory → (records : List Record) (later : List ℕ) → IsBaseRecords records → length records ≡ count → parts.old ≡ saved records ++ later → ⊥) }
@@ -129,7 +132,8 @@ pub fn read_saved(alloc: Global, count: usize, parts: &mut Parts) -> Result<Data
             return Err(SavedFault::Invalid(left));
         }
         let Some(one) = &mut next else { unreachable!() };
-        // A refusal has the number that is given here; the place is the number of bytes that are left.
+        // A refusal has the number that is given here; the place is the number of bytes that are
+        // left.
         match kept.put(0, one) {
             Ok(()) => done += 1,
             Err(BaseFault::Refused(_, _)) => return Err(SavedFault::Invalid(left)),

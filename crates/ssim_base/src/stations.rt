@@ -206,10 +206,12 @@ impl Model for Stations {
 }
 
 impl Stations {
-    /// Reads a table. CR bytes and blanks at line ends are dropped, and then empty lines. Each line that is left is a station,
-    /// a first day, a last day not before it and a variation, with one or more blanks between them.
+    /// Reads a table. CR bytes and blanks at line ends are dropped, and then empty lines. Each line
+    /// that is left is a station, a first day, a last day not before it and a variation, with one
+    /// or more blanks between them.
     ///
-    /// The error 39 `Stations` names the first line that is not spelled so, by its number among all lines, from 1.
+    /// The error 39 `Stations` names the first line that is not spelled so, by its number among all
+    /// lines, from 1.
     pub fn read(alloc: Global, text: &[u8]) -> Result<Stations, StationFault>
         ensures ok { IfOk result (λ rows. SpellsTable rows text.now) }
         ensures only { (rows : List Row) → SpellsTable rows text.now → Gives rows result }

@@ -5,14 +5,16 @@ ghost use Rattle.std.specs.Prelude.{◌≡◌};
 use ssim_text::Action;
 use ssim_values::{Flight, Period};
 
-/// The flight of a sub-message and its full dates of origin. An ASM has the one date, with all weekdays.
+/// The flight of a sub-message and its full dates of origin. An ASM has the one date, with all
+/// weekdays.
 #[derive(Clone, Copy, Debug, PartialEq, Eq)]
 pub struct ResolvedSub {
     pub flight: Flight,
     pub period: Period,
 }
 
-/// A sub-message with its full dates: what it does, to which flight, and on which dates of origin. It lends the action of its message.
+/// A sub-message with its full dates: what it does, to which flight, and on which dates of origin.
+/// It lends the action of its message.
 #[derive(Clone, Copy)]
 pub struct Resolved<'a> {
     pub action: &'a Action,

@@ -26,7 +26,8 @@ pub struct Summary {
 impl Summary {
     ghost use Rattle.ssim_base.specs.DataSetReader.{HasRead, IsWhole};
 
-    /// Reads a data set, record by record. At most `limit` bytes and one more are fetched. The refusals are those of `Base::read`.
+    /// Reads a data set, record by record. At most `limit` bytes and one more are fetched. The
+    /// refusals are those of `Base::read`.
     pub fn read<R: Source>(alloc: Global, reader: &mut R, limit: u64) -> Result<Summary, BaseFault>
         ensures sums { Sums limit (R.left reader.old) result }
         ensures no_failure { IfOk result (λ _. R.failures reader.new ≡ R.failures reader.old) }

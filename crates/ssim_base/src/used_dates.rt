@@ -11,11 +11,12 @@ use crate::day_set::DaySet;
 use ssim_values::{Memory, Period};
 use std::alloc::Global;
 
-/// The most periods that are kept as a list. A flight rarely has as many itinerary variations, and a set of dates takes as much
-/// memory as 380 periods.
+/// The most periods that are kept as a list. A flight rarely has as many itinerary variations, and
+/// a set of dates takes as much memory as 380 periods.
 const MOST: usize = 64;
 
-/// The number of periods for which a list first has room. A leg with two itinerary variations mostly has some more.
+/// The number of periods for which a list first has room. A leg with two itinerary variations
+/// mostly has some more.
 const FIRST_ROOM: usize = 8;
 
 /// The dates that leg records have.
@@ -27,8 +28,8 @@ pub(crate) enum UsedDates {
     One(Period),
     /// The periods of the records.
     Few(Vec<Period>),
-    /// A bit for each date, where there are more records. A data set is refused at the first date that is added twice, so all of them
-    /// together set no more bits than the calendar has dates.
+    /// A bit for each date, if there are more records. A data set is refused at the first date that
+    /// is added twice, so all sets together have no more bits set than the calendar has dates.
     Many(DaySet),
 }
 
@@ -111,7 +112,8 @@ fn any_meets(periods: &[Period], period: &Period) -> bool
     periods.iter().any(|earlier| meets_by_ends(period, earlier))
 }
 
-// The same as `meets`, for many periods of one leg: most of them lie apart, so their ends are looked at first.
+// Does what `meets` does for the many periods of one leg: most of them lie apart, so their ends are
+// compared first.
 fn meets_by_ends(one: &Period, other: &Period) -> bool
     ensures { result ≡ meet one.now other.now }
 {
@@ -125,14 +127,16 @@ fn are_apart(one: &Period, other: &Period) -> bool
     other.last().number() < one.first().number() || one.last().number() < other.first().number()
 }
 
-// Whether two periods have a date in common. Mostly periods that do not lie apart are of other weekdays.
+// Whether two periods have a date in common. Periods that do not lie apart mostly have different
+// weekdays.
 fn meets(one: &Period, other: &Period) -> bool
     ensures { result ≡ meet one.now other.now }
 {
     !are_of_other_weekdays(one, other) && meet_on_a_weekday(one, other)
 }
 
-// Whether two periods have no weekday in common. Every weekday is looked at, since a branch at each would often be foreseen wrongly.
+// Whether two periods have no weekday in common. All weekdays are compared without a branch, since
+// the processor would often predict a branch wrongly.
 fn are_of_other_weekdays(one: &Period, other: &Period) -> bool
     ensures { result ≡ true → meet one.now other.now ≡ false }
 {
@@ -148,7 +152,7 @@ fn are_of_other_weekdays(one: &Period, other: &Period) -> bool
     !common
 }
 
-// The same as `meets`, weekday by weekday.
+// Does what `meets` does, weekday by weekday.
 #[inline(never)]
 fn meet_on_a_weekday(one: &Period, other: &Period) -> bool
     ensures { result ≡ meet one.now other.now }

@@ -1,4 +1,5 @@
--- From record to record, by the lemmas on what was read so far; each answer that ends the reading is the outcome of the bytes.
+-- From record to record, by the lemmas on what was read so far; each result that ends the reading
+-- is the outcome of the bytes.
 use Rattle.std.proofs.Common.{rules, ◌≡◌, ℕ, ◌+◌, Some, None, Ok, Err, false, [], ◌∷◌, ◌++◌, refl, sym, ap, subst, ◌∙◌, arith}
 use Rattle.ssim_records.specs.Blocks.{CountsOn, Fetches}
 use Rattle.ssim_records.specs.Reading.{Answer, Counts, FailsAs, GivesNext, HasNumber, HoldsFew, NeverEnds, Reading, ending_of, given}

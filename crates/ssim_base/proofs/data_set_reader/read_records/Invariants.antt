@@ -1,4 +1,4 @@
--- The records so far are gathered, and the bytes that are left give the others.
+-- The records so far were read, and the bytes that are left have the others.
 use Rattle.std.proofs.Common.{◌≡◌, ℕ, ◌+◌, ◌-◌, ◌*◌, ◌≤◌, false, List, []}
 use Rattle.std.specs.Prelude.{Option, None}
 use Rattle.ssim_records.specs.Blocks.{CountsOn, Fetches}

@@ -1,4 +1,4 @@
--- Behind the last number no flight is left.
+-- After the last number no flight is left.
 use Rattle.std.proofs.Common.{◌++◌, List, sym, ap, ◌∙◌, arith}
 use Rattle.std.proofs.lemmas.List.{append-nil}
 use Rattle.ssim_values.specs.Flight.{FlightNumber}

@@ -1,4 +1,4 @@
--- The sink took the front of the rest.
+-- The sink took a prefix of the rest.
 use Rattle.std.proofs.Common.{◌∙◌, arith}
 use Rattle.std.proofs.lemmas.Bool.Decides.{nat_tests}
 use Rattle.ssim_base.proofs.SinkLemmas.{then, front_taken}

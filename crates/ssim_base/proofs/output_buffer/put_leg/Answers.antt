@@ -1,4 +1,4 @@
--- The record is held behind what was held before; or the sink fails before it is held.
+-- The record is held after what was held before; or the sink fails before it is held.
 use Rattle.std.proofs.Common.{List, ℕ, ◌++◌, refl, sym, subst, Some}
 use Rattle.ssim_records.specs.Leg.{written_leg}
 use Rattle.ssim_base.specs.Export.{line}

@@ -1,4 +1,4 @@
--- The record is held behind what was held before; or the sink fails before it is held.
+-- The record is held after what was held before; or the sink fails before it is held.
 use Rattle.std.proofs.Common.{refl, List, ℕ, ◌++◌, subst, sym}
 use Rattle.ssim_base.specs.Export.{line}
 use Rattle.ssim_base.specs.Sinks.{TakesUpTo}

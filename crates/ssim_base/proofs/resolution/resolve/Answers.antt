@@ -1,4 +1,4 @@
--- The frame is that of the base.
+-- The frame is the base's.
 use Rattle.ssim_base.proofs.resolution.resolve.Goals as goal
 
 pub returns-clause-ok : goal.returns-clause-ok

@@ -1,4 +1,4 @@
--- Behind the last sub-message none is left.
+-- After the last sub-message none is left.
 use Rattle.std.proofs.Common.{◌≡◌, List, [], drop, sym, subst}
 use Rattle.std.proofs.lemmas.List.{append-nil, drop_all}
 use Rattle.ssim_text.specs.declared.action.Sub.{Sub}

@@ -1,4 +1,4 @@
--- What stands of the sub-messages so far, whatever becomes of those that are left.
+-- What holds of the sub-messages so far, whatever the result for those that are left.
 use Rattle.std.proofs.Common.{ℕ, ◌+◌, List, ◌++◌, drop}
 use Rattle.ssim_records.specs.Carrier.{CarrierFields}
 use Rattle.ssim_text.specs.declared.action.Sub.{Sub}

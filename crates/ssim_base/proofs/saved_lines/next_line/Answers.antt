@@ -1,4 +1,4 @@
--- The line stands whole in one part, or is copied from several.
+-- The line is whole in one part, or is copied from several.
 use Rattle.std.proofs.Common.{List, ℕ, sym, ◌∙◌}
 use Rattle.ssim_records.specs.declared.record.Record.{Record}
 use Rattle.ssim_base.specs.SavedBase.{IsLine, IsLineOf}

@@ -1,4 +1,5 @@
--- Line by line a record is kept that stands behind the earlier ones; where none is, no base has the lines.
+-- Line by line a record is stored that is valid after the earlier ones; if there is none, no base
+-- has the lines.
 use Rattle.std.proofs.Common.{List, ◌≡◌, ◌++◌, ◌∷◌, length, reverse, refl, sym, ap, subst, ◌∙◌, arith}
 use Rattle.std.proofs.lemmas.List.{length-reverse}
 use Rattle.ssim_records.specs.declared.record.Record.{Record}

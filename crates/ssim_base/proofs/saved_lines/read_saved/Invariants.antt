@@ -1,4 +1,5 @@
--- The records so far are kept, and what is left can only begin with the lines of records that complete a base.
+-- The records so far are kept, and what is left can only begin with the lines of records that
+-- complete a base.
 use Rattle.std.proofs.Common.{◌≡◌, ◌≤◌, ◌-◌, ℕ, List, length}
 use Rattle.ssim_records.specs.declared.record.Record.{Record}
 use Rattle.ssim_base.specs.Acceptance.{HasAccepted}

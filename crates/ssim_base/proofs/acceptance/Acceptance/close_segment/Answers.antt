@@ -1,4 +1,4 @@
--- A segment record stands behind a leg record of its name.
+-- A segment record is allowed after a leg record of its name.
 use Rattle.std.proofs.Common.{rules, refl, subst}
 use Rattle.ssim_records.specs.Segment.{SegmentFields}
 use Rattle.ssim_records.specs.declared.record.Record.TheVariants.{Segment}

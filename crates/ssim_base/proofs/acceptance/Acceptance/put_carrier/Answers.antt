@@ -1,4 +1,4 @@
--- Behind the header alone a carrier stands.
+-- After the header alone a carrier is allowed.
 use Rattle.std.proofs.Common.{subst}
 use Rattle.ssim_records.specs.Carrier.{CarrierFields}
 use Rattle.ssim_records.specs.declared.record.Record.TheVariants.{Carrier}

@@ -1,4 +1,5 @@
--- A leg or a segment that was accepted stands, since what is added to the records is its closed record.
+-- A leg or a segment that was accepted is allowed, since its closed record is what is added to the
+-- records.
 use Rattle.ssim_records.specs.declared.record.Record.TheVariants.{Leg, Segment}
 use Rattle.ssim_base.specs.AcceptedRecords.{AddsRecord}
 use Rattle.ssim_base.proofs.acceptance.Acceptance.put_next.Goals.{in-Leg+in_ok-close_leg-in-Leg, in-Segment+in_ok-close_segment-in-Segment}

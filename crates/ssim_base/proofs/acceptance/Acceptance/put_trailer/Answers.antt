@@ -1,4 +1,4 @@
--- A trailer stands that ends the data set.
+-- A trailer that ends the data set is allowed.
 use Rattle.std.proofs.Common.{rules, subst}
 use Rattle.ssim_records.specs.Trailer.{TrailerFields}
 use Rattle.ssim_records.specs.declared.record.Record.TheVariants.{Trailer}

@@ -1,4 +1,4 @@
--- The airline is that of the frame.
+-- The airline is the frame's.
 use Rattle.std.proofs.Common.{List, ap, ◌∙◌}
 use Rattle.ssim_base.specs.Base.{airline_of}
 use Rattle.ssim_base.specs.BaseSeen.{BaseSeen}

@@ -1,4 +1,4 @@
--- The frame is that of the records.
+-- The frame is the records' frame.
 use Rattle.std.proofs.Common.{subst}
 use Rattle.ssim_base.specs.BaseSeen.{BaseSeen}
 use Rattle.ssim_base.specs.ReadBack.{HasFrame}

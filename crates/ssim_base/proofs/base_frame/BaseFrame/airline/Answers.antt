@@ -1,4 +1,4 @@
--- The airline is that of the carrier record.
+-- The airline is the carrier record's.
 use Rattle.std.proofs.Common.{sym, ap, ◌∙◌}
 use Rattle.ssim_base.specs.Export.{Frame}
 use Rattle.ssim_base.proofs.FrameLemmas.{airline-is}

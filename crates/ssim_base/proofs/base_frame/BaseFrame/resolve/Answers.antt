@@ -1,4 +1,4 @@
--- The carrier record is that of the base.
+-- The carrier record is the base's.
 use Rattle.std.proofs.Common.{IfErr, IfOk, subst}
 use Rattle.ssim_base.specs.Export.{Frame}
 use Rattle.ssim_base.specs.Resolve.{IsRefused, Resolves}

@@ -1,4 +1,4 @@
--- The airline is that of the frame.
+-- The airline is the frame's.
 use Rattle.std.proofs.Common.{ap, ◌∙◌}
 use Rattle.ssim_base.specs.Base.{airline_of}
 use Rattle.ssim_base.proofs.data_set.DataSet.airline.Goals as goal

@@ -1,4 +1,4 @@
--- The records that were gathered are a base where none is missing.
+-- The records that were read are a base if none is missing.
 use Rattle.std.proofs.Common.{◌≡◌, List, Ok, Err, None, rules, ap, sym, ◌∙◌}
 use Rattle.ssim_records.specs.declared.record.Record.{Record}
 use Rattle.ssim_base.specs.Base.{Done, Outcome}

@@ -1,4 +1,4 @@
--- The frame is that of the records, which can be exported.
+-- The frame is the frame of the records, which can be exported.
 use Rattle.std.proofs.Common.{subst}
 use Rattle.ssim_base.specs.ReadBack.{CanExport, HasFrame}
 use Rattle.ssim_base.proofs.FrameLemmas.{exportable}

@@ -1,4 +1,4 @@
--- The record is written behind what is held, and LF behind it.
+-- The record is written after what is held, and then LF.
 use Rattle.std.proofs.Common.{◌≡◌, ◌≤◌, ◌+◌, ◌-◌, ℕ, List, [], ◌∷◌, ◌++◌, length, refl, ap, ◌∙◌, arith}
 use Rattle.std.proofs.lemmas.Grind.{common_steps}
 use Rattle.ssim_base.proofs.SinkLemmas.{pushed}

@@ -1,4 +1,4 @@
--- The record is copied behind what is held, and LF behind it.
+-- The record is copied after what is held, and then LF.
 use Rattle.std.proofs.Common.{◌≡◌, ◌≤◌, ◌+◌, ◌-◌, ℕ, List, [], ◌∷◌, ◌++◌, length, refl, ap, ◌∙◌, arith}
 use Rattle.std.proofs.lemmas.Grind.{common_steps}
 use Rattle.ssim_base.proofs.SinkLemmas.{pushed}

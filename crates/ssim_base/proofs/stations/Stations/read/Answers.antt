@@ -1,4 +1,4 @@
--- What the function on lines answers is what the relation says.
+-- What the function on lines returns is what the relation says.
 use Rattle.ssim_text.specs.Left.{lines_left}
 use Rattle.ssim_base.proofs.StationLines.{rows-spelled, names_line, gives_rows, gives_fault}
 use Rattle.ssim_base.proofs.stations.Stations.read.Goals as goal

@@ -1,4 +1,4 @@
--- The summary of the records that were gathered where none is missing.
+-- The summary of the records that were read, if none is missing.
 use Rattle.std.proofs.Common.{◌≡◌, List, reverse, Err, None, rules, sym, subst, ◌∙◌}
 use Rattle.std.proofs.lemmas.List.{length-reverse}
 use Rattle.ssim_values.specs.Flight.{FlightNumber}

@@ -1,4 +1,4 @@
--- DataSetReader to the end counted no failure, and nothing is read behind it.
+-- Reading to the end counted no failure, and nothing is read after the end.
 use Rattle.std.proofs.Common.{ℕ, IfErr, sym, subst}
 use Rattle.ssim_base.specs.Reading.{FailsAs}
 use Rattle.ssim_base.proofs.summary.Summary.read.Goals as goal
