@@ -235,7 +235,8 @@ five_at_once rows action part uniform days =
     let e = counts_at_once rows action part uniform in
     rw (e 0 0 days, e 1 0 days, e 2 0 days, e 3 0 days, e 4 0 days) refl
 
--- what is said of a change at one day is said of the rows, the action and the day that it was made of
+-- what is said of a change at one day is said of the rows, the action and the day that it was made
+-- of
 module _ (rows made_rows : List Row) (action made_action : Action) (part : DayRange) (made_day : ℕ) (same_rows : made_rows ≡ rows) (same_action : made_action ≡ action) (same_day : made_day ≡ part.first) (uniform : IsUniform rows action part) (old : Days) where
   pub days_made : (new : Days) → new ≡ changed_on (holds part) (λ it. (effect made_rows made_action made_day it).0) 0 old → new ≡ acted_on rows action part old
   days_made new h =

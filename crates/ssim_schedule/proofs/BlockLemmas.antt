@@ -1,4 +1,5 @@
--- A table in blocks: what a flight has is what its block says, and a block in place of another changes its own flights alone.
+-- A table in blocks: what a flight has is what its block says, and a block in place of another
+-- changes its own flights alone.
 use Rattle.std.proofs.Common.{◌≡◌, ◌≢◌, ◌⊎◌, ℕ, zero, suc, ◌+◌, ◌-◌, ◌/◌, ◌<◌, ◌≤◌, Bool, true, false, nat_eq, if◌then◌else◌, List, [], ◌∷◌, ◌++◌, length, get_or, set, replicate, inl, inr, refl, sym, ap, subst, ◌∙◌, arith, get_or-set_same, get_or-set_other}
 use Rattle.std.specs.List.{insert}
 use Rattle.std.proofs.lemmas.Bool.{cases_eq, cases_lt}
@@ -93,7 +94,8 @@ block-at k (b ∷ blocks) (suc j) are within = subst (λ n. IsBlock n (get_or bl
 pub block_at : (blocks : List Table) (j : ℕ) → AreBlocks 0 blocks → j < length blocks → IsBlock j (get_or blocks j [])
 block_at blocks j are within = subst (λ n. IsBlock n (get_or blocks j [])) (omega arith) (block-at 0 blocks j are within)
 
--- what is so of each flight's entry in the old block and in the new one, and of entries of other blocks that stay, is so of all
+-- what is so of each flight's entry in the old block and in the new one, and of entries of other
+-- blocks that stay, is so of all
 module _ {X : Type 0} (field : FlightPeriods → X) (other : X) (P : FlightNumber → X → X → Type 0) where
   pub each_flight : (blocks : List Table) (j : ℕ) (held new now : Table) → AreBlocks 0 blocks → j < length blocks → held ≡ get_or blocks j [] → joined blocks ≡ now → IsBlock j new
       → ((g : FlightNumber) → P g (found field other held g) (found field other new g)) → ((g : FlightNumber) → block_of g ≢ j → (x : X) → P g x x)

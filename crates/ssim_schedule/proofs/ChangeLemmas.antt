@@ -1,4 +1,5 @@
--- What becomes of each flight where one flight's entry is changed, or the first of a flight is put in.
+-- What becomes of each flight where one flight's entry is changed, or the first of a flight is put
+-- in.
 use Rattle.std.proofs.Common.{◌≡◌, ◌⊎◌, ℕ, ◌+◌, Bool, true, false, nat_eq, if◌then◌else◌, List, [], get_or, set, Contains, Result, Ok, Err, OnOk, IfErr, IfOk, inl, inr, refl, sym, ap, subst, ◌∙◌, arith}
 use Rattle.std.specs.List.{insert}
 use Rattle.std.proofs.lemmas.Bool.Decides.{nat_tests}
@@ -29,7 +30,7 @@ moved table q g i e is = record { in_range = is.in_range; its = is.its ∙ e }
 moved_gap : (table : Table) (q g : FlightNumber) (i : ℕ) → place_of q ≡ place_of g → IsGapFor table q i → IsGapFor table g i
 moved_gap table q g i e gap = record { in_range = gap.in_range; lower_before = λ j lt. omega (arith, gap.lower_before j lt); higher_after = λ j le lt. omega (arith, gap.higher_after j le lt) }
 
--- an entry is that of its own flight
+-- an entry is its own flight's entry
 pub own : (table : Table) (q : FlightNumber) (i : ℕ) (f : FlightPeriods) → IsAt table q i → f ≡ get_or table i no_entry → IsAt table f.flight i
 own table q i f is here = record { in_range = is.in_range; its = sym (ap (λ (f : FlightPeriods). place_of f.flight) here) }
 
@@ -87,4 +88,4 @@ module _ (period : DayRange) where
       (sym (found_set cuts_at [] table rising (record { flight = f.flight; periods = p }) i g at_f ∙ ap (λ k. if nat_eq k (place_of g) then p.cuts else cuts_in table g) its))
       (adds q g (nat_eq (place_of q) (place_of g)) (cuts_in table g) f.periods.cuts p.cuts refl (λ e. ap cuts_at here ∙ sym (found_at cuts_at [] table rising g i (moved table q g i (same_place q g e) is))) only)
 
--- a fact of an answer from another
+-- a fact of a result from a fact of another

@@ -1,4 +1,5 @@
--- Records of other flights change no itinerary of a flight, and so do not the records that are left out if the flight is not in the set.
+-- Records of other flights change no itinerary of a flight, and so do not the records that are left
+-- out if the flight is not in the set.
 use Rattle.std.proofs.Common.{◌≡◌, ◌≢◌, ℕ, zero, suc, ◌+◌, ◌<◌, Bool, true, false, cond, ◌&&◌, ◌||◌, nat_eq, if◌then◌else◌, List, [], ◌∷◌, ◌++◌, length, take, set, get_or, slice_index_or, replicate, refl, sym, ap, subst, ◌∙◌, arith}
 use Rattle.std.proofs.lemmas.Bool.Decides.{nat_tests}
 use Rattle.std.proofs.lemmas.Grind.{get_or-set_at}

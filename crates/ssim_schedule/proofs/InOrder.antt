@@ -1,4 +1,5 @@
--- A sub-message keeps the legs of each date in order: new legs are numbered from 1, and changed ones keep their sequence.
+-- A sub-message keeps the legs of each date in order: new legs are numbered from 1, and changed
+-- ones keep their sequence.
 use Rattle.std.proofs.Common.{◌≡◌, ◌≤◌, ◌<◌, ℕ, zero, suc, ◌+◌, Bool, true, false, ◌&&◌, nat_eq, if◌then◌else◌, List, [], ◌∷◌, length, map, Option, Some, None, IfSome, refl, sym, ap, subst, ◌∙◌, arith}
 use Rattle.ssim_values.specs.Flight.{FlightNumber, IsFlight}
 use Rattle.ssim_values.specs.Period.{DayRange}
@@ -134,7 +135,8 @@ changed-at s after first (suc n) (old ∷ days) within =
     let same : (first + 1) + n ≡ first + suc n = omega arith in
     changed-at s after (first + 1) n days (omega (arith, within)) ∙ ap (λ d. if s d then after d (on_day days n) else on_day days n) same
 
--- the itinerary of a date is the effect on it, if the sub-message names the flight and its period holds the date
+-- the itinerary of a date is the effect on it, if the sub-message names the flight and its period
+-- holds the date
 pub date_after : (rows : List Row) (action : Action) (flight : FlightNumber) (period : DayRange) (old new : Table) → IsFlight flight
     → ((g : FlightNumber) → days_in new g ≡ after_sub rows action flight period old g) → IsTimetable (days_in old)
     → (g : FlightNumber) (n : ℕ) → IsFlight g → n < day_count → on_day (days_in new g) n ≡ itinerary_after rows action flight period g n (on_day (days_in old g) n)

@@ -1,4 +1,5 @@
--- Legs put together are those put one after another: each stands before the first whose sequence is not lower.
+-- Legs put together are legs put one after another: each comes before the first whose sequence is
+-- not lower.
 use Rattle.std.proofs.Common.{◌≡◌, ◌≤◌, ℕ, suc, ◌+◌, Bool, true, false, nat_lt, if◌then◌else◌, [], ◌∷◌, ◌++◌, take, drop, refl, ap, ◌∙◌, arith}
 use Rattle.std.proofs.lemmas.Bool.Decides.{nat_tests}
 use Rattle.ssim_periods.specs.Days.{changed_on}
@@ -58,7 +59,7 @@ passed m (l ∷ group) others ordered starts =
     ap (placed l) (passed m group others ordered.1 (starts_earlier (m.sequence + 1) l.sequence group starts ordered.0))
     ∙ ap (λ b. if b then m ∷ placed l (placed_each group others) else l ∷ m ∷ placed_each group others) before
 
--- among none the group stands by itself
+-- among no legs the group is unchanged
 pub placed_alone : (group : Legs) → IsOrdered group → placed_each group [] ≡ group
 placed_alone [] ordered = refl
 placed_alone (l ∷ group) ordered = ap (placed l) (placed_alone group ordered.1) ∙ first_placed l group ordered.0

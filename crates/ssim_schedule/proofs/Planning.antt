@@ -47,7 +47,7 @@ planned_block left rest b plan new all is added before =
     ap (λ (xs : List Planned). xs ++ plan_of (joined rest)) added ∙ append_assoc plan (plan_of b) (plan_of (joined rest))
     ∙ ap (λ (xs : List Planned). plan ++ xs) (sym (plan-append b (joined rest)) ∙ ap (λ (ts : List Table). plan_of (joined ts)) (sym is)) ∙ before
 
--- the flights of the block at hand exist, and those of the blocks behind it
+-- the flights of the current block exist, and those of the blocks after it
 pub block_exists : (G : Type 0) (left rest : List Table) (b : Table) → left ≡ b ∷ rest → All (λ f. IsFlight f.flight) b → (All (λ f. IsFlight f.flight) (joined left) → G)
     → All (λ f. IsFlight f.flight) (joined rest) → G
 block_exists G left rest b is here all others =
@@ -183,7 +183,7 @@ refusal_is frame table plan r rising exist is some =
     ∙ ap (λ (ps : List Planned). result_map export_bytes (unless_refused (plan_refusal 2 ps) (sections frame (plan_records frame.carrier.airline ps)))) (sym is)
     ∙ ap (λ o. result_map export_bytes (unless_refused o (sections frame (plan_records frame.carrier.airline plan)))) some
 
--- what was measured is what is answered
+-- what was measured is what is returned
 pub refuses : {W : Type 0} (taken : W → Option (List ℕ)) (failures : W → ℕ) (export : Result (List ℕ) ExportRefusal) (out : W) (answer : Option ExportRefusal) (fault : ExportFault)
     → IsRefusedAs answer fault → ((r : ExportRefusal) → answer ≡ Some r → export ≡ Err r) → Refuses taken failures export out out fault
 refuses taken failures export out answer (Variations flight) h is = (is (refusal.Variations flight) h, refl)

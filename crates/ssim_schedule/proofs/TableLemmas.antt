@@ -109,7 +109,8 @@ rising_set table rising g k is i j lt in_range =
       | inr apart ↦ ap (λ (f : FlightPeriods). place_of f.flight) (get_or-set_other table k i g no_entry apart)
     ]
 
--- a new entry in its gap keeps it: each key is an old one below the gap, the new one, or an old one moved up by one
+-- a new entry in its gap keeps it: each key is an old one below the gap, the new one, or an old one
+-- moved up by one
 pub rising_insert : (table : Table) → AreRising table → (g : FlightPeriods) (k : ℕ) → IsGapFor table g.flight k → AreRising (insert table k g)
 rising_insert table rising g k gap i j lt in_range =
     let new = insert table k g in

@@ -1,4 +1,5 @@
--- One more record before those that were built: each case of the definitions, day by day and name by name.
+-- One more record before those that were built: each case of the definitions, day by day and name
+-- by name.
 use Rattle.std.proofs.Common.{◌≡◌, ℕ, ◌+◌, ◌-◌, ◌*◌, ◌<◌, Bool, ◌⊎◌, inl, inr, Contains, true, false, ◌&&◌, ◌||◌, nat_eq, if◌then◌else◌, IsTrue, List, [], ◌∷◌, ◌++◌, length, take, drop, Option, Some, None, unwrap_or, refl, sym, ap, subst, ◌∙◌, arith, append_assoc}
 use Rattle.std.proofs.Math.Seq.{drop-append_seam, take-append_seam}
 use Rattle.std.proofs.lemmas.List.Elements.{All-drop, All-take, filter-append}
@@ -34,7 +35,7 @@ use Rattle.ssim_schedule.proofs.InsertedLegLemmas.{changed_not, changed_twice}
 parts_told : (x y v w s t : ℕ) → v < 100 → w < 100 → s < 100 → t < 100 → (x * 100 + v) * 100 + s ≡ (y * 100 + w) * 100 + t → (x ≡ y) × (v ≡ w) × (s ≡ t)
 parts_told x y v w s t a b c d e = (omega arith, omega arith, omega arith)
 
--- the place of a leg's name tells it from all others
+-- the rank of a leg's name differs from that of any other name
 pub same_name-place : (a b : Name) → IsPlaced a → IsPlaced b → same_name a b ≡ nat_eq (name_place a) (name_place b)
 same_name-place a b p q = by (same_flight a.flight b.flight) refl
   where

@@ -1,4 +1,5 @@
--- All legs of a timetable that was written can be: each day's itinerary is that of one of its pieces.
+-- All legs of a timetable that was written can be: each day's itinerary is that of one of its
+-- pieces.
 use Rattle.std.proofs.Common.{◌≡◌, ℕ, true, false, nat_eq, if◌then◌else◌, List, [], ◌∷◌, sym, subst}
 use Rattle.std.specs.List.{All, AllByRecursion as Each}
 use Rattle.std.proofs.lemmas.List.Elements.{All-nil, recursion_from_All}

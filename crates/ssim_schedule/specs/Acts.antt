@@ -15,7 +15,7 @@ use Rattle.ssim_base.specs.Stations.{Row}
 use Rattle.ssim_base.specs.Timetable.{Days, Legs, same_flight}
 use Rattle.ssim_schedule.specs.declared.finding.Finding.{Finding}
 
--- a flight's days, the first of which is day n, after a change of the days of a set, each by itself
+-- the days of a flight, from day n on, with those of a set changed, each by itself
 abbrev pub changed_by : (ℕ → Bool) → (ℕ → Legs → Legs) → ℕ → Days → Days
 changed_by is_in after n [] = []
 changed_by is_in after n (old ∷ days) = (if is_in n then after n old else old) ∷ changed_by is_in after (n + 1) days
@@ -30,6 +30,7 @@ counted_by is_in class k n (old ∷ days) =
 abbrev pub after_on : List Row → Action → ℕ → Legs → Legs
 after_on rows action day old = (effect rows action day old).0
 
+-- the class of the reason for what a flight has on a day after the action
 abbrev pub class_on : List Row → Action → ℕ → Legs → ℕ
 class_on rows action day old = class_number (effect rows action day old).1
 
@@ -37,12 +38,13 @@ class_on rows action day old = class_number (effect rows action day old).1
 abbrev pub acted_on : List Row → Action → DayRange → Days → Days
 acted_on rows action period days = changed_by (holds period) (after_on rows action) 0 days
 
--- the days of each flight after it, of which it is the one flight that is named
+-- the days of each flight after a sub-message, which changes the flight that it names
 abbrev pub after_sub : List Row → Action → FlightNumber → DayRange → Table → FlightNumber → Days
 after_sub rows action flight period table g =
     if nat_eq (place_of flight) (place_of g) then acted_on rows action period (days_in table g) else days_in table g
 
--- what flight g has on a day after the sub-message: the effect if it names g and its period holds the day, else the old legs
+-- what flight g has on a day after the sub-message: the effect if it names g and its period holds
+-- the day, else the old legs
 abbrev pub itinerary_after : List Row → Action → FlightNumber → DayRange → FlightNumber → ℕ → Legs → Legs
 itinerary_after rows action flight period g day old =
     if same_flight flight g && holds period day then after_on rows action day old else old
@@ -55,7 +57,7 @@ count_of rows action period days k = counted_by (holds period) (class_on rows ac
 abbrev pub counts_by : List Row → Action → (ℕ → Bool) → Days → List ℕ
 counts_by rows action is_in days = map (λ k. counted_by is_in (class_on rows action) k 0 days) (0 ∷ 1 ∷ 2 ∷ 3 ∷ 4 ∷ [])
 
--- how many get each reason
+-- the number of dates of the period that get each reason
 abbrev pub finding_of : List Row → Action → DayRange → Days → Finding
 finding_of rows action period days = record {
   acted = count_of rows action period days 0;
@@ -65,7 +67,7 @@ finding_of rows action period days = record {
   station = count_of rows action period days 4;
 }
 
--- the leg lines by which new legs are made
+-- the leg lines of an action that makes new legs; none for the others
 abbrev pub lines_of : Action → List LegLine
 lines_of (New new) = new.legs
 lines_of Cnl = []
@@ -73,37 +75,40 @@ lines_of (Rpl new) = new.legs
 lines_of (Eqt equipment) = []
 lines_of (Tim lines) = []
 
+-- whether a leg line departs from the station or arrives at it
 abbrev pub is_at : List ℕ → LegLine → Bool
 is_at station line = bytes_eq line.departure.station station || bytes_eq line.arrival.station station
 
--- whether one of them names the station
+-- whether a leg line of the action names the station
 abbrev pub is_named : Action → List ℕ → Bool
 is_named action station = list_any (is_at station) (lines_of action)
 
--- the row is of such a station, and begins at this day or ended the day before
+-- the row is of a station that the action names, and begins on this day or ended on the day before
 abbrev pub divides : Action → ℕ → Row → Bool
 divides action cut row = is_named action row.station && (nat_eq cut row.first || nat_eq cut (row.last + 1))
 
--- the period begins at this day or ended the day before, or such a row does
+-- whether the day is a division point of an action: the period, or a row of a station that the
+-- action names, begins on this day or ended on the day before
 abbrev pub is_point_of : List Row → Action → DayRange → ℕ → Bool
 is_point_of rows action period cut =
     (nat_eq cut period.first || nat_eq cut (period.last + 1)) || list_any (divides action cut) rows
 
--- new cuts are old ones, or such days
+-- new cuts are old cuts or division points of the action
 abbrev pub AddsPoints : List Row → Action → DayRange → List ℕ → List ℕ → Type 0
 AddsPoints rows action period old new =
     (cut : ℕ) → Contains new cut → Contains old cut ⊎ IsTrue (is_point_of rows action period cut)
 
--- and those only of the flight that is named
+-- new cuts of a flight are old ones or division points of the action, and the latter only for the
+-- flight that is named
 abbrev pub AddsPointsOf : FlightNumber → List Row → Action → DayRange → FlightNumber → List ℕ → List ℕ → Type 0
 AddsPointsOf flight rows action period g old new =
     (cut : ℕ) → Contains new cut → Contains old cut ⊎ ((place_of flight ≡ place_of g) × IsTrue (is_point_of rows action period cut))
 
--- no row begins after d and by e, nor ends from d on and before e
+-- no row begins from the day after d up to e, nor ends from d up to the day before e
 abbrev pub IsSteady : ℕ → ℕ → Row → Type 0
 IsSteady d e row = ((row.first ≤ d) ⊎ (e < row.first)) × ((row.last < d) ⊎ (e ≤ row.last))
 
--- the effect is one on all days of the period
+-- the action has the same effect on all days of the period
 abbrev pub IsUniform : List Row → Action → DayRange → Type 0
 IsUniform rows action period = (day : ℕ) → holds period day ≡ true → (old : Legs) → effect rows action period.first old ≡ effect rows action day old
 

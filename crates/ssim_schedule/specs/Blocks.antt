@@ -1,14 +1,16 @@
--- The blocks of a schedule: flights of nearby places are together, so that copies of a schedule may share them.
+-- The blocks of a schedule: flights of nearby places are together, so that copies of a schedule may
+-- share them.
 use Rattle.std.specs.Prelude.{◌≡◌, ℕ, ◌+◌, ◌/◌, List, [], ◌∷◌, ◌++◌}
 use Rattle.ssim_values.specs.Flight.{FlightNumber}
 use Rattle.ssim_base.specs.ReadBack.{place_of}
 use Rattle.ssim_schedule.specs.Schedule.{AreRising, Table}
 
--- the block of a flight: flights that differ only in suffix, and those of some 38 numbers, are mostly in one
+-- the block of a flight; flights that differ only in suffix are mostly in one block, as are those
+-- of some 38 numbers
 abbrev pub block_of : FlightNumber → ℕ
 block_of flight = place_of flight / 1024
 
--- all entries, block after block
+-- the entries of all blocks, in order
 abbrev pub joined : List Table → Table
 joined [] = []
 joined (b ∷ blocks) = b ++ joined blocks

@@ -14,6 +14,6 @@ is_point flight day (Leg r) = same_flight r.name.flight flight && (nat_eq day r.
 is_point flight day (Segment r) = false
 is_point flight day (Trailer r) = false
 
--- each cut is such a day
+-- each cut is a division point of the flight's leg records
 abbrev pub AreAtPoints : List ℕ → FlightNumber → List Record → Type 0
 AreAtPoints cuts flight records = (cut : ℕ) → Contains cuts cut → IsTrue (list_any (is_point flight cut) records)

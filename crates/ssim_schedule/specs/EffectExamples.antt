@@ -94,7 +94,7 @@ replaced : effect rows (Rpl new) 9430 (summer ∷ []) ≡ (winter ∷ [], reason
 unfolding new_leg station_columns with_times with_equipment
 replaced = refl
 
--- the flight's absence counts before a station's
+-- that the flight does not fly comes before the reason of a station
 not_replaced : effect [] (Rpl new) 9430 [] ≡ ([], reason.Absent)
 unfolding new_leg station_columns with_times with_equipment
 not_replaced = refl
@@ -108,18 +108,18 @@ other_equipment : effect rows (Eqt smaller) 9313 (summer ∷ []) ≡ (leg_of (co
 unfolding with_equipment
 other_equipment = refl
 
--- tails stay
+-- the segment tails stay
 other_times : effect rows (Tim (later ∷ [])) 9313 (record summer { tails = (9 ∷ []) ∷ [] } ∷ [])
     ≡ (record (leg_of (codes "ZRH06000600+0200") (codes "LHR07150715+0100") (codes "320CY" ++ blanks 18) (codes "C12Y138" ++ blanks 13)) { tails = (9 ∷ []) ∷ [] } ∷ [], reason.Acted)
 unfolding with_times
 other_times = refl
 
--- of two leg lines the second names a leg that is missing: neither acts
+-- the second of two leg lines names a leg that is missing: neither line acts
 missing_leg : effect rows (Tim (later ∷ onward ∷ [])) 9313 (summer ∷ []) ≡ (summer ∷ [], reason.Leg)
 unfolding with_times
 missing_leg = refl
 
--- two leg lines for one leg: the second counts
+-- two leg lines name one leg: the second counts
 two_for_one_leg : effect rows (Tim (later ∷ zurich_london ∷ [])) 9313 (summer ∷ []) ≡ (summer ∷ [], reason.Acted)
 unfolding with_times
 two_for_one_leg = refl
@@ -129,7 +129,8 @@ two_for_one_leg = refl
 abbrev segment : List ℕ → List ℕ → ℕ → List ℕ → SegmentLine
 segment board off identifier text = record { board = board; off = off; identifier = identifier; text = text }
 
--- out and back: the pair of points from Zurich to Zurich begins with the first leg and ends with the second
+-- out and back: the pair of points from Zurich to Zurich begins with the first leg and ends with
+-- the second
 abbrev out_and_back : List LegLine
 out_and_back = zurich_london ∷ line (codes "LHR") 480 (codes "ZRH") 645 ∷ []
 

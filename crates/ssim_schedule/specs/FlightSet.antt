@@ -5,7 +5,7 @@ use Rattle.ssim_records.specs.declared.record.Record.{Record}
 use Rattle.ssim_records.specs.declared.record.Record.TheVariants.{Header, Carrier, Leg, Segment, Trailer}
 use Rattle.ssim_base.specs.ReadBack.{place_of}
 
--- whether the mark at the place of the flight is set
+-- whether the mark of the flight is set
 abbrev pub is_marked : List Bool → FlightNumber → Bool
 is_marked marks flight = slice_index_or marks (place_of flight) false
 

@@ -1,4 +1,4 @@
--- Legs of one flight and one period that wait to be put into its itineraries together.
+-- The pending legs of one flight and one period, which are put into its itineraries together.
 use Rattle.std.specs.Prelude.{◌≡◌, ◌⊎◌, ℕ, ◌+◌, nat_eq, if◌then◌else◌, [], Option, Some, None}
 use Rattle.ssim_values.specs.Flight.{FlightNumber}
 use Rattle.ssim_periods.specs.Calendar.{holds}
@@ -13,10 +13,12 @@ pub record Group : Type 0 where
   pub heading : Option Heading
   pub legs : Legs
 
+-- no legs are pending
 abbrev pub no_group : Group
 no_group = record { heading = None; legs = [] }
 
--- a flight's itineraries once these legs are put into those of the heading's flight on the dates of its period
+-- a flight's itineraries once these legs are put into those of the heading's flight on the dates of
+-- its period
 abbrev pub with_legs : Option Heading → Legs → FlightNumber → Days → Days
 with_legs None legs g days = days
 with_legs (Some h) legs g days = if nat_eq (place_of h.flight) (place_of g) then changed_on (holds h.period) (placed_each legs) 0 days else days

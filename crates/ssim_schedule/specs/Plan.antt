@@ -26,15 +26,17 @@ plan_of table = map (λ f. (f.flight, pieces f.periods.days)) table
 
 -- ---- how many records there are
 
--- each leg has one, and one for each of its tails
+-- the number of records of legs: one for each leg and one for each of its tails
 abbrev pub legs_count : Legs → ℕ
 legs_count [] = 0
 legs_count (l ∷ legs) = (1 + length l.tails) + legs_count legs
 
+-- the number of records of some pieces
 abbrev pub pieces_count : List Piece → ℕ
 pieces_count [] = 0
 pieces_count (piece ∷ later) = legs_count piece.1 + pieces_count later
 
+-- the number of records of a plan
 abbrev pub plan_count : List Planned → ℕ
 plan_count [] = 0
 plan_count (p ∷ plan) = pieces_count p.1 + plan_count plan
@@ -45,17 +47,18 @@ plan_count (p ∷ plan) = pieces_count p.1 + plan_count plan
 abbrev pub HasWritableLegs : Piece → Type 0
 HasWritableLegs piece = All IsWritable piece.1
 
--- so can those of all pieces of the flight
+-- each leg of all pieces of the flight can be written
 abbrev pub HasWritablePieces : Planned → Type 0
 HasWritablePieces p = All HasWritableLegs p.1
 
 -- ---- the export of a plan
 
--- its records, with serial 0
+-- the records of a plan, with serial 0
 abbrev pub plan_records : List ℕ → List Planned → List Record
 plan_records airline plan = flat_map (λ p. pieces_records airline p.0 1 p.1) plan
 
--- the refusal of its first flight that cannot be exported, where so many records stand before it
+-- the refusal of the first flight of a plan that cannot be exported; `count` is the number of
+-- records before it
 abbrev pub plan_refusal : ℕ → List Planned → Option ExportRefusal
 plan_refusal count [] = None
 plan_refusal count (p ∷ plan) =
@@ -68,13 +71,13 @@ plan_refusal count (p ∷ plan) =
 abbrev pub numbered_lines : ℕ → List Record → List ℕ
 numbered_lines n records = flat_map (λ r. line (written r)) (numbered n records)
 
--- the bytes of its export
+-- the bytes of a plan's export
 unfoldable pub plan_bytes : Frame → List Planned → List ℕ
 plan_bytes frame plan = export_bytes (sections frame (plan_records frame.carrier.airline plan))
 
--- ---- what an export answers
+-- ---- what an export returns
 
--- the fault says the refusal
+-- the fault names this refusal
 abbrev pub IsRefusedAs : Option ExportRefusal → ExportFault → Type 0
 IsRefusedAs answer (Variations flight) = answer ≡ Some (refusal.Variations flight)
 IsRefusedAs answer Records = answer ≡ Some refusal.Records
@@ -86,8 +89,8 @@ abbrev pub Writes : {W : Type 0} → (W → Option (List ℕ)) → (W → ℕ) �
 Writes taken failures export old new =
     (bytes : List ℕ) × (export ≡ Ok bytes) × Appends (taken old) (taken new) bytes × (failures new ≡ failures old)
 
--- The export is refused as it is defined, or memory is, and the sink is as it was. Or the sink failed, once, and took a front
--- of the bytes.
+-- The export is refused as its definition says, or memory ran out; in both cases the sink is
+-- unchanged. Or the sink failed once, and took a prefix of the bytes.
 abbrev pub Refuses : {W : Type 0} → (W → Option (List ℕ)) → (W → ℕ) → Result (List ℕ) ExportRefusal → W → W → ExportFault → Type 0
 Refuses taken failures export old new (Variations flight) = (export ≡ Err (refusal.Variations flight)) × (new ≡ old)
 Refuses taken failures export old new Records = (export ≡ Err refusal.Records) × (new ≡ old)
@@ -95,29 +98,32 @@ Refuses taken failures export old new Memory = new ≡ old
 Refuses taken failures export old new WriteFault =
     (bytes : List ℕ) × (export ≡ Ok bytes) × TakesFront bytes (taken old) (taken new) × (failures new ≡ (failures old + 1) % 2 ^ 64)
 
+-- the number of each fault
 abbrev pub export_fault_number : ExportFault → ℕ
 export_fault_number (Variations flight) = 50
 export_fault_number Records = 51
 export_fault_number WriteFault = 52
 export_fault_number Memory = 90
 
+-- the name of each fault
 abbrev pub export_fault_name : ExportFault → List ℕ
 export_fault_name (Variations flight) = codes "Variations"
 export_fault_name Records = codes "Records"
 export_fault_name WriteFault = codes "WriteFault"
 export_fault_name Memory = codes "Memory"
 
--- the flight of this airline, if the fault names one
+-- what a fault of an export names: the flight, if there is one
 abbrev pub export_fault_place : List ℕ → ExportFault → Place
 export_fault_place airline (Variations flight) = Flight (record { airline = airline; flight = flight })
 export_fault_place airline Records = Nowhere
 export_fault_place airline WriteFault = Nowhere
 export_fault_place airline Memory = Nowhere
 
--- the same for a base, whose header, carrier and trailer stand around it
+-- the sink took the bytes of the export in the frame of a base, and did not fail
 abbrev pub WritesBase : {W : Type 0} → (W → Option (List ℕ)) → (W → ℕ) → List Record → (FlightNumber → Days) → W → W → Type 0
 WritesBase taken failures base days old new = (frame : Frame) × HasFrame frame base × Writes taken failures (chapter7 frame days) old new
 
+-- the export in the frame of a base is refused, or the sink failed
 abbrev pub RefusesBase : {W : Type 0} → (W → Option (List ℕ)) → (W → ℕ) → List Record → (FlightNumber → Days) → W → W → ExportFault → Type 0
 RefusesBase taken failures base days old new fault = (frame : Frame) × HasFrame frame base × Refuses taken failures (chapter7 frame days) old new fault
 

@@ -7,26 +7,28 @@ use Rattle.ssim_base.specs.Timetable.{Days}
 use Rattle.ssim_base.specs.ReadBack.{place_of}
 use Rattle.ssim_schedule.specs.declared.flight_table.FlightPeriods.{FlightPeriods}
 
+-- the flights of a schedule, each with its itineraries and cuts
 abbrev pub Table : Type 0
 Table = List FlightPeriods
 
--- what a flight's entry says; another answer for a flight that has none
+-- a field of a flight's entry, or `other` if the flight has no entry
 abbrev pub found : {X : Type 0} → (FlightPeriods → X) → X → Table → FlightNumber → X
 found field other [] flight = other
 found field other (f ∷ table) flight = if nat_eq (place_of f.flight) (place_of flight) then field f else found field other table flight
 
--- a flight's itinerary on each day: none on any day where it was never named
+-- a flight's itinerary on each day; no legs on any day if it was never named
 abbrev pub days_in : Table → FlightNumber → Days
 days_in = found (λ f. f.periods.days) (each_day (λ _. []))
 
--- its cuts
+-- the cuts of a flight
 abbrev pub cuts_in : Table → FlightNumber → List ℕ
 cuts_in = found (λ f. f.periods.cuts) []
 
+-- an entry in place of one that does not exist
 abbrev pub no_entry : FlightPeriods
 no_entry = record { flight = record { number = 0; suffix = 32 }; periods = record { days = []; cuts = [] } }
 
--- the place of the flight of the entry at i
+-- the rank of the flight of the entry at i
 abbrev pub key_at : Table → ℕ → ℕ
 key_at table i = place_of (slice_index_or table i no_entry).flight
 
@@ -45,7 +47,8 @@ pub record IsGapFor (table : Table) (flight : FlightNumber) (i : ℕ) : Type 0 w
   pub lower_before : (j : ℕ) → j < i → key_at table j < place_of flight
   pub higher_after : (j : ℕ) → i ≤ j → j < length table → place_of flight < key_at table j
 
--- a flight's new cuts are old ones, or, of the flight whose dates were changed, the period's first day and the day after its last
+-- a flight's new cuts are old ones, or, of the flight whose dates were changed, the period's first
+-- day and the day after its last
 abbrev pub AddsOnlyAt : FlightNumber → DayRange → FlightNumber → List ℕ → List ℕ → Type 0
 AddsOnlyAt flight period g old new =
     (cut : ℕ) → Contains new cut

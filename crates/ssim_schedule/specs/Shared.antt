@@ -1,21 +1,22 @@
--- What contracts see of a shared itinerary, its legs; and the hash that it keeps of them.
+-- What contracts see of a shared itinerary: its legs, and the hash that is stored with them.
 use Rattle.std.specs.Prelude.{◌≡◌, ℕ, ◌+◌, ◌*◌, ◌%◌, ◌<◌, ◌≤◌, [], ◌∷◌, length, slice_index_or, List}
 use Rattle.ssim_schedule.specs.Plan.{legs_count}
 use Rattle.ssim_base.specs.Timetable.{LegValue, Legs}
 use Rattle.ssim_schedule.specs.declared.itinerary.SharedLegs.{SharedLegs}
 use Rattle.ssim_schedule.specs.declared.itinerary.SharedLegs.TheVariants.{None, One, Two, More}
 
+-- the legs of shared legs
 abbrev pub legs_of : SharedLegs → Legs
 legs_of None = []
 legs_of (One legs) = legs.value
 legs_of (Two legs) = legs.value
 legs_of (More legs) = legs.value.items
 
--- a count of the records of legs: it says how many there are if it is less than 999,999
+-- a count of the records of legs; below 999,999 it is exact
 abbrev pub CountsRecords : ℕ → Legs → Type 0
 CountsRecords count legs = (count ≤ legs_count legs) × (count < 999999 → count ≡ legs_count legs)
 
--- the number that four bytes spell, the first as its highest digit
+-- the number that four bytes spell, the first byte as the highest digit
 abbrev pub four_bytes : List ℕ → ℕ → ℕ
 four_bytes bytes first =
     (slice_index_or bytes first 0 * 16777216 + slice_index_or bytes (first + 1) 0 * 65536)

@@ -1,4 +1,4 @@
--- What is built of a timetable after some records.
+-- What a builder has of a timetable after some records.
 use Rattle.std.specs.Prelude.{◌≡◌, ◌⊎◌, ℕ, nat_eq, if◌then◌else◌, List, [], ◌∷◌, Some, Contains, IsTrue}
 use Rattle.std.specs.List.{list_any}
 use Rattle.ssim_values.specs.Flight.{FlightNumber, IsFlight}
@@ -18,35 +18,35 @@ use Rattle.ssim_schedule.specs.PendingSegments.{waiting_at}
 use Rattle.ssim_schedule.specs.declared.timetable_builder.TimetableBuilder.{TimetableBuilder}
 use Rattle.ssim_schedule.specs.declared.leg_group.Heading.{Heading}
 
--- a flight's itineraries once the legs that wait are put into the table
+-- a flight's itineraries once the pending legs are put into the table
 abbrev pub days_with : TimetableBuilder → FlightNumber → Days
 days_with b g = with_legs b.group.heading b.group.legs g (days_in b.table g)
 
--- a cut of the flight in the table, or one that the legs that wait may bring
+-- a cut of the flight in the table, or one that the pending legs may add
 abbrev pub IsCut : TimetableBuilder → FlightNumber → ℕ → Type 0
 IsCut b g cut = Contains (cuts_in b.table g) cut ⊎ IsBound b.group.heading g cut
 
--- the timetable of these records, and the tails of theirs that wait
+-- the builder has the timetable of these records and their pending tails
 pub record IsBuilt (b : TimetableBuilder) (done : List Record) : Type 0 where
   pub days : (g : FlightNumber) → IsFlight g → days_with b g ≡ days_of done g
   pub tails : (n : Name) → IsPlaced n → waiting_at b.waiting (name_place n) ≡ tails_of n done
   pub cuts : (g : FlightNumber) → IsFlight g → (cut : ℕ) → IsCut b g cut → IsTrue (list_any (is_point g cut) done)
 
--- a tail more waits
+-- one more tail is pending
 pub record TakesSegment (old new : TimetableBuilder) (r : SegmentFields) : Type 0 where
   pub named : IsPlaced r.name
   pub table : new.table ≡ old.table
   pub group : new.group ≡ old.group
   pub tails : (place : ℕ) → waiting_at new.waiting place ≡ (if nat_eq place (name_place r.name) then r.tail ∷ waiting_at old.waiting place else waiting_at old.waiting place)
 
--- the legs that waited are put into the table
+-- the pending legs are put into the table
 pub record PutsGroup (old new : TimetableBuilder) : Type 0 where
   pub days : (g : FlightNumber) → days_in new.table g ≡ days_with old g
   pub cuts : (g : FlightNumber) (cut : ℕ) → Contains (cuts_in new.table g) cut → IsCut old g cut
   pub group : new.group ≡ no_group
   pub waiting : new.waiting ≡ old.waiting
 
--- a leg with this heading and leg sequence can join the legs that wait
+-- a leg with this heading and leg sequence can join the pending legs
 pub record OpensGroup (old new : TimetableBuilder) (h : Heading) (sequence : ℕ) : Type 0 where
   pub heading : new.group.heading ≡ Some h
   pub order : StartsFrom sequence new.group.legs
@@ -54,7 +54,7 @@ pub record OpensGroup (old new : TimetableBuilder) (h : Heading) (sequence : ℕ
   pub cuts : (g : FlightNumber) (cut : ℕ) → IsCut new g cut → IsCut old g cut ⊎ IsBound (Some h) g cut
   pub waiting : new.waiting ≡ old.waiting
 
--- a leg is put with the tails that waited for it
+-- a leg is added with its pending tails
 pub record TakesLeg (old new : TimetableBuilder) (r : LegFields) : Type 0 where
   pub named : IsPlaced r.name
   pub days : (g : FlightNumber) → days_with new g

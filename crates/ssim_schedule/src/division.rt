@@ -70,8 +70,8 @@ fn sums(counts: &[u32; 5], more: &[u32; 5]) -> [u32; 5]
     ]
 }
 
-/// Applies an action to a flight's days in a period. The period is divided at the days at which station rows begin and end, so
-/// that each station has one UTC variation in a part.
+/// Applies an action to a flight's days in a period. The period is divided at the days at which
+/// station rows begin and end, so that each station has one UTC variation in a part.
 pub(crate) fn act_on_parts(
     alloc: Global,
     rows: &[StationRow],

@@ -68,7 +68,7 @@ fn before_row(row: &StationRow, from: u32, next: u32) -> u32
     earlier(row.last().number() as u32 + 1, from, begun)
 }
 
-// The same if the action names the row's station, else `next`.
+// Does what `before_row` does if the action names the row's station; else returns `next`.
 fn before_named(action: &Action, row: &StationRow, from: u32, next: u32) -> u32
     requires { from < next }
     ensures after { from < result }
@@ -83,8 +83,8 @@ fn before_named(action: &Action, row: &StationRow, from: u32, next: u32) -> u32
     }
 }
 
-/// The first day after `from` at which a row of a station of the action's new legs begins or has ended. It is `limit` if there
-/// is no such day before `limit`.
+/// The first day after `from` at which a row of a station of the action's new legs begins or has
+/// ended. It is `limit` if there is no such day before `limit`.
 pub(crate) fn next_point(rows: &[StationRow], action: &Action, from: u32, limit: u32) -> u32
     requires { from < limit }
     ensures after { from < result }

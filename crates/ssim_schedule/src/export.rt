@@ -92,18 +92,22 @@ impl From<Memory> for ExportFault {
 }
 
 impl Schedule {
-    /// Writes the canonical export: the base's header and carrier, each flight by number and suffix with its pieces as itinerary
-    /// variations 01, 02, .., each leg with its segment data, and the base's trailer. Serials and the check reference are counted
-    /// anew. Each section is filled up to a multiple of five records. LF follows each record.
+    /// Writes the canonical export: the base's header and carrier, each flight by number and suffix
+    /// with its pieces as itinerary variations 01, 02, .., each leg with its segment data, and the
+    /// base's trailer. Serials and the check reference are counted anew. Each section is filled up
+    /// to a multiple of five records. LF follows each record.
     ///
-    /// 50 names the first flight with more than 99 pieces, and 51 means more than 999,999 records; if one flight gives both, it is
-    /// 50. 50, 51 and 90 come before the first byte is written. 52 means that the sink failed or took no byte.
+    /// 50 names the first flight with more than 99 pieces, and 51 means more than 999,999 records;
+    /// if one flight gives both, it is
+    /// 50. 50, 51 and 90 come before the first byte is written. 52 means that the sink failed or
+    /// took no byte.
     pub fn export<W: Sink>(&self, base: &Base, out: &mut W) -> Result<(), ExportFault>
         ensures ok { OnOk result (WritesBase W.taken W.failures base.now.records (days_in self.now) out.old out.new) }
         ensures err { IfErr result (λ fault. RefusesBase W.taken W.failures base.now.records (days_in self.now) out.old out.new fault) }
         ensures device { W.device out.new ≡ W.device out.old }
 
-        // The bytes read back to the same itinerary on each date, and the export of what was read is the same bytes.
+        // The bytes read back to the same itinerary on each date, and the export of what was read
+        // is the same bytes.
         ensures reads_back { OnOk result (ReadsBackBase W.taken base.now.records (days_in self.now) out.old out.new) }
     {
         let frame = base.frame();
@@ -111,14 +115,15 @@ impl Schedule {
         own.export_in(frame, out)
     }
 
-    /// Writes the canonical export in this frame, as `export` does in that of a base. What no copy of the schedule shares is freed flight by
-    /// flight.
+    /// Writes the canonical export in this frame, as `export` does in the frame of a base. Parts
+    /// that no copy of the schedule shares are freed flight by flight.
     pub fn export_in<W: Sink>(self, frame: &BaseFrame, out: &mut W) -> Result<(), ExportFault>
         ensures ok { OnOk result (Writes W.taken W.failures (chapter7 frame.now (days_in self)) out.old out.new) }
         ensures err { IfErr result (λ fault. Refuses W.taken W.failures (chapter7 frame.now (days_in self)) out.old out.new fault) }
         ensures device { W.device out.new ≡ W.device out.old }
 
-        // The bytes read back to the same itinerary on each date, and the export of what was read is the same bytes.
+        // The bytes read back to the same itinerary on each date, and the export of what was read
+        // is the same bytes.
         ensures reads_back { OnOk result ((bytes : List ℕ) × Appends (W.taken out.old) (W.taken out.new) bytes × ReadsBackFrom frame.now (days_in self) bytes) }
     {
         export_bytes_read_back();
@@ -128,14 +133,16 @@ impl Schedule {
     }
 }
 
-/// Writes the canonical export of the data set's timetable, as `Schedule::of` and `Schedule::export` do. The records are freed while the
-/// timetable is made, so it takes the memory of one of the two. 90 can also mean that there is no memory for the timetable.
+/// Writes the canonical export of the data set's timetable, as `Schedule::of` and
+/// `Schedule::export` do. The records are freed while the timetable is made, so it takes the memory
+/// of one of the two. 90 can also mean that there is no memory for the timetable.
 pub fn export_data_set<W: Sink>(data_set: DataSet, out: &mut W) -> Result<(), ExportFault>
     ensures ok { OnOk result (WritesBase W.taken W.failures data_set (days_of data_set) out.old out.new) }
     ensures err { IfErr result (λ fault. RefusesBase W.taken W.failures data_set (days_of data_set) out.old out.new fault) }
     ensures device { W.device out.new ≡ W.device out.old }
 
-    // The bytes read back to the same itinerary on each date, and the export of what was read is the same bytes.
+    // The bytes read back to the same itinerary on each date, and the export of what was read is
+    // the same bytes.
     ensures reads_back { OnOk result (ReadsBackBase W.taken data_set (days_of data_set) out.old out.new) }
 {
     export_reads_back();
@@ -143,8 +150,8 @@ pub fn export_data_set<W: Sink>(data_set: DataSet, out: &mut W) -> Result<(), Ex
     schedule.export_in(&frame, out)
 }
 
-/// Writes the canonical export of a timetable between a header, a carrier and a trailer. What no copy of the timetable shares is freed
-/// flight by flight.
+/// Writes the canonical export of a timetable between a header, a carrier and a trailer. What no
+/// copy of the timetable shares is freed flight by flight.
 fn export_frame<W: Sink>(
     table: FlightBlocks,
     header: &Header,

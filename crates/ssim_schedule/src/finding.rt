@@ -13,7 +13,7 @@ pub(crate) enum Reason {
     Present,
     /// A leg that is named is missing.
     Leg,
-    /// A station has no row for the date.
+    /// There is no row for a station on the date.
     Station,
 }
 
@@ -46,7 +46,7 @@ pub struct Finding {
     pub present: u32,
     /// A leg that was named was missing.
     pub leg: u32,
-    /// A station had no row for the date.
+    /// There was no row for a station on the date.
     pub station: u32,
 }
 

@@ -22,8 +22,9 @@ use std::marker::Model;
 /// The number of blocks, so that each flight has one.
 const BLOCKS: usize = 264;
 
-/// The itineraries of the flights that were named, in blocks of flights of nearby places. A copy costs one pointer for each block, and
-/// a change after it a copy of one block. The legs of an itinerary need not rise by sequence, as those of a `Schedule` do.
+/// The itineraries of the flights that were named, in blocks of flights of nearby ranks. A copy
+/// costs one pointer for each block, and a change after it a copy of one block. The legs of an
+/// itinerary need not rise by sequence, as those of a `Schedule` do.
 #[derive(Drop)]
 pub(crate) struct FlightBlocks {
     blocks: Vec<SharedTable>,
@@ -55,14 +56,16 @@ impl FlightBlocks {
         })
     }
 
-    /// The legs of a flight on a date of origin. The list is empty if the flight does not fly on the date.
+    /// The legs of a flight on a date of origin. The list is empty if the flight does not fly on
+    /// the date.
     pub(crate) fn itinerary(&self, flight: &Flight, day: Day) -> &[PlacedLeg]
         ensures { result.now ≡ slice_index_or (days_in self.now flight.now) day [] }
     {
         self.block(*flight).itinerary(flight, day)
     }
 
-    /// The rising days at which a stored range of the flight begins, or the day after its last; none for a flight that was never named.
+    /// The rising days at which a stored range of the flight begins, or the day after its last;
+    /// none for a flight that was never named.
     pub(crate) fn cuts(&self, flight: &Flight) -> &[u32]
         ensures cuts { result.now ≡ cuts_in self.now flight.now }
         ensures rising { IsStrictlyIncreasing result.now }
@@ -72,7 +75,8 @@ impl FlightBlocks {
         self.block(*flight).cuts(flight)
     }
 
-    /// The same entries. The copy and the original share each block until one of the two changes a flight of it.
+    /// The same entries. The copy and the original share each block until one of the two changes a
+    /// flight of it.
     pub(crate) fn copy(&self) -> Result<FlightBlocks, Memory>
         ensures { IfOk result (λ copy. copy ≡ self.now) }
     {
@@ -82,7 +86,8 @@ impl FlightBlocks {
         })
     }
 
-    /// Applies a change to a flight's itinerary on each date of a period. Returns how many of the dates were of each class.
+    /// Applies a change to a flight's itinerary on each date of a period. Returns how many of the
+    /// dates were of each class.
     pub(crate) fn change<C: Change<Itinerary>>(
         &mut self,
         flight: Flight,
@@ -146,7 +151,7 @@ impl FlightBlocks {
         self.blocks
     }
 
-    // The block of a flight. It has what is known of the flight.
+    // The block of a flight, which has the flight's entry if there is one.
     fn block(&self, flight: Flight) -> &FlightTable
         ensures days { days_in result.now flight ≡ days_in self.now flight }
         ensures cuts { cuts_in result.now flight ≡ cuts_in self.now flight }

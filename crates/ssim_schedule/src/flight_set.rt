@@ -10,13 +10,13 @@ use ssim_records::Record;
 use ssim_values::{Flight, Memory};
 use std::alloc::Global;
 
-/// The number of places of flights.
+/// The number of flights.
 const PLACES: usize = 270_000;
 
 /// A set of flights. The search takes the same time however many flights are in it.
 #[derive(Drop)]
 pub(crate) struct FlightSet {
-    /// For each place of a flight, whether the flight is in the set.
+    /// For each rank of a flight, whether the flight is in the set.
     marks: Vec<bool>,
     ghost whole: { vec_len marks ≡ 270000 },
 }

@@ -25,8 +25,8 @@ pub struct FlightPeriods {
     pub(crate) periods: SharedPeriods,
 }
 
-/// The itineraries of those flights of a block that were named, by number and suffix of the flight. Their legs need not rise by
-/// sequence, as those of a `Schedule` do.
+/// The itineraries of those flights of a block that were named, by number and suffix of the flight.
+/// Their legs need not rise by sequence, as those of a `Schedule` do.
 #[derive(Drop)]
 pub(crate) struct FlightTable {
     flights: Vec<FlightPeriods>,
@@ -56,7 +56,8 @@ impl FlightTable {
         }
     }
 
-    /// The legs of a flight on a date of origin. The list is empty if the flight does not fly on the date.
+    /// The legs of a flight on a date of origin. The list is empty if the flight does not fly on
+    /// the date.
     pub(crate) fn itinerary(&self, flight: &Flight, day: Day) -> &[PlacedLeg]
         ensures { result.now ≡ slice_index_or (days_in self.now flight.now) day [] }
     {
@@ -66,7 +67,8 @@ impl FlightTable {
         }
     }
 
-    /// The rising days at which a stored range of the flight begins, or the day after its last; none for a flight that was never named.
+    /// The rising days at which a stored range of the flight begins, or the day after its last;
+    /// none for a flight that was never named.
     pub(crate) fn cuts(&self, flight: &Flight) -> &[u32]
         ensures cuts { result.now ≡ cuts_in self.now flight.now }
         ensures rising { IsStrictlyIncreasing result.now }
@@ -79,7 +81,8 @@ impl FlightTable {
         }
     }
 
-    /// The same entries. The copy and the original share the periods of each flight until one of the two changes that flight.
+    /// The same entries. The copy and the original share the periods of each flight until one of
+    /// the two changes that flight.
     pub(crate) fn copy(&self) -> Result<FlightTable, Memory>
         ensures { IfOk result (λ copy. copy ≡ self.now) }
     {
@@ -89,7 +92,8 @@ impl FlightTable {
         })
     }
 
-    /// Applies a change to a flight's itinerary on each date of a period. Returns how many of the dates were of each class.
+    /// Applies a change to a flight's itinerary on each date of a period. Returns how many of the
+    /// dates were of each class.
     pub(crate) fn change<C: Change<Itinerary>>(
         &mut self,
         flight: Flight,

@@ -29,7 +29,8 @@ impl Model for InsertedLegs {
 }
 
 impl InsertedLegs {
-    /// The change that puts the legs of a list, of which the last comes first. Takes them out of the list, which keeps its room.
+    /// The change that puts the legs of a list, of which the last comes first. Takes them out of
+    /// the list, which keeps its room.
     pub(crate) fn of_reversed(
         alloc: Global,
         room: &mut Vec<PlacedLeg>,
@@ -43,14 +44,14 @@ impl InsertedLegs {
         })
     }
 
-    /// The legs that it puts.
+    /// The legs that the change puts.
     pub(crate) fn legs(&self) -> &[PlacedLeg]
         ensures { result.now ≡ self.now }
     {
         self.group.legs()
     }
 
-    /// The change that puts the same legs, which the two share.
+    /// The change that puts the same legs. Both share them.
     pub(crate) fn copy(&self, alloc: Global) -> Result<InsertedLegs, Memory>
         ensures { IfOk result (λ copy. copy ≡ self.now) }
     {
@@ -96,7 +97,7 @@ fn merged(alloc: Global, group: &[PlacedLeg], legs: &[PlacedLeg]) -> Result<Vec<
     Ok(all)
 }
 
-/// The place of the first leg whose leg sequence is not lower.
+/// The index of the first leg whose leg sequence is not lower.
 fn place_among(leg: &PlacedLeg, legs: &[PlacedLeg]) -> usize
     ensures within { result ≤ length legs.now }
     ensures place { result ≡ legs_before leg.now.sequence legs.now }

@@ -16,7 +16,8 @@ use std::rc::Rc;
 /// The most records that are counted for an itinerary. An export has fewer.
 pub(crate) const MOST_RECORDS: u32 = 999_999;
 
-/// The legs of an itinerary, which its copies share. One leg or two, as most flights have, lie in one place in memory.
+/// The legs of an itinerary, which its copies share. One leg or two, as most flights have, lie in
+/// one place in memory.
 #[derive(Drop)]
 pub(crate) enum SharedLegs {
     None,
@@ -25,7 +26,8 @@ pub(crate) enum SharedLegs {
     More(Rc<Vec<PlacedLeg>>),
 }
 
-/// An itinerary: the legs of a flight on one date, by rising leg sequence; none where it does not fly. A copy shares them.
+/// An itinerary: the legs of a flight on one date, by rising leg sequence; no legs if it does not
+/// fly. Copies share the legs.
 #[derive(Drop)]
 pub struct Itinerary {
     legs: SharedLegs,
@@ -55,7 +57,8 @@ impl Itinerary {
         Ok(Itinerary::of_shared(SharedLegs::More(Rc::new(alloc, legs)?)))
     }
 
-    /// The itinerary of the legs of a list, of which the last comes first. Takes them out of the list, which keeps its room.
+    /// The itinerary of the legs of a list, of which the last comes first. Takes them out of the
+    /// list, which keeps its room.
     pub(crate) fn of_reversed(alloc: Global, room: &mut Vec<PlacedLeg>) -> Result<Itinerary, Memory>
         ensures itinerary { IfOk result (λ itinerary. itinerary ≡ reverse room.old.items) }
         ensures rest { OnOk result (room.new.items ≡ []) }
@@ -173,7 +176,8 @@ fn count_legs(legs: &[PlacedLeg]) -> Option<u32>
     Some(count)
 }
 
-// The legs of a list, from the last to the first, in a list without spare room. Takes them out of the first list.
+// The legs of a list, from the last to the first, in a list without spare room. Takes them out of
+// the first list.
 fn taken_from(alloc: Global, room: &mut Vec<PlacedLeg>) -> Result<Vec<PlacedLeg>, Memory>
     ensures legs { IfOk result (λ legs. legs.items ≡ reverse room.old.items) }
     ensures rest { OnOk result (room.new.items ≡ []) }

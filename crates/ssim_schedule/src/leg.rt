@@ -9,7 +9,8 @@ use ssim_values::Memory;
 use std::alloc::Global;
 use std::marker::Model;
 
-/// A leg of an itinerary: its leg sequence, its own columns, and its tails, the segment data that begin with it.
+/// A leg of an itinerary: its leg sequence, its own columns, and its tails, the segment data that
+/// begin with it.
 #[derive(Drop)]
 pub struct PlacedLeg {
     /// Columns 14, 37 to 127 and 129 to 194 of its record.
@@ -61,7 +62,7 @@ impl PlacedLeg {
         self.columns
     }
 
-    /// The same, in their place.
+    /// Its own columns, by reference.
     pub(crate) fn columns_held(&self) -> &LegColumns
         ensures { result.now ≡ self.now.columns }
     {
@@ -131,7 +132,7 @@ fn same_tails(mine: &[SegmentTail], theirs: &[SegmentTail]) -> bool
     true
 }
 
-// The number that four bytes of a leg's columns spell, the first as its highest digit.
+// The number that four bytes of a leg's columns spell, the first byte as the highest digit.
 fn four_bytes(bytes: &[u8; 158], first: usize) -> u64
     requires { first + 4 < 158 }
     ensures value { result ≡ four_bytes bytes.now first }

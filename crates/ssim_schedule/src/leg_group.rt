@@ -28,15 +28,16 @@ impl Heading {
     }
 }
 
-/// Legs of one flight and one period. They come from the last to the first, and their leg sequences do not rise. A file mostly gives
-/// the legs of an itinerary so.
+/// Legs of one flight and one period. They come from the last to the first, and their leg sequences
+/// do not rise. A file mostly has the legs of an itinerary in this order.
 #[derive(Drop)]
 pub(crate) struct LegGroup {
     /// None until the first leg comes.
     heading: Option<Heading>,
     /// The last leg first. The room stays when the legs are taken out, for the next group.
     legs: Vec<PlacedLeg>,
-    /// The change of the latest group. Where each record is of one date, the next group mostly has the same legs.
+    /// The change of the latest group. If each record is of one date, the next group mostly has the
+    /// same legs.
     latest: Option<InsertedLegs>,
     /// How many itineraries were made since they were last counted.
     made: usize,
@@ -76,7 +77,7 @@ impl LegGroup {
         self.heading
     }
 
-    /// Whether a leg of this flight, period and leg sequence can stand before the legs.
+    /// Whether a leg of this flight, period and leg sequence is allowed before the legs.
     pub(crate) fn takes(&self, flight: Flight, period: Period, sequence: u8) -> bool
         ensures heading { result ≡ true → self.now.heading ≡ Some (record { flight = flight; period = period }) }
         ensures order { result ≡ true → StartsFrom sequence self.now.legs }
@@ -103,13 +104,14 @@ impl LegGroup {
         requires { StartsFrom leg.now.name.sequence self.old.legs }
         ensures { OnOk result (self.new ≡ record self.old { legs = record { sequence = leg.now.name.sequence; columns = leg.now.columns; tails = tails.items } ∷ self.old.legs }) }
     {
-        // With the room made first, the columns are copied once.
+        // If the room is made first, the columns are copied once.
         self.legs.reserve(1)?;
         self.legs.push_reserved(PlacedLeg::new(leg.name().sequence(), leg.columns(), tails));
         Ok(())
     }
 
-    /// Takes the legs out, as the change that puts them, in the order of their records. No group is left.
+    /// Takes the legs out, as the change that puts them, in the order of their records. No group is
+    /// left.
     pub(crate) fn take(&mut self) -> Result<InsertedLegs, Memory>
         ensures put { IfOk result (λ put. put ≡ self.old.legs) }
         ensures rest { OnOk result (self.new ≡ no_group) }
@@ -134,7 +136,7 @@ impl LegGroup {
         }
     }
 
-    /// Takes the legs out, as a change with an itinerary of its own, which is the latest then.
+    /// Takes the legs out, as a change with an itinerary of its own, which is then the latest.
     fn take_new(&mut self) -> Result<InsertedLegs, Memory>
         ensures put { IfOk result (λ put. put ≡ self.old.legs) }
         ensures rest { OnOk result (self.new ≡ record self.old { legs = [] }) }

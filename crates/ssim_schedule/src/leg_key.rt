@@ -11,8 +11,9 @@ use ssim_records::LegName;
 use std::cmp::Ordering;
 use std::marker::Model;
 
-/// A leg of an itinerary variation of a flight, as a key of maps. Keys rise by flight, variation and sequence. A key is one
-/// number, since a data set has many legs and a look-up compares keys many times.
+/// A leg of an itinerary variation of a flight, as a key of maps. Keys rise by flight, variation
+/// and sequence. A key is one number, since a data set has many legs and a look-up compares keys
+/// many times.
 #[derive(Clone, Copy, Debug, PartialEq, Eq)]
 pub(crate) struct LegKey {
     number: u64,

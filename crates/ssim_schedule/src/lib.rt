@@ -1,14 +1,15 @@
 //! The timetable of a base, its canonical export, and what messages do to it.
 //!
-//! - [`Schedule`]: the itinerary of each flight on each date, which is its [`PlacedLeg`]s in order. `of` makes it from a base, `of_flights`
-//!   that of some flights of a data set, and `of_data_set` that of a data set whose records are freed.
-//! - `Schedule::export` and `export_in`: write it as chapter 7 in the one canonical division, or return an [`ExportFault`].
-//!   [`export_data_set`] does so for the timetable of a data set.
-//! - `Schedule::apply_sub` and `apply_by`: a resolved sub-message acts on each date of its period by itself; a [`Finding`] counts the dates by
-//!   what they got.
+//! - [`Schedule`]: the itinerary of each flight on each date, which is its [`PlacedLeg`]s in order.
+//!   `of` makes it from a base, `of_flights` from some flights of a data set, and `of_data_set`
+//!   from a data set whose records are freed.
+//! - `Schedule::export` and `export_in`: write it as chapter 7 in the one canonical division, or
+//!   return an [`ExportFault`]. [`export_data_set`] does the same for the timetable of a data set.
+//! - `Schedule::apply_sub` and `apply_by`: a resolved sub-message acts on each date of its period
+//!   by itself; a [`Finding`] counts the dates by what happened on them.
 //!
-//! The promise: a schedule has on each date what the records, and then the sub-messages, say of that date alone; and its export is the
-//! chapter 7 of that timetable, which reads back to itself.
+//! The promise: a schedule has on each date what the records, and then the sub-messages, say of
+//! that date alone; and its export is the chapter 7 of that timetable, which reads back to itself.
 #![tactic(auto)]
 
 mod division;

@@ -38,7 +38,8 @@ pub(crate) fn new_columns(
     )
 }
 
-/// The tail of a segment line whose pair of points is the leg lines from one place to another, counted from 0.
+/// The tail of a segment line whose pair of points is the leg lines from one place to another,
+/// counted from 0.
 pub(crate) fn segment_tail(from: usize, to: usize, segment: &SegmentLine) -> SegmentTail
     requires from { from < 20 }
     requires to { to < 20 }

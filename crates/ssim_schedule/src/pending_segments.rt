@@ -1,4 +1,5 @@
-//! The tails that wait for their leg while records are gone through from the last to the first.
+//! The pending tails: tails whose leg record has not come yet, while records are read from the last
+//! to the first.
 
 ghost use Rattle.std.specs.Prelude.{◌≡◌, ℕ, ◌<◌, ◌∷◌, [], None, nat_eq, if◌then◌else◌, reverse, false, IfOk, OnOk};
 ghost use Rattle.std.specs.BTreeMap.{get};
@@ -12,10 +13,12 @@ use std::alloc::Global;
 use std::collections::BTreeMap;
 use std::mem;
 
-/// For each leg the tails of the segment records that were met and whose leg record was not, the last of them first.
+/// For each leg the tails of the segment records that came before its leg record, the last of them
+/// first.
 #[derive(Drop)]
 pub(crate) struct PendingSegments {
-    /// The leg of the latest segment record. Mostly its other segment records and its leg record come next.
+    /// The leg of the latest segment record. Mostly its other segment records and its leg record
+    /// come next.
     latest: LegKey,
     /// The tails of this leg. The room stays when they are taken out.
     tails: Vec<SegmentTail>,
@@ -29,7 +32,7 @@ pub(crate) struct PendingSegments {
 impl PendingSegments {
     ghost use Rattle.ssim_schedule.specs.PendingSegments.{waiting_at};
 
-    /// No tail waits.
+    /// No tail is pending.
     pub(crate) fn new(alloc: Global) -> PendingSegments
         ensures { (place : ℕ) → waiting_at result place ≡ [] }
     {
@@ -41,13 +44,13 @@ impl PendingSegments {
         }
     }
 
-    /// The tail of one more segment record, which stands before those of its leg that wait.
+    /// Adds the tail of one more segment record, before the pending tails of its leg.
     pub(crate) fn add(&mut self, segment: &SegmentRecord) -> Result<(), Memory>
         ensures ok { OnOk result ((place : ℕ) → waiting_at self.new place ≡ (if nat_eq place (name_place segment.now.name) then segment.now.tail ∷ waiting_at self.old place else waiting_at self.old place)) }
         ensures named { IsPlaced segment.now.name }
     {
         self.turn_to(LegKey::of(segment.name()))?;
-        // With the room made first, the tail is copied once.
+        // If the room is made first, the tail is copied once.
         self.tails.reserve(1)?;
         self.tails.push_reserved(segment.tail());
         Ok(())
@@ -73,7 +76,7 @@ impl PendingSegments {
         Ok(())
     }
 
-    /// The tails of a leg, in their order; none of it waits any more.
+    /// The tails of a leg, in their order. None of them is pending any more.
     pub(crate) fn take(&mut self, name: LegName) -> Result<Vec<SegmentTail>, Memory>
         ensures tails { IfOk result (λ tails. tails.items ≡ waiting_at self.old (name_place name)) }
         ensures named { IsPlaced name }
@@ -100,7 +103,7 @@ impl PendingSegments {
             None => Vec::new(self.alloc),
         };
         tails.reverse();
-        // The leg keeps the list for as long as the timetable is there.
+        // The leg keeps the list as long as the timetable exists.
         tails.shrink_to_fit();
         tails
     }

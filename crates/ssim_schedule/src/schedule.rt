@@ -5,7 +5,7 @@ ghost use Rattle.std.specs.List.Sorted.{IsStrictlyIncreasing};
 ghost use Rattle.ssim_values.specs.Calendar.{weekday};
 ghost use Rattle.ssim_base.specs.Timetable.{Above, on_day};
 
-// The examples that are worked out by computing: a false one is an error of this file.
+// The worked examples, which are computed: a false one is an error in this file.
 ghost use Rattle.ssim_schedule.specs.BlockExamples;
 ghost use Rattle.ssim_schedule.specs.EffectExamples;
 
@@ -15,7 +15,8 @@ use crate::leg::PlacedLeg;
 use ssim_values::{Day, Flight, Memory};
 use std::marker::Model;
 
-/// The itinerary of each flight on each date. On each date the legs of a flight rise by leg sequence.
+/// The itinerary of each flight on each date. On each date the legs of a flight rise by leg
+/// sequence.
 #[derive(Drop)]
 pub struct Schedule {
     pub(crate) table: FlightBlocks,
@@ -35,31 +36,36 @@ impl Model for Schedule {
 impl Schedule {
     ghost use Rattle.ssim_schedule.specs.Schedule.{cuts_in, days_in};
 
-    /// The legs of a flight on a date of origin, by leg sequence. The list is empty if the flight does not fly on the date.
+    /// The legs of a flight on a date of origin, by leg sequence. The list is empty if the flight
+    /// does not fly on the date.
     pub fn itinerary(&self, flight: &Flight, day: Day) -> &[PlacedLeg]
         ensures value { result.now ≡ slice_index_or (days_in self.now flight.now) day [] }
         ensures in_order { Above 0 result.now }
     {
-        // No effect at run time. The proof reads from these uses that the flight and the day are in range.
+        // No effect at run time. The proof reads from these uses that the flight and the day are in
+        // range.
         let _ = place(*flight);
         let _ = day.number();
         self.table.itinerary(flight, day)
     }
 
-    /// The rising days at which a stored range of the flight begins, or the day after its last; none for a flight that was never named.
+    /// The rising days at which a stored range of the flight begins, or the day after its last;
+    /// none for a flight that was never named.
     pub fn cuts(&self, flight: &Flight) -> &[u32]
         ensures cuts { result.now ≡ cuts_in self.now flight.now }
         ensures rising { IsStrictlyIncreasing result.now }
         ensures in_calendar { All (λ cut. cut ≤ 36525) result.now }
 
-        // Two days of one weekday have the same itinerary if no cut is after the earlier and not after the later.
+        // Two days of one weekday have the same itinerary if no cut is after the earlier and not
+        // after the later.
         ensures weekly { (m n : ℕ) → m ≤ n → n < 36525 → weekday m ≡ weekday n → ((cut : ℕ) → Contains result.now cut → m < cut → n < cut) → on_day (days_in self.now flight.now) m ≡ on_day (days_in self.now flight.now) n }
     {
         self.table.cuts(flight)
     }
 
-    /// The same itineraries with the same cuts. The copy and the original share the flights in blocks. One of the two that changes a
-    /// flight first gets that flight's block and periods for itself. So a copy costs one pointer for each of 264 blocks.
+    /// The same itineraries with the same cuts. The copy and the original share the flights in
+    /// blocks. One of the two that changes a flight first gets that flight's block and periods for
+    /// itself. So a copy costs one pointer for each of 264 blocks.
     pub fn copy(&self) -> Result<Schedule, Memory>
         ensures { IfOk result (λ copy. copy ≡ self.now) }
     {

@@ -1,4 +1,5 @@
-//! The periods of a flight, shared by the copies of a schedule until one of them changes the flight.
+//! The periods of a flight, shared by the copies of a schedule until one of them changes the
+//! flight.
 
 ghost use Rattle.std.specs.Prelude.{◌≡◌, ◌+◌, IfOk, OnOk, OnErr};
 ghost use Rattle.ssim_periods.specs.Calendar.{holds};
@@ -11,7 +12,8 @@ use std::alloc::Global;
 use std::marker::Model;
 use std::rc::Rc;
 
-/// The itinerary of a flight on each date. Copies share it. A copy that changes it gets its own first.
+/// The itinerary of a flight on each date. Copies share it. A copy that changes it gets its own
+/// first.
 #[derive(Drop)]
 pub(crate) struct SharedPeriods {
     periods: Rc<Periods<Itinerary>>,

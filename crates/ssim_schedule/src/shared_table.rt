@@ -15,8 +15,8 @@ use std::alloc::Global;
 use std::marker::Model;
 use std::rc::Rc;
 
-/// The flights of a block. Copies share them. A copy that changes one of them gets a block of its own first, in which the periods
-/// of the other flights are shared.
+/// The flights of a block. Copies share them. A copy that changes one of them gets a block of its
+/// own first, in which the periods of the other flights are shared.
 #[derive(Drop)]
 pub(crate) struct SharedTable {
     table: Rc<FlightTable>,
@@ -58,7 +58,8 @@ impl SharedTable {
         &self.table
     }
 
-    /// The entries of its flights: taken out if nothing shares the block, else copied. Copies share the periods.
+    /// The entries of its flights: taken out if nothing shares the block, else copied. Copies share
+    /// the periods.
     pub(crate) fn into_entries(self) -> Result<Vec<FlightPeriods>, Memory>
         ensures { IfOk result (λ entries. entries.items ≡ self) }
     {

@@ -51,7 +51,7 @@ fn set_times(legs: &mut [PlacedLeg], line: &LegLine)
     }
 }
 
-// Gives the lines' times in turn.
+// Gives the legs the times of all lines, one line after another.
 fn set_all_times(legs: &mut [PlacedLeg], lines: &[LegLine])
     ensures { legs.new ≡ with_lines lines.now legs.old }
 {
@@ -64,7 +64,7 @@ fn set_all_times(legs: &mut [PlacedLeg], lines: &[LegLine])
     }
 }
 
-// Whether the line's leg is there.
+// Whether there is a leg that fits the line.
 fn is_there(legs: &[PlacedLeg], line: &LegLine) -> bool
     ensures { result ≡ has_leg legs.now line.now }
 {
@@ -74,7 +74,7 @@ fn is_there(legs: &[PlacedLeg], line: &LegLine) -> bool
     }
 }
 
-// Whether each line's leg is there.
+// Whether each line has a leg that fits it.
 fn have_all(legs: &[PlacedLeg], lines: &[LegLine]) -> bool
     ensures { result ≡ have_legs legs.now lines.now }
 {
@@ -198,7 +198,7 @@ impl<'a> SubMessageChange<'a> {
     ghost use Rattle.ssim_schedule.specs.Effect.{act_or, effect};
     ghost use Rattle.ssim_schedule.specs.declared.finding.Reason.TheVariants.{Station};
 
-    // Why NEW or RPL acts or not, if nothing else hinders it.
+    // Why NEW or RPL acts or not, if there is no other reason against it.
     fn made_reason(&self) -> Reason
         ensures { result ≡ (act_or Station [] self.now.made).1 }
     {

@@ -25,8 +25,8 @@ pub(crate) struct CurrentFlight {
     pub periods: Periods<Itinerary>,
 }
 
-/// The itineraries of the flights that were named. Records come flight by flight, so the flight of the latest ones is held apart, where
-/// it need not be searched for.
+/// The itineraries of the flights that were named. Records come flight by flight, so the flight of
+/// the latest records is stored apart, and need not be searched for.
 #[derive(Drop)]
 pub(crate) struct TableBuilder {
     /// The flight of the latest records, if it is not among the blocks.
@@ -75,7 +75,8 @@ impl TableBuilder {
         self.put_other(flight, period, legs)
     }
 
-    // `put` of a flight that is not the current one. It becomes the current one, unless it was named before.
+    // Does what `put` does for a flight that is not the current one. It becomes the current one,
+    // unless it was named before.
     fn put_other(
         &mut self,
         flight: Flight,
@@ -97,7 +98,8 @@ impl TableBuilder {
         Ok(())
     }
 
-    /// Makes the dates of a flight that have equal itineraries share one copy of them, if it has fewer than `limit` cuts.
+    /// Makes the dates of a flight that have equal itineraries share one copy of them, if it has
+    /// fewer than `limit` cuts.
     pub(crate) fn share_below(&mut self, flight: Flight, limit: usize) -> Result<(), Memory>
         ensures { self.new ≡ self.old }
     {

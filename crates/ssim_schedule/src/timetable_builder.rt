@@ -1,4 +1,5 @@
-//! The timetable of records, built from the last record to the first, so that each tail comes before its leg.
+//! The timetable of records, built from the last record to the first, so that each tail comes
+//! before its leg.
 
 ghost use Rattle.std.specs.Prelude.{◌≡◌, ◌∷◌, ◌++◌, [], List, IfOk, OnOk, Some, filter};
 ghost use Rattle.std.specs.List.{All, flat_map};
@@ -24,25 +25,30 @@ use ssim_records::{LegRecord, Record, SegmentRecord};
 use ssim_values::{Flight, Memory, Period};
 use std::alloc::Global;
 
-// A flight for which fewer itineraries were made is not searched for equal ones: the search would take more time than the memory is
-// worth. The dates of one group of legs share their itinerary anyway, and so do groups in turn with equal legs.
+// A flight for which fewer itineraries were made is not searched for equal ones: the search would
+// take more time than the memory is worth. The dates of one group of legs share their itinerary
+// anyway, and so do groups in turn with equal legs.
 const LEAST: usize = 32;
 
-// A flight with fewer cuts has its itineraries shared each time that the records go on to another flight, if `LEAST` or more were made.
+// A flight with fewer cuts has its itineraries shared each time that the records go on to another
+// flight, if `LEAST` or more were made.
 const FEW: usize = 256;
 
-/// The timetable of some records at the end of a base, and the tails whose leg record is not among them.
+/// The timetable of some records at the end of a base, and the tails whose leg record is not among
+/// them.
 #[derive(Drop)]
 pub(crate) struct TimetableBuilder {
     table: TableBuilder,
-    /// Legs that are not yet in the table. They are put into it together, since each change of an itinerary copies its legs.
+    /// Legs that are not yet in the table. They are put into it together, since each change of an
+    /// itinerary copies its legs.
     group: LegGroup,
     waiting: PendingSegments,
     alloc: Global,
 }
 
 impl Schedule {
-    /// The timetable of a base: on each date of origin, the legs of the leg records whose period holds the date.
+    /// The timetable of a base: on each date of origin, the legs of the leg records whose period
+    /// holds the date.
     pub fn of(base: &Base) -> Result<Schedule, Memory>
         ensures days { IfOk result (λ s. (g : FlightNumber) → IsFlight g → days_in s g ≡ days_of base.now.records g) }
 
@@ -54,8 +60,8 @@ impl Schedule {
         Ok(Schedule { table })
     }
 
-    /// The timetable of these flights of a data set, as in `of`. No other flight flies on any date. It takes less time and memory than the
-    /// whole timetable where the flights are few.
+    /// The timetable of these flights of a data set, as in `of`. No other flight flies on any date.
+    /// It takes less time and memory than the whole timetable if the flights are few.
     pub fn of_flights(data_set: &DataSet, flights: &[Flight]) -> Result<Schedule, Memory>
         ensures { IfOk result (λ s. (g : FlightNumber) → IsFlight g → days_in s g ≡ each_day (itinerary_among flights.now data_set.now g)) }
     {
@@ -66,8 +72,8 @@ impl Schedule {
         Ok(Schedule { table })
     }
 
-    /// The timetable of a data set, and the frame of its export. The records are freed while the timetable is made, so it takes the
-    /// memory of one of the two.
+    /// The timetable of a data set, and the frame of its export. The records are freed while the
+    /// timetable is made, so it takes the memory of one of the two.
     pub fn of_data_set(data_set: DataSet) -> Result<(Schedule, BaseFrame), Memory>
         ensures days { IfOk result (λ made. (g : FlightNumber) → IsFlight g → days_in made.0 g ≡ days_of data_set g) }
         ensures frame { IfOk result (λ made. HasFrame made.1 data_set) }
@@ -122,7 +128,8 @@ fn timetable_of(
     Ok(table)
 }
 
-/// The timetable of records in pieces, each of which is freed as soon as it is put into it. So the two never take the memory of both.
+/// The timetable of records in pieces. Each piece is freed as soon as its records are put into the
+/// timetable, so the two never take the memory of both.
 fn timetable_from(alloc: Global, pieces: Vec<Vec<Record>>) -> Result<FlightBlocks, Memory>
     requires closed { All IsClosed (flat_map (λ piece. piece.items) pieces.items) }
     ensures { IfOk result (λ s. (g : FlightNumber) → IsFlight g → days_in s g ≡ days_of (flat_map (λ piece. piece.items) pieces.items) g) }
@@ -165,7 +172,8 @@ impl TimetableBuilder {
         Ok(())
     }
 
-    /// Adds those records that are of a flight of the set before the others, from the last to the first.
+    /// Adds those records that are of a flight of the set before the others, from the last to the
+    /// first.
     fn put_those_of(&mut self, flights: &FlightSet, records: &[Record]) -> Result<(), Memory>
         requires { All IsClosed records.now }
         ensures { OnOk result ((done : List Record) → IsBuilt self.old done → IsBuilt self.new (filter (is_record_of (is_marked flights.now.marks.items)) records.now ++ done)) }
@@ -181,7 +189,7 @@ impl TimetableBuilder {
         Ok(())
     }
 
-    /// The same of records in pieces, from the last piece to the first.
+    /// Does what `put_those_of` does for records in pieces, from the last piece to the first.
     fn put_pieces_of(&mut self, flights: &FlightSet, pieces: &[Vec<Record>]) -> Result<(), Memory>
         requires { All IsClosed (flat_map (λ piece. piece.items) pieces.now) }
         ensures { OnOk result ((done : List Record) → IsBuilt self.old done → IsBuilt self.new (filter (is_record_of (is_marked flights.now.marks.items)) (flat_map (λ piece. piece.items) pieces.now) ++ done)) }
@@ -228,7 +236,8 @@ impl TimetableBuilder {
         self.group.add(leg, tails)
     }
 
-    /// Has a group that a leg with this flight, period and leg sequence can join: puts the group into the table if it is another one.
+    /// Makes the group one that a leg with this flight, period and leg sequence can join: another
+    /// group is first put into the table.
     fn open_group(&mut self, flight: Flight, period: Period, sequence: u8) -> Result<(), Memory>
         ensures { OnOk result (OpensGroup self.old self.new (record { flight = flight; period = period }) sequence) }
     {
@@ -253,8 +262,9 @@ impl TimetableBuilder {
         self.leave(heading.flight, next)
     }
 
-    /// If the next flight is another one, shares the itineraries of this flight unless very few were made, or it has many cuts. Files go
-    /// from flight to flight, so a flight is mostly shared once, and one that comes many times costs only its cuts each time.
+    /// If the next flight is another one, shares the itineraries of this flight unless very few
+    /// were made, or it has many cuts. Files go from flight to flight, so a flight is mostly shared
+    /// once, and one that comes many times costs only its cuts each time.
     fn leave(&mut self, flight: Flight, next: Option<Flight>) -> Result<(), Memory>
         ensures table { self.new.table ≡ self.old.table }
         ensures group { self.new.group ≡ self.old.group }

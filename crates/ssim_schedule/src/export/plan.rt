@@ -43,7 +43,8 @@ impl FlightPieces {
     }
 }
 
-/// The flights of all blocks with their pieces. The periods of each flight are freed as soon as it is divided.
+/// The flights of all blocks with their pieces. The periods of each flight are freed as soon as it
+/// is divided.
 pub(crate) fn divide(alloc: Global, blocks: Vec<SharedTable>) -> Result<Vec<FlightPieces>, Memory>
     ensures plan { IfOk result (λ plan. plan.items ≡ plan_of (joined blocks.items)) }
     ensures flights { OnOk result (All (λ f. IsFlight f.flight) (joined blocks.items)) }
@@ -70,7 +71,8 @@ fn divide_block(plan: &mut Vec<FlightPieces>, entries: Vec<FlightPeriods>) -> Re
     Ok(())
 }
 
-/// Refuses the first flight that has more than 99 pieces, or that makes the number of records more than 999,999.
+/// Refuses the first flight that has more than 99 pieces, or that makes the number of records more
+/// than 999,999.
 pub(crate) fn measure(plan: &[FlightPieces]) -> Result<(), ExportFault>
     ensures ok { OnOk result (plan_refusal 2 plan.now ≡ None) }
     ensures err { IfErr result (λ fault. IsRefusedAs (plan_refusal 2 plan.now) fault) }
@@ -88,7 +90,8 @@ pub(crate) fn measure(plan: &[FlightPieces]) -> Result<(), ExportFault>
     Ok(())
 }
 
-// The number of records after these pieces, given the number before them. `None` if no trailer could follow.
+// The number of records after these pieces, given the number before them. `None` if no trailer
+// could follow.
 fn count_pieces(before: u32, pieces: &[(Period, Itinerary)]) -> Option<u32>
     requires { before < 999999 }
     ensures some { IfSome result (λ count. (count ≡ before + pieces_count pieces.now) × (count < 999999)) }

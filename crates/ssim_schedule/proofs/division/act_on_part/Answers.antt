@@ -1,4 +1,4 @@
--- The effect is one on all days, so that of the first day.
+-- The effect is the same on all days, so it is the effect on the first day.
 use Rattle.std.proofs.Common.{◌∙◌}
 use Rattle.ssim_schedule.proofs.Acts.{counts_made, days_made}
 use Rattle.ssim_base.proofs.Results.{if_ok, on_ok}

@@ -1,4 +1,4 @@
--- The schedule has the days of the base, and the frame is that of the base.
+-- The schedule has the days of the base, and the frame is the base's.
 use Rattle.std.proofs.Common.{◌≡◌, Result, Ok, Err, IfErr, ap, subst}
 use Rattle.std.specs.Prelude.{ℕ, List}
 use Rattle.ssim_base.specs.Export.{ExportRefusal, chapter7, export_bytes, result_map}

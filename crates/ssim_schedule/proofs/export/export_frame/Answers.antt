@@ -1,4 +1,4 @@
--- The plan is that of the schedule's flights, so its export is the export.
+-- The plan is the plan of the schedule's flights, so its export is the export.
 use Rattle.std.proofs.Common.{◌≡◌, List, None, Err, rules, sym, ap, subst, ◌∙◌, arith}
 use Rattle.std.specs.List.{All}
 use Rattle.ssim_values.specs.Flight.{IsFlight}

@@ -1,4 +1,4 @@
--- A leg of the group is put, behind the others that stand before it.
+-- A leg of the group is put after the other legs that come before it.
 use Rattle.std.proofs.Common.{◌≡◌, ℕ, ◌+◌, ◌-◌, [], ◌∷◌, ◌++◌, take, drop, append_assoc, sym, ap, subst, ◌∙◌, arith}
 use Rattle.std.proofs.lemmas.List.{drop-drop, drop_more, length-drop, take_rest}
 use Rattle.ssim_schedule.specs.InsertedLegs.{IsOrdered, legs_before, placed_each}

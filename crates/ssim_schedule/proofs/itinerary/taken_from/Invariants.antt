@@ -1,4 +1,5 @@
--- The legs that were taken, and those that are left the other way round, are all of them; and there is room for those that are left.
+-- The legs that were taken, and those that are left the other way round, are all of them; and there
+-- is room for those that are left.
 use Rattle.std.proofs.Common.{◌≡◌, ◌≤◌, ◌+◌, ◌++◌, reverse, length}
 use Rattle.std.specs.Prelude.{vec_capacity}
 use Rattle.ssim_schedule.proofs.itinerary.taken_from.Given as goal

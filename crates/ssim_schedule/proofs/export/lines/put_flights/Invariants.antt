@@ -1,4 +1,5 @@
--- What was put, and the flights that are left, is all of it; and if those that are left are what records may have, all are.
+-- What was put, and the flights that are left, is all of it; and if those that are left are what
+-- records may have, all are.
 use Rattle.std.proofs.Common.{◌≡◌, ◌≤◌, ◌+◌, ◌++◌, length}
 use Rattle.std.specs.List.{All}
 use Rattle.std.specs.Vec.Iter.{into_iter_items, into_iter_len}

@@ -1,4 +1,5 @@
--- What was put, and the legs that are left, is all of it; and what was put is what records may have.
+-- What was put, and the legs that are left, is all of it; and what was put is what records may
+-- have.
 use Rattle.std.proofs.Common.{◌≡◌, ◌+◌, ◌++◌, drop, take}
 use Rattle.std.specs.List.{flat_map, All}
 use Rattle.ssim_base.specs.Export.{leg_records}

@@ -1,4 +1,5 @@
--- The plan and the flights that are left are all of the plan; and if those that are left exist, all do.
+-- The plan and the flights that are left are all of the plan; and if those that are left exist, all
+-- do.
 use Rattle.std.proofs.Common.{◌≡◌, ◌++◌, length}
 use Rattle.std.specs.List.{All}
 use Rattle.std.specs.Vec.Iter.{into_iter_items, into_iter_len}

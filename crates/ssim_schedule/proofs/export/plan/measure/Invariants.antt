@@ -1,4 +1,4 @@
--- The first refusal is that of the flights that are left.
+-- The first refusal is the first refusal of the flights that are left.
 use Rattle.std.proofs.Common.{◌≡◌, ◌<◌, drop}
 use Rattle.ssim_schedule.specs.Plan.{plan_refusal}
 use Rattle.ssim_schedule.proofs.export.plan.measure.Given as goal

@@ -1,4 +1,5 @@
--- An entry that is changed keeps its flight, and so the order; what its flight has alone is changed.
+-- An entry that is changed keeps its flight, and so the order; what its flight has alone is
+-- changed.
 use Rattle.std.proofs.Common.{◌≡◌, ◌/◌, nat_eq, if◌then◌else◌, sym, ap, subst, ◌∙◌, get_or, set}
 use Rattle.std.proofs.lemmas.List.{get_or_default}
 use Rattle.ssim_periods.specs.Calendar.{holds}

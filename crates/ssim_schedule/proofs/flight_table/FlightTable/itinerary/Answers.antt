@@ -1,4 +1,4 @@
--- The itinerary is that of the flight's entry on the day.
+-- The itinerary is the one in the flight's entry on the day.
 use Rattle.std.proofs.Common.{◌≡◌, [], sym, ap, subst, ◌∙◌, get_or, slice_index_or}
 use Rattle.std.proofs.lemmas.List.{get_or_default}
 use Rattle.ssim_periods.specs.Days.{Seen, each_day}

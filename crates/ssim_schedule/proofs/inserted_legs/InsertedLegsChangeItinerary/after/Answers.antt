@@ -1,4 +1,4 @@
--- Where no legs are, the group stands by itself.
+-- If there are no legs, the group is unchanged.
 use Rattle.std.proofs.Common.{◌≡◌, true, nat_eq, [], ◌∷◌, length, refl, sym, ap, ◌∙◌, arith}
 use Rattle.std.proofs.lemmas.Bool.Decides.{nat_tests}
 use Rattle.ssim_schedule.specs.InsertedLegs.{placed_each}

@@ -1,4 +1,4 @@
--- A copy has the same itineraries, and the frame is that of the base.
+-- A copy has the same itineraries, and the frame is the base's.
 use Rattle.std.proofs.Common.{Result, Ok, Err, IfErr, OnOk, subst}
 use Rattle.ssim_schedule.specs.Plan.{ReadsBackBase, RefusesBase, WritesBase}
 use Rattle.ssim_schedule.specs.Schedule.{Table, days_in}

@@ -1,4 +1,4 @@
--- The export stands in the frame, and reads back if it was written.
+-- The export is written in the frame, and reads back if it was written.
 use Rattle.std.proofs.Common.{ℕ, List, OnOk, IfErr, subst}
 use Rattle.std.specs.Io.KnownBytes.{Appends}
 use Rattle.ssim_base.specs.Export.{Frame, chapter7}

@@ -1,4 +1,4 @@
--- From the last record to the first: what stands behind a place is built.
+-- From the last record to the first: the records after an index are in the timetable.
 use Rattle.std.proofs.Common.{◌≡◌, ◌<◌, ◌-◌, ℕ, List, ◌∷◌, ◌++◌, suc, drop, length, sym, ap, subst, ◌∙◌, arith, drop-cons}
 use Rattle.std.proofs.lemmas.List.{drop_all}
 use Rattle.ssim_records.specs.declared.record.Record.{Record}

@@ -11,13 +11,13 @@ use Rattle.ssim_schedule.proofs.TimetableBuilderLemmas.{closed_between, kept_ste
 use Rattle.ssim_schedule.proofs.timetable_builder.TimetableBuilder.put_pieces_of.Goals as goal
 
 module _ {X : Type 0} (f : X → List Record) (p : Record → Bool) (pieces : List X) where
-  -- the records of a piece, and those behind it
+  -- the records of a piece, and those after it
   step : (place : ℕ) (x : X) → 0 < place → place - 1 < length pieces → x ≡ get_or pieces (place - 1) x → flat_map f (drop (place - 1) pieces) ≡ f x ++ flat_map f (drop place pieces)
   step place x some within is =
       let back : suc (place - 1) ≡ place = omega arith in
       ap (flat_map f) (drop-cons pieces (place - 1) x within ∙ ap (λ (y : X). y ∷ drop (suc (place - 1)) pieces) (sym is) ∙ ap (λ (k : ℕ). x ∷ drop k pieces) back)
 
-  -- the records of a piece are between those before it and those behind it
+  -- the records of a piece are between those before it and those after it
   between : (place : ℕ) (x : X) → 0 < place → place - 1 < length pieces → x ≡ get_or pieces (place - 1) x
       → flat_map f (take (place - 1) pieces) ++ (f x ++ flat_map f (drop place pieces)) ≡ flat_map f pieces
   between place x some within is =

@@ -1,4 +1,4 @@
--- What stands from a piece on is built.
+-- The records from a piece on are in the timetable.
 use Rattle.std.proofs.Common.{◌≤◌, ◌++◌, List, drop, length}
 use Rattle.std.specs.List.{filter, flat_map}
 use Rattle.ssim_records.specs.declared.record.Record.{Record}
