@@ -1,4 +1,5 @@
--- A line of a word and a number: its number is read as it is written, and the line ends at the first LF.
+-- A line of a word and a number: its number is read as it is written, and the line ends at the
+-- first LF.
 use Rattle.std.proofs.Common.{rules, ◌≡◌, ℕ, zero, suc, ◌<◌, ◌^◌, Bool, true, false, ◌&&◌, List, [], ◌∷◌, ◌++◌, length, take, drop, get_or, Some, None, Ok, Err, IfSome, refl, sym, ap, subst, ◌∙◌, arith, append_assoc}
 use Rattle.std.specs.Prelude.{Option, Result, ◌==◌, if◌then◌else◌}
 use Rattle.std.specs.Fmt.{decimal}

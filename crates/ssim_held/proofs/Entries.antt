@@ -1,4 +1,5 @@
--- What a list of messages in order of reference is as a map, and what one more message at its place makes of it.
+-- What a list of messages in order of reference is as a map, and what one more message at its place
+-- makes of it.
 use Rattle.std.proofs.Common.{◌≡◌, ℕ, zero, suc, ◌<◌, ◌≤◌, Bool, true, false, cond, ◌&&◌, List, [], ◌∷◌, length, Some, None, IfSome, slice_get, refl, sym, ap, subst, ◌∙◌, arith}
 use Rattle.std.specs.Prelude.{T}
 use Rattle.std.specs.declared.cmp.Ordering.{Ordering}

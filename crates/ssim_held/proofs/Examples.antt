@@ -72,7 +72,8 @@ signed = refl
 no_digits : is_number [] ≡ false
 no_digits = refl
 
--- a desk is not opened for the fault of a text; a reader that failed is counted, and the count of 2^64 - 1 failures becomes 0
+-- a desk is not opened for the fault of a text; a reader that failed is counted, and the count of
+-- 2^64 - 1 failures becomes 0
 no_text_fault : (fault : TextFault) → FailsAs 0 0 (Text fault) → ⊥
 no_text_fault fault fails = fails
 

@@ -1,4 +1,5 @@
--- A desk file is put part by part: what the sink has taken, what the block holds and the parts that are left are the whole file.
+-- A desk file is put part by part: what the sink has taken, what the block holds and the parts that
+-- are left are the whole file.
 use Rattle.std.proofs.Common.{◌≡◌, ◌<◌, ℕ, ◌+◌, List, ◌++◌, [], length, drop, get_or, Option, refl, sym, ap, subst, ◌∙◌}
 use Rattle.std.specs.Io.KnownBytes.{Appends}
 use Rattle.std.specs.List.{flat_map}

@@ -1,5 +1,5 @@
--- One byte list is the file of one desk. Each line says how many elements follow, and each element says its own length, so each part
--- of one file begins where the same part of the other does.
+-- One byte list is the file of one desk. Each line says how many elements follow, and each element
+-- says its own length, so each part of one file begins where the same part of the other does.
 use Rattle.std.proofs.Common.{◌≡◌, inl, inr, ℕ, ◌<◌, ◌≤◌, ◌^◌, true, not, List, [], ◌∷◌, ◌++◌, length, take, drop, Some, unwrap_or, codes, decimal, length-append, append_assoc, refl, sym, ap, subst, ◌∙◌, arith}
 use Rattle.std.specs.Fmt.{digits}
 use Rattle.std.specs.Prelude.{◌==◌, slice_index_or}

@@ -1,4 +1,5 @@
--- A line that is read byte by byte: what was read, and what is left, have the bytes in their order, and no LF was read.
+-- A line that is read byte by byte: what was read, and what is left, have the bytes in their order,
+-- and no LF was read.
 use Rattle.std.proofs.Common.{◌≡◌, ℕ, ◌<◌, ◌^◌, Bool, false, List, [], ◌∷◌, ◌++◌, codes, refl, sym, ap, ◌∙◌, arith, append_assoc}
 use Rattle.std.specs.Prelude.{◌==◌, if◌then◌else◌}
 use Rattle.std.specs.Fmt.{decimal}

@@ -1,4 +1,5 @@
--- A desk file is read part by part: each part of a file is read as that of its desk, and a part that is not read is of no desk.
+-- A desk file is read part by part: each part of a file is read as the same part of its desk, and a
+-- part that is not read is no desk's part.
 use Rattle.std.proofs.Common.{◌≡◌, inl, inr, ℕ, ◌<◌, ◌^◌, List, [], ◌∷◌, ◌++◌, length, codes, length-append, refl, sym, ap, subst, ◌∙◌, arith}
 use Rattle.std.specs.List.{All, AllByRecursion as Each, flat_map}
 use Rattle.std.proofs.lemmas.List.Elements.{All-from_recursion, recursion_from_All}

@@ -1,4 +1,5 @@
--- The parts of a desk file, one after another: what was read of a part is the part, and no other base and messages have it.
+-- The parts of a desk file, one after another: what was read of a part is the part, and no other
+-- base and messages have it.
 use Rattle.std.proofs.Common.{◌≡◌, ℕ, zero, suc, ◌*◌, ◌<◌, ◌≤◌, Bool, true, false, not, nat_eq, List, [], ◌∷◌, ◌++◌, length, take, drop, codes, Option, Some, None, IfSome, refl, sym, ap, subst, ◌∙◌, arith, append_assoc, length-append}
 use Rattle.std.specs.Prelude.{IsSomeAnd}
 use Rattle.std.specs.Option.{option_eq}

@@ -1,4 +1,5 @@
--- The lines of rows are a station table of these rows: each line is cut at its blanks into the parts that were written.
+-- The lines of rows are a station table of these rows: each line is cut at its blanks into the
+-- parts that were written.
 use Rattle.std.proofs.Common.{◌≡◌, ℕ, ◌+◌, ◌-◌, ◌/◌, ◌%◌, ◌<◌, ◌≤◌, Bool, true, false, not, ◌&&◌, IsTrue, List, [], ◌∷◌, ◌++◌, length, Some, None, refl, sym, ap, subst, ◌∙◌, arith, rules, append_assoc, length-append}
 use Rattle.std.specs.Prelude.{◌==◌, if◌then◌else◌}
 use Rattle.std.specs.List.{All, AllByRecursion as Each, flat_map, list_all, onto_first}

@@ -1,4 +1,5 @@
--- The texts of a desk file: the order of their references, and what a text and its length say of a message.
+-- The texts of a desk file: the order of their references, and what a text and its length say of a
+-- message.
 use Rattle.std.proofs.Common.{◌≡◌, ℕ, zero, suc, ◌+◌, ◌*◌, ◌<◌, ◌^◌, List, [], ◌∷◌, ◌++◌, length, codes, Option, Some, None, IfSome, Ok, Err, slice_get, refl, sym, ap, subst, ◌∙◌, arith, append_assoc}
 use Rattle.std.specs.Prelude.{T, IsSomeAnd}
 use Rattle.std.specs.FinMap.{is_sorted}
@@ -110,6 +111,6 @@ element_parts bytes later e h = h ∙ append_assoc (counted (codes "TEXT") (leng
 pub short_text : (e : Entry) → IsSpelled e → length (canonical e.message) < 2 ^ 64
 short_text e h = omega (arith, h.short)
 
--- a text is that of one entry
+-- a text is the text of one entry
 pub same_text : EqualWhereWrittenEqual → (records : List Record) (text : List ℕ) (a b : Entry) → IsTextOf records text a → IsTextOf records text b → a ≡ b
 same_text equal records text a b x y = one_entry records a b x.entry y.entry ((equal a.message b.message (canonical a.message) (canonical b.message) x.spelled y.spelled).1 (sym x.text_is ∙ y.text_is))

@@ -26,7 +26,7 @@ all_came bytes None l1 a end = tt
 all_came bytes (Some x) None a end = absurd a
 all_came bytes (Some x) (Some y) a end = sym (append-nil bytes) ∙ ap (λ ys. bytes ++ ys) (sym end) ∙ a
 
--- so many bytes came
+-- n bytes came
 pub count_came : (bytes : List ℕ) (l0 l1 : Option (List ℕ)) (r0 r1 n : ℕ) → length bytes ≡ n → SameAhead [] l0 bytes l1 → CountsOn l0 l1 r0 r1 0 n → Came l0 l1 r0 r1 n
 count_came bytes (Some x) (Some y) r0 r1 n is a k = omega (arith, is, ap length a, length-append bytes y)
 count_came bytes (Some x) None r0 r1 n is a k = a

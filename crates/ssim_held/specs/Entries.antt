@@ -12,7 +12,8 @@ pub record Entry : Type 0 where
   pub message : MessageValue
   pub dates : List ResolvedSub
 
--- what contracts see of a desk: its base, what it holds, and how many messages its latest change applied to a schedule
+-- what contracts see of a desk: its base, what it holds, and how many messages its latest change
+-- applied to a schedule
 pub record DeskSeen : Type 0 where
   pub base : BaseSeen
   pub held : List Entry

@@ -1,4 +1,5 @@
--- The numbers and names of the faults of a desk, what they name, and which of them another fault becomes.
+-- The numbers and names of the faults of a desk, what they name, and which of them another fault
+-- becomes.
 use Rattle.std.specs.Prelude.{ℕ, List, codes}
 use Rattle.ssim_records.specs.Record.{fault_name, fault_number}
 use Rattle.ssim_base.specs.Fault.{record_fault_place, resolve_fault_name, resolve_fault_place, text_fault_place}

@@ -1,5 +1,6 @@
--- The desk file: the bytes as which a desk is saved. Its elements are lines, records and texts, one after another; each line and each
--- record ends with LF, and a text with the LF of its own last line. Numbers are decimal without leading zeros.
+-- The desk file: the bytes as which a desk is saved. Its elements are lines, records and texts, one
+-- after another; each line and each record ends with LF, and a text with the LF of its own last
+-- line. Numbers are decimal without leading zeros.
 use Rattle.std.specs.{Prelude.{◌≡◌, ◌⊎◌, ℕ, ◌≤◌, ◌<◌, ◌^◌, List, [], ◌∷◌, ◌++◌, length, take, drop, codes, All, IsTrue}, Fmt.decimal, List.flat_map}
 use Rattle.ssim_records.specs.{Record.written, declared.record.Record.Record}
 use Rattle.ssim_base.specs.{BaseSeen.BaseSeen, SavedBase.{IsBaseRecords, saved}, Stations.Row}
@@ -13,7 +14,8 @@ use Rattle.ssim_held.specs.Entries.{AreEntries, Entry}
 abbrev pub counted : List ℕ → ℕ → List ℕ
 counted word n = word ++ 32 ∷ (decimal n ++ 10 ∷ [])
 
--- a record as it is written, 201 bytes. The records of a base have serial and check reference 0, and blank rates and overflows.
+-- a record as it is written, 201 bytes. The records of a base have serial and check reference 0,
+-- and blank rates and overflows.
 abbrev pub record_line : Record → List ℕ
 record_line r = written r ++ 10 ∷ []
 
@@ -79,7 +81,8 @@ pub record CanBeSaved (base : BaseSeen) (entries : List Entry) : Type 0 where
   pub entries_are : AreEntries base.records entries
   pub spelled : All IsSpelled entries
 
--- the bytes are the file of them: of version 2, or of version 1, which had no originators
+-- the bytes are a file of the base and the messages: of version 2, or of version 1, which had no
+-- originators
 abbrev pub IsFileOf : List ℕ → BaseSeen → List Entry → Type 0
 IsFileOf bytes base entries =
     (bytes ≡ desk_file base entries) ⊎ ((bytes ≡ counted (codes "SSIMDESK") 1 ++ after_first_line base entries) × All HasNoOriginator entries)
@@ -89,17 +92,17 @@ pub record IsDeskFile (bytes : List ℕ) (base : BaseSeen) (entries : List Entry
   pub saved : CanBeSaved base entries
   pub is_file : IsFileOf bytes base entries
 
--- no two desks have one file; no device holds 2^64 bytes
+-- No two desks have the same file, if it has fewer than 2^64 bytes.
 abbrev pub NoTwoDesks : Type 0
 NoTwoDesks = (bytes : List ℕ) (base other : BaseSeen) (entries others : List Entry) → length bytes < 2 ^ 64
     → IsDeskFile bytes base entries → IsDeskFile bytes other others → (base ≡ other) × (entries ≡ others)
 
--- what is opened from the file that was saved is what was saved
+-- A desk opened from a saved file is the desk that was saved.
 abbrev pub OpensAsSaved : Type 0
 OpensAsSaved = (bytes : List ℕ) (base other : BaseSeen) (entries others : List Entry) → length bytes < 2 ^ 64
     → CanBeSaved base entries → bytes ≡ desk_file base entries → IsDeskFile bytes other others → (other ≡ base) × (others ≡ entries)
 
--- the file that was opened is saved as the same bytes, but for the first line of version 1
+-- the file that was opened is saved as the same bytes, except for a first line of version 1
 pub record IsSavedAgain (bytes : List ℕ) (base : BaseSeen) (entries : List Entry) : Type 0 where
   pub version_2 : take 11 bytes ≡ counted (codes "SSIMDESK") 2 → desk_file base entries ≡ bytes
   pub version_1 : desk_file base entries ≡ counted (codes "SSIMDESK") 2 ++ drop 11 bytes

@@ -1,4 +1,5 @@
--- What a desk is: a base, and messages by reference; the union of two maps, and where they differ.
+-- What a desk is: a base, and messages by reference. The union of two maps of messages, and the
+-- keys under which they differ.
 use Rattle.std.specs.{Prelude.{◌≡◌, ◌≢◌, ◌++◌, ℕ, List, [], Some}, Cmp.Lexicographic.slice_cmp, FinMap.{FinMap, empty, entries, from_entries, get}}
 use Rattle.std.specs.{Ordering.nat_cmp, declared.cmp.Ordering.Ordering}
 use Rattle.std.specs.declared.cmp.Ordering.TheVariants.{Less}
@@ -35,7 +36,8 @@ pub record HasReference (base : BaseSeen) (reference : Reference) (message : Mes
   pub resolves : ResolvesIn base.records message resolved
   pub referred : resolved.reference ≡ reference
 
--- a desk: its base was read, and the base gives each message that it holds the reference under which it is held
+-- a desk: its base was read, and the base gives each message that it holds the reference under
+-- which it is held
 pub record IsDesk (desk : DeskState) : Type 0 where
   pub base : WasRead desk.base.records
   pub each : (reference : Reference) (message : MessageValue) → Holds desk reference message → HasReference desk.base reference message
@@ -45,15 +47,15 @@ abbrev pub no_desk : DeskState
 no_desk = record { base = record { records = []; rows = [] }; held = empty }
 
 module _ {K X : Type 0} {R : K → K → Ordering} where
-  -- what either map has, and under a key of both what the first has
+  -- the union of two maps: under a key of both maps it has the first map's value
   unfoldable pub union : FinMap R X → FinMap R X → FinMap R X
   union m n = from_entries (entries m ++ entries n)
 
-  -- under no key have they two different values
+  -- the two maps have different values under no key
   abbrev pub Agree : FinMap R X → FinMap R X → Type 0
   Agree m n = (q : K) (a b : X) → get m q ≡ Some a → get n q ≡ Some b → a ≡ b
 
-  -- they have two different values under the key
+  -- the two maps have different values under the key
   pub record DifferAt (m n : FinMap R X) (q : K) : Type 0 where
     pub one : X
     pub other : X

@@ -23,12 +23,12 @@ abbrev pub is_number : List ℕ → Bool
 is_number [] = false
 is_number (b ∷ rest) = if b == 48 then is_empty rest else list_all is_digit (b ∷ rest)
 
--- the number of a version
+-- the number of a file's version
 abbrev pub version_number : FileVersion → ℕ
 version_number One = 1
 version_number Two = 2
 
--- the first line of a version
+-- the first line of a file of this version
 abbrev pub first_line : FileVersion → List ℕ
 first_line version = counted (codes "SSIMDESK") (version_number version)
 
@@ -51,7 +51,7 @@ pub record AreHeld (version : FileVersion) (records : List Record) (entries : Li
   pub spelled : All IsSpelled entries
   pub of_version : All (IsOf version) entries
 
--- a message that such a file may hold after others
+-- a message that a file of the version may hold after the earlier messages
 pub record IsNextText (version : FileVersion) (records : List Record) (held : List Entry) (e : Entry) : Type 0 where
   pub entry : IsEntry records e
   pub spelled : IsSpelled e
@@ -60,7 +60,8 @@ pub record IsNextText (version : FileVersion) (records : List Record) (held : Li
 
 -- ---- opening
 
--- a failure of the reader is counted if the fault is 13, and the count wraps; the only other faults are 14, 62 and out of memory
+-- a failure of the reader is counted if the fault is 13, and the count wraps; the only other faults
+-- are 14, 62 and out of memory
 abbrev pub FailsAs : ℕ → ℕ → DeskFault → Type 0
 FailsAs old new (desk_fault.Read (ReadFault n)) = (n ≡ 0) × (new ≡ (old + 1) % 2 ^ 64)
 FailsAs old new (desk_fault.Read (ReaderNeverEnds n)) = (n ≡ 0) × (new ≡ old)
@@ -73,7 +74,8 @@ abbrev pub NeverEnds : ℕ → (ℕ → Type 0) → DeskFault → Type 0
 NeverEnds limit CameFrom (desk_fault.Read (ReaderNeverEnds n)) = (count : ℕ) × (limit < count) × CameFrom count
 NeverEnds _ _ _ = Unit {0}
 
--- the bytes that a reader has left, no more than the limit, are the file of the base and the messages
+-- the bytes that a reader has left, no more than the limit, are the file of the base and the
+-- messages
 abbrev pub Opens : ℕ → Option (List ℕ) → BaseSeen → List Entry → Type 0
 Opens limit None base entries = (bytes : List ℕ) × (length bytes ≤ limit) × IsDeskFile bytes base entries
 Opens limit (Some bytes) base entries = (length bytes ≤ limit) × IsDeskFile bytes base entries

@@ -30,7 +30,8 @@ use std::alloc::Global;
 use version::take_version;
 use whole_input::read_whole;
 
-/// What a desk file has: a base, which is a data set with a station table, and messages in order of reference.
+/// What a desk file has: a base, which is a data set with a station table, and messages in order of
+/// reference.
 #[derive(Drop)]
 pub struct Opened {
     pub data_set: DataSet,
@@ -86,8 +87,8 @@ fn read_file(alloc: Global, mut parts: Parts) -> Result<Opened, PartFault>
     })
 }
 
-/// The base and the messages whose desk file the bytes are, which are freed as they are read. The errors are 90, and 62 with the
-/// number of the bytes before the first element that is invalid.
+/// The base and the messages whose desk file the bytes are, which are freed as they are read. The
+/// errors are 90, and 62 with the number of the bytes before the first element that is invalid.
 pub fn read_parts(alloc: Global, parts: Parts) -> Result<Opened, DeskFault>
     ensures ok { IfOk result (λ desk. IsDeskFile parts (base_with desk.data_set desk.stations) desk.held.items) }
     ensures err { IfErr result (RefusesBytes parts) }
@@ -100,7 +101,7 @@ pub fn read_parts(alloc: Global, parts: Parts) -> Result<Opened, DeskFault>
     }
 }
 
-/// The same of bytes in one list.
+/// Does what `read_parts` does for bytes in one list.
 fn read_one(alloc: Global, bytes: Vec<u8>) -> Result<Opened, DeskFault>
     ensures ok { IfOk result (λ desk. IsDeskFile bytes.items (base_with desk.data_set desk.stations) desk.held.items) }
     ensures err { IfErr result (RefusesBytes bytes.items) }

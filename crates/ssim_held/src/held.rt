@@ -10,7 +10,8 @@ use std::alloc::Global;
 use std::marker::Model;
 use std::rc::Rc;
 
-/// A message that a desk holds: its reference with its year, and its canonical text. Desks that hold the same message may share it.
+/// A message that a desk holds: its reference with its year, and its canonical text. Desks that
+/// hold the same message may share it.
 #[derive(Drop)]
 pub struct Held {
     contents: Rc<Contents>,

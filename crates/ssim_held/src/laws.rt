@@ -5,7 +5,8 @@ ghost use Rattle.ssim_held.specs.File.{NoTwoDesks, OpensAsSaved, SavesAsOpened};
 use ssim_base::laws::saved_records_are_read;
 use ssim_text::laws::equal_where_written_equal;
 
-/// Bytes are the desk file of at most one base with at most one list of held messages, whatever the version.
+/// Bytes are the desk file of at most one base with at most one list of held messages, whatever the
+/// version.
 pub fn no_two_desks_have_one_file()
     ensures { NoTwoDesks }
 {

@@ -1,18 +1,23 @@
 //! Messages held over a base, in order of reference, and the desk file that keeps them.
 //!
-//! - [`Held`]: a message that is held, with its reference, its canonical text and the full dates of its sub-messages.
-//! - [`look`]: looks a message up in a list in order of reference; [`LookUp`]: what is held under its reference.
+//! - [`Held`]: a message that is held, with its reference, its canonical text and the full dates of
+//!   its sub-messages.
+//! - [`look`]: looks a message up in a list in order of reference; [`LookUp`]: what is held under
+//!   its reference.
 //! - [`first_conflict`], [`first_new`], [`merged`]: two such lists, compared and put together.
-//! - [`put_desk`]: writes the desk file of a base and the messages that are held over it; or [`WriteFault`], 52.
-//! - [`read_parts`], [`read_desk`]: what the desk file has whose bytes come in parts or from a reader ([`Opened`]); or [`DeskFault`].
+//! - [`put_desk`]: writes the desk file of a base and the messages that are held over it; or
+//!   [`WriteFault`], 52.
+//! - [`read_parts`], [`read_desk`]: read a desk file from bytes in parts or from a reader, and
+//!   return its base and messages ([`Opened`]) or a [`DeskFault`].
 //! - [`laws`]: no two desks have one file, and what was opened is saved as it was.
 //!
-//! The definitions that the contracts cite are in `specs/`: `Held` (messages by reference, and what a desk is), `Kept` (the entries of a
-//! list), `Ordered` (where a message is in a list, and two lists put together), `File` and `Opening` (the bytes of a desk file, and what
-//! reading them returns), and `Fault`. Computed examples are in `proofs/Examples`.
+//! The definitions that the contracts cite are in `specs/`: `Held` (messages by reference, and what
+//! a desk is), `Entries` (the entries of a list), `Ordered` (the position of a message in a list,
+//! and two lists merged), `File` and `Opening` (the bytes of a desk file, and what reading them
+//! returns), and `Fault`. Computed examples are in `proofs/Examples`.
 //!
-//! The promise: the list says exactly which message is held under which reference; and bytes are the file of one base and one list at
-//! most, which are read from them, and written as them again.
+//! The promise: the list says exactly which message is held under which reference; and bytes are
+//! the file of at most one base and one list, which are read from them, and written as them again.
 #![tactic(auto)]
 
 mod desk_file_reader;

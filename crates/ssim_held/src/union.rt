@@ -28,7 +28,8 @@ pub fn first_conflict(mine: &[Held], theirs: &[Held]) -> Option<Reference>
     None
 }
 
-/// The first of their messages whose reference is not held: its position among them, and the position where it belongs.
+/// The first of their messages whose reference is not held: its position among them, and the
+/// position where it belongs.
 pub fn first_new(mine: &[Held], theirs: &[Held]) -> Option<(usize, usize)>
     requires { AreRising mine.now }
     ensures some { IfSome result (λ new. IsFirstNew mine.now theirs.now new.0 new.1) }

@@ -77,7 +77,8 @@ pub(crate) fn count_line<'a>(word: &[u8], bytes: &'a [u8]) -> Option<(Count, &'a
     Some((number(digits)?, rest))
 }
 
-/// The first `count` elements of `size` bytes each, and the bytes after them, if they are all there.
+/// The first `count` elements of `size` bytes each, and the bytes after them, if they are all
+/// there.
 pub(crate) fn elements(count: Count, size: usize, bytes: &[u8]) -> Option<(&[u8], &[u8])>
     requires { 0 < size }
     ensures some { IfSome result (λ parts. (bytes.now ≡ parts.0.now ++ parts.1.now) × IsSomeAnd count (λ n. length parts.0.now ≡ n * size)) }

@@ -75,8 +75,9 @@ fn read_lines(alloc: Global, count: Count, parts: &mut Parts) -> Result<DataSet,
 
 /// The data set whose records come next, with their number before them.
 ///
-/// The error names the line of the number, or the first line that is no record as a base has it, or at which the base is invalid. A
-/// base without header, carrier or trailer is invalid after its lines.
+/// The error names the line of the number, or the first line that is no record as a base has it, or
+/// at which the base is invalid. A base without header, carrier or trailer is invalid after its
+/// lines.
 pub(crate) fn read_records(alloc: Global, parts: &mut Parts) -> Result<DataSet, PartFault>
     ensures ok { IfOk result (λ read. IsBaseRecords read × (parts.old ≡ records_part read ++ parts.new)) }
     ensures err { IfErr result (λ e. e ≢ PartFault.Memory → (records : List Record) (later : List ℕ) → length records < 2 ^ 64 → IsBaseRecords records → parts.old ≡ records_part records ++ later → ⊥) }

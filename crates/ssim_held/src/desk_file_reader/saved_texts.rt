@@ -140,8 +140,8 @@ fn read_text<'a>(
 
 /// The messages with their number before them, and the bytes after them.
 ///
-/// The error names the first line that is invalid, or the first text that is not canonical, does not resolve, has a reference that does
-/// not follow the one before, or an originator in version 1.
+/// The error names the first line that is invalid, or the first text that is not canonical, does
+/// not resolve, has a reference that does not follow the one before, or an originator in version 1.
 pub(crate) fn read_texts<'a>(
     alloc: Global,
     data_set: &DataSet,

@@ -38,8 +38,8 @@ fn fetch_more<R: Source>(reader: &mut R, bytes: &mut Vec<u8>, most: u64) -> Resu
 
 /// All bytes that a reader has left, at most `limit` of them.
 ///
-/// The errors are 90, 13 `ReadFault` if the reader failed, and 14 `ReaderNeverEnds` if more bytes came than the limit, both with record
-/// number 0.
+/// The errors are 90, 13 `ReadFault` if the reader failed, and 14 `ReaderNeverEnds` if more bytes
+/// came than the limit, both with record number 0.
 pub(crate) fn read_whole<R: Source>(
     alloc: Global,
     reader: &mut R,

@@ -1,4 +1,4 @@
--- The text is that of the message, and the message resolves in one way.
+-- The text is the message's text, and the message resolves in one way.
 use Rattle.std.proofs.Common.{◌≡◌, Option, List, ℕ, subst}
 use Rattle.std.specs.Prelude.{IfNone, IfSome}
 use Rattle.ssim_base.specs.Resolve.{ResolvesIn}
@@ -10,7 +10,7 @@ use Rattle.ssim_held.proofs.SavedTexts.{not_resolved, text_of}
 use Rattle.ssim_held.proofs.desk_file_reader.saved_texts.read_message.Goals as goal
 use Rattle.ssim_held.proofs.Resolving.{each_dated}
 
--- the text is that of the message
+-- the text is the message's canonical text
 abbrev IsOfText : List ℕ → MessageValue → Type 0
 IsOfText text m = SpellsMessage m (canonical m) × (text ≡ canonical m)
 

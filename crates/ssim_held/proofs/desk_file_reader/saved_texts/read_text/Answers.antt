@@ -1,4 +1,4 @@
--- The line says how long the text is, and the text is that of the message.
+-- The line says how long the text is, and the text is the message's text.
 use Rattle.std.proofs.Common.{◌++◌, length, arith, subst}
 use Rattle.std.specs.Prelude.{IfNone, Option}
 use Rattle.ssim_text.specs.Canonical.{canonical}
