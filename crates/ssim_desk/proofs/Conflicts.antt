@@ -1,4 +1,5 @@
--- Where references are kept apart no step is refused as a conflict: all that a desk holds or is offered was held at the start or offered.
+-- Where references are kept apart no step is refused as a conflict: all that a desk holds or is
+-- offered was held at the start or offered.
 use Rattle.std.proofs.Common.{◌≡◌, ◌≢◌, ◌⊎◌, inl, inr, ℕ, ◌<◌, ◌==◌, Bool, true, false, List, length, Some, refl, sym, ap, subst, ◌∙◌}
 use Rattle.std.specs.List.{slice_get}
 use Rattle.std.specs.declared.alloc.Global.{Global}

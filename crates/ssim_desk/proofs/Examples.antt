@@ -121,7 +121,8 @@ holding = record {
   dates = dated ∷ [];
 } ∷ []
 
--- the date, the day after it, and the ends of the station row 30MAR25 25OCT25 are points, and no other day of that time
+-- the date, the day after it, and the ends of the station row 30MAR25 25OCT25 are points, and no
+-- other day of that time
 first_day : is_desk_point over holding lx600 9313 ≡ true
 first_day = refl
 

@@ -1,4 +1,4 @@
--- The export of a schedule is that of the timetable that it has.
+-- The export of a schedule is the export of its timetable.
 use Rattle.std.proofs.Common.{◌≡◌, ℕ, List, Option, Result, ap, subst}
 use Rattle.ssim_records.specs.declared.record.Record.{Record}
 use Rattle.ssim_base.proofs.ReadingBack.{reads_back_as}

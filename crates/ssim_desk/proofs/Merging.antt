@@ -1,4 +1,5 @@
--- Desks that agree merge in any order; and a desk answers a text, or another desk, in one way.
+-- Desks that agree merge in any order; and the result for a text, or for another desk, is
+-- determined.
 use Rattle.std.proofs.Common.{◌≡◌, ◌≢◌, ℕ, List, Option, Some, None, refl, sym, ap, subst, ◌∙◌}
 use Rattle.std.specs.FinMap.{get, insert}
 use Rattle.std.specs.Ordering.{ordering_reverse}

@@ -40,7 +40,8 @@ was_read base is = record {
   read = is.read_again 0 (numbered base) (plain base);
 }
 
--- the message that is found under a reference is that of an entry, which the base gives this reference
+-- the message that is found under a reference is that of an entry, which the base gives this
+-- reference
 referred : (records : List Record) (rows : List Row) (es : List Entry) (r : Reference) (m : MessageValue) → All (IsEntry records) es → find reference_cmp r (keyed es) ≡ Some m → HasReference (record { records = records; rows = rows }) r m
 referred records rows [] r m each is = absurd (let never : None ≡ Some m = is in cc)
 referred records rows (e ∷ es) r m each is = by (reference_cmp r e.reference) refl (referred records rows es r m (All-tail (IsEntry records) e es each)) is

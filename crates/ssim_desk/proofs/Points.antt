@@ -1,4 +1,5 @@
--- Both ends of all periods that count are the points, and strictly rising cuts among them are no more than these.
+-- Both ends of all periods that count are the points, and strictly rising cuts among them are no
+-- more than these.
 use Rattle.std.proofs.Common.{◌≡◌, ◌≤◌, ◌<◌, ◌+◌, ◌*◌, ℕ, suc, Bool, true, false, cond, ◌&&◌, ◌||◌, nat_eq, IsTrue, ◌⊎◌, inl, inr, Contains, List, [], ◌∷◌, ◌++◌, length, get_or, refl, sym, ap, subst, ◌∙◌, arith, length-append}
 use Rattle.std.proofs.lemmas.Bool.Decides.{nat_tests}
 use Rattle.std.proofs.lemmas.List.Folds.{list_any-append, list_any_at}
@@ -247,7 +248,7 @@ row_point action day (row ∷ rows) h = by (row_point action day rows) (either (
     by rest (inl yea) = left_true _ _ (both (is_named action row.station) (is_row_point day row) yea).1
     by rest (inr more) = right_true (is_row_point day row) _ (rest more)
 
--- what a sub-message adds, told of the sub-message as it resolves
+-- what a sub-message adds, stated of the sub-message as it resolves
 pub adds_told : (rows : List Row) (action : Action) (sub : ResolvedSub) (flight : FlightNumber) (period : DayRange) (g : FlightNumber) (old new : List ℕ) → flight ≡ sub.flight → period ≡ sub.period → IsFlight sub.flight → IsFlight g
     → AddsPointsOf flight rows action period g old new → AddsSubPoints rows (sub ∷ []) g old new
 adds_told rows action sub flight period g old new same_flights same_period is is_g adds day has = by (adds day has)

@@ -20,7 +20,7 @@ use Rattle.ssim_desk.proofs.Taking.{merge_holds, take_holds}
 abbrev pub Reaching : Type 1
 Reaching = ℕ → Reference → MessageValue → Type 0
 
--- what a step with this answer adds to what has reached the desks
+-- what a step with this result adds to what has reached the desks
 abbrev pub Adds : List DeskState → Reaching → Step → Answer → Reaching
 Adds start so_far (Take i text) answer d reference message =
     let desk = desk_at start i in

@@ -1,4 +1,5 @@
--- A message that resolves is not refused, and a message is refused in one way: a base and a message have one outcome.
+-- A message that resolves is not refused, and a message is refused in one way: a base and a message
+-- have one outcome.
 use Rattle.std.proofs.Common.{◌≡◌, List, Ok, Err, refl}
 use Rattle.ssim_records.specs.declared.record.Record.{Record}
 use Rattle.ssim_base.specs.Resolve.{HasOneOutcome, IsOutcome, IsRefusedIn, ResolvesIn}

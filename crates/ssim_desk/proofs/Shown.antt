@@ -37,7 +37,8 @@ shows_one rows action sub old new t is_flight days shows g is =
     by true = changed-each_day (holds sub.period) (after_on rows action) (t g)
     by false = refl
 
--- the same of a sub-message that is told in other words
+-- the schedule shows the timetable after a sub-message whose action, flight and period are given as
+-- equal values
 pub shows_told : (rows : List Row) (action told : Action) (sub : ResolvedSub) (flight : FlightNumber) (period : DayRange) (old new : Table) (t : Timetable) → told ≡ action → flight ≡ sub.flight → period ≡ sub.period → IsFlight sub.flight
     → ((g : FlightNumber) → days_in new g ≡ after_sub rows told flight period old g) → Shows old t → Shows new (after_one rows action sub t)
 shows_told rows action told sub flight period old new t same_action same_flight same_period is_flight days shows =

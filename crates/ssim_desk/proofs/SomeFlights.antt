@@ -1,5 +1,5 @@
--- What a message does to a flight, and what it finds, is read from that flight alone. So timetables that agree at flights agree there after
--- the same messages.
+-- What a message does to a flight, and what it finds, is read from that flight alone. So timetables
+-- that agree at flights agree there after the same messages.
 use Rattle.std.proofs.Common.{◌≡◌, ℕ, ◌+◌, ◌<◌, Bool, true, false, ◌&&◌, ◌||◌, if◌then◌else◌, List, [], ◌∷◌, ◌++◌, map, length, take, get_or, refl, sym, ap, subst, ◌∙◌, append_assoc}
 use Rattle.std.proofs.lemmas.List.{take_more}
 use Rattle.std.proofs.lemmas.List.Folds.{list_any-append}

@@ -1,4 +1,5 @@
--- One more message, one more checkpoint after each 32, and the checkpoints before a position with those after it.
+-- One more message, one more checkpoint after each 32, and the checkpoints before a position with
+-- those after it.
 use Rattle.std.proofs.Common.{◌≡◌, ◌≢◌, ◌≤◌, ◌<◌, ◌+◌, ◌-◌, ◌*◌, ◌/◌, ◌%◌, ℕ, zero, suc, List, [], ◌∷◌, ◌++◌, length, take, drop, Some, IfSome, slice_get, refl, sym, ap, subst, ◌∙◌, arith, length-append, append_assoc}
 use Rattle.std.proofs.lemmas.List.{take-append-le, take_all, length-take, append-nil}
 use Rattle.ssim_base.specs.BaseSeen.{BaseSeen}

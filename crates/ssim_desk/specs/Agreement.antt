@@ -1,4 +1,5 @@
--- Desks that the same messages reached are one: the same messages held, the same itineraries, the same export.
+-- Desks that the same messages reached are equal: they hold the same messages, and have the same
+-- itineraries and the same export.
 use Rattle.std.specs.{Prelude.{◌≡◌, ◌≢◌, ◌⊎◌, ◌<◌, ◌↔◌, ℕ, List, length, All, Some, Result, Ok}, FinMap.empty, List.slice_get}
 use Rattle.std.specs.{declared.alloc.Global.Global, declared.vec.Vec.Vec}
 use Rattle.ssim_base.specs.{Export.ExportRefusal, Reading.IsReadAs, Stations.SpellsTable, declared.note.Note.Note}
@@ -18,20 +19,21 @@ pub record Run : Type 0 where
   pub in_range : All (IsInRange (length start)) steps
   pub runs : Runs start steps answers after
 
--- a desk of one run and a desk of another: the same messages reached them
+-- the same messages reached a desk of one run and a desk of another
 pub record TookTheSame (one other : Run) (d e : ℕ) : Type 0 where
   pub here : d < length one.start
   pub there : e < length other.start
   pub reached : (reference : Reference) (message : MessageValue)
       → Reached one.start one.steps one.answers d reference message ↔ Reached other.start other.steps other.answers e reference message
 
--- two desks that were one at the start, and that the same messages reached, are one at the end
+-- Two desks that were equal at the start, and that the same messages reached, are equal at the end.
 abbrev pub SameMessagesSameDesk : Type 0
 SameMessagesSameDesk =
     (one other : Run) (d e : ℕ) → TookTheSame one other d e → desk_at one.start d ≡ desk_at other.start e
     → desk_at one.after d ≡ desk_at other.after e
 
--- the desk's base was read from these bytes of a data set and of a station table, and the desk holds nothing
+-- the desk's base was read from these bytes of a data set and of a station table, and the desk
+-- holds nothing
 pub record BeganFrom (data_set stations : List ℕ) (desk : DeskState) : Type 0 where
   pub limit : ℕ
   pub notes : List Note
@@ -39,8 +41,9 @@ pub record BeganFrom (data_set stations : List ℕ) (desk : DeskState) : Type 0 
   pub rows : SpellsTable desk.base.rows stations
   pub nothing : desk.held ≡ empty
 
--- Two desks agree: they hold the same messages over the same base; each flight has on each date one and the same itinerary, which the
--- messages leave in order of reference; and both exports are the same bytes, or the same refusal.
+-- Two desks agree: they hold the same messages over the same base; each flight has on each date one
+-- and the same itinerary, which the messages leave in order of reference; and both exports are the
+-- same bytes, or the same refusal.
 pub record AreAgreed (one other : DeskState) : Type 0 where
   pub same : one ≡ other
   pub timetable : Timetable
@@ -52,12 +55,14 @@ pub record AreAgreed (one other : DeskState) : Type 0 where
   pub exports_other : Exports other answer
   pub no_other_answer : (given : Result (List ℕ) ExportRefusal) → Exports one given ⊎ Exports other given → given ≡ answer
 
--- two desks began alike: from the same bytes, holding nothing; or with the same messages over the same base
+-- two desks began alike: from the same bytes, holding nothing; or with the same messages over the
+-- same base
 abbrev pub BeganAlike : DeskState → DeskState → Type 0
 BeganAlike one other =
     ((data_set : List ℕ) × (stations : List ℕ) × BeganFrom data_set stations one × BeganFrom data_set stations other) ⊎ (one ≡ other)
 
--- any two desks that began alike, and that the same messages reached in whatever order, grouping and number of repeats
+-- Any two desks that began alike, and that the same messages reached, agree, whatever the order,
+-- the grouping and the number of repeats.
 abbrev pub AnyTwoDesksAgree : Type 0
 AnyTwoDesksAgree =
     (one other : Run) (d e : ℕ) → TookTheSame one other d e → BeganAlike (desk_at one.start d) (desk_at other.start e)

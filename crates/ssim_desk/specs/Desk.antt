@@ -31,7 +31,8 @@ abbrev pub merge_answer : Result (Unit {0}) DeskFault → Answer
 merge_answer (Ok done) = Merged
 merge_answer (Err fault) = Refused fault
 
--- With n messages after the first new one, from n + 1 to n + 32 are applied.
+-- A change inserts messages; n messages come after the first new one. From n + 1 to n + 32 messages
+-- are applied.
 pub record IsReplayed (old new : DeskSeen) : Type 0 where
   pub at : ℕ  -- the position of the first new message
   pub n : ℕ
@@ -49,7 +50,8 @@ at_rest desk = record desk { applied = 0 }
 
 -- ---- what a desk shows
 
--- what each flight has on each date: what the messages, in order of reference, leave of the base's timetable
+-- what each flight has on each date: what the messages, in order of reference, leave of the base's
+-- timetable
 abbrev pub timetable_of : DeskSeen → FlightNumber → ℕ → Legs
 timetable_of desk = left_by desk.base desk.held
 
@@ -57,19 +59,20 @@ timetable_of desk = left_by desk.base desk.held
 abbrev pub days_of_desk : DeskSeen → FlightNumber → Days
 days_of_desk desk flight = each_day (timetable_of desk flight)
 
--- the lines of the sub-messages of one message, from number n on
+-- the finding lines of the sub-messages of one message, from number n on
 abbrev pub sub_lines : Reference → ℕ → List Sub → List Finding → List FindingLine
 sub_lines reference n (sub ∷ subs) (finding ∷ findings) =
     record { reference = reference; sub = n; action = identifier_of sub.action; designator = sub.designator; finding = finding }
     ∷ sub_lines reference (n + 1) subs findings
 sub_lines _ _ _ _ = []
 
--- the lines of messages, in their order
+-- the finding lines of messages, in their order
 abbrev pub entry_lines : List Entry → List (List Finding) → List FindingLine
 entry_lines (e ∷ entries) (findings ∷ found) = sub_lines e.reference 1 e.message.subs findings ++ entry_lines entries found
 entry_lines _ _ = []
 
--- a line for each sub-message: what it found on the dates of its period when it was applied in order of reference
+-- a line for each sub-message: what it found on the dates of its period when it was applied in
+-- order of reference
 abbrev pub finding_lines : DeskSeen → List FindingLine
 finding_lines desk = entry_lines desk.held (found_by desk.base desk.held)
 
@@ -83,7 +86,8 @@ subs_of entries = flat_map (λ e. e.dates) entries
 abbrev pub is_sub_of : FlightNumber → ResolvedSub → Bool
 is_sub_of flight sub = same_flight sub.flight flight
 
--- whether the day is the first of the period of a sub-message that names the flight, or the day after its last
+-- whether the day is the first of the period of a sub-message that names the flight, or the day
+-- after its last
 abbrev pub is_sub_point : FlightNumber → ℕ → ResolvedSub → Bool
 is_sub_point flight day sub = is_sub_of flight sub && (nat_eq day sub.period.first || nat_eq day (sub.period.last + 1))
 
@@ -91,16 +95,18 @@ is_sub_point flight day sub = is_sub_of flight sub && (nat_eq day sub.period.fir
 abbrev pub is_row_point : ℕ → Row → Bool
 is_row_point day row = nat_eq day row.first || nat_eq day (row.last + 1)
 
--- whether the day is such a day of a leg record of the flight, of a sub-message that names it, or of a station row
+-- whether the day is a division point of the flight: of a leg record, of a sub-message that names
+-- it, or of a station row
 abbrev pub is_desk_point : BaseSeen → List Entry → FlightNumber → ℕ → Bool
 is_desk_point base entries flight day =
     list_any (is_point flight day) base.records || (list_any (is_sub_point flight day) (subs_of entries) || list_any (is_row_point day) base.rows)
 
--- each cut is such a day
+-- each cut is a division point of the flight
 abbrev pub AreDeskPoints : BaseSeen → List Entry → FlightNumber → List ℕ → Type 0
 AreDeskPoints base entries flight cuts = (cut : ℕ) → Contains cuts cut → IsTrue (is_desk_point base entries flight cut)
 
--- two for each leg record of the flight, each sub-message that names it, and each station row
+-- the most division points: two for each leg record of the flight, each sub-message that names it,
+-- and each station row
 abbrev pub point_bound : BaseSeen → List Entry → FlightNumber → ℕ
 point_bound base entries flight =
     2 * (count_by (is_leg_of flight) base.records + count_by (is_sub_of flight) (subs_of entries) + length base.rows)

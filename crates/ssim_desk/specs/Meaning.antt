@@ -15,26 +15,27 @@ use Rattle.ssim_held.specs.{Held.{DeskState, IsDesk}, Entries.{Entry, keyed}}
 abbrev pub Timetable : Type 0
 Timetable = FlightNumber → ℕ → Legs
 
--- after a sub-message: other legs on the dates of its period, for its flight, each date by itself
+-- the timetable after a sub-message, which changes its flight on the dates of its period, each date
+-- by itself
 abbrev pub after_one : List Row → Action → ResolvedSub → Timetable → Timetable
 after_one rows action sub before flight day =
     if same_flight sub.flight flight && holds sub.period day then after_on rows action day (before flight day) else before flight day
 
--- after the sub-messages of a text, in their order, each with its full dates
+-- the timetable after the sub-messages of a text, in order, each with its full dates
 abbrev pub after_subs : List Row → List Sub → List ResolvedSub → Timetable → Timetable
 after_subs rows (sub ∷ subs) (dated ∷ dates) before = after_subs rows subs dates (after_one rows sub.action dated before)
 after_subs _ _ _ before = before
 
--- after the sub-messages of an entry
+-- the timetable after the sub-messages of an entry
 abbrev pub after_entry : List Row → Entry → Timetable → Timetable
 after_entry rows e before = after_subs rows e.message.subs e.dates before
 
--- after entries, the first of them first
+-- the timetable after entries, applied in order
 abbrev pub after_entries : List Row → List Entry → Timetable → Timetable
 after_entries rows [] before = before
 after_entries rows (e ∷ entries) before = after_entries rows entries (after_entry rows e before)
 
--- what each sub-message of a text finds: how many of its dates get which reason
+-- what each sub-message of a text finds: the number of its dates that get each reason
 abbrev pub subs_findings : List Row → List Sub → List ResolvedSub → Timetable → List Finding
 subs_findings rows (sub ∷ subs) (dated ∷ dates) before =
     finding_of rows sub.action dated.period (each_day (before dated.flight))
@@ -47,11 +48,11 @@ entries_findings rows [] before = []
 entries_findings rows (e ∷ entries) before =
     subs_findings rows e.message.subs e.dates before ∷ entries_findings rows entries (after_entry rows e before)
 
--- what these messages, in this order, leave of a base's timetable
+-- the timetable that these messages, in this order, leave of a base
 abbrev pub left_by : BaseSeen → List Entry → Timetable
 left_by base entries = after_entries base.rows entries (itinerary base.records)
 
--- what each of them finds
+-- what each sub-message of these messages finds
 abbrev pub found_by : BaseSeen → List Entry → List (List Finding)
 found_by base entries = entries_findings base.rows entries (itinerary base.records)
 
@@ -68,15 +69,16 @@ pub record Lists (desk : DeskState) (listed : List Entry) : Type 0 where
 abbrev pub Means : DeskState → Timetable → Type 0
 Means desk timetable = (listed : List Entry) × Lists desk listed × (timetable ≡ left_by desk.base listed)
 
--- what its messages, in order of reference, find: a list for each message, in the order of its sub-messages
+-- what the messages of a desk find, in order of reference: one list for each message, in the order
+-- of its sub-messages
 abbrev pub Finds : DeskState → List (List Finding) → Type 0
 Finds desk findings = (listed : List Entry) × Lists desk listed × (findings ≡ found_by desk.base listed)
 
--- every desk has a meaning
+-- Every desk has a meaning.
 abbrev pub HasMeaning : Type 0
 HasMeaning = (desk : DeskState) → IsDesk desk → (timetable : Timetable) × Means desk timetable
 
--- a desk has at most one meaning
+-- A desk has at most one meaning.
 abbrev pub HasOneMeaning : Type 0
 HasOneMeaning = (desk : DeskState) (one other : Timetable) → Means desk one → Means desk other → one ≡ other
 
@@ -89,10 +91,10 @@ pub record Exports (desk : DeskState) (answer : Result (List ℕ) ExportRefusal)
   pub means : Means desk timetable
   pub exported : answer ≡ chapter7 frame (λ flight. each_day (timetable flight))
 
--- every desk has an export result
+-- Every desk has an export result.
 abbrev pub HasExport : Type 0
 HasExport = (desk : DeskState) → IsDesk desk → (answer : Result (List ℕ) ExportRefusal) × Exports desk answer
 
--- a desk has at most one export result
+-- A desk has at most one export result.
 abbrev pub HasOneExport : Type 0
 HasOneExport = (desk : DeskState) (one other : Result (List ℕ) ExportRefusal) → Exports desk one → Exports desk other → one ≡ other

@@ -32,7 +32,8 @@ pub record AreMergeable (a b c : DeskState) : Type 0 where
   pub a_and_c : Agree a.held c.held
   pub b_and_c : Agree b.held c.held
 
--- none of their six merges is refused, and the order, the grouping and the repeats make no difference
+-- none of their six merges is refused, and the order, the grouping and the repeats make no
+-- difference
 pub record MergeFreely (a b c : DeskState) : Type 0 where
   pub a_b : IsMergedTo a b (merged a b)
   pub b_a : IsMergedTo b a (merged a b)

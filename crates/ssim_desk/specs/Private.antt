@@ -1,4 +1,5 @@
--- Definitions that only private functions cite. No law and no public contract cites them, so nobody has to believe them.
+-- Definitions that only private functions cite. No law and no public contract cites them, so nobody
+-- has to believe them.
 use Rattle.std.specs.Prelude.{◌≡◌, ◌⊎◌, ◌||◌, ℕ, ◌+◌, ◌*◌, ◌/◌, ◌%◌, ◌<◌, ◌≤◌, List, ◌++◌, length, take, map, slice_get, Contains, IsTrue, IfSome}
 use Rattle.std.specs.List.{flat_map, list_any}
 use Rattle.ssim_periods.specs.Days.{each_day}
@@ -13,14 +14,14 @@ use Rattle.ssim_desk.specs.{declared.offer.Offer.Offer, declared.offer.Offer.The
 
 -- ---- a text that is offered
 
--- what a text is to messages that are held: its message is held; or it is new, and belongs at a position
+-- the place of a message among the held ones: it is held, or it is new and belongs at a position
 abbrev pub IsOffer : DeskState → List Entry → List ℕ → Offer → Type 0
 IsOffer desk held text (Known reference) = (message : MessageValue) × Says desk.base text reference message × Holds desk reference message
 IsOffer desk held text (New at e) = Belongs held e.reference at at × IsEntry desk.base.records e × Says desk.base text e.reference e.message
 
 -- ---- a trail: the schedule after every 32 messages, the latest one, and what each message found
 
--- a schedule has the timetable
+-- the schedule has this timetable
 abbrev pub Shows : Table → Timetable → Type 0
 Shows schedule timetable = (g : FlightNumber) → IsFlight g → days_in schedule g ≡ each_day (timetable g)
 
@@ -28,7 +29,7 @@ Shows schedule timetable = (g : FlightNumber) → IsFlight g → days_in schedul
 abbrev pub flights_of : List Entry → List FlightNumber
 flights_of entries = flat_map (λ e. map (λ sub. sub.flight) e.dates) entries
 
--- a flight's new cuts are old ones, or such days of these sub-messages or of a row
+-- a flight's new cuts are old ones, or division points of these sub-messages or of a row
 abbrev pub AddsSubPoints : List Row → List ResolvedSub → FlightNumber → List ℕ → List ℕ → Type 0
 AddsSubPoints rows subs flight old new =
     (cut : ℕ) → Contains new cut → Contains old cut ⊎ IsTrue (list_any (is_sub_point flight cut) subs || list_any (is_row_point cut) rows)
@@ -43,13 +44,14 @@ pub record AreCheckpoints (base : BaseSeen) (entries : List Entry) (first : ℕ)
   pub count : first + length checkpoints ≡ length entries / 32 + 1
   pub each : (k : ℕ) → IfSome (slice_get checkpoints k) (IsAfter base (take (32 * (first + k)) entries))
 
--- what a trail keeps of a base and messages
+-- what a history stores of a base and messages
 pub record IsHistory (base : BaseSeen) (entries : List Entry) (checkpoints : List Table) (latest : Table) (found : List (List Finding)) : Type 0 where
   pub latest_is : IsAfter base entries latest
   pub found_is : found ≡ found_by base entries
   pub kept : AreCheckpoints base entries 0 checkpoints
 
--- what follows the first `from` messages: the checkpoints, the findings, and how many messages were applied
+-- what follows the first `from` messages: the checkpoints, the findings, and how many messages were
+-- applied
 pub record IsReplay (base : BaseSeen) (entries : List Entry) (from : ℕ) (tail : Replay) : Type 0 where
   pub within : from ≤ length entries
   pub latest_is : IsAfter base entries tail.latest
@@ -58,12 +60,14 @@ pub record IsReplay (base : BaseSeen) (entries : List Entry) (from : ℕ) (tail 
   pub counted : tail.applied + from ≡ length entries
   pub since_is : tail.since ≡ length entries % 32
 
--- a tail counts the messages that were applied, and how many the last multiple of 32 leaves
+-- a replay counts the messages that were applied, and has the remainder of all messages after the
+-- last multiple of 32
 pub record IsCounted (tail : Replay) : Type 0 where
   pub each : tail.applied ≡ length tail.found.items
   pub few : tail.since < 32
 
--- The messages from a position on are replaced. Those put there were applied, and fewer than 32 before them, none of them if all are replaced.
+-- The messages from a position on are replaced. The new ones were applied, and fewer than 32 before
+-- them; only the new ones if all messages are replaced.
 pub record IsReplaced (old : DeskSeen) (at : ℕ) (rest : List Entry) (new : DeskSeen) : Type 0 where
   pub base : new.base ≡ old.base
   pub held : new.held ≡ take at old.held ++ rest

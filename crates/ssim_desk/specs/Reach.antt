@@ -1,4 +1,4 @@
--- Which messages reach which desks.
+-- Which messages reach which desks in a run.
 use Rattle.std.specs.{Prelude.{◌≡◌, ◌⊎◌, ◌<◌, ◌↔◌, ℕ, Bool, true, false, List, length, All, Some}, List.slice_get, declared.alloc.Global.Global}
 use Rattle.std.specs.declared.vec.Vec.{Vec}
 use Rattle.ssim_text.specs.{Message.MessageValue, declared.reference.Reference.Reference}
@@ -21,8 +21,10 @@ IsStep steps answers k step answer = (slice_get steps k ≡ Some step) × (slice
 abbrev pub SaysTo : List DeskState → ℕ → List ℕ → Reference → MessageValue → Type 0
 SaysTo start d text reference message = let desk = desk_at start d in Says desk.base text reference message
 
--- Step k brings desk d a message. Either the desk accepts a text that says it; or the desk is merged with one that held it at the start;
--- or the desk is merged with one to which an earlier step brought it.
+-- Step k brings desk d a message: the desk accepts a text that spells it, or is merged with a desk
+-- that had it before, from the start or by an earlier step. Example: step 0 takes the message to
+-- desk 1, step 1 merges desk 1 into desk 2, and step 2 merges desk 2 into desk 3. Each step brings
+-- its desk the message.
 pub data Brings (start : List DeskState) (steps : List Step) (answers : List Answer) : ℕ → ℕ → Reference → MessageValue → Type 0 where
   by_text : {k d : ℕ} {reference : Reference} {message : MessageValue} (text : Vec ℕ Global) (answer : Answer)
       → IsStep steps answers k (Take d text) answer → is_accepted answer ≡ true → SaysTo start d text.items reference message
@@ -34,11 +36,11 @@ pub data Brings (start : List DeskState) (steps : List Step) (answers : List Ans
       → IsStep steps answers k (Merge d from) Merged → j < k → Brings start steps answers j from reference message
       → Brings start steps answers k d reference message
 
--- a message has reached a desk in a run: a step brings it
+-- the message has reached the desk in a run: some step brings it
 abbrev pub Reached : List DeskState → List Step → List Answer → ℕ → Reference → MessageValue → Type 0
 Reached start steps answers d reference message = (k : ℕ) × Brings start steps answers k d reference message
 
--- each desk holds what it held at the start and what reached it, and nothing else
+-- Each desk holds what it held at the start and what reached it, and nothing else.
 abbrev pub HoldsWhatReached : Type 0
 HoldsWhatReached =
     (start after : List DeskState) (steps : List Step) (answers : List Answer)

@@ -1,4 +1,5 @@
--- What texts and merges do to desks, and what they return. Each of them may run out of memory, which changes nothing.
+-- What texts and merges do to desks, and what they return. Each of them may run out of memory,
+-- which changes nothing.
 use Rattle.std.specs.Prelude.{◌≡◌, ◌≢◌, ℕ, ◌<◌, ◌==◌, ◌&&◌, not, Bool, true, false, List, [], ◌∷◌, None, slice_get, slice_index_or, slice_set}
 use Rattle.std.specs.FinMap.{get, insert}
 use Rattle.ssim_base.specs.{Resolve.IsRefusedIn, declared.resolution.ResolveFault.ResolveFault}
@@ -14,7 +15,7 @@ use Rattle.ssim_text.specs.declared.fault.TextFault.TheVariants as text_fault
 
 -- ---- a text
 
--- the text spells no message, and this is why
+-- the text spells no message, for the reason that the fault names
 abbrev pub IsUnspelt : List ℕ → TextFault → Type 0
 IsUnspelt text text_fault.Memory = ⊥
 IsUnspelt text (text_fault.Refused fault line) = NoMessage text (text_fault.Refused fault line) × IsRefusal text (text_fault.Refused fault line)
@@ -26,7 +27,7 @@ pub record IsUnresolved (desk : DeskState) (text : List ℕ) (fault : ResolveFau
   pub refused : IsRefusedIn desk.base.records message fault
   pub of_message : fault ≢ resolve_fault.Memory
 
--- another message is held under its reference
+-- another message is held under the reference of the text's message
 pub record IsInConflict (desk : DeskState) (text : List ℕ) (reference : Reference) : Type 0 where
   pub message : MessageValue
   pub says : Says desk.base text reference message
@@ -73,7 +74,8 @@ RefusesDesk mine theirs OtherBase = mine.base ≢ theirs.base
 RefusesDesk mine theirs (Conflict reference) = (mine.base ≡ theirs.base) × IsLeastConflict mine.held theirs.held reference
 RefusesDesk _ _ _ = ⊥
 
--- over one base, where no reference has two messages, each desk's messages are held
+-- both desks have one base and no reference has two messages, and the messages of both are held
+-- afterwards
 pub record IsUnion (mine theirs : DeskState) (held : HeldMessages) : Type 0 where
   pub base : mine.base ≡ theirs.base
   pub agree : Agree mine.held theirs.held
@@ -87,7 +89,7 @@ Merges _ _ _ _ = ⊥
 
 -- ---- steps
 
--- the desk of a number
+-- the desk with this number
 abbrev pub desk_at : List DeskState → ℕ → DeskState
 desk_at desks i = slice_index_or desks i no_desk
 
@@ -95,29 +97,29 @@ desk_at desks i = slice_index_or desks i no_desk
 abbrev pub with_held : List DeskState → ℕ → HeldMessages → List DeskState
 with_held desks i held = let desk = desk_at desks i in slice_set desks i (record desk { held = held })
 
--- the numbers of a step are those of desks
+-- the desks that a step names exist
 abbrev pub IsInRange : ℕ → Step → Type 0
 IsInRange count (Take i text) = i < count
 IsInRange count (Merge into from) = (into < count) × (from < count)
 
--- a desk is merged with itself
+-- the step merges a desk with itself
 abbrev pub IsOwnMerge : Step → Type 0
 IsOwnMerge (Take i text) = ⊥
 IsOwnMerge (Merge into from) = into ≡ from
 
--- a text is taken
+-- a step takes a text to a desk
 pub record TakesAt (desks : List DeskState) (i : ℕ) (text : List ℕ) (answer : Answer) (after : List DeskState) : Type 0 where
   pub held : HeldMessages
   pub takes : Takes (desk_at desks i) text answer held
   pub put : after ≡ with_held desks i held
 
--- two desks are merged
+-- a step merges one desk into another
 pub record MergesAt (desks : List DeskState) (into from : ℕ) (answer : Answer) (after : List DeskState) : Type 0 where
   pub held : HeldMessages
   pub merges : Merges (desk_at desks into) (desk_at desks from) answer held
   pub put : after ≡ with_held desks into held
 
--- with itself a desk is merged and does not change
+-- merging a desk with itself changes nothing; merging it with another desk is a merge of two
 abbrev pub MergesOne : Bool → List DeskState → ℕ → ℕ → Answer → List DeskState → Type 0
 MergesOne true desks into from answer after = (answer ≡ Merged) × (after ≡ desks)
 MergesOne false desks into from answer after = MergesAt desks into from answer after
@@ -134,13 +136,14 @@ Runs desks (step ∷ steps) (answer ∷ answers) after =
     (between : List DeskState) × Acts desks step answer between × Runs between steps answers after
 Runs _ _ _ _ = ⊥
 
--- whether the step may have changed the desk with this number: it took a text that was new, or it was merged with another desk
+-- whether the step may have changed the desk with this number: it took a text that was new, or it
+-- was merged with another desk
 abbrev pub is_change : ℕ → Step → Answer → Bool
 is_change d (Take i text) Taken = i == d
 is_change d (Merge into from) Merged = (into == d) && not (from == d)
 is_change _ _ _ = false
 
--- no step has
+-- no step of the run may have changed the desk
 abbrev pub IsIdle : ℕ → List Step → List Answer → Type 0
 IsIdle d (step ∷ steps) (answer ∷ answers) = (is_change d step answer ≡ false) × IsIdle d steps answers
 IsIdle _ _ _ = Unit {0}

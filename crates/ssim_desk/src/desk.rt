@@ -39,8 +39,9 @@ pub enum Took {
 
 /// A desk: a base, and the messages that it holds in order of reference.
 ///
-/// Its timetable is what these messages, in order of reference, leave of the base's timetable, in whatever order they came. It keeps the
-/// schedule after every 32 messages, so that a late message is applied from there on.
+/// Its timetable is what these messages, in order of reference, leave of the base's timetable, in
+/// whatever order they came. It keeps the schedule after every 32 messages, so that a late message
+/// is applied from there on.
 #[derive(Drop)]
 pub struct Desk {
     trail: History,
@@ -67,11 +68,13 @@ impl Desk {
         })
     }
 
-    /// Opens a desk file: reads all bytes of the reader, at most `limit`, and then the desk whose file they are, of version 2, or of
-    /// version 1 without originators. `applied` is then the number of messages.
+    /// Opens a desk file: reads all bytes of the reader, at most `limit`, and then the desk whose
+    /// file they are, of version 2, or of version 1 without originators. `applied` is then the
+    /// number of messages.
     ///
-    /// The errors are 90, 13 `ReadFault` if the reader failed, 14 `ReaderNeverEnds` if more bytes came than the limit, both with record
-    /// number 0, and 62 if the bytes are no desk file, with the number of bytes before the first invalid element.
+    /// The errors are 90, 13 `ReadFault` if the reader failed, 14 `ReaderNeverEnds` if more bytes
+    /// came than the limit, both with record number 0, and 62 if the bytes are no desk file, with
+    /// the number of bytes before the first invalid element.
     pub fn open<R: Source>(alloc: Global, reader: &mut R, limit: u64) -> Result<Desk, DeskFault>
         ensures ok { IfOk result (λ desk. Opens limit (R.left reader.old) desk.base desk.held) }
         ensures applied { IfOk result (λ desk. desk.applied ≡ length desk.held) }
@@ -106,8 +109,8 @@ impl Desk {
         self.trail.held()
     }
 
-    /// How many messages the latest `take` that returned `Taken`, or the latest successful `merge`, applied to a schedule; 0 at the
-    /// start.
+    /// How many messages the latest `take` that returned `Taken`, or the latest successful `merge`,
+    /// applied to a schedule; 0 at the start.
     pub fn applied(&self) -> u64
         ensures { result ≡ self.now.applied }
     {
@@ -116,8 +119,9 @@ impl Desk {
 
     /// Takes a text: holds its message if it is new.
     ///
-    /// Returns the first of: 20 to 29 if the text is no message, 40 to 43 if the message does not resolve, 60 if another message is held
-    /// under its reference. The desk changes only if the message was new.
+    /// Returns the first of: 20 to 29 if the text is no message, 40 to 43 if the message does not
+    /// resolve, 60 if another message is held under its reference. The desk changes only if the
+    /// message was new.
     pub fn take(&mut self, text: &[u8]) -> Result<Took, DeskFault>
         ensures takes { Takes (state_of self.old) text.now (take_answer result) (map_of self.new.held) }
         ensures base { self.new.base ≡ self.old.base }
@@ -138,8 +142,8 @@ impl Desk {
 
     /// Holds what the other desk holds, too.
     ///
-    /// Returns 61 if it has another base, else 60 with the first reference under which the two hold different messages. The desk changes
-    /// only if the other holds a message that is new.
+    /// Returns 61 if it has another base, else 60 with the first reference under which the two hold
+    /// different messages. The desk changes only if the other holds a message that is new.
     pub fn merge(&mut self, other: &Desk) -> Result<(), DeskFault>
         ensures merges { Merges (state_of self.old) (state_of other.now) (merge_answer result) (map_of self.new.held) }
         ensures base { self.new.base ≡ self.old.base }
@@ -169,16 +173,19 @@ impl Desk {
         self.trail.latest().itinerary(flight, day)
     }
 
-    /// The rising days at which a stored range of the flight begins or ends; none for a flight that was never named.
+    /// The rising days at which a stored range of the flight begins or ends; none for a flight that
+    /// was never named.
     pub fn cuts(&self, flight: &Flight) -> &[u32]
         ensures rising { IsStrictlyIncreasing result.now }
         ensures in_calendar { All (λ cut. cut ≤ 36525) result.now }
 
-        // Each is the first day or the day after the last of a leg record of the flight, a sub-message that names it, or a station row.
+        // Each is the first day or the day after the last of a leg record of the flight, a
+        // sub-message that names it, or a station row.
         ensures points { AreDeskPoints self.now.base self.now.held flight.now result.now }
         ensures bound { length result.now ≤ point_bound self.now.base self.now.held flight.now }
 
-        // Two days of one weekday have the same itinerary if no cut is after the earlier and not after the later.
+        // Two days of one weekday have the same itinerary if no cut is after the earlier and not
+        // after the later.
         ensures weekly { (m n : ℕ) → m ≤ n → n < 36525 → weekday m ≡ weekday n → ((cut : ℕ) → Contains result.now cut → m < cut → n < cut) → timetable_of self.now flight.now m ≡ timetable_of self.now flight.now n }
     {
         // No effect at run time. The proof reads from these uses that the flight exists.
@@ -187,7 +194,8 @@ impl Desk {
         self.trail.latest().cuts(flight)
     }
 
-    /// A line for each sub-message that is held, in order: what it found on the dates of its period.
+    /// A line for each sub-message that is held, in order: what it found on the dates of its
+    /// period.
     pub fn findings(&self) -> Result<Vec<FindingLine>, Memory>
         ensures lines { IfOk result (λ lines. lines.items ≡ finding_lines self.now) }
         ensures finds { IfOk result (λ lines. Finds (state_of self.now) (found_by self.now.base self.now.held)) }
@@ -197,11 +205,13 @@ impl Desk {
         Ok(lines)
     }
 
-    /// Writes the desk's timetable as an SSIM chapter 7 data set in the one canonical division: the base's header and carrier, each
-    /// flight with its pieces as itinerary variations, and the base's trailer.
+    /// Writes the desk's timetable as an SSIM chapter 7 data set in the one canonical division: the
+    /// base's header and carrier, each flight with its pieces as itinerary variations, and the
+    /// base's trailer.
     ///
-    /// Returns 50 for the first flight with more than 99 pieces, 51 for more than 999,999 records, and 90 if there is no memory. None of
-    /// them writes a byte. 52: the sink failed; it has taken a prefix of the export.
+    /// Returns 50 for the first flight with more than 99 pieces, 51 for more than 999,999 records,
+    /// and 90 if there is no memory. None of them writes a byte. 52: the sink failed; it has taken
+    /// a prefix of the export.
     pub fn export<W: Sink>(&self, out: &mut W) -> Result<(), ExportFault>
         ensures ok { OnOk result (WritesBase W.taken W.failures self.now.base.records (days_of_desk self.now) out.old out.new) }
         ensures err { IfErr result (λ fault. RefusesBase W.taken W.failures self.now.base.records (days_of_desk self.now) out.old out.new fault) }
@@ -211,7 +221,8 @@ impl Desk {
         self.trail.latest().export(self.trail.base(), out)
     }
 
-    /// Writes the desk file: the base and the messages that are held, in version 2 of the format. Allocates nothing.
+    /// Writes the desk file: the base and the messages that are held, in version 2 of the format.
+    /// Allocates nothing.
     ///
     /// Fails only if the sink fails, with 52. The sink has then taken a prefix of the file.
     pub fn save<W: Sink>(&self, out: &mut W) -> Result<(), WriteFault>
@@ -260,7 +271,7 @@ impl Desk {
         }
     }
 
-    // Puts a new message where it belongs.
+    // Inserts a new message at its position.
     fn insert(&mut self, at: usize, new: Held) -> Result<(), Memory>
         requires gap { Belongs self.old.held new.reference at at }
         requires entry { IsEntry self.old.base.records new }

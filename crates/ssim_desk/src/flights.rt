@@ -15,8 +15,9 @@ use ssim_schedule::{PlacedLeg, Schedule};
 use ssim_values::{Day, Flight, Memory};
 use std::alloc::Global;
 
-/// The legs of a flight on a date of origin that messages, in this order, leave of the timetable of a data set. Of this timetable only the
-/// flight's is made, and only the messages that name the flight act.
+/// The legs of a flight on a date of origin that messages, in this order, leave of the timetable of
+/// a data set. Of this timetable only the flight's is made, and only the messages that name the
+/// flight act.
 pub(crate) fn legs_after(
     alloc: Global,
     data_set: &DataSet,
@@ -36,7 +37,8 @@ pub(crate) fn legs_after(
     copies(alloc, schedule.itinerary(flight, day))
 }
 
-/// What each of these messages finds in this order. Of the data set's timetable only the flights are made that the messages name.
+/// What each of these messages finds in this order. Of the data set's timetable only the flights
+/// are made that the messages name.
 pub(crate) fn found_by(
     alloc: Global,
     data_set: &DataSet,

@@ -13,7 +13,8 @@ use ssim_values::Memory;
 use std::alloc::Global;
 use std::marker::Model;
 
-/// A base and messages in order, with the schedule after them, after every 32 of them, and what each of them found.
+/// A base and messages in order, with the schedule after them, after every 32 of them, and what
+/// each of them found.
 #[derive(Drop)]
 pub(crate) struct History {
     base: Base,
@@ -95,7 +96,7 @@ impl History {
         self.applied
     }
 
-    /// From where the memory of the trail comes.
+    /// The allocator of the history.
     pub(crate) fn allocator(&self) -> Global {
         self.alloc
     }
@@ -107,8 +108,8 @@ impl History {
         self.applied = 0;
     }
 
-    /// Replaces the messages from position `at` on. They are applied to the latest schedule if there were none, else from the last
-    /// checkpoint before them.
+    /// Replaces the messages from position `at` on. They are applied to the latest schedule if
+    /// there were none, else from the last checkpoint before them.
     pub(crate) fn replace_from(&mut self, at: usize, rest: Vec<Held>) -> Result<(), Memory>
         requires { at ≤ length self.old.held }
         ensures ok { OnOk result (IsReplaced self.old at rest.items self.new) }
@@ -119,8 +120,8 @@ impl History {
         self.put(from, at, rest, tail)
     }
 
-    // How many messages need not be applied again if those from position `at` on are replaced: all, or there is a checkpoint after
-    // them, fewer than 32 before the position.
+    // How many messages need not be applied again if those from position `at` on are replaced: all,
+    // or there is a checkpoint after them, fewer than 32 before the position.
     fn start(&self, at: usize) -> usize
         requires { at ≤ length self.now.held }
         ensures low { result ≤ at }

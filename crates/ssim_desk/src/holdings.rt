@@ -158,7 +158,8 @@ impl Holdings {
         )
     }
 
-    /// The legs of a flight on a date of origin, by leg sequence; none if it does not fly. Reads all records of the base.
+    /// The legs of a flight on a date of origin, by leg sequence; none if it does not fly. Reads
+    /// all records of the base.
     pub fn itinerary(&self, flight: &Flight, day: Day) -> Result<Vec<PlacedLeg>, Memory>
         ensures value { IfOk result (λ legs. legs.items ≡ timetable_of self.now flight.now day) }
         ensures means { Means (state_of self.now) (timetable_of self.now) }
@@ -174,7 +175,8 @@ impl Holdings {
         )
     }
 
-    /// A line for each sub-message that is held, in order: what it found on the dates of its period. Reads all records of the base.
+    /// A line for each sub-message that is held, in order: what it found on the dates of its
+    /// period. Reads all records of the base.
     pub fn findings(&self) -> Result<Vec<FindingLine>, Memory>
         ensures lines { IfOk result (λ lines. lines.items ≡ finding_lines self.now) }
         ensures finds { IfOk result (λ lines. Finds (state_of self.now) (found_by self.now.base self.now.held)) }
@@ -185,8 +187,9 @@ impl Holdings {
         Ok(lines)
     }
 
-    /// Writes the desk's timetable as a data set, as `Desk::export` does. The records are freed while the timetable is made, so it takes the
-    /// memory of one of the two. Nothing is kept for later messages. 90 can also mean that there is no memory for the timetable.
+    /// Writes the desk's timetable as a data set, as `Desk::export` does. The records are freed
+    /// while the timetable is made, so it takes the memory of one of the two. Nothing is kept for
+    /// later messages. 90 can also mean that there is no memory for the timetable.
     pub fn export<W: Sink>(self, out: &mut W) -> Result<(), ExportFault>
         ensures ok { OnOk result (WritesBase W.taken W.failures self.base.records (days_of_desk self) out.old out.new) }
         ensures err { IfErr result (λ fault. RefusesBase W.taken W.failures self.base.records (days_of_desk self) out.old out.new fault) }
@@ -234,7 +237,7 @@ impl Holdings {
         }
     }
 
-    // Puts a new message where it belongs.
+    // Inserts a new message at its position.
     fn insert(&mut self, at: usize, new: Held) -> Result<(), Memory>
         requires gap { Belongs self.old.held new.reference at at }
         requires entry { IsEntry self.old.base.records new }

@@ -11,9 +11,11 @@ use ssim_base::laws::{
 pub use ssim_held::laws::{no_two_desks_have_one_file, opened_is_saved};
 use ssim_text::laws::{one_message, one_refusal};
 
-/// Any two desks agree if they began from the same bytes of a data set and of a station table, or as one desk, and the same messages
-/// reached them, whatever the order, the grouping and the repeats. They hold the same messages. Each flight has on each date the same itinerary, which
-/// the messages leave in order of reference. Both exports are the same chapter 7 bytes, or the same refusal, 50 or 51.
+/// Any two desks agree if they began from the same bytes of a data set and of a station table, or
+/// as one desk, and the same messages reached them, whatever the order, the grouping and the
+/// repeats. They hold the same messages. Each flight has on each date the same itinerary, which the
+/// messages leave in order of reference. Both exports are the same chapter 7 bytes, or the same
+/// refusal, 50 or 51.
 pub fn any_two_desks_agree()
     ensures { AnyTwoDesksAgree }
 {
@@ -23,8 +25,9 @@ pub fn any_two_desks_agree()
     bases_can_be_exported();
 }
 
-/// If no two different messages with one reference are held at the start or offered, no step is refused as a conflict, 60. So each
-/// message that a text says to a desk reaches this desk, unless the step runs out of memory.
+/// If no two different messages with one reference are held at the start or offered, no step is
+/// refused as a conflict, 60. So each message that a text says to a desk reaches this desk, unless
+/// the step runs out of memory.
 pub fn no_conflict()
     ensures none { NoConflict }
     ensures reached { OfferedIsReached }
@@ -33,8 +36,9 @@ pub fn no_conflict()
     resolving_has_one_outcome();
 }
 
-/// After any steps a desk holds what it held at the start and the messages that reached it, and nothing else. Two desks that began
-/// alike and that the same messages reached are one desk, whatever the order, the grouping and the repeats of the messages.
+/// After any steps a desk holds what it held at the start and the messages that reached it, and
+/// nothing else. Two desks that began alike and that the same messages reached are one desk,
+/// whatever the order, the grouping and the repeats of the messages.
 pub fn order_is_free()
     ensures holds { HoldsWhatReached }
     ensures same { SameMessagesSameDesk }
@@ -52,8 +56,9 @@ pub fn one_meaning()
     bases_can_be_exported();
 }
 
-/// Merging is associative and idempotent, and commutative if no two different messages are held under one reference. Three desks over
-/// one base that agree so are merged in any order and grouping: no merge is refused, unless it is out of memory.
+/// Merging is associative and idempotent, and commutative if no two different messages are held
+/// under one reference. Three desks over one base that agree so are merged in any order and
+/// grouping: no merge is refused, unless it is out of memory.
 pub fn merging_is_free()
     ensures associative { MergesAssociate }
     ensures commutative { MergesCommute }

@@ -1,21 +1,26 @@
 //! Desks, which hold messages over a base, and the laws of any number of desks.
 //!
-//! - [`Desk`]: a base and the messages that it holds in order of reference. `take` takes a text, `merge` what another desk holds;
-//!   `itinerary`, `cuts`, `findings` and `export` read the schedule that the messages leave. [`Took`] and [`DeskFault`]: the results.
-//! - [`Holdings`]: the base and the messages of a desk without its timetable, for callers that ask for none, or once for few flights or
-//!   for the export.
+//! - [`Desk`]: a base and the messages that it holds in order of reference. `take` takes a text,
+//!   `merge` what another desk holds; `itinerary`, `cuts`, `findings` and `export` read the
+//!   schedule that the messages leave. [`Took`] and [`DeskFault`]: the results.
+//! - [`Holdings`]: the base and the messages of a desk without its timetable, for callers that ask
+//!   for none, or once for few flights or for the export.
 //! - [`Held`]: a message that a desk holds, with its reference and its canonical text.
 //! - [`FindingLine`]: what a sub-message found on the dates of its period.
-//! - [`run_steps`]: tries [`Step`]s on several desks, each a text or a merge, and returns an [`Answer`] for each. A [`Holder`] is what it
-//!   runs on: desks, or holdings.
-//! - `Desk::save`: writes the desk file, which has the base and the messages that are held; or [`WriteFault`], 52.
-//! - [`laws`]: any two desks that began from the same bytes and that the same messages reached agree, whatever the order, the grouping
-//!   and the repeats; and merging is associative, commutative and idempotent.
+//! - [`run_steps`]: tries [`Step`]s on several desks, each a text or a merge, and returns an
+//!   [`Answer`] for each. A [`Holder`] is what it runs on: desks, or holdings.
+//! - `Desk::save`: writes the desk file, which has the base and the messages that are held; or
+//!   [`WriteFault`], 52.
+//! - [`laws`]: any two desks that began from the same bytes and that the same messages reached
+//!   agree, whatever the order, the grouping and the repeats; and merging is associative,
+//!   commutative and idempotent.
 //!
-//! What a desk holds, where a message is in it, and the desk file are in the crate `ssim_held`, whose definitions these contracts cite,
-//! too. The other definitions are in `specs/`: `Meaning` (what each flight has on each date), `Steps` (what texts and merges do), `Reach`
-//! (which messages reach which desks), `Agreement` and `Merging` (the laws) and `Desk` (what the calls of a desk return). `Private` is
-//! cited by private functions alone. Computed examples are in `proofs/Examples`.
+//! What a desk holds, the position of a message in it, and the desk file are in the crate
+//! `ssim_held`, whose definitions these contracts cite, too. The other definitions are in `specs/`:
+//! `Meaning` (what each flight has on each date), `Steps` (what texts and merges do), `Reach`
+//! (which messages reach which desks), `Agreement` and `Merging` (the laws) and `Desk` (what the
+//! calls of a desk return). `Private` is cited by private functions alone. Computed examples are in
+//! `proofs/Examples`.
 #![tactic(auto)]
 
 mod desk;

@@ -26,8 +26,8 @@ pub(crate) enum Offer {
 
 /// What a text is to the messages that are held over a base with this frame.
 ///
-/// Returns the first of: 20 to 29 if the text is no message, 40 to 43 if the message does not resolve, 60 if another message is held
-/// under its reference.
+/// Returns the first of: 20 to 29 if the text is no message, 40 to 43 if the message does not
+/// resolve, 60 if another message is held under its reference.
 pub(crate) fn offer_over(
     alloc: Global,
     frame: &BaseFrame,

@@ -47,7 +47,8 @@ impl MessageFindings {
     }
 }
 
-/// What follows some messages: the schedule after all that were applied since, their findings, and the checkpoints among them.
+/// What follows some messages: the schedule after all that were applied since, their findings, and
+/// the checkpoints among them.
 #[derive(Drop)]
 pub(crate) struct Replay {
     pub latest: Schedule,
@@ -57,7 +58,7 @@ pub(crate) struct Replay {
     pub checkpoints: Vec<Schedule>,
     /// How many messages were applied.
     pub applied: u64,
-    /// How many messages the last multiple of 32 leaves.
+    /// The remainder of all messages after the last multiple of 32.
     pub since: usize,
 }
 

@@ -123,8 +123,8 @@ pub fn run_steps<D: Holder>(
     // A desk is unchanged, `applied` included, if none of its steps returned `Taken` or `Merged`.
     ensures idle { IfOk result (λ answers. LeavesIdle desks.old steps.now answers.items desks.new) }
 
-    // Any two of these desks that began alike, and that the same messages reached, have afterwards the same base, messages,
-    // itineraries and export.
+    // Any two of these desks that began alike, and that the same messages reached, have afterwards
+    // the same base, messages, itineraries and export.
     ensures agree { IfOk result (λ answers. DesksAgree (map (λ d. state_of (D.seen d)) desks.old) steps.now answers.items (map (λ d. state_of (D.seen d)) desks.new)) }
 
     // With `runs` this makes a run, so `any_two_desks_agree` speaks of the desks of two calls.

@@ -1,4 +1,5 @@
--- The schedule shows the timetable of the flights that the messages name, in which they find what they find in the whole.
+-- The schedule shows the timetable of the flights that the messages name, in which they find what
+-- they find in the whole.
 use Rattle.std.proofs.Common.{List, Result, Ok, Err, IfOk, subst, ◌∙◌}
 use Rattle.ssim_values.specs.Flight.{FlightNumber}
 use Rattle.ssim_base.specs.BaseSeen.{base_with}

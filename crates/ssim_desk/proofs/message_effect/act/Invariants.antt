@@ -1,4 +1,5 @@
--- What the sub-messages so far leave, from which those that are left lead to what all of them leave; and the cuts that they add.
+-- What the sub-messages so far leave, from which those that are left lead to what all of them
+-- leave; and the cuts that they add.
 use Rattle.std.proofs.Common.{◌≡◌, ℕ, List, ◌++◌, drop}
 use Rattle.ssim_schedule.specs.Schedule.{Table, cuts_in}
 use Rattle.ssim_base.specs.Stations.{Row}

@@ -1,4 +1,4 @@
--- The clauses of the schedule, told of the timetable that it has.
+-- The clauses of the schedule, stated of its timetable.
 use Rattle.std.proofs.Common.{◌≤◌, OnOk, IfOk, Result, Ok, Err, subst}
 use Rattle.std.specs.Prelude.{IsTrue}
 use Rattle.ssim_values.specs.Flight.{IsFlight, is_suffix}

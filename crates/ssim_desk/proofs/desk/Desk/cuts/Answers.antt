@@ -1,4 +1,4 @@
--- The clauses of the latest schedule, told of the desk.
+-- The clauses of the latest schedule, stated of the desk.
 use Rattle.std.proofs.Common.{◌≡◌, ◌<◌, ◌≤◌, ◌∙◌, ap, sym, subst, arith}
 use Rattle.std.specs.Prelude.{ℕ, IsTrue}
 use Rattle.ssim_schedule.specs.Schedule.{days_in}

@@ -1,4 +1,4 @@
--- The messages have acted on the timetable of the data set, and the export stands in its frame.
+-- The messages have acted on the timetable of the data set, and the export is written in its frame.
 use Rattle.std.proofs.Common.{OnOk, IfErr, Result, Ok, Err, subst}
 use Rattle.ssim_base.specs.BaseSeen.{base_with}
 use Rattle.ssim_schedule.specs.Plan.{ReadsBackBase, RefusesBase, WritesBase}
