@@ -28,8 +28,8 @@ pub fn explanation_of(number: u8) -> Option<Explanation>
     None
 }
 
-/// The lines on a refusal of this number and name: the name and its meaning, then these lines on the
-/// place, and what to do. There are none if no refusal has the number.
+/// The lines on a refusal of this number and name: the name and its meaning, then these lines on
+/// the place, and what to do. There are none if no refusal has the number.
 pub fn words_on(
     alloc: Global,
     number: u8,

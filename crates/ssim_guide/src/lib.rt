@@ -1,9 +1,11 @@
-//! Words for people: what each refusal means and what to do about it, and what is at an invalid place of a file.
+//! Words for people: what each refusal means and what to do about it, and what is at an invalid
+//! place of a file.
 //!
 //! - [`explanation_of`]: the [`Explanation`] of a refusal by its number; [`words_on`]: its lines.
-//! - [`words_on_record`]: the lines on a record of a data set, and on the field that begins at a column; [`words_on_overlap`]: on two
-//!   records with a common date.
-//! - [`words_on_line`]: those on a line of a text, a station table or a script; [`words_on_offset`]: on an element of a desk file.
+//! - [`words_on_record`]: the lines on a record of a data set, and on the field that begins at a
+//!   column; [`words_on_overlap`]: on two records with a common date.
+//! - [`words_on_line`]: those on a line of a text, a station table or a script;
+//!   [`words_on_offset`]: on an element of a desk file.
 //!
 //! The texts are not specified. A test compares those on refusals with the tables of the documents.
 #![tactic(auto)]

@@ -3,8 +3,8 @@
 use crate::lines::{push_line, push_shown};
 use std::alloc::{AllocError, Global};
 
-/// The lines on the line with this number, from 1, at which a refusal has the number `refusal`: its bytes, or that the file ends
-/// before it; and an example of what is allowed there.
+/// The lines on the line with this number, from 1, at which a refusal has the number `refusal`: its
+/// bytes, or that the file ends before it; and an example of what is allowed there.
 pub fn words_on_line(
     alloc: Global,
     bytes: &[u8],

@@ -15,7 +15,8 @@ pub(crate) fn push_line(lines: &mut Vec<u8>, label: &str, text: &str) -> Result<
     Ok(())
 }
 
-/// Adds a line: a label and bytes of a file in brackets, at most 200, each that is no character of ASCII as `?`.
+/// Adds a line: a label and bytes of a file in brackets, at most 200, each that is no character of
+/// ASCII as `?`.
 pub(crate) fn push_shown(lines: &mut Vec<u8>, label: &str, bytes: &[u8]) -> Result<(), AllocError> {
     lines.extend_from_slice(label.as_bytes())?;
     lines.extend_from_slice(b": [")?;

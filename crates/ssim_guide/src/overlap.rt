@@ -5,7 +5,8 @@ use crate::record_words::{after_record, first_record, record_at};
 use ssim_values::{Day, DayMask, Period};
 use std::alloc::{AllocError, Global};
 
-/// The lines on the record with this number, and on the first one before it that has its flight and leg sequence on a common date.
+/// The lines on the record with this number, and on the first one before it that has its flight and
+/// leg sequence on a common date.
 pub fn words_on_overlap(alloc: Global, bytes: &[u8], number: u64) -> Result<Vec<u8>, AllocError> {
     let mut lines = Vec::new(alloc);
     if let Some(record) = record_at(bytes, number) {
@@ -22,8 +23,8 @@ pub fn words_on_overlap(alloc: Global, bytes: &[u8], number: u64) -> Result<Vec<
     Ok(lines)
 }
 
-/// The first record before the one with this number that has its flight and leg sequence on a date of it: its number, its bytes
-/// and the first such date.
+/// The first record before the one with this number that has its flight and leg sequence on a date
+/// of it: its number, its bytes and the first such date.
 fn overlap_of<'b>(bytes: &'b [u8], record: &[u8], number: u64) -> Option<(u64, &'b [u8], Day)> {
     let mut rest = bytes;
     let mut end = last_day()?;
@@ -73,7 +74,8 @@ fn period_of(record: &[u8], end: Day) -> Option<Period> {
     Period::new(first, last, mask).ok()
 }
 
-/// The day on which the validity of a carrier record ends: an open end is its start and 730 days, or 31DEC99.
+/// The day on which the validity of a carrier record ends: an open end is its start and 730 days,
+/// or 31DEC99.
 fn end_of_validity(carrier: &[u8]) -> Option<Day> {
     if let Some(end) = day_in(carrier.get(21..28)?) {
         return Some(end);

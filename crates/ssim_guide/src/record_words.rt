@@ -4,8 +4,9 @@ use crate::fields::field_at;
 use crate::lines::{push_line, push_number, push_shown};
 use std::alloc::{AllocError, Global};
 
-/// The lines on the record with this number, from 1: its bytes, and of the field that begins at the column its name, its columns,
-/// what is there, and what is allowed there. There are none if the data set ends before the record.
+/// The lines on the record with this number, from 1: its bytes, and of the field that begins at the
+/// column its name, its columns, what is there, and what is allowed there. There are none if the
+/// data set ends before the record.
 pub fn words_on_record(
     alloc: Global,
     bytes: &[u8],
