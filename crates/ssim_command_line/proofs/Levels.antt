@@ -1,5 +1,5 @@
--- What a parse makes of the program's name, a command's name and its values: the walk of the top level stops at the
--- command's name, and each plain value then goes to the next positional.
+-- What a parse makes of the program's name, a command's name and its values: the walk of the top
+-- level stops at the command's name, and each plain value then goes to the next positional.
 use Rattle.std.proofs.Common.{◌≡◌, ◌∙◌, ◌&&◌, ◌||◌, ℕ, Bool, cond, true, false, not, refl, sym, ap, ap₂, List, [], ◌∷◌, ◌++◌, Option, Some, None, true≢false, append_assoc, codes, is_some}
 use Rattle.std.specs.List.{find, fold, list_all}
 use Rattle.std.specs.Prelude.{⊤}

@@ -1,4 +1,5 @@
--- A command line is taken, and the matches name it again: the names of the commands by computation, their values as variables.
+-- A command line is taken, and the matches name it again: the names of the commands by computation,
+-- their values as variables.
 use Rattle.std.proofs.Common.{◌≡◌, ◌∙◌, inl, inr, true, refl, ap, ap₂, List, [], ◌∷◌, Option, Some, None, codes, sym, true≢false, subst}
 use Rattle.std.specs.List.{find, list_all}
 use Rattle.std.specs.Prelude.{Box, is_some, option_and_then, option_map, unwrap_or}

@@ -13,7 +13,8 @@ use Rattle.ssim_command_line.specs.Request.{line_at}
 use Rattle.ssim_command_line.specs.declared.command_line.LineFault.{LineFault}
 use Rattle.ssim_command_line.specs.declared.command_line.LineFault.TheVariants as fault
 
--- the words name this command: nothing is wrong with them, and the subcommand that they enter has these values
+-- the words name this command: nothing is wrong with them, and the subcommand that they enter has
+-- these values
 pub record Names (words : List Text) (line : Line) : Type 0 where
   pub right : fault_of whole_program words ≡ []
   pub name : Text
@@ -21,15 +22,15 @@ pub record Names (words : List Text) (line : Line) : Type 0 where
   pub entered : subcommand_of whole_program words ≡ Some (name, rows)
   pub read : line_at name rows ≡ Some line
 
--- they name a command
+-- the words name some command
 abbrev pub IsCommand : List Text → Type 0
 IsCommand words = (line : Line) × Names words line
 
--- nothing is wrong with them, and still they name none
+-- nothing is wrong with the words, but they name no command
 abbrev pub IsNoCommand : List Text → Type 0
 IsNoCommand words = (fault_of whole_program words ≡ []) × ((line : Line) → Names words line → ⊥)
 
--- whether it is help that is asked for
+-- whether the words ask for help
 abbrev pub is_help : ErrorKind → Bool
 is_help kind.DisplayHelp = true
 is_help kind.DisplayVersion = true

@@ -11,7 +11,8 @@ use clap::error::ErrorKind;
 use clap::{ArgMatches, Error};
 use std::alloc::{AllocError, Global};
 
-/// A command with its values: names of files, but for the flight and the date of `Show` and the word of `Explain`.
+/// A command with its values: names of files, but for the flight and the date of `Show` and the
+/// word of `Explain`.
 #[derive(Debug, Drop)]
 pub enum Request<'a> {
     /// Print the notes on a data set and a summary.
@@ -36,7 +37,8 @@ pub enum Request<'a> {
     Explain(&'a str),
 }
 
-/// Why the words make no request. It has no number of its own: the program prints 90, or what is wrong with the words.
+/// Why the words make no request. It has no number of its own: the program prints 90, or what is
+/// wrong with the words.
 #[derive(Debug, Drop)]
 pub enum LineFault {
     /// Memory ran out: refusal 90, status 1.
@@ -139,7 +141,8 @@ fn read<'a>(
 
 /// The request that the words make, the first of which is the program's name.
 ///
-/// A command's name and as many plain values as it takes are that command with these values; only memory can be missing.
+/// A command's name and as many plain values as it takes are that command with these values; only
+/// memory can be missing.
 pub fn parse<'a>(alloc: Global, words: &'a [&'a str]) -> Result<Request<'a>, LineFault>
     ensures spelled { (line : Line) → Spells (map (λ w. w.now) words.entry.now) line
         → MatchResult result (λ r. line_of r ≡ line) (λ e. e ≡ LineFault.Memory) }

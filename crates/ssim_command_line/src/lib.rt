@@ -2,8 +2,8 @@
 //!
 //! - [`parse`]: the [`Request`] that the words name, or a [`LineFault`].
 //!
-//! **Promise.** The words of a command are no fault of the command line: only memory can be missing. Nothing is wrong with the words of a
-//! request, and a fault is one of the words.
+//! **Promise.** The words of a command are no fault of the command line: only memory can be
+//! missing. Nothing is wrong with the words of a request, and a fault is one of the words.
 #![tactic(auto)]
 
 mod command_line;
