@@ -1,4 +1,5 @@
--- Lists that grow by one element: of loaded steps, of the lines of steps, of exports. And each answer of a run has its line.
+-- Lists that grow by one element: of loaded steps, of the lines of steps, of exports. Each result
+-- of a run has its line.
 use Rattle.std.proofs.Common.{◌≡◌, ◌∙◌, ◌+◌, ◌++◌, ◌<◌, ◌==◌, ℕ, Bool, true, false, List, [], ◌∷◌, All, length, map, take, drop, get_or, Option, Some, None, refl, sym, ap, subst, add-one, drop-cons, take-append-drop, inr, ◌≤◌, arith}
 use Rattle.std.proofs.lemmas.List.{map-append}
 use Rattle.std.proofs.lemmas.List.{take_more}
@@ -115,7 +116,7 @@ pub refuses_next : {X : Type 0} (f : X → Written) (files : Option Files) (xs :
 refuses_next f files xs i x ss refusal lt at are is =
     inr (map f (take i xs), f x, map f (drop (i + 1) xs), map_split f xs i x lt at, (ss, are), is)
 
--- ---- each answer has its line
+-- ---- each result has its line
 
 take_has : (base : BaseSeen) (n : ℕ) (desk : DeskState) (text : List ℕ) (answer : Answer) (held : HeldMessages) → desk.base ≡ base → Takes desk text answer held → HasTakeLine base n text answer
 take_has base n desk text Taken held same t = (printed.Taken n t.reference, (t.reference, t.message, subst (λ b. Says b text t.reference t.message) same t.says, refl))

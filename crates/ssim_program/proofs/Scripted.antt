@@ -1,4 +1,5 @@
--- What a script that is read says of its lines, and of its steps with their texts; and desks that hold nothing.
+-- What a script that is read says of its lines, and of its steps with their texts; and desks that
+-- hold nothing.
 use Rattle.std.proofs.Common.{◌≡◌, ◌+◌, ◌++◌, ◌<◌, inl, inr, ℕ, zero, suc, List, [], ◌∷◌, All, get_or, length, map, take, Option, Some, refl, sym, ap, subst, arith}
 use Rattle.ssim_text.specs.Left.{lines_left}
 use Rattle.ssim_held.specs.Entries.{DeskSeen, state_of}

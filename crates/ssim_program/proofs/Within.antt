@@ -1,4 +1,5 @@
--- A data set within the limit is never refused for its length: that refusal needs bytes after the limit.
+-- A data set within the limit is never refused for its length: that refusal needs bytes after the
+-- limit.
 use Rattle.std.proofs.Common.{◌≡◌, ◌≤◌, ◌<◌, ◌-◌, ◌++◌, ℕ, List, [], ◌∷◌, length, Option, Some, None, Result, Ok, Err, IfErr, subst, inl, inr, arith}
 use Rattle.ssim_records.specs.Frames.{others}
 use Rattle.ssim_records.specs.declared.fault.RecordFault.{RecordFault}

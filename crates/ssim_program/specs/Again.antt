@@ -1,4 +1,4 @@
--- What `tidy` or `export` wrote, tidied.
+-- What `tidy` or `export` wrote can be tidied again, with the same bytes.
 use Rattle.std.specs.Prelude.{◌≡◌, ℕ, ◌+◌, ◌≤◌, List, [], length, ⊤, Option, Some, Ok}
 use Rattle.std.specs.Io.KnownBytes.{Appends}
 use Rattle.ssim_records.specs.declared.record.Record.{Record}
@@ -9,7 +9,8 @@ use Rattle.ssim_program.specs.Files.{Files, Kept, file_of}
 use Rattle.ssim_command_line.specs.Line.{Line, Text, Tidy, Export}
 use Rattle.ssim_program.specs.Made.{IsExportOf, file_limit}
 
--- the bytes are read as the records of a base, without a refusal or a note, and are the export of that base
+-- the bytes are read as the records of a base, without a refusal or a note, and are the export of
+-- that base
 pub record ReadsAsItself (bytes : List ℕ) : Type 0 where
   pub count : ℕ
   pub records : List (ℕ × Record)
@@ -18,17 +19,17 @@ pub record ReadsAsItself (bytes : List ℕ) : Type 0 where
   pub stands : data_set (Done (count + 1)) records ≡ Ok (base, [])
   pub export : IsExportOf base bytes
 
--- what was taken has grown by such bytes
+-- what was taken has grown by bytes that are read as themselves
 abbrev pub GrowsByItself : Option (List ℕ) → Option (List ℕ) → Type 0
 GrowsByItself before after = (bytes : List ℕ) × ReadsAsItself bytes × Appends before after bytes
 
--- what `tidy` and `export` printed is such bytes; nothing is said of other commands
+-- `tidy` and `export` print bytes that are read as themselves; nothing is said of other commands
 abbrev pub PrintsItself : Line → Option (List ℕ) → Option (List ℕ) → Type 0
 PrintsItself (Tidy name) before after = GrowsByItself before after
 PrintsItself (Export file) before after = GrowsByItself before after
 PrintsItself _ before after = ⊤
 
--- from a file of such bytes `tidy` makes the same bytes
+-- From a file of bytes that are read as themselves `tidy` makes the same bytes.
 abbrev pub TidiesOnce : Type 0
 TidiesOnce = (all : Files) (name : Text) (bytes again : List ℕ) (kept : Kept) → ReadsAsItself bytes
     → file_of all name ≡ Some bytes → length bytes ≤ file_limit → Makes (Tidy name) (Some all) again kept → again ≡ bytes

@@ -38,11 +38,12 @@ use Rattle.ssim_program.specs.declared.refusal.Refusal.TheVariants as refused
 abbrev pub ReadsDesk : Option Files → Text → DeskSeen → Type 0
 ReadsDesk files name desk = (bytes : List ℕ) × HasFile files name bytes × IsDeskFile bytes desk.base desk.held
 
--- these bytes are the file of no desk
+-- the bytes are no desk file
 abbrev pub IsNoDeskFile : List ℕ → Type 0
 IsNoDeskFile bytes = (base : BaseSeen) (entries : List Entry) → IsDeskFile bytes base entries → ⊥
 
--- why no desk is read of a file: the file is not loaded; or it is the file of no desk, and the refusal is 62
+-- why no desk is read of a file: the file is not loaded; or it is the file of no desk, and the
+-- refusal is 62
 abbrev pub RefusesDeskFile : Option Files → Text → Refusal → Type 0
 RefusesDeskFile files name refusal =
     RefusesLoad files name refusal
@@ -58,11 +59,12 @@ held_line n = line (printed_text (printed.Held n))
 
 -- ---- texts
 
--- what became of a text, with the reference of its message, as it is printed
+-- the line of what became of a text, with the reference of its message
 abbrev pub took_printed : Took → Reference → Printed
 took_printed took.Taken reference = printed.Taken reference
 took_printed took.Repeated reference = printed.Repeated reference
 
+-- the line that `take` prints for one text
 abbrev pub took_line : Took → Reference → List ℕ
 took_line answer reference = line (printed_text (took_printed answer reference))
 
@@ -86,7 +88,8 @@ TakesTexts files (name ∷ names) before after printed =
     (between : DeskSeen) × (first : List ℕ) × (later : List ℕ)
     × TakesText files name before between first × TakesTexts files names between after later × (printed ≡ first ++ later)
 
--- why the text in the file of this name is refused: the file is not loaded; or the desk refuses the text
+-- why the text in the file of this name is refused: the file is not loaded; or the desk refuses the
+-- text
 abbrev pub RefusesFileText : Option Files → Text → DeskSeen → Refusal → Type 0
 RefusesFileText files name desk refusal =
     RefusesLoad files name refusal
@@ -110,8 +113,9 @@ pub record RefusesTexts (files : Option Files) (names : List Text) (before : Des
   pub next : slice_get names n ≡ Some name
   pub why : RefusesFileText files name between refusal
 
--- Texts are taken one after another, and `out` has taken the line of each. Or one is refused, and `out` has taken the lines of those before
--- it. Or `out` fails, and has taken a prefix of the lines of the first n.
+-- Texts are taken one after another, and `out` has taken the line of each. Or one is refused, and
+-- `out` has taken the lines of those before it. Or `out` fails, and has taken a prefix of the lines
+-- of the first n.
 abbrev pub PrintsTexts : Option Files → List Text → DeskSeen → DeskSeen → Paper → Paper → Result (Unit {0}) Refusal → Type 0
 PrintsTexts files names before after out out' (Ok x) = (printed : List ℕ) × TakesTexts files names before after printed × Grows printed out out'
 PrintsTexts files names before after out out' (Err refusal) =
@@ -120,7 +124,7 @@ PrintsTexts files names before after out out' (Err refusal) =
 
 -- ---- two desks
 
--- a desk that holds what both hold
+-- a desk that holds the messages of both desks
 pub record IsMergeOf (mine theirs after : DeskSeen) : Type 0 where
   pub merges : Merges (state_of mine) (state_of theirs) Merged (map_of after.held)
   pub base : after.base ≡ mine.base
@@ -131,7 +135,8 @@ RefusesMerge mine theirs refusal = (fault : DeskFault) × RefusesDesk (state_of 
 
 -- ---- what a desk shows
 
--- the flight that a word names is the airline's, and the lines have its legs on the date that a word names
+-- the flight that a word names is the airline's, and the lines have its legs on the date that a
+-- word names
 pub record Shows (desk : DeskSeen) (flight date : Text) (printed : List ℕ) : Type 0 where
   pub designator : Designator
   pub spelled : SpellsDesignator designator flight
@@ -140,8 +145,9 @@ pub record Shows (desk : DeskSeen) (flight date : Text) (printed : List ℕ) : T
   pub airline : designator.airline ≡ airline_of desk.base.records
   pub printed_is : printed ≡ shown_flight designator day (timetable_of desk designator.flight day)
 
--- Why no flight is shown: memory ran out; or the first word names no flight (6); or it does, and the second names no date (1); or they do, and
--- the flight is another airline's (41, sub-message 0).
+-- Why no flight is shown. Memory ran out. Or the first word names no flight (6). Or the first word
+-- names a flight, and the second no date (1). Or both are valid, and the flight is another
+-- airline's (41, sub-message 0).
 abbrev pub RefusesFlight : DeskSeen → Text → Text → Refusal → Type 0
 RefusesFlight desk flight date refusal =
     (refusal ≡ refused.Memory)

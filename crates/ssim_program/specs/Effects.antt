@@ -14,7 +14,7 @@ use Rattle.ssim_program.specs.Made.{AreLinesOn, IsExportOf, ReadsBase, ReadsFile
 use Rattle.ssim_program.specs.Rehearsal.{RehearsesFiles}
 use Rattle.ssim_program.specs.Shown.{findings_lines}
 
--- from these files a command makes the bytes that it prints, and the file that it keeps
+-- What each command makes of the files: the bytes that it prints, and the file that it keeps.
 abbrev pub Makes : Line → Option Files → List ℕ → Kept → Type 0
 Makes (Check name) files printed kept =
     (base : List Record) × (notes : List Note) × ReadsFile files name (Ok (base, notes)) × AreLinesOn base notes printed × (kept ≡ None)
@@ -35,8 +35,9 @@ Makes (Export file) files printed kept = (desk : DeskSeen) × ReadsDesk files fi
 Makes (Rehearse dataset stations script) files printed kept = RehearsesFiles files dataset stations script printed × (kept ≡ None)
 Makes (Explain word) files printed kept = Explains files word printed × (kept ≡ None)
 
--- What a command has begun to print when `out` fails, and the file that it kept before. `take` begins with the lines of its first n texts, and
--- has kept no file.
+-- What a command has begun to print when `out` fails, and the file that it kept before. `take`
+-- begins with the lines of its first n texts, and has kept no file; any other command has made all
+-- that it prints.
 abbrev pub Begins : Line → Option Files → List ℕ → Kept → Type 0
 Begins (Take file out names) files printed kept =
     (before : DeskSeen) × (n : ℕ) × (last : DeskSeen) × ReadsDesk files file before × TakesFirst files names n before last printed × (kept ≡ None)

@@ -17,10 +17,10 @@ takes_two = refl
 merges_two : step_in 3 (codes "MERGE 3 1") ≡ Some (Merges 2 0)
 merges_two = refl
 
--- more blanks than one separate two parts as one does
+-- several blanks separate two parts as one blank does
 with_more_blanks : step_in 3 (codes "MERGE  3   1") ≡ Some (Merges 2 0)
 with_more_blanks = refl
 
--- no desk is merged with one that is not there
+-- no desk is merged with a desk that does not exist
 merges_with_a_fourth : step_in 3 (codes "MERGE 3 4") ≡ None
 merges_with_a_fourth = refl

@@ -1,4 +1,5 @@
--- What `explain` prints: of a number the line of a refusal that has it, of a file the line of its refusal, and then words on it.
+-- What `explain` prints: for a number the line of a refusal that has it, for a file the line of its
+-- refusal, and then an explanation.
 use Rattle.std.specs.Prelude.{◌≡◌, ◌⊎◌, ℕ, ◌==◌, Bool, true, List, [], ◌∷◌, ◌++◌, length, drop, Option, Some, None, Ok, Err, if◌then◌else◌, codes}
 use Rattle.std.specs.Char.{is_ascii_whitespace}
 use Rattle.std.specs.Fmt.{decimal}
@@ -70,10 +71,11 @@ kind_of_line first =
     else (if begins_message first then kind.Message
     else kind.Stations))
 
+-- the kind of a file, by its first line
 abbrev pub kind_of_text : List ℕ → FileKind
 kind_of_text bytes = if begins_data_set bytes then kind.DataSet else kind_of_line (without_end (before 10 bytes))
 
--- empty lines at the beginning say nothing of the kind
+-- the kind of a file; empty lines at the beginning are passed over
 abbrev pub kind_of : List ℕ → FileKind
 kind_of bytes = kind_of_text (drop (prefix_len is_ascii_whitespace bytes) bytes)
 
@@ -89,6 +91,7 @@ IsInvalid kind.Message bytes refusal =
     (fault : TextFault) × (refusal ≡ refused.Desk (desk_fault.Text fault)) × NoMessage bytes fault × IsRefusal bytes fault
 IsInvalid kind.Stations bytes refusal = (fault : StationFault) × (refusal ≡ refusal_of_stations fault) × NamesLine (lines_left bytes) fault
 
+-- the bytes are a valid file of this kind
 abbrev pub IsValid : FileKind → List ℕ → Type 0
 IsValid kind.DataSet bytes = (base : List Record) × (notes : List Note) × IsReadAs file_limit bytes (Ok (base, notes))
 IsValid kind.Desk bytes = (desk : DeskSeen) × IsDeskFile bytes desk.base desk.held
@@ -107,9 +110,11 @@ ExplainsBytes bytes printed =
     ((refusal : Refusal) × IsInvalid (kind_of bytes) bytes refusal × BeginsWith refusal printed)
     ⊎ (IsValid (kind_of bytes) bytes × (rest : List ℕ) × (printed ≡ codes "valid " ++ rest))
 
+-- the lines explain the bytes of a named file
 abbrev pub ExplainsFile : Option Files → Text → List ℕ → Type 0
 ExplainsFile files name printed = (bytes : List ℕ) × HasFile files name bytes × ExplainsBytes bytes printed
 
+-- the lines explain a fault's number or, if the word is no number, a file
 abbrev pub Explains : Option Files → Text → List ℕ → Type 0
 Explains files word printed =
     ((number : ℕ) × (number_in word ≡ Some number) × ExplainsNumber number printed)

@@ -4,6 +4,7 @@ use Rattle.std.specs.Str.{bytes_eq}
 use Rattle.ssim_program.specs.declared.store.StoreFault.{StoreFault}
 use Rattle.ssim_program.specs.declared.store.StoreFault.TheVariants as fault
 
+-- files, each with its name and its bytes
 abbrev pub Files : Type 0
 Files = List (List ℕ × List ℕ)
 
@@ -27,7 +28,8 @@ abbrev pub KeepsFile : Option Files → Option Files → List ℕ → List ℕ �
 KeepsFile old new name bytes (Ok x) = new ≡ option_map (λ all. (name, bytes) ∷ all) old
 KeepsFile old new name bytes (Err e) = new ≡ old
 
--- 90: memory ran out; 91: there is no such file within the limit, or it cannot be read or written
+-- the number of a store's fault: 90 if memory ran out; 91 if there is no such file within the
+-- limit, or it cannot be read or written
 abbrev pub store_fault_number : StoreFault → ℕ
 store_fault_number fault.Memory = 90
 store_fault_number fault.Fault = 91

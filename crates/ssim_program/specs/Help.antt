@@ -1,5 +1,5 @@
--- What `out` and `err` have after words that are no command. `clap` makes the text: help, or what is wrong with the words. Which text it is
--- is not specified.
+-- What `out` and `err` have after words that are no command. `clap` makes the text: help, or what
+-- is wrong with the words. Which text it is is not specified.
 use Rattle.std.specs.Prelude.{◌≡◌, ◌⊎◌, ℕ, true, false, List, []}
 use Rattle.clap.specs.Values.{kind_of}
 use Rattle.ssim_program.specs.Paper.{Breaks, Grows, Paper, PrintsOrFails}
@@ -14,15 +14,16 @@ use Rattle.ssim_program.specs.declared.refusal.Refusal.TheVariants as refused
 abbrev pub PrintsHelp : Paper → Paper → Paper → Paper → Type 0
 PrintsHelp out out' err err' = ((text : List ℕ) × Grows text out out') × (out'.flushed ≡ true) × (err' ≡ err)
 
--- Help was not printed. Either memory ran out (90), and `out` is as it was; or a call of `out` failed (52), and it took a prefix of a text. `err` has
--- taken the line of that refusal.
+-- Help was not printed. Either memory ran out (90), and `out` is as it was; or a call of `out`
+-- failed (52), and it took a prefix of a text. `err` has taken the line of that refusal.
 abbrev pub RefusesHelp : Paper → Paper → Paper → Paper → Type 0
 RefusesHelp out out' err err' =
     (refusal : Refusal)
     × (((refusal ≡ refused.Memory) × Grows [] out out') ⊎ ((refusal ≡ refused.WriteFault) × (text : List ℕ) × Breaks text out out'))
     × PrintsRefusal refusal err err'
 
--- the words are wrong: `out` is as it was, and `err` has taken a text that says so, or a call of it failed and it took a prefix
+-- the words are wrong: `out` is as it was, and `err` has taken a text that says so, or a call of it
+-- failed and it took a prefix
 abbrev pub SaysWrong : Paper → Paper → Paper → Paper → Type 0
 SaysWrong out out' err err' = Grows [] out out' × (text : List ℕ) × PrintsOrFails text err err'
 

@@ -30,7 +30,8 @@ use Rattle.ssim_program.specs.declared.printed.Printed.TheVariants as printed
 
 -- ---- from a base
 
--- the bytes are the canonical export of a timetable of these days, between the header, the carrier and the trailer of these records
+-- the bytes are the canonical export of a timetable of these days, between the header, the carrier
+-- and the trailer of these records
 abbrev pub IsExport : List Record → (FlightNumber → Days) → List ℕ → Type 0
 IsExport base days bytes = (frame : Frame) × HasFrame frame base × (chapter7 frame days ≡ Ok bytes)
 
@@ -38,10 +39,12 @@ IsExport base days bytes = (frame : Frame) × HasFrame frame base × (chapter7 f
 abbrev pub IsExportOf : List Record → List ℕ → Type 0
 IsExportOf base bytes = IsExport base (days_of base) bytes
 
+-- a note as it is printed
 abbrev pub as_printed : Note → Printed
 as_printed (note.Serial n) = printed.SerialNote n
 as_printed (note.CheckReference n) = printed.CheckReferenceNote n
 
+-- the line of a note
 abbrev pub note_line : Note → List ℕ
 note_line n = line (printed_text (as_printed n))
 
@@ -49,7 +52,7 @@ note_line n = line (printed_text (as_printed n))
 abbrev pub summary_lines : ℕ → ℕ → List Note → List ℕ
 summary_lines records flights notes = flat_map note_line notes ++ line (printed_text (printed.Summary records flights (length notes)))
 
--- the bytes are those lines of these records
+-- the bytes are the lines of notes and summary of these records
 abbrev pub AreLinesOn : List Record → List Note → List ℕ → Type 0
 AreLinesOn base notes bytes = (flights : List FlightNumber) × AreFlights base flights × (bytes ≡ summary_lines (length base) (length flights) notes)
 
@@ -71,7 +74,8 @@ ReadsFile files name outcome = (bytes : List ℕ) × HasFile files name bytes ×
 abbrev pub SumsFile : Option Files → Text → Summary → Type 0
 SumsFile files name summary = (bytes : List ℕ) × HasFile files name bytes × IsSummary file_limit (Some bytes) summary
 
--- a fault of the bytes: not that the reader failed (13), nor that more came than the limit (14)
+-- the fault is of the bytes: neither that the reader failed (13), nor that more came than the limit
+-- (14)
 abbrev pub IsOfBytes : BaseFault → Type 0
 IsOfBytes (base.Read (record_fault.ReadFault n)) = ⊥
 IsOfBytes (base.Read (record_fault.ReaderNeverEnds n)) = ⊥
@@ -85,7 +89,7 @@ IsMissing files name = IfSome files (λ all. IfSome (file_of all name) (λ bytes
 abbrev pub RefusesLoad : Option Files → Text → Refusal → Type 0
 RefusesLoad files name refusal = (refusal ≡ refused.Memory) ⊎ (IsOfFile name refusal × IsMissing files name)
 
--- why no base is read of it: the file is not loaded, or the data set is refused
+-- why no data set is read from a file: the file is not loaded, or the data set is refused
 abbrev pub RefusesFile : Option Files → Text → Refusal → Type 0
 RefusesFile files name refusal =
     RefusesLoad files name refusal
@@ -99,7 +103,8 @@ ReadsTable files name rows = (bytes : List ℕ) × HasFile files name bytes × S
 abbrev pub ReadsBase : Option Files → Text → Text → BaseSeen → List Note → Type 0
 ReadsBase files dataset stations base notes = ReadsFile files dataset (Ok (base.records, notes)) × ReadsTable files stations base.rows
 
--- Why no base is read of two files: the data set is not loaded; or the station table is not; or its lines are refused; or the data set is.
+-- Why no base is read from two files: the data set is not loaded; or the station table is not
+-- loaded; or its lines are refused; or the data set is refused.
 abbrev pub RefusesBase : Option Files → Text → Text → Refusal → Type 0
 RefusesBase files dataset stations refusal =
     RefusesLoad files dataset refusal

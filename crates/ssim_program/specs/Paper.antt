@@ -5,8 +5,8 @@ use Rattle.ssim_base.specs.Sinks.{TakesFront}
 use Rattle.ssim_program.specs.declared.refusal.Refusal.{Refusal}
 use Rattle.ssim_program.specs.declared.refusal.Refusal.TheVariants as refused
 
--- The bytes that were taken, if the contract knows them; how many calls failed, a count that wraps; whether the latest call was a flush that
--- did not fail; and the writer that the bytes go to.
+-- The bytes that were taken, if the contract knows them; how many calls failed, a count that wraps;
+-- whether the latest call was a flush that did not fail; and the writer that the bytes go to.
 pub record Paper : Type 0 where
   pub taken : Option (List ℕ)
   pub failures : ℕ

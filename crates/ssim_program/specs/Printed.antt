@@ -9,8 +9,8 @@ use Rattle.ssim_desk.specs.declared.finding_line.FindingLine.{FindingLine}
 use Rattle.ssim_program.specs.declared.printed.Printed.{Printed}
 use Rattle.ssim_program.specs.declared.printed.Printed.TheVariants as printed
 
--- a note on a record's serial or check reference; the summary: records, flights and notes; what became of a text; how many messages
--- a desk holds
+-- the text of a line: a note on a record's serial or check reference; the summary of records,
+-- flights and notes; what became of a text; how many messages a desk holds
 abbrev pub printed_text : Printed → List ℕ
 printed_text (printed.SerialNote n) = codes "note Serial record " ++ decimal n
 printed_text (printed.CheckReferenceNote n) = codes "note CheckReference record " ++ decimal n

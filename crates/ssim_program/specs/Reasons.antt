@@ -24,27 +24,30 @@ use Rattle.ssim_program.specs.declared.refusal.Refusal.TheVariants as refused
 
 -- ---- why
 
--- a timetable of these days, over these records, has no export, for a flight or for the number of records; or memory ran out
+-- a timetable of these days, over these records, has no export, for a flight or for the number of
+-- records; or memory ran out
 abbrev pub HasNoExport : List Record → (FlightNumber → Days) → ExportFault → Type 0
 HasNoExport base days (export.Variations flight) = (frame : Frame) × HasFrame frame base × (chapter7 frame days ≡ Err (refusal.Variations flight))
 HasNoExport base days export.Records = (frame : Frame) × HasFrame frame base × (chapter7 frame days ≡ Err refusal.Records)
 HasNoExport base days export.WriteFault = ⊥
 HasNoExport base days export.Memory = ⊤
 
--- it is refused so
+-- the export of these days, over these records, is refused with this refusal
 abbrev pub RefusesExport : List Record → (FlightNumber → Days) → Refusal → Type 0
 RefusesExport base days refusal = (fault : ExportFault) × HasNoExport base days fault × (refusal ≡ refusal_of_export (airline_of base) fault)
 
--- Why `take` is refused, and the lines that it has printed before: the desk file is refused, before the first line; or a text is refused, after
--- the lines of those before it; or the desk file is not kept, after the lines of all texts.
+-- Why `take` is refused, and the lines that it has printed before: the desk file is refused, before
+-- the first line; or a text is refused, after the lines of those before it; or the desk file is not
+-- kept, after the lines of all texts.
 abbrev pub RefusesTake : Option Files → Text → Text → List Text → List ℕ → Refusal → Type 0
 RefusesTake files file out names printed refusal =
     ((printed ≡ []) × RefusesDeskFile files file refusal)
     ⊎ ((desk : DeskSeen) × ReadsDesk files file desk
     × (RefusesTexts files names desk printed refusal ⊎ (((last : DeskSeen) × TakesTexts files names desk last printed) × RefusesKeep out refusal)))
 
--- Why a command is refused, other than that `out` failed, and what it has printed before, which is nothing but for `take`. The reason is a file
--- that it reads, what it makes of it, or the file that it keeps.
+-- Why a command is refused, other than that `out` failed, and what it has printed before, which is
+-- nothing but for `take`. The reason is a file that it reads, what it makes of it, or the file that
+-- it keeps.
 abbrev pub Refuses : Line → Option Files → List ℕ → Refusal → Type 0
 Refuses (Check name) files printed refusal = (printed ≡ []) × RefusesFile files name refusal
 Refuses (Tidy name) files printed refusal =
@@ -71,8 +74,8 @@ Refuses (Explain word) files printed refusal = (printed ≡ []) × RefusesLoad f
 
 -- ---- what `err` has
 
--- The printer took the whole line of the refusal, or a call failed and it took a prefix. If no memory was left for the line of a refusal
--- other than 52, it is that of 90.
+-- The printer took the whole line of the refusal, or a call failed and it took a prefix. If there
+-- is no memory for the line of a refusal other than 52, the line of 90 is printed instead.
 abbrev pub PrintsRefusal : Refusal → Paper → Paper → Type 0
 PrintsRefusal refusal before after =
     PrintsOrFails (line (refusal_text refusal)) before after

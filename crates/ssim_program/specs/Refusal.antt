@@ -24,7 +24,7 @@ use Rattle.ssim_program.specs.Names.{printed_name}
 use Rattle.ssim_program.specs.declared.refusal.Refusal.{Refusal}
 use Rattle.ssim_program.specs.declared.refusal.Refusal.TheVariants as refusal
 
--- the number is that of the fault
+-- the number of a refusal, which is its fault's number
 abbrev pub refusal_number : Refusal → ℕ
 refusal_number (refusal.Value fault) = fault_number fault
 refusal_number (refusal.DataSet fault) = base_fault_number fault
@@ -36,7 +36,7 @@ refusal_number (refusal.Script line) = 63
 refusal_number refusal.Memory = 90
 refusal_number (refusal.File name) = 91
 
--- the name is that of the fault
+-- the name of a refusal, which is its fault's name
 abbrev pub refusal_name : Refusal → List ℕ
 refusal_name (refusal.Value fault) = fault_name fault
 refusal_name (refusal.DataSet fault) = base_fault_name fault
@@ -48,7 +48,7 @@ refusal_name (refusal.Script line) = codes "Script"
 refusal_name refusal.Memory = memory_name
 refusal_name (refusal.File name) = codes "File"
 
--- what is named is what the fault names; the line of a script is one, and 91 names a file
+-- what a refusal names: what its fault names, or the line of a script; the file of 91 is no place
 abbrev pub refusal_place : Refusal → Place
 refusal_place (refusal.Value fault) = Nowhere
 refusal_place (refusal.DataSet fault) = base_fault_place fault
@@ -81,25 +81,30 @@ abbrev pub named_text : Option (List ℕ) → Place → List ℕ
 named_text (Some file) place = 32 ∷ file
 named_text None place = place_text place
 
--- refused, the number, the name and what is named: refused 12 BadColumn record 3 column 37
+-- the text of a refusal: `refused`, the number, the name and what is named, as: refused 12
+-- BadColumn record 3 column 37
 abbrev pub refusal_text : Refusal → List ℕ
 refusal_text r =
     codes "refused " ++ decimal (refusal_number r) ++ 32 ∷ refusal_name r ++ named_text (refusal_file r) (refusal_place r)
 
 -- ---- the refusal of a fault; each fault out of memory is refused as 90
 
+-- the refusal for a fault of a value
 abbrev pub refusal_of_value : Fault → Refusal
 refusal_of_value fault = refusal.Value fault
 
+-- the refusal for a fault of a data set
 abbrev pub refusal_of_base : BaseFault → Refusal
 refusal_of_base base.Memory = refusal.Memory
 refusal_of_base (base.Read fault) = refusal.DataSet (base.Read fault)
 refusal_of_base (base.Refused number why) = refusal.DataSet (base.Refused number why)
 
+-- the refusal for a fault of a station table
 abbrev pub refusal_of_stations : StationFault → Refusal
 refusal_of_stations stations.Memory = refusal.Memory
 refusal_of_stations (stations.Stations line) = refusal.Stations (stations.Stations line)
 
+-- the refusal for a fault of a desk
 abbrev pub refusal_of_desk : DeskFault → Refusal
 refusal_of_desk desk.Memory = refusal.Memory
 refusal_of_desk (desk.Text fault) = refusal.Desk (desk.Text fault)
@@ -109,13 +114,13 @@ refusal_of_desk desk.OtherBase = refusal.Desk desk.OtherBase
 refusal_of_desk (desk.Read fault) = refusal.Desk (desk.Read fault)
 refusal_of_desk (desk.File offset) = refusal.Desk (desk.File offset)
 
--- the flight is named by the designator of the airline
+-- the refusal for a fault of an export; a flight is named by its designator
 abbrev pub refusal_of_export : List ℕ → ExportFault → Refusal
 refusal_of_export airline (export.Variations flight) = refusal.Export airline (export.Variations flight)
 refusal_of_export airline export.Records = refusal.Export airline export.Records
 refusal_of_export airline export.WriteFault = refusal.WriteFault
 refusal_of_export airline export.Memory = refusal.Memory
 
--- 91 with this name as it is printed, or memory ran out
+-- the refusal is 91 with this name as it is printed, or memory ran out
 abbrev pub IsOfFile : List ℕ → Refusal → Type 0
 IsOfFile name r = (r ≡ refusal.Memory) ⊎ (refusal_text r ≡ codes "refused 91 File " ++ printed_name name)

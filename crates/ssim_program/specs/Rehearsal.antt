@@ -1,4 +1,5 @@
--- What a rehearsal prints: a line for each step, a line for each desk, and whether all exports are equal.
+-- What a rehearsal prints: a line for each step, a line for each desk, and whether all exports are
+-- equal.
 use Rattle.std.specs.Prelude.{◌≡◌, ◌⊎◌, ℕ, ◌+◌, List, [], ◌∷◌, ◌++◌, All, codes, length, map, Option, Some, None, Result, Ok, Err}
 use Rattle.std.specs.Fmt.{decimal}
 use Rattle.std.specs.FinMap.{entries}
@@ -39,7 +40,8 @@ use Rattle.ssim_program.specs.declared.rehearse.script.Written.TheVariants as sp
 
 -- ---- the lines, without their ends
 
--- of a step: the desk, and the answer; of a desk: what it holds and exports; and the last line
+-- the text of a line: for a step the desk and the result; for a desk what it holds and exports; for
+-- the last line whether all exports are equal
 abbrev pub rehearsal_text : RehearsalLine → List ℕ
 rehearsal_text (printed.Taken desk reference) = decimal desk ++ codes " taken " ++ printed_reference reference
 rehearsal_text (printed.Repeated desk reference) = decimal desk ++ codes " repeated " ++ printed_reference reference
@@ -51,6 +53,7 @@ rehearsal_text (printed.NotExported desk airline fault) = codes "desk " ++ decim
 rehearsal_text printed.Same = codes "same"
 rehearsal_text printed.Different = codes "different"
 
+-- the bytes of a line, with its LF
 abbrev pub printed_line : RehearsalLine → List ℕ
 printed_line l = line (rehearsal_text l)
 
@@ -61,7 +64,8 @@ abbrev pub desk_of : Step → ℕ
 desk_of (Take desk text) = desk
 desk_of (Merge into from) = into
 
--- the line of a text: the reference is that of a message that the text says over the base
+-- the line for taking a text; it names the reference of a message that the text spells over the
+-- base
 abbrev pub IsTakeLine : BaseSeen → ℕ → List ℕ → Answer → RehearsalLine → Type 0
 IsTakeLine base desk text Taken l = (reference : Reference) × (message : MessageValue) × Says base text reference message × (l ≡ printed.Taken desk reference)
 IsTakeLine base desk text Repeated l = (reference : Reference) × (message : MessageValue) × Says base text reference message × (l ≡ printed.Repeated desk reference)
@@ -86,16 +90,19 @@ AreStepLines base [] [] [] = Unit {0}
 AreStepLines base (step ∷ steps) (answer ∷ answers) (l ∷ lines) = IsStepLine base step answer l × AreStepLines base steps answers lines
 AreStepLines base steps answers lines = ⊥
 
--- answers that have lines
+-- the result of taking a text has a line
 abbrev pub HasTakeLine : BaseSeen → ℕ → List ℕ → Answer → Type 0
 HasTakeLine base desk text answer = (l : RehearsalLine) × IsTakeLine base desk text answer l
 
+-- the result of a merge has a line
 abbrev pub HasMergeLine : ℕ → Answer → Type 0
 HasMergeLine desk answer = (l : RehearsalLine) × IsMergeLine desk answer l
 
+-- the result of a step has a line
 abbrev pub HasLine : BaseSeen → Step → Answer → Type 0
 HasLine base step answer = (l : RehearsalLine) × IsStepLine base step answer l
 
+-- the result of each step has a line
 abbrev pub HaveLines : BaseSeen → List Step → List Answer → Type 0
 HaveLines base steps answers = (k : ℕ) (step : Step) (answer : Answer) → IsStep steps answers k step answer → HasLine base step answer
 
@@ -105,12 +112,13 @@ HaveLines base steps answers = (k : ℕ) (step : Step) (answer : Answer) → IsS
 abbrev pub Outcome : Type 0
 Outcome = Result (List ℕ) ExportRefusal
 
+-- the export of a desk as the specification sees it
 abbrev pub outcome_of : kept.Outcome → Outcome
 outcome_of (kept_as.Exported buffer) = Ok buffer.bytes
 outcome_of (kept_as.Variations flight) = Err (exported.Variations flight)
 outcome_of kept_as.Records = Err exported.Records
 
--- what a fault of an export says of the outcome, if memory has not run out
+-- the outcome that a fault of an export means, unless memory ran out
 abbrev pub refused_outcome : ExportFault → Option Outcome
 refused_outcome (export.Variations flight) = Some (Err (exported.Variations flight))
 refused_outcome export.Records = Some (Err exported.Records)
@@ -135,7 +143,7 @@ AreExports [] [] = Unit {0}
 AreExports (desk ∷ desks) (outcome ∷ outcomes) = Exports desk outcome × AreExports desks outcomes
 AreExports desks outcomes = ⊥
 
--- each of these exports is equal to one
+-- each of these exports is equal to the one given
 abbrev pub AreEqualTo : Outcome → List Outcome → Type 0
 AreEqualTo outcome [] = Unit {0}
 AreEqualTo outcome (other ∷ others) = (other ≡ outcome) × AreEqualTo outcome others
@@ -145,7 +153,7 @@ abbrev pub AreSame : List Outcome → Type 0
 AreSame [] = Unit {0}
 AreSame (outcome ∷ outcomes) = AreEqualTo outcome outcomes
 
--- the last line: `same` exactly if they are
+-- the last line says `same` exactly if all exports are equal
 abbrev pub IsVerdict : List Outcome → RehearsalLine → Type 0
 IsVerdict outcomes l = (AreSame outcomes × (l ≡ printed.Same)) ⊎ ((AreSame outcomes → ⊥) × (l ≡ printed.Different))
 
@@ -155,7 +163,8 @@ IsVerdict outcomes l = (AreSame outcomes × (l ≡ printed.Same)) ⊎ ((AreSame 
 abbrev pub fresh : BaseSeen → DeskSeen
 fresh base = record { base = base; held = []; applied = 0 }
 
--- the lines of desks after a run: a line for each with its export, and whether all exports are equal
+-- the lines of desks after a run: a line for each with its export, and whether all exports are
+-- equal
 pub record HasEnds (after : List DeskState) (lines : List RehearsalLine) : Type 0 where
   pub outcomes : List Outcome
   pub exports : AreExports after outcomes
@@ -163,8 +172,8 @@ pub record HasEnds (after : List DeskState) (lines : List RehearsalLine) : Type 
   pub verdict : IsVerdict outcomes last
   pub all : lines ≡ desk_lines 1 after outcomes ++ last ∷ []
 
--- The lines of a run of steps on desks over a base, each of which holds nothing at the start: exactly the answers of the run, and then
--- the lines of the desks after it.
+-- The lines of a run of steps on desks over one base, which hold nothing at the start: one line for
+-- the result of each step, and then the lines of the desks after the run.
 pub record Rehearses (base : BaseSeen) (count : ℕ) (steps : List Step) (lines : List RehearsalLine) : Type 0 where
   pub start : List DeskState
   pub number : length start ≡ count
@@ -180,11 +189,12 @@ pub record Rehearses (base : BaseSeen) (count : ℕ) (steps : List Step) (lines 
 
 -- ---- from files
 
--- a step of a script, and a script, as the program reads them
+-- a step of a script as the specification sees it
 abbrev pub as_written : spelt.Written → Written
 as_written (spelt_as.Take desk name) = Takes desk name.now
 as_written (spelt_as.Merge into from) = Merges into from
 
+-- a script as the specification sees it
 abbrev pub script_of : read.Script → Script
 script_of script = record { count = script.count; steps = map as_written script.steps.items }
 
@@ -195,7 +205,7 @@ IsLoaded files (Takes desk name) (Merge into from) = ⊥
 IsLoaded files (Merges into from) (Take d text) = ⊥
 IsLoaded files (Merges into from) (Merge i f) = (i ≡ into) × (f ≡ from)
 
--- each step with its text
+-- each step of a script with its text
 abbrev pub AreLoaded : Option Files → List Written → List Step → Type 0
 AreLoaded files [] [] = Unit {0}
 AreLoaded files [] (step ∷ steps) = ⊥
@@ -206,7 +216,8 @@ AreLoaded files (written ∷ script) (step ∷ steps) = IsLoaded files written s
 abbrev pub ReadsScript : Option Files → Text → Script → Type 0
 ReadsScript files name script = (bytes : List ℕ) × HasFile files name bytes × SpellsScript script bytes
 
--- the file of this name is a script of this number of desks, and these are its steps with their texts
+-- the file of this name is a script of this number of desks, and these are its steps with their
+-- texts
 pub record HasSteps (files : Option Files) (name : Text) (count : ℕ) (steps : List Step) : Type 0 where
   pub script : Script
   pub reads : ReadsScript files name script

@@ -12,28 +12,28 @@ pub data Written : Type 0 where
   Takes : ℕ → List ℕ → Written  -- the desk takes the text in the file of this name
   Merges : ℕ → ℕ → Written  -- the desk takes over what the other desk holds
 
--- one digit from 1 up to a number of desks names a desk
+-- the desk that a digit from 1 up to the number of desks names
 abbrev pub desk_in : ℕ → List ℕ → Option ℕ
 desk_in count [] = None
 desk_in count (digit ∷ []) = if nat_le 49 digit && nat_lt digit (49 + count) then Some (digit - 49) else None
 desk_in count (digit ∷ other ∷ rest) = None
 
--- DESKS n, with n from 1 to 9: the number of desks
+-- the number of desks in a line DESKS n, with n from 1 to 9
 abbrev pub count_in : List ℕ → Option ℕ
 count_in line = if bytes_eq (word line) (codes "DESKS") then option_map (λ n. n + 1) (desk_in 9 (behind line)) else None
 
--- the name of a file: it has a byte, no blank, and is UTF-8
+-- the name of a file in a word: at least one byte, no blank, valid UTF-8
 abbrev pub name_in : List ℕ → Option (List ℕ)
 name_in text = if nat_lt 0 (length text) && (not (list_any (λ b. b == 32) text) && is_utf8 text) then Some text else None
 
--- TAKE d NAME
+-- the step of a line TAKE d NAME
 abbrev pub take_in : ℕ → List ℕ → Option Written
 take_in count rest = do
   desk ← desk_in count (word rest)
   name ← name_in (behind rest)
   Some (Takes desk name)
 
--- MERGE d e
+-- the step of a line MERGE d e
 abbrev pub merge_in : ℕ → List ℕ → Option Written
 merge_in count rest = do
   into ← desk_in count (word rest)
@@ -56,7 +56,8 @@ pub record Script : Type 0 where
   pub count : ℕ
   pub steps : List Written
 
--- The bytes are the script: of the lines that are left, as lines of messages are, the first is DESKS n, and each other is a step.
+-- The bytes are the script. Blank lines are dropped as in messages; the first line left is DESKS n,
+-- and each other line is a step.
 pub record SpellsScript (script : Script) (text : List ℕ) : Type 0 where
   pub first : ℕ × List ℕ
   pub others : List (ℕ × List ℕ)
@@ -64,7 +65,7 @@ pub record SpellsScript (script : Script) (text : List ℕ) : Type 0 where
   pub count : count_in first.1 ≡ Some script.count
   pub steps : AreSteps script.count others script.steps
 
--- of these lines the one with this number is the first that spells no step
+-- the first of these lines that spells no step has this number
 pub record IsFirstOther (count : ℕ) (lines : List (ℕ × List ℕ)) (number : ℕ) : Type 0 where
   pub before : List (ℕ × List ℕ)
   pub line : ℕ × List ℕ
@@ -75,11 +76,12 @@ pub record IsFirstOther (count : ℕ) (lines : List (ℕ × List ℕ)) (number :
   pub no_step : step_in count line.1 ≡ None
   pub is : number ≡ line.0
 
--- a refusal names that line, or memory ran out
+-- the refusal names the first line that spells no step, or memory ran out
 abbrev pub IsOtherLine : ℕ → List (ℕ × List ℕ) → Refusal → Type 0
 IsOtherLine count lines refusal = (refusal ≡ refused.Memory) ⊎ ((number : ℕ) × (refusal ≡ refused.Script number) × IsFirstOther count lines number)
 
--- the number is that of the line: 1 without lines, or the first line, which is not DESKS n, or the first line that spells no step
+-- the number of the line that makes a text no script: 1 if there are no lines; the first line if it
+-- is not DESKS n; else the first line that spells no step
 abbrev pub IsNoScriptAt : List ℕ → ℕ → Type 0
 IsNoScriptAt text number =
     ((lines_left text ≡ []) × (number ≡ 1))

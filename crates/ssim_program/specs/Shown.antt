@@ -12,7 +12,7 @@ use Rattle.ssim_base.specs.Timetable.{LegValue, Legs}
 use Rattle.ssim_desk.specs.declared.finding_line.FindingLine.{FindingLine}
 use Rattle.ssim_program.specs.Printed.{finding_text}
 
--- columns with a full stop for each blank
+-- columns with a full stop in place of each blank
 abbrev pub dotted : List ℕ → List ℕ
 dotted bytes = map (λ b. if b == 32 then 46 else b) bytes
 
@@ -20,8 +20,9 @@ dotted bytes = map (λ b. if b == 32 then 46 else b) bytes
 abbrev pub shown : ℕ → ℕ → List ℕ → List ℕ
 shown first last columns = 32 ∷ dotted (leg_columns first last columns)
 
--- The departure station, passenger time, aircraft time and UTC variation; the arrival station, aircraft time, passenger time and UTC
--- variation; the date variations; the service type; the aircraft type.
+-- The departure station, passenger time, aircraft time and UTC variation; the arrival station,
+-- aircraft time, passenger time and UTC variation; the date variations; the service type; the
+-- aircraft type.
 abbrev pub columns_text : List ℕ → List ℕ
 columns_text d =
     shown 37 39 d ++ shown 40 43 d ++ shown 44 47 d ++ shown 48 52 d ++ shown 55 57 d ++ shown 58 61 d ++ shown 62 65 d ++ shown 66 70 d
@@ -31,6 +32,7 @@ columns_text d =
 abbrev pub leg_text : LegValue → List ℕ
 leg_text leg = two_digits leg.sequence ++ columns_text leg.columns
 
+-- the line of a leg
 abbrev pub leg_line : LegValue → List ℕ
 leg_line leg = line (leg_text leg)
 
@@ -39,7 +41,7 @@ abbrev pub leg_lines : Legs → List ℕ
 leg_lines [] = line (codes "no flight")
 leg_lines (leg ∷ legs) = flat_map leg_line (leg ∷ legs)
 
--- the flight and the date, then its legs
+-- the lines of a flight on a date: a heading, then its legs
 abbrev pub shown_flight : Designator → ℕ → Legs → List ℕ
 shown_flight designator day legs = line (designator_text designator ++ 32 ∷ day_text day) ++ leg_lines legs
 

@@ -14,11 +14,12 @@ pub record World : Type 0 where
   pub files : Option Files
   pub out : Paper
 
+-- the files and the printer of `out`
 abbrev pub world : Option Files → Paper → World
 world files out = record { files = files; out = out }
 
--- A command was done. `out` has taken exactly what the command prints, and was flushed after it; the file that the command keeps was kept, and no
--- other file changed.
+-- A command was done. `out` has taken exactly what the command prints, and was flushed after it;
+-- the file that the command keeps was kept, and no other file changed.
 pub record IsDone (line : Line) (before after : World) : Type 0 where
   pub printed : List ℕ
   pub kept : Kept
@@ -28,14 +29,16 @@ pub record IsDone (line : Line) (before after : World) : Type 0 where
   pub grows : Grows printed before.out after.out
   pub flushed : after.out.flushed ≡ true
 
--- A command stops for a reason. No file changed, and `out` has taken only what the command printed before, which is nothing but for `take`.
+-- A command stops for a reason. No file changed, and `out` has taken only what the command printed
+-- before, which is nothing but for `take`.
 pub record IsStopped (line : Line) (before after : World) (refusal : Refusal) : Type 0 where
   pub printed : List ℕ
   pub why : Refuses line before.files printed refusal
   pub files : after.files ≡ before.files
   pub grows : Grows printed before.out after.out
 
--- A call of `out` failed, and the refusal is 52. `out` has taken a prefix of what the command prints, and a file that was kept before stays.
+-- A call of `out` failed, and the refusal is 52. `out` has taken a prefix of what the command
+-- prints, and a file that was kept before stays.
 pub record IsCutOff (line : Line) (before after : World) (refusal : Refusal) : Type 0 where
   pub is : refusal ≡ refused.WriteFault
   pub printed : List ℕ
@@ -63,7 +66,8 @@ Obeys line before after err err' status =
     ((status ≡ 0) × IsDone line before after × (err' ≡ err))
     ⊎ ((status ≡ 1) × EndsWithLine line before after err err')
 
--- What a writer of std holds, as a printer, with the number of its calls that failed. It was flushed last, and nothing is said of the writer.
+-- What a writer of std holds, as a printer, with the number of its calls that failed. It was
+-- flushed last, and nothing is said of the writer.
 abbrev pub paper : Option (List ℕ) → ℕ → Paper
 paper contents failures = record { taken = contents; failures = failures; flushed = true; device = 0 }
 
@@ -76,7 +80,8 @@ PrintsAtOnce (Export file) = ⊥
 PrintsAtOnce (Take file out names) = ⊥
 PrintsAtOnce _ = ⊤
 
--- such a command makes what it prints, and keeps its file; or it is refused, and no file changed
+-- A command that prints all at once makes its lines and keeps its file, or it is refused and no
+-- file changes.
 abbrev pub Prepares : {A : Type 0} → Line → Option Files → Option Files → Result (Vec ℕ A) Refusal → Type 0
 Prepares line old new (Ok text) = (kept : Kept) × Makes line old text.items kept × (new ≡ with_kept kept old)
 Prepares line old new (Err refusal) = Refuses line old [] refusal × (new ≡ old)

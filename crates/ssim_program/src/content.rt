@@ -8,7 +8,8 @@ use ssim_base::WriteFault;
 use ssim_desk::Holdings;
 use ssim_records::Sink;
 
-/// What can be kept in a file. A store writes it straight to the file, so that its bytes need not be in memory at once.
+/// What can be kept in a file. A store writes it straight to the file, so that its bytes need not
+/// be in memory at once.
 pub trait Content {
     /// The bytes of the file.
     ghost bytes: { Self → List ℕ };

@@ -1,4 +1,5 @@
-//! Files of the store: any file, the data set in a file, and a base from a data set and a station table.
+//! Files of the store: any file, the data set in a file, and a base from a data set and a station
+//! table.
 
 ghost use Rattle.std.specs.Prelude.{◌≡◌, ◌≤◌, List, IfErr, IfOk, Ok, Some, length};
 ghost use Rattle.ssim_base.specs.BaseSeen.{base_with};
@@ -53,7 +54,8 @@ pub(crate) fn load_parts<S: Store>(
     }
 }
 
-/// Reads the data set in the file of this name, to be exported. The file's bytes are freed while they are read.
+/// Reads the data set in the file of this name, to be exported. The file's bytes are freed while
+/// they are read.
 pub(crate) fn load<S: Store>(alloc: Global, name: &str, store: &mut S) -> Result<DataSet, Refusal>
     ensures read { IfOk result (λ read. (notes : List Note) × ReadsFile (S.files store.old) name.now (Ok (read, notes))) }
     ensures refused { IfErr result (RefusesFile (S.files store.old) name.now) }
@@ -68,7 +70,8 @@ pub(crate) fn load<S: Store>(alloc: Global, name: &str, store: &mut S) -> Result
     }
 }
 
-/// Reads what the data set in the file of this name has. The file's bytes are freed while they are read.
+/// Reads what the data set in the file of this name has. The file's bytes are freed while they are
+/// read.
 pub(crate) fn load_summary<S: Store>(
     alloc: Global,
     name: &str,
@@ -117,8 +120,8 @@ fn read_set(alloc: Global, parts: Parts) -> Result<DataSet, BaseFault>
     DataSet::read(alloc, &mut left, LIMIT)
 }
 
-/// Reads the data set in one file, with the station table in another. Both files are loaded first, the data set's before the
-/// table's; then the table is read, and then the data set.
+/// Reads the data set in one file, with the station table in another. Both files are loaded first,
+/// the data set's before the table's; then the table is read, and then the data set.
 pub(crate) fn load_base<S: Store>(
     alloc: Global,
     dataset: &str,

@@ -35,7 +35,8 @@ pub(crate) fn export<S: Store, W: Write>(
     end_export(airline, written, out)
 }
 
-/// Flushes `out` after an export of this airline's flights was written to it; or makes the refusal of the export's fault.
+/// Flushes `out` after an export of this airline's flights was written to it; or makes the refusal
+/// of the export's fault.
 pub(crate) fn end_export<W: Write>(
     airline: Airline,
     written: Result<(), ExportFault>,

@@ -1,16 +1,20 @@
-//! The program as a function: its command line, its store of named files, and what it prints.
+//! The program as a function of its command line, its store of named files and its two writers.
 //!
-//! - [`run`]: from the words, a [`Store`] and two writers of std to a status; [`run_on`]: the same over two [`Printer`]s, which
-//!   count the failures of their writers. [`parse`] of `ssim_command_line` gives the [`Request`] that the words name.
+//! - [`run`]: from the words, a [`Store`] and two writers of std to a status; [`run_on`]: the same
+//!   over two [`Printer`]s, which count the failures of their writers. [`parse`] of
+//!   `ssim_command_line` gives the [`Request`] that the words name.
 //! - [`Content`]: what a store keeps, as the desk file of [`ssim_desk::Holdings`].
-//! - [`Refusal`]: why a command was refused, as its line; [`Printed`]: the lines that commands print.
+//! - [`Refusal`]: why a command was refused, as its line; [`Printed`]: the lines that commands
+//!   print.
 //! - [`laws`]: what `tidy` wrote is tidied to itself.
 //!
-//! **Promise.** The words of a command are no fault of the command line. With status 0 a command has written exactly what its
-//! definition makes of the files that it names, and kept exactly the file that it writes. With status 1 the whole line of one refusal
-//! was written to `err`, unless `err` failed. If the refusal is 52, `out` failed and has a prefix, and a file that `start` or `merge` kept
-//! stays. If it is another, no file has changed and nothing was written to `out`, but `take` has printed what became of the texts before the
-//! one that is refused. Help goes to `out`, and what is wrong with the words to `err`.
+//! **Promise.** The words of a command are no fault of the command line. With status 0 a command
+//! has written exactly what its definition makes of the files that it names, and kept exactly the
+//! file that it writes. With status 1 the whole line of one refusal was written to `err`, unless
+//! `err` failed. If the refusal is 52, `out` failed and has a prefix, and a file that `start` or
+//! `merge` kept stays. If it is another, no file has changed and nothing was written to `out`, but
+//! `take` has printed what became of the texts before the one that is refused. Help goes to `out`,
+//! and what is wrong with the words to `err`.
 #![tactic(auto)]
 
 mod check;

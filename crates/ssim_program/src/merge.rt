@@ -12,7 +12,8 @@ use crate::store::Store;
 use ssim_desk::Holdings;
 use std::alloc::Global;
 
-/// Keeps the desk file of two desks that are merged: the line with the number of messages that it holds.
+/// Keeps the desk file of two desks that are merged: the line with the number of messages that it
+/// holds.
 pub(crate) fn merge<S: Store>(
     alloc: Global,
     mine: &str,

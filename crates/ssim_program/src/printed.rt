@@ -12,7 +12,7 @@ use std::io::Write;
 /// A line that a command prints. It is displayed without its line end.
 #[derive(Clone, Copy, Debug, PartialEq, Eq)]
 pub enum Printed {
-    /// The record's serial does not follow that of the record before.
+    /// The record's serial does not follow the serial before it.
     SerialNote {
         record: u64,
     },

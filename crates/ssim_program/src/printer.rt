@@ -8,7 +8,8 @@ use ssim_records::{DeviceFault, Sink};
 use std::io::Write;
 use std::marker::Model;
 
-/// A printer over a writer of std. Contracts see it as what it has printed: its bytes are known if those of the writer are.
+/// A printer over a writer of std. Contracts see it as what it has printed: its bytes are known if
+/// those of the writer are.
 pub struct Printer<'w, W: Write> {
     pub(crate) writer: &'w mut W,
     /// How many calls failed, or took no byte of some. It wraps at 2^64.
@@ -87,8 +88,8 @@ impl<W: Write> Sink for Printer<'_, W> {
     }
 }
 
-/// Prints all of the bytes, however many the writer takes at a time, and flushes it. Returns 52 if the writer failed, or took no
-/// byte of some.
+/// Prints all of the bytes, however many the writer takes at a time, and flushes it. Returns 52 if
+/// the writer failed, or took no byte of some.
 pub(crate) fn print_all<W: Write>(out: &mut Printer<'_, W>, bytes: &[u8]) -> Result<(), Refusal>
     ensures { Prints bytes.now out.old out.new result }
 {

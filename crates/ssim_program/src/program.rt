@@ -29,7 +29,8 @@ use ssim_command_line::{LineFault, Request, parse};
 use std::alloc::Global;
 use std::io::Write;
 
-/// Runs the program over two writers of std: [`run_on`], with the failures of the two writers counted.
+/// Runs the program over two writers of std: [`run_on`], with the failures of the two writers
+/// counted.
 pub fn run<S: Store, O: Write, E: Write>(
     alloc: Global,
     words: &[&str],
@@ -39,7 +40,8 @@ pub fn run<S: Store, O: Write, E: Write>(
 ) -> u8
     ensures status { result ≤ 2 }
 
-    // The words of a command are no fault of the command line. A command's name and plain values name it.
+    // The words of a command are no fault of the command line. A command's name and plain values
+    // name it.
     ensures plain { (line : Line) → Spells (map (λ w. w.now) words.now) line
         → Names (map (λ w. w.now) words.now) line }
     ensures known { (line : Line) → Names (map (λ w. w.now) words.now) line → result ≤ 1 }
@@ -50,21 +52,24 @@ pub fn run<S: Store, O: Write, E: Write>(
     ensures wrong { result ≡ 2 → HasFault (map (λ w. w.now) words.now) false
         ⊎ IsNoCommand (map (λ w. w.now) words.now) }
 
-    // A command that was done printed exactly what it makes of the files, and kept exactly its file. `err` holds the same bytes.
+    // A command that was done printed exactly what it makes of the files, and kept exactly its
+    // file. `err` holds the same bytes.
     ensures done { (line : Line) → Names (map (λ w. w.now) words.now) line → result ≡ 0
         → IsDone line (world (S.files store.old) (paper (O.contents out.old) 0))
         (world (S.files store.new) (paper (O.contents out.new) 0))
         × Keeps (E.contents err.old) (E.contents err.new) }
 
-    // With some number of failed calls of each writer: a refused command printed nothing but the lines of `take`, unless a call of `out`
-    // failed; and its line is on `err`, unless a call of `err` failed.
+    // With some number of failed calls of each writer: a refused command printed nothing but the
+    // lines of `take`, unless a call of `out` failed; and its line is on `err`, unless a call of
+    // `err` failed.
     ensures ends { (line : Line) → Names (map (λ w. w.now) words.now) line → result ≡ 1
         → (failed : ℕ) × (err_failed : ℕ)
         × EndsWithLine line (world (S.files store.old) (paper (O.contents out.old) 0))
         (world (S.files store.new) (paper (O.contents out.new) failed))
         (paper (E.contents err.old) 0) (paper (E.contents err.new) err_failed) }
 
-    // Help is printed on `out`, or refused; what is wrong with the words is printed on `err`. No file changes.
+    // Help is printed on `out`, or refused; what is wrong with the words is printed on `err`. No
+    // file changes.
     ensures help { result ≡ 0 → IsCommand (map (λ w. w.now) words.now)
         ⊎ PrintsHelp (paper (O.contents out.old) 0) (paper (O.contents out.new) 0)
         (paper (E.contents err.old) 0) (paper (E.contents err.new) 0) }
@@ -96,11 +101,11 @@ pub fn run<S: Store, O: Write, E: Write>(
     status
 }
 
-/// Runs the program on its words, the first of which is its own name. Returns 0 if the command was done, or help was asked
-/// for; 1 if it was refused; 2 if the words name no command.
+/// Runs the program on its words, the first of which is its own name. Returns 0 if the command was
+/// done, or help was asked for; 1 if it was refused; 2 if the words name no command.
 ///
-/// What a command prints goes to `out`, the line of a refusal to `err`. If `out` fails, it has taken a prefix of what was to
-/// be printed. A failure of `err` changes no status.
+/// What a command prints goes to `out`, the line of a refusal to `err`. If `out` fails, it has
+/// taken a prefix of what was to be printed. A failure of `err` changes no status.
 pub fn run_on<S: Store, O: Write, E: Write>(
     alloc: Global,
     words: &[&str],
@@ -110,12 +115,14 @@ pub fn run_on<S: Store, O: Write, E: Write>(
 ) -> u8
     ensures status { result ≤ 2 }
 
-    // The words of a command are no fault of the command line. A command's name and plain values name it.
+    // The words of a command are no fault of the command line. A command's name and plain values
+    // name it.
     ensures plain { (line : Line) → Spells (map (λ w. w.now) words.now) line
         → Names (map (λ w. w.now) words.now) line }
     ensures known { (line : Line) → Names (map (λ w. w.now) words.now) line → result ≤ 1 }
 
-    // Status 0 is for a command, or if help is asked for; 1 also if memory ran out; 2 for words that are wrong.
+    // Status 0 is for a command, or if help is asked for; 1 also if memory ran out; 2 for words
+    // that are wrong.
     ensures named { result ≡ 0 → IsCommand (map (λ w. w.now) words.now)
         ⊎ HasFault (map (λ w. w.now) words.now) true }
     ensures memory { result ≡ 1 → IsCommand (map (λ w. w.now) words.now)
@@ -124,18 +131,21 @@ pub fn run_on<S: Store, O: Write, E: Write>(
     ensures wrong { result ≡ 2 → HasFault (map (λ w. w.now) words.now) false
         ⊎ IsNoCommand (map (λ w. w.now) words.now) }
 
-    // A command that was done printed exactly what it makes of the files, flushed it, and kept exactly its file. `err` is as it was.
+    // A command that was done printed exactly what it makes of the files, flushed it, and kept
+    // exactly its file. `err` is as it was.
     ensures done { (line : Line) → Names (map (λ w. w.now) words.now) line → result ≡ 0
         → IsDone line (world (S.files store.old) out.old) (world (S.files store.new) out.new)
         × (err.new ≡ err.old) }
 
-    // A command is refused for one reason, whose line is printed on `err`. Unless that is 52, no file changed, and nothing was printed on `out`
-    // but the lines of `take`; if it is 52, a call of `out` failed, and it has taken a prefix of what the command prints.
+    // A command is refused for one reason, whose line is printed on `err`. Unless that is 52, no
+    // file changed, and nothing was printed on `out` but the lines of `take`; if it is 52, a call
+    // of `out` failed, and it has taken a prefix of what the command prints.
     ensures ends { (line : Line) → Names (map (λ w. w.now) words.now) line → result ≡ 1
         → EndsWithLine line (world (S.files store.old) out.old) (world (S.files store.new) out.new)
         err.old err.new }
 
-    // Help is printed on `out`, or refused; what is wrong with the words is printed on `err`. No file changes.
+    // Help is printed on `out`, or refused; what is wrong with the words is printed on `err`. No
+    // file changes.
     ensures help { result ≡ 0 → IsCommand (map (λ w. w.now) words.now)
         ⊎ PrintsHelp out.old out.new err.old err.new }
     ensures no_help { result ≡ 1 → IsCommand (map (λ w. w.now) words.now)
@@ -143,7 +153,7 @@ pub fn run_on<S: Store, O: Write, E: Write>(
     ensures usage { result ≡ 2 → SaysWrong out.old out.new err.old err.new }
     ensures files { (S.files store.new ≡ S.files store.old) ⊎ IsCommand (map (λ w. w.now) words.now) }
 
-    // Both go on to the same writers.
+    // Both printers still write to the same writers.
     ensures devices { (out.new.device ≡ out.old.device) × (err.new.device ≡ err.old.device) }
 {
     match parse(alloc, words) {
@@ -210,7 +220,8 @@ fn print<O: Write>(made: Result<Vec<u8>, Refusal>, out: &mut Printer<'_, O>) -> 
     }
 }
 
-/// Prints the line of a refusal. If no memory is left for the line, it is that of 90; that of 52 needs none.
+/// Prints the line of a refusal. If there is no memory for the line, prints the line of 90; the
+/// line of 52 needs no memory.
 fn refuse<P: Write>(alloc: Global, refusal: &Refusal, err: &mut Printer<'_, P>) -> u8
     ensures status { result ≡ 1 }
     ensures printed { PrintsRefusal refusal.now err.old err.new }

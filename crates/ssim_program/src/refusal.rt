@@ -16,8 +16,8 @@ use std::alloc::{AllocError, AllocFailed, Global};
 use std::error::Error;
 use std::fmt;
 
-/// Why a command was refused: a fault of one of the crates below, or one of the program's own. It is
-/// displayed as its line on standard error: `refused`, the number, the name, and what it names.
+/// Why a command was refused: a fault of one of the crates below, or one of the program's own. It
+/// is displayed as its line on standard error: `refused`, the number, the name, and what it names.
 #[derive(Debug, Drop)]
 pub enum Refusal {
     /// 1 to 7: a word of the command line is no value of the kind.
@@ -26,9 +26,11 @@ pub enum Refusal {
     DataSet(BaseFault),
     /// 39: the station table is invalid at a line.
     Stations(StationFault),
-    /// 13, 14, 20 to 29, 40 to 43, or 60 to 62: a text, a message, another desk or a desk file is refused.
+    /// 13, 14, 20 to 29, 40 to 43, or 60 to 62: a text, a message, another desk or a desk file is
+    /// refused.
     Desk(DeskFault),
-    /// 50 or 51: the flights of the airline have no export. The flight of 50 is printed as a designator.
+    /// 50 or 51: the flights of the airline have no export. The flight of 50 is printed as a
+    /// designator.
     Export {
         airline: Airline,
         fault: ExportFault,

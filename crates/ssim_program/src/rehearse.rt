@@ -1,4 +1,5 @@
-//! The command `rehearse`: runs a desk script, and prints whether all desks end with the same export.
+//! The command `rehearse`: runs a desk script, and prints whether all desks end with the same
+//! export.
 
 mod line;
 mod lines;
@@ -18,12 +19,13 @@ use crate::store::Store;
 use ssim_desk::Holdings;
 use std::alloc::Global;
 
-/// Runs the script in a file on desks over the base of a data set and a station table: a line for each step, a line for each desk, and
-/// whether all exports are equal.
+/// Runs the script in a file on desks over the base of a data set and a station table: a line for
+/// each step, a line for each desk, and whether all exports are equal.
 ///
-/// The data set is loaded first, then the station table; the table is read before the data set. Then the script is loaded and read
-/// whole, and its texts are loaded, before the first step. A refusal of a step, or of the export of a desk, is in the line of the step
-/// or the desk. If an export runs out of memory, the command is refused with 90.
+/// The data set is loaded first, then the station table; the table is read before the data set.
+/// Then the script is loaded and read whole, and its texts are loaded, before the first step. A
+/// refusal of a step, or of the export of a desk, is in the line of the step or the desk. If an
+/// export runs out of memory, the command is refused with 90.
 pub(crate) fn rehearse<S: Store>(
     alloc: Global,
     dataset: &str,

@@ -18,8 +18,8 @@ use ssim_text::Reference;
 use std::alloc::Global;
 use std::io::Write;
 
-/// Takes the texts in these files at the desk in a file, prints what became of each, and at last keeps the desk file. At the
-/// first refusal it stops, and keeps nothing.
+/// Takes the texts in these files at the desk in a file, prints what became of each, and at last
+/// keeps the desk file. At the first refusal it stops, and keeps nothing.
 pub(crate) fn take<S: Store, W: Write>(
     alloc: Global,
     file: &str,

@@ -124,8 +124,8 @@ fn new_desks(alloc: Global, empty: &Holdings, count: usize) -> Result<Vec<Holdin
     Ok(desks)
 }
 
-/// Runs steps on new desks, each equal to this one, which holds nothing: the lines of the answers,
-/// of the desks, and whether all exports are equal.
+/// Runs steps on new desks, each equal to this one, which holds nothing. Returns the lines of the
+/// results and of the desks, and the line that says whether all exports are equal.
 pub(crate) fn rehearsal_of(
     alloc: Global,
     empty: &Holdings,

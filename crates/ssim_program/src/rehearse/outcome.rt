@@ -86,7 +86,7 @@ fn line_of(number: usize, desk: &Holdings, outcome: &Outcome) -> RehearsalLine
     }
 }
 
-/// Adds the lines of desks and their exports; `number` is that of the first.
+/// Adds the lines of desks and their exports; `number` is the number of the first desk.
 fn add_lines(
     lines: &mut Vec<RehearsalLine>,
     number: usize,
@@ -159,7 +159,8 @@ fn verdict(outcomes: &[Outcome]) -> RehearsalLine
     }
 }
 
-/// The lines of desks after a run: a line for each desk, counted from 1, and whether all exports are equal.
+/// The lines of desks after a run: a line for each desk, counted from 1, and whether all exports
+/// are equal.
 pub(crate) fn ends_of(alloc: Global, desks: &[Holdings]) -> Result<Vec<RehearsalLine>, Memory>
     requires { length desks.now ≤ 9 }
     ensures { IfOk result (λ lines. HasEnds (map state_of desks.now) lines.items) }

@@ -187,10 +187,12 @@ fn read_steps<'s>(
 }
 
 impl<'s> Script<'s> {
-    /// Reads a script. CR bytes and blanks at line ends are dropped, and then empty lines. The first line that is left is `DESKS n`,
-    /// n from 1 to 9; each other is `TAKE d NAME` or `MERGE d e`, with desks from 1 to n and one or more blanks between the parts.
+    /// Reads a script. CR bytes and blanks at line ends are dropped, and then empty lines. The
+    /// first line that is left is `DESKS n`, n from 1 to 9; each other is `TAKE d NAME` or `MERGE d
+    /// e`, with desks from 1 to n and one or more blanks between the parts.
     ///
-    /// 63 `Script` names the first line that is not spelled so, by its number among all lines, from 1; line 1 if no line is left.
+    /// 63 `Script` names the first line that is not spelled so, by its number among all lines, from
+    /// 1; line 1 if no line is left.
     pub(crate) fn read(alloc: Global, text: &'s [u8]) -> Result<Script<'s>, Refusal>
         ensures ok { IfOk result (λ script. SpellsScript (script_of script) text.now) }
         ensures least { IfOk result (λ script. 0 < script.count) }

@@ -47,7 +47,8 @@ fn load_texts<S: Store>(
     Ok(steps)
 }
 
-/// Reads the script in the file of this name, and loads its texts: the number of desks, and the steps.
+/// Reads the script in the file of this name, and loads its texts: the number of desks, and the
+/// steps.
 pub(crate) fn load_steps<S: Store>(
     alloc: Global,
     script: &str,

@@ -1,4 +1,5 @@
--- Both files are loaded and the table is read, so a refusal of the data set is that of its bytes, or memory ran out.
+-- Both files are loaded and the table is read, so a refusal of the data set is that of its bytes,
+-- or memory ran out.
 use Rattle.std.proofs.Common.{List, ℕ, Option, Err, inl, inr, refl}
 use Rattle.ssim_base.specs.Reading.{AnswersRecords, IsReadAs}
 use Rattle.ssim_base.specs.Stations.{Row}

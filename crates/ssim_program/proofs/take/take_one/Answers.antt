@@ -1,4 +1,4 @@
--- The reference is that of the message which the text says.
+-- The reference is the reference of the message that the text spells.
 use Rattle.std.proofs.Common.{◌≡◌, ℕ, List, Result, Ok, Err, IfErr, IfOk}
 use Rattle.ssim_text.specs.Message.{MessageValue}
 use Rattle.ssim_text.specs.declared.reference.Reference.{Reference}

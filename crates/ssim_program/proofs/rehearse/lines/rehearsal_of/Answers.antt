@@ -1,4 +1,4 @@
--- The answers of the run have their lines, and the desks after it have theirs.
+-- The results of the run have their lines, and the desks after the run have theirs.
 use Rattle.std.proofs.Common.{rules, ◌≡◌, ◌∙◌, ◌++◌, List, All, drop, length, map, take, refl, sym, ap, subst, arith}
 use Rattle.std.proofs.Math.Seq.{take-append_seam}
 use Rattle.ssim_held.specs.Entries.{DeskSeen, state_of}

@@ -1,4 +1,4 @@
--- The buffer was empty, so it has the export of the copy, which is that of the desk.
+-- The buffer was empty, so it has the export of the copy, which equals the desk's.
 use Rattle.std.proofs.Common.{Ok, ap, sym, subst}
 use Rattle.ssim_records.specs.Device.{Buffer}
 use Rattle.ssim_held.specs.Entries.{AreEntries, DeskSeen, state_of}
