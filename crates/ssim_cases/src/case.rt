@@ -176,7 +176,8 @@ impl<'t> Case<'t> {
         Ok((first, self.load(second)?))
     }
 
-    /// Puts desks over the base of two files, a data set and a station table, in place of those there are.
+    /// Puts desks over the base of two files, a data set and a station table, in place of those
+    /// there are.
     fn start_desks(&mut self, rest: &str) -> Result<(), Fault> {
         self.desks.clear();
         self.add_desks(rest)
@@ -198,8 +199,8 @@ impl<'t> Case<'t> {
         }
     }
 
-    /// Calls the library, and prints the result. A guarded call that runs out of memory has to leave all desks as they were,
-    /// and is made again.
+    /// Calls the library, and prints the result. A guarded call that runs out of memory has to
+    /// leave all desks as they were, and is made again.
     fn ask(&mut self, word: &str, rest: &str) -> Result<(), Fault> {
         let Some(guard) = self.guard else {
             return self.call(word, rest);

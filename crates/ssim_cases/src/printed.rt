@@ -9,7 +9,8 @@ use ssim_records::Bytes;
 use ssim_values::{Day, Designator};
 use std::alloc::Global;
 
-/// The columns of a leg record that are printed: the period, the times, the UTC variations and the aircraft type.
+/// The columns of a leg record that are printed: the period, the times, the UTC variations and the
+/// aircraft type.
 const OF_LEGS: [(usize, usize); 8] = [
     (14, 21),
     (21, 28),
@@ -21,7 +22,8 @@ const OF_LEGS: [(usize, usize); 8] = [
     (72, 75),
 ];
 
-/// The columns of a segment record that are printed: the leg sequence and the first ones from 29 on.
+/// The columns of a segment record that are printed: the leg sequence and the first ones from 29
+/// on.
 const OF_SEGMENTS: [(usize, usize); 3] = [(11, 13), (28, 39), (39, 53)];
 
 /// Prints what a desk shows for a word.

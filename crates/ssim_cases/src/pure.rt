@@ -42,7 +42,8 @@ pub fn print_encoded(alloc: Global, text: &[u8], out: &mut Vec<u8>) -> Result<()
     }
 }
 
-/// Resolves a message against a base, and prints its reference, and the flight and the period of each sub-message.
+/// Resolves a message against a base, and prints its reference, and the flight and the period of
+/// each sub-message.
 pub fn print_resolved(
     alloc: Global,
     base: &Base,

@@ -29,7 +29,8 @@ impl<'t> Guard<'t> {
         })
     }
 
-    /// All that desks show: the messages that they hold, their findings, itineraries, desk files and exports.
+    /// All that desks show: the messages that they hold, their findings, itineraries, desk files
+    /// and exports.
     pub fn seen(&self, alloc: Global, desks: &[Desk]) -> Result<Vec<u8>, Fault> {
         let mut seen = Vec::new(alloc);
         for desk in desks {

@@ -59,7 +59,8 @@ pub fn add_shown(bytes: &mut Vec<u8>, text: &str) -> Result<(), Fault> {
     Ok(())
 }
 
-/// Adds the bytes of the sign between `<` and `>`: one by its hexadecimal digits, or a run of one byte, a blank if none is named.
+/// Adds the bytes of the sign between `<` and `>`: one by its hexadecimal digits, or a run of one
+/// byte, a blank if none is named.
 fn add_sign(bytes: &mut Vec<u8>, sign: &str) -> Result<(), Fault> {
     if let Some(digits) = sign.strip_prefix('x') {
         let Ok(byte) = u8::from_str_radix(digits, 16) else {
@@ -75,7 +76,8 @@ fn add_sign(bytes: &mut Vec<u8>, sign: &str) -> Result<(), Fault> {
     Ok(())
 }
 
-/// Shows bytes line by line under a heading, and nothing if there are none. `<>` ends a last line without LF.
+/// Shows bytes line by line under a heading, and nothing if there are none. `<>` ends a last line
+/// without LF.
 pub fn show(out: &mut Vec<u8>, heading: &str, bytes: &[u8]) -> Result<(), Fault> {
     if bytes.is_empty() {
         return Ok(());
