@@ -123,7 +123,8 @@ fn has_one_day(periods: &Periods<Number>) -> bool {
     }
 }
 
-/// Whether the copies of periods have one day too, the one whose equal values may be made copies of one as well.
+/// Whether the copies of periods have one day too, the one whose equal values may be made copies of
+/// one as well.
 fn copies_have_one_day(periods: &Periods<Number>) -> bool {
     match (periods.copy(), periods.shared()) {
         (Ok(copy), Ok(shared)) => has_one_day(&copy) && has_one_day(&shared),

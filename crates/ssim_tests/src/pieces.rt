@@ -4,8 +4,8 @@ ghost use Rattle.std.specs.Prelude.{None};
 
 use ssim_records::{DeviceFault, Source};
 
-/// A reader of at most `piece` bytes at a time. It fails at one of its calls, counted from 1. After its bytes it continues
-/// with `again`.
+/// A reader of at most `piece` bytes at a time. It fails at one of its calls, counted from 1. After
+/// its bytes it continues with `again`.
 #[derive(Drop)]
 pub(crate) struct Pieces<'a> {
     bytes: &'a [u8],

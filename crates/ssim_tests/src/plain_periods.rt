@@ -1,4 +1,5 @@
-//! Random periods against a plain list of days, with covers computed on it day by day as they are defined.
+//! Random periods against a plain list of days, with covers computed on it day by day as they are
+//! defined.
 ghost use Rattle.std.specs.Prelude.{◌<◌};
 
 use crate::periods::{Number, change_to, value_on};

@@ -1,5 +1,6 @@
-//! That the tables of the definitions are those of the format, and what a reading makes of readers that give few bytes at a time,
-//! that fail and that never end. Expected values are those of the format.
+//! That the tables of the definitions are those of the format, and what a reading makes of readers
+//! that give few bytes at a time, that fail and that never end. Expected values are those of the
+//! format.
 
 mod bytes_of_fields;
 mod columns;
@@ -28,7 +29,8 @@ fn outcome<R: Source>(reader: &mut R, limit: u64) -> (u64, Option<RecordFault>) 
     (count, None)
 }
 
-/// The first invalid column of a record, 0 if it is valid and what is written for it is read as the same record, and else none.
+/// The first invalid column of a record, 0 if it is valid and what is written for it is read as the
+/// same record, and else none.
 fn first_invalid(bytes: &[u8; 200]) -> Option<usize> {
     match read_record(bytes) {
         Ok(record) => match read_record(&write_record(&record)) {

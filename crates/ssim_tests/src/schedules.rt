@@ -1,4 +1,5 @@
-//! Bases over readers that fail, and exports into writers that do. What data sets and messages are is in the cases in plain text.
+//! Bases over readers that fail, and exports into writers that do. What data sets and messages are
+//! is in the cases in plain text.
 
 ghost use Rattle.std.specs.Prelude.{◌≤◌, None};
 
@@ -20,7 +21,7 @@ fn read<R: Source>(alloc: Global, reader: &mut R, limit: u64) -> Result<Base, Ba
     }
 }
 
-/// The number and record of the refusal of a reader, 0 where it has a base.
+/// The number and record of the refusal of a reader; 0 if it has a base.
 fn refusal<R: Source>(alloc: Global, reader: &mut R, limit: u64) -> (u8, u64) {
     match read(alloc, reader, limit) {
         Ok(_) => (0, 0),
@@ -80,7 +81,8 @@ fn first_thousand() -> [u8; 1000] {
     bytes
 }
 
-/// Whether an export into such a writer fails once, after the writer has taken the first thousand bytes.
+/// Whether an export into such a writer fails once, after the writer has taken the first thousand
+/// bytes.
 fn fails_once(base: &Base, schedule: &Schedule, piece: usize) -> bool {
     let mut writer = Limited {
         bytes: [0; 1000],

@@ -1,6 +1,6 @@
-//! A byte too low, DEL and two bytes above ASCII in each column of each type of record. In a carried column the first two are
-//! invalid, and the fault names the column itself. In another column all are, and the fault names the first column of the
-//! field.
+//! A byte too low, DEL and two bytes above ASCII in each column of each type of record. In a
+//! carried column the first two are invalid, and the fault names the column itself. In another
+//! column all are, and the fault names the first column of the field.
 
 use super::*;
 
@@ -117,7 +117,8 @@ fn first_wrong_in(record: &[u8; 200], first: usize, last: usize, carried: bool) 
     None
 }
 
-/// The first column of these fields that has another effect. The fields have to be all columns from 2.
+/// The first column of these fields that has another effect. The fields have to be all columns from
+/// 2.
 fn first_wrong(record: &[u8; 200], fields: &[(usize, usize, bool)]) -> Option<usize> {
     let mut next = 2;
     for (first, last, carried) in fields {

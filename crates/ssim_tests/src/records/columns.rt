@@ -1,5 +1,5 @@
-//! What the records say, column by column. Each field of the leg has bytes of its own, so that no two columns can be taken for one
-//! another.
+//! What the records say, column by column. Each field of the leg has bytes of its own, so that no
+//! two columns can be taken for one another.
 
 use super::*;
 use ssim_values::{Clock, Variation};

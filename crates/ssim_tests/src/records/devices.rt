@@ -7,8 +7,8 @@ use crate::data::data_set;
 use std::io;
 use std::io::{ErrorKind, Read, Write};
 
-/// A reader and writer of std: one byte at its first call, an error at its second, nothing at its third, and then one
-/// byte a call again.
+/// A reader and writer of std: one byte at its first call, an error at its second, nothing at its
+/// third, and then one byte a call again.
 #[derive(Drop)]
 struct Halting {
     calls: u64,
@@ -44,7 +44,8 @@ impl Write for Halting {
     }
 }
 
-/// Whether readers of these bytes all have this outcome: a slice, one of one byte at a time, and one of std.
+/// Whether readers of these bytes all have this outcome: a slice, one of one byte at a time, and
+/// one of std.
 fn is_read(bytes: &[u8], limit: u64, expected: (u64, Option<RecordFault>)) -> bool {
     let mut whole = bytes;
     outcome(&mut whole, limit) == expected
@@ -86,8 +87,8 @@ fn devices_that_fail(rt: HostRuntime) {
     );
 }
 
-// A reader of one byte at a time has given k - 1 bytes of data set A when its k-th call fails, and a record is complete
-// after 200 of its 201. The 805th call is the one that finds the end.
+// A reader of one byte at a time has given k - 1 bytes of data set A when its k-th call fails, and
+// a record is complete after 200 of its 201. The 805th call is the one that finds the end.
 fn first_wrong_call(bytes: &[u8]) -> Option<u64> {
     for call in 1..=805u64 {
         let complete = call / 201;
@@ -118,7 +119,8 @@ fn a_refusal_stays(rt: HostRuntime) {
     }
 }
 
-/// Whether a reader that never ends is refused after this many records, however many bytes it gives at a time.
+/// Whether a reader that never ends is refused after this many records, however many bytes it gives
+/// at a time.
 fn is_refused_after(bytes: &[u8], limit: u64, complete: u64) -> bool {
     for piece in [1, 200, 20_000] {
         let refused = (complete, never_ends(complete.wrapping_add(1)));

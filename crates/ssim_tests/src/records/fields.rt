@@ -1,5 +1,5 @@
-//! Valid and invalid texts of each kind of field, and the column that a fault names: a column, the bytes that are put there,
-//! and the column of the fault, or 0 if the record is valid.
+//! Valid and invalid texts of each kind of field, and the column that a fault names: a column, the
+//! bytes that are put there, and the column of the fault, or 0 if the record is valid.
 
 use super::*;
 
