@@ -64,7 +64,8 @@ fn run_on(rt: &HostRuntime, words: &[&str]) -> Option<u8> {
         return None;
     };
     let status = run(alloc, words, &mut store, &mut out, &mut rt.stderr());
-    // What is printed was flushed. Only after a failure is there more in the buffer, and then nothing more is written.
+    // What is printed was flushed. Only after a failure is there more in the buffer, and then
+    // nothing more is written.
     let _ = out.into_parts();
     Some(status)
 }

@@ -17,7 +17,8 @@ const CHUNK: usize = 4_096;
 /// This number of chunks is larger than a part of a file.
 const CHUNKS: usize = 270;
 
-/// Reads bytes after those that are there, through `chunk`, until there are `most` of them or the reader ends.
+/// Reads bytes after those that are there, through `chunk`, until there are `most` of them or the
+/// reader ends.
 fn fill<R: Read>(
     reader: &mut R,
     chunk: &mut [u8],
@@ -43,7 +44,8 @@ fn fill<R: Read>(
     Err(StoreFault::Fault)
 }
 
-/// All bytes of the reader, if they are at most `limit`. Memory for `expected` bytes is allocated at once.
+/// All bytes of the reader, if they are at most `limit`. Memory for `expected` bytes is allocated
+/// at once.
 pub(crate) fn read_within<R: Read + Drop>(
     alloc: Global,
     mut reader: R,
@@ -102,12 +104,14 @@ pub(crate) fn read_parts_within<R: Read + Drop>(
     }
 }
 
-/// Takes one block that is larger than a part of a file, and frees it. The C library takes blocks of 128 KiB and more from the system, and
-/// gives each back when it is freed, until a larger one was freed: from then on blocks up to that size stay with the program. So what is
-/// made of the parts is put into the memory that they leave, and no new memory is asked for, which would have to be cleared first.
+/// Takes one block that is larger than a part of a file, and frees it. The C library takes blocks
+/// of 128 KiB and more from the system, and gives each back when it is freed, until a larger one
+/// was freed: from then on blocks up to that size stay with the program. What is built from the
+/// parts then uses the memory that they leave, and no new memory is asked for, which would have to
+/// be cleared first.
 ///
-/// The block grows while it is filled, since the compiler removes one that is only taken and freed. If there is no memory for it, reading
-/// only takes longer.
+/// The block grows while it is filled, since the compiler removes one that is only taken and freed.
+/// If there is no memory for it, reading only takes longer.
 fn keep_parts_in_the_heap(alloc: Global) {
     let mut block: Vec<u8> = Vec::new(alloc);
     for _ in 0..CHUNKS {

@@ -11,11 +11,11 @@ use std::{fs, io};
 /// How many names beside a place are tried before the file is refused.
 const TRIES: u32 = 100;
 
-/// Writes the content under the name: all of it, or what is there stays as it is, and nothing is left beside it unless it cannot
-/// be removed.
+/// Writes the content under the name: all of it, or what is there stays as it is, and nothing is
+/// left beside it unless it cannot be removed.
 ///
-/// A symbolic link stays, and the file to which it leads is written. A device or a FIFO is written straight. The permissions of
-/// a file that is there are kept.
+/// A symbolic link stays, and the file to which it leads is written. A device or a FIFO is written
+/// straight. The permissions of a file that is there are kept.
 pub(crate) fn write_whole<R: Files, C: Content>(
     rt: &R,
     alloc: Global,
@@ -121,7 +121,8 @@ fn fill<R: Files, C: Content>(
     filled
 }
 
-/// Waits until the device has the new name of a file at the place. An error changes nothing: the file is there.
+/// Waits until the device has the new name of a file at the place. An error changes nothing: the
+/// file is there.
 fn sync_folder_of<R: Files>(rt: &R, place: &str) {
     let folder = match place.rsplit_once('/') {
         Some(("", _)) => "/",
