@@ -1,4 +1,5 @@
-//! Two desks take the same texts in different orders, and export the same data set. The data set is the standard input.
+//! Two desks take the same texts in different orders, and export the same data set. The data set is
+//! the standard input.
 #![tactic(auto)]
 
 use ssim_base::{Base, Stations};
