@@ -32,7 +32,7 @@ use Rattle.ssim_base.proofs.DateLemmas.{any-none, any-or, same-dates}
 
 -- ---- dates
 
--- a leg record overlaps one of those before it exactly where they give one of its dates
+-- a leg record overlaps an earlier one exactly if both give a leg on one date
 meets : (name : Name) (p : DayRange) (earlier : List Record)
     → list_any (λ n. holds p n && list_any (gives name.flight name.sequence n) earlier) (range_with_len 0 day_count) ≡ list_any (overlaps name p) earlier
 meets name p [] = any-none (holds p) (range_with_len 0 day_count)
@@ -52,7 +52,7 @@ overlaps-met t name p earlier is legs =
 
 -- ---- the table of leg records
 
--- a leg record more
+-- one more leg record
 legs-more : (old new : LegTable) (r : LegFields) (earlier : List Record) → IsFlight r.name.flight → AreLegs old earlier
     → AddsLegAt old new (place_of r.name.flight) r.name.sequence r.name.variation (period_of r) → AreLegs new (Leg r ∷ earlier)
 legs-more old new r earlier is legs more = record {
@@ -110,7 +110,7 @@ legs-more old new r earlier is legs more = record {
     by_flight f is_f false e =
         ap has_legs (stays f e) ∙ legs.flown f is_f ∙ ap (λ b. b || list_any (is_leg_of f) earlier) (sym (same f false is_f e))
 
--- a record more that is no leg
+-- one more record that is no leg
 legs-same : (old new : LegTable) (k : Record) (earlier : List Record) → AreLegs old earlier → new ≡ old
     → ((n : Name) → is_leg_named n k ≡ false) → ((f : FlightNumber) (s n : ℕ) → gives f s n k ≡ false) → ((f : FlightNumber) → is_leg_of f k ≡ false) → AreLegs new (k ∷ earlier)
 legs-same old new k earlier legs same unnamed none other = subst (λ t. AreLegs t (k ∷ earlier)) (sym same) (record {
@@ -214,7 +214,7 @@ stood-trailer old new heading r earlier before is records at legs airline code =
           (subst (λ p. IsExpectedAfter p (kept_trailer r ∷ earlier)) (sym at) (more-follow earlier (kept_trailer r) true here.0 refl)) legs (λ n. refl) (λ f s n. refl) (λ f. refl);
     }
 
--- a leg record as a base has it, where its end is this day
+-- a leg record as a base has it, if its end is this day
 abbrev pub kept_leg : LegFields → ℕ → LegFields
 kept_leg r last = record r { last = Some last; rate = 32; overflow = 32; serial = 0 }
 
@@ -227,7 +227,7 @@ its-period heading r p s = ap (λ f. made f p.last p.days) s.first_is ∙ ap (ma
     made : ℕ → ℕ → List Bool → DayRange
     made f l d = record { first = f; last = l; days = d }
 
--- the refusal of a leg record is then that of its dates
+-- the refusal of a leg record is then the refusal of its dates
 own-leg : (heading : CarrierTerms) (r : LegFields) (p : DayRange) (earlier : List Record) → IsExpectedAfter (expected.Legs heading) earlier → LegStands heading r p
     → refusal_at earlier (Leg r) ≡ base.first_of (base.refuse_if (list_any (overlaps r.name p) earlier) refused.Overlap ∷ [])
 own-leg heading r p earlier here s =
@@ -262,7 +262,7 @@ stood-leg old new heading r p earlier before is s flight met records at legs =
       });
     }
 
--- a leg record that is refused before its dates are looked at
+-- a leg record that is refused before its dates are compared
 pub leg-airline : (heading : CarrierTerms) (r : LegFields) (earlier : List Record) → IsExpectedAfter (expected.Legs heading) earlier → bytes_eq r.name.airline heading.airline ≡ false
     → refusal_at earlier (Leg r) ≡ Some refused.OtherAirline
 leg-airline heading r earlier here other =

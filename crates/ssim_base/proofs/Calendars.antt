@@ -30,7 +30,7 @@ at-each_day g n h =
     let same : 0 + n ≡ n = omega arith in
     at-range g 0 day_count n h ∙ ap g same
 
--- two lists of as many days are equal where their days are
+-- two lists with one value per day are equal if their days are
 pub same-days : (xs ys : Days) → length xs ≡ length ys → ((n : ℕ) → n < length xs → on_day xs n ≡ on_day ys n) → xs ≡ ys
 same-days [] [] len h = refl
 same-days [] (y ∷ ys) len h = absurd (omega arith)

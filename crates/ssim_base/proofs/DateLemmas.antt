@@ -43,7 +43,7 @@ any-none a (x ∷ xs) = by (a x) (any-none a xs)
 
 -- ---- dates as periods
 
--- a period meets one of some periods exactly where it has a date that one of them holds
+-- a period meets one of some periods exactly if it has a date that one of them holds
 pub meets-any : (p : DayRange) (earlier : List DayRange) → list_any (λ q. meet p q) earlier ≡ have_common_date (holds p) (λ n. list_any (λ q. holds q n) earlier)
 meets-any p [] = sym (any-none (holds p) (range_with_len 0 day_count))
 meets-any p (q ∷ earlier) =
@@ -91,7 +91,7 @@ bit-set w word j k l = by (nat_eq k j) refl
         let other : k ≢ j = grind (arith, nat_tests) in
         rw (bit_at_set_other w word j l k other) refl
 
--- two days are one where word and bit are
+-- two days are the same if word and bit are
 same-place : (n day : ℕ) → n / 64 ≡ day / 64 → nat_eq n day ≡ nat_eq (n % 64) (day % 64)
 same-place n day same = by (nat_eq n day) (nat_eq (n % 64) (day % 64)) refl refl
   where
@@ -263,7 +263,7 @@ none-of-seven false false false false false false false h = (refl, refl, refl, r
 abbrev on_both : List Bool → List Bool → ℕ → Bool
 on_both days others w = slice_index_or days w false && slice_index_or others w false
 
--- a weekday is not in both of two masks where none is
+-- a weekday is not in both of two masks if none is
 pub no-weekday : (days others : List Bool) (w : ℕ)
     → not ((((((on_both days others 0 || on_both days others 1) || on_both days others 2) || on_both days others 3) || on_both days others 4) || on_both days others 5) || on_both days others 6) ≡ true
     → w < 7 → (slice_index_or days w false && slice_index_or others w false) ≡ false
@@ -291,7 +291,7 @@ inside true true false d x y h = and-false x
 inside true true true false x y h = and-false x
 inside true true true true x y h = h refl refl refl refl
 
--- two periods do not meet where no weekday of both has a day in both ranges
+-- two periods do not meet if no weekday of both has a day in both ranges
 pub meet-none : (p q : DayRange) (days other : List Bool) (first last : ℕ) → days ≡ p.days → other ≡ q.days → first ≡ max p.first q.first → last ≡ min p.last q.last
     → ((n : ℕ) → first ≤ n → n ≤ last → (slice_index_or days (slot n) false && slice_index_or other (slot n) false) ≡ false) → meet p q ≡ false
 meet-none p q days other first last own its f l none = no-common-date (holds p) (holds q) (λ n within. day n)

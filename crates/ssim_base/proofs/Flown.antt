@@ -1,5 +1,5 @@
--- Flights without a flown day add nothing: the places of the flown ones rise through the range of
--- all places.
+-- Flights without a flown day add nothing: the ranks of the flown flights rise through the range of
+-- all ranks.
 use Rattle.std.proofs.Common.{◌≡◌, ℕ, zero, suc, ◌+◌, ◌<◌, ◌≤◌, Bool, true, false, ◌||◌, nat_eq, if◌then◌else◌, List, [], ◌∷◌, ◌++◌, map, length, Ok, refl, sym, ap, ◌∙◌, arith}
 use Rattle.std.proofs.lemmas.Bool.Decides.{nat_tests}
 use Rattle.std.specs.List.{flat_map, list_any}
@@ -16,12 +16,12 @@ use Rattle.ssim_base.proofs.Calendars.{length-each_day, at-each_day}
 use Rattle.ssim_base.proofs.Parts.{flights_from}
 use Rattle.ssim_base.proofs.Whole.{refusal_after}
 
--- places that rise from `low` to below `end`
+-- ranks that rise from `low` to below `end`
 abbrev Rise : ℕ → ℕ → List ℕ → Type 0
 Rise low end [] = Unit {0}
 Rise low end (i ∷ is) = (low ≤ i) × (i < end) × Rise (i + 1) end is
 
--- a flight at a place from `low` to below `end` that is none of these has no piece
+-- a flight with a rank from `low` to below `end` that is not in the list has no piece
 abbrev NoOther : (FlightNumber → Days) → ℕ → ℕ → List ℕ → Type 0
 NoOther days low end is = (j : ℕ) → low ≤ j → j < end → list_any (nat_eq j) is ≡ false → pieces (days (flight_at j)) ≡ []
 
@@ -64,7 +64,7 @@ records-of_some a days low (suc k) end (i ∷ is) len rise none = by (nat_eq low
         ap (λ ps. pieces_records a (flight_at low) 1 ps ++ next) (none low (omega arith) (omega arith) (absent (low + 1) end low (i ∷ is) (less, rise.1, rise.2) (omega arith)))
         ∙ later less
 
--- and the first refusal is the same
+-- the first refusal is the same for the flights of the list and for all flights
 refusal-of_some : (a : List ℕ) (days : FlightNumber → Days) (count low k end : ℕ) (is : List ℕ) → end ≡ low + k → Rise low end is → NoOther days low end is
     → export_refusal a days count (flights_from low k) ≡ export_refusal a days count (map flight_at is)
 refusal-of_some a days count low zero end [] len rise none = refl

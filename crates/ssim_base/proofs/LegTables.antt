@@ -23,14 +23,14 @@ use Rattle.ssim_base.proofs.Places.{flight-is, flight-place, place-below, place-
 
 -- ---- the lists grow
 
--- a list of no flights more
+-- one more list without flights changes no look-up
 pub flights-push : (numbers : List (Vec FlightLegs Global)) (row : Vec FlightLegs Global) (k : ℕ) → row.items ≡ [] → flights_of (slice_get (numbers ++ row ∷ []) k) ≡ flights_of (slice_get numbers k)
 flights-push [] row zero none = none
 flights-push [] row (suc k) none = refl
 flights-push (x ∷ numbers) row zero none = refl
 flights-push (x ∷ numbers) row (suc k) none = flights-push numbers row k none
 
--- a flight without leg records more
+-- one more flight without leg records changes no look-up
 pub legs-push : (flights : List FlightLegs) (flight : FlightLegs) (k : ℕ) → flight.entries.items ≡ [] → legs_in (flights ++ flight ∷ []) k ≡ legs_in flights k
 legs-push [] flight zero none = none
 legs-push [] flight (suc k) none = refl
@@ -48,7 +48,7 @@ legs-set_other flights i k flight other = ap entries_of (get-set_other flights i
 apart : (k place : ℕ) → k ≢ place → k / 27 ≡ place / 27 → k % 27 ≢ place % 27
 apart k place other same equal = other (omega arith)
 
--- one more leg record of the flight at a place, where the list of its number was there
+-- one more leg record of the flight with a rank, if the list of its number exists
 adds-at : (old new : LegTable) (grown : List (Vec FlightLegs Global)) (row more : Vec FlightLegs Global) (place s v : ℕ) (p : DayRange)
     → ((k : ℕ) → flights_of (slice_get grown k) ≡ flights_of (slice_get old.numbers.items k)) → place / 27 < length grown → flights_of (slice_get grown (place / 27)) ≡ row.items
     → new.numbers.items ≡ set grown (place / 27) more
@@ -80,7 +80,7 @@ adds-at old new grown row more place s v p same there its changed adds others = 
         ∙ ap (λ o. legs_in (flights_of o) (k % 27)) (get-set_other grown (place / 27) (k / 27) more number)
         ∙ ap (λ fs. legs_in fs (k % 27)) (same (k / 27))
 
--- the same where the number and the suffix of the place are known by themselves
+-- one more leg record, if the number and the suffix of the rank are known by themselves
 pub adds-in : (old new : LegTable) (grown : List (Vec FlightLegs Global)) (row more : Vec FlightLegs Global) (place number suffix s v : ℕ) (p : DayRange)
     → number ≡ place / 27 → suffix ≡ place % 27
     → ((k : ℕ) → flights_of (slice_get grown k) ≡ flights_of (slice_get old.numbers.items k)) → number < length grown → flights_of (slice_get grown number) ≡ row.items
@@ -106,7 +106,7 @@ step has n b l e =
     let more : flight_count - n ≡ suc (flight_count - (n + 1)) = omega arith in
     ap (flights_from has n) more ∙ step-from has n (flight_count - (n + 1)) b e
 
--- places without leg records are passed over
+-- ranks without leg records are passed over
 pub skip : (has : ℕ → Bool) (n k : ℕ) → n + k ≤ flight_count → ((j : ℕ) → n ≤ j → j < n + k → has j ≡ false) → flights_left has n ≡ flights_left has (n + k)
 skip has n zero l none = let same : n ≡ n + 0 = omega arith in ap (flights_left has) same
 skip has n (suc k) l none =

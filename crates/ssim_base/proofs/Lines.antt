@@ -88,7 +88,7 @@ items-among (s ∷ sections) =
 pub records-numbered : (sections : List (List Record)) → map (λ r. r.1) (records_at 0 (items_of sections)) ≡ records_of sections
 records-numbered sections = at-among 0 (items_of sections) ∙ items-among sections
 
--- and what is written for each spells it
+-- what is written for each record of an export spells it
 pub each-spells : WrittenSpells → (n : ℕ) (items : List (Option Record)) → AreItems items → EachSpells (numbered n items) (records_at n items)
 each-spells spells n [] h = tt
 each-spells spells n (None ∷ later) h = each-spells spells (n + 1) later h.1

@@ -49,7 +49,7 @@ tails-own name service (t ∷ tails) more =
     ap (λ b. if b then t ∷ tails_of name (map (tail_record name service) tails ++ more) else tails_of name (map (tail_record name service) tails ++ more)) (same_name-self name)
     ∙ ap (λ ts. t ∷ ts) (tails-own name service tails more)
 
--- and of no other name
+-- tail records of another name give no tails of this name
 tails-other : (name other : Name) (service : ℕ) (tails : List (List ℕ)) (more : List Record) → same_name name other ≡ false
     → tails_of name (map (tail_record other service) tails ++ more) ≡ tails_of name more
 tails-other name other service [] more h = refl
@@ -164,7 +164,7 @@ itinerary-none a f v (p ∷ ps) more n h = by (holds p.0 n) refl h (itinerary-no
         ∙ itinerary-off a f v p.0 p.1 (pieces_records a f (v + 1) ps ++ more) f n (and_false (same_flight f f) (holds p.0 n) e)
         ∙ rest none
 
--- pieces of which one alone holds the day give its legs
+-- pieces of which only one holds the day give its legs
 itinerary-pieces : (a : List ℕ) (f : FlightNumber) (v : ℕ) (ps : List Piece) (more : List Record) (n : ℕ) (w : Legs) → held_on ps n ≡ alone same_itinerary [] w → Above 0 w
     → itinerary more f n ≡ [] → ((name : Name) → tails_of name more ≡ [])
     → itinerary (pieces_records a f v ps ++ more) f n ≡ w
@@ -202,11 +202,11 @@ itinerary-other a f v (p ∷ ps) more g n h =
     ∙ itinerary-off a f v p.0 p.1 (pieces_records a f (v + 1) ps ++ more) g n (false_and (same_flight f g) (holds p.0 n) h)
     ∙ itinerary-other a f (v + 1) ps more g n h
 
--- the flights at `k` places from `low` on
+-- the flights with `k` ranks from `low` on
 abbrev pub flights_from : ℕ → ℕ → List FlightNumber
 flights_from low k = map flight_at (range_with_len low k)
 
--- flights at places from `low` on give nothing for one below
+-- flights with ranks from `low` on give nothing for one below
 itinerary-below : (a : List ℕ) (days : FlightNumber → Days) (low k : ℕ) (more : List Record) (j n : ℕ) → j < low
     → itinerary (flights_records a days (flights_from low k) ++ more) (flight_at j) n ≡ itinerary more (flight_at j) n
 itinerary-below a days low zero more j n h = refl

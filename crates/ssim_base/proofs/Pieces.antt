@@ -15,6 +15,6 @@ bytes-self xs = (bytes_eq-Decides xs xs).1 refl
 pub eq-self : (n : ℕ) → nat_eq n n ≡ true
 eq-self n = grind (arith, nat_tests)
 
--- on each day exactly one piece holds, or none where there is no flight
+-- on each day exactly one piece holds, or none if there is no flight
 pub itinerary_pieces : (days : Days) → ArePieces same_itinerary [] days (pieces days)
 itinerary_pieces days = pieces_law same_itinerary [] exact_itinerary days

@@ -1,4 +1,4 @@
--- A flight and its place among all flights determine each other, so what holds of the numbers of a
+-- A flight and its rank among all flights determine each other, so what holds of the numbers of a
 -- range holds of all flights.
 use Rattle.std.proofs.Common.{◌≡◌, ℕ, ◌+◌, ◌-◌, ◌*◌, ◌/◌, ◌%◌, ◌<◌, ◌≤◌, Bool, true, false, nat_eq, if◌then◌else◌, IsTrue, refl, ap, sym, ◌∙◌, arith}
 use Rattle.std.proofs.lemmas.Bool.Decides.{nat_tests}
@@ -121,7 +121,7 @@ same_place a b e =
     let suffix : a.suffix ≡ b.suffix = grind (arith, nat_tests) in
     rw (number, suffix) refl
 
--- two flights are the same exactly if their places are
+-- two flights are the same exactly if their ranks are
 pub same_flight-place : (a b : FlightNumber) → IsFlight a → IsFlight b → same_flight a b ≡ nat_eq (place_of a) (place_of b)
 same_flight-place a b f g = by (same_flight a b) (nat_eq (place_of a) (place_of b)) refl refl
   where

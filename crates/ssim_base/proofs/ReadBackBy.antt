@@ -57,7 +57,7 @@ gives-all count rest over (b ∷ left) (r ∷ given) (s ∷ all) ending each giv
     with-first same (inl fails) = inl fails
     with-first same (inr (rest-same, stops)) = inr (ap (λ x. x ∷ given) same ∙ ap (λ xs. s ∷ xs) rest-same, stops)
 
--- the first records are those of all
+-- the first records are the first of all
 begins-all : (left : List (ℕ × List ℕ)) (first all : List Numbered) → EachSpells left all → Begins left first → (later : List Numbered) × (first ++ later ≡ all)
 begins-all left [] all each begins = (all, refl)
 begins-all [] (r ∷ first) all each begins = absurd begins
@@ -78,7 +78,7 @@ front-stands n f e (r ∷ given) later none =
     let parts = at_record-none r.0 (refusal_at e r.1) (first_refusal (Done n) (kept e r.1 ∷ e) (given ++ later)) none in
     ap (λ o. at_record r.0 o (first_refusal (Broken f) (kept e r.1 ∷ e) given)) parts.0 ∙ front-stands n f (kept e r.1 ∷ e) given later parts.1
 
--- how all records end where no byte is left over
+-- how all records end if no byte is left over
 stops-done : (count : ℕ) (over : ℕ) (ending : Ending) → over ≡ 0 → Stops count [] over [] ending → ((n : ℕ) × (ending ≡ Broken (ReadFault n))) ⊎ (ending ≡ Done (count + 1))
 stops-done count over (Done n) none stops = inr (ap Done stops.3)
 stops-done count over (Broken (Short n)) none stops = let less = stops.1 in absurd (omega (arith, less))
@@ -91,7 +91,7 @@ module _ (one : FramesAreOne) (bytes : List ℕ) (count : ℕ) (records : List N
   none-over : length bytes - limit ≡ 0
   none-over = omega (arith, fits)
 
-  -- any blocks of the bytes are those of the records, with nothing left over
+  -- any blocks of the bytes are the blocks of the records, with nothing left over
   same-blocks : (blocks : List (List ℕ)) (rest : List ℕ) → Frames (length bytes - limit) false bytes blocks rest → (read.blocks ≡ blocks) × ([] ≡ rest)
   same-blocks blocks rest framed = one 0 false bytes read.blocks blocks [] rest read.framed (subst (λ n. Frames n false bytes blocks rest) none-over framed)
 

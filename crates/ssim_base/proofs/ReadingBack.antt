@@ -14,7 +14,7 @@ pub frame-is : (frame : Frame) (h : HeaderFields) (c : CarrierFields) (t : Trail
 frame-is frame h c t header carrier trailer =
     ap (λ (x : HeaderFields). frame_from x c t) header ∙ ap (λ (x : CarrierFields). frame_from frame.header x t) carrier ∙ ap (λ (x : TrailerFields). frame_from frame.header frame.carrier x) trailer
 
--- and to each timetable that is the same
+-- an export in a frame reads back to each timetable that is the same
 pub reads_back_as : (frame : Frame) (days others : FlightNumber → Days) (bytes : List ℕ) → ((flight : FlightNumber) → IsFlight flight → days flight ≡ others flight)
     → ReadsBackFrom frame days bytes → ReadsBackFrom frame others bytes
 reads_back_as frame days others bytes same back = record {

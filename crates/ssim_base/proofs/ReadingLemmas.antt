@@ -83,7 +83,7 @@ refused-outcome g earlier done later ending x refusal so_far is =
     ∙ so_far.refused ending (x ∷ later)
     ∙ ap (λ o. at_record x.0 o (first_refusal ending (kept earlier x.1 ∷ earlier) later)) is))
 
--- the outcome where reading fails
+-- the outcome if reading fails
 fault-outcome : (g : DataSetReader) (earlier : List Record) (done : List Numbered) (f : RecordFault) → IsSoFar g earlier done → Err (Read f) ≡ data_set (Broken f) done
 fault-outcome g earlier done f so_far =
     sym (ap (λ o. unless_refused o (kept_all [] (records_in done), notes_of 0 done))
@@ -205,7 +205,7 @@ told-end limit (Some all) (Some left) (Some left') r new done same t given =
     given-by limit all left r done (Done (new.number + 1)) t
     (last.0, a.1, sym (over-is limit all left r done t same) ∙ a.2, ap (λ n. n + 1) (last.1 ∙ t.count))
 
--- the blocks stop where a reading is refused
+-- the blocks stop at the record that is refused
 stops : (limit : ℕ) (all left left' : List ℕ) (r new : Reading) (done : List Numbered) (f : RecordFault) → r.limit ≡ limit → (t : IsTold limit all left r done)
     → GivesNext r (Some left) new (Some left') (Err f) → HasNumber new.number (Err f) → Stops (length t.blocks) t.rest (length all - limit) (others r.number t.later) (Broken f)
 stops limit all left left' r new done (Short n) same t given number =
@@ -263,12 +263,12 @@ told-refused limit (Some all) (Some left) (Some left') r new g earlier done x re
       is = λ later ending. refused-outcome g earlier done later ending x refusal so_far is;
     })
 
--- what holds while a reading has not ended
+-- what holds until a reading has ended
 pub while-open : {A : Type 0} (ended : Option records.Ending) → ended ≡ None → IfNone ended A → A
 while-open None e h = h
 while-open (Some x) e h = absurd cc
 
--- the refusal of a record, where one more was read
+-- the refusal of a record, if one more was read
 pub step-refused : (limit : ℕ) (told left left' : Option (List ℕ)) (r new : Reading) (g : DataSetReader) (earlier : List Record) (done : List Numbered) (x : Numbered) (e : BaseFault)
     → IsSoFar g earlier done → Told limit told left r done → GivesNext r left new left' (Ok (Some x)) → IsRefused x.0 earlier x.1 e → Refuses limit told e
 step-refused limit told left left' r new g earlier done x fault.Memory so_far t given is = tt

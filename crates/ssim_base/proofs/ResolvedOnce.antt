@@ -55,7 +55,7 @@ end-none : (k : CarrierFields) (first : ℕ) (end' : GivenEnd) (x : ℕ) → Mea
 end-none k first (Until date) x a none = means-none first date x a none
 end-none k first Open x a none = none
 
--- an end from another first day that is the same
+-- the end of a period for the same first day
 end-from : (k : CarrierFields) (first other : ℕ) (end' : GivenEnd) (x y : ℕ) → first ≡ other → MeansEnd k first end' x → MeansEnd k other end' y → x ≡ y
 end-from k first other end' x y same a b = end-one k other end' x y (subst (λ n. MeansEnd k n end' x) same a) b
 
@@ -201,7 +201,7 @@ by-sub-one k m f g a b = first-one k 1 m.subs f g a.first b.first
 reference-or-sub : (k : CarrierFields) (m : MessageValue) (n : ℕ) (f : ResolveFault) → IsReferenceRefused k m n → IsRefusedBySub k m f → ⊥
 reference-or-sub k m n f a b = a.none b.date.0 b.date.1.from_on b.date.1.has
 
--- a refusal after that of the time mode
+-- a refusal that is not for the time mode
 abbrev IsLater : CarrierFields → MessageValue → ResolveFault → Type 0
 IsLater k m f = ((n : ℕ) × (f ≡ fault.NoSuchDate n) × IsReferenceRefused k m n) ⊎ IsRefusedBySub k m f
 

@@ -73,7 +73,7 @@ complete-read base c =
 line_of : Record → List ℕ
 line_of r = written r ++ 10 ∷ []
 
--- two texts of one length that begin the same bytes are the same, and so are the rests
+-- two texts of one length that begin the same bytes are equal, as are the rests
 same-front : (a b s t : List ℕ) → length a ≡ length b → a ++ s ≡ b ++ t → (a ≡ b) × (s ≡ t)
 same-front [] [] s t e h = (refl, h)
 same-front [] (y ∷ b) s t e h = absurd cc
@@ -138,8 +138,7 @@ left-more bytes rest after count earlier r left line stands few = record {
         )
 
 module _ (bytes rest : List ℕ) (count : ℕ) (earlier : List Record) (left : IsLeft bytes rest count earlier) where
-  -- where no record of a base can come next, and more are to come, the bytes begin with no such
-  -- base
+  -- if no record of a base can come next, and more are to come, the bytes begin with no such base
   pub left-none : (length earlier ≡ count → ⊥) → ((r : Record) (after : List ℕ) → IsLine r rest after → refusal_at earlier r ≡ None → ⊥)
       → (records : List Record) (tail : List ℕ) → IsBaseRecords records → length records ≡ count → bytes ≡ saved records ++ tail → ⊥
   left-none few none records tail is n e =
@@ -158,7 +157,7 @@ module _ (bytes rest : List ℕ) (count : ℕ) (earlier : List Record) (left : I
       (all.0 ∙ ap (λ rs. saved rs ++ rest) order, subst WasRead order (complete-read (in_order earlier []) all.1))
   end-whole (Some refusal) is whole = absurd cc
 
-  -- or something is
+  -- after the last line something is missing
   pub end-lacks : length earlier ≡ count → (lacking : Option BaseRefusal) → lacking ≡ missing earlier → is_some lacking ≡ true
       → (records : List Record) (tail : List ℕ) → IsBaseRecords records → length records ≡ count → bytes ≡ saved records ++ tail → ⊥
   end-lacks all None is some records tail are n e = absurd cc

@@ -57,7 +57,7 @@ next_taken h x rest kept whole t u split put =
 pub step : (all h x rest kept whole : List ℕ) (t u v : Option (List ℕ)) → whole ≡ x ++ rest → TakesUpTo all (h ++ whole) t u → TakesUpTo (h ++ x) kept u v → TakesUpTo all (kept ++ rest) t v
 step all h x rest kept whole t u v split before put = then all (h ++ whole) (kept ++ rest) t u v before (next_taken h x rest kept whole u v split put)
 
--- or the sink failed in it
+-- the sink failed during the next part
 pub halt : (all h x rest whole : List ℕ) (t u v : Option (List ℕ)) → whole ≡ x ++ rest → TakesUpTo all (h ++ whole) t u → TakesFront (h ++ x) u v → TakesFront all t v
 halt all h x rest whole t u v split before put = (put.0 ++ rest, step all h x rest put.0 whole t u v split before put.1)
 
@@ -73,7 +73,7 @@ front_more a x whole t u split h = subst (λ (bs : List ℕ). TakesFront bs t u)
 pub then_front : (a b : List ℕ) (t u v : Option (List ℕ)) → TakesUpTo a b t u → TakesFront b u v → TakesFront a t v
 then_front a b t u v h k = (k.0, then a b k.0 t u v h k.1)
 
--- a part more is put, and it was the last
+-- one more part is put, and it was the last
 pub step_last : (h x y kept last : List ℕ) (t u v : Option (List ℕ)) → TakesUpTo (h ++ x) kept t u → TakesUpTo (kept ++ y) last u v → TakesUpTo (h ++ (x ++ y)) last t v
 step_last h x y kept last t u v one two = then (h ++ (x ++ y)) (kept ++ y) last t u v (next_taken h x y kept (x ++ y) t u refl one) two
 

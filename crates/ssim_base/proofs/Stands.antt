@@ -32,7 +32,7 @@ stands-append : (xs ys : List Record) (P : List Record → Type 0) (e : List Rec
 stands-append [] ys P e h = h
 stands-append (x ∷ xs) ys P e h = (h.0, stands-append xs ys P (kept e x ∷ e) h.1)
 
--- serials are not looked at
+-- serials make no difference to a refusal
 refusal-serial : (n : ℕ) (e : List Record) (r : Record) → refusal_at e (with_serial n r) ≡ refusal_at e r
 refusal-serial n [] (Header r) = refl
 refusal-serial n [] (Carrier r) = refl
@@ -86,7 +86,7 @@ none-in-range : (test : ℕ → Bool) (low k : ℕ) → ((n : ℕ) → n < low +
 none-in-range test low zero h = refl
 none-in-range test low (suc k) h = rw (h low (omega arith), none-in-range test (low + 1) k (λ n l. h n (omega arith))) refl
 
--- where each earlier leg of the flight on the period's days has a lower sequence, none overlaps
+-- if each earlier leg of the flight on the period's days has a lower sequence, none overlaps
 no_overlap : (name : Name) (period : DayRange) (k : ℕ) (e : List Record) → k < name.sequence
     → ((n : ℕ) → n < day_count → holds period n ≡ true → Upto k (taken e name.flight n)) → list_any (overlaps name period) e ≡ false
 no_overlap name period k [] less h = refl

@@ -96,7 +96,7 @@ exports_tell frame days others s is are h k f n flight within =
 
 -- ---- the export of what was read
 
--- a list is what its places say
+-- a list is determined by its elements
 listed : (g : ℕ → Legs) (v : Days) (a : ℕ) → ((n m : ℕ) → n < length v → m ≡ a + n → g m ≡ on_day v n) → map g (range_with_len a (length v)) ≡ v
 listed g [] a h = refl
 listed g (x ∷ v) a h =

@@ -161,7 +161,7 @@ from_line program (Take a b (t ∷ rest)) w e =
 pub line_answers : (words : List Text) (line : Line) → Spells words line → Answers words line
 line_answers words line s = subst (λ (ws : List Text). Answers ws line) (sym s.words_are) (from_line s.program line s.whole s.plain)
 
--- so they name it
+-- words that spell a command name it
 pub spells_names : (words : List Text) (line : Line) → Spells words line → Names words line
 spells_names words line s =
     let a = line_answers words line s in
@@ -227,7 +227,7 @@ module _ (m : ArgMatches) (words : List Text) (app : App) (name : Text) (rows : 
     read = sym read;
   }
 
-  -- and where no command is read, they name none
+  -- if no command is read, the words name none
   pub names_none : (is_simple_and_free app ≡ true → fault_of app words ≡ []) → None ≡ line_at name rows → IsNoCommand words
   names_none kinds read = (
     ap (λ (x : App). fault_of x words) (sym is) ∙ kinds (ap is_simple_and_free is ∙ free),
@@ -236,7 +236,7 @@ module _ (m : ArgMatches) (words : List Text) (app : App) (name : Text) (rows : 
         none_read line (read ∙ (sym (ap (λ (p : Text × List Row). line_at p.0 p.1) same) ∙ n.read)),
   )
 
--- nor do words that enter no subcommand
+-- words that enter no subcommand name no command
 pub names_unentered : (m : ArgMatches) (words : List Text) (app : App) → app ≡ whole_program → HasMatchesOf app words m → None ≡ subcommand_name_of m
     → (is_simple_and_free app ≡ true → fault_of app words ≡ []) → IsNoCommand words
 names_unentered m words app is matches named kinds = (

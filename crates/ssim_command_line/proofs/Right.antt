@@ -21,7 +21,7 @@ word_right s word h l =
     ∙ ap (λ o. flag_word_fault s.rules s.args_override_self o word h) l.long
     ∙ ap (λ o. option_map_or (λ flags. bundle_fault s.rules s.args_override_self flags h) o []) l.short
 
--- a plain word is right where the positional takes it
+-- a plain word is right if the positional takes it
 turn_right : (s : Shape) (h : Held) (waiting : Waiting) (position : ℕ) (word : Text) → Looks word → awaits_option waiting ≡ false
     → step_fault s position h value ≡ [] → turn_fault s [] (at h waiting position) word ≡ []
 turn_right s h (option id) position word l e p = absurd (true≢false e)

@@ -69,7 +69,7 @@ word_fits s word h l =
     ∙ ap (λ o. flag_word_passes s.rules s.args_override_self o word h) l.long
     ∙ ap (λ o. option_map_or (λ flags. bundle_passes s.rules s.args_override_self flags h) o true) l.short
 
--- and passes where the positional takes it
+-- a plain word passes if the positional takes it
 pub turn_plain : (s : Shape) (h : Held) (waiting : Waiting) (position : ℕ) (word : Text) → Looks word → awaits_option waiting ≡ false
     → step_passes s position h value ≡ true → turn_passes s [] (at h waiting position) word ≡ true
 turn_plain s h (option id) position word l e p = absurd (true≢false e)

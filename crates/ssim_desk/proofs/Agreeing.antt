@@ -1,4 +1,4 @@
--- Desks that the same messages reached are one, and so are their meanings and exports.
+-- Desks that the same messages reached are equal, as are their meanings and exports.
 use Rattle.std.proofs.Common.{◌≡◌, ◌⊎◌, inl, inr, ℕ, ◌<◌, ◌==◌, Bool, true, false, List, length, Option, Some, None, Result, refl, sym, ap, subst, ◌∙◌}
 use Rattle.std.proofs.lemmas.Bool.Decides.{Decides-eqb}
 use Rattle.std.specs.FinMap.{get, same_map}

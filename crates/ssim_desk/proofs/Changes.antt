@@ -1,4 +1,4 @@
--- What a text and a merge make of a desk.
+-- A desk after a text and after a merge.
 use Rattle.std.proofs.Common.{◌≡◌, ◌≢◌, ◌≤◌, ℕ, List, [], ◌∷◌, ◌++◌, length, take, drop, Some, None, slice_get, refl, sym, ap, subst, ◌∙◌, arith, length-append}
 use Rattle.std.proofs.lemmas.List.{length-take, take-append-le, take_all}
 use Rattle.std.proofs.lemmas.List.Elements.{All-append, All-cons, All-drop, All-take}
@@ -94,7 +94,7 @@ module _ (desk : DeskState) (text : List ℕ) (m : MessageValue) (resolved : Res
 pub known : (desk : DeskState) (text : List ℕ) (reference : Reference) → (message : MessageValue) × Says desk.base text reference message × Holds desk reference message → IsKnown desk text
 known desk text reference k = record { reference = reference; message = k.0; says = k.1; holds = k.2 }
 
--- a message is new where it has a gap, and is held when it is put there
+-- a message is new if it has a gap, and is held when it is put there
 pub is_new : (desk : DeskSeen) (text : List ℕ) (e : Entry) (at : ℕ) (held : List Entry) → AreRising desk.held → Belongs desk.held e.reference at at → Says desk.base text e.reference e.message
     → held ≡ take at desk.held ++ (e ∷ drop at desk.held) → IsNew (state_of desk) text (map_of held)
 is_new desk text e at held rising gap says is = record {

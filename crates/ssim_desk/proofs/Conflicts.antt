@@ -1,4 +1,4 @@
--- Where references are kept apart no step is refused as a conflict: all that a desk holds or is
+-- If references are kept apart, no step is refused as a conflict: all that a desk holds or is
 -- offered was held at the start or offered.
 use Rattle.std.proofs.Common.{◌≡◌, ◌≢◌, ◌⊎◌, inl, inr, ℕ, ◌<◌, ◌==◌, Bool, true, false, List, length, Some, refl, sym, ap, subst, ◌∙◌}
 use Rattle.std.specs.List.{slice_get}
@@ -30,7 +30,7 @@ brought_is_there start steps answers (by_text {k = k} {d = d} text answer is acc
 brought_is_there start steps answers (from_start from is held) = inl (from, held)
 brought_is_there start steps answers (from_step from j is lt b) = brought_is_there start steps answers b
 
--- so was all that a desk holds
+-- all that a desk holds was held at the start or offered
 held_is_there : (start now : List DeskState) (steps : List Step) (answers : List Answer) (n : ℕ) → SoFar start now (Before start steps answers n)
     → (d : ℕ) → d < length start → (r : Reference) (m : MessageValue) → Holds (desk_at now d) r m → IsThere start steps r m
 held_is_there start now steps answers n far d lt r m h = by ((far.holds d r m lt).0 h)

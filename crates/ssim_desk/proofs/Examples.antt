@@ -85,12 +85,12 @@ after action = after_subs rows (sub action ∷ []) (dated ∷ [])
 late_message_comes_first : after Cnl (after (New new) nothing) lx600 9313 ≡ []
 late_message_comes_first = refl
 
--- in the order in which they came it would fly
+-- in the order in which they came the flight would fly
 arrival_does_not_count : after (New new) (after Cnl nothing) lx600 9313 ≡ by_airbus ∷ []
 unfolding new_leg station_columns with_times with_equipment
 arrival_does_not_count = refl
 
--- the next day nobody has spoken of, nor of another flight
+-- the next day, and any other flight, is not changed
 other_date : after (New new) nothing lx600 9314 ≡ []
 unfolding new_leg station_columns with_times with_equipment
 other_date = refl
@@ -135,7 +135,7 @@ day_before = refl
 row_ends : is_desk_point over holding lx600 9430 ≡ true
 row_ends = refl
 
--- so there are at most four cuts; of another flight at most two
+-- there are at most four cuts; of another flight at most two
 of_the_flight : point_bound over holding lx600 ≡ 4
 of_the_flight = refl
 
@@ -152,7 +152,7 @@ cancelled = record {
   dates = dated ∷ [];
 }
 
--- its one line says that the flight was absent on the one date
+-- the one line of this desk says that the flight was absent on the one date
 one_line : finding_lines (record { base = over; held = cancelled ∷ []; applied = 1 })
     ≡ record { reference = reference 9252 1 Ssm no_originator; sub = 1; action = identifier.Cnl; designator = record { airline = codes "LX "; flight = lx600 }; finding = record { acted = 0; absent = 1; present = 0; leg = 0; station = 0 } } ∷ []
 unfolding day_count

@@ -29,7 +29,8 @@ module _ (days others : FlightNumber → Days) (same : (flight : FlightNumber) �
   pub reads_back : {W : Type 0} (taken : W → Option (List ℕ)) (records : List Record) (old new : W) → ReadsBackBase taken records days old new → ReadsBackBase taken records others old new
   reads_back taken records old new (frame, has, bytes, took, back) = (frame, has, bytes, took, reads_back_as frame days others bytes same back)
 
--- The messages have acted on the timetable of the base. So the schedule has what they leave of it.
+-- The messages have acted on the timetable of the base. The schedule has the timetable that they
+-- leave.
 pub left : (base : BaseSeen) (entries : List Entry) (rows : List Row) (messages : List Entry) (schedule : Table) → rows ≡ base.rows → messages ≡ entries
     → Shows schedule (after_entries rows messages (itinerary base.records)) → Shows schedule (left_by base entries)
 left base entries rows messages schedule same_rows same_messages shows =

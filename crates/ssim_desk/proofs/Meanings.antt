@@ -1,4 +1,4 @@
--- A desk has one meaning and one export, since each of its messages resolves, and in one way.
+-- A desk has one meaning and one export, since each of its messages resolves in exactly one way.
 use Rattle.std.proofs.Common.{◌≡◌, List, [], ◌∷◌, refl, sym, ap, subst, ◌∙◌}
 use Rattle.std.proofs.lemmas.List.Elements.{All-from_recursion, recursion_from_All}
 use Rattle.std.specs.FinMap.{entries}

@@ -25,7 +25,7 @@ lists_held desk h = record {
 pub has_meaning : (desk : DeskSeen) → AreEntries desk.base.records desk.held → Means (state_of desk) (timetable_of desk)
 has_meaning desk h = (desk.held, lists_held desk h, refl)
 
--- and its messages find what it lists
+-- the messages of a desk find what the desk lists
 pub has_findings : (desk : DeskSeen) → AreEntries desk.base.records desk.held → Finds (state_of desk) (found_by desk.base desk.held)
 has_findings desk h = (desk.held, lists_held desk h, refl)
 

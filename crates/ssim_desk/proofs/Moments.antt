@@ -1,5 +1,5 @@
--- Where a run has come: after n of its steps each desk holds what it held and what the steps before
--- number n brought it.
+-- A run after n of its steps: each desk holds what it held and what the steps before number n
+-- brought it.
 use Rattle.std.proofs.Common.{◌≡◌, ◌⊎◌, inl, inr, ℕ, zero, suc, ◌+◌, ◌-◌, ◌<◌, ◌≤◌, List, [], ◌∷◌, length, Some, None, All, refl, sym, ap, subst, ◌∙◌, arith}
 use Rattle.std.proofs.lemmas.Bool.{cases_lt}
 use Rattle.std.proofs.lemmas.List.Elements.{recursion_from_All}

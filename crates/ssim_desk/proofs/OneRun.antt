@@ -40,7 +40,7 @@ was_read base is = record {
   read = is.read_again 0 (numbered base) (plain base);
 }
 
--- the message that is found under a reference is that of an entry, which the base gives this
+-- the message found under a reference is the message of an entry, to which the base gives this
 -- reference
 referred : (records : List Record) (rows : List Row) (es : List Entry) (r : Reference) (m : MessageValue) → All (IsEntry records) es → find reference_cmp r (keyed es) ≡ Some m → HasReference (record { records = records; rows = rows }) r m
 referred records rows [] r m each is = absurd (let never : None ≡ Some m = is in cc)
@@ -65,7 +65,7 @@ is_desk desk base entries = record {
   each = λ r m holds. referred desk.base.records desk.base.rows desk.held r m entries.each (sym (get-map_of desk.held r entries.rising) ∙ holds);
 }
 
--- any two desks of a run agree as those of any two runs do
+-- any two desks of a run agree as desks of two runs do
 pub desks_agree : AnyTwoDesksAgree → (start after : List DeskState) (steps : List Step) (answers : List Answer) → All IsDesk start → All (IsInRange (length start)) steps → Runs start steps answers after → DesksAgree start steps answers after
 desks_agree agree start after steps answers desks in_range runs d e here there began reached =
     let run : Run = record { start = start; steps = steps; answers = answers; after = after; desks = desks; in_range = in_range; runs = runs } in

@@ -145,7 +145,7 @@ one_side : {A B C : Type 0} → (B → C) → A ⊎ B → A ⊎ C
 one_side f (inl a) = inl a
 one_side f (inr b) = inr (f b)
 
--- the same said of what has reached the desks in other words
+-- the facts so far, stated of an equal account of what has reached the desks
 pub so_far_too : (start now : List DeskState) (reached others : Reaching) → ((d : ℕ) (r : Reference) (m : MessageValue) → reached d r m → others d r m)
     → ((d : ℕ) (r : Reference) (m : MessageValue) → others d r m → reached d r m) → SoFar start now reached → SoFar start now others
 so_far_too start now reached others to of far = record {

@@ -20,6 +20,6 @@ outcome_of base m (Period number) refused other = refused
 pub resolves_or_not : HasOneOutcome → (base : List Record) (m : MessageValue) (text : ResolvedText) (fault : ResolveFault) → ResolvesIn base m text → IsRefusedIn base m fault → (fault ≡ Memory → ⊥) → ⊥
 resolves_or_not one base m text fault is refused other = one base m (Ok text) (Err fault) is (outcome_of base m fault refused other)
 
--- two refusals are one
+-- two refusals of a message are equal
 pub one_refusal : HasOneOutcome → (base : List Record) (m : MessageValue) (f g : ResolveFault) → IsRefusedIn base m f → (f ≡ Memory → ⊥) → IsRefusedIn base m g → (g ≡ Memory → ⊥) → f ≡ g
 one_refusal one base m f g is_f other_f is_g other_g = one base m (Err f) (Err g) (outcome_of base m f is_f other_f) (outcome_of base m g is_g other_g)

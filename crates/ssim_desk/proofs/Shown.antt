@@ -44,7 +44,7 @@ pub shows_told : (rows : List Row) (action told : Action) (sub : ResolvedSub) (f
 shows_told rows action told sub flight period old new t same_action same_flight same_period is_flight days shows =
     shows_one rows action sub old new t is_flight (λ g. days g ∙ (λ i. after_sub rows (same_action i) (same_flight i) (same_period i) old g)) shows
 
--- what it finds is what it finds on the timetable
+-- the schedule's finding is the finding on the timetable
 pub found_told : (rows : List Row) (action told : Action) (sub : ResolvedSub) (flight : FlightNumber) (period : DayRange) (old : Table) (t : Timetable) (finding : Finding) → told ≡ action → flight ≡ sub.flight → period ≡ sub.period → IsFlight sub.flight
     → finding ≡ finding_of rows told period (days_in old flight) → Shows old t → finding ≡ finding_of rows action sub.period (each_day (t sub.flight))
 found_told rows action told sub flight period old t finding same_action same_flight same_period is_flight found shows =

@@ -76,7 +76,7 @@ module _ (rows : List Row) (es : List Entry) (k : ℕ) (e : Entry) (within : k <
   pub found_one_more : entries_findings rows (take k es) before ++ subs_findings rows e.message.subs e.dates (after_entries rows (take k es) before) ∷ [] ≡ entries_findings rows (take (k + 1) es) before
   found_one_more = sym (ap (λ (xs : List Entry). entries_findings rows xs before) those ∙ findings-++ rows (take k es) (e ∷ []) before)
 
-  -- it names the flight, or does not
+  -- the message names the flight, or does not
   module _ (t : Timetable) (g : FlightNumber) (agrees : t g ≡ after_entries rows (take k es) before g) where
     pub named_more : after_entry rows e t g ≡ after_entries rows (take (k + 1) es) before g
     named_more = subs_agree rows e.message.subs e.dates t so_far g agrees ∙ ap (λ (u : Timetable). u g) after_one_more
@@ -95,7 +95,7 @@ abbrev AreAmong : List FlightNumber → List ResolvedSub → Type 0
 AreAmong flights [] = Unit {0}
 AreAmong flights (dated ∷ dates) = (is_among flights dated.flight ≡ true) × AreAmong flights dates
 
--- and those of messages
+-- the flights of messages are among these
 abbrev AllAmong : List FlightNumber → List Entry → Type 0
 AllAmong flights [] = Unit {0}
 AllAmong flights (e ∷ es) = AreAmong flights e.dates × AllAmong flights es

@@ -115,7 +115,7 @@ abbrev is_taken : Answer → Bool
 is_taken Taken = true
 is_taken _ = false
 
--- what was there is put there again
+-- putting back what was there changes nothing
 same_again : {X : Type 0} (desks : List X) (i j : ℕ) (old new d : X) → old ≡ get_or desks i d → new ≡ old → slice_get (set desks i new) j ≡ slice_get desks j
 same_again desks i j old new d is same = ap (λ x. slice_get (set desks i x) j) (same ∙ is) ∙ ap (λ xs. slice_get xs j) (set-get_or desks i d)
 

@@ -174,6 +174,6 @@ module _ (base : BaseSeen) (held rest : List Entry) (from at : ℕ) (low : from 
       front : length (take (from / 32 + 1) cps) ≡ from / 32 + 1
       front = omega (arith, old.count, length-take (from / 32 + 1) cps)
 
--- if all messages are replaced, those put there are the ones that were applied
+-- if all messages are replaced, exactly the new ones were applied
 pub all_applied : {X : Type 0} (old rest : List X) (from at applied : ℕ) → from ≤ at → applied + from ≡ length (take at old ++ rest) → at ≡ 0 → applied ≡ length rest
 all_applied old rest from at applied low counted none = omega (arith, low, counted, none, length-append (take at old) rest, length-take at old)

@@ -19,7 +19,7 @@ abbrev pub IsOffer : DeskState → List Entry → List ℕ → Offer → Type 0
 IsOffer desk held text (Known reference) = (message : MessageValue) × Says desk.base text reference message × Holds desk reference message
 IsOffer desk held text (New at e) = Belongs held e.reference at at × IsEntry desk.base.records e × Says desk.base text e.reference e.message
 
--- ---- a trail: the schedule after every 32 messages, the latest one, and what each message found
+-- ---- a history: the schedule after every 32 messages, the latest one, and what each message found
 
 -- the schedule has this timetable
 abbrev pub Shows : Table → Timetable → Type 0

@@ -1,5 +1,5 @@
--- What a list of messages in order of reference is as a map, and what one more message at its place
--- makes of it.
+-- A list of messages in order of reference as a map, and the map after one more message at its
+-- position.
 use Rattle.std.proofs.Common.{◌≡◌, ℕ, zero, suc, ◌<◌, ◌≤◌, Bool, true, false, cond, ◌&&◌, List, [], ◌∷◌, length, Some, None, IfSome, slice_get, refl, sym, ap, subst, ◌∙◌, arith}
 use Rattle.std.specs.Prelude.{T}
 use Rattle.std.specs.declared.cmp.Ordering.{Ordering}
@@ -73,7 +73,7 @@ put_at new (e ∷ es) (suc i) within before here =
     ap (λ r. by_order r ((new.reference, new.message) ∷ (e.reference, e.message) ∷ keyed es) ((e.reference, new.message) ∷ keyed es) ((e.reference, e.message) ∷ put reference_cmp new.reference new.message (keyed es))) (before 0 (omega arith))
     ∙ ap (λ ps. (e.reference, e.message) ∷ ps) (put_at new es i (omega arith) (λ j lt. before (suc j) (omega arith)) here)
 
--- what comes before all is not there
+-- a reference that is before all is not found
 pub find_below : (q y : Reference) (ps : List Pair) → reference_cmp q y ≡ Less → T (below_all reference_cmp y ps) → find reference_cmp q ps ≡ None
 find_below q y [] less below = refl
 find_below q y (p ∷ ps) less below =
@@ -107,7 +107,7 @@ module _ (es : List Entry) (i : ℕ) (new : Entry) (rising : AreRising es) (gap 
   pub rising_with : AreRising (insert es i new)
   rising_with = true-from_T _ (subst (λ (ps : List (Reference × MessageValue)). T (is_sorted reference_cmp ps)) entries_with (entries_sorted (map.insert (map_of es) new.reference new.message)))
 
-  -- it is the map with the message
+  -- the list with one more message is the map with the message
   pub map_of_with : map_of (insert es i new) ≡ map.insert (map_of es) new.reference new.message
   map_of_with = same_entries_map _ _ (entries-map_of (insert es i new) rising_with ∙ sym entries_with)
 

@@ -35,7 +35,7 @@ by_year = refl
 by_kind : reference_cmp (reference 9283 1 Ssm no_originator) (reference 9283 1 Asm no_originator) ≡ Less
 by_kind = refl
 
--- and the originator last; no originator comes first
+-- the originator counts last; no originator comes first
 by_originator : reference_cmp (reference 9283 1 Ssm no_originator) (reference 9283 1 Ssm (codes "AAAAAAA")) ≡ Less
 by_originator = refl
 
@@ -87,7 +87,7 @@ counted_round = (refl, refl)
 too_many : NeverEnds 848 (λ count. count ≡ 849) (Read (ReaderNeverEnds 0))
 too_many = (849, omega arith, refl)
 
--- ---- the lengths of the parts of a desk file around four records and one text of 51 bytes, computed: 11 + 10 + 4 * 201 + 11 + 8 + 4 are 848
+-- ---- the lengths of the parts of a desk file: 11 + 10 + 4 * 201 + 11 + 8 + 4 are 848
 
 abbrev row_from : ℕ → ℕ → ℕ → List ℕ → Row
 row_from minutes first last station = record { station = station; first = first; last = last; variation = record { negative = false; minutes = minutes } }

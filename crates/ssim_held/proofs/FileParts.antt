@@ -1,5 +1,5 @@
--- A desk file is put part by part: what the sink has taken, what the block holds and the parts that
--- are left are the whole file.
+-- A desk file is put part by part: what the sink has taken, what the buffer holds and the parts
+-- that are left are the whole file.
 use Rattle.std.proofs.Common.{◌≡◌, ◌<◌, ℕ, ◌+◌, List, ◌++◌, [], length, drop, get_or, Option, refl, sym, ap, subst, ◌∙◌}
 use Rattle.std.specs.Io.KnownBytes.{Appends}
 use Rattle.std.specs.List.{flat_map}
@@ -7,7 +7,7 @@ use Rattle.ssim_base.specs.Sinks.{TakesFront, TakesUpTo}
 use Rattle.ssim_base.proofs.Each.{item}
 use Rattle.ssim_base.proofs.SinkLemmas.{all_taken, halt, start, step, taken_all, then, then_front}
 
--- the elements that are left are the one at hand and those after it
+-- the elements that are left are the current one and those after it
 pub element : {X : Type 0} (f : X → List ℕ) (xs : List X) (i : ℕ) (x : X) (bytes : List ℕ) → i < length xs → x ≡ get_or xs i x → bytes ≡ f x
     → flat_map f (drop i xs) ≡ bytes ++ flat_map f (drop (i + 1) xs)
 element f xs i x bytes less is same = ap (flat_map f) (item xs i x less is) ∙ ap (λ (bs : List ℕ). bs ++ flat_map f (drop (i + 1) xs)) (sym same)
@@ -21,7 +21,7 @@ module _ (h x rest : List ℕ) (t : Option (List ℕ)) where
   pub first_fails : (u : Option (List ℕ)) → TakesFront (h ++ x) t u → TakesFront (h ++ (x ++ rest)) t u
   first_fails u put = halt (h ++ (x ++ rest)) h x rest (x ++ rest) t t u refl (start (h ++ (x ++ rest)) t) put
 
--- ---- five parts, one after another, into a block that is empty at first, and then what the block holds
+-- ---- five parts, one after another, into an empty buffer, and then what the buffer holds
 
 module _ (x1 x2 x3 x4 x5 h0 : List ℕ) (t0 : Option (List ℕ)) (none : h0 ≡ []) where
   abbrev all : List ℕ

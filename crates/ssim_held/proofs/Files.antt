@@ -1,5 +1,6 @@
--- One byte list is the file of one desk. Each line says how many elements follow, and each element
--- says its own length, so each part of one file begins where the same part of the other does.
+-- Bytes are the file of only one desk. Each line says how many elements follow, and each element
+-- says its own length, so each part of one file begins at the same byte as the same part of the
+-- other.
 use Rattle.std.proofs.Common.{◌≡◌, inl, inr, ℕ, ◌<◌, ◌≤◌, ◌^◌, true, not, List, [], ◌∷◌, ◌++◌, length, take, drop, Some, unwrap_or, codes, decimal, length-append, append_assoc, refl, sym, ap, subst, ◌∙◌, arith}
 use Rattle.std.specs.Fmt.{digits}
 use Rattle.std.specs.Prelude.{◌==◌, slice_index_or}
@@ -47,7 +48,7 @@ parted {X} xs ys xs' ys' n e = (
 abbrev pub IsApart : {X : Type 0} → (X → List ℕ) → (X → Type 0) → Type 0
 IsApart {X} f P = (x y : X) (rest rest' : List ℕ) → P x → P y → f x ++ rest ≡ f y ++ rest' → (x ≡ y) × (rest ≡ rest')
 
--- so are the same number of such elements
+-- the same number of such elements can be read whatever follows them
 pub elements_apart : {X : Type 0} (f : X → List ℕ) (P : X → Type 0) → IsApart f P → (xs ys : List X) (rest rest' : List ℕ) → Each P xs → Each P ys → length xs ≡ length ys
     → flat_map f xs ++ rest ≡ flat_map f ys ++ rest' → (xs ≡ ys) × (rest ≡ rest')
 elements_apart f P apart [] [] rest rest' a b n e = (refl, e)
@@ -58,7 +59,7 @@ elements_apart f P apart (x ∷ xs) (y ∷ ys) rest rest' a b n e =
     let later = elements_apart f P apart xs ys rest rest' a.1 b.1 (omega (arith, n)) one.1 in
     (λ i. one.0 i ∷ later.0 i, later.1)
 
--- elements of one length are as long as as many others
+-- two lists of the same number of elements of one length have the same length
 pub same_length : {X : Type 0} (f : X → List ℕ) (k : ℕ) (xs ys : List X) → Each (λ x. length (f x) ≡ k) xs → Each (λ x. length (f x) ≡ k) ys → length xs ≡ length ys
     → length (flat_map f xs) ≡ length (flat_map f ys)
 same_length f k [] [] a b n = refl
@@ -166,7 +167,7 @@ pub record IsText (records : List Record) (e : Entry) : Type 0 where
   pub entry : IsEntry records e
   pub spelled : IsSpelled e
 
--- its reference and its dates follow from its message
+-- the reference and the dates of an entry follow from its message
 pub one_entry : (records : List Record) (x y : Entry) → IsEntry records x → IsEntry records y → x.message ≡ y.message → x ≡ y
 one_entry records x y is are same =
     let resolves = subst (λ m. ResolvesIn records m is.text) same is.resolves in
@@ -190,7 +191,7 @@ both_each records (e ∷ es) a b = (record { entry = a.0; spelled = b.0 }, both_
 
 -- ---- the file
 
--- its version, and what follows the first line
+-- the version of a file, and what follows the first line
 version_of : (bytes : List ℕ) (base : BaseSeen) (entries : List Entry) → IsFileOf bytes base entries
     → (v : ℕ) × (v < 2 ^ 64) × (bytes ≡ counted (codes "SSIMDESK") v ++ after_first_line base entries)
 version_of bytes base entries (inl is) = (2, omega arith, is)

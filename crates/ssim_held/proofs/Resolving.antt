@@ -96,7 +96,7 @@ pub one_reference : (base : List Record) (m : MessageValue) (a b : ResolvedText)
 one_reference base m a b (f, in_f, is_a) (g, in_g, is_b) =
     reference_of g.carrier m a b (subst (λ carrier. Resolves carrier m a) (one_carrier base f g in_f in_g) is_a) is_b
 
--- and its sub-messages the same full dates
+-- a base gives the sub-messages of a message only one list of full dates
 pub one_subs : (base : List Record) (m : MessageValue) (a b : ResolvedText) → ResolvesIn base m a → ResolvesIn base m b → a.subs.items ≡ b.subs.items
 one_subs base m a b (f, in_f, is_a) (g, in_g, is_b) =
     one_list g.carrier m.subs a.subs.items b.subs.items (subst (λ carrier. AreResolved carrier m.subs a.subs.items) (one_carrier base f g in_f in_g) is_a.subs) is_b.subs

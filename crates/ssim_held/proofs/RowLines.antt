@@ -18,7 +18,7 @@ five xs = slice_index_or xs 0 0 ∷ slice_index_or xs 1 0 ∷ slice_index_or xs 
 abbrev pub seven : List ℕ → List ℕ
 seven xs = slice_index_or xs 0 0 ∷ slice_index_or xs 1 0 ∷ slice_index_or xs 2 0 ∷ slice_index_or xs 3 0 ∷ slice_index_or xs 4 0 ∷ slice_index_or xs 5 0 ∷ slice_index_or xs 6 0 ∷ []
 
--- are all of it if it has as many
+-- the first bytes of a list are all of it, if it has as many
 three_are : (xs : List ℕ) → length xs ≡ 3 → three xs ≡ xs
 three_are [] n = absurd (omega (arith, n))
 three_are (a ∷ []) n = absurd (omega (arith, n))

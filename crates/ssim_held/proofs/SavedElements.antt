@@ -1,4 +1,4 @@
--- Elements that were written one after another, met one by one.
+-- Elements that were written one after another, read one by one.
 use Rattle.std.proofs.Common.{◌≡◌, ℕ, ◌+◌, ◌<◌, ◌≤◌, true, List, [], ◌∷◌, ◌++◌, length, take, drop, get_or, append_assoc, length-append, refl, sym, ap, subst, ◌∙◌, arith, nat_eq, ◌*◌}
 use Rattle.std.specs.List.{AllByRecursion as Each, flat_map}
 use Rattle.std.specs.Prelude.{IfSome, IsSomeAnd, Option, Some, None}

@@ -73,7 +73,7 @@ version_is bytes one version base es file e =
     let same = counted_apart (codes "SSIMDESK") (version_number version) (version_number file.version) one (after_first_line base es) (small version) (small file.version) (sym e ∙ file.is) in
     (same_version version file.version same.0, same.1)
 
--- so are the base, and what follows it
+-- the base, and what follows it, are those of the file
 pub base_is : SavedIsOne → EqualWhereWrittenEqual → (one two later : List ℕ) (base other : BaseSeen) → IsBase base → IsBase other → length base.records < 2 ^ 64 → length other.records < 2 ^ 64 → length base.rows < 2 ^ 64 → length other.rows < 2 ^ 64
     → one ≡ records_part base.records ++ (rows_part base.rows ++ two) → one ≡ records_part other.records ++ (rows_part other.rows ++ later)
     → (base.records ≡ other.records) × (base.rows ≡ other.rows) × (two ≡ later)
@@ -88,7 +88,7 @@ saved_base base es can = (can.is_base, can.rows)
 pub saved_texts : (version : FileVersion) (base : BaseSeen) (es : List Entry) → CanBeSaved base es → All (IsOf version) es → AreHeld version base.records es
 saved_texts version base es can of_version = record { entries_are = can.entries_are; spelled = can.spelled; of_version = of_version }
 
--- and so are the messages, and the end
+-- the messages, and the end, are those of the file
 pub texts_are : SavedIsOne → EqualWhereWrittenEqual → (version : FileVersion) (records : List Record) (base : BaseSeen) (es others : List Entry) (two three later : List ℕ) → AreHeld version records es → AreHeld version records others
     → length es < 2 ^ 64 → length others < 2 ^ 64 → two ≡ texts_part es ++ three → two ≡ texts_part others ++ later → (es ≡ others) × (three ≡ later)
 texts_are once equal version records base es others two three later is are a b e f =
@@ -146,7 +146,7 @@ module _ (once : SavedIsOne) (equal : EqualWhereWrittenEqual) (bytes one : List 
       let f = file_in bytes base es small_file file in
       (f.records, f.rows, (version_is bytes one version base es f first).1)
 
-  -- after its records its rows
+  -- after its records a desk file has its rows
   pub after_records : (two : List ℕ) (records : List Record) → IsBaseRecords records → one ≡ records_part records ++ two → (base : BaseSeen) (es : List Entry) → IsDeskFile bytes base es
       → two ≡ rows_part base.rows ++ (texts_part es ++ end_line)
   after_records two records are e base es file =
@@ -156,7 +156,7 @@ module _ (once : SavedIsOne) (equal : EqualWhereWrittenEqual) (bytes one : List 
       let few = small_records one two records are e short in
       (records_first once equal (record { records = records; rows = [] }) base [] [] two (rows_part base.rows ++ (texts_part es ++ end_line)) are file.saved.is_base few f.records (sym e ∙ v.1)).1
 
-  -- and after a base that was read, its messages
+  -- after a base that was read, a desk file has its messages
   pub after_base : (two : List ℕ) (other : BaseSeen) → IsBase other → one ≡ records_part other.records ++ (rows_part other.rows ++ two) → (base : BaseSeen) (es : List Entry) → IsDeskFile bytes base es → IsAfterBase version other.records two es
   after_base two other are e base es file =
       let f = file_in bytes base es small_file file in
@@ -172,7 +172,7 @@ module _ (once : SavedIsOne) (equal : EqualWhereWrittenEqual) (bytes one : List 
         short = shorter (rows_part other.rows ++ two) (rows_part other.rows) two refl (shorter one (records_part other.records) (rows_part other.rows ++ two) e short);
       }
 
-  -- and after its messages, the end
+  -- after its messages a desk file has its end
   pub after_texts : (two three : List ℕ) (other : BaseSeen) (others : List Entry) → IsBase other → one ≡ records_part other.records ++ (rows_part other.rows ++ two) → AreHeld version other.records others → two ≡ texts_part others ++ three
       → (base : BaseSeen) (es : List Entry) → IsDeskFile bytes base es → three ≡ end_line
   after_texts two three other others are e held read base es file =

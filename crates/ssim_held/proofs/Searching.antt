@@ -50,7 +50,7 @@ module _ (es : List Entry) (rising : AreRising es) (r : Reference) (low high mid
   there : slice_get es mid ≡ Some e
   there = at_index es mid e in_list ∙ ap Some (sym is)
 
-  -- below the middle all are less if it is
+  -- if the middle is less, all below it are less
   pub narrow_up : Less ≡ reference_cmp e.reference r → Belongs es r (mid + 1) high
   narrow_up less = record {
     order = omega (arith, to);
@@ -65,7 +65,7 @@ module _ (es : List Entry) (rising : AreRising es) (r : Reference) (low high mid
           let same : j ≡ mid = omega (arith, lt, above) in
           flips _ r Less (ap (λ (x : Entry). reference_cmp x.reference r) (ap (λ k. slice_index_or es k d) same ∙ index_of_get es mid e d there) ∙ sym less)
 
-  -- above the middle all are greater if it is
+  -- if the middle is greater, all above it are greater
   pub narrow_down : Greater ≡ reference_cmp e.reference r → Belongs es r low mid
   narrow_down greater = record {
     order = from;

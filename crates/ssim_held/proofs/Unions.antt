@@ -1,4 +1,5 @@
--- Two lists of messages, each in order of reference, as maps: where they differ, and their union.
+-- Two lists of messages, each in order of reference, as maps: the references under which they
+-- differ, and their union.
 use Rattle.std.proofs.Common.{◌≡◌, ◌≢◌, ◌⊎◌, inl, inr, ℕ, zero, suc, ◌<◌, ◌≤◌, true, false, cond, List, [], ◌∷◌, ◌++◌, length, take, drop, Option, Some, None, IfSome, slice_get, All, IsSome, is_some, refl, sym, ap, subst, ◌∙◌, arith}
 use Rattle.std.specs.declared.cmp.Ordering.{Ordering}
 use Rattle.std.specs.declared.cmp.Ordering.TheVariants.{Less, Equal, Greater}
@@ -162,7 +163,7 @@ absorbs : (a b : Option MessageValue) → or_else a None ≡ or_else a (or_else 
 absorbs None b e = e ∙ sym (or_else_none b)
 absorbs (Some x) b e = refl
 
--- where all of theirs is held, the union is mine
+-- if all of their messages are held, the union is mine
 pub union_held : (mine theirs : List Entry) → AreRising mine → AreRising theirs → All (IsHeldIn mine) theirs → map_of mine ≡ union (map_of mine) (map_of theirs)
 union_held mine theirs rising others h = same_map reference_total reference_apart _ _ (λ q.
     get-map_of mine q rising ∙ absorbs (at_ref q mine) (at_ref q theirs) (held_adds mine theirs rising h q None) ∙ sym (union_at mine theirs rising others q))

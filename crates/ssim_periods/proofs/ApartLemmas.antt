@@ -32,7 +32,7 @@ inside true true true false x y h k = refl
 inside true true true true true y h k = h refl refl refl refl
 inside true true true true false y h k = cc
 
--- two periods do not meet where no weekday of both has a day in both ranges
+-- two periods do not meet if no weekday of both has a day in both ranges
 pub meet-none : (p q : DayRange) (days other : List Bool) (first last : ℕ) → days ≡ p.days → other ≡ q.days → first ≡ max p.first q.first → last ≡ min p.last q.last
     → ((n : ℕ) → first ≤ n → n ≤ last → (slice_index_or days (slot n) false && slice_index_or other (slot n) false) ≡ false) → (n : ℕ) → holds p n ≡ true → holds q n ≡ false
 meet-none p q days other first last own its f l none n =
@@ -54,7 +54,7 @@ holds-is p n b h =
       ] refl
     ] refl
 
--- no period of a list holds the days of one, so far
+-- none of the periods so far holds the day, if the latest does not and none before it does
 pub none-more : {V : Type 0} (xs : List (DayRange × V)) (i : ℕ) (x : DayRange × V) (n : ℕ) → i < length xs → x ≡ slice_index_or xs i x → holds x.0 n ≡ false → held_on (take i xs) n ≡ [] → held_on (take (i + 1) xs) n ≡ []
 none-more xs i x n lt is off so =
     ap (λ es. held_on es n) (take_more xs i x lt)
@@ -139,7 +139,7 @@ value_in-first {V} nothing x xs n once = by (holds x.0 n) once
     by true few = value_in-none x.1 xs n (none (held_on xs n) few)
     by false few = refl
 
--- one more period, put before those from a place on
+-- one more period, put before those from an index on
 pub rows-more : {V : Type 0} (nothing : V) (xs : List (DayRange × V)) (i j : ℕ) (x : DayRange × V) (days new : List V) → j + 1 ≡ i → j < length xs → x ≡ slice_index_or xs j x → ((n : ℕ) → length (held_on xs n) ≤ 1) → days ≡ each_day (value_in nothing (drop i xs)) → new ≡ changed_on (holds x.0) (λ _. x.1) 0 days → new ≡ each_day (value_in nothing (drop j xs))
 rows-more nothing xs i j x days new next lt is once so put =
     let rest : drop j xs ≡ x ∷ drop i xs = drop_more xs j x lt ∙ ap (λ k. slice_index_or xs j x ∷ drop k xs) next ∙ ap (λ y. y ∷ drop i xs) (sym is) in
@@ -165,13 +165,13 @@ put-days nothing xs ys p v days view is =
     ∙ sym (changed_on-each_day (holds p) (λ _. v) (value_in nothing xs))
     ∙ ap (changed_on (holds p) (λ _. v) 0) view
 
--- the days of a period are held by none where they have the empty value
+-- the days of a period that have the empty value are held by no period
 pub free-days : {V : Type 0} (nothing : V) (xs : List (DayRange × V)) (p : DayRange) (days : List V) → p.last < 36525 → All (λ (given : DayRange × V). given.1 ≢ nothing) xs → each_day (value_in nothing xs) ≡ days → ((n : ℕ) → holds p n ≡ true → slice_index_or days n nothing ≡ nothing) → (n : ℕ) → holds p n ≡ true → held_on xs n ≡ []
 free-days nothing xs p days fits all view free n h =
     let to = (holds-Holds p n h).1 in
     none-held nothing xs n all (sym (index-each_day (value_in nothing xs) n nothing (omega arith)) ∙ ap (λ ds. slice_index_or ds n nothing) view ∙ free n h)
 
--- and the other way round
+-- days that no period holds have the empty value
 pub days-free : {V : Type 0} (nothing : V) (xs : List (DayRange × V)) (p : DayRange) (days : List V) → each_day (value_in nothing xs) ≡ days → ((n : ℕ) → holds p n ≡ true → held_on xs n ≡ []) → (n : ℕ) → holds p n ≡ true → slice_index_or days n nothing ≡ nothing
 days-free nothing xs p days view none n h =
     let size : length days ≡ 36525 = sym (ap length view) ∙ length-each_day (value_in nothing xs) in
@@ -193,7 +193,7 @@ put-once {V} xs p v free once n =
     few (w ∷ []) l = l
     few (w ∷ u ∷ vs) l = absurd (omega arith)
 
--- the list is such a list again
+-- the list with one more period has no day twice either
 pub put-apart : {V : Type 0} (nothing : V) (xs ys : List (DayRange × V)) (cuts more : List ℕ) (p : DayRange) (v : V) (days : List V) (first end : ℕ) → AreApart nothing xs cuts → each_day (value_in nothing xs) ≡ days → ((n : ℕ) → holds p n ≡ true → slice_index_or days n nothing ≡ nothing) → v ≢ nothing → first ≡ p.first → end ≡ p.last + 1 → p.first ≤ p.last → p.last < 36525 → ys ≡ xs ++ (p, v) ∷ [] → more ≡ with_cut (with_cut cuts first) end → AreApart nothing ys more
 put-apart {V} nothing xs ys cuts more p v days first end a view free some f e ordered fits is cut =
     subst (λ (es : List (DayRange × V)). AreApart nothing es more) (sym is) (subst (λ (cs : List ℕ). AreApart nothing (xs ++ (p, v) ∷ []) cs) (sym cut) (record {

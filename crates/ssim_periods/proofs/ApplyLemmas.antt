@@ -167,7 +167,7 @@ All-patched_from zero (patch ∷ patches) (row ∷ rows) all =
 All-patched_from (suc from) patches (row ∷ rows) all =
     All-cons (λ r. length r ≡ 7) row (patched_from from patches rows) (All-head (λ r. length r ≡ 7) row rows all) (All-patched_from from patches rows (All-tail (λ r. length r ≡ 7) row rows all))
 
--- the new cuts and rows are such again
+-- the new cuts and rows are cuts and rows again
 pub AreRows-put : {V : Type 0} (before : List V) (cuts : List ℕ) (rows : List (List V)) (first last : ℕ) (head tail : List V) (patches : List (List (Option V))) → Split before cuts rows first last head tail → last < 36525 → AreRows before (new_cuts cuts first last) (patched_from (place (with_cut cuts first) first - 1) patches (new_rows cuts rows first last head tail))
 AreRows-put before cuts rows first last head tail patches s fits =
     let v = s.valid in let o = s.ordered in
@@ -192,7 +192,7 @@ pub contains-cases : (x y : ℕ) (xs : List ℕ) → Contains (x ∷ xs) y → (
 contains-cases x y xs (zero, l, e) = inl (sym e)
 contains-cases x y xs (suc k, l, e) = inr (k, omega arith, e)
 
--- a cut of those with one more
+-- a cut in a list with one more cut
 pub contains-with_cut : (cuts : List ℕ) (day cut : ℕ) → Contains (with_cut cuts day) cut → Contains cuts cut ⊎ (cut ≡ day)
 contains-with_cut [] day cut h = elim (contains-cases day cut [] h) [ inl e ↦ inr e | inr k ↦ inl k ]
 contains-with_cut (next ∷ cuts) day cut h =
@@ -222,7 +222,7 @@ with_cut-keeps (next ∷ cuts) day cut h =
       ]
     ]
 
--- and the new one is there
+-- the new cut is there
 pub with_cut-own : (cuts : List ℕ) (day : ℕ) → Contains (with_cut cuts day) day
 with_cut-own [] day = contains-head day []
 with_cut-own (next ∷ cuts) day =

@@ -179,7 +179,7 @@ place-next-after (cut ∷ cuts) day h =
       | false ↦ λ e k. rw add-one (place-next-after cuts day (omega arith))
     ] refl h
 
--- days before the next cut have the same place
+-- days before the next cut have the same index of a row
 pub place-stays : (cuts : List ℕ) (day n : ℕ) → day ≤ n → (place cuts day < length cuts → n < slice_index_or cuts (place cuts day) 0) → place cuts n ≡ place cuts day
 place-stays [] day n l h = refl
 place-stays (cut ∷ cuts) day n l h =
@@ -274,7 +274,7 @@ pub length-with_days : (w : ℕ) (mask : List Bool) (from to : ℕ) → length (
 length-with_days w [] from to = refl
 length-with_days w (on ∷ mask) from to = ap suc (length-with_days (w + 1) mask from to)
 
--- a day of a stretch is in the mask where its weekday is among those that have a day there
+-- a day of a stretch is in the mask if its weekday is among those that have a day there
 pub with_days-own : (mask : List Bool) (from n to : ℕ) → from ≤ n → n < to → slice_index_or (with_days 0 mask from to) (slot n) false ≡ slice_index_or mask (slot n) false
 with_days-own mask from n to l h =
     with_days-at 0 mask from to (slot n) ∙ ap (λ v. slice_index_or mask (slot n) false && nat_lt (below v from) (below v to)) same ∙ ap (λ b. slice_index_or mask (slot n) false && b) (has-own_day from n to l h) ∙ and-true (slice_index_or mask (slot n) false)

@@ -29,7 +29,7 @@ first_where-is test n (suc k) f a b t before =
       | inr l ↦ ap (λ c. if c then n else first_where test (n + 1) k) (before n (omega arith) l) ∙ first_where-is test (n + 1) k f (omega arith) (omega arith) t (λ m x y. before m (omega arith) y)
     ]
 
--- either no day passes, or the first that does
+-- no day passes, or there is a first day that does
 pub first_where-cases : (test : ℕ → Bool) (n k : ℕ) → ((m : ℕ) → n ≤ m → m < n + k → test m ≡ false) ⊎ ((f : ℕ) × (n ≤ f) × (f < n + k) × (test f ≡ true) × ((m : ℕ) → n ≤ m → m < f → test m ≡ false))
 first_where-cases test n zero = inl (λ m a b. absurd (omega arith))
 first_where-cases test n (suc k) =
@@ -53,7 +53,7 @@ none-from_week test n k weekly week d m e l = by_weeks (d / 7) d m e l (omega ar
           | inr f ↦ week m (omega arith) (omega arith) l
         ]
 
--- so the first day that passes in a stretch is found in its first seven days, or there is none
+-- the first day that passes in a stretch is found in its first seven days, or there is none
 pub first_where-week : (test : ℕ → Bool) (n k j : ℕ) → j ≤ k → ((7 ≤ j) ⊎ (j ≡ k)) → ((m : ℕ) → n ≤ m → m + 7 < n + k → test (m + 7) ≡ test m) → first_where test n k ≡ (if nat_lt (first_where test n j) (n + j) then first_where test n j else n + k)
 first_where-week test n k j le week weekly =
     elim (first_where-cases test n j) [
@@ -81,7 +81,7 @@ first_where-either test n k =
           inr (omega arith, omega arith, ap test at ∙ some.3, λ m a b. some.4 m a (omega arith))
     ]
 
--- what the last day that passes is, where the first day does
+-- the last day that passes, if the first day passes
 pub last_where-is : (test : ℕ → Bool) (n k : ℕ) → test n ≡ true →
     (n ≤ last_where test n k) × (last_where test n k ≤ n + (k - 1)) × (test (last_where test n k) ≡ true) × ((m : ℕ) → last_where test n k < m → m < n + k → test m ≡ false)
 last_where-is test n zero h = (omega arith, omega arith, h, λ m a b. absurd (omega arith))
@@ -118,7 +118,7 @@ same-differ false false h = refl
 same-differ true false h = h
 same-differ false true h = sym h
 
--- the break lies after the first day and not after the end, and each day before it is in the set
+-- the break is after the first day and not after the end, and each day before it is in the set
 -- exactly if its weekday is in the mask
 pub break_after-is : (is_in : ℕ → Bool) (a end : ℕ) → a < end →
     (a < break_after is_in a end) × (break_after is_in a end ≤ end) × ((m : ℕ) → a ≤ m → m < break_after is_in a end → is_in m ≡ slice_index_or (weekdays_of is_in a) (slot m) false)

@@ -49,7 +49,7 @@ cover_from-fuel (suc j) (suc k) is_in from end h l =
       | false ↦ λ e. refl
     ] refl
 
--- the cover of the days from `from` on is that from the least of them on
+-- the cover of the days from `from` on is the cover from the least of them on
 pub cover_from-at : (count : ℕ) (is_in : ℕ → Bool) (from end : ℕ) → end - from ≤ count → cover_from count is_in from end ≡ cover_at is_in end (first_where is_in from (end - from))
 cover_from-at zero is_in from end h = sym (past is_in from end (period_at is_in (first_where is_in from (end - from)) (break_after is_in (first_where is_in from (end - from)) end) ∷ cover_from end is_in (break_after is_in (first_where is_in from (end - from)) end) end) (omega arith))
 cover_from-at (suc count) is_in from end h =
@@ -60,7 +60,7 @@ cover_from-at (suc count) is_in from end h =
       | false ↦ λ e. refl
     ] refl
 
--- one period of it
+-- one period of the cover
 pub cover_at-next : (is_in : ℕ → Bool) (end a : ℕ) → a < end → cover_at is_in end a ≡ period_at is_in a (break_after is_in a end) ∷ cover_at is_in end (first_where is_in (break_after is_in a end) (end - break_after is_in a end))
 cover_at-next is_in end a h =
     let after = break_after is_in a end in
@@ -73,7 +73,7 @@ cover_at-end is_in end a h =
     let off : nat_lt a end ≡ false = grind (arith, nat_tests) in
     ap (λ b. if b then period_at is_in a (break_after is_in a end) ∷ cover_from end is_in (break_after is_in a end) end else []) off
 
--- with no weekdays, a day is unlike where it is in the set
+-- with no weekdays, a day differs if it is in the set
 pub first-in_set : (is_in : ℕ → Bool) (mask : List Bool) (n k : ℕ) → ((s : ℕ) → slice_index_or mask s false ≡ false) → first_where (breaks is_in mask) n k ≡ first_where is_in n k
 first-in_set is_in mask n k none = first_where-same (breaks is_in mask) is_in n k (λ m a b. ap (differ (is_in m)) (none ((m + 5) % 7)) ∙ off (is_in m))
   where
@@ -124,7 +124,7 @@ step is_in end first mask after lt here mask_is found =
       like = λ n l h. b.2 n l (omega arith) ∙ sym (ap (λ m. slice_index_or m (slot n) false) mask_is);
     }
 
--- the last day of its period
+-- the last day of the period of a step
 pub step-last : (is_in : ℕ → Bool) (end first : ℕ) (mask : List Bool) (after last : ℕ) → Step is_in end first mask after → is_in first ≡ true → last ≡ last_where (λ n. slice_index_or mask (slot n) false) first (after - first) →
     (last ≡ last_where is_in first (after - first)) × (first ≤ last) × (last < after)
 step-last is_in end first mask after last s here is =

@@ -8,7 +8,7 @@ use Rattle.std.proofs.lemmas.Bool.Decides.{nat_tests}
 use Rattle.ssim_periods.specs.Rows.{place, row_on}
 use Rattle.ssim_periods.specs.Splits.{has_cut, with_cut, with_row}
 
--- where no cut is at the day, one is put in at its place
+-- if no cut is at the day, one is put in at its index
 pub with_cut-insert : (cuts : List ℕ) (day : ℕ) → has_cut cuts day ≡ false → insert cuts (place cuts day) day ≡ with_cut cuts day
 with_cut-insert [] day h = refl
 with_cut-insert (cut ∷ cuts) day h =
@@ -32,7 +32,7 @@ with_row-insert (cut ∷ cuts) day row (next ∷ rows) l h =
       ]
     ] h
 
--- where there is one, nothing is added
+-- if a cut is at the day, nothing is added
 pub with_cut-has : (cuts : List ℕ) (day : ℕ) → has_cut cuts day ≡ true → with_cut cuts day ≡ cuts
 with_cut-has [] day h = cc
 with_cut-has (cut ∷ cuts) day h =
@@ -74,7 +74,7 @@ row_on-with_cut before (cut ∷ cuts) (next ∷ rows) day row n l h =
           ]
     ] refl h
 
--- days before a new cut keep their place
+-- days before a new cut keep their index
 pub place-with_cut-before : (cuts : List ℕ) (day n : ℕ) → n < day → place (with_cut cuts day) n ≡ place cuts n
 place-with_cut-before [] day n h = grind (arith, nat_tests)
 place-with_cut-before (cut ∷ cuts) day n h = let ih = place-with_cut-before cuts day n h in grind (arith, nat_tests)
@@ -172,11 +172,11 @@ has_cut-from b (cut ∷ cuts) day a =
     later (suc p) f = let one : suc p + 1 - 1 ≡ suc p = omega arith in let back : suc p - 1 ≡ p = omega arith in let yes : nat_lt 0 (suc p + 1) ≡ true = grind (arith, nat_tests) in let yes' : nat_lt 0 (suc p) ≡ true = grind (arith, nat_tests) in
         ap (λ b. b && nat_eq (slice_index_or cuts (suc p - 1) 0) day) yes' ∙ ap (λ i. nat_eq (slice_index_or cuts i 0) day) back ∙ sym (ap (λ b. b && nat_eq (slice_index_or (cut ∷ cuts) (suc p + 1 - 1) 0) day) yes ∙ ap (λ i. nat_eq (slice_index_or (cut ∷ cuts) i 0) day) one)
 
--- a day is a cut where the cut before its row is it
+-- a day is a cut if the cut before its row is this day
 pub has_cut-place : (cuts : List ℕ) (day p : ℕ) → IsStrictlyIncreasing cuts → p ≡ place cuts day → has_cut cuts day ≡ (nat_lt 0 p && nat_eq (slice_index_or cuts (p - 1) 0) day)
 has_cut-place cuts day p h e = has_cut-from 0 cuts day (Above-all cuts h) ∙ ap (λ q. nat_lt 0 q && nat_eq (slice_index_or cuts (q - 1) 0) day) (sym e)
 
--- the place between the cuts that are not after the day and those that are
+-- the index between the cuts that are not after the day and those that are
 pub place-between : (cuts : List ℕ) (day p : ℕ) → p ≤ length cuts → ((k : ℕ) → k < p → slice_index_or cuts k 0 ≤ day) → (p < length cuts → day < slice_index_or cuts p 0) → place cuts day ≡ p
 place-between [] day p l low high = omega arith
 place-between (cut ∷ cuts) day zero l low high = let lt : day < cut = high (omega arith) in grind (arith, nat_tests)
@@ -205,7 +205,7 @@ from-first cuts h k d l =
     let e : 0 + k ≡ k = omega arith in let f = ap (λ i. slice_index_or cuts i 0) e in
     let r = rising-to cuts 0 k h (omega arith) in let g = index-default cuts k d 0 l in omega arith
 
--- and none is after the last one
+-- no cut is after the last one
 pub upto-last : (cuts : List ℕ) → IsStrictlyIncreasing cuts → All (λ cut. cut ≤ slice_index_or cuts (length cuts - 1) 0) cuts
 upto-last cuts h k d l =
     let e : k + (length cuts - 1 - k) ≡ length cuts - 1 = omega arith in let f = ap (λ i. slice_index_or cuts i 0) e in
@@ -217,6 +217,6 @@ Above-push b (cut ∷ cuts) day a all h =
     let lt : cut < day = all 0 0 (omega arith) in
     (a.0, Above-push (cut + 1) cuts day a.1 (λ k d l. all (suc k) d (omega arith)) (omega arith))
 
--- a day after all cuts is the last of those that rise
+-- a cut after all cuts is the last of the rising cuts
 pub rising-push : (cuts : List ℕ) (day : ℕ) → IsStrictlyIncreasing cuts → All (λ cut. cut < day) cuts → IsStrictlyIncreasing (cuts ++ day ∷ [])
 rising-push cuts day h all = rising-from 0 (cuts ++ day ∷ []) (Above-push 0 cuts day (Above-all cuts h) all (omega arith))

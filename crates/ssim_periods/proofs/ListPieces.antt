@@ -1,5 +1,5 @@
--- The pieces of periods without a common day: each value's days are those of its periods, and each
--- value comes last once.
+-- The pieces of periods without a common day: the days of each value are the days of its periods,
+-- and each value comes last once.
 use Rattle.std.proofs.Common.{◌≡◌, ◌≢◌, ℕ, zero, suc, ◌+◌, ◌-◌, ◌<◌, ◌≤◌, ◌||◌, Bool, true, false, if◌then◌else◌, nat_eq, List, [], ◌∷◌, ◌++◌, length, filter, map, take, drop, slice_index_or, refl, ap, subst, sym, ◌∙◌, arith, ◌⊎◌, inl, inr, IsTrue, ◌↔◌, append-nil, append_assoc, length-drop}
 use Rattle.std.specs.List.{All, flat_map, list_any}
 use Rattle.std.specs.List.Sorted.{IsPermutation, IsNonDecreasingBy}
@@ -62,7 +62,7 @@ held-value {V} d (y ∷ xs) x n once (inl e) h =
 held-value {V} d (y ∷ xs) x n once (inr i) h =
     held-value (if holds y.0 n then y.1 else d) xs x n (less (holds y.0 n) y.1 (held_on xs n) once) i h
 
--- it is the only one
+-- the period that holds the day is the only one
 held-one : {V : Type 0} (xs : List (DayRange × V)) (x : DayRange × V) (n : ℕ) → length (held_on xs n) ≤ 1 → In x xs → holds x.0 n ≡ true → held_on xs n ≡ x.1 ∷ []
 held-one [] x n once i h = absurd i
 held-one (y ∷ xs) x n once (inl e) h =
@@ -113,7 +113,7 @@ last-once {V} alike exact w (y ∷ xs) = by (list_any (λ (z : DayRange × V). a
         let rest = filter (λ v. alike v w) (last_values alike xs) in
         ap (λ b. if b then y.1 ∷ rest else rest) (alike-turned alike exact y.1 w ∙ off) ∙ so ∙ sym (ap (λ b. of (b || among w)) off)
 
--- and the empty value is not among them
+-- the empty value is not among the last values
 none-empty : {V : Type 0} (alike : V → V → Bool) (nothing : V) → ((x y : V) → IsTrue (alike x y) ↔ (x ≡ y)) → (xs : List (DayRange × V)) → All (λ (given : DayRange × V). given.1 ≢ nothing) xs → list_any (λ (y : DayRange × V). alike nothing y.1) xs ≡ false
 none-empty alike nothing exact [] all = refl
 none-empty alike nothing exact (y ∷ xs) all =
@@ -195,7 +195,7 @@ on-append alike xs ys v n = ap (list_any (alike v)) (held_on-append xs ys n) ∙
 on-last : {V : Type 0} (alike : V → V → Bool) (xs : List (DayRange × V)) (x : DayRange × V) (v : V) (n : ℕ) (b : Bool) → holds x.0 n ≡ b → given_on alike (xs ++ x ∷ []) v n ≡ (given_on alike xs v n || list_any (alike v) (if b then x.1 ∷ [] else []))
 on-last alike xs x v n b e = on-append alike xs (x ∷ []) v n ∙ ap (λ c. given_on alike xs v n || list_any (alike v) (if c then x.1 ∷ [] else [])) e
 
--- the days of a value that only the last period has
+-- the days of a value that only the last period has are the days of that period
 on-own : {V : Type 0} (alike : V → V → Bool) → ((x y : V) → IsTrue (alike x y) ↔ (x ≡ y)) → (xs : List (DayRange × V)) (x : DayRange × V) (n : ℕ) → list_any (λ (y : DayRange × V). alike x.1 y.1) xs ≡ false → holds x.0 n ≡ given_on alike (xs ++ x ∷ []) x.1 n
 on-own {V} alike exact xs x n none = by (holds x.0 n) refl
   where
@@ -218,7 +218,7 @@ marks-same alike x xs v old new same so put =
     put ∙ ap (changed_on (holds x.0) (λ _. 1) 0) so ∙ changed_on-each_day (holds x.0) (λ _. 1) (marked alike xs v)
     ∙ each_day-same (λ n. if holds x.0 n then 1 else marked alike xs v n) (marked alike (x ∷ xs) v) (λ n l. marked-same alike x xs v n same)
 
--- and for one without it
+-- the marks of one more period without the value
 pub marks-other : {V : Type 0} (alike : V → V → Bool) (x : DayRange × V) (xs : List (DayRange × V)) (v : V) → alike v x.1 ≡ false → each_day (marked alike xs v) ≡ each_day (marked alike (x ∷ xs) v)
 marks-other {V} alike x xs v other = each_day-same (marked alike xs v) (marked alike (x ∷ xs) v) (λ n l. by n (holds x.0 n))
   where
@@ -235,7 +235,7 @@ rest-next xs i j x end next lt is =
 pub upto-next : {X : Type 0} (xs : List X) (i : ℕ) (x : X) → i < length xs → x ≡ slice_index_or xs i x → take (i + 1) xs ≡ take i xs ++ x ∷ []
 upto-next xs i x lt is = take_more xs i x lt ∙ ap (λ y. take i xs ++ y ∷ []) (sym is)
 
--- the marked days are those of the value
+-- the marked days are the days of the value
 has-mark : {V : Type 0} (alike : V → V → Bool) (xs : List (DayRange × V)) (v : V) (marks : List ℕ) (n : ℕ) → All (λ (given : DayRange × V). given.0.last < 36525) xs → marks ≡ each_day (marked alike xs v) → has_value nat_eq marks 1 n ≡ given_on alike xs v n
 has-mark {V} alike xs v marks n ends are =
     let size : length marks ≡ 36525 = ap length are ∙ length-each_day (marked alike xs v) in
@@ -299,7 +299,7 @@ cover-last {V} alike xs i x lt is none = ap (λ is_in. map (λ (period : DayRang
         sym (ap (λ ys. given_on alike ys x.1 n) (sym whole) ∙ on-append alike (take i xs ++ x ∷ []) (drop (i + 1) xs) x.1 n
         ∙ ap (λ b. given_on alike (take i xs ++ x ∷ []) x.1 n || b) (none-later alike x.1 (drop (i + 1) xs) n none) ∙ or-false (given_on alike (take i xs ++ x ∷ []) x.1 n))
 
--- what is pushed for it
+-- what is pushed for a value that no later period has
 pub covers-more : {V : Type 0} (alike : V → V → Bool) (xs : List (DayRange × V)) (i : ℕ) (x : DayRange × V) (pieces more : List (DayRange × V)) → i < length xs → x ≡ slice_index_or xs i x → list_any (λ (y : DayRange × V). alike x.1 y.1) (drop (i + 1) xs) ≡ false → more ≡ pieces ++ given_cover alike (take i xs ++ x ∷ []) x.1
     → more ++ flat_map (given_cover alike xs) (last_values alike (drop (i + 1) xs)) ≡ pieces ++ flat_map (given_cover alike xs) (last_values alike (drop i xs))
 covers-more alike xs i x pieces more lt is none put =

@@ -1,5 +1,5 @@
--- Numbers in place of values: they stay those of their values when more are known, and two are
--- equal where their values are.
+-- Numbers in place of values: they keep their values when more are known, and two numbers are equal
+-- if their values are.
 use Rattle.std.proofs.Common.{◌≡◌, ℕ, zero, suc, ◌+◌, ◌<◌, Bool, true, false, ◌||◌, if◌then◌else◌, nat_eq, nat_lt, Option, Some, List, [], ◌∷◌, ◌++◌, map, length, slice_get, slice_index_or, refl, ap, ◌∙◌, sym, arith, ◌⊎◌, inl, inr, IsTrue, ◌↔◌, eqb-true, eq-eqb, option_map, length-append, drop, take, slice_set}
 use Rattle.std.specs.List.{All, list_any, range_with_len}
 use Rattle.std.proofs.Math.Path.{fun_ext}
@@ -17,13 +17,13 @@ get-last : {V : Type 0} (xs : List V) (x : V) → slice_get (xs ++ x ∷ []) (le
 get-last [] x = refl
 get-last (v ∷ xs) x = get-last xs x
 
--- the number of a value that is read at a place
+-- the number of a value that is read at an index
 pub number-read : {R V : Type 0} (nothing : V) (now : R → V) (refs : List R) (n k : ℕ) (r : R) → n ≡ k + 1 → k < length refs → r ≡ slice_index_or refs k r → numbered nothing (map now refs) n ≡ Some (now r)
 number-read nothing now refs n k r e h at =
     let next : n ≡ suc k = omega arith in
     ap (numbered nothing (map now refs)) next ∙ slice_get-map now refs k ∙ ap (option_map now) (slice_get_read refs (length refs) k r refl h at)
 
--- and of one that is put last
+-- the number of a value that is put last
 pub number-last : {R V : Type 0} (nothing : V) (now : R → V) (refs more : List R) (n : ℕ) (r : R) → more ≡ refs ++ r ∷ [] → n ≡ length more → numbered nothing (map now more) n ≡ Some (now r)
 number-last nothing now refs more n r is e =
     let size = ap length is in let next : n ≡ suc (length refs) = omega (arith, length-append refs (r ∷ [])) in
@@ -114,7 +114,7 @@ gathered-distinct alike nothing exact values = distinct-from alike nothing exact
     one zero (suc j) x a b = cc
     one (suc i) j x a b = cc
 
--- two numbers are equal where their values are
+-- two numbers are equal if their values are
 number-alike : {V : Type 0} (alike : V → V → Bool) → ((x y : V) → IsTrue (alike x y) ↔ (x ≡ y)) → (values : List V) → AreDistinct values → (i j : ℕ) (v x : V) → slice_get values i ≡ Some v → slice_get values j ≡ Some x → nat_eq i j ≡ alike v x
 number-alike alike exact values d i j v x hi hj =
     elim (nat_eq i j) as (λ t. nat_eq i j ≡ t → t ≡ alike v x) [
@@ -125,7 +125,7 @@ number-alike alike exact values d i j v x hi hj =
       ] refl
     ] refl
 
--- so the days with a number are those with its value
+-- the days with a number are the days with its value
 has-number : {V : Type 0} (alike : V → V → Bool) (nothing : V) → ((x y : V) → IsTrue (alike x y) ↔ (x ≡ y)) → (values : List V) → AreDistinct (nothing ∷ values) → (k : ℕ) (v : V) → numbered nothing values k ≡ Some v → (numbers : List ℕ) (days : List V) → map (numbered nothing values) numbers ≡ map Some days → (n : ℕ) → has_value nat_eq numbers k n ≡ has_value alike days v n
 has-number alike nothing exact values d k v own [] [] h n = refl
 has-number alike nothing exact values d k v own [] (x ∷ days) h n = cc
@@ -141,7 +141,7 @@ length-same f g [] (y ∷ ys) h = cc
 length-same f g (x ∷ xs) [] h = cc
 length-same f g (x ∷ xs) (y ∷ ys) h = let rest : map f xs ≡ map g ys = cc in ap suc (length-same f g xs ys rest)
 
--- and the pieces of the value are the cover of its number's days
+-- the pieces of a value are the cover of its number's days
 pub pieces_with-number : {V : Type 0} (alike : V → V → Bool) (nothing : V) → ((x y : V) → IsTrue (alike x y) ↔ (x ≡ y)) → (values : List V) → AreDistinct (nothing ∷ values) → (k : ℕ) (v : V) → numbered nothing values k ≡ Some v → (numbers : List ℕ) (days : List V) → map (numbered nothing values) numbers ≡ map Some days → map (λ (period : DayRange). (period, v)) (cover (has_value nat_eq numbers k) (length numbers)) ≡ pieces_with alike days v
 pieces_with-number alike nothing exact values d k v own numbers days h =
     ap (λ is_in. map (λ (period : DayRange). (period, v)) (cover is_in (length numbers))) (fun_ext (has-number alike nothing exact values d k v own numbers days h))

@@ -1,5 +1,5 @@
 -- On each day exactly one piece holds: exactly one of the distinct values is the day's, its cover
--- holds the day once, and a sort moves pieces only.
+-- holds the day once, and sorting only moves pieces.
 use Rattle.std.proofs.Common.{◌≡◌, ℕ, zero, suc, ◌-◌, ◌<◌, ◌≤◌, Bool, true, false, ◌||◌, if◌then◌else◌, nat_lt, List, [], ◌∷◌, ◌++◌, map, length, slice_index_or, filter, replicate, refl, ap, subst, ◌∙◌, sym, arith, ◌⊎◌, inl, inr, IsTrue, ◌↔◌}
 use Rattle.std.specs.List.{All, list_any, flat_map}
 use Rattle.std.proofs.lemmas.Bool.Decides.{nat_tests}
@@ -82,7 +82,7 @@ filter-same p q [] h = refl
 filter-same p q (x ∷ xs) h =
     ap (λ b. if b then x ∷ filter p xs else filter p xs) (h x) ∙ ap (λ r. if q x then x ∷ r else r) (filter-same p q xs h)
 
--- no value passes, so none is among them
+-- no value passes, so none is in the list
 pub none_alike : {V : Type 0} (alike : V → V → Bool) → ((x y : V) → IsTrue (alike x y) ↔ (x ≡ y)) → (x : V) (values : List V) → filter (λ v. alike v x) values ≡ [] → list_any (alike x) values ≡ false
 none_alike alike exact x [] h = refl
 none_alike alike exact x (v ∷ values) h =
@@ -116,7 +116,7 @@ once-here {V} alike nothing exact x days others ih =
     known true = inl refl
     known false = inr refl
 
--- of the distinct values one is x, where a day has x and it is not the empty one
+-- exactly one of the distinct values is x, if a day has x and x is not empty
 pub values_of-once : {V : Type 0} (alike : V → V → Bool) (nothing : V) → ((x y : V) → IsTrue (alike x y) ↔ (x ≡ y)) → (x : V) (days : List V) → filter (λ v. alike v x) (values_of alike nothing days) ≡ (if list_any (alike x) days then alone alike nothing x else [])
 values_of-once alike nothing exact x [] = refl
 values_of-once alike nothing exact x (v ∷ days) =
@@ -131,7 +131,7 @@ values_of-once alike nothing exact x (v ∷ days) =
     skipped x v others true h = refl
     skipped x v others false h = ap (λ b. if b then v ∷ filter (λ w. alike w x) others else filter (λ w. alike w x) others) h
 
--- a sort keeps what holds a day, where that is one piece at most
+-- sorting keeps what holds a day, if that is at most one piece
 held_on-insert : {V : Type 0} (p : DayRange × V) (pieces : List (DayRange × V)) (n : ℕ) → length (held_on (p ∷ pieces) n) ≤ 1 → held_on (insert_by_first p pieces) n ≡ held_on (p ∷ pieces) n
 held_on-insert p [] n h = refl
 held_on-insert p (q ∷ pieces) n h =

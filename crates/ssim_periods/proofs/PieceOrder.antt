@@ -1,4 +1,4 @@
--- Two lists of the same pieces, each rising strictly by first day, are one list.
+-- Two lists of the same pieces, each rising strictly by first day, are equal.
 use Rattle.std.proofs.Common.{◌≡◌, ℕ, zero, suc, ◌+◌, ◌<◌, ◌≤◌, Bool, true, false, if◌then◌else◌, nat_lt, List, [], ◌∷◌, length, get_or, refl, ap, subst, ◌∙◌, sym, arith, ◌⊎◌, inl, inr}
 use Rattle.std.specs.List.{All, fold}
 use Rattle.std.specs.List.Sorted.{IsPermutation, IsNonDecreasingBy}
@@ -29,7 +29,7 @@ rises-in b x [] r i = absurd i
 rises-in b x (p ∷ pieces) r (inl e) = let l = r.0 in let f : x.0.first ≡ p.0.first = ap (λ q. q.0.first) e in omega arith
 rises-in b x (p ∷ pieces) r (inr i) = let l = r.0 in let m = rises-in (p.0.first + 1) x pieces r.1 i in omega arith
 
--- the same pieces, rising, are one list
+-- rising lists of the same pieces are equal
 pub same-pieces : {V : Type 0} (b c : ℕ) (xs ys : List (DayRange × V)) → Rises b xs → Rises c ys → ((p : DayRange × V) → In p xs → In p ys) → ((p : DayRange × V) → In p ys → In p xs) → xs ≡ ys
 same-pieces b c [] [] r s f g = refl
 same-pieces b c [] (y ∷ ys) r s f g = absurd (g y (inl refl))
@@ -56,7 +56,7 @@ twice true true rest v w x y l = omega arith
 twice false c rest v w x y l = cc
 twice true false rest v w x y l = cc
 
--- where no day is held twice, first days that do not fall rise
+-- if no day is held twice, first days that do not fall rise
 pub rises-from : {V : Type 0} (b end : ℕ) (pieces : List (DayRange × V)) → Ascends b pieces → Every (λ (piece : DayRange × V). Begins end piece.0) pieces → ((n : ℕ) → length (held_on pieces n) ≤ 1) → Rises b pieces
 rises-from b end [] a e h = tt
 rises-from b end (p ∷ []) a e h = (a.0, tt)
@@ -123,7 +123,7 @@ held-fold (p ∷ pieces) n k = held-fold pieces n (k + (if holds p.0 n then 1 el
     one true = omega arith
     one false = omega arith
 
--- pieces moved hold as many on each day
+-- a permutation of pieces has as many pieces on each day
 pub held-moved : {V : Type 0} (xs ys : List (DayRange × V)) (n : ℕ) → IsPermutation xs ys → length (held_on ys n) ≡ length (held_on xs n)
 held-moved xs ys n h =
     let a = held-fold xs n 0 in let b = held-fold ys n 0 in

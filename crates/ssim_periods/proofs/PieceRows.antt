@@ -8,7 +8,7 @@ use Rattle.ssim_periods.specs.Rows.{row_on, value_on}
 use Rattle.ssim_periods.proofs.DayLemmas.{length-each_day, index-each_day}
 use Rattle.ssim_periods.proofs.PieceLaw.{has_value-at}
 
--- a day has a value where its row has it
+-- a day has a value if its row has it
 pub has-in_row : {V : Type 0} (alike : V → V → Bool) (nothing : V) (before : List V) (cuts : List ℕ) (rows : List (List V)) (days : List V) (v : V) (n : ℕ) (row : List V) → each_day (value_on nothing before cuts rows) ≡ days → n < 36525 → row_on before cuts rows n ≡ row → has_value alike days v n ≡ alike v (slice_index_or row (slot n) nothing)
 has-in_row alike nothing before cuts rows days v n row view h own =
     let f = value_on nothing before cuts rows in

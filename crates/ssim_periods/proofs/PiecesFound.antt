@@ -149,7 +149,7 @@ begins-on {V} alike nothing days v p i =
     is true k = refl
     is false k = absurd k
 
--- values of which those of each day are the same have the same pieces
+-- two lists that have the same values on each day have the same pieces
 pieces-among : {V : Type 0} (alike : V → V → Bool) (nothing : V) (days : List V) (vs ws : List V) → ((n : ℕ) → n < length days → filter (λ v. alike v (slice_index_or days n nothing)) vs ≡ filter (λ v. alike v (slice_index_or days n nothing)) ws) → (p : DayRange × V) → In p (flat_map (pieces_with alike days) vs) → In p (flat_map (pieces_with alike days) ws)
 pieces-among {V} alike nothing days vs ws same p i =
     let f = in-flat (pieces_with alike days) p vs i in
@@ -157,7 +157,7 @@ pieces-among {V} alike nothing days vs ws same p i =
     let test = λ (v : V). alike v (slice_index_or days p.0.first nothing) in
     flat-in (pieces_with alike days) p f.0 ws (filter-in test f.0 ws (subst (In f.0) (same p.0.first b.0) (in-filter test f.0 vs b.1 f.1))) f.2
 
--- such values give no day two pieces
+-- pieces of distinct values give no day two pieces
 short : {V : Type 0} (alike : V → V → Bool) (nothing : V) (days : List V) (vs : List V) → ((n : ℕ) → n < length days → filter (λ v. alike v (slice_index_or days n nothing)) vs ≡ alone alike nothing (slice_index_or days n nothing)) → (n : ℕ) → length (held_on (flat_map (pieces_with alike days) vs) n) ≤ 1
 short alike nothing days vs once n =
     rw (held_on-all alike days vs n)
@@ -168,7 +168,7 @@ short alike nothing days vs once n =
           let few = alone-short alike nothing (slice_index_or days n nothing) in omega arith
     ])
 
--- the pieces of values of which one is each day's value, or none where that is empty
+-- the pieces of values of which exactly one is the day's, or none if the day has none
 pub pieces-once : {V : Type 0} (alike : V → V → Bool) (nothing : V) → ((x y : V) → IsTrue (alike x y) ↔ (x ≡ y)) → (days values : List V) (pieces sorted : List (DayRange × V)) →
     ((n : ℕ) → n < length days → filter (λ v. alike v (slice_index_or days n nothing)) values ≡ alone alike nothing (slice_index_or days n nothing)) → pieces ≡ flat_map (pieces_with alike days) values → IsPermutation pieces sorted → IsNonDecreasingBy (λ (piece : DayRange × V). piece.0.first) sorted → sorted ≡ pieces_of alike nothing days
 pieces-once {V} alike nothing exact days values pieces sorted once pieces_are moved order =

@@ -1,4 +1,4 @@
--- A file that is the export of its own base is read as that base, so its export is the file.
+-- A file that is the export of its own base is read as that base, so the base's export is the file.
 use Rattle.std.proofs.Common.{◌≡◌, ◌∙◌, ◌⊎◌, ℕ, Bool, true, false, true≢false, List, [], Option, Result, Ok, Err, unwrap_or, inl, inr, sym, ap, subst}
 use Rattle.ssim_values.specs.Flight.{FlightNumber}
 use Rattle.ssim_records.specs.Carrier.{CarrierFields}

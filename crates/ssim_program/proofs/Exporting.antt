@@ -27,7 +27,7 @@ use Rattle.ssim_program.proofs.Again.{grows_by_itself}
 use Rattle.ssim_program.proofs.Printers.{breaks_after, flushed_after, nothing}
 
 module _ (base : List Record) (days : FlightNumber → Days) (before mid : Paper) where
-  -- it was written, and then flushed, or the flush failed
+  -- the export was written, and then flushed, or the flush failed
   pub flushed : (after : Paper) (r : Result (Unit {0}) Refusal) → IsWritten base days before mid (Ok tt) → Prints [] mid after r → PrintsExport base days before after r
   flushed after (Ok x) w h =
       let grown : Grows w.ok.2.0 before mid = record { taken = w.ok.2.2; failures = w.ok.2.3; device = w.device } in
@@ -44,7 +44,7 @@ module _ (base : List Record) (days : FlightNumber → Days) (before mid : Paper
     breaks_after w.ok.2.0 before mid after (record { taken = w.ok.2.2; failures = w.ok.2.3; device = w.device }) h.1,
   )
 
-  -- it was not
+  -- the export was not written
   pub not_written : (airline : List ℕ) (fault : ExportFault) → airline ≡ airline_of base → mid.device ≡ before.device → RefusesBase taken_of failures_of base days before mid fault
       → PrintsExport base days before mid (Err (refusal_of_export airline fault))
   not_written airline (Variations flight) is device h = inl (h.2.1, (Variations flight, (h.0, h.1, h.2.0), ap (λ (a : List ℕ). refusal_of_export a (Variations flight)) is))

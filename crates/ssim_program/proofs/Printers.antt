@@ -27,7 +27,7 @@ breaks_more x y p q r g h = record {
   device = h.device ∙ g.device;
 }
 
--- and then a flush, or one that fails
+-- bytes were printed, and then a flush succeeded or failed
 pub flushed_after : (x : List ℕ) (p q r : Paper) → Grows x p q → Grows [] q r → Grows x p r
 flushed_after x p q r g h = subst (λ (bs : List ℕ). Grows bs p r) (append-nil x) (grows_more x [] p q r g h)
 

@@ -39,7 +39,7 @@ any_default [] i d e lt = absurd (omega (arith, lt))
 any_default (x ∷ xs) zero d e lt = refl
 any_default (x ∷ xs) (suc i) d e lt = any_default xs i d e (omega (arith, lt))
 
--- desks that are one desk have one state
+-- equal desks have one state
 pub one_state : (new : DeskSeen) (desks : List DeskSeen) → All (λ desk. desk ≡ new) desks → All (λ desk. desk ≡ state_of new) (map state_of desks)
 one_state new [] are k d lt = absurd (omega (arith, lt))
 one_state new (x ∷ xs) are zero d lt = ap state_of (are 0 x (omega arith))
@@ -49,7 +49,7 @@ pub length-map-one : {X Y : Type 0} (f : X → Y) (xs : List X) → length (map 
 length-map-one f [] = refl
 length-map-one f (x ∷ xs) = ap suc (length-map-one f xs)
 
--- one more step has its text; or it has none
+-- one more step has its text, or has none
 pub loaded_at : {X : Type 0} (f : X → Written) (before files : Option Files) (xs : List X) (i : ℕ) (d : X) (ss new : List Step) (s : Step) → i < length xs → before ≡ files
     → AreLoaded files (map f (take i xs)) ss → IsLoaded before (f (get_or xs i d)) s → new ≡ ss ++ s ∷ [] → AreLoaded files (map f (take (i + 1) xs)) new
 loaded_at f before files xs i d ss new s lt same are is pushed =

@@ -47,18 +47,18 @@ module _ (files : Option Files) (names : List Text) (i : ℕ) (name : Text) (is 
       subst (λ (ns : List Text). TakesTexts files ns a c (before.0 ++ line)) (sym (next names i name is))
       (one_more files (take i names) name a b c before.0 line before.1 (subst (λ (bytes : List ℕ). TakesText files name b c bytes) (sym e) there))
 
-  -- it is taken, and its line printed
+  -- the next text is taken, and its line printed
   pub prints_more : (c : DeskSeen) (line last : List ℕ) (r : Paper) → line ≡ last → TakesText others name b c last → Grows line q r
       → HavePrinted files (take (i + 1) names) a c p r
   prints_more c line last r e text grows = (before.0 ++ line, taken c line last e text, grows_more before.0 line p q r before.2 grows)
 
-  -- or `out` fails
+  -- `out` fails at the next text
   pub breaks_there : (c d : DeskSeen) (line last : List ℕ) (r : Paper) (refusal : Refusal) → line ≡ last → TakesText others name b c last
       → refusal ≡ refused.WriteFault → Breaks line q r → PrintsTexts files names a d p r (Err refusal)
   breaks_there c d line last r refusal e text failed breaks =
       inr (failed, i + 1, c, before.0 ++ line, taken c line last e text, breaks_more before.0 line p q r before.2 breaks)
 
-  -- or it is refused
+  -- the next text is refused
   pub refused_there : (d : DeskSeen) (refusal : Refusal) → RefusesFileText others name b refusal → PrintsTexts files names a d p q (Err refusal)
   refused_there d refusal why = inl (
     before.0,
@@ -97,7 +97,7 @@ module _ (files : Option Files) (file out : Text) (names : List Text) where
         breaks = breaks_after printed.0 p q r printed.2 breaks;
       })
 
-      -- or the desk file is kept or not
+      -- the desk file is kept or not
       pub kept_or_not : (k : Result (Unit {0}) Refusal) (between new : Option Files) → between ≡ files → Grows [] q r → r.flushed ≡ true
           → OnOk k (new ≡ with_kept (Some (out, desk_file last.base last.held)) between) → IfErr k (RefusesKeep out) → OnErr k (new ≡ between)
           → Does (Take file out names) (world files p) (world new r) k

@@ -49,7 +49,7 @@ never_ends limit n bytes within (inr first) =
     ends_so (Done 0) [] (first.records ++ []) (ReaderNeverEnds n) (refused_by (first_refusal (Done 0) [] (first.records ++ [])) _ _ (first.is [] (Done 0))) in
     absurd cc
 
--- so a slice within the limit, which never fails, is refused for its bytes alone
+-- a slice within the limit, which never fails, is refused for its bytes alone
 of_fault : (f : RecordFault) (limit : ℕ) (bytes : List ℕ) → length bytes ≤ limit → IsReadAs limit bytes (Err (Read f)) → FailsAs 0 0 (Read f) → IsOfBytes (Read f)
 of_fault (Short n) limit bytes within read failed = tt
 of_fault (BadType n) limit bytes within read failed = tt
@@ -57,14 +57,14 @@ of_fault (BadColumn n column) limit bytes within read failed = tt
 of_fault (ReadFault n) limit bytes within read failed = absurd (omega (arith, failed))
 of_fault (ReaderNeverEnds n) limit bytes within read failed = absurd (never_ends limit n bytes within read)
 
--- so are the records of a data set within the limit
+-- the records of a data set within the limit are refused for its bytes alone
 pub records_of_bytes : (r : Result (List Record) BaseFault) (limit : ℕ) (bytes : List ℕ) → length bytes ≤ limit → AnswersRecords r (IsReadAs limit bytes) → IfErr r (FailsAs 0 0) → IfErr r IsOfBytes
 records_of_bytes (Ok x) limit bytes within read failed = tt
 records_of_bytes (Err fault.Memory) limit bytes within read failed = tt
 records_of_bytes (Err (Read f)) limit bytes within read failed = of_fault f limit bytes within read failed
 records_of_bytes (Err (Refused n why)) limit bytes within read failed = tt
 
--- and so is the summary of its bytes
+-- the summary of bytes within the limit is refused for these bytes alone
 pub sums_of_bytes : (r : Result Summary BaseFault) (limit : ℕ) (bytes : List ℕ) → length bytes ≤ limit → Sums limit (Some bytes) r → IfErr r (FailsAs 0 0) → IfErr r IsOfBytes
 sums_of_bytes (Ok x) limit bytes within sums failed = tt
 sums_of_bytes (Err fault.Memory) limit bytes within sums failed = tt

@@ -1,5 +1,5 @@
--- Four bytes are digits where none has its highest bit, and none has it with what fills the byte to
--- its top.
+-- Four bytes are digits if no byte has its highest bit, neither by itself nor after the test number
+-- is added.
 use Rattle.std.proofs.Common.{◌≡◌, ℕ, ◌+◌, ◌*◌, ◌/◌, ◌%◌, ◌^◌, ◌<◌, ◌≤◌, Bool, true, if◌then◌else◌, Some, inl, inr, List, [], ◌∷◌, length, get_or, min, max, bit_and, bit_or, refl, sym, ap, ◌∙◌, arith}
 use Rattle.std.specs.Prelude.{slice_index, slice_range, is_some}
 use Rattle.std.specs.List.{list_all}

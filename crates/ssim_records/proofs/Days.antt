@@ -56,7 +56,7 @@ unfolding end_from
 end_from-end_text first None h = refl
 end_from-end_text first (Some n) h = rw (day_is_not_open n h.1, day_of-day_text n h.1) (from_start first n h.0)
 
--- an end that is read is one
+-- an end that is read is valid
 day_from_is : (first m n : ℕ) → day_from first (Some m) ≡ Some (Some n) → (m ≡ n) × (first ≤ n)
 day_from_is first m n h =
     elim (pick (nat_lt m first)) [

@@ -53,7 +53,7 @@ none_trimmed behind came0 came old held trimmed (Some x) None stays is = stays
 none_trimmed behind came0 came old held trimmed (Some x) (Some y) stays is =
     (stays.0, [], stays.2, refl, stays.3 ∙ sym (trim_twice behind held) ∙ ap (trim behind) (sym is))
 
--- and where it counts one
+-- the bytes that were fetched, if the result counts one block
 pub one_taken : (behind : Bool) (came0 came : ℕ) (old held trimmed block later : List ℕ) (left0 left1 : Option (List ℕ)) → Stays behind came0 old left0 came held left1 → trimmed ≡ trim behind held → trimmed ≡ block ++ later → length block ≡ 200
     → Fetches behind 0 old left0 1 later left1
 one_taken behind came0 came old held trimmed block later None left1 stays is parts len = tt
@@ -172,7 +172,7 @@ takes_none : (behind : Bool) (bytes : List ℕ) (later : List (List ℕ)) (held 
 takes_none behind bytes [] held held' same t = same ∙ t
 takes_none behind bytes (b ∷ bs) held held' same t = (t.0, t.1, same ∙ t.2, t.3)
 
--- blocks and then more blocks, where records were counted
+-- blocks and then more blocks, if records were counted
 takes_on : (n : ℕ) (bytes : List ℕ) (blocks later : List (List ℕ)) (held held' : List ℕ) → Takes (nat_lt 0 n) bytes blocks held → Takes (nat_lt 0 (n + length blocks)) held later held' → Takes (nat_lt 0 n) bytes (blocks ++ later) held'
 takes_on n bytes [] later held held' a b =
     let none : n + 0 ≡ n = omega arith in
@@ -191,7 +191,7 @@ pub fetches_first : (behind : Bool) (n : ℕ) (held : List ℕ) (l : Option (Lis
 fetches_first behind n held None = tt
 fetches_first behind n held (Some x) = ([], [], refl, omega arith, ap (trim behind) (append-nil held))
 
--- what was fetched in two goes
+-- the bytes that were fetched in two steps
 pub fetches_on : (n n1 n2 m m1 : ℕ) (held held1 held2 : List ℕ) (l l1 l2 : Option (List ℕ)) → Fetches (nat_lt 0 n) n held l n1 held1 l1 → Fetches (nat_lt 0 n1) m held1 l1 m1 held2 l2 → n2 + m ≡ n1 + m1 → Fetches (nat_lt 0 n) n held l n2 held2 l2
 fetches_on n n1 n2 m m1 held held1 held2 None l1 l2 a b e = tt
 fetches_on n n1 n2 m m1 held held1 held2 (Some x) None l2 a b e = absurd a
@@ -205,8 +205,7 @@ fetches_on n n1 n2 m m1 held held1 held2 (Some x) (Some y) (Some z) a b e = (
       (takes_on n ((held ++ a.0) ++ b.0) a.1 b.1 (held1 ++ b.0) held2 (takes_more (nat_lt 0 n) (held ++ a.0) b.0 a.1 held1 a.4) (subst (λ (k : ℕ). Takes (nat_lt 0 k) (held1 ++ b.0) b.1 held2) a.3 b.4)),
 )
 
--- Where too few bytes for a block are held, the blocks are all that there are in the bytes that
--- came.
+-- If too few bytes for a block are held, the blocks are all blocks of the bytes that came.
 pub takes_all : (behind : Bool) (bytes : List ℕ) (blocks : List (List ℕ)) (held : List ℕ) → Takes behind bytes blocks held → length held < 200 → (rest : List ℕ) × Frames 0 behind bytes blocks rest
 takes_all behind bytes [] held t few = (trim behind bytes, (refl, omega (arith, ap length t, trim_less behind held, few)))
 takes_all behind bytes (b ∷ bs) held t few =
@@ -225,7 +224,7 @@ first_frame over behind bytes block later (b ∷ bs) rest len parts room h =
     let back = same_back b block h.0 later lens same in
     (bs, ap (λ (x : List ℕ). x ∷ bs) front, rw (← back) h.4)
 
--- no block is left where too few bytes are
+-- no block is left if too few bytes are left
 pub no_frame : (over : ℕ) (behind : Bool) (bytes : List ℕ) (blocks : List (List ℕ)) (rest : List ℕ) → length (trim behind bytes) < 200 + over → Frames over behind bytes blocks rest
     → (blocks ≡ []) × (trim behind bytes ≡ rest)
 no_frame over behind bytes [] rest few h = (refl, h.0)
@@ -249,7 +248,7 @@ none_skipped limit n came held (Some x) = (refl, λ blocks rest h. (blocks, refl
 over_same : (limit a b c d : ℕ) → a + b ≡ c + d → (a + b) - limit ≡ (c + d) - limit
 over_same limit a b c d e = ap (λ (x : ℕ). x - limit) e
 
--- a block that is given, where records were counted
+-- a block that is given, if records were counted
 given : (limit n came came' : ℕ) (held held' x y block : List ℕ) (blocks : List (List ℕ)) (rest : List ℕ) → came' + length y ≡ came + length x → NextBlock ((came + length x) - limit) (trim (nat_lt 0 n) (held ++ x)) (held' ++ y) (Ok (Some block)) → Ahead limit n came held x blocks rest
     → (more : List (List ℕ)) × (blocks ≡ block ∷ more) × Ahead limit (n + 1) came' held' y more rest
 given limit n came came' held held' x y block blocks rest total b h =

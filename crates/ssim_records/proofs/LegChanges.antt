@@ -176,7 +176,7 @@ equipment_changes e d len =
 
 -- ---- valid columns
 
--- columns that are valid but for their times
+-- columns that are valid except for their times
 pub record AreBesideTimes (d : List ℕ) : Type 0 where
   pub service : fault_in Carried (leg_columns 14 14 d) ≡ None
   pub departure : fault_in StationCode (leg_columns 37 39 d) ≡ None
@@ -248,8 +248,8 @@ times_stand t d x ok h n c =
       );
     }
 
--- the columns from first to last are carried if those up to and those from a column between them
--- are
+-- the columns from first to last are carried if those up to a column between them and those from it
+-- on are carried
 carried_both : (b : List ℕ) (i j k : ℕ) → i ≤ j → j ≤ k → IsTrue (list_all is_carried (slice_range b i j)) → IsTrue (list_all is_carried (slice_range b j k)) → IsTrue (list_all is_carried (slice_range b i k))
 carried_both b i j k ij jk h g =
     subst (λ (z : List ℕ). IsTrue (list_all is_carried z)) (sym (slice_cut b i j k ij jk)) (carried_append (slice_range b i j) (slice_range b j k) h g)

@@ -88,7 +88,7 @@ name_lies n b len p has = record {
   sequence = number_written (columns 12 13 b) 2 n.sequence (length_slice b 11 13 (lit≤ tt) (omega (arith, len))) has.sequence (sequence_number (columns 12 13 b) n.sequence p.sequence);
 }
 
--- and only so
+-- a number that is written in digits spells one
 digits_are_some : (t : List ℕ) (w n : ℕ) → n < 10 ^ suc w → t ≡ digits (suc w) n → IsSome (digits_of t)
 digits_are_some t w n low is = rw (ap digits_of is ∙ digits_of-digits w n low) refl
 

@@ -1,5 +1,5 @@
--- Texts written over parts of a list: each is in its place afterwards, and the other places are as
--- before.
+-- Texts written over parts of a list: each is at its position afterwards, and the other bytes are
+-- as before.
 use Rattle.std.proofs.Common.{◌≡◌, ℕ, ◌+◌, ◌-◌, ◌≤◌, Bool, true, ◌&&◌, ◌||◌, List, [], ◌∷◌, ◌++◌, length, take, drop, refl, sym, ap, ◌∙◌, append_assoc, IsTrue, arith, inl, inr}
 use Rattle.std.specs.Prelude.{slice_range, nat_le}
 use Rattle.std.specs.List.{concat}
@@ -41,7 +41,7 @@ drop_over at w text d len le =
     let joined : over at text d ≡ (take at d ++ text) ++ drop (at + length text) d = sym (append_assoc (take at d) text (drop (at + length text) d)) in
     ap (drop (at + w)) joined ∙ drop_at (take at d ++ text) (drop (at + length text) d) (at + w) front ∙ ap (λ n. drop (at + n) d) len
 
--- lists that agree up to a place agree on the slices before it
+-- lists that agree up to an index agree on the slices before it
 slice_before : (x y : List ℕ) (at i j : ℕ) → take at x ≡ take at y → i ≤ j → j ≤ at → slice_range x i j ≡ slice_range y i j
 slice_before x y at i j e le within =
     let k : at - 0 ≡ at = omega arith in
@@ -54,7 +54,7 @@ slice_before x y at i j e le within =
     let b' : slice_range (slice_range y 0 at) i j ≡ slice_range y i j = rw (zi, zj) at b in
     sym a' ∙ ap (λ (z : List ℕ). slice_range z i j) front ∙ b'
 
--- lists that agree from a place on agree on the slices after it
+-- lists that agree from an index on agree on the slices after it
 slice_after : (x y : List ℕ) (at i j : ℕ) → drop at x ≡ drop at y → at ≤ i → slice_range x i j ≡ slice_range y i j
 slice_after x y at i j e le =
     let k : at + (i - at) ≡ i = omega (arith, le) in
@@ -86,7 +86,7 @@ abbrev pub Fit : ℕ → List Write → Type 0
 Fit n [] = Unit {0}
 Fit n (w ∷ ws) = (length w.2 ≡ w.1) × (w.0 + w.1 ≤ n) × Fit n ws
 
--- none of them touches the bytes from i to j
+-- none of the texts touches the bytes from i to j
 abbrev pub apart : ℕ → ℕ → List Write → Bool
 apart i j [] = true
 apart i j (w ∷ ws) = (nat_le j w.0 || nat_le (w.0 + w.1) i) && apart i j ws
@@ -105,18 +105,18 @@ stays n (w ∷ ws) d len fit i j le h =
     stays n ws (over w.0 w.2 d) (same_length n w d len fit.0 fit.1) fit.2 i j le both.1
     ∙ over_other w.0 w.1 w.2 d i j fit.0 (omega (arith, fit.1, len)) le both.0
 
--- the first of them is in its place, if the later ones do not touch it
+-- the first of the texts is at its position, if the later ones do not touch it
 lands : (n : ℕ) (w : Write) (ws : List Write) (d : List ℕ) → length d ≡ n → Fit n (w ∷ ws) → IsTrue (apart w.0 (w.0 + w.1) ws) → slice_range (written (w ∷ ws) d) w.0 (w.0 + w.1) ≡ w.2
 lands n w ws d len fit h =
     stays n ws (over w.0 w.2 d) (same_length n w d len fit.0 fit.1) fit.2 w.0 (w.0 + w.1) (omega arith) h
     ∙ over_same w.0 w.1 w.2 d fit.0 (omega (arith, fit.1, len))
 
--- no two of them touch the same bytes
+-- no two of the texts touch the same bytes
 abbrev pub disjoint : List Write → Bool
 disjoint [] = true
 disjoint (w ∷ ws) = apart w.0 (w.0 + w.1) ws && disjoint ws
 
--- each of them is in its place
+-- each of the texts is at its position
 abbrev pub Lie : List Write → List ℕ → Type 0
 Lie [] x = Unit {0}
 Lie (w ∷ ws) x = (slice_range x w.0 (w.0 + w.1) ≡ w.2) × Lie ws x

@@ -13,7 +13,7 @@ use Rattle.ssim_records.proofs.Rows.{front_stands, rest_stands, both_stand, rows
 middle_lies : LieIn 36 127 middle_table
 middle_lies = search rules
 
--- where the columns of a record and of another are those of a leg
+-- two records with the same bytes in a leg's own columns
 pub record SameOwn (x y : List ℕ) : Type 0 where
   pub service : slice_range x 13 14 ≡ slice_range y 13 14
   pub middle : slice_range x 36 127 ≡ slice_range y 36 127

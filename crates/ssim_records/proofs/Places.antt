@@ -34,14 +34,14 @@ abbrev pub sum_of : List ℕ → ℕ
 sum_of [] = 0
 sum_of (w ∷ ws) = w + sum_of ws
 
--- all of them are as long as their widths together
+-- all parts together are as long as the sum of their widths
 pub length_concat : (ws : List ℕ) (ps : List (List ℕ)) → AllZip (λ w p. length p ≡ w) ws ps → length ws ≡ length ps → length (concat ps) ≡ sum_of ws
 length_concat [] [] h e = refl
 length_concat [] (p ∷ ps) h e = absurd (omega (arith, e))
 length_concat (w ∷ ws) [] h e = absurd (omega (arith, e))
 length_concat (w ∷ ws) (p ∷ ps) h e = omega (arith, length-append p (concat ps), h.0, length_concat ws ps h.1 (omega (arith, e)))
 
--- what has all parts in their places, and nothing after them, is these parts
+-- a list with all parts at their positions, and nothing after them, is these parts
 pub placed_whole : (n : ℕ) (ws : List ℕ) (ps : List (List ℕ)) (b : List ℕ) → length ws ≡ length ps → length b ≡ n + sum_of ws → Placed n ws ps b → drop n b ≡ concat ps
 placed_whole n [] [] b e len at = drop_all n b (omega (arith, len))
 placed_whole n [] (p ∷ ps) b e len at = absurd (omega (arith, e))

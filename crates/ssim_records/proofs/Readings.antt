@@ -85,7 +85,7 @@ gives_record old new None l' block r same g p = tt
 gives_record old new (Some x) None block r same g p = g
 gives_record old new (Some x) (Some y) block r same g p = (g.0, λ blocks rest h. let t = g.1 blocks rest h in (block, t.0, (t.1, t.2), refl, p, rw same t.3))
 
--- a record that was put into a place
+-- a record that was put in
 pub gives_placed : (old new : Reading) (l l' : Option (List ℕ)) (block : List ℕ) (into : Option Record) → new.limit ≡ old.limit → Gives old l new l' (Ok (Some block)) → HasSpelt into block → GivesNext old l new l' (given into (Ok new.number))
 gives_placed old new l l' block None same g p = absurd p
 gives_placed old new l l' block (Some r) same g p = gives_record old new l l' block r same g p

@@ -106,7 +106,7 @@ true_or : (a b : Bool) → IsTrue a → IsTrue (a || b)
 true_or true b h = refl
 true_or false b h = absurd cc
 
--- on two such days each station that is named has one variation
+-- on two days between which no row begins or ends, each named station has the same variation
 pub steady : (rows : List Row) (action : Action) (d e : ℕ) (station : List ℕ) → d ≤ e → ((k : ℕ) (r : Row) → k < length rows → IsTrue (is_named action (slice_index_or rows k r).station) → IsSteady d e (slice_index_or rows k r)) → IsTrue (is_named action station)
     → variation_at rows station d ≡ variation_at rows station e
 steady [] action d e station l h named = refl
@@ -161,7 +161,7 @@ held_to period day h = let b : nat_le day period.last ≡ true = (and_true (nat_
 nearer : (first day last : ℕ) (row : Row) → first ≤ day → day ≤ last → IsSteady first last row → IsSteady first day row
 nearer first day last row l m s = (elim s.0 as (λ _. (row.first ≤ first) ⊎ (day < row.first)) [ inl a ↦ inl a | inr b ↦ inr (omega arith) ], elim s.1 as (λ _. (row.last < first) ⊎ (day ≤ row.last)) [ inl a ↦ inl a | inr b ↦ inr (omega arith) ])
 
--- where no row that counts begins or ends within the period, the effect is one on all its days
+-- if no row that counts begins or ends within the period, the effect is the same on all its days
 pub uniform_steady : (rows : List Row) (action : Action) (period : DayRange) → ((k : ℕ) (r : Row) → k < length rows → IsTrue (is_named action (slice_index_or rows k r).station) → IsSteady period.first period.last (slice_index_or rows k r)) → IsUniform rows action period
 uniform_steady rows action period h day is_in old =
     let low = held_from period day is_in in
@@ -235,8 +235,7 @@ five_at_once rows action part uniform days =
     let e = counts_at_once rows action part uniform in
     rw (e 0 0 days, e 1 0 days, e 2 0 days, e 3 0 days, e 4 0 days) refl
 
--- what is said of a change at one day is said of the rows, the action and the day that it was made
--- of
+-- a change made from equal rows, an equal action and an equal day has the same effect
 module _ (rows made_rows : List Row) (action made_action : Action) (part : DayRange) (made_day : ℕ) (same_rows : made_rows ≡ rows) (same_action : made_action ≡ action) (same_day : made_day ≡ part.first) (uniform : IsUniform rows action part) (old : Days) where
   pub days_made : (new : Days) → new ≡ changed_on (holds part) (λ it. (effect made_rows made_action made_day it).0) 0 old → new ≡ acted_on rows action part old
   days_made new h =

@@ -15,7 +15,7 @@ use Rattle.ssim_schedule.proofs.Acts.{end_point, first_point}
 same_place : (q g : FlightNumber) → nat_eq (place_of q) (place_of g) ≡ true → place_of q ≡ place_of g
 same_place q g e = grind (arith, nat_tests)
 
--- flights of one place have one entry
+-- flights of the same rank have the same entry
 found_same : {X : Type 0} (field : FlightPeriods → X) (other : X) (table : Table) (q g : FlightNumber) → place_of q ≡ place_of g → found field other table q ≡ found field other table g
 found_same field other [] q g e = refl
 found_same field other (f ∷ table) q g e =

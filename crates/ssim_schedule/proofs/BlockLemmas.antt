@@ -94,8 +94,8 @@ block-at k (b ∷ blocks) (suc j) are within = subst (λ n. IsBlock n (get_or bl
 pub block_at : (blocks : List Table) (j : ℕ) → AreBlocks 0 blocks → j < length blocks → IsBlock j (get_or blocks j [])
 block_at blocks j are within = subst (λ n. IsBlock n (get_or blocks j [])) (omega arith) (block-at 0 blocks j are within)
 
--- what is so of each flight's entry in the old block and in the new one, and of entries of other
--- blocks that stay, is so of all
+-- what holds of each flight's entry in the old block and in the new one, and of entries of other
+-- blocks, which stay, holds of all
 module _ {X : Type 0} (field : FlightPeriods → X) (other : X) (P : FlightNumber → X → X → Type 0) where
   pub each_flight : (blocks : List Table) (j : ℕ) (held new now : Table) → AreBlocks 0 blocks → j < length blocks → held ≡ get_or blocks j [] → joined blocks ≡ now → IsBlock j new
       → ((g : FlightNumber) → P g (found field other held g) (found field other new g)) → ((g : FlightNumber) → block_of g ≢ j → (x : X) → P g x x)

@@ -1,5 +1,5 @@
--- What becomes of each flight where one flight's entry is changed, or the first of a flight is put
--- in.
+-- The entries of all flights after one flight's entry is changed, or the first entry of a flight is
+-- put in.
 use Rattle.std.proofs.Common.{◌≡◌, ◌⊎◌, ℕ, ◌+◌, Bool, true, false, nat_eq, if◌then◌else◌, List, [], get_or, set, Contains, Result, Ok, Err, OnOk, IfErr, IfOk, inl, inr, refl, sym, ap, subst, ◌∙◌, arith}
 use Rattle.std.specs.List.{insert}
 use Rattle.std.proofs.lemmas.Bool.Decides.{nat_tests}
@@ -34,7 +34,7 @@ moved_gap table q g i e gap = record { in_range = gap.in_range; lower_before = �
 pub own : (table : Table) (q : FlightNumber) (i : ℕ) (f : FlightPeriods) → IsAt table q i → f ≡ get_or table i no_entry → IsAt table f.flight i
 own table q i f is here = record { in_range = is.in_range; its = sym (ap (λ (f : FlightPeriods). place_of f.flight) here) }
 
--- where a test chooses, the choices may be compared one by one
+-- if a test chooses, the choices may be compared one by one
 pub by_test : {A : Type 0} (b : Bool) (x y z : A) → (b ≡ true → x ≡ y) → (if b then x else z) ≡ (if b then y else z)
 by_test true x y z same = same refl
 by_test false x y z same = refl

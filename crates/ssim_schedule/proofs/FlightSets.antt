@@ -1,5 +1,5 @@
--- Records of other flights change no itinerary of a flight, and so do not the records that are left
--- out if the flight is not in the set.
+-- Records of other flights change no itinerary of a flight. If the flight is not in the set,
+-- leaving records out changes none either.
 use Rattle.std.proofs.Common.{◌≡◌, ◌≢◌, ℕ, zero, suc, ◌+◌, ◌<◌, Bool, true, false, cond, ◌&&◌, ◌||◌, nat_eq, if◌then◌else◌, List, [], ◌∷◌, ◌++◌, length, take, set, get_or, slice_index_or, replicate, refl, sym, ap, subst, ◌∙◌, arith}
 use Rattle.std.proofs.lemmas.Bool.Decides.{nat_tests}
 use Rattle.std.proofs.lemmas.Grind.{get_or-set_at}
@@ -128,7 +128,7 @@ module _ (p : FlightNumber → Bool) where
           ∙ ap (λ b. if b then (if on then placed (leg_of r later) (itinerary later g n) else itinerary later g n) else []) (sym is_not)
       by false false e f rest = rest
 
--- so a flight of some flights has in the records of their set what it has in all
+-- a flight of the list has in the records of their set the days that it has in all records
 pub days_kept : (marks : List Bool) (flights : List FlightNumber) (rs : List Record) (g : FlightNumber) → is_marked marks g ≡ is_among flights g
     → days_of (filter (is_record_of (is_marked marks)) rs) g ≡ each_day (itinerary_among flights rs g)
 days_kept marks flights rs g same =

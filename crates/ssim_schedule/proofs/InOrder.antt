@@ -20,7 +20,7 @@ use Rattle.ssim_schedule.specs.declared.finding.Reason.{Reason}
 use Rattle.ssim_schedule.specs.declared.finding.Reason.TheVariants.{Acted, Leg, Station}
 use Rattle.ssim_base.proofs.Places.{same_flight-place}
 
--- the same days are in order
+-- equal days are in order
 order-same : (days others : FlightNumber → Days) → ((g : FlightNumber) → IsFlight g → days g ≡ others g) → AreInOrder others → AreInOrder days
 order-same days others same order = λ g n exists within. subst (λ (ds : Days). Above 0 (on_day ds n)) (sym (same g exists)) (order g n exists within)
 

@@ -64,7 +64,7 @@ pub placed_alone : (group : Legs) → IsOrdered group → placed_each group [] �
 placed_alone [] ordered = refl
 placed_alone (l ∷ group) ordered = ap (placed l) (placed_alone group ordered.1) ∙ first_placed l group ordered.0
 
--- the first leg of the group parts the others
+-- the first leg of the group divides the others
 pub placed_parted : (l : LegValue) (group others : Legs) → IsOrdered (l ∷ group)
     → placed_each (l ∷ group) others ≡ take (legs_before l.sequence others) others ++ l ∷ placed_each group (drop (legs_before l.sequence others) others)
 placed_parted l group [] ordered = first_placed l (placed_each group []) (starts_each l.sequence group [] ordered.1 ordered.0 tt)

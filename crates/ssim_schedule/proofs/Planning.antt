@@ -166,7 +166,7 @@ exported frame table rising exist =
     ∙ ap (λ o. result_map export_bytes (unless_refused o (sections frame (flights_records a (days_in table) (flights_in table))))) (refusal-same a (days_in table) 2 table days)
     ∙ ap (λ rs. result_map export_bytes (unless_refused (plan_refusal 2 (plan_of table)) (sections frame rs))) (records-same a (days_in table) table days)
 
--- the export, where none of the flights is refused
+-- the export, if none of the flights is refused
 pub export_is : (frame : Frame) (table : Table) (plan : List Planned) → AreRising table → All Exists table → plan ≡ plan_of table → plan_refusal 2 plan ≡ None
     → chapter7 frame (days_in table) ≡ Ok (plan_bytes frame plan)
 unfolding plan_bytes
@@ -175,7 +175,7 @@ export_is frame table plan rising exist is none =
     ∙ ap (λ (ps : List Planned). result_map export_bytes (unless_refused (plan_refusal 2 ps) (sections frame (plan_records frame.carrier.airline ps)))) (sym is)
     ∙ ap (λ o. result_map export_bytes (unless_refused o (sections frame (plan_records frame.carrier.airline plan)))) none
 
--- its refusal, where one is
+-- the refusal of the export, if a flight is refused
 pub refusal_is : (frame : Frame) (table : Table) (plan : List Planned) (r : ExportRefusal) → AreRising table → All Exists table → plan ≡ plan_of table → plan_refusal 2 plan ≡ Some r
     → chapter7 frame (days_in table) ≡ Err r
 refusal_is frame table plan r rising exist is some =

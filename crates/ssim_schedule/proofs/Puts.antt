@@ -88,7 +88,7 @@ pub leg-split : (a : List ℕ) (f : FlightNumber) (v : ℕ) (p : DayRange) (n : 
 leg-split a f v p n l rest whole bytes split is =
     line-split n (Leg (leg_from (name_from a f v l.sequence) p l.columns)) _ _ bytes (ap (λ (ls : Legs). flat_map (leg_records a f v p) ls) split) is
 
--- its tails' lines, and then the others
+-- the lines of a leg's tails, and then the others
 pub leg-tails-split : (name : Name) (service n next : ℕ) (tails : List (List ℕ)) (more : List Record) → next ≡ n + length tails
     → numbered_lines n (map (tail_record name service) tails ++ more) ≡ numbered_lines n (map (tail_record name service) tails) ++ numbered_lines next more
 leg-tails-split name service n next tails more count =

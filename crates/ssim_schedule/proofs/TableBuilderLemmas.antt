@@ -1,4 +1,4 @@
--- What becomes of each flight where the entry at the head of a table is changed, or is new there.
+-- The entries of all flights after the first entry of a table is changed, or is put in.
 use Rattle.std.proofs.Common.{◌≡◌, ℕ, ◌+◌, Bool, true, false, nat_eq, if◌then◌else◌, [], ◌∷◌, inl, refl, sym, ap, subst, ◌∙◌}
 use Rattle.ssim_values.specs.Flight.{FlightNumber}
 use Rattle.ssim_values.specs.Period.{DayRange}
@@ -9,7 +9,7 @@ use Rattle.ssim_schedule.specs.Schedule.{Table, AddsOnlyAt, cuts_in, days_in, fo
 use Rattle.ssim_schedule.specs.declared.flight_table.FlightPeriods.{FlightPeriods}
 use Rattle.ssim_schedule.proofs.ChangeLemmas.{adds, by_test, cuts_at, days_at, no_days, same_place}
 
--- flights of one place have one entry
+-- flights of the same rank have the same entry
 found_place : {X : Type 0} (field : FlightPeriods → X) (other : X) (table : Table) (q g : FlightNumber) → place_of q ≡ place_of g → found field other table q ≡ found field other table g
 found_place field other [] q g e = refl
 found_place field other (f ∷ table) q g e =
@@ -17,7 +17,7 @@ found_place field other (f ∷ table) q g e =
     ∙ ap (λ x. if nat_eq (place_of f.flight) (place_of g) then field f else x) (found_place field other table q g e)
 
 module _ (s : ℕ → Bool) (after : Legs → Legs) (q : FlightNumber) (table : Table) where
-  -- the flight's entry is put at the head
+  -- the flight's entry is put first
   pub days-before : (old new : Seen Legs) → old.days ≡ days_in table q → new.days ≡ changed_on s after 0 old.days → (g : FlightNumber)
       → days_in (record { flight = q; periods = new } ∷ table) g ≡ (if nat_eq (place_of q) (place_of g) then changed_on s after 0 (days_in table g) else days_in table g)
   days-before old new was made g =
@@ -31,7 +31,7 @@ module _ (period : DayRange) (q : FlightNumber) (table : Table) where
       adds period q g (nat_eq (place_of q) (place_of g)) (cuts_in table g) old.cuts new.cuts refl
       (λ e. was ∙ found_place cuts_at [] table q g (same_place q g e)) only
 
-  -- the entry at the head is changed
+  -- the first entry is changed
   pub cuts-head : (f : FlightNumber) (old new : Seen Legs) → place_of f ≡ place_of q → AddsOnly old.cuts new.cuts period.first (period.last + 1) → (g : FlightNumber)
       → AddsOnlyAt q period g (cuts_in (record { flight = f; periods = old } ∷ table) g) (cuts_in (record { flight = f; periods = new } ∷ table) g)
   cuts-head f old new its only g =

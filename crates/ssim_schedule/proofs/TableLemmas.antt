@@ -1,4 +1,4 @@
--- What a search finds among entries that rise, and what an edit at that place does.
+-- What a search finds among entries that rise, and what an edit at that index does.
 use Rattle.std.proofs.Common.{◌≡◌, ◌≢◌, ℕ, zero, suc, ◌+◌, ◌-◌, ◌<◌, ◌≤◌, Bool, true, false, nat_eq, if◌then◌else◌, List, [], ◌∷◌, length, get_or, set, Result, Ok, Err, IfOk, IfErr, Some, slice_get, slice_index_or, map, inl, inr, refl, sym, ap, subst, ◌∙◌, arith, get_or-set_same, get_or-set_other, length-set}
 use Rattle.std.specs.List.{insert, range_with_len}
 use Rattle.std.specs.List.Sorted.{IsSearchInRange, IsBinarySearchResult, IsNonDecreasingBy}
@@ -15,7 +15,7 @@ use Rattle.ssim_base.specs.ReadBack.{place_of}
 use Rattle.ssim_schedule.specs.Schedule.{Table, found, no_entry, key_at, AreRising, IsAt, IsGapFor}
 use Rattle.ssim_schedule.specs.declared.flight_table.FlightPeriods.{FlightPeriods}
 
--- no entry before place i is the one with this key
+-- no entry before index i has this key
 abbrev NoneBefore : Table → ℕ → ℕ → Type 0
 NoneBefore table k i = (j : ℕ) → j < i → key_at table j ≢ k
 
@@ -51,7 +51,7 @@ module _ {X : Type 0} (field : FlightPeriods → X) (other : X) where
       let apart = none 0 (omega arith) in
       grind (arith, nat_tests, apart, found-set table g i q (at_in_tail f table g.flight i is) (none_in_tail f table (place_of g.flight) i none))
 
-  -- so does a new entry before which there is none of the flight
+  -- a new entry, before which there is none of the flight, changes what the flight has
   found-insert : (table : Table) (g : FlightPeriods) (i : ℕ) (q : FlightNumber) → NoneBefore table (place_of g.flight) i
       → found field other (insert table i g) q ≡ (if nat_eq (place_of g.flight) (place_of q) then field g else found field other table q)
   found-insert table g zero q none = refl
@@ -109,8 +109,8 @@ rising_set table rising g k is i j lt in_range =
       | inr apart ↦ ap (λ (f : FlightPeriods). place_of f.flight) (get_or-set_other table k i g no_entry apart)
     ]
 
--- a new entry in its gap keeps it: each key is an old one below the gap, the new one, or an old one
--- moved up by one
+-- a new entry in its gap keeps the order: each key is an old one below the gap, the new one, or an
+-- old one moved up by one
 pub rising_insert : (table : Table) → AreRising table → (g : FlightPeriods) (k : ℕ) → IsGapFor table g.flight k → AreRising (insert table k g)
 rising_insert table rising g k gap i j lt in_range =
     let new = insert table k g in

@@ -141,7 +141,7 @@ built-leg old new r done t h = record {
 
 -- ---- the group
 
--- a leg more before those of a group is put after them
+-- one more leg before those of a group is put after them
 pub one_more : (h : Heading) (l : LegValue) (legs : Legs) (g : FlightNumber) (days : Days)
     → with_legs (Some h) (l ∷ legs) g days
     ≡ (if nat_eq (place_of h.flight) (place_of g) then changed_on (holds h.period) (placed l) 0 (with_legs (Some h) legs g days) else with_legs (Some h) legs g days)
@@ -161,7 +161,7 @@ none_yet (Some h) g days = by (nat_eq (place_of h.flight) (place_of g))
     by true = changed_not (holds h.period) 0 days
     by false = refl
 
--- those that waited are put, and others can come
+-- the pending legs are put, and others can come
 pub opened : (old put new : TimetableBuilder) (h : Heading) (sequence : ℕ) → PutsGroup old put → new.table ≡ put.table → new.waiting ≡ put.waiting → new.group ≡ record { heading = Some h; legs = [] }
     → OpensGroup old new h sequence
 opened old put new h sequence puts table waiting group = record {
@@ -180,7 +180,7 @@ opened old put new h sequence puts table waiting group = record {
     by g cut (inl has) = inl (puts.cuts g cut (subst (λ (t : Table). Contains (cuts_in t g) cut) table has))
     by g cut (inr bound) = inr (subst (λ (a : Group). IsBound a.heading g cut) group bound)
 
--- a leg joins those that wait
+-- a leg joins the pending legs
 module _ (old opened new : TimetableBuilder) (h : Heading) (l : LegValue) (sequence : ℕ) (opens : OpensGroup old opened h sequence) (table : new.table ≡ opened.table)
     (group : new.group ≡ record { heading = opened.group.heading; legs = l ∷ opened.group.legs }) where
   pub joined_days : (g : FlightNumber) → days_with new g ≡ (if nat_eq (place_of h.flight) (place_of g) then changed_on (holds h.period) (placed l) 0 (days_with old g) else days_with old g)
@@ -208,14 +208,14 @@ same_period p r last first end' days some =
 
 -- ---- records in pieces
 
--- those between others are closed
+-- the records between others are closed
 pub closed_between : (front mid done all : List Record) → front ++ (mid ++ done) ≡ all → All IsClosed all → All IsClosed mid
 closed_between front mid done all is closed =
     let later : drop (length front) all ≡ mid ++ done = ap (λ (rs : List Record). drop (length front) rs) (sym is) ∙ drop-append_seam front (mid ++ done) in
     subst (λ (rs : List Record). All IsClosed rs) (ap (λ (rs : List Record). take (length mid) rs) later ∙ take-append_seam mid done)
     (All-take IsClosed (length mid) (drop (length front) all) (All-drop IsClosed (length front) all closed))
 
--- those of a piece that are put before those that were put
+-- the records of a piece that are put before those that were put
 pub kept_step : (p : Record → Bool) (here items rest done : List Record) → here ≡ items → filter p here ++ (filter p rest ++ done) ≡ filter p (items ++ rest) ++ done
 kept_step p here items rest done is =
     ap (λ (rs : List Record). filter p rs ++ (filter p rest ++ done)) is

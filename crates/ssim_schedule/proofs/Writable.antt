@@ -39,7 +39,8 @@ day-writable days n h =
 
 -- ---- flight by flight
 
--- what holds of the days of each entry, and of a flight that has none, holds of each flight's
+-- what holds of the days of each entry, and of a flight without an entry, holds of the days of each
+-- flight
 of-each : (P : Days → Type 0) (table : Table) (g : FlightNumber) → Each (λ f. P f.periods.days) table → P (each_day (λ _. [])) → P (days_in table g)
 of-each P [] g each none = none
 of-each P (f ∷ table) g each none =
@@ -52,7 +53,7 @@ entries-writable : (table : Table) (n : ℕ) → Each HasWritablePieces (plan_of
 entries-writable [] n h = tt
 entries-writable (f ∷ table) n h = (day-writable f.periods.days n h.0, entries-writable table n h.1)
 
--- so what was written can be read back
+-- what was written can be read back
 pub readable : (table : Table) (plan : List Planned) → plan ≡ plan_of table → All HasWritablePieces plan → IsTimetable (days_in table) → CanReadBack (days_in table)
 readable table plan is writable timetable =
     let each = recursion_from_All HasWritablePieces (plan_of table) (subst (λ (ps : List Planned). All HasWritablePieces ps) is writable) in

@@ -1,4 +1,4 @@
--- Each arm of the machine: which line leads where, and which line is refused.
+-- Each arm of the state machine: which line leads to which state, and which line is refused.
 use Rattle.std.proofs.Common.{◌≡◌, ◌<◌, ◌≤◌, ℕ, List, length, refl, take, drop, Option, Some, None, codes, arith, true, false, sym, ap, ◌∙◌}
 use Rattle.std.specs.Prelude.{nat_lt, Bool, ◌&&◌, ◌||◌, ◌==◌, if◌then◌else◌, is_some}
 use Rattle.std.specs.Str.{bytes_eq}
@@ -165,8 +165,7 @@ leg_or_divider leg line h e = no_leg_divider leg (ap leg_of (sym e) ∙ h)
 pub segment_or_divider : (s : SegmentLine) (line : List ℕ) → segment_of line ≡ Some s → line ≡ codes "//" → ⊥
 segment_or_divider s line h e = no_segment_divider s (ap segment_of (sym e) ∙ h)
 
--- ---- a leg line is no segment line: its first word has seven bytes or more, that of a segment
--- line six
+-- ---- a leg line is no segment line: its first word is longer
 
 some_of_if : {A : Type 0} (b : Bool) (o : Option A) (y : A) → (if b then o else None) ≡ Some y → (b ≡ true) × (o ≡ Some y)
 some_of_if true o y h = (refl, h)
@@ -268,7 +267,7 @@ legs_full m b leg line h none full = (
 no_segment_at_divider : (line : List ℕ) → line ≡ codes "//" → segment_of line ≡ None
 no_segment_at_divider line e = none_where (segment_of line) (λ s k. segment_or_divider s line k e)
 
--- a divider where there is no leg line yet
+-- a divider before the first leg line
 pub divider_too_soon : (m : MessageValue) (b : Body) (line : List ℕ) → line ≡ codes "//" → is_whole b ≡ false → Refuses (AtLegs m b) line × (fault.BadLeg ≡ fault_of (AtLegs m b) line)
 divider_too_soon m b line e no_leg = (
   not_among_legs m b line (λ leg k. absurd (leg_or_divider leg line k e)) (λ s k. absurd (segment_or_divider s line k e)) (λ _. no_leg),

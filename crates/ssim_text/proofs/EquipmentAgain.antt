@@ -81,7 +81,7 @@ by_parts : (service : Option ℕ) (aircraft designators configuration : Option (
     → (service >>= λ x. aircraft >>= λ y. designators >>= λ z. configuration >>= λ w. Some (record { service = x; aircraft = y; designators = z; configuration = w })) ≡ Some e
 by_parts service aircraft designators configuration e h k l m = rw (h, k, l, m) refl
 
--- the third part is left out where it is empty
+-- the third part is left out if it is empty
 word_before : (aircraft third : List ℕ) → lacks 32 aircraft ≡ true → word (aircraft ++ unless_empty 32 third) ≡ aircraft
 word_before aircraft [] h = ap word (append-nil aircraft) ∙ before_none 32 aircraft h
 word_before aircraft (b ∷ third) h = word_first aircraft (b ∷ third) h

@@ -158,7 +158,7 @@ code_printable : (code : GroupCode) → list_all is_printable (group_code_text c
 code_printable Continuation = refl
 code_printable End = refl
 
--- the last digits, and the creator where there is one
+-- the last digits, and the creator if there is one
 ending : (serial : ℕ) (creator : Option (List ℕ)) → (1 ≤ length (creator_text creator) → IsLine (creator_text creator)) → IsLine (three_digits serial ++ creator_text creator)
 ending serial None h = solid_line (three_digits serial) (omega arith) (three_solid serial)
 ending serial (Some creator) h = line_behind (three_digits serial) (47 ∷ creator) (all_more is_solid is_printable solid_printable (three_digits serial) (three_solid serial)) (h (omega arith))

@@ -1,5 +1,5 @@
--- A text has one refusal: the four kinds exclude each other, and the place is the first after which
--- no text is possible.
+-- A text has one refusal: the four kinds exclude each other, and the place is the first line after
+-- which no text is possible.
 use Rattle.std.proofs.Common.{◌≡◌, ◌<◌, ◌≤◌, ◌+◌, ◌⊎◌, inl, inr, ℕ, List, [], ◌∷◌, ◌++◌, Some, None, length, drop, take, refl, sym, ap, subst, ◌∙◌, append_assoc, arith}
 use Rattle.std.specs.List.{AllZip}
 use Rattle.std.proofs.lemmas.List.{take-take}
@@ -16,7 +16,7 @@ use Rattle.ssim_text.proofs.Complete.{complete}
 use Rattle.ssim_text.proofs.Place.{at_end, lines_none, starts, take_drop}
 use Rattle.ssim_text.proofs.Runs.{GoesOn, bind_some, follow, none_some, some_same}
 
--- lines lead to one state
+-- lines lead to only one state
 one_state : (s t : State) (lines : List (List ℕ)) → Reads s lines → Reads t lines → s ≡ t
 one_state s t lines r q =
     let on = follow AtStart s t r.parts q.parts lines [] r.spelled r.reached (subst (λ (x : List (List ℕ)). AllZip Spells q.parts x) (sym (lines_none lines)) q.spelled) q.reached in
@@ -31,7 +31,7 @@ begins s last (p ∷ ps) (x ∷ xs) ys h r =
     let rest = begins w.0 last ps xs ys h.1 w.2 in
     (rest.0, record { parts = p ∷ rest.1.parts; spelled = (h.0, rest.1.spelled); reached = ap (λ o. option_and_then (λ (t : State). run t rest.1.parts) o) w.1 ∙ rest.1.reached })
 
--- if a text begins with lines and more lines, one begins with the first of them
+-- if a text begins with some lines and then more lines, a text begins with the first of them
 starts_before : (xs ys : List (List ℕ)) → Starts (xs ++ ys) → Starts xs
 starts_before xs ys h =
     let text = h.spelled in

@@ -75,7 +75,7 @@ reads_on s t lines line r h = record {
 unique : {A B : Type 0} (f : B → Option A) (a b : A) (line : B) → f line ≡ Some a → f line ≡ Some b → a ≡ b
 unique f a b line h k = some_same a b (sym h ∙ k)
 
--- a word that can be read back is one word's
+-- a word that can be read back is the word of one value
 one_word : {A : Type 0} (text : A → List ℕ) (back : List ℕ → A) → ((a : A) → back (text a) ≡ a) → (a b : A) (line : List ℕ) → line ≡ text a → line ≡ text b → a ≡ b
 one_word text back again a b line h k = sym (again a) ∙ ap back (sym h ∙ k) ∙ again b
 
@@ -138,7 +138,7 @@ action_or_free m a line free t h e d =
     let g = (guarded (begins_free free) (AtFree (with_free m free)) t d).0 in
     false_true (sym (no_action_free a) ∙ ap (λ (x : List ℕ). begins_free x) (sym h ∙ e) ∙ g)
 
--- two readings of a line that both lead on are one
+-- two readings of a line that both lead on are the same
 same_part : (s a b : State) (p q : Part) (line : List ℕ) → Spells p line → Spells q line → step s p ≡ Some a → step s q ≡ Some b → p ≡ q
 same_part AtStart a b (OriginatorPart x) (OriginatorPart y) line h k d e = ap OriginatorPart (unique originator_of x y line h k)
 same_part AtStart a b (OriginatorPart x) (KindPart y) line h k d e = absurd (originator_or_kind x y line h k)

@@ -1,4 +1,4 @@
--- Where the airline of a designator ends: its third character is a letter, or the digits of the
+-- The end of the airline in a designator: its third character is a letter, or the digits of the
 -- flight begin there.
 use Rattle.std.proofs.Common.{◌≡◌, ℕ, ◌-◌, ◌≤◌, Bool, true, false, IsTrue, List, [], ◌∷◌, ◌++◌, length, refl, sym, ap, ◌∙◌, arith, length-append, slice_index, get_or, take, drop, subst}
 use Rattle.std.proofs.lemmas.List.{length-take, take_rest}
@@ -50,7 +50,7 @@ only_two (x ∷ []) columns rest long l n is e = absurd (omega arith)
 airline_length : (columns : List ℕ) → IsTrue (is_airline columns) → length columns ≡ 3
 airline_length columns is = grind (arith, nat_tests)
 
--- a text spells no designator where what was split off is no airline, or the rest no flight
+-- a text spells no designator if the first part is no airline, or the rest no flight
 pub parts_of : (d : Designator) (t columns rest : List ℕ) → SpellsDesignator d t → ((columns₂ rest₂ : List ℕ) → length columns₂ ≡ 3 → IsTrue (is_airline columns₂) → is_digit (slice_index rest₂ 0) ≡ true → t ≡ airline_text columns₂ ++ rest₂ → (columns₂ ≡ columns) × (rest₂ ≡ rest)) → (d.airline ≡ columns) × IsTrue (is_airline columns) × SpellsFlight d.flight rest
 parts_of d t columns rest p only =
     let is = only d.airline p.rest (airline_length d.airline p.is_code) p.is_code (SpellsFlight-digit d.flight p.rest p.flight) p.spelled in

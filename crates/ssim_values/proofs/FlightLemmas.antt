@@ -1,4 +1,4 @@
--- What digits spell a number, and where a flight's suffix begins.
+-- What digits spell a number, and the beginning of a flight's suffix.
 use Rattle.std.proofs.Common.{◌≡◌, ℕ, ◌+◌, ◌/◌, ◌%◌, ◌<◌, ◌≤◌, Bool, true, false, ◌==◌, nat_lt, if◌then◌else◌, IsTrue, List, [], ◌∷◌, ◌++◌, length, slice_index, length-append, refl, sym, ap, ◌∙◌, arith}
 use Rattle.std.specs.List.{list_all}
 use Rattle.std.proofs.lemmas.Bool.Decides.{nat_tests}
@@ -50,7 +50,7 @@ last_same (x ∷ xs) (y ∷ ys) a b e =
 letter_of : (s : ℕ) → IsTrue (is_suffix s) → (s == 32) ≡ false → is_letter s ≡ true
 letter_of s is e = grind (arith, nat_tests)
 
--- where the digits end
+-- the end of the digits
 parted : (xs ys : List ℕ) (a b : ℕ) (p q : Bool) → (a == 32) ≡ p → (b == 32) ≡ q → list_all is_digit xs ≡ true → list_all is_digit ys ≡ true → IsTrue (is_suffix a) → IsTrue (is_suffix b) → xs ++ (if p then [] else a ∷ []) ≡ ys ++ (if q then [] else b ∷ []) → (xs ≡ ys) × (a ≡ b)
 parted xs ys a b true true p q all all₂ s s₂ e =
     let same : a ≡ b = grind (arith, nat_tests) in

@@ -1,5 +1,5 @@
--- The bytes are held; or the sink fails at the block's own or at them; or they follow the block's
--- own into the sink.
+-- The bytes are held; or the sink fails at the buffer's own bytes or at these; or these follow the
+-- buffer's own into the sink.
 use Rattle.std.proofs.Common.{◌++◌, ℕ, List, [], refl, sym, subst}
 use Rattle.std.specs.Io.KnownBytes.{Appends}
 use Rattle.ssim_base.specs.Sinks.{TakesFront, TakesUpTo}

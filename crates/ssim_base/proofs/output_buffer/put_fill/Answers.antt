@@ -1,4 +1,4 @@
--- A record of fill more.
+-- One more record of fill.
 use Rattle.std.proofs.Common.{◌-◌, ◌++◌, replicate, ◌∙◌}
 use Rattle.std.specs.List.{flat_map}
 use Rattle.ssim_records.specs.Frames.{fill}

@@ -1,4 +1,4 @@
--- A piece more is in the list.
+-- One more piece is in the list.
 use Rattle.std.proofs.Common.{◌++◌, List, ap, ◌∙◌}
 use Rattle.ssim_records.specs.declared.record.Record.{Record}
 use Rattle.ssim_base.proofs.RecordPieces.{more, whole}

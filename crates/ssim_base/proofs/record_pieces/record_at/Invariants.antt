@@ -1,4 +1,4 @@
--- The record is among the pieces that are left, at the place that is left.
+-- The record is among the pieces that are left, at the index that is left.
 use Rattle.std.proofs.Common.{◌≡◌, ◌<◌, ◌++◌, ◌-◌, drop, length, slice_index_or}
 use Rattle.std.specs.List.{flat_map}
 use Rattle.ssim_records.specs.declared.record.Record.{Record}

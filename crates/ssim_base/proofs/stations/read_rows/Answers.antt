@@ -1,4 +1,4 @@
--- The line at hand is the first of the rest.
+-- The current line is the first of the rest.
 use Rattle.std.proofs.Common.{rules, ◌≡◌, ℕ, List, [], Err, get_or, sym, ap, subst, ◌∙◌, arith}
 use Rattle.ssim_text.specs.Left.{lines_left, numbered, without_end}
 use Rattle.ssim_text.proofs.LeftLemmas.{from_shorter, tail_cons, tail_none}

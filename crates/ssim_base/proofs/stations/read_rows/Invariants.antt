@@ -1,4 +1,4 @@
--- The rows so far and those of the rest are those of the text.
+-- The rows so far and the rows of the rest are the rows of the text.
 use Rattle.std.proofs.Common.{◌≡◌, ◌≤◌, ◌+◌, length}
 use Rattle.ssim_text.specs.Left.{left_from, lines_left, pieces}
 use Rattle.ssim_base.specs.Stations.{rows_of}

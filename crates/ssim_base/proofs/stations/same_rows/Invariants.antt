@@ -1,4 +1,4 @@
--- The rows before this place are the same.
+-- The rows before this index are the same.
 use Rattle.std.proofs.Common.{◌≡◌, length, take}
 use Rattle.ssim_base.proofs.stations.same_rows.Given as goal
 

@@ -1,4 +1,4 @@
--- Two periods have a date in common where a weekday of both has a day in both ranges.
+-- Two periods have a date in common if a weekday of both has a day in both ranges.
 use Rattle.std.proofs.Common.{◌≡◌, ℕ, ◌≤◌, true, false, slice_index_or, ap, refl, sym, ◌∙◌, arith}
 use Rattle.ssim_periods.specs.Calendar.{holds}
 use Rattle.ssim_base.proofs.DateLemmas.{common-date, holds-between, meet-none}

@@ -1,4 +1,4 @@
--- The five parts, one after another, and then what the block holds.
+-- The five parts, one after another, and then what the buffer holds.
 use Rattle.std.proofs.Common.{◌++◌, List, codes, subst}
 use Rattle.ssim_records.specs.declared.record.Record.{Record}
 use Rattle.ssim_base.specs.Sinks.{TakesFront, TakesUpTo}

@@ -1,4 +1,4 @@
--- A record more is put.
+-- One more record is put.
 use Rattle.std.proofs.Common.{◌++◌, codes, length, ap, ◌∙◌}
 use Rattle.ssim_records.specs.Record.{written}
 use Rattle.ssim_base.specs.Export.{line}

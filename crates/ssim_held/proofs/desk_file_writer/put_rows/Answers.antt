@@ -1,4 +1,4 @@
--- A row more is put.
+-- One more row is put.
 use Rattle.std.proofs.Common.{◌+◌, ◌++◌, codes, drop, length, ◌∙◌}
 use Rattle.std.specs.List.{flat_map}
 use Rattle.ssim_base.proofs.Each.{all_done, all_more}

@@ -1,4 +1,4 @@
--- A message more is put.
+-- One more message is put.
 use Rattle.std.proofs.Common.{◌+◌, ◌++◌, codes, drop, length, refl, ◌∙◌}
 use Rattle.std.specs.List.{flat_map}
 use Rattle.ssim_base.proofs.Each.{all_done, all_more}

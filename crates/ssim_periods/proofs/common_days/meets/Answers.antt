@@ -1,4 +1,4 @@
--- Two periods have a day in common only where a weekday of both has a day in both ranges.
+-- Two periods have a day in common only if a weekday of both has a day in both ranges.
 use Rattle.std.proofs.Common.{◌≤◌, refl, ◌∙◌, arith}
 use Rattle.ssim_periods.proofs.ApartLemmas.{meet-none}
 use Rattle.ssim_periods.proofs.common_days.meets.Goals as goal

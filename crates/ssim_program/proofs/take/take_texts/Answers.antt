@@ -1,4 +1,4 @@
--- One text more is taken and its line printed, or it is refused, or `out` fails.
+-- One more text is taken and its line printed, or it is refused, or `out` fails.
 use Rattle.std.proofs.Common.{◌≡◌, ◌∙◌, map, ap, rules, Err}
 use Rattle.std.specs.Option.{option_map}
 use Rattle.std.proofs.lemmas.Option.{slice_get-get_or, slice_get-map}

@@ -1,4 +1,4 @@
--- Those that were looked at, and those that are left, are carried where all are.
+-- All are carried if those that were passed and those that are left are.
 use Rattle.std.proofs.Common.{◌≡◌, ◌&&◌, drop}
 use Rattle.std.specs.List.{list_all}
 use Rattle.ssim_records.specs.Columns.{is_carried}

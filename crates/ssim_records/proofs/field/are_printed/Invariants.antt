@@ -1,4 +1,4 @@
--- Those that were looked at, and those that are left, are printed where all are.
+-- All are printed if those that were passed and those that are left are.
 use Rattle.std.proofs.Common.{◌≡◌, ◌&&◌, drop}
 use Rattle.std.specs.Prelude.{nat_lt}
 use Rattle.std.specs.List.{list_all}

@@ -1,4 +1,4 @@
--- Three numbers side by side have no blanks where all their columns are digits.
+-- Three numbers side by side have no blanks if all their columns are digits.
 use Rattle.std.proofs.Common.{◌≡◌, ℕ, List, ◌&&◌, IsTrue, length, refl, sym, ap, ◌∙◌, arith, lit≤}
 use Rattle.std.specs.Prelude.{slice_range}
 use Rattle.std.specs.List.{list_all}

@@ -1,4 +1,4 @@
--- Those that were looked at, and those that are left, are digits where all are.
+-- All are digits if those that were passed and those that are left are.
 use Rattle.std.proofs.Common.{◌≡◌, ◌&&◌, drop}
 use Rattle.std.specs.List.{list_all}
 use Rattle.ssim_values.specs.Characters.{is_digit}

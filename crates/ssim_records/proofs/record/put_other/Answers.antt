@@ -1,5 +1,4 @@
--- The byte in column 1 says which table the fault is of; a byte that is none of the types has no
--- table.
+-- The byte in column 1 says which table the fault is of; an unknown type has no table.
 use Rattle.std.proofs.Common.{◌≡◌, ◌≢◌, ◌∷◌, [], ℕ, List, Err, false, rules, ap, ◌∙◌, arith, inl, inr}
 use Rattle.std.specs.Prelude.{◌==◌}
 use Rattle.std.proofs.lemmas.Bool.Decides.{nat_tests}

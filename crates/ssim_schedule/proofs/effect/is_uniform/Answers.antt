@@ -1,4 +1,4 @@
--- No row divides the period where the next point is its end.
+-- No row divides the period if the next point is its end.
 use Rattle.std.proofs.Common.{◌≡◌, ◌+◌, arith, sym, ◌∙◌}
 use Rattle.std.proofs.lemmas.Bool.Decides.{nat_tests}
 use Rattle.ssim_schedule.proofs.Acts.{uniform_part}

@@ -1,4 +1,4 @@
--- A leg more is made, and there is a line less.
+-- One more leg is made, and one line less is left.
 use Rattle.std.proofs.Common.{◌≡◌, ℕ, ◌+◌, List, [], ◌∷◌, ◌++◌, drop, Option, Some, None, option_map, append_assoc, refl, sym, ap, ◌∙◌, arith}
 use Rattle.std.proofs.lemmas.List.{drop_more}
 use Rattle.ssim_text.specs.declared.leg.LegLine.{LegLine}

@@ -1,4 +1,4 @@
--- Where there are legs, and each line has its leg, the new legs are those with the lines' times.
+-- If there are legs, and each line has its leg, the new legs are those with the lines' times.
 use Rattle.std.proofs.Common.{◌≡◌, Bool, true, false, List, [], ◌∷◌, refl, sym, ap, ◌∙◌}
 use Rattle.ssim_text.specs.declared.leg.LegLine.{LegLine}
 use Rattle.ssim_schedule.specs.Effect.{have_legs, retime, with_lines}

@@ -1,4 +1,4 @@
--- What was read of the lines, said of the text.
+-- What was read of the lines, stated of the text.
 use Rattle.std.proofs.Common.{◌≡◌, ◌≤◌, ℕ, List, map, sym, ap, ◌∙◌, inl, inr, length, arith, None, refl, subst}
 use Rattle.ssim_text.specs.declared.fault.Fault.{Fault}
 use Rattle.ssim_text.specs.declared.fault.TextFault.{TextFault}

@@ -1,4 +1,4 @@
--- The leg at hand begins the pair, or the pair is a later one.
+-- The current leg begins the pair, or the pair is a later one.
 use Rattle.std.proofs.Common.{◌≡◌, ◌<◌, ◌∷◌, ℕ, ◌+◌, ◌-◌, take, List, Option, Some, None, Bool, true, false, drop, get_or, length, refl, sym, ap, ◌∙◌, arith, add-one, drop-cons}
 use Rattle.std.specs.Prelude.{position}
 use Rattle.std.proofs.lemmas.Grind.{common_steps}

@@ -1,4 +1,4 @@
--- What is written spells the value, and so reads as it.
+-- What is written spells the value, and is therefore read as the value.
 use Rattle.ssim_values.proofs.ClockLaws.{clock_of-clock_text, variation_of-variation_text}
 use Rattle.ssim_values.proofs.DayLaws.{day_of-day_text, day_of-one_text}
 use Rattle.ssim_values.proofs.DayMaskLaws.{days_of-digits_of, days_of-places_of}

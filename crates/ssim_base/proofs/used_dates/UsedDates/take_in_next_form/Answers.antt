@@ -1,4 +1,4 @@
--- Where no date is used, a period meets none.
+-- If no date is used, a period meets none.
 use Rattle.std.proofs.Common.{sym, ap, ◌∙◌}
 use Rattle.std.specs.List.{range_with_len}
 use Rattle.ssim_periods.specs.Calendar.{day_count, holds}

@@ -1,4 +1,4 @@
--- The text is known, or its message is put where it belongs.
+-- The text is known, or its message is inserted at its position.
 use Rattle.std.proofs.Common.{◌≡◌, List, Result, Err, drop, refl, sym, subst, rules}
 use Rattle.ssim_base.specs.BaseSeen.{BaseSeen}
 use Rattle.ssim_base.specs.ReadBack.{HasFrame}

@@ -1,4 +1,4 @@
--- The message of a text that is new is put where it belongs.
+-- The message of a text that is new is inserted at its position.
 use Rattle.std.proofs.Common.{◌≡◌, List, Result, Err, refl, sym, subst, rules}
 use Rattle.ssim_base.specs.BaseSeen.{base_with}
 use Rattle.ssim_text.specs.declared.reference.Reference.{Reference}

@@ -24,7 +24,7 @@ line_is version line rest old new long is e =
     let n = eleven version in
     is ∙ ap (λ bs. bs ++ new) (e ∙ ap (λ bs. first_line version ++ bs) (nothing rest (omega (arith, a, b, n, long))) ∙ append-nil (first_line version))
 
--- and so are the first 11 of bytes that begin with one
+-- the first 11 of bytes that begin with a first line are this line
 first_is : (version : FileVersion) (line rest old new : List ℕ) → length line ≡ 11 → old ≡ line ++ new → old ≡ first_line version ++ rest → line ≡ first_line version ++ []
 first_is version line rest old new long is e =
     sym (take_at line new 11 long) ∙ ap (take 11) (sym is ∙ e) ∙ take_at (first_line version) rest 11 (eleven version) ∙ sym (append-nil (first_line version))

@@ -1,4 +1,4 @@
--- The line of the step at hand.
+-- The line of the current step.
 use Rattle.std.proofs.Common.{◌≡◌, ◌∙◌, ◌<◌, Some, slice_get, sym, ap, subst}
 use Rattle.ssim_held.proofs.Searching.{at_index}
 use Rattle.ssim_desk.specs.declared.steps.Step.{Step}

@@ -1,4 +1,4 @@
--- The line at hand is the first of the rest.
+-- The current line is the first of the rest.
 use Rattle.std.proofs.Common.{◌++◌, ℕ, List, [], map, get_or, sym, ap, ◌∙◌, arith}
 use Rattle.ssim_program.specs.declared.rehearse.script.Line.{Line}
 use Rattle.ssim_text.specs.Left.{without_end, numbered, lines_left}

@@ -1,4 +1,4 @@
--- The lines so far and those of the rest are those of the text.
+-- The lines so far and the lines of the rest are the lines of the text.
 use Rattle.std.proofs.Common.{◌≡◌, ◌≤◌, ◌+◌, ◌++◌, map, length}
 use Rattle.ssim_text.specs.Left.{left_from, lines_left, pieces}
 use Rattle.ssim_program.proofs.rehearse.script.lines_left.Given as goal

@@ -1,4 +1,4 @@
--- The line at hand spells no step.
+-- The current line spells no step.
 use Rattle.std.proofs.Common.{ℕ, List, [], get_or, inr, refl, sym}
 use Rattle.ssim_program.specs.Rehearsal.{as_written}
 use Rattle.ssim_program.specs.declared.rehearse.script.Line.{Line}

@@ -1,4 +1,4 @@
--- The columns that are looked at decide it.
+-- The columns that are compared decide it.
 use Rattle.std.proofs.Common.{◌≡◌, sym, ap, ◌∙◌}
 use Rattle.std.specs.Str.{bytes_eq}
 use Rattle.std.proofs.lemmas.Slice.Eq.{bytes_eq-Decides}

@@ -1,4 +1,4 @@
--- Two legs are the same where each part is.
+-- Two legs are the same if each part is the same.
 use Rattle.std.proofs.Common.{◌≡◌, ap, sym, ◌∙◌, true, false}
 use Rattle.std.specs.Prelude.{not}
 use Rattle.std.proofs.lemmas.Bool.{both_ways, not-false}

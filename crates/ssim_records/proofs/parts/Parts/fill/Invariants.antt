@@ -1,4 +1,4 @@
--- The bytes so far are the first of the place, and the others are left.
+-- The bytes so far are the first of the buffer, and the others are left.
 use Rattle.std.proofs.Common.{◌≡◌, ◌++◌, ◌≤◌, ◌-◌, take, length}
 use Rattle.ssim_records.proofs.parts.Parts.fill.Given as goal
 

@@ -1,4 +1,4 @@
--- As many bytes as there were turns are gone.
+-- One byte a turn is gone.
 use Rattle.std.proofs.Common.{◌≡◌, drop, length}
 use Rattle.ssim_records.proofs.parts.Parts.skip_far.Given as goal
 

@@ -1,4 +1,4 @@
--- The columns that are looked at decide it.
+-- The columns that are compared decide it.
 use Rattle.ssim_records.proofs.Segments.{segment_is_written, written_segment_has}
 use Rattle.ssim_records.proofs.segment.SegmentRecord.is_written.Goals as goal
 

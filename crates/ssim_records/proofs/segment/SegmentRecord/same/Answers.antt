@@ -1,4 +1,4 @@
--- Two segments are the same where each part is.
+-- Two segments are the same if each part is the same.
 use Rattle.std.proofs.Common.{sym, ◌∙◌}
 use Rattle.ssim_records.proofs.Segments.{segments_decide}
 use Rattle.ssim_records.proofs.segment.SegmentRecord.same.Goals as goal

@@ -1,4 +1,4 @@
--- The carried columns of a record are carried apart from it.
+-- The carried columns of a record are carried when they are copied out of it.
 use Rattle.ssim_records.proofs.Segments.{is_tail}
 use Rattle.ssim_records.proofs.segment_tail.SegmentTail.put.Goals as goal
 

@@ -9,7 +9,7 @@ use Rattle.ssim_base.specs.Sinks.{TakesFront, TakesUpTo}
 use Rattle.ssim_base.proofs.SinkLemmas.{at_fault, if_ok, if_err, front_more, step_last, halt_last, one_section}
 use Rattle.ssim_schedule.proofs.export.lines.put_alone.Goals as goal
 
--- the bytes after those of the block
+-- the bytes after those of the buffer
 split : (bytes : List ℕ) (one : Record) → bytes ≡ written one → (held : List ℕ) → held ++ section_bytes (one ∷ []) ≡ held ++ (line bytes ++ flat_map line (replicate 4 fill))
 split bytes one is held = ap (λ (bs : List ℕ). held ++ bs) (one_section one) ∙ ap (λ (bs : List ℕ). held ++ (line bs ++ flat_map line (replicate 4 fill))) (sym is)
 

@@ -1,4 +1,4 @@
--- Header, carrier, flights and trailer, one after another, and then what the block holds.
+-- Header, carrier, flights and trailer, one after another, and then what the buffer holds.
 use Rattle.std.proofs.Common.{◌≡◌, ◌+◌, ◌-◌, ◌∷◌, [], refl, arith}
 use Rattle.ssim_records.specs.declared.record.Record.TheVariants.{Header, Carrier, Trailer}
 use Rattle.ssim_base.specs.Export.{frame_from, numbered, section_bytes}

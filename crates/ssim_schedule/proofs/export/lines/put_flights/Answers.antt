@@ -1,4 +1,4 @@
--- A flight more is put.
+-- One more flight is put.
 use Rattle.std.proofs.Common.{◌≡◌, ◌≤◌, ◌+◌, ◌++◌, ◌∷◌, ℕ, List, length, refl, sym, ap, subst, ◌∙◌, arith}
 use Rattle.std.specs.List.{All}
 use Rattle.std.specs.Vec.Iter.{into_iter_items}
@@ -12,7 +12,7 @@ use Rattle.ssim_schedule.proofs.Puts.{flight-split}
 use Rattle.ssim_base.proofs.SinkLemmas.{at_fault, step, halt}
 use Rattle.ssim_schedule.proofs.export.lines.put_flights.Goals as goal
 
--- the lines of the flight at hand are those of the plan's entry
+-- the lines of the current flight are those of the plan's entry
 its_lines : (a : List ℕ) (n : ℕ) (f g : FlightNumber) (ps qs : List Piece) → f ≡ g → ps ≡ qs → numbered_lines n (pieces_records a f 1 ps) ≡ numbered_lines n (pieces_records a g 1 qs)
 its_lines a n f g ps qs flight pieces = ap (λ (x : FlightNumber). numbered_lines n (pieces_records a x 1 ps)) flight ∙ ap (λ (xs : List Piece). numbered_lines n (pieces_records a g 1 xs)) pieces
 

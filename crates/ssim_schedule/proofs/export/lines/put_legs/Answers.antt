@@ -1,4 +1,4 @@
--- A leg more is put, and then its tails.
+-- One more leg is put, and then its tails.
 use Rattle.std.proofs.Common.{◌≡◌, ◌+◌, ◌++◌, ℕ, List, map, drop, length, refl, ap, subst, ◌∙◌, arith}
 use Rattle.std.specs.Prelude.{slice_index}
 use Rattle.std.specs.List.{flat_map, All}

@@ -1,4 +1,4 @@
--- A piece more is put.
+-- One more piece is put.
 use Rattle.std.proofs.Common.{◌≡◌, ◌+◌, ◌++◌, drop, refl, ap, subst, ◌∙◌, arith}
 use Rattle.std.specs.List.{flat_map, All}
 use Rattle.ssim_base.specs.Timetable.{Legs}

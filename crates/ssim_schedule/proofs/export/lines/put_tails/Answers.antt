@@ -1,4 +1,4 @@
--- A tail more is put.
+-- One more tail is put.
 use Rattle.std.proofs.Common.{◌+◌, ◌++◌, map, drop, refl, ◌∙◌, arith}
 use Rattle.std.specs.Prelude.{slice_index}
 use Rattle.ssim_records.specs.Record.{written}

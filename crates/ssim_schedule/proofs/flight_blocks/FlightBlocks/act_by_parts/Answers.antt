@@ -1,4 +1,4 @@
--- What was made of the copy is put in its place.
+-- The copy is changed, and replaces the periods of the flight.
 use Rattle.std.proofs.Common.{ap, subst, ◌∙◌}
 use Rattle.ssim_schedule.specs.Acts.{AddsPoints, acted_on}
 use Rattle.ssim_schedule.proofs.Applied.{cuts_put, days_put}

@@ -1,4 +1,4 @@
--- Nothing changes that contracts see.
+-- Contracts see no change.
 use Rattle.std.proofs.Common.{◌≡◌}
 use Rattle.ssim_schedule.proofs.flight_blocks.FlightBlocks.share_where.Given as goal
 

@@ -1,4 +1,4 @@
--- The closure gives an entry's place, and the slice is the schedule's entries.
+-- The closure gives the rank of an entry's flight, and the slice is the schedule's entries.
 use Rattle.std.proofs.Common.{rules}
 use Rattle.std.proofs.lemmas.List.Sorted.{answers_always}
 use Rattle.ssim_base.specs.ReadBack.{place_of}

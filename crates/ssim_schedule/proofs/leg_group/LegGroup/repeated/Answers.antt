@@ -1,4 +1,4 @@
--- The latest change puts these legs, where the test of equal itineraries says so.
+-- The latest change puts these legs, if the test of equal itineraries passes.
 use Rattle.std.proofs.Common.{reverse, sym, ap, ◌∙◌}
 use Rattle.ssim_base.specs.ItineraryLaws.{exact_itinerary}
 use Rattle.ssim_schedule.proofs.leg_group.LegGroup.repeated.Goals as goal

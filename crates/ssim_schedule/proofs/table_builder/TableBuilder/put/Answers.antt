@@ -1,4 +1,4 @@
--- The current flight's entry is changed at the head, or `put_other` says it.
+-- The current flight's entry is changed as the first entry; or `put_other` puts the legs.
 use Rattle.std.proofs.Common.{◌≡◌, ◌∷◌, Option, OnOk, sym, ap, subst, ◌∙◌}
 use Rattle.ssim_values.specs.Flight.{FlightNumber}
 use Rattle.ssim_schedule.specs.TableBuilder.{with_current}

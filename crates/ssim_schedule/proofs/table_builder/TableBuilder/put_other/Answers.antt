@@ -1,4 +1,4 @@
--- The flight's entry is new at the head, or is changed among the blocks.
+-- The flight's entry is new as the first entry, or is changed among the blocks.
 use Rattle.std.proofs.Common.{◌≡◌, ℕ, List, nat_eq, if◌then◌else◌, ◌∷◌, Option, sym, ap, subst, ◌∙◌}
 use Rattle.ssim_periods.specs.Calendar.{holds}
 use Rattle.ssim_periods.specs.Days.{changed_on}

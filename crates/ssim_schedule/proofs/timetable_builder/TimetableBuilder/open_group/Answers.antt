@@ -1,4 +1,4 @@
--- The legs that waited are put, and no leg of the new group has come yet.
+-- The pending legs are put, and no leg of the new group has come yet.
 use Rattle.std.proofs.Common.{refl}
 use Rattle.ssim_schedule.specs.declared.timetable_builder.TimetableBuilder.{TimetableBuilder}
 use Rattle.ssim_schedule.proofs.TimetableBuilderLemmas.{opened}

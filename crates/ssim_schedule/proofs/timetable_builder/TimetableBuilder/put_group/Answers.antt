@@ -1,4 +1,4 @@
--- The legs that waited are put into the table.
+-- The pending legs are put into the table.
 use Rattle.std.proofs.Common.{◌≡◌, ◌⊎◌, Contains, Option, Some, Result, Ok, Err, OnOk, sym, ap, subst, ◌∙◌}
 use Rattle.ssim_schedule.specs.Group.{IsBound, with_legs}
 use Rattle.ssim_schedule.specs.Schedule.{Table, cuts_in, days_in}

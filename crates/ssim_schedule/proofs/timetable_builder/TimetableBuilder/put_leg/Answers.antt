@@ -1,4 +1,4 @@
--- The leg joins those that wait, with the tails that waited for it.
+-- The leg joins the pending legs, with its pending tails.
 use Rattle.std.proofs.Common.{◌≡◌, ◌⊎◌, Some, nat_eq, if◌then◌else◌, [], refl, sym, ap, subst, ◌∙◌}
 use Rattle.ssim_values.specs.Flight.{FlightNumber}
 use Rattle.ssim_values.specs.Period.{DayRange}

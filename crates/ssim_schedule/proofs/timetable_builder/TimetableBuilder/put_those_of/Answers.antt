@@ -9,7 +9,7 @@ use Rattle.ssim_schedule.specs.FlightSet.{is_marked, is_record_of}
 use Rattle.ssim_schedule.proofs.FlightSets.{one_kept, one_left_out}
 use Rattle.ssim_schedule.proofs.timetable_builder.TimetableBuilder.put_those_of.Goals as goal
 
--- the records from the one before a place on
+-- the records from the one before an index on
 step : (records : List Record) (place : ℕ) (one : Record) → 0 < place → place - 1 < length records → one ≡ get_or records (place - 1) one → drop (place - 1) records ≡ one ∷ drop place records
 step records place one some within is =
     let back : suc (place - 1) ≡ place = omega arith in
