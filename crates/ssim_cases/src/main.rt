@@ -43,8 +43,8 @@
 //! - `show NAME`, `size NAME`: the bytes of a file, or their number; `equal NAME NAME`: whether two
 //!   files have the same bytes.
 //! - `prefixes NAME WORD ..`: runs the program for each prefix of a file, which then has the name
-//!   `prefix`, and prints the answers. Lengths that follow one another and have one answer are
-//!   printed together.
+//!   `prefix`, and prints the results. Neighbouring lengths with the same result are printed
+//!   together.
 //!
 //! In a text `<17>` is seventeen blanks, `<200*0>` two hundred zeros, `<x3C>` a byte by its
 //! hexadecimal digits. The transcript shows bytes in the same way, a line of them after `| `; `<>`

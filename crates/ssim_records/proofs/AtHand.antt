@@ -41,7 +41,7 @@ stands_first behind bytes rest block after is block-is after-is long other =
 pub block_bytes : (behind : Bool) (bytes block : List ℕ) (count : ℕ) → StandsFirst behind bytes block count → 200 ≤ count
 block_bytes behind bytes block count s = omega (arith, s.0, ap length s.2, trim_less behind (take count bytes), length-take count bytes)
 
--- ---- the same, where a reader has the bytes at hand
+-- ---- bytes at hand, skipped as if they had been fetched
 
 -- the bytes that were skipped, as if they had been fetched
 skipped : (behind : Bool) (came count : ℕ) (bytes more block : List ℕ) (left0 left1 : Option (List ℕ)) → StandsFirst behind bytes block count → left0 ≡ Some (bytes ++ more) → SkipsAtHand left0 left1 count true
