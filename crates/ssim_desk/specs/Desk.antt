@@ -15,18 +15,18 @@ use Rattle.ssim_desk.specs.declared.steps.Answer.{Answer}
 use Rattle.ssim_desk.specs.declared.steps.Answer.TheVariants.{Taken, Repeated, Merged, Refused}
 use Rattle.ssim_desk.specs.declared.desk.Took.TheVariants as took
 
--- the answer for a result of `take`
+-- the `Answer` for a result of `take`
 abbrev pub take_answer : Result Took DeskFault → Answer
 take_answer (Ok took.Taken) = Taken
 take_answer (Ok took.Repeated) = Repeated
 take_answer (Err fault) = Refused fault
 
--- the answer for a result of `take` that has the reference of the message, too
+-- the `Answer` for a result of `take` that has the reference of the message, too
 abbrev pub took_answer : Result (Took × Reference) DeskFault → Answer
 took_answer (Ok taken) = take_answer (Ok taken.0)
 took_answer (Err fault) = Refused fault
 
--- the answer for a result of `merge`
+-- the `Answer` for a result of `merge`
 abbrev pub merge_answer : Result (Unit {0}) DeskFault → Answer
 merge_answer (Ok done) = Merged
 merge_answer (Err fault) = Refused fault

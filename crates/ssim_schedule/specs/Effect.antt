@@ -36,7 +36,7 @@ tail_at i segment (Some pair) = if nat_eq pair.0 i then Some (segment_tail pair.
 abbrev pub tail_for : ℕ → List LegLine → SegmentLine → Option (List ℕ)
 tail_for i lines segment = tail_at i segment (leg_pair segment.board segment.off 0 lines)
 
--- the tails with one more in front, if there is one
+-- the tails after one more tail, if there is one
 abbrev pub with_tail : Option (List ℕ) → List (List ℕ) → List (List ℕ)
 with_tail None tails = tails
 with_tail (Some tail) tails = tail ∷ tails
