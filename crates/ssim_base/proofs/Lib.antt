@@ -22,7 +22,6 @@ pub mod LegSequences
 pub mod LegTables
 pub mod AcceptanceLemmas
 mod NotedReads
-mod RecordPieces
 pub mod ReadingBack
 pub mod ReadingLemmas
 pub mod FrameLemmas

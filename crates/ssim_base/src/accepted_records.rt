@@ -1,18 +1,17 @@
 //! The accepted records of a data set, or their number.
 
-ghost use Rattle.std.specs.Prelude.{◌≡◌, List, OnOk, length, reverse};
+ghost use Rattle.std.specs.Prelude.{◌≡◌, ◌<◌, ◌∷◌, ◌++◌, [], List, OnOk, length, reverse, vec_capacity, vec_len};
 ghost use Rattle.ssim_records.specs.declared.record.Record.{Record};
-ghost use Rattle.ssim_base.specs.AcceptedRecords.{AddsRecord, AreAccepted, InPieces, keeps};
+ghost use Rattle.ssim_base.specs.AcceptedRecords.{AddsRecord, AreAccepted, InList, keeps};
 
-use crate::record_pieces::RecordPieces;
 use ssim_records::Record;
 use ssim_values::Memory;
 
-/// The accepted records of a data set, as pieces or as their number.
+/// The accepted records of a data set, as a list or as their number.
 #[derive(Drop)]
 pub(crate) enum AcceptedRecords {
-    /// The records, in order, in pieces.
-    Pieces(RecordPieces),
+    /// The records, in order.
+    Kept(Vec<Record>),
     /// Their number alone.
     Count(usize),
 }
@@ -26,7 +25,7 @@ impl AcceptedRecords {
         ensures keeps { OnOk result (keeps self.new ≡ keeps self.old) }
     {
         match self {
-            AcceptedRecords::Pieces(records) => records.push(one),
+            AcceptedRecords::Kept(records) => push_copy(records, one),
             AcceptedRecords::Count(count) => match count.checked_add(1) {
                 Some(more) => {
                     *count = more;
@@ -37,13 +36,13 @@ impl AcceptedRecords {
         }
     }
 
-    /// The records that were stored in pieces.
-    pub(crate) fn into_pieces(self) -> RecordPieces
-        requires { keeps self ≡ InPieces }
-        ensures { (earlier : List Record) → AreAccepted self earlier → result ≡ reverse earlier }
+    /// The records that were stored.
+    pub(crate) fn into_list(self) -> Vec<Record>
+        requires { keeps self ≡ InList }
+        ensures { (earlier : List Record) → AreAccepted self earlier → result.items ≡ reverse earlier }
     {
         match self {
-            AcceptedRecords::Pieces(records) => records,
+            AcceptedRecords::Kept(records) => records,
             AcceptedRecords::Count(_) => unreachable!(),
         }
     }
@@ -53,8 +52,30 @@ impl AcceptedRecords {
         ensures { (earlier : List Record) → AreAccepted self.now earlier → result ≡ length earlier }
     {
         match self {
-            AcceptedRecords::Pieces(records) => records.len(),
+            AcceptedRecords::Kept(records) => records.len(),
             AcceptedRecords::Count(count) => *count,
         }
     }
+}
+
+// Adds a copy of a record. Mostly there is room for it, so that it is copied once, into its place.
+#[inline(always)]
+fn push_copy(records: &mut Vec<Record>, one: &Record) -> Result<(), Memory>
+    ensures { OnOk result (records.new.items ≡ records.old.items ++ one.now ∷ []) }
+{
+    if records.len() == records.capacity() {
+        make_room(records)?;
+    }
+    records.push_reserved(*one);
+    Ok(())
+}
+
+// Makes room for a record.
+#[inline(never)]
+fn make_room(records: &mut Vec<Record>) -> Result<(), Memory>
+    ensures kept { records.new.items ≡ records.old.items }
+    ensures room { OnOk result (vec_len records.new < vec_capacity records.new) }
+{
+    records.reserve(1)?;
+    Ok(())
 }

@@ -3,7 +3,7 @@
 ghost use Rattle.std.specs.Prelude.{◌≡◌, ◌↔◌, IsTrue, IfOk, IfErr};
 ghost use Rattle.std.specs.List.{All};
 ghost use Rattle.ssim_base.specs.Base.{airline_of};
-ghost use Rattle.ssim_base.specs.BaseSeen.{AreFlights, WasRead};
+ghost use Rattle.ssim_base.specs.BaseSeen.{AreFlights};
 ghost use Rattle.ssim_base.specs.Closed.{IsClosed};
 ghost use Rattle.ssim_base.specs.ReadBack.{AreInOrder, HasFrame};
 ghost use Rattle.ssim_base.specs.Reading.{Answers, Came, FailsAfter, FailsAs, IsReadOf, NeverEnds};
@@ -14,7 +14,6 @@ use crate::base_frame::BaseFrame;
 use crate::data_set::DataSet;
 use crate::fault::BaseFault;
 use crate::note::Note;
-use crate::records_left::{RecordsLeft, are_same};
 use crate::stations::{StationRow, Stations};
 use ssim_records::{Record, Source};
 use ssim_values::{Airline, Flight, Memory};
@@ -28,22 +27,16 @@ use std::marker::Model;
 /// carrier may be open.
 #[derive(Drop)]
 pub struct Base {
-    records: Vec<Record>,
-    frame: BaseFrame,
+    data_set: DataSet,
     stations: Stations,
-    /// The flights of the leg records, each once, by number and suffix.
-    flights: Vec<Flight>,
 }
 
 impl Model for Base {
-    ghost use Rattle.ssim_base.specs.BaseSeen.{AreFlights, BaseSeen, WasRead};
-    ghost use Rattle.ssim_base.specs.ReadBack.{HasFrame};
+    ghost use Rattle.ssim_base.specs.BaseSeen.{BaseSeen};
 
     ghost Value = { BaseSeen };
 
-    ghost view = { λ b. record { records = b.records.items; rows = b.stations } };
-
-    ghost invariant = { λ b. WasRead b.records.items × AreFlights b.records.items b.flights.items × HasFrame b.frame b.records.items };
+    ghost view = { λ b. record { records = b.data_set; rows = b.stations } };
 }
 
 /// A base, and the notes on its data set.
@@ -78,41 +71,25 @@ impl Base {
         ensures never_ends { IfErr result (λ e. NeverEnds limit (Came (R.left reader.old) (R.left reader.new) (R.came reader.old) (R.came reader.new)) e) }
     {
         let (data_set, notes) = DataSet::read_noted(alloc, reader, limit)?;
-        let base = data_set.into_base(stations)?;
+        let base = Base::of(data_set, stations);
         Ok(BaseRead { base, notes })
     }
 
-    /// The base of records that were read, with their frame, their flights and these rows.
-    pub(crate) fn of_parts(
-        records: Vec<Record>,
-        frame: BaseFrame,
-        flights: Vec<Flight>,
-        stations: Stations,
-    ) -> Base
-        requires read { WasRead records.items }
-        requires frame { HasFrame frame records.items }
-        requires flights { AreFlights records.items flights.items }
-        ensures records { result.records ≡ records.items }
+    /// The base of a data set, with these rows.
+    pub fn of(data_set: DataSet, stations: Stations) -> Base
+        ensures records { result.records ≡ data_set }
         ensures rows { result.rows ≡ stations }
     {
-        Base {
-            records,
-            frame,
-            stations,
-            flights,
-        }
+        Base { data_set, stations }
     }
 
     /// The same base.
     pub fn copy(&self) -> Result<Base, Memory>
         ensures { IfOk result (λ copy. copy ≡ self.now) }
     {
-        let alloc = self.frame.alloc;
         Ok(Base {
-            records: Vec::from_slice(alloc, &self.records)?,
-            frame: self.frame.copy(),
-            stations: self.stations.copy(alloc)?,
-            flights: Vec::from_slice(alloc, &self.flights)?,
+            data_set: self.data_set.copy()?,
+            stations: self.stations.copy(self.allocator())?,
         })
     }
 
@@ -120,29 +97,26 @@ impl Base {
     pub fn same(&self, other: &Base) -> bool
         ensures { IsTrue result ↔ (self.now ≡ other.now) }
     {
-        are_same(
-            RecordsLeft::of(&self.records),
-            RecordsLeft::of(&other.records),
-        ) && self.stations.same(&other.stations)
+        self.data_set.same(&other.data_set) && self.stations.same(&other.stations)
     }
 
     /// The airline whose schedule it is.
     pub fn airline(&self) -> Airline
         ensures { result ≡ airline_of self.now.records }
     {
-        self.frame.airline()
+        self.data_set.airline()
     }
 
     /// The allocator of the schedules that are made from it.
     pub fn allocator(&self) -> Global {
-        self.frame.alloc
+        self.data_set.allocator()
     }
 
     /// The frame of the base: the header, the carrier record and the trailer.
     pub fn frame(&self) -> &BaseFrame
         ensures { HasFrame result.now self.now.records }
     {
-        &self.frame
+        self.data_set.frame()
     }
 
     /// The records, in order: a header, a carrier, legs and segments, and a trailer. Serials and
@@ -154,7 +128,7 @@ impl Base {
         ensures closed { All IsClosed result.now }
         ensures in_order { AreInOrder (days_of result.now) }
     {
-        &self.records
+        self.data_set.records()
     }
 
     /// The rows of the station table, in order.
@@ -168,6 +142,6 @@ impl Base {
     pub fn flights(&self) -> &[Flight]
         ensures { AreFlights self.now.records result.now }
     {
-        &self.flights
+        self.data_set.flights()
     }
 }

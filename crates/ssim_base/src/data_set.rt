@@ -1,9 +1,10 @@
-//! The records of a base in pieces.
+//! The records of a base.
 
-ghost use Rattle.std.specs.Prelude.{◌≡◌, ◌↔◌, ◌++◌, ℕ, List, Option, IsTrue, IfOk, IfErr, length, reverse};
-ghost use Rattle.std.specs.List.{All, flat_map};
+ghost use Rattle.std.specs.Prelude.{◌≡◌, ◌↔◌, ℕ, List, Option, IsTrue, IfOk, IfErr, reverse};
+ghost use Rattle.std.specs.List.{All};
 ghost use Rattle.ssim_records.specs.declared.record.Record.{Record};
 ghost use Rattle.ssim_base.specs.Base.{airline_of};
+ghost use Rattle.ssim_base.specs.BaseSeen.{AreFlights};
 ghost use Rattle.ssim_base.specs.Closed.{IsClosed};
 ghost use Rattle.ssim_base.specs.ReadBack.{AreInOrder, CanExport, HasFrame};
 ghost use Rattle.ssim_base.specs.Reading.{AnswersAs, AnswersRecords, Came, FailsAfter, FailsAs, IsReadOf, NeverEnds};
@@ -12,25 +13,21 @@ ghost use Rattle.ssim_base.specs.Timetable.{days_of};
 
 use crate::acceptance::Acceptance;
 use crate::accepted_records::AcceptedRecords;
-use crate::base::Base;
 use crate::base_frame::BaseFrame;
 use crate::data_set_reader::{DataSetReader, read_records};
 use crate::fault::BaseFault;
 use crate::note::Note;
-use crate::record_pieces::RecordPieces;
-use crate::records_left::{RecordsLeft, are_same};
-use crate::stations::Stations;
 use ssim_records::{Record, Source};
 use ssim_values::{Airline, Flight, Memory};
 use std::alloc::Global;
 use std::marker::Model;
 
-/// A data set as it was read, without a station table. Contracts see it as the records of a base.
-/// The records are stored in pieces, which fit into the memory that the parts of a file leave, and
-/// which are freed while the timetable is made.
+/// A data set as it was read, without a station table: its records other than fill, in order,
+/// without serials. The rate and the overflow of its legs are blank. The end of each leg is a date;
+/// the end of the carrier may be open.
 #[derive(Drop)]
 pub struct DataSet {
-    records: RecordPieces,
+    records: Vec<Record>,
     frame: BaseFrame,
     /// The flights of the leg records, each once, by number and suffix.
     flights: Vec<Flight>,
@@ -44,15 +41,15 @@ impl Model for DataSet {
 
     ghost Value = { List Record };
 
-    ghost view = { λ read. read.records };
+    ghost view = { λ read. read.records.items };
 
-    ghost invariant = { λ read. WasRead read.records × AreFlights read.records read.flights.items × HasFrame read.frame read.records };
+    ghost invariant = { λ read. WasRead read.records.items × AreFlights read.records.items read.flights.items × HasFrame read.frame read.records.items };
 }
 
 impl DataSet {
     ghost use Rattle.ssim_base.specs.DataSetReader.{HasRead, IsWhole};
     ghost use Rattle.ssim_base.specs.Acceptance.{HasAccepted, IsWholeBase};
-    ghost use Rattle.ssim_base.specs.AcceptedRecords.{InPieces, keeps};
+    ghost use Rattle.ssim_base.specs.AcceptedRecords.{InList, keeps};
 
     /// Reads a data set, record by record. At most `limit` bytes and one more are fetched. The
     /// refusals are those of `Base::read`.
@@ -79,7 +76,7 @@ impl DataSet {
         ensures fails_after { IfErr result (λ e. FailsAfter (R.left reader.old) (R.left reader.new) e) }
         ensures never_ends { IfErr result (λ e. NeverEnds limit (Came (R.left reader.old) (R.left reader.new) (R.came reader.old) (R.came reader.new)) e) }
     {
-        let records = AcceptedRecords::Pieces(RecordPieces::new(alloc));
+        let records = AcceptedRecords::Kept(Vec::new(alloc));
         let (records_read, number) = read_records(alloc, records, reader, limit)?;
         DataSet::finish(alloc, records_read, number)
     }
@@ -92,7 +89,7 @@ impl DataSet {
         number: u64,
     ) -> Result<(DataSet, Vec<Note>), BaseFault>
         requires whole { IsWhole records_read }
-        requires keeps { keeps records_read.kept.records ≡ InPieces }
+        requires keeps { keeps records_read.kept.records ≡ InList }
         ensures read { (limit : ℕ) (told : Option (List ℕ)) → HasRead limit told records_read number → AnswersAs (λ read. (read.0, read.1.items)) result (IsReadOf limit told) }
         ensures failure { (n : ℕ) → IfErr result (λ e. FailsAs n n e) }
         ensures fails_after { (all left : Option (List ℕ)) → IfErr result (λ e. FailsAfter all left e) }
@@ -109,14 +106,14 @@ impl DataSet {
     /// The data set of the stored records, which are the records of a base.
     pub(crate) fn of_kept(alloc: Global, kept: Acceptance) -> Result<DataSet, Memory>
         requires whole { IsWholeBase kept }
-        requires keeps { keeps kept.records ≡ InPieces }
+        requires keeps { keeps kept.records ≡ InList }
         ensures records { (earlier : List Record) → HasAccepted kept earlier → IfOk result (λ read. read ≡ reverse earlier) }
     {
         let flights = kept.legs.flights()?;
-        let records = kept.records.into_pieces();
-        let header = records.at(0);
-        let carrier = records.at(1);
-        let trailer = records.at(records.len() - 1);
+        let records = kept.records.into_list();
+        let header = &records[0];
+        let carrier = &records[1];
+        let trailer = &records[records.len() - 1];
         let frame = BaseFrame::of(alloc, header, carrier, trailer);
         Ok(DataSet {
             records,
@@ -129,10 +126,11 @@ impl DataSet {
     pub fn copy(&self) -> Result<DataSet, Memory>
         ensures { IfOk result (λ copy. copy ≡ self.now) }
     {
+        let alloc = self.allocator();
         Ok(DataSet {
-            records: self.records.copy()?,
+            records: Vec::from_slice(alloc, &self.records)?,
             frame: self.frame.copy(),
-            flights: Vec::from_slice(self.frame.alloc, &self.flights)?,
+            flights: Vec::from_slice(alloc, &self.flights)?,
         })
     }
 
@@ -156,63 +154,57 @@ impl DataSet {
         &self.frame
     }
 
-    /// The number of the records.
-    pub fn len(&self) -> usize
-        ensures { result ≡ length self.now }
+    /// The records, in order: a header, a carrier, legs and segments, and a trailer. Serials and the
+    /// check reference are 0; rates and overflows are blank. The end of each leg record is a date. Two
+    /// leg records of one flight and leg sequence have no date in common.
+    pub fn records(&self) -> &[Record]
+        ensures value { result.now ≡ self.now }
+        ensures is_base { IsBaseRecords result.now }
+        ensures closed { All IsClosed result.now }
+        ensures in_order { AreInOrder (days_of result.now) }
     {
-        self.records.len()
+        &self.records
     }
 
-    /// The records, in order, as `Base::records` has them.
-    pub fn records(&self) -> RecordsLeft<'_>
-        ensures value { result ≡ self.now }
-        ensures is_base { IsBaseRecords self.now }
+    /// The flights of the leg records, each once, rising by number and suffix, the blank first.
+    pub fn flights(&self) -> &[Flight]
+        ensures { AreFlights self.now result.now }
     {
-        let (pieces, last) = self.records.pieces();
-        RecordsLeft::of_pieces(pieces, last)
-    }
-
-    /// The pieces before the last one, in order, and the last one.
-    pub fn pieces(&self) -> (&[Vec<Record>], &[Record])
-        ensures value { flat_map (λ piece. piece.items) result.0.now ++ result.1.now ≡ self.now }
-        ensures closed { All IsClosed self.now }
-        ensures in_order { AreInOrder (days_of self.now) }
-    {
-        self.records.pieces()
+        &self.flights
     }
 
     /// Whether two data sets have the same records.
     pub fn same(&self, other: &DataSet) -> bool
         ensures { IsTrue result ↔ (self.now ≡ other.now) }
     {
-        are_same(self.records(), other.records())
+        same_records(&self.records, &other.records)
     }
 
-    /// The base with the same records, in one list, and with these rows.
-    pub fn into_base(self, stations: Stations) -> Result<Base, Memory>
-        ensures records { IfOk result (λ base. base.records ≡ self) }
-        ensures rows { IfOk result (λ base. base.rows ≡ stations) }
-    {
-        let DataSet {
-            records,
-            frame,
-            flights,
-        } = self;
-        let list = records.into_list()?;
-        Ok(Base::of_parts(list, frame, flights, stations))
-    }
-
-    /// The records in pieces, and the flights of the leg records.
-    pub fn into_parts(self) -> Result<(Vec<Vec<Record>>, Vec<Flight>), Memory>
-        ensures value { IfOk result (λ parts. flat_map (λ piece. piece.items) parts.0.items ≡ self) }
-        ensures closed { IfOk result (λ parts. All IsClosed (flat_map (λ piece. piece.items) parts.0.items)) }
+    /// The records, and the flights of the leg records.
+    pub fn into_parts(self) -> (Vec<Record>, Vec<Flight>)
+        ensures value { result.0.items ≡ self }
+        ensures closed { All IsClosed result.0.items }
     {
         let DataSet {
             records,
             flights,
             ..
         } = self;
-        let pieces = records.into_pieces()?;
-        Ok((pieces, flights))
+        (records, flights)
     }
+}
+
+// Whether the two lists have the same records.
+fn same_records(mine: &[Record], theirs: &[Record]) -> bool
+    ensures { IsTrue result ↔ (mine.now ≡ theirs.now) }
+{
+    if mine.len() != theirs.len() {
+        return false;
+    }
+    for (place, one) in mine.iter().enumerate() {
+        if !one.same(&theirs[place]) {
+            return false;
+        }
+    }
+    true
 }

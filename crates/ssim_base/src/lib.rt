@@ -3,11 +3,9 @@
 //!
 //! - [`Stations`]: which UTC variation a station has on a day, read from a table of
 //!   [`StationRow`]s. [`variation_at`] looks it up in rows.
-//! - [`Base`]: a data set as it was read, record by record, with a station table; or a
-//!   [`BaseFault`], which names the first invalid record. What is unusual but not refused is a
-//!   [`Note`].
-//! - [`DataSet`]: the records of a base in pieces, which can be freed one after another.
-//!   [`RecordsLeft`] reads them in order.
+//! - [`DataSet`]: a data set as it was read, record by record, in one list; or a [`BaseFault`],
+//!   which names the first invalid record. What is unusual but not refused is a [`Note`].
+//! - [`Base`]: a data set with a station table.
 //! - [`read_saved`]: the data set whose records the next lines of a file are, or a [`SavedFault`].
 //! - [`Summary`]: how many records and flights a data set has, and its notes. It is read as a base
 //!   is, but no record is stored.
@@ -39,8 +37,6 @@ mod leg_table;
 mod note;
 mod output_buffer;
 mod place;
-mod record_pieces;
-mod records_left;
 mod resolution;
 mod saved_lines;
 mod stations;
@@ -57,7 +53,6 @@ pub use output_buffer::{
     OutputBuffer, WriteFault, flush, put_bytes, put_fill, put_leg, put_record, put_segment,
 };
 pub use place::Place;
-pub use records_left::RecordsLeft;
 pub use resolution::{ResolveFault, ResolvedText, resolve};
 pub use saved_lines::{SavedFault, read_saved};
 pub use stations::{StationFault, StationRow, Stations, variation_at};

@@ -8,7 +8,6 @@ use crate::acceptance::Acceptance;
 use crate::accepted_records::AcceptedRecords;
 use crate::data_set::DataSet;
 use crate::fault::BaseFault;
-use crate::record_pieces::RecordPieces;
 use ssim_records::{Parts, Record, RecordReader};
 use ssim_values::Memory;
 use std::alloc::{AllocError, Global};
@@ -122,7 +121,7 @@ pub fn read_saved(alloc: Global, count: usize, parts: &mut Parts) -> Result<Data
     ensures err { IfErr result (λ e. e ≢ SavedFault.Memory → (records : List Record) (later : List ℕ) → IsBaseRecords records → length records ≡ count → parts.old ≡ saved records ++ later → ⊥) }
     ensures within { IfErr result (λ e. IsWithin parts.old e) }
 {
-    let mut kept = Acceptance::new(alloc, AcceptedRecords::Pieces(RecordPieces::new(alloc)));
+    let mut kept = Acceptance::new(alloc, AcceptedRecords::Kept(Vec::new(alloc)));
     let mut reader = RecordReader::new();
     let mut next = None;
     let mut done = 0;

@@ -20,7 +20,7 @@ ghost use Rattle.ssim_desk.specs.Steps.{IsUnion, Merges, Takes};
 use crate::finding_line::{FindingLine, push_lines};
 use crate::history::History;
 use crate::offer::{Offer, offer_over};
-use ssim_base::{Base, RecordsLeft, WriteFault};
+use ssim_base::{Base, WriteFault};
 use ssim_held::{DeskFault, Held, Opened, first_conflict, first_new, merged, put_desk, read_desk};
 use ssim_records::{Sink, Source};
 use ssim_schedule::{ExportFault, PlacedLeg};
@@ -88,7 +88,7 @@ impl Desk {
             stations,
             held,
         } = read_desk(alloc, reader, limit)?;
-        let base = data_set.into_base(stations)?;
+        let base = Base::of(data_set, stations);
         let desk = Desk::with(alloc, base, held)?;
         Ok(desk)
     }
@@ -233,9 +233,7 @@ impl Desk {
         ensures device { W.device out.new ≡ W.device out.old }
     {
         let base = self.base();
-        let records = base.records();
-        let left = RecordsLeft::of(records);
-        put_desk(out, records.len(), left, base.rows(), self.held())
+        put_desk(out, base.records(), base.rows(), self.held())
     }
 
     // A desk of a base and messages.

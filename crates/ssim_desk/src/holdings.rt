@@ -151,7 +151,6 @@ impl Holdings {
     {
         put_desk(
             out,
-            self.data_set.len(),
             self.data_set.records(),
             self.stations.rows(),
             &self.held,

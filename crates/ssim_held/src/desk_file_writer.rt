@@ -1,6 +1,6 @@
 //! The desk file, written from a base and the messages that are held.
 
-ghost use Rattle.std.specs.Prelude.{◌≡◌, ◌++◌, ◌∷◌, [], decimal, length, OnOk, OnErr};
+ghost use Rattle.std.specs.Prelude.{◌≡◌, ◌++◌, ◌∷◌, [], decimal, OnOk, OnErr};
 ghost use Rattle.std.specs.Io.KnownBytes.{Appends};
 ghost use Rattle.std.specs.List.{All};
 ghost use Rattle.ssim_base.specs.BaseSeen.{base_with};
@@ -10,29 +10,26 @@ ghost use Rattle.ssim_held.specs.File.{IsRow, IsSpelled, desk_file, records_part
 use crate::held::Held;
 use crate::row_line::write_row;
 use itoa::Buffer;
-use ssim_base::{OutputBuffer, RecordsLeft, StationRow, WriteFault, flush, put_bytes, put_record};
-use ssim_records::Sink;
+use ssim_base::{OutputBuffer, StationRow, WriteFault, flush, put_bytes, put_record};
+use ssim_records::{Record, Sink};
 
-/// Puts the desk file of the base with these records, `count` in number, and these rows, and of the
-/// messages that are held.
+/// Puts the desk file of the base with these records and these rows, and of the messages that are held.
 pub fn put_desk<W: Sink>(
     out: &mut W,
-    count: usize,
-    records: RecordsLeft<'_>,
+    records: &[Record],
     rows: &[StationRow],
     held: &[Held],
 ) -> Result<(), WriteFault>
-    requires { count ≡ length records }
-    ensures ok { OnOk result (Appends (W.taken out.old) (W.taken out.new) (desk_file (base_with records.entry rows.now) held.now)) }
+    ensures ok { OnOk result (Appends (W.taken out.old) (W.taken out.new) (desk_file (base_with records.now rows.now) held.now)) }
     ensures rows { OnOk result (All IsRow rows.now) }
     ensures spelled { OnOk result (All IsSpelled held.now) }
-    ensures err { OnErr result (TakesFront (desk_file (base_with records.entry rows.now) held.now) (W.taken out.old) (W.taken out.new)) }
+    ensures err { OnErr result (TakesFront (desk_file (base_with records.now rows.now) held.now) (W.taken out.old) (W.taken out.new)) }
     ensures failures { CountsFault (W.failures out.old) (W.failures out.new) result }
     ensures device { W.device out.new ≡ W.device out.old }
 {
     let mut block = OutputBuffer::new();
     put_counted(out, &mut block, b"SSIMDESK ", 2)?;
-    put_records(out, &mut block, count, records)?;
+    put_records(out, &mut block, records)?;
     put_rows(out, &mut block, rows)?;
     put_texts(out, &mut block, held)?;
     put_bytes(out, &mut block, b"END\n")?;
@@ -61,17 +58,15 @@ fn put_counted<W: Sink>(
 fn put_records<W: Sink>(
     out: &mut W,
     block: &mut OutputBuffer,
-    count: usize,
-    mut records: RecordsLeft<'_>,
+    records: &[Record],
 ) -> Result<(), WriteFault>
-    requires { count ≡ length records }
-    ensures ok { OnOk result (TakesUpTo (block.old ++ records_part records.entry) block.new (W.taken out.old) (W.taken out.new)) }
-    ensures err { OnErr result (TakesFront (block.old ++ records_part records.entry) (W.taken out.old) (W.taken out.new)) }
+    ensures ok { OnOk result (TakesUpTo (block.old ++ records_part records.now) block.new (W.taken out.old) (W.taken out.new)) }
+    ensures err { OnErr result (TakesFront (block.old ++ records_part records.now) (W.taken out.old) (W.taken out.new)) }
     ensures failures { CountsFault (W.failures out.old) (W.failures out.new) result }
     ensures device { W.device out.new ≡ W.device out.old }
 {
-    put_counted(out, block, b"RECORDS ", count)?;
-    while let Some(record) = records.next() {
+    put_counted(out, block, b"RECORDS ", records.len())?;
+    for record in records {
         put_record(out, block, record)?;
     }
     Ok(())

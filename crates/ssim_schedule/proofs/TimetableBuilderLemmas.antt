@@ -1,11 +1,10 @@
 -- One more record before those that were built: each case of the definitions, day by day and name
 -- by name.
-use Rattle.std.proofs.Common.{◌≡◌, ℕ, ◌+◌, ◌-◌, ◌*◌, ◌<◌, Bool, ◌⊎◌, inl, inr, Contains, true, false, ◌&&◌, ◌||◌, nat_eq, if◌then◌else◌, IsTrue, List, [], ◌∷◌, ◌++◌, length, take, drop, Option, Some, None, unwrap_or, refl, sym, ap, subst, ◌∙◌, arith, append_assoc}
-use Rattle.std.proofs.Math.Seq.{drop-append_seam, take-append_seam}
-use Rattle.std.proofs.lemmas.List.Elements.{All-drop, All-take, filter-append}
-use Rattle.std.specs.List.{All, filter, list_any}
+use Rattle.std.proofs.Common.{◌≡◌, ℕ, ◌+◌, ◌*◌, ◌<◌, Bool, ◌⊎◌, inl, inr, Contains, true, false, ◌&&◌, ◌||◌, nat_eq, if◌then◌else◌, IsTrue, List, [], ◌∷◌, ◌++◌, Option, Some, None, unwrap_or, refl, sym, ap, subst, ◌∙◌, arith}
+use Rattle.std.proofs.lemmas.List.{append-nil}
+use Rattle.std.specs.List.{list_any}
 use Rattle.std.proofs.lemmas.Bool.Decides.{nat_tests}
-use Rattle.ssim_values.specs.Flight.{FlightNumber, IsFlight, is_suffix}
+use Rattle.ssim_values.specs.Flight.{FlightNumber, IsFlight}
 use Rattle.ssim_values.specs.Period.{DayRange}
 use Rattle.ssim_periods.specs.Calendar.{holds}
 use Rattle.ssim_periods.specs.Days.{changed_on}
@@ -18,7 +17,6 @@ use Rattle.ssim_records.specs.Segment.{SegmentFields}
 use Rattle.ssim_records.specs.declared.record.Record.{Record}
 use Rattle.ssim_records.specs.declared.record.Record.TheVariants.{Header, Carrier, Leg, Segment, Trailer}
 use Rattle.ssim_base.specs.Timetable.{Days, LegValue, Legs, days_of, itinerary, leg_of, period_of, placed, same_flight, same_name, tails_of}
-use Rattle.ssim_base.specs.Closed.{IsClosed}
 use Rattle.ssim_schedule.specs.LegKey.{IsPlaced, name_place}
 use Rattle.ssim_schedule.specs.TimetableBuilder.{IsBuilt, IsCut, OpensGroup, PutsGroup, TakesLeg, TakesSegment, days_with}
 use Rattle.ssim_schedule.specs.Group.{Group, IsBound, with_legs}
@@ -206,18 +204,6 @@ same_period p r last first end' days some =
     let masks : record { first = r.first; last = unwrap_or r.last 0; days = p.days } ≡ period_of r = ap (λ (d : List Bool). record { first = r.first; last = unwrap_or r.last 0; days = d }) days in
     firsts ∙ lasts ∙ masks
 
--- ---- records in pieces
-
--- the records between others are closed
-pub closed_between : (front mid done all : List Record) → front ++ (mid ++ done) ≡ all → All IsClosed all → All IsClosed mid
-closed_between front mid done all is closed =
-    let later : drop (length front) all ≡ mid ++ done = ap (λ (rs : List Record). drop (length front) rs) (sym is) ∙ drop-append_seam front (mid ++ done) in
-    subst (λ (rs : List Record). All IsClosed rs) (ap (λ (rs : List Record). take (length mid) rs) later ∙ take-append_seam mid done)
-    (All-take IsClosed (length mid) (drop (length front) all) (All-drop IsClosed (length front) all closed))
-
--- the records of a piece that are put before those that were put
-pub kept_step : (p : Record → Bool) (here items rest done : List Record) → here ≡ items → filter p here ++ (filter p rest ++ done) ≡ filter p (items ++ rest) ++ done
-kept_step p here items rest done is =
-    ap (λ (rs : List Record). filter p rs ++ (filter p rest ++ done)) is
-    ∙ sym (append_assoc (filter p items) (filter p rest) done)
-    ∙ ap (λ (rs : List Record). rs ++ done) (sym (filter-append p items rest))
+-- the records of a whole base are put before no others
+pub built_all : (b : TimetableBuilder) (rs : List Record) → IsBuilt b (rs ++ []) → IsBuilt b rs
+built_all b rs = subst (λ (done : List Record). IsBuilt b done) (append-nil rs)

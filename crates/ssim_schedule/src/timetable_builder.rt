@@ -2,7 +2,7 @@
 //! before its leg.
 
 ghost use Rattle.std.specs.Prelude.{◌≡◌, ◌∷◌, ◌++◌, [], List, IfOk, OnOk, Some, filter};
-ghost use Rattle.std.specs.List.{All, flat_map};
+ghost use Rattle.std.specs.List.{All};
 ghost use Rattle.ssim_values.specs.Flight.{FlightNumber, IsFlight};
 ghost use Rattle.ssim_periods.specs.Days.{each_day};
 ghost use Rattle.ssim_records.specs.declared.record.Record.{Record};
@@ -34,6 +34,9 @@ const LEAST: usize = 32;
 // flight, if `LEAST` or more were made.
 const FEW: usize = 256;
 
+// The number of records that are freed together.
+const PART: usize = 1_024;
+
 /// The timetable of some records at the end of a base, and the tails whose leg record is not among
 /// them.
 #[derive(Drop)]
@@ -55,7 +58,9 @@ impl Schedule {
         // A cut is the first day of a leg record of the flight, or the day after its last.
         ensures cuts { IfOk result (λ s. (g : FlightNumber) → IsFlight g → AreAtPoints (cuts_in s g) g base.now.records) }
     {
-        let mut table = timetable(base.allocator(), base.records())?;
+        let mut building = TimetableBuilder::new(base.allocator())?;
+        building.put_all(base.records())?;
+        let mut table = building.into_table()?;
         table.share_where(base.flights(), FEW)?;
         Ok(Schedule { table })
     }
@@ -67,8 +72,9 @@ impl Schedule {
     {
         let alloc = data_set.allocator();
         let set = FlightSet::of(alloc, flights)?;
-        let (pieces, last) = data_set.pieces();
-        let table = timetable_of(alloc, &set, pieces, last)?;
+        let mut building = TimetableBuilder::new(alloc)?;
+        building.put_those_of(&set, data_set.records())?;
+        let table = building.into_table()?;
         Ok(Schedule { table })
     }
 
@@ -80,68 +86,13 @@ impl Schedule {
         ensures exists { (frame : Frame) × HasFrame frame data_set }
     {
         let frame = data_set.frame().copy();
-        let table = table_of(data_set)?;
-        let schedule = Schedule { table };
-        Ok((schedule, frame))
+        let mut building = TimetableBuilder::new(data_set.allocator())?;
+        let (records, flights) = data_set.into_parts();
+        building.put_list(records)?;
+        let mut table = building.into_table()?;
+        table.share_where(&flights, FEW)?;
+        Ok((Schedule { table }, frame))
     }
-}
-
-/// The timetable of a data set, whose records are freed while it is made.
-fn table_of(data_set: DataSet) -> Result<FlightBlocks, Memory>
-    ensures { IfOk result (λ s. (g : FlightNumber) → IsFlight g → days_in s g ≡ days_of data_set g) }
-{
-    let alloc = data_set.allocator();
-    let (pieces, flights) = data_set.into_parts()?;
-    let mut table = timetable_from(alloc, pieces)?;
-    table.share_where(&flights, FEW)?;
-    Ok(table)
-}
-
-/// The timetable of records.
-fn timetable(alloc: Global, records: &[Record]) -> Result<FlightBlocks, Memory>
-    requires closed { All IsClosed records.now }
-    ensures days { IfOk result (λ s. (g : FlightNumber) → IsFlight g → days_in s g ≡ days_of records.now g) }
-    ensures cuts { IfOk result (λ s. (g : FlightNumber) → IsFlight g → AreAtPoints (cuts_in s g) g records.now) }
-{
-    let mut building = TimetableBuilder::new(alloc)?;
-    building.put_all(records)?;
-    building.put_group(None)?;
-    let table = building.table.into_blocks()?;
-    Ok(table)
-}
-
-/// The timetable of those records in pieces that are of a flight of a set.
-fn timetable_of(
-    alloc: Global,
-    flights: &FlightSet,
-    pieces: &[Vec<Record>],
-    last: &[Record],
-) -> Result<FlightBlocks, Memory>
-    requires { All IsClosed (flat_map (λ piece. piece.items) pieces.now ++ last.now) }
-    ensures { IfOk result (λ s. (g : FlightNumber) → IsFlight g → days_in s g ≡ days_of (filter (is_record_of (is_marked flights.now.marks.items)) (flat_map (λ piece. piece.items) pieces.now ++ last.now)) g) }
-{
-    let mut building = TimetableBuilder::new(alloc)?;
-    building.put_those_of(flights, last)?;
-    building.put_pieces_of(flights, pieces)?;
-    building.put_group(None)?;
-    let table = building.table.into_blocks()?;
-    Ok(table)
-}
-
-/// The timetable of records in pieces. Each piece is freed as soon as its records are put into the
-/// timetable, so the two never take the memory of both.
-fn timetable_from(alloc: Global, pieces: Vec<Vec<Record>>) -> Result<FlightBlocks, Memory>
-    requires closed { All IsClosed (flat_map (λ piece. piece.items) pieces.items) }
-    ensures { IfOk result (λ s. (g : FlightNumber) → IsFlight g → days_in s g ≡ days_of (flat_map (λ piece. piece.items) pieces.items) g) }
-{
-    let mut building = TimetableBuilder::new(alloc)?;
-    let mut left = pieces;
-    while let Some(piece) = left.pop() {
-        building.put_all(&piece)?;
-    }
-    building.put_group(None)?;
-    let table = building.table.into_blocks()?;
-    Ok(table)
 }
 
 impl TimetableBuilder {
@@ -189,17 +140,32 @@ impl TimetableBuilder {
         Ok(())
     }
 
-    /// Does what `put_those_of` does for records in pieces, from the last piece to the first.
-    fn put_pieces_of(&mut self, flights: &FlightSet, pieces: &[Vec<Record>]) -> Result<(), Memory>
-        requires { All IsClosed (flat_map (λ piece. piece.items) pieces.now) }
-        ensures { OnOk result ((done : List Record) → IsBuilt self.old done → IsBuilt self.new (filter (is_record_of (is_marked flights.now.marks.items)) (flat_map (λ piece. piece.items) pieces.now) ++ done)) }
+    /// Adds the records of a list before the others, from the last to the first, and frees each part
+    /// of the list once it is added. So the timetable and the list never take the memory of both.
+    fn put_list(&mut self, records: Vec<Record>) -> Result<(), Memory>
+        requires { All IsClosed records.items }
+        ensures { OnOk result ((done : List Record) → IsBuilt self.old done → IsBuilt self.new (records.items ++ done)) }
     {
-        let mut place = pieces.len();
-        while place > 0 {
-            place -= 1;
-            self.put_those_of(flights, &pieces[place])?;
+        let mut left = records;
+        while !left.is_empty() {
+            let place = left.len().saturating_sub(PART);
+            let (_, last) = left.split_at(place);
+            self.put_all(last)?;
+            left.truncate(place);
+            left.shrink_to_fit();
         }
         Ok(())
+    }
+
+    /// The timetable of the records that were added.
+    fn into_table(self) -> Result<FlightBlocks, Memory>
+        ensures days { IfOk result (λ table. (done : List Record) → IsBuilt self done → (g : FlightNumber) → IsFlight g → days_in table g ≡ days_of done g) }
+        ensures cuts { IfOk result (λ table. (done : List Record) → IsBuilt self done → (g : FlightNumber) → IsFlight g → AreAtPoints (cuts_in table g) g done) }
+    {
+        let mut building = self;
+        building.put_group(None)?;
+        let table = building.table.into_blocks()?;
+        Ok(table)
     }
 
     /// Adds a record before the others.

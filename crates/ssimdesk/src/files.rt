@@ -13,6 +13,9 @@ use std::rt::Files;
 /// How many bytes are read at once.
 const ROOM: usize = 65_536;
 
+/// How much larger the parts of a file are than those of the file before.
+const MORE: usize = 4_096;
+
 /// The files of the system. The name `-` is the standard input, and nothing is kept under it.
 #[derive(Drop)]
 pub struct FileStore<'r, R> {
@@ -20,12 +23,21 @@ pub struct FileStore<'r, R> {
     alloc: Global,
     /// Bytes pass through it as they are read.
     chunk: Vec<u8>,
+    /// How much larger the parts of the next file are than the least size. The C library takes large
+    /// blocks from the system, and gives each back when it is freed; but once it has freed one, it
+    /// keeps those that are not larger. So the parts of each file are larger than those before.
+    more: usize,
 }
 
 impl<'r, R> FileStore<'r, R> {
     pub fn new(rt: &'r R, alloc: Global) -> Result<Self, AllocError> {
         let chunk = vec![in alloc; 0; ROOM]?;
-        Ok(FileStore { rt, alloc, chunk })
+        Ok(FileStore {
+            rt,
+            alloc,
+            chunk,
+            more: 0,
+        })
     }
 }
 
@@ -47,11 +59,13 @@ impl<R: Files + Input> Store for FileStore<'_, R> {
     }
 
     fn load_parts(&mut self, alloc: Global, name: &str, limit: u64) -> Result<Parts, StoreFault> {
+        let more = self.more;
+        self.more = more.saturating_add(MORE);
         if name == "-" {
-            return read_parts_within(alloc, self.rt.reader(), &mut self.chunk, limit);
+            return read_parts_within(alloc, self.rt.reader(), &mut self.chunk, more, limit);
         }
         match fs::open(self.rt, name) {
-            Ok(file) => read_parts_within(alloc, file, &mut self.chunk, limit),
+            Ok(file) => read_parts_within(alloc, file, &mut self.chunk, more, limit),
             Err(error) => Err(fault_of(&error)),
         }
     }

@@ -8,14 +8,8 @@ use ssim_records::Parts;
 use std::alloc::Global;
 use std::io::{ErrorKind, Read};
 
-/// The size of a part of a file.
+/// The least size of a part of a file.
 const PART: usize = 1_048_576;
-
-/// The bytes that a block is filled with at a time.
-const CHUNK: usize = 4_096;
-
-/// This number of chunks is larger than a part of a file.
-const CHUNKS: usize = 270;
 
 /// Reads bytes after those that are there, through `chunk`, until there are `most` of them or the
 /// reader ends.
@@ -71,22 +65,25 @@ pub(crate) fn read_within<R: Read + Drop>(
     Ok(bytes)
 }
 
-/// All bytes of the reader in parts, if they are at most `limit`.
+/// All bytes of the reader, if they are at most `limit`, in parts that are `more` bytes larger than
+/// the least size.
 pub(crate) fn read_parts_within<R: Read + Drop>(
     alloc: Global,
     mut reader: R,
     chunk: &mut [u8],
+    more: usize,
     limit: u64,
 ) -> Result<Parts, StoreFault>
     ensures { IfOk result (λ parts. length parts ≤ limit) }
 {
+    let size = PART.saturating_add(more);
     let mut parts = Parts::new(alloc);
     let mut left = limit;
     loop {
-        let Ok(mut part) = Vec::with_capacity(alloc, PART) else {
+        let Ok(mut part) = Vec::with_capacity(alloc, size) else {
             return Err(StoreFault::Memory);
         };
-        fill(&mut reader, chunk, &mut part, PART)?;
+        fill(&mut reader, chunk, &mut part, size)?;
         let count = part.len();
         if count as u64 > left {
             return Err(StoreFault::Fault);
@@ -95,28 +92,8 @@ pub(crate) fn read_parts_within<R: Read + Drop>(
         if parts.push(part).is_err() {
             return Err(StoreFault::Memory);
         }
-        if count < PART {
+        if count < size {
             return Ok(parts);
-        }
-        if parts.len() == PART {
-            keep_parts_in_the_heap(alloc);
-        }
-    }
-}
-
-/// Takes one block that is larger than a part of a file, and frees it. The C library takes blocks
-/// of 128 KiB and more from the system, and gives each back when it is freed, until a larger one
-/// was freed: from then on blocks up to that size stay with the program. What is built from the
-/// parts then uses the memory that they leave, and no new memory is asked for, which would have to
-/// be cleared first.
-///
-/// The block grows while it is filled, since the compiler removes one that is only taken and freed.
-/// If there is no memory for it, reading only takes longer.
-fn keep_parts_in_the_heap(alloc: Global) {
-    let mut block: Vec<u8> = Vec::new(alloc);
-    for _ in 0..CHUNKS {
-        if block.extend_from_slice(&[0; CHUNK]).is_err() {
-            return;
         }
     }
 }

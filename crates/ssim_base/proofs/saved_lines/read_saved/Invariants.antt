@@ -3,7 +3,7 @@
 use Rattle.std.proofs.Common.{◌≡◌, ◌≤◌, ◌-◌, ℕ, List, length}
 use Rattle.ssim_records.specs.declared.record.Record.{Record}
 use Rattle.ssim_base.specs.Acceptance.{HasAccepted}
-use Rattle.ssim_base.specs.AcceptedRecords.{InPieces, keeps}
+use Rattle.ssim_base.specs.AcceptedRecords.{InList, keeps}
 use Rattle.ssim_base.specs.declared.acceptance.Acceptance.{Acceptance}
 use Rattle.ssim_base.proofs.SavedLines.{IsLeft}
 use Rattle.ssim_base.proofs.saved_lines.read_saved.Given as goal
@@ -12,7 +12,7 @@ pub record Goes (bytes rest : List ℕ) (count done : ℕ) (kept : Acceptance) :
   pub earlier : List Record
   pub is_kept : HasAccepted kept earlier
   pub is_left : IsLeft bytes rest count earlier
-  pub keeps_is : keeps kept.records ≡ InPieces
+  pub keeps_is : keeps kept.records ≡ InList
   pub number : length earlier ≡ done
   pub few : done ≤ count
   pub within : length rest ≤ length bytes

@@ -11,7 +11,7 @@ use Rattle.ssim_held.proofs.desk_file_writer.put_desk.Goals as goal
 pub returns-in_err-put_counted-clause-err : goal.returns-in_err-put_counted-clause-err
 returns-in_err-put_counted-clause-err g c =
     let x1 = counted (codes "SSIMDESK") 2 in
-    let x2 = records_part c.args.records in
+    let x2 = records_part c.args.records.now in
     let x3 = rows_part c.args.rows.now in
     let x4 = texts_part c.args.held.now in
     let h0 = c.new-block.result in
@@ -22,7 +22,7 @@ returns-in_err-put_counted-clause-err g c =
 pub returns-in_err-put_records-clause-err : goal.returns-in_err-put_records-clause-err
 returns-in_err-put_records-clause-err g c =
     let x1 = counted (codes "SSIMDESK") 2 in
-    let x2 = records_part c.args.records in
+    let x2 = records_part c.args.records.now in
     let x3 = rows_part c.args.rows.now in
     let x4 = texts_part c.args.held.now in
     let h0 = c.new-block.result in
@@ -35,7 +35,7 @@ returns-in_err-put_records-clause-err g c =
 pub returns-in_err-put_rows-clause-err : goal.returns-in_err-put_rows-clause-err
 returns-in_err-put_rows-clause-err g c =
     let x1 = counted (codes "SSIMDESK") 2 in
-    let x2 = records_part c.args.records in
+    let x2 = records_part c.args.records.now in
     let x3 = rows_part c.args.rows.now in
     let x4 = texts_part c.args.held.now in
     let h0 = c.new-block.result in
@@ -51,7 +51,7 @@ returns-in_err-put_rows-clause-err g c =
 pub returns-in_err-put_texts-clause-err : goal.returns-in_err-put_texts-clause-err
 returns-in_err-put_texts-clause-err g c =
     let x1 = counted (codes "SSIMDESK") 2 in
-    let x2 = records_part c.args.records in
+    let x2 = records_part c.args.records.now in
     let x3 = rows_part c.args.rows.now in
     let x4 = texts_part c.args.held.now in
     let h0 = c.new-block.result in
@@ -70,7 +70,7 @@ returns-in_err-put_texts-clause-err g c =
 pub returns-in_err-put_bytes-clause-err : goal.returns-in_err-put_bytes-clause-err
 returns-in_err-put_bytes-clause-err g c =
     let x1 = counted (codes "SSIMDESK") 2 in
-    let x2 = records_part c.args.records in
+    let x2 = records_part c.args.records.now in
     let x3 = rows_part c.args.rows.now in
     let x4 = texts_part c.args.held.now in
     let h0 = c.new-block.result in
@@ -91,7 +91,7 @@ returns-in_err-put_bytes-clause-err g c =
 pub returns-clause-ok : goal.returns-clause-ok
 returns-clause-ok g c =
     let x1 = counted (codes "SSIMDESK") 2 in
-    let x2 = records_part c.args.records in
+    let x2 = records_part c.args.records.now in
     let x3 = rows_part c.args.rows.now in
     let x4 = texts_part c.args.held.now in
     let h0 = c.new-block.result in
@@ -114,7 +114,7 @@ returns-clause-ok g c =
 pub returns-clause-err : goal.returns-clause-err
 returns-clause-err g c =
     let x1 = counted (codes "SSIMDESK") 2 in
-    let x2 = records_part c.args.records in
+    let x2 = records_part c.args.records.now in
     let x3 = rows_part c.args.rows.now in
     let x4 = texts_part c.args.held.now in
     let h0 = c.new-block.result in

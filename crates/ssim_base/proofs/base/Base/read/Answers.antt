@@ -13,4 +13,4 @@ returns-in_err-data_set-clause-read g c =
 
 pub returns-clause-read : goal.returns-clause-read
 returns-clause-read g c =
-    subst (λ (rs : List Record). IsReadOf c.args.limit (g.R.Source.left c.args.reader.now) (told_of rs c.in_ok-data_set.notes.items)) (sym c.in_ok-base.ensures.records) c.in_ok-data_set.ensures.read
+    subst (λ (rs : List Record). IsReadOf c.args.limit (g.R.Source.left c.args.reader.now) (told_of rs c.in_ok-data_set.notes.items)) (sym c.of-base.ensures.records) c.in_ok-data_set.ensures.read

@@ -8,4 +8,4 @@ pub returns-clause-frame : goal.returns-clause-frame
 returns-clause-frame c = subst (HasFrame c.self.inside.frame) c.self.view_is c.self.invariant.2
 
 pub returns-clause-exports : goal.returns-clause-exports
-returns-clause-exports c = subst CanExport c.self.view_is (exportable c.self.inside.records c.self.invariant.0)
+returns-clause-exports c = subst CanExport c.self.view_is (exportable c.self.inside.records.items c.self.invariant.0)

@@ -1,11 +1,25 @@
 -- The timetable of a data set is one, and the table has its days.
-use Rattle.ssim_schedule.specs.Schedule.{days_in}
+use Rattle.std.proofs.Common.{[], List, ap, ◌∙◌}
+use Rattle.ssim_records.specs.declared.record.Record.{Record}
+use Rattle.ssim_schedule.specs.Schedule.{Table, days_in}
 use Rattle.ssim_base.specs.Timetable.{days_of}
 use Rattle.ssim_schedule.proofs.InOrder.{timetable-same}
+use Rattle.ssim_schedule.proofs.TimetableBuilderLemmas.{built_all}
 use Rattle.ssim_schedule.proofs.schedule.Schedule.of_data_set.Goals as goal
 
-pub invariant_of-schedule : goal.invariant_of-schedule
-invariant_of-schedule c = timetable-same (days_in c.in_ok-table.table) (days_of c.args.data_set) c.in_ok-table.ensures c.frame.ensures.exports.timetable
+pub returns-clause-days : goal.returns-clause-days
+returns-clause-days c = λ g is.
+    let rs = c.into_parts-records.result.0.items in
+    let built = built_all c.put_list.new.self rs (c.in_ok-put_list.ensures [] c.in_ok-building.ensures) in
+    ap (λ (t : Table). days_in t g) c.share_where.ensures ∙ c.in_ok-table.ensures.days rs built g is ∙ ap (λ (xs : List Record). days_of xs g) c.into_parts-records.ensures.value
+
+pub invariant_of-result : goal.invariant_of-result
+invariant_of-result c =
+    let rs = c.into_parts-records.result.0.items in
+    let built = built_all c.put_list.new.self rs (c.in_ok-put_list.ensures [] c.in_ok-building.ensures) in
+    timetable-same (days_in c.share_where.new.self) (days_of c.args.data_set)
+    (λ g is. ap (λ (t : Table). days_in t g) c.share_where.ensures ∙ c.in_ok-table.ensures.days rs built g is ∙ ap (λ (xs : List Record). days_of xs g) c.into_parts-records.ensures.value)
+    c.frame.ensures.exports.timetable
 
 pub returns-clause-exists : goal.returns-clause-exists
 returns-clause-exists c = (c.frame.ensures.exports.frame, c.frame.ensures.exports.has_frame)

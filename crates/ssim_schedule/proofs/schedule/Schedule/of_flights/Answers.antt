@@ -1,28 +1,37 @@
 -- The records are those of the data set, and the marks those of the flights.
-use Rattle.std.proofs.Common.{List, sym, subst, ◌∙◌}
-use Rattle.std.specs.List.{All}
+use Rattle.std.proofs.Common.{[], List, ap, subst, ◌∙◌}
+use Rattle.std.specs.List.{filter}
 use Rattle.ssim_periods.specs.Days.{each_day}
 use Rattle.ssim_records.specs.declared.record.Record.{Record}
-use Rattle.ssim_base.specs.Closed.{IsClosed}
+use Rattle.ssim_schedule.specs.FlightSet.{is_marked, is_record_of}
 use Rattle.ssim_schedule.specs.Schedule.{days_in}
-use Rattle.ssim_base.specs.Timetable.{itinerary_among}
+use Rattle.ssim_base.specs.Timetable.{days_of, itinerary_among}
+use Rattle.ssim_base.specs.ReadBack.{AreInOrder}
 use Rattle.ssim_base.proofs.Calendars.{length-each_day}
 use Rattle.ssim_schedule.proofs.FlightSets.{days_kept, order_among}
 use Rattle.ssim_schedule.proofs.InOrder.{timetable-same}
+use Rattle.ssim_schedule.proofs.TimetableBuilderLemmas.{built_all}
 use Rattle.ssim_schedule.proofs.schedule.Schedule.of_flights.Goals as goal
-
-pub timetable_of-requires : goal.timetable_of-requires
-timetable_of-requires c = subst (λ (rs : List Record). All IsClosed rs) (sym c.pieces.ensures.value) c.pieces.ensures.closed
-
-pub invariant_of-result : goal.invariant_of-result
-invariant_of-result c =
-    let rs = c.args.data_set.now in
-    let flights = c.args.flights.now in
-    timetable-same (days_in c.in_ok-table.table) (λ g. each_day (itinerary_among flights rs g))
-    (λ g is. rw c.pieces.ensures.value at c.in_ok-table.ensures g is ∙ days_kept c.in_ok-set.set.marks.items flights rs g (c.in_ok-set.ensures g is))
-    (record { each_day = λ g is. length-each_day (itinerary_among flights rs g); rising = order_among flights rs c.pieces.ensures.in_order })
 
 pub returns : goal.returns
 returns c = λ g is.
-    rw c.pieces.ensures.value at c.in_ok-table.ensures g is
+    let p = is_record_of (is_marked c.in_ok-set.set.marks.items) in
+    let kept = filter p c.records.result.now in
+    let built = built_all c.put_those_of.new.self kept (c.in_ok-put_those_of.ensures [] c.in_ok-building.ensures) in
+    c.in_ok-table.ensures.days kept built g is
+    ∙ ap (λ (rs : List Record). days_of (filter p rs) g) c.records.ensures.value
     ∙ days_kept c.in_ok-set.set.marks.items c.args.flights.now c.args.data_set.now g (c.in_ok-set.ensures g is)
+
+pub invariant_of-result : goal.invariant_of-result
+invariant_of-result c =
+    let p = is_record_of (is_marked c.in_ok-set.set.marks.items) in
+    let rs = c.args.data_set.now in
+    let flights = c.args.flights.now in
+    let kept = filter p c.records.result.now in
+    let built = built_all c.put_those_of.new.self kept (c.in_ok-put_those_of.ensures [] c.in_ok-building.ensures) in
+    timetable-same (days_in c.in_ok-table.table) (λ g. each_day (itinerary_among flights rs g))
+    (λ g is. c.in_ok-table.ensures.days kept built g is ∙ ap (λ (xs : List Record). days_of (filter p xs) g) c.records.ensures.value ∙ days_kept c.in_ok-set.set.marks.items flights rs g (c.in_ok-set.ensures g is))
+    (record {
+      each_day = λ g is. length-each_day (itinerary_among flights rs g);
+      rising = order_among flights rs (subst (λ (xs : List Record). AreInOrder (days_of xs)) c.records.ensures.value c.records.ensures.in_order);
+    })
