@@ -1,5 +1,5 @@
--- One more record after the accepted ones: what its leg adds to the table of leg records, and that
--- it is allowed.
+-- One more record before those that are kept: what its leg adds to the table of leg records, and that it stands.
+use Rattle.ssim_periods.specs.CommonDays.{have_common_date, meet}
 use Rattle.std.proofs.Common.{◌≡◌, ◌≢◌, ℕ, Bool, true, false, ◌&&◌, ◌||◌, nat_eq, nat_lt, List, [], ◌∷◌, Some, None, unwrap_or, refl, sym, ap, subst, ◌∙◌, arith}
 use Rattle.std.proofs.lemmas.Bool.Decides.{nat_tests}
 use Rattle.std.specs.List.{list_any, range_with_len}
@@ -13,10 +13,9 @@ use Rattle.ssim_records.specs.Segment.{SegmentFields}
 use Rattle.ssim_records.specs.Trailer.{TrailerFields}
 use Rattle.ssim_records.specs.declared.record.Record.{Record}
 use Rattle.ssim_records.specs.declared.record.Record.TheVariants.{Header, Carrier, Leg, Segment, Trailer}
-use Rattle.ssim_base.specs.Base.{airline_of, carrier_end, closed, end_of, is_leg_named, is_overflow, is_rate, is_continued, is_trailer, kept, meet, overlaps, refusal_at}
+use Rattle.ssim_base.specs.Base.{airline_of, carrier_end, closed, end_of, is_leg_named, is_overflow, is_rate, is_continued, is_trailer, kept, overlaps, refusal_at}
 use Rattle.ssim_base.specs.Base as base
 use Rattle.ssim_base.specs.BaseSeen.{is_leg_of}
-use Rattle.ssim_base.specs.Dates.{have_common_date}
 use Rattle.ssim_base.specs.Acceptance.{AreLegs, Follows, HasAccepted, IsExpectedAfter, LegStands, Stood, gives}
 use Rattle.ssim_base.specs.AcceptedRecords.{AddsRecord}
 use Rattle.ssim_base.specs.LegTable.{AddsLegAt, has_legs, legs_at, names_leg, uses_date}

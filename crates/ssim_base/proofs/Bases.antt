@@ -1,6 +1,6 @@
--- A base has a frame, and gives a timetable, that can be exported: among valid records each later
--- leg record of a flight and day has another sequence, so the legs of a day have rising sequences;
--- and the order of the types leaves no other form than that with a frame.
+-- A base has a frame, and gives a timetable, that can be exported: behind records that stand, each later leg record of a flight and day has
+-- another sequence, so the legs of a day have rising sequences; and the order of the types leaves no other form than that with a frame.
+use Rattle.ssim_periods.specs.CommonDays.{meet}
 use Rattle.std.proofs.Common.{◌≡◌, ℕ, zero, suc, ◌+◌, ◌<◌, ◌≤◌, Bool, true, false, not, ◌&&◌, ◌||◌, nat_eq, nat_lt, if◌then◌else◌, List, [], ◌∷◌, ◌++◌, map, Option, Some, None, Ok, refl, sym, ap, subst, ◌∙◌, arith}
 use Rattle.std.proofs.lemmas.Bool.Decides.{nat_tests}
 use Rattle.std.proofs.lemmas.List.Elements.{recursion_from_All, All-from_recursion}
@@ -22,7 +22,7 @@ use Rattle.ssim_records.specs.declared.end_code.EndCode.{EndCode}
 use Rattle.ssim_records.specs.declared.end_code.EndCode.TheVariants.{Continuation, End}
 use Rattle.ssim_base.specs.Timetable.{LegValue, Legs, same_flight, same_name, tails_of, leg_of, period_of, is_on, placed, itinerary, Above}
 use Rattle.ssim_base.specs.Base as base
-use Rattle.ssim_base.specs.Base.{refuse_if, or_else, first_of, airline_of, carrier_end, closed, is_trailer, meet, overlaps, is_overflow, is_rate, is_continued, place_refusal, own_refusal, refusal_at, missing, kept, kept_all, Ending, Done, Broken, at_record, at_end, first_refusal, notes_of, data_set}
+use Rattle.ssim_base.specs.Base.{refuse_if, or_else, first_of, airline_of, carrier_end, closed, is_trailer, overlaps, is_overflow, is_rate, is_continued, place_refusal, own_refusal, refusal_at, missing, kept, kept_all, Ending, Done, Broken, at_record, at_end, first_refusal, notes_of, data_set}
 use Rattle.ssim_base.specs.declared.fault.BaseFault.{BaseFault}
 use Rattle.ssim_base.specs.declared.fault.BaseRefusal.{BaseRefusal}
 use Rattle.ssim_base.specs.declared.fault.BaseRefusal.TheVariants as refused

@@ -1,5 +1,6 @@
--- No record of an export is refused. "These records are valid" is stated with what follows them, so
--- that facts on the records before them travel through legs, pieces and flights.
+-- No record of an export is refused. "These records stand" is said with what follows them, so that facts on what stands before
+-- travel through legs, pieces and flights.
+use Rattle.ssim_periods.specs.CommonDays.{meet}
 use Rattle.std.proofs.Common.{subst, ◌≡◌, ℕ, zero, suc, ◌+◌, ◌<◌, ◌≤◌, Bool, true, false, ◌&&◌, nat_eq, nat_lt, if◌then◌else◌, List, [], ◌∷◌, ◌++◌, map, length, slice_index, Some, None, ◌⊎◌, inl, inr, refl, sym, ap, ◌∙◌, arith}
 use Rattle.std.proofs.lemmas.Bool.Decides.{nat_tests}
 use Rattle.std.specs.List.{flat_map, range_with_len, list_any, All}
@@ -14,7 +15,7 @@ use Rattle.ssim_records.specs.declared.record.Record.{Record}
 use Rattle.ssim_records.specs.declared.record.Record.TheVariants.{Header, Carrier, Leg, Segment, Trailer}
 use Rattle.ssim_records.specs.declared.end_code.EndCode.TheVariants.{End}
 use Rattle.ssim_base.specs.Timetable.{Legs, Days, same_flight, is_on, period_of, on_day, Above}
-use Rattle.ssim_base.specs.Base.{airline_of, is_trailer, meet, overlaps, is_leg_named, refusal_at, missing, Done, at_record, first_refusal, kept}
+use Rattle.ssim_base.specs.Base.{airline_of, is_trailer, overlaps, is_leg_named, refusal_at, missing, Done, at_record, first_refusal, kept}
 use Rattle.ssim_base.specs.Export.{Piece, same_itinerary, pieces, tail_record, leg_records, piece_records, pieces_records, flight_records, flights_records, flight_count, flight_at, all_flights, with_serial, numbered, sections, export_refusal}
 use Rattle.ssim_base.specs.ReadBack.{IsTimetable, records_of, Stands}
 use Rattle.ssim_base.proofs.Places.{same-self, same-turned, same-places, flight-is}

@@ -1,10 +1,10 @@
 -- The base of a data set, and the first invalid record.
 use Rattle.std.specs.Prelude.{ℕ, ◌+◌, ◌-◌, Bool, true, false, not, ◌&&◌, ◌||◌, ◌==◌, nat_eq, nat_lt, min, if◌then◌else◌, List, [], ◌∷◌, ◌++◌, map, Option, Some, None, Result, Ok, Err, unwrap_or}
-use Rattle.std.specs.List.{list_any, range_with_len}
+use Rattle.std.specs.List.{list_any}
 use Rattle.std.specs.Str.{bytes_eq}
 use Rattle.ssim_values.specs.Calendar.{day_limit}
 use Rattle.ssim_values.specs.Period.{DayRange}
-use Rattle.ssim_periods.specs.Calendar.{day_count, holds}
+use Rattle.ssim_periods.specs.CommonDays.{meet}
 use Rattle.ssim_records.specs.Carrier.{CarrierFields}
 use Rattle.ssim_records.specs.Leg.{LegFields, Name}
 use Rattle.ssim_records.specs.Record.{fault_number, serial_of}
@@ -72,10 +72,6 @@ is_trailer (Carrier r) = false
 is_trailer (Leg r) = false
 is_trailer (Segment r) = false
 is_trailer (Trailer r) = true
-
--- whether two periods have a day in common
-abbrev pub meet : DayRange → DayRange → Bool
-meet p q = list_any (λ day. holds p day && holds q day) (range_with_len 0 day_count)
 
 -- whether a record gives a leg of this flight and sequence on a date of this period
 abbrev pub overlaps : Name → DayRange → Record → Bool

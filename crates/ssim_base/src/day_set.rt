@@ -1,9 +1,11 @@
 //! A set of dates, with a bit for each date of the calendar.
 
+ghost use Rattle.ssim_periods.specs.CommonDays.{have_common_date};
 ghost use Rattle.std.specs.Prelude.{◌≡◌, ℕ, ◌<◌, ◌||◌, false, nat_eq, vec_len, IfOk};
 ghost use Rattle.ssim_periods.specs.Calendar.{holds};
-ghost use Rattle.ssim_base.specs.Dates.{has_date, have_common_date};
+ghost use Rattle.ssim_base.specs.Dates.{has_date};
 
+use ssim_periods::weekday_of;
 use ssim_values::{Memory, Period};
 use std::alloc::Global;
 
@@ -37,7 +39,8 @@ impl DaySet {
         let weekdays = period.mask().days();
         let mut met = false;
         for day in first..end {
-            if weekdays[(day + 5) % 7] {
+            let weekday = weekday_of(day as u32);
+            if weekdays[weekday] {
                 met |= self.add(day);
             }
         }

@@ -1,8 +1,8 @@
 //! The leg records of one leg sequence of a flight.
 
+ghost use Rattle.ssim_periods.specs.CommonDays.{have_common_date};
 ghost use Rattle.std.specs.Prelude.{◌≡◌, ℕ, ◌<◌, ◌||◌, false, nat_eq, OnOk, IfOk};
 ghost use Rattle.ssim_periods.specs.Calendar.{holds};
-ghost use Rattle.ssim_base.specs.Dates.{have_common_date};
 ghost use Rattle.ssim_base.specs.LegTable.{has_variation, is_used};
 
 use crate::used_dates::UsedDates;

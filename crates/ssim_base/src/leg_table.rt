@@ -1,9 +1,9 @@
 //! The leg records of a data set, flight by flight.
 
+ghost use Rattle.ssim_periods.specs.CommonDays.{have_common_date};
 ghost use Rattle.std.specs.Prelude.{◌≡◌, ◌≢◌, ℕ, ◌+◌, ◌*◌, ◌/◌, ◌%◌, ◌<◌, ◌++◌, [], Bool, length, OnOk, IfOk, slice_get};
 ghost use Rattle.ssim_values.specs.Flight.{IsFlight};
 ghost use Rattle.ssim_periods.specs.Calendar.{holds};
-ghost use Rattle.ssim_base.specs.Dates.{have_common_date};
 ghost use Rattle.ssim_base.specs.Export.{flight_at};
 ghost use Rattle.ssim_base.specs.LegTable.{AddsLeg, AddsLegAt, flights_in, flights_left, flights_of, has_legs, legs_at, legs_in, names_leg, uses_date};
 ghost use Rattle.ssim_base.specs.ReadBack.{place_of};

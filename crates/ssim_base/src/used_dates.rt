@@ -3,11 +3,12 @@
 ghost use Rattle.std.specs.Prelude.{◌≡◌, ℕ, ◌<◌, ◌≤◌, ◌||◌, ◌∷◌, [], true, false, vec_len, OnOk, IfOk};
 ghost use Rattle.std.specs.List.{list_any};
 ghost use Rattle.ssim_periods.specs.Calendar.{holds, slot};
-ghost use Rattle.ssim_base.specs.Base.{meet};
-ghost use Rattle.ssim_base.specs.Dates.{has_date, have_common_date};
+ghost use Rattle.ssim_periods.specs.CommonDays.{have_common_date, meet};
+ghost use Rattle.ssim_base.specs.Dates.{has_date};
 ghost use Rattle.ssim_base.specs.LegTable.{is_used};
 
 use crate::day_set::DaySet;
+use ssim_periods::meets;
 use ssim_values::{Memory, Period};
 use std::alloc::Global;
 
@@ -125,60 +126,4 @@ fn are_apart(one: &Period, other: &Period) -> bool
     ensures { result ≡ true → meet one.now other.now ≡ false }
 {
     other.last().number() < one.first().number() || one.last().number() < other.first().number()
-}
-
-// Whether two periods have a date in common. Periods that do not lie apart mostly have different
-// weekdays.
-fn meets(one: &Period, other: &Period) -> bool
-    ensures { result ≡ meet one.now other.now }
-{
-    !are_of_other_weekdays(one, other) && meet_on_a_weekday(one, other)
-}
-
-// Whether two periods have no weekday in common. All weekdays are compared without a branch, since
-// the processor would often predict a branch wrongly.
-fn are_of_other_weekdays(one: &Period, other: &Period) -> bool
-    ensures { result ≡ true → meet one.now other.now ≡ false }
-{
-    let days = one.mask().days();
-    let others = other.mask().days();
-    let common = (days[0] & others[0])
-        | (days[1] & others[1])
-        | (days[2] & others[2])
-        | (days[3] & others[3])
-        | (days[4] & others[4])
-        | (days[5] & others[5])
-        | (days[6] & others[6]);
-    !common
-}
-
-// Does what `meets` does, weekday by weekday.
-#[inline(never)]
-fn meet_on_a_weekday(one: &Period, other: &Period) -> bool
-    ensures { result ≡ meet one.now other.now }
-{
-    let first = one.first().number().max(other.first().number()) as usize;
-    let last = one.last().number().min(other.last().number()) as usize;
-    if last < first {
-        return false;
-    }
-    let days = one.mask().days();
-    let other_days = other.mask().days();
-    for weekday in 0..7 {
-        if days[weekday] && other_days[weekday] && next_on(weekday, first) <= last {
-            return true;
-        }
-    }
-    false
-}
-
-// The least day that is not before `from` and has a weekday, from 0 for Monday.
-fn next_on(weekday: usize, from: usize) -> usize
-    requires weekday { weekday < 7 }
-    requires in_calendar { from < 36525 }
-    ensures weekday { slot result ≡ weekday }
-    ensures from { from ≤ result }
-    ensures least { (n : ℕ) → from ≤ n → slot n ≡ weekday → result ≤ n }
-{
-    from + (weekday + 7 - (from + 5) % 7) % 7
 }

@@ -1,7 +1,9 @@
 //! The words on an overlap: the other record, and a date that both have.
 
 use crate::lines::{push_line, push_number, push_shown};
-use crate::record_words::{after_record, first_record, record_at};
+use crate::record_words::{after_record, columns_of, first_record, record_at};
+use ssim_records::Field;
+use ssim_records::leg_fields::{DAYS, FIRST_DAY, FLIGHT_NUMBER, LAST_DAY, LEG_SEQUENCE, SUFFIX};
 use ssim_values::{Day, DayMask, Period};
 use std::alloc::{AllocError, Global};
 
@@ -46,8 +48,14 @@ fn overlap_of<'b>(bytes: &'b [u8], record: &[u8], number: u64) -> Option<(u64, &
 /// Whether two leg records have one spelling of flight and leg sequence.
 fn is_same_leg(one: &[u8], other: &[u8]) -> bool {
     one.first() == Some(&b'3')
-        && one.get(1..9) == other.get(1..9)
-        && one.get(11..13) == other.get(11..13)
+        && columns_of(one, SUFFIX.first, FLIGHT_NUMBER.last)
+            == columns_of(other, SUFFIX.first, FLIGHT_NUMBER.last)
+        && text(one, LEG_SEQUENCE) == text(other, LEG_SEQUENCE)
+}
+
+/// A field of a leg record.
+fn text(record: &[u8], field: Field) -> Option<&[u8]> {
+    columns_of(record, field.first, field.last)
 }
 
 /// The first day that the periods of two leg records have in common. An open end is this day.
@@ -68,19 +76,19 @@ fn common_day(one: &[u8], other: &[u8], end: Day) -> Option<Day> {
 
 /// The period of a leg record.
 fn period_of(record: &[u8], end: Day) -> Option<Period> {
-    let first = day_in(record.get(14..21)?)?;
-    let last = day_in(record.get(21..28)?).unwrap_or(end);
-    let mask = DayMask::parse(record.get(28..35)?).ok()?;
+    let first = day_in(text(record, FIRST_DAY)?)?;
+    let last = day_in(text(record, LAST_DAY)?).unwrap_or(end);
+    let mask = DayMask::parse(text(record, DAYS)?).ok()?;
     Period::new(first, last, mask).ok()
 }
 
 /// The day on which the validity of a carrier record ends: an open end is its start and 730 days,
 /// or 31DEC99.
 fn end_of_validity(carrier: &[u8]) -> Option<Day> {
-    if let Some(end) = day_in(carrier.get(21..28)?) {
+    if let Some(end) = day_in(columns_of(carrier, 22, 28)?) {
         return Some(end);
     }
-    let first = day_in(carrier.get(14..21)?)?.number();
+    let first = day_in(columns_of(carrier, 15, 21)?)?.number();
     if first < 35_794 {
         Day::from_number(first + 730)
     } else {

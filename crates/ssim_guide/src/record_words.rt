@@ -45,7 +45,7 @@ fn push_field(lines: &mut Vec<u8>, record: &[u8], column: usize) -> Result<(), A
 }
 
 /// The columns of a record, counted from 1.
-fn columns_of(record: &[u8], first: usize, last: usize) -> Option<&[u8]> {
+pub(crate) fn columns_of(record: &[u8], first: usize, last: usize) -> Option<&[u8]> {
     if first == 0 {
         return None;
     }

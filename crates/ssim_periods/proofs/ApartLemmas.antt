@@ -22,26 +22,7 @@ use Rattle.ssim_periods.proofs.PieceLaw.{held_on-append, index-past}
 use Rattle.ssim_periods.proofs.RowLemmas.{index-default}
 use Rattle.ssim_periods.proofs.SplitLemmas.{All-push}
 
--- ---- common days
-
-inside : (a b c d x y : Bool) → (a ≡ true → b ≡ true → c ≡ true → d ≡ true → (x && y) ≡ false) → ((a && b) && x) ≡ true → ((c && d) && y) ≡ false
-inside false b c d x y h k = cc
-inside true false c d x y h k = cc
-inside true true false d x y h k = refl
-inside true true true false x y h k = refl
-inside true true true true true y h k = h refl refl refl refl
-inside true true true true false y h k = cc
-
--- two periods do not meet if no weekday of both has a day in both ranges
-pub meet-none : (p q : DayRange) (days other : List Bool) (first last : ℕ) → days ≡ p.days → other ≡ q.days → first ≡ max p.first q.first → last ≡ min p.last q.last
-    → ((n : ℕ) → first ≤ n → n ≤ last → (slice_index_or days (slot n) false && slice_index_or other (slot n) false) ≡ false) → (n : ℕ) → holds p n ≡ true → holds q n ≡ false
-meet-none p q days other first last own its f l none n =
-    inside (nat_le p.first n) (nat_le n p.last) (nat_le q.first n) (nat_le n q.last) (slice_index_or p.days (slot n) false) (slice_index_or q.days (slot n) false) (λ a b c d.
-    let from : first ≤ n = grind (arith, nat_tests) in
-    let to : n ≤ last = grind (arith, nat_tests) in
-    ap (λ ds. slice_index_or ds (slot n) false && slice_index_or q.days (slot n) false) (sym own)
-    ∙ ap (λ ds. slice_index_or days (slot n) false && slice_index_or ds (slot n) false) (sym its)
-    ∙ none n from to)
+-- ---- days of a period
 
 -- the program's test of a day is the definition's
 pub holds-is : (p : DayRange) (n : ℕ) (b : Bool) → (IsTrue b ↔ Holds p n) → b ≡ holds p n

@@ -18,3 +18,4 @@ pub mod ApartLemmas
 pub mod TrimLemmas
 pub mod ListPieces
 pub mod MarkLemmas
+pub mod CommonDayLemmas

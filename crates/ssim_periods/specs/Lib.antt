@@ -9,3 +9,4 @@ pub mod Apart
 pub mod Forms
 pub mod Gather
 pub mod Worked
+pub mod CommonDays

@@ -14,6 +14,7 @@ use crate::entries::{copy_entries, meets_none, rows_of, shared_entries, value_at
 use crate::entry_pieces::covers;
 use crate::range_rows::RangeRows;
 use crate::rows::{is_after_cuts, is_before_cuts, is_last, place_of};
+use crate::weekdays::weekday_of;
 use crate::{Change, Value};
 use ssim_values::{Day, Memory, Period};
 use std::alloc::Global;
@@ -69,7 +70,7 @@ impl<V: Value> ApartPeriods<V> {
         ensures { slice_get self.now.days day ≡ Some result.now }
     {
         let number = day.number();
-        let weekday = (number as usize + 5) % 7;
+        let weekday = weekday_of(number as u32);
         value_at(&self.entries, &self.empty[weekday], day)
     }
 

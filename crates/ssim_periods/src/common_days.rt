@@ -1,33 +1,55 @@
 //! Whether two periods have a day in common.
 ghost use Rattle.std.specs.Prelude.{◌≡◌, ℕ, ◌<◌, ◌≤◌, ◌&&◌, true, false};
-ghost use Rattle.ssim_periods.specs.Calendar.{holds, slot};
+ghost use Rattle.ssim_periods.specs.Calendar.{holds};
+ghost use Rattle.ssim_periods.specs.CommonDays.{meet};
 
+use crate::weekdays::first_on;
 use ssim_values::Period;
 
-// Whether two periods have a day in common.
-pub(crate) fn meets(one: &Period, other: &Period) -> bool
-    ensures { result ≡ false → (n : ℕ) → holds one.now n ≡ true → holds other.now n ≡ false }
+/// Whether two periods have a day in common. Mostly periods that do not lie apart are of other weekdays.
+#[inline(always)]
+pub fn meets(one: &Period, other: &Period) -> bool
+    ensures value { result ≡ meet one.now other.now }
+    ensures none { result ≡ false → (n : ℕ) → holds one.now n ≡ true → holds other.now n ≡ false }
 {
-    let first = one.first().number().max(other.first().number()) as usize;
-    let last = one.last().number().min(other.last().number()) as usize;
+    !are_of_other_weekdays(one, other) && meet_on_a_weekday(one, other)
+}
+
+// Whether two periods have no weekday in common. Every weekday is looked at, since a branch at each would often be predicted wrongly.
+#[inline(always)]
+fn are_of_other_weekdays(one: &Period, other: &Period) -> bool
+    ensures value { result ≡ true → meet one.now other.now ≡ false }
+    ensures none { result ≡ true → (n : ℕ) → holds one.now n ≡ true → holds other.now n ≡ false }
+{
+    let days = one.mask().days();
+    let others = other.mask().days();
+    let common = (days[0] & others[0])
+        | (days[1] & others[1])
+        | (days[2] & others[2])
+        | (days[3] & others[3])
+        | (days[4] & others[4])
+        | (days[5] & others[5])
+        | (days[6] & others[6]);
+    !common
+}
+
+// The same as `meets`, weekday by weekday.
+#[inline(never)]
+fn meet_on_a_weekday(one: &Period, other: &Period) -> bool
+    ensures value { result ≡ meet one.now other.now }
+    ensures none { result ≡ false → (n : ℕ) → holds one.now n ≡ true → holds other.now n ≡ false }
+{
+    let first = one.first().number().max(other.first().number()) as u32;
+    let last = one.last().number().min(other.last().number()) as u32;
     if last < first {
         return false;
     }
     let days = one.mask().days();
     let other_days = other.mask().days();
     for weekday in 0..7 {
-        if days[weekday] && other_days[weekday] && next_on(weekday, first) <= last {
+        if days[weekday] && other_days[weekday] && first_on(weekday as u32, first) <= last {
             return true;
         }
     }
     false
-}
-
-// The least day that is not before `from` and has a weekday, from 0 for Monday.
-fn next_on(weekday: usize, from: usize) -> usize
-    requires weekday { weekday < 7 }
-    requires in_calendar { from < 36525 }
-    ensures least { (n : ℕ) → from ≤ n → slot n ≡ weekday → result ≤ n }
-{
-    from + (weekday + 7 - (from + 5) % 7) % 7
 }

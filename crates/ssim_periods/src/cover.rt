@@ -5,6 +5,7 @@ ghost use Rattle.ssim_periods.specs.Calendar.{slot};
 ghost use Rattle.ssim_periods.specs.Cover.{first_where, last_where, differ};
 
 use crate::Value;
+use crate::weekdays::weekday_of;
 use ssim_values::{Day, DayMask, Period};
 
 // The first day of a range with one row that has the value although its weekday is not one of
@@ -23,7 +24,7 @@ pub(crate) fn unlike_in_row<V: Value>(
 {
     let week = if to - from < 7 { to } else { from + 7 };
     for day in from..week {
-        let weekday = (day as usize + 5) % 7;
+        let weekday = weekday_of(day);
         let has = value.same(&row[weekday]);
         if has != days[weekday] {
             return day;
@@ -41,7 +42,7 @@ pub(crate) fn last_in(days: &[bool; 7], first: u32, after: u32) -> u32
 {
     let mut day = after - 1;
     while first < day {
-        let weekday = (day as usize + 5) % 7;
+        let weekday = weekday_of(day);
         if days[weekday] {
             return day;
         }

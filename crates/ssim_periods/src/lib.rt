@@ -40,8 +40,11 @@ mod rows;
 mod shared;
 mod trim;
 mod value;
+mod weekdays;
 
+pub use common_days::meets;
 pub use periods::Periods;
 pub use periods::pieces::{covers_hold_each_day_once, pieces_hold_each_day_once, worked_pieces};
 pub use ssim_values::Memory;
 pub use value::{Change, Value};
+pub use weekdays::weekday_of;

@@ -10,6 +10,7 @@ mod pieces;
 use crate::count::class_counts;
 use crate::patches::{new_rows, put_period};
 use crate::rows::{copy_row, copy_rows, place_of, row_for_cut};
+use crate::weekdays::weekday_of;
 use crate::{Change, Value};
 use ssim_values::{Day, Memory, Period};
 use std::alloc::Global;
@@ -66,7 +67,7 @@ impl<V: Value> RangeRows<V> {
         ensures { slice_get self.now.days day ≡ Some result.now }
     {
         let number = day.number();
-        let weekday = (number as usize + 5) % 7;
+        let weekday = weekday_of(number as u32);
         let place = place_of(&self.cuts, number as u32);
         if place == 0 {
             &self.before[weekday]

@@ -5,6 +5,7 @@ ghost use Rattle.ssim_periods.specs.Calendar.{day_count, holds, slot};
 ghost use Rattle.ssim_periods.specs.Cover.{cover, first_where};
 
 use crate::cover::{last_in, period_of};
+use crate::weekdays::{first_on, weekday_of};
 use ssim_values::Period;
 
 // The period from the first to the last day of a period that it holds, on the weekdays that these
@@ -32,7 +33,7 @@ fn first_in(days: &[bool; 7], from: u32, to: u32) -> u32
     ensures { result ≡ first_where (λ n. slice_index_or days.now (slot n) false) from (to - from) }
 {
     for day in from..to {
-        let weekday = (day as usize + 5) % 7;
+        let weekday = weekday_of(day);
         if days[weekday] {
             return day;
         }
@@ -47,7 +48,7 @@ fn has_weekday(days: &[bool; 7], weekday: u32, first: u32, end: u32) -> bool
     requires in_calendar { first < 36525 }
     ensures { result ≡ (nat_lt (first + (weekday + 7 - slot first) % 7) end && slice_index_or days.now weekday false) }
 {
-    let day = first + (weekday + 7 - (first + 5) % 7) % 7;
+    let day = first_on(weekday, first);
     if day < end {
         days[weekday as usize]
     } else {

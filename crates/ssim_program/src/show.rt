@@ -1,7 +1,8 @@
 //! The command `show`: a flight of a desk on a date.
 
-ghost use Rattle.std.specs.Prelude.{◌≡◌, ◌++◌, ◌≤◌, ◌<◌, ◌∷◌, None, Some, IfErr, IfOk, OnOk};
+ghost use Rattle.std.specs.Prelude.{◌≡◌, ◌++◌, ◌<◌, ◌∷◌, None, Some, IfErr, IfOk, IsTrue, OnOk};
 ghost use Rattle.ssim_base.specs.Export.{line};
+ghost use Rattle.ssim_records.specs.Leg.{is_own};
 ghost use Rattle.ssim_text.specs.Lines.{day_in};
 ghost use Rattle.ssim_values.specs.Characters.{two_digits};
 ghost use Rattle.ssim_values.specs.Day.{day_text};
@@ -16,6 +17,12 @@ use crate::refusal::Refusal;
 use crate::store::Store;
 use ssim_base::ResolveFault;
 use ssim_desk::{DeskFault, Holdings};
+use ssim_records::leg_fields::{
+    AIRCRAFT_ARRIVAL, AIRCRAFT_DEPARTURE, AIRCRAFT_TYPE, ARRIVAL_STATION, ARRIVAL_VARIATION,
+    DATE_VARIATIONS, DEPARTURE_STATION, DEPARTURE_VARIATION, PASSENGER_ARRIVAL,
+    PASSENGER_DEPARTURE, SERVICE_TYPE,
+};
+use ssim_records::{Field, LegColumns};
 use ssim_schedule::PlacedLeg;
 use ssim_values::{Day, Designator, Fault, Memory};
 use std::alloc::Global;
@@ -96,9 +103,8 @@ fn push_heading(lines: &mut Vec<u8>, designator: Designator, day: Day) -> Result
 fn push_leg(lines: &mut Vec<u8>, leg: &PlacedLeg) -> Result<(), Memory>
     ensures { OnOk result (lines.new.items ≡ lines.old.items ++ leg_line leg.now) }
 {
-    let own = leg.columns().bytes();
     push_sequence(lines, leg.sequence())?;
-    push_columns(lines, &own)?;
+    push_columns(lines, &leg.columns())?;
     lines.push(b'\n')?;
     Ok(())
 }
@@ -113,49 +119,28 @@ fn push_sequence(lines: &mut Vec<u8>, sequence: u8) -> Result<(), Memory>
 }
 
 /// Adds the columns of a leg that are shown.
-fn push_columns(lines: &mut Vec<u8>, own: &[u8; 158]) -> Result<(), Memory>
-    ensures { OnOk result (lines.new.items ≡ lines.old.items ++ columns_text own.now) }
+fn push_columns(lines: &mut Vec<u8>, leg: &LegColumns) -> Result<(), Memory>
+    ensures { OnOk result (lines.new.items ≡ lines.old.items ++ columns_text leg.now) }
 {
-    push_middle(lines, own, 37, 39)?;
-    push_middle(lines, own, 40, 43)?;
-    push_middle(lines, own, 44, 47)?;
-    push_middle(lines, own, 48, 52)?;
-    push_middle(lines, own, 55, 57)?;
-    push_middle(lines, own, 58, 61)?;
-    push_middle(lines, own, 62, 65)?;
-    push_middle(lines, own, 66, 70)?;
-    push_variations(lines, own)?;
-    push_service_type(lines, own)?;
-    push_middle(lines, own, 73, 75)
+    push_field(lines, leg, DEPARTURE_STATION)?;
+    push_field(lines, leg, PASSENGER_DEPARTURE)?;
+    push_field(lines, leg, AIRCRAFT_DEPARTURE)?;
+    push_field(lines, leg, DEPARTURE_VARIATION)?;
+    push_field(lines, leg, ARRIVAL_STATION)?;
+    push_field(lines, leg, AIRCRAFT_ARRIVAL)?;
+    push_field(lines, leg, PASSENGER_ARRIVAL)?;
+    push_field(lines, leg, ARRIVAL_VARIATION)?;
+    push_field(lines, leg, DATE_VARIATIONS)?;
+    push_field(lines, leg, SERVICE_TYPE)?;
+    push_field(lines, leg, AIRCRAFT_TYPE)
 }
 
-/// Adds columns of a leg from 37 to 127.
-fn push_middle(
-    lines: &mut Vec<u8>,
-    own: &[u8; 158],
-    first: usize,
-    last: usize,
-) -> Result<(), Memory>
-    requires from { 37 ≤ first }
-    requires some { first ≤ last }
-    requires to { last ≤ 127 }
-    ensures { OnOk result (lines.new.items ≡ lines.old.items ++ shown first last own.now) }
+/// Adds a blank and a field of a leg, with a full stop for each blank.
+fn push_field(lines: &mut Vec<u8>, leg: &LegColumns, field: Field) -> Result<(), Memory>
+    requires { IsTrue (is_own field) }
+    ensures { OnOk result (lines.new.items ≡ lines.old.items ++ shown field.first field.last leg.now) }
 {
-    push_shown(lines, &own[first - 36..last - 35])
-}
-
-/// Adds columns 193 and 194 of a leg, the date variations.
-fn push_variations(lines: &mut Vec<u8>, own: &[u8; 158]) -> Result<(), Memory>
-    ensures { OnOk result (lines.new.items ≡ lines.old.items ++ shown 193 194 own.now) }
-{
-    push_shown(lines, &own[156..158])
-}
-
-/// Adds column 14 of a leg, the service type.
-fn push_service_type(lines: &mut Vec<u8>, own: &[u8; 158]) -> Result<(), Memory>
-    ensures { OnOk result (lines.new.items ≡ lines.old.items ++ shown 14 14 own.now) }
-{
-    push_shown(lines, &own[0..1])
+    push_shown(lines, leg.text(field))
 }
 
 /// Adds a blank and the columns, with a full stop for each blank.

@@ -81,7 +81,19 @@ segment_texts r =
 abbrev pub written_segment : SegmentFields → List ℕ
 written_segment r = concat (segment_texts r)
 
--- the segment record has a spelling: each value fits its columns
+-- a record with this text of its name
+abbrev pub segment_of_texts : List ℕ → ℕ → List ℕ → ℕ → ℕ → List ℕ
+segment_of_texts name service tail overflow serial =
+    concat (codes "4"
+    ∷ name
+    ∷ (service ∷ [])
+    ∷ slice_range tail 0 13
+    ∷ (overflow ∷ [])
+    ∷ slice_range tail 13 179
+    ∷ digits 6 serial
+    ∷ [])
+
+-- what has a spelling
 pub record IsSegment (r : SegmentFields) : Type 0 where
   pub name : IsName r.name
   pub service : IsTrue (is_carried r.service)

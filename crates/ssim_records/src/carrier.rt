@@ -9,9 +9,10 @@ ghost use Rattle.ssim_records.specs.Leg.{IsEnd};
 ghost use Rattle.ssim_records.specs.Carrier.{CarrierFields, IsCarrier, SpellsCarrier, carrier_table, written_carrier};
 
 use crate::columns::{
-    airline_at, created_at, details_at, digits_at, end_text, first_day_at, join, last_day_at,
+    airline_at, created_at, details_at, end_text, first_day_at, join, last_day_at, serial_at,
 };
 use crate::field::{Field, Kind, first_fault, three};
+use crate::leg_fields::SERIAL;
 use crate::number::six_digits;
 use crate::time_mode::{time_mode_of, time_mode_text};
 use ssim_values::{Airline, Day, TimeMode};
@@ -24,7 +25,7 @@ const TABLE: [Field; 7] = [
     field!(15 28 Dates),
     field!(29 35 Date),
     field!(36 194 Carried),
-    field!(195 200 Digits),
+    SERIAL,
 ];
 
 fn carrier_fault(bytes: &[u8; 200]) -> Option<usize>
@@ -101,7 +102,7 @@ fn carrier_of(bytes: &[u8; 200]) -> Carrier
         last: last_day_at(bytes, first),
         created: created_at(bytes),
         details: details_at(bytes),
-        serial: digits_at(bytes, 195, 200),
+        serial: serial_at(bytes),
     }
 }
 

@@ -12,7 +12,8 @@ ghost use Rattle.ssim_records.specs.Numbers.{number_of, sequence_of, digits_of};
 ghost use Rattle.ssim_records.specs.Columns.{columns, carried, filled, is_carried, fault_in, end_from, over, AreColumns};
 ghost use Rattle.ssim_records.specs.Leg.{IsEnd, end_text};
 
-use crate::field::{day_of, days_of, end_from, three};
+use crate::field::{Field, day_of, days_of, end_from, three};
+use crate::leg_fields::{DAYS, SERIAL};
 use crate::number::{digits_of, number_of, sequence_of};
 use ssim_values::{Airline, Day, DayMask};
 
@@ -106,43 +107,52 @@ pub fn end_text(last: Option<Day>) -> [u8; 7]
     }
 }
 
-pub fn number_at(bytes: &[u8; 200], first: usize, last: usize) -> u32
-    requires are_columns { AreColumns first last }
-    requires short { last ≤ first + 5 }
-    requires stands { fault_in Number (columns first last bytes.now) ≡ None }
-    ensures below { result < 10 ^ (last - (first - 1)) }
-    ensures value { number_of (columns first last bytes.now) ≡ Some result }
+pub fn number_at(bytes: &[u8; 200], field: Field) -> u32
+    requires are_columns { AreColumns field.first field.last }
+    requires short { field.last ≤ field.first + 5 }
+    requires stands { fault_in Number (columns field.first field.last bytes.now) ≡ None }
+    ensures below { result < 10 ^ (field.last - (field.first - 1)) }
+    ensures value { number_of (columns field.first field.last bytes.now) ≡ Some result }
 {
-    match number_of(&bytes[first - 1..last]) {
+    match number_of(field.text(bytes)) {
         Some(number) => number,
         None => unreachable!(),
     }
 }
 
-pub fn sequence_at(bytes: &[u8; 200], first: usize, last: usize) -> u32
-    requires are_columns { AreColumns first last }
-    requires short { last ≤ first + 5 }
-    requires stands { fault_in Sequence (columns first last bytes.now) ≡ None }
-    ensures below { (0 < result) × (result < 10 ^ (last - (first - 1))) }
-    ensures value { sequence_of (columns first last bytes.now) ≡ Some result }
+pub fn sequence_at(bytes: &[u8; 200], field: Field) -> u32
+    requires are_columns { AreColumns field.first field.last }
+    requires short { field.last ≤ field.first + 5 }
+    requires stands { fault_in Sequence (columns field.first field.last bytes.now) ≡ None }
+    ensures below { (0 < result) × (result < 10 ^ (field.last - (field.first - 1))) }
+    ensures value { sequence_of (columns field.first field.last bytes.now) ≡ Some result }
 {
-    match sequence_of(&bytes[first - 1..last]) {
+    match sequence_of(field.text(bytes)) {
         Some(number) => number,
         None => unreachable!(),
     }
 }
 
-pub fn digits_at(bytes: &[u8; 200], first: usize, last: usize) -> u32
-    requires are_columns { AreColumns first last }
-    requires short { last ≤ first + 5 }
-    requires stands { fault_in Digits (columns first last bytes.now) ≡ None }
-    ensures below { result < 10 ^ (last - (first - 1)) }
-    ensures value { digits_of (columns first last bytes.now) ≡ Some result }
+pub fn digits_at(bytes: &[u8; 200], field: Field) -> u32
+    requires are_columns { AreColumns field.first field.last }
+    requires short { field.last ≤ field.first + 5 }
+    requires stands { fault_in Digits (columns field.first field.last bytes.now) ≡ None }
+    ensures below { result < 10 ^ (field.last - (field.first - 1)) }
+    ensures value { digits_of (columns field.first field.last bytes.now) ≡ Some result }
 {
-    match digits_of(&bytes[first - 1..last]) {
+    match digits_of(field.text(bytes)) {
         Some(number) => number,
         None => unreachable!(),
     }
+}
+
+/// The serial.
+pub fn serial_at(bytes: &[u8; 200]) -> u32
+    requires { fault_in Digits (columns 195 200 bytes.now) ≡ None }
+    ensures below { result < 1000000 }
+    ensures value { digits_of (columns 195 200 bytes.now) ≡ Some result }
+{
+    digits_at(bytes, SERIAL)
 }
 
 /// The start in columns 15 to 21.
@@ -194,7 +204,7 @@ pub fn days_at(bytes: &[u8; 200]) -> DayMask
     ensures mask { IsMask result }
     ensures value { days_of (columns 29 35 bytes.now) ≡ Some result }
 {
-    match days_of(&bytes[28..35]) {
+    match days_of(DAYS.text(bytes)) {
         Some(days) => {
             let _ = days.days();
             days

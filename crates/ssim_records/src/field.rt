@@ -1,7 +1,7 @@
 //! The fields of a record: their columns, their valid texts, and the first column of the first
 //! invalid field.
 
-ghost use Rattle.std.specs.Prelude.{◌≡◌, ◌≤◌, ◌<◌, length, Some, None, IsTrue, IfSome, is_some};
+ghost use Rattle.std.specs.Prelude.{◌≡◌, ◌≤◌, ◌<◌, ◌+◌, length, Some, None, IsTrue, IfSome, is_some};
 ghost use Rattle.std.specs.List.{list_all};
 ghost use Rattle.ssim_values.specs.Day.{day_of};
 ghost use Rattle.ssim_values.specs.DayMask.{days_of};
@@ -12,13 +12,11 @@ ghost use Rattle.ssim_values.specs.Airline.{is_airline};
 ghost use Rattle.ssim_values.specs.Flight.{is_suffix};
 ghost use Rattle.ssim_values.specs.Calendar.{day_limit};
 ghost use Rattle.ssim_records.specs.Numbers.{is_blank};
-ghost use Rattle.ssim_records.specs.LegPoints.{arrival_is_valid, departure_is_valid};
-ghost use Rattle.ssim_records.specs.Columns.{columns, is_carried, is_printed, is_title, end_from, passenger_time_of, utc_variation_of, time_mode_of, end_code_of, unless, dates_fault, place_of_other, fault_in, fits_kind, first_fault, are_fields};
+ghost use Rattle.ssim_records.specs.Columns.{columns, is_carried, is_printed, is_title, end_from, passenger_time_of, utc_variation_of, time_mode_of, end_code_of, unless, dates_fault, place_of_other, fault_in, fits_kind, first_fault, are_fields, AreColumns};
 
-use crate::clock_digits::is_clock_to;
 use crate::end_code::end_code_of;
 use crate::number::{digits_of, number_of, sequence_of};
-use crate::same::{are_same_four, are_same_seven};
+use crate::same::are_same_seven;
 use crate::time_mode::time_mode_of;
 use ssim_values::{Airline, Clock, Day, DayMask, Station, Variation};
 
@@ -49,6 +47,18 @@ pub struct Field {
     pub first: usize,
     pub last: usize,
     pub kind: Kind,
+}
+
+impl Field {
+    /// The columns of the field in a record.
+    #[inline(always)]
+    pub(crate) fn text(self, bytes: &[u8; 200]) -> &[u8]
+        requires { AreColumns self.first self.last }
+        ensures len { length result.now + self.first ≡ self.last + 1 }
+        ensures value { result.now ≡ columns self.first self.last bytes.now }
+    {
+        &bytes[self.first - 1..self.last]
+    }
 }
 
 // ---- bytes
@@ -361,86 +371,6 @@ pub fn middle_is_carried(bytes: &[u8; 200]) -> bool
 {
     let middle = &bytes[2..194];
     are_printed(middle) || are_carried(middle)
-}
-
-// Whether a text is a time.
-fn is_time(text: &[u8]) -> bool
-    requires { length text.now ≡ 4 }
-    ensures { result ≡ is_some (clock_of text.now) }
-{
-    is_clock_to(text, 24) || clock_of(text).is_some()
-}
-
-// Whether a text is a sign, and hours and minutes up to 1500.
-fn is_signed_clock(text: &[u8]) -> bool
-    requires { length text.now ≡ 5 }
-    ensures { IsTrue result → IsTrue (is_some (utc_variation_of text.now)) }
-{
-    (text[0] == b'+' || text[0] == b'-') && is_clock_to(&text[1..5], 15)
-}
-
-// Does what `is_variation` does for texts that are not compared as numbers. It is not inlined,
-// since few texts need it.
-#[inline(never)]
-fn is_other_variation(text: &[u8]) -> bool
-    requires { length text.now ≡ 5 }
-    ensures { result ≡ is_some (utc_variation_of text.now) }
-{
-    utc_variation_of(text).is_some()
-}
-
-// Whether a text is a UTC variation or blank.
-#[inline(always)]
-fn is_variation(text: &[u8]) -> bool
-    requires { length text.now ≡ 5 }
-    ensures { result ≡ is_some (utc_variation_of text.now) }
-{
-    is_signed_clock(text) || is_other_variation(text)
-}
-
-// Whether a text is a time or blank. Mostly it is the aircraft time, which is a time.
-#[tactic(auto, using(crate::proofs::Rows::passenger_time))]
-fn is_passenger_time(text: &[u8], aircraft_time: &[u8]) -> bool
-    requires text { length text.now ≡ 4 }
-    requires aircraft_time { length aircraft_time.now ≡ 4 }
-    requires is_time { IsTrue (is_some (clock_of aircraft_time.now)) }
-    ensures { result ≡ is_some (passenger_time_of text.now) }
-{
-    are_same_four(text, aircraft_time) || passenger_time_of(text).is_some()
-}
-
-/// Whether columns 37 to 52 of a leg are valid: its departure.
-#[tactic(auto, unfolding(crate::specs::LegPoints::departure_is_valid))]
-pub fn departure_is_valid(bytes: &[u8; 200]) -> bool
-    ensures { result ≡ departure_is_valid bytes.now }
-{
-    if !is_station(&bytes[36..39]) {
-        return false;
-    }
-    if !is_time(&bytes[43..47]) {
-        return false;
-    }
-    if !is_passenger_time(&bytes[39..43], &bytes[43..47]) {
-        return false;
-    }
-    is_variation(&bytes[47..52])
-}
-
-/// Whether columns 55 to 70 of a leg are valid: its arrival.
-#[tactic(auto, unfolding(crate::specs::LegPoints::arrival_is_valid))]
-pub fn arrival_is_valid(bytes: &[u8; 200]) -> bool
-    ensures { result ≡ arrival_is_valid bytes.now }
-{
-    if !is_station(&bytes[54..57]) {
-        return false;
-    }
-    if !is_time(&bytes[57..61]) {
-        return false;
-    }
-    if !is_passenger_time(&bytes[61..65], &bytes[57..61]) {
-        return false;
-    }
-    is_variation(&bytes[65..70])
 }
 
 /// The first column of the first invalid field.

@@ -4,16 +4,13 @@ ghost use Rattle.std.specs.Prelude.{◌≡◌, ◌<◌, ◌∷◌, [], None, Ok,
 ghost use Rattle.ssim_records.specs.Columns.{columns, first_fault, EachStands};
 ghost use Rattle.ssim_records.specs.Header.{HeaderFields, IsHeader, SpellsHeader, header_table, written_header};
 
-use crate::columns::{details_at, digits_at, join};
+use crate::columns::{details_at, join, serial_at};
 use crate::field::{Field, Kind, first_fault};
+use crate::leg_fields::SERIAL;
 use crate::number::six_digits;
 use std::marker::Model;
 
-const TABLE: [Field; 3] = [
-    field!(2 35 Title),
-    field!(36 194 Carried),
-    field!(195 200 Digits),
-];
+const TABLE: [Field; 3] = [field!(2 35 Title), field!(36 194 Carried), SERIAL];
 
 fn header_fault(bytes: &[u8; 200]) -> Option<usize>
     ensures { result ≡ first_fault bytes.now header_table }
@@ -50,7 +47,7 @@ fn header_of(bytes: &[u8; 200]) -> Header
 {
     Header {
         details: details_at(bytes),
-        serial: digits_at(bytes, 195, 200),
+        serial: serial_at(bytes),
     }
 }
 

@@ -5,13 +5,14 @@ ghost use Rattle.ssim_records.specs.Columns.{columns};
 ghost use Rattle.ssim_records.specs.Leg.{IsLeg, IsEnd, SpellsLeg, leg_columns, written_leg};
 ghost use Rattle.ssim_records.specs.Heads.{IsLegHead};
 
-use crate::columns::{append, bytes_of, carried_at, end_text};
+use crate::columns::carried_at;
 use crate::field::seven;
 use crate::leg_columns::{LegColumns, own_columns_at};
+use crate::leg_fields::{DAYS, OVERFLOW, RATE};
 use crate::leg_head::LegHead;
 use crate::leg_name::LegName;
 use crate::name_text::{has_digits, name_text};
-use crate::number::six_digits;
+use crate::record_texts::{dates_text, write_leg};
 use crate::same::are_same_seven;
 use crate::segment::SegmentRecord;
 use crate::segment_tail::SegmentTail;
@@ -65,9 +66,9 @@ pub(crate) fn leg_with(bytes: &[u8; 200], head: &LegHead) -> LegRecord
         first: head.first,
         last: head.last,
         days: head.days,
-        rate: carried_at(bytes, 36),
+        rate: carried_at(bytes, RATE.first),
         columns: own_columns_at(bytes),
-        overflow: carried_at(bytes, 128),
+        overflow: carried_at(bytes, OVERFLOW.first),
         serial: head.serial,
     }
 }
@@ -242,9 +243,9 @@ impl LegRecord {
         self.first = head.first;
         self.last = head.last;
         self.days = head.days;
-        self.rate = carried_at(bytes, 36);
+        self.rate = carried_at(bytes, RATE.first);
         self.columns.put(bytes);
-        self.overflow = carried_at(bytes, 128);
+        self.overflow = carried_at(bytes, OVERFLOW.first);
         self.serial = head.serial;
     }
 
@@ -282,18 +283,15 @@ impl LegRecord {
         ensures value { out.new ≡ written_leg self.now }
         ensures is_leg { IsLeg self.now }
     {
-        let columns = self.columns.bytes_held();
-        let at = append(out, 0, b"3");
-        let at = append(out, at, &name_text(self.name));
-        let at = append(out, at, &columns[0..1]);
-        let at = append(out, at, &self.first.write());
-        let at = append(out, at, &end_text(self.last));
-        let at = append(out, at, &self.days.write());
-        let at = append(out, at, &[self.rate]);
-        let at = append(out, at, &bytes_of::<91>(&columns[1..92]));
-        let at = append(out, at, &[self.overflow]);
-        let at = append(out, at, &bytes_of::<66>(&columns[92..158]));
-        append(out, at, &six_digits(self.serial));
+        write_leg(
+            out,
+            &name_text(self.name),
+            &dates_text(self.first, self.last, self.days),
+            self.rate,
+            &self.columns,
+            self.overflow,
+            self.serial,
+        );
     }
 
     /// The one written spelling.
@@ -315,6 +313,6 @@ impl LegRecord {
         ensures same { IsTrue result ↔ (bytes.now ≡ written_leg self.now) }
         ensures is_leg { IsLeg self.now }
     {
-        has_digits(bytes) && are_same_seven(seven(&bytes[28..35]), self.days.write())
+        has_digits(bytes) && are_same_seven(seven(DAYS.text(bytes)), self.days.write())
     }
 }

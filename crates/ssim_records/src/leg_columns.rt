@@ -1,16 +1,23 @@
 //! The columns of a leg itself.
 
-ghost use Rattle.std.specs.Prelude.{◌≡◌, ◌≤◌, ◌<◌, ◌+◌, ◌∷◌, ◌↔◌, [], None, Some, IsSome, IfSome, IsTrue, length};
+ghost use Rattle.std.specs.Prelude.{◌≡◌, ◌<◌, ◌+◌, ◌^◌, ◌∷◌, ◌↔◌, [], None, Some, IsSome, IfSome, IsTrue, length};
 ghost use Rattle.std.specs.Str.{bytes_eq};
 ghost use Rattle.ssim_values.specs.Clock.{clock_of};
 ghost use Rattle.ssim_records.specs.declared.field.Kind.TheVariants.{StationCode, Time, PassengerTime, UtcVariation};
 ghost use Rattle.ssim_records.specs.Columns.{fault_in, is_carried, passenger_time_of, utc_variation_of, first_fault, EachStands};
-ghost use Rattle.ssim_records.specs.Leg.{AreLegColumns, leg_columns, leg_table, own_table, own_columns, spread};
+ghost use Rattle.ssim_records.specs.Leg.{AreLegColumns, four_bytes, is_own, leg_columns, leg_table, own_table, own_columns, quick_hash, spread, three_bytes};
 ghost use Rattle.ssim_records.specs.LegParts.{ChangesEquipment, ChangesTimes, equipment_fields, new_leg, with_equipment, with_times};
 
 use crate::columns::{append, bytes_of, join};
 use crate::field::{
-    Field, Kind, clock_of, first_fault, passenger_time_of, three, twenty, two, utc_variation_of,
+    Field, clock_of, first_fault, passenger_time_of, three, twenty, two, utc_variation_of,
+};
+use crate::leg_fields::{
+    AFTER_ARRIVAL, AFTER_OVERFLOW, AIRCRAFT_ARRIVAL, AIRCRAFT_DEPARTURE, AIRCRAFT_TYPE,
+    ARRIVAL_STATION, ARRIVAL_TERMINAL, ARRIVAL_VARIATION, BEFORE_MIDDLE, BEFORE_TAIL,
+    BOOKING_DESIGNATORS, COLUMNS_96_TO_127, COLUMNS_129_TO_172, CONFIGURATION, DATE_VARIATIONS,
+    DEPARTURE_STATION, DEPARTURE_TERMINAL, DEPARTURE_VARIATION, MIDDLE, PASSENGER_ARRIVAL,
+    PASSENGER_DEPARTURE, SERVICE_TYPE,
 };
 use crate::leg_parts::{LegEquipment, LegStations, LegTimes};
 use crate::same::are_same_texts;
@@ -18,18 +25,18 @@ use ssim_values::{Clock, Station, Variation};
 use std::marker::Model;
 
 const TABLE: [Field; 12] = [
-    field!(14 14 Carried),
-    field!(37 39 StationCode),
-    field!(40 43 PassengerTime),
-    field!(44 47 Time),
-    field!(48 52 UtcVariation),
-    field!(53 54 Carried),
-    field!(55 57 StationCode),
-    field!(58 61 Time),
-    field!(62 65 PassengerTime),
-    field!(66 70 UtcVariation),
-    field!(71 127 Carried),
-    field!(129 194 Carried),
+    SERVICE_TYPE,
+    DEPARTURE_STATION,
+    PASSENGER_DEPARTURE,
+    AIRCRAFT_DEPARTURE,
+    DEPARTURE_VARIATION,
+    DEPARTURE_TERMINAL,
+    ARRIVAL_STATION,
+    AIRCRAFT_ARRIVAL,
+    PASSENGER_ARRIVAL,
+    ARRIVAL_VARIATION,
+    AFTER_ARRIVAL,
+    AFTER_OVERFLOW,
 ];
 
 /// The columns of a leg itself: the bytes of columns 14, 37 to 127 and 129 to 194 of its record,
@@ -82,9 +89,9 @@ fn own_fault(own: &[u8; 158]) -> Option<usize>
 fn put_own(out: &mut [u8; 158], bytes: &[u8; 200])
     ensures { out.new ≡ own_columns bytes.now }
 {
-    let at = append(out, 0, &bytes[13..14]);
-    let at = append(out, at, &bytes_of::<91>(&bytes[36..127]));
-    append(out, at, &bytes_of::<66>(&bytes[128..194]));
+    let at = append(out, 0, SERVICE_TYPE.text(bytes));
+    let at = append(out, at, &bytes_of::<91>(MIDDLE.text(bytes)));
+    append(out, at, &bytes_of::<66>(AFTER_OVERFLOW.text(bytes)));
 }
 
 /// The leg's own columns of a record.
@@ -98,74 +105,69 @@ pub(crate) fn own_columns_at(bytes: &[u8; 200]) -> LegColumns
     LegColumns { bytes: own }
 }
 
-/// Columns from 37 to 127.
-fn middle(own: &[u8; 158], first: usize, last: usize) -> &[u8]
-    requires from { 37 ≤ first }
-    requires some { first ≤ last }
-    requires to { last ≤ 127 }
-    ensures len { length result.now + first ≡ last + 1 }
-    ensures value { result.now ≡ leg_columns first last own.now }
+fn station_of(text: &[u8]) -> Station
+    requires len { length text.now ≡ 3 }
+    requires stands { fault_in StationCode text.now ≡ None }
+    ensures { result ≡ text.now }
 {
-    &own[first - 36..last - 35]
-}
-
-/// Columns from 129 to 194.
-fn tail(own: &[u8; 158], first: usize, last: usize) -> &[u8]
-    requires from { 129 ≤ first }
-    requires some { first ≤ last }
-    requires to { last ≤ 194 }
-    ensures len { length result.now + first ≡ last + 1 }
-    ensures value { result.now ≡ leg_columns first last own.now }
-{
-    &own[first - 37..last - 36]
-}
-
-fn station_in(own: &[u8; 158], first: usize) -> Station
-    requires from { 37 ≤ first }
-    requires to { first + 2 ≤ 127 }
-    requires stands { fault_in StationCode (leg_columns first (first + 2) own.now) ≡ None }
-    ensures { result ≡ leg_columns first (first + 2) own.now }
-{
-    match Station::parse(&three(middle(own, first, first + 2))) {
+    match Station::parse(&three(text)) {
         Ok(station) => station,
         Err(_) => unreachable!(),
     }
 }
 
-fn time_in(own: &[u8; 158], first: usize) -> Clock
-    requires from { 37 ≤ first }
-    requires to { first + 3 ≤ 127 }
-    requires stands { fault_in Time (leg_columns first (first + 3) own.now) ≡ None }
-    ensures { clock_of (leg_columns first (first + 3) own.now) ≡ Some result }
+fn time_of(text: &[u8]) -> Clock
+    requires len { length text.now ≡ 4 }
+    requires stands { fault_in Time text.now ≡ None }
+    ensures { clock_of text.now ≡ Some result }
 {
-    match clock_of(middle(own, first, first + 3)) {
+    match clock_of(text) {
         Some(time) => time,
         None => unreachable!(),
     }
 }
 
-fn passenger_time_in(own: &[u8; 158], first: usize) -> Option<Clock>
-    requires from { 37 ≤ first }
-    requires to { first + 3 ≤ 127 }
-    requires stands { fault_in PassengerTime (leg_columns first (first + 3) own.now) ≡ None }
-    ensures { passenger_time_of (leg_columns first (first + 3) own.now) ≡ Some result }
+fn time_or_blank(text: &[u8]) -> Option<Clock>
+    requires len { length text.now ≡ 4 }
+    requires stands { fault_in PassengerTime text.now ≡ None }
+    ensures { passenger_time_of text.now ≡ Some result }
 {
-    match passenger_time_of(middle(own, first, first + 3)) {
+    match passenger_time_of(text) {
         Some(time) => time,
         None => unreachable!(),
     }
 }
 
-fn variation_in(own: &[u8; 158], first: usize) -> Option<Variation>
-    requires from { 37 ≤ first }
-    requires to { first + 4 ≤ 127 }
-    requires stands { fault_in UtcVariation (leg_columns first (first + 4) own.now) ≡ None }
-    ensures { utc_variation_of (leg_columns first (first + 4) own.now) ≡ Some result }
+fn variation_or_blank(text: &[u8]) -> Option<Variation>
+    requires len { length text.now ≡ 5 }
+    requires stands { fault_in UtcVariation text.now ≡ None }
+    ensures { utc_variation_of text.now ≡ Some result }
 {
-    match utc_variation_of(middle(own, first, first + 4)) {
+    match utc_variation_of(text) {
         Some(variation) => variation,
         None => unreachable!(),
     }
+}
+
+// The number that three bytes spell, the first as its highest digit.
+#[inline(always)]
+fn three_bytes(text: &[u8]) -> u64
+    requires { length text.now ≡ 3 }
+    ensures value { result ≡ three_bytes text.now }
+    ensures bound { result < 2 ^ 24 }
+{
+    text[0] as u64 * 65_536 + text[1] as u64 * 256 + text[2] as u64
+}
+
+// The number that four bytes spell, the first as its highest digit.
+#[inline(always)]
+fn four_bytes(text: &[u8]) -> u64
+    requires { length text.now ≡ 4 }
+    ensures value { result ≡ four_bytes text.now }
+    ensures bound { result < 2 ^ 32 }
+{
+    let high = text[0] as u64 * 16_777_216 + text[1] as u64 * 65_536;
+    high + text[2] as u64 * 256 + text[3] as u64
 }
 
 impl LegColumns {
@@ -243,6 +245,36 @@ impl LegColumns {
         are_same_texts(&self.bytes, &other.bytes)
     }
 
+    /// The bytes of a field of the leg.
+    #[inline(always)]
+    pub fn text(&self, field: Field) -> &[u8]
+        requires { IsTrue (is_own field) }
+        ensures len { length result.now + field.first ≡ field.last + 1 }
+        ensures value { result.now ≡ leg_columns field.first field.last self.now }
+        ensures stands { AreLegColumns self.now }
+    {
+        let Field { first, last, .. } = field;
+        if last == SERVICE_TYPE.last {
+            &self.bytes[0..1]
+        } else if last <= MIDDLE.last {
+            &self.bytes[first - BEFORE_MIDDLE..last - BEFORE_MIDDLE + 1]
+        } else {
+            &self.bytes[first - BEFORE_TAIL..last - BEFORE_TAIL + 1]
+        }
+    }
+
+    /// A hash of the stations, the aircraft times and the aircraft type.
+    pub fn quick_hash(&self) -> u64
+        ensures value { result ≡ quick_hash self.now }
+        ensures bound { result < 2 ^ 48 }
+    {
+        three_bytes(self.text(DEPARTURE_STATION))
+            + 31 * four_bytes(self.text(AIRCRAFT_DEPARTURE))
+            + 1_009 * three_bytes(self.text(ARRIVAL_STATION))
+            + 32_749 * four_bytes(self.text(AIRCRAFT_ARRIVAL))
+            + 1_000_003 * three_bytes(self.text(AIRCRAFT_TYPE))
+    }
+
     /// Column 14: the service type.
     pub fn service_type(&self) -> u8
         ensures value { leg_columns 14 14 self.now ≡ result ∷ [] }
@@ -255,84 +287,84 @@ impl LegColumns {
     pub fn departure_station(&self) -> Station
         ensures { result ≡ leg_columns 37 39 self.now }
     {
-        station_in(&self.bytes, 37)
+        station_of(self.text(DEPARTURE_STATION))
     }
 
     /// Columns 40 to 43: the passenger departure time, none if they are blank.
     pub fn passenger_departure_time(&self) -> Option<Clock>
         ensures { passenger_time_of (leg_columns 40 43 self.now) ≡ Some result }
     {
-        passenger_time_in(&self.bytes, 40)
+        time_or_blank(self.text(PASSENGER_DEPARTURE))
     }
 
     /// Columns 44 to 47: the aircraft departure time.
     pub fn aircraft_departure_time(&self) -> Clock
         ensures { clock_of (leg_columns 44 47 self.now) ≡ Some result }
     {
-        time_in(&self.bytes, 44)
+        time_of(self.text(AIRCRAFT_DEPARTURE))
     }
 
     /// Columns 48 to 52: the UTC variation of the departure station, none if they are blank.
     pub fn departure_variation(&self) -> Option<Variation>
         ensures { utc_variation_of (leg_columns 48 52 self.now) ≡ Some result }
     {
-        variation_in(&self.bytes, 48)
+        variation_or_blank(self.text(DEPARTURE_VARIATION))
     }
 
     /// Columns 53 and 54: the departure terminal.
     pub fn departure_terminal(&self) -> [u8; 2]
         ensures { result ≡ leg_columns 53 54 self.now }
     {
-        two(middle(&self.bytes, 53, 54))
+        two(self.text(DEPARTURE_TERMINAL))
     }
 
     /// Columns 55 to 57: the arrival station.
     pub fn arrival_station(&self) -> Station
         ensures { result ≡ leg_columns 55 57 self.now }
     {
-        station_in(&self.bytes, 55)
+        station_of(self.text(ARRIVAL_STATION))
     }
 
     /// Columns 58 to 61: the aircraft arrival time.
     pub fn aircraft_arrival_time(&self) -> Clock
         ensures { clock_of (leg_columns 58 61 self.now) ≡ Some result }
     {
-        time_in(&self.bytes, 58)
+        time_of(self.text(AIRCRAFT_ARRIVAL))
     }
 
     /// Columns 62 to 65: the passenger arrival time, none if they are blank.
     pub fn passenger_arrival_time(&self) -> Option<Clock>
         ensures { passenger_time_of (leg_columns 62 65 self.now) ≡ Some result }
     {
-        passenger_time_in(&self.bytes, 62)
+        time_or_blank(self.text(PASSENGER_ARRIVAL))
     }
 
     /// Columns 66 to 70: the UTC variation of the arrival station, none if they are blank.
     pub fn arrival_variation(&self) -> Option<Variation>
         ensures { utc_variation_of (leg_columns 66 70 self.now) ≡ Some result }
     {
-        variation_in(&self.bytes, 66)
+        variation_or_blank(self.text(ARRIVAL_VARIATION))
     }
 
     /// Columns 71 and 72: the arrival terminal.
     pub fn arrival_terminal(&self) -> [u8; 2]
         ensures { result ≡ leg_columns 71 72 self.now }
     {
-        two(middle(&self.bytes, 71, 72))
+        two(self.text(ARRIVAL_TERMINAL))
     }
 
     /// Columns 73 to 75: the aircraft type.
     pub fn aircraft_type(&self) -> [u8; 3]
         ensures { result ≡ leg_columns 73 75 self.now }
     {
-        three(middle(&self.bytes, 73, 75))
+        three(self.text(AIRCRAFT_TYPE))
     }
 
     /// Columns 76 to 95: the booking designators (PRBD).
     pub fn booking_designators(&self) -> [u8; 20]
         ensures { result ≡ leg_columns 76 95 self.now }
     {
-        twenty(middle(&self.bytes, 76, 95))
+        twenty(self.text(BOOKING_DESIGNATORS))
     }
 
     /// Columns 96 to 127, carried.
@@ -340,7 +372,7 @@ impl LegColumns {
         ensures { result ≡ leg_columns 96 127 self.now }
     {
         let mut bytes = [0; 32];
-        bytes.copy_from_slice(middle(&self.bytes, 96, 127));
+        bytes.copy_from_slice(self.text(COLUMNS_96_TO_127));
         bytes
     }
 
@@ -349,7 +381,7 @@ impl LegColumns {
         ensures { result ≡ leg_columns 129 172 self.now }
     {
         let mut bytes = [0; 44];
-        bytes.copy_from_slice(tail(&self.bytes, 129, 172));
+        bytes.copy_from_slice(self.text(COLUMNS_129_TO_172));
         bytes
     }
 
@@ -357,13 +389,13 @@ impl LegColumns {
     pub fn configuration(&self) -> [u8; 20]
         ensures { result ≡ leg_columns 173 192 self.now }
     {
-        twenty(tail(&self.bytes, 173, 192))
+        twenty(self.text(CONFIGURATION))
     }
 
     /// Columns 193 and 194: the date variations of departure and arrival.
     pub fn date_variations(&self) -> [u8; 2]
         ensures { result ≡ leg_columns 193 194 self.now }
     {
-        two(tail(&self.bytes, 193, 194))
+        two(self.text(DATE_VARIATIONS))
     }
 }

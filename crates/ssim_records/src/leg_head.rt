@@ -5,37 +5,42 @@ ghost use Rattle.ssim_records.specs.Columns.{first_fault, EachStands};
 ghost use Rattle.ssim_records.specs.Leg.{leg_table};
 ghost use Rattle.ssim_records.specs.Heads.{IsLegHead};
 
-use crate::columns::{days_at, digits_at, first_day_at, last_day_at};
-use crate::field::{
-    Field, Kind, arrival_is_valid, departure_is_valid, first_fault, middle_is_carried,
-};
+use crate::columns::{days_at, first_day_at, last_day_at, serial_at};
+use crate::field::{Field, first_fault, middle_is_carried};
 use crate::latest::Latest;
+use crate::leg_fields::{
+    AFTER_ARRIVAL, AFTER_OVERFLOW, AIRCRAFT_ARRIVAL, AIRCRAFT_DEPARTURE, AIRLINE, ARRIVAL_STATION,
+    ARRIVAL_VARIATION, DATES, DAYS, DEPARTURE_STATION, DEPARTURE_TERMINAL, DEPARTURE_VARIATION,
+    FLIGHT_NUMBER, ITINERARY_VARIATION, LEG_SEQUENCE, OVERFLOW, PASSENGER_ARRIVAL,
+    PASSENGER_DEPARTURE, RATE, SERIAL, SERVICE_TYPE, SUFFIX,
+};
 use crate::leg_name::{LegName, name_at};
+use crate::leg_points::{arrival_is_valid, departure_is_valid};
 use ssim_values::{Day, DayMask};
 
 const TABLE: [Field; 22] = [
-    field!(2 2 Suffix),
-    field!(3 5 AirlineCode),
-    field!(6 9 Number),
-    field!(10 11 Number),
-    field!(12 13 Sequence),
-    field!(14 14 Carried),
-    field!(15 28 Dates),
-    field!(29 35 Days),
-    field!(36 36 Carried),
-    field!(37 39 StationCode),
-    field!(40 43 PassengerTime),
-    field!(44 47 Time),
-    field!(48 52 UtcVariation),
-    field!(53 54 Carried),
-    field!(55 57 StationCode),
-    field!(58 61 Time),
-    field!(62 65 PassengerTime),
-    field!(66 70 UtcVariation),
-    field!(71 127 Carried),
-    field!(128 128 Carried),
-    field!(129 194 Carried),
-    field!(195 200 Digits),
+    SUFFIX,
+    AIRLINE,
+    FLIGHT_NUMBER,
+    ITINERARY_VARIATION,
+    LEG_SEQUENCE,
+    SERVICE_TYPE,
+    DATES,
+    DAYS,
+    RATE,
+    DEPARTURE_STATION,
+    PASSENGER_DEPARTURE,
+    AIRCRAFT_DEPARTURE,
+    DEPARTURE_VARIATION,
+    DEPARTURE_TERMINAL,
+    ARRIVAL_STATION,
+    AIRCRAFT_ARRIVAL,
+    PASSENGER_ARRIVAL,
+    ARRIVAL_VARIATION,
+    AFTER_ARRIVAL,
+    OVERFLOW,
+    AFTER_OVERFLOW,
+    SERIAL,
 ];
 
 fn leg_fault(bytes: &[u8; 200]) -> Option<usize>
@@ -69,7 +74,7 @@ fn head_of(bytes: &[u8; 200]) -> LegHead
         first,
         last: last_day_at(bytes, first),
         days: days_at(bytes),
-        serial: digits_at(bytes, 195, 200),
+        serial: serial_at(bytes),
     }
 }
 

@@ -7,6 +7,7 @@ ghost use Rattle.ssim_records.specs.Leg.{Name, IsName, SpellsName, name_table};
 
 use crate::columns::{airline_at, number_at, sequence_at, suffix_at};
 use crate::field::three;
+use crate::leg_fields::{AIRLINE, FLIGHT_NUMBER, ITINERARY_VARIATION, LEG_SEQUENCE, SUFFIX};
 use crate::number::{number_of, sequence_of};
 use ssim_values::{Airline, Flight};
 use std::marker::Model;
@@ -41,15 +42,15 @@ pub(crate) fn name_at(bytes: &[u8; 200]) -> LegName
     ensures spells { SpellsName result bytes.now }
     ensures is_name { IsName result }
 {
-    let number = number_at(bytes, 6, 9);
+    let number = number_at(bytes, FLIGHT_NUMBER);
     let Some(flight) = Flight::new(number as u16, suffix_at(bytes)) else {
         unreachable!();
     };
     LegName {
         airline: airline_at(bytes),
         flight,
-        variation: number_at(bytes, 10, 11) as u8,
-        sequence: sequence_at(bytes, 12, 13) as u8,
+        variation: number_at(bytes, ITINERARY_VARIATION) as u8,
+        sequence: sequence_at(bytes, LEG_SEQUENCE) as u8,
     }
 }
 
@@ -64,9 +65,9 @@ pub(crate) struct AirlineFlight {
 pub(crate) fn read_flight(bytes: &[u8; 200]) -> Option<AirlineFlight>
     ensures { IfSome result (λ named. SpellsFlight named bytes.now) }
 {
-    let number = number_of(&bytes[5..9])?;
-    let airline = airline_of(&bytes[2..5])?;
-    let flight = Flight::new(number as u16, bytes[1])?;
+    let number = number_of(FLIGHT_NUMBER.text(bytes))?;
+    let airline = airline_of(AIRLINE.text(bytes))?;
+    let flight = Flight::new(number as u16, bytes[SUFFIX.first - 1])?;
     Some(AirlineFlight { airline, flight })
 }
 
@@ -82,8 +83,8 @@ pub(crate) struct FlightLeg {
 pub(crate) fn read_flight_leg(bytes: &[u8; 200]) -> Option<FlightLeg>
     ensures { IfSome result (λ leg. SpellsFlightLeg leg bytes.now) }
 {
-    let variation = number_of(&bytes[9..11])?;
-    let sequence = sequence_of(&bytes[11..13])?;
+    let variation = number_of(ITINERARY_VARIATION.text(bytes))?;
+    let sequence = sequence_of(LEG_SEQUENCE.text(bytes))?;
     Some(FlightLeg {
         variation: variation as u8,
         sequence: sequence as u8,

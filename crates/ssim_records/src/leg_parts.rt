@@ -6,12 +6,11 @@ ghost use Rattle.ssim_values.specs.Station.{is_station};
 ghost use Rattle.ssim_records.specs.LegParts.{AreTimes, ChangesEquipment, ChangesTimes, equipment_fields, station_columns, with_equipment, with_times};
 
 use crate::columns::{join, put, put_filled};
-use ssim_values::{Clock, Station, Variation};
-
-/// A column from 37 to 127 is this number of bytes after its index in a leg's own columns.
-const MIDDLE: usize = 36;
-/// A column from 129 to 194 is this number of bytes after its index in a leg's own columns.
-const TAIL: usize = 37;
+use crate::leg_fields::{
+    AIRCRAFT_ARRIVAL, AIRCRAFT_DEPARTURE, AIRCRAFT_TYPE, BEFORE_MIDDLE, BEFORE_TAIL,
+    BOOKING_DESIGNATORS, CONFIGURATION, DATE_VARIATIONS, PASSENGER_ARRIVAL, PASSENGER_DEPARTURE,
+};
+use ssim_values::{Clock, Station, Variation, last_digit};
 
 /// The stations of a leg and their UTC variations. Fields are named by the columns of a flight leg
 /// record, type 3.
@@ -96,15 +95,31 @@ impl LegTimes {
         ensures changes { ChangesTimes self.now bytes.old bytes.new }
         ensures times { AreTimes self.now }
     {
-        put(bytes, 40 - MIDDLE, &self.passenger_departure.write());
-        put(bytes, 44 - MIDDLE, &self.aircraft_departure.write());
-        put(bytes, 58 - MIDDLE, &self.aircraft_arrival.write());
-        put(bytes, 62 - MIDDLE, &self.passenger_arrival.write());
+        put(
+            bytes,
+            PASSENGER_DEPARTURE.first - BEFORE_MIDDLE,
+            &self.passenger_departure.write(),
+        );
+        put(
+            bytes,
+            AIRCRAFT_DEPARTURE.first - BEFORE_MIDDLE,
+            &self.aircraft_departure.write(),
+        );
+        put(
+            bytes,
+            AIRCRAFT_ARRIVAL.first - BEFORE_MIDDLE,
+            &self.aircraft_arrival.write(),
+        );
+        put(
+            bytes,
+            PASSENGER_ARRIVAL.first - BEFORE_MIDDLE,
+            &self.passenger_arrival.write(),
+        );
         let dates = [
-            digit(self.departure_date_variation),
-            digit(self.arrival_date_variation),
+            last_digit(self.departure_date_variation as u32),
+            last_digit(self.arrival_date_variation as u32),
         ];
-        put(bytes, 193 - TAIL, &dates);
+        put(bytes, DATE_VARIATIONS.first - BEFORE_TAIL, &dates);
     }
 }
 
@@ -115,14 +130,23 @@ impl LegEquipment<'_> {
         ensures changes { ChangesEquipment (equipment_fields self.now) bytes.old bytes.new }
     {
         put_filled(bytes, 0, 1, &[self.service_type]);
-        put_filled(bytes, 73 - MIDDLE, 3, &self.aircraft_type);
-        put_filled(bytes, 76 - MIDDLE, 20, self.booking_designators);
-        put_filled(bytes, 173 - TAIL, 20, self.configuration);
+        put_filled(
+            bytes,
+            AIRCRAFT_TYPE.first - BEFORE_MIDDLE,
+            3,
+            &self.aircraft_type,
+        );
+        put_filled(
+            bytes,
+            BOOKING_DESIGNATORS.first - BEFORE_MIDDLE,
+            20,
+            self.booking_designators,
+        );
+        put_filled(
+            bytes,
+            CONFIGURATION.first - BEFORE_TAIL,
+            20,
+            self.configuration,
+        );
     }
-}
-
-fn digit(number: u8) -> u8
-    ensures { result ≡ 48 + number % 10 }
-{
-    b'0' + number % 10
 }

@@ -1,13 +1,12 @@
 //! The 200-byte records of a schedule data set, as chapter 7 of IATA's Standard Schedules
 //! Information Manual has them, and the devices that they come from and go to.
 //!
-//! - [`Record`]: a [`Header`], [`Carrier`], [`LegRecord`], [`SegmentRecord`] or [`Trailer`], read
-//!   by [`read_record`] or a [`RecordReader`] and written by [`write_record`] and [`write_over`].
-//!   [`LegName`] identifies the leg of a record. [`LegColumns`] and [`SegmentTail`] are the columns
-//!   that a leg or a segment has of its own, with a reader for each field. [`NameText`] and
-//!   [`PeriodText`] are texts that several records have in common, so that they are written once.
-//! - [`LegStations`], [`LegTimes`] and [`LegEquipment`]: the parts of a new leg's columns, and what
-//!   messages change in them.
+//! - [`Record`]: a [`Header`], [`Carrier`], [`LegRecord`], [`SegmentRecord`] or [`Trailer`], read by [`read_record`] or a [`RecordReader`] and
+//!   written by [`write_record`] and [`write_over`]. [`LegName`] identifies the leg of a record. [`LegColumns`] and [`SegmentTail`] are the
+//!   columns that a leg or a segment has of its own, with a reader for each field. [`NameText`] and [`PeriodText`] are texts that
+//!   several records have in common, so that they are written once.
+//! - [`leg_fields`]: the one table of a leg's fields with their columns. [`LegColumns::text`] returns the bytes of a field.
+//! - [`LegStations`], [`LegTimes`] and [`LegEquipment`]: the parts of a new leg's columns, and what messages change in them.
 //! - [`Records`]: the records of a stream, one after another, from any [`Source`].
 //! - [`Source`] and [`Sink`]: devices that bytes come from and go to. Contracts know the bytes of a
 //!   `&[u8]`, of [`Bytes`] and of [`Parts`]. [`Input`] and [`Output`], over std's readers and
@@ -46,13 +45,16 @@ mod latest;
 mod laws;
 mod leg;
 mod leg_columns;
+pub mod leg_fields;
 mod leg_head;
 mod leg_name;
 mod leg_parts;
+mod leg_points;
 mod name_text;
 mod number;
 mod parts;
 mod record;
+mod record_texts;
 mod records;
 mod same;
 mod segment;
@@ -69,6 +71,7 @@ pub use carrier::Carrier;
 pub use device::{DeviceFault, Sink, Source};
 pub use end_code::EndCode;
 pub use fault::RecordFault;
+pub use field::Field;
 pub use header::Header;
 pub use laws::{frames_are_one, worked_records, written_records_read_back};
 pub use leg::LegRecord;

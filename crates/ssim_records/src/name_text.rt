@@ -7,7 +7,8 @@ ghost use Rattle.ssim_records.specs.Leg.{name_texts};
 
 use crate::columns::join;
 use crate::leg_name::LegName;
-use crate::number::{are_digits, both_digits, four_digits};
+use crate::number::{both_digits, four_digits};
+use ssim_values::are_digits;
 
 /// Columns 2 to 13 as they are written.
 pub fn name_text(name: LegName) -> [u8; 12]

@@ -1,29 +1,9 @@
 //! Numbers in the columns of a record.
 
 ghost use Rattle.std.specs.Prelude.{◌≡◌, ◌≤◌, ◌<◌, ◌+◌, ◌%◌, ◌^◌, length, IfSome};
-ghost use Rattle.std.specs.List.{list_all};
-ghost use Rattle.ssim_values.specs.Characters.{is_digit};
 ghost use Rattle.ssim_records.specs.Numbers.{digits_of, drop_blanks, drop_blanks_at_end, number_of, sequence_of, digits};
 
-use ssim_values::write_two_digits;
-
-fn is_digit(byte: u8) -> bool
-    ensures { result ≡ is_digit byte }
-{
-    byte.is_ascii_digit()
-}
-
-/// Whether each byte is a digit. The loop has no early exit, so that several bytes are tested at
-/// once.
-pub fn are_digits(text: &[u8]) -> bool
-    ensures { result ≡ list_all is_digit text.now }
-{
-    let mut all = true;
-    for byte in text {
-        all &= is_digit(*byte);
-    }
-    all
-}
+use ssim_values::{is_digit, last_digit, write_two_digits};
 
 /// The number that digits alone spell.
 #[tactic(auto, unfolding(crate::specs::Numbers::digits_of))]
@@ -107,12 +87,6 @@ pub fn sequence_of(text: &[u8]) -> Option<u32>
     }
 }
 
-fn digit(number: u32) -> u8
-    ensures { result ≡ 48 + number % 10 }
-{
-    b'0' + (number % 10) as u8
-}
-
 #[tactic(auto, using(crate::proofs::Numbers::last_two))]
 pub fn two_digits(number: u32) -> [u8; 2]
     ensures { result ≡ digits 2 number }
@@ -123,7 +97,11 @@ pub fn two_digits(number: u32) -> [u8; 2]
 pub fn three_digits(number: u32) -> [u8; 3]
     ensures { result ≡ digits 3 number }
 {
-    [digit(number / 10 / 10), digit(number / 10), digit(number)]
+    [
+        last_digit(number / 10 / 10),
+        last_digit(number / 10),
+        last_digit(number),
+    ]
 }
 
 /// The two digits of a number below 100.

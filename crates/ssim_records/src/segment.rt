@@ -5,10 +5,11 @@ ghost use Rattle.ssim_records.specs.Columns.{columns, is_carried};
 ghost use Rattle.ssim_records.specs.Segment.{IsSegment, SpellsSegment, written_segment};
 ghost use Rattle.ssim_records.specs.Heads.{IsSegmentHead};
 
-use crate::columns::{append, bytes_of, carried_at};
+use crate::columns::carried_at;
+use crate::leg_fields::SERVICE_TYPE;
 use crate::leg_name::LegName;
 use crate::name_text::{has_digits, name_text};
-use crate::number::six_digits;
+use crate::record_texts::write_segment;
 use crate::segment_head::SegmentHead;
 use crate::segment_tail::SegmentTail;
 use ssim_values::Airline;
@@ -142,7 +143,7 @@ impl SegmentRecord {
         ensures { SpellsSegment self.new bytes.now }
     {
         self.name = head.name;
-        self.service = carried_at(bytes, 14);
+        self.service = carried_at(bytes, SERVICE_TYPE.first);
         self.tail.put(bytes);
         self.overflow = carried_at(bytes, 28);
         self.serial = head.serial;
@@ -161,15 +162,14 @@ impl SegmentRecord {
         ensures value { out.new ≡ written_segment self.now }
         ensures is_segment { IsSegment self.now }
     {
-        let tail = self.tail.bytes_held();
-        let at = append(out, 0, b"4");
-        let at = append(out, at, &name_text(self.name));
-        let at = append(out, at, &[self.service]);
-        let at = append(out, at, &bytes_of::<13>(&tail[0..13]));
-        let at = append(out, at, &[self.overflow]);
-        let at = append(out, at, &bytes_of::<83>(&tail[13..96]));
-        let at = append(out, at, &bytes_of::<83>(&tail[96..179]));
-        append(out, at, &six_digits(self.serial));
+        write_segment(
+            out,
+            &name_text(self.name),
+            self.service,
+            &self.tail,
+            self.overflow,
+            self.serial,
+        );
     }
 
     /// The one written spelling.

@@ -5,22 +5,25 @@ ghost use Rattle.ssim_records.specs.Columns.{first_fault, EachStands};
 ghost use Rattle.ssim_records.specs.Segment.{segment_table};
 ghost use Rattle.ssim_records.specs.Heads.{IsSegmentHead};
 
-use crate::columns::digits_at;
+use crate::columns::serial_at;
 use crate::field::{Field, Kind, first_fault, middle_is_carried};
 use crate::latest::Latest;
+use crate::leg_fields::{
+    AIRLINE, FLIGHT_NUMBER, ITINERARY_VARIATION, LEG_SEQUENCE, SERIAL, SERVICE_TYPE, SUFFIX,
+};
 use crate::leg_name::{LegName, name_at};
 
 const TABLE: [Field; 10] = [
-    field!(2 2 Suffix),
-    field!(3 5 AirlineCode),
-    field!(6 9 Number),
-    field!(10 11 Number),
-    field!(12 13 Sequence),
-    field!(14 14 Carried),
+    SUFFIX,
+    AIRLINE,
+    FLIGHT_NUMBER,
+    ITINERARY_VARIATION,
+    LEG_SEQUENCE,
+    SERVICE_TYPE,
     field!(15 27 Carried),
     field!(28 28 Carried),
     field!(29 194 Carried),
-    field!(195 200 Digits),
+    SERIAL,
 ];
 
 fn segment_fault(bytes: &[u8; 200]) -> Option<usize>
@@ -44,7 +47,7 @@ fn head_of(bytes: &[u8; 200]) -> SegmentHead
 {
     SegmentHead {
         name: name_at(bytes),
-        serial: digits_at(bytes, 195, 200),
+        serial: serial_at(bytes),
     }
 }
 

@@ -6,11 +6,10 @@ ghost use Rattle.ssim_values.specs.Period.{DayRange};
 ghost use Rattle.ssim_records.specs.Leg.{AreLegColumns, period_texts, written_leg};
 ghost use Rattle.ssim_records.specs.Segment.{IsTail, written_segment};
 
-use crate::columns::join;
 use crate::leg_columns::LegColumns;
 use crate::leg_name::LegName;
 use crate::name_text::name_text;
-use crate::number::six_digits;
+use crate::record_texts::{dates_text, write_leg, write_segment};
 use crate::segment_tail::SegmentTail;
 use ssim_values::Period;
 use std::marker::Model;
@@ -42,24 +41,9 @@ impl PeriodText {
     {
         PeriodText {
             period,
-            text: period_text(period),
+            text: dates_text(period.first(), Some(period.last()), period.mask()),
         }
     }
-}
-
-fn period_text(period: Period) -> [u8; 21]
-    ensures { result ≡ concat (period_texts period) }
-{
-    let mut text = [b' '; 21];
-    join(
-        &mut text,
-        &[
-            &period.first().write(),
-            &period.last().write(),
-            &period.mask().write(),
-        ],
-    );
-    text
 }
 
 /// The name of a leg with its text: columns 2 to 13 of its leg record and of its segment records.
@@ -100,21 +84,7 @@ impl NameText {
         ensures value { out.new ≡ written_leg (record { name = self.now; first = period.now.first; last = Some period.now.last; days = period.now.days; rate = 32; columns = columns.now; overflow = 32; serial = serial }) }
         ensures columns { AreLegColumns columns.now }
     {
-        let own = columns.bytes();
-        join(
-            out,
-            &[
-                b"3",
-                &self.text,
-                &own[0..1],
-                &period.text,
-                b" ",
-                &own[1..92],
-                b" ",
-                &own[92..158],
-                &six_digits(serial),
-            ],
-        );
+        write_leg(out, &self.text, &period.text, b' ', columns, b' ', serial);
     }
 
     /// Writes the record of a segment that begins with this leg, which has these columns: with this
@@ -132,18 +102,6 @@ impl NameText {
         ensures tail { IsTail tail.now }
     {
         let service = columns.bytes_held()[0];
-        let own = tail.bytes_held();
-        join(
-            out,
-            &[
-                b"4",
-                &self.text,
-                &[service],
-                &own[0..13],
-                b" ",
-                &own[13..179],
-                &six_digits(serial),
-            ],
-        );
+        write_segment(out, &self.text, service, tail, b' ', serial);
     }
 }

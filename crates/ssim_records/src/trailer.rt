@@ -6,20 +6,24 @@ ghost use Rattle.ssim_records.specs.declared.field.Kind.TheVariants.{Carried, Co
 ghost use Rattle.ssim_records.specs.Columns.{columns, fault_in, first_fault, is_carried, end_code_of, EachStands};
 ghost use Rattle.ssim_records.specs.Trailer.{TrailerFields, IsTrailer, SpellsTrailer, trailer_table, written_trailer};
 
-use crate::columns::{airline_at, carried_at, digits_at, join};
+use crate::columns::{airline_at, carried_at, digits_at, join, serial_at};
 use crate::end_code::{EndCode, end_code_of, end_code_text};
 use crate::field::{Field, Kind, first_fault, seven};
+use crate::leg_fields::SERIAL;
 use crate::number::six_digits;
 use ssim_values::Airline;
 use std::marker::Model;
+
+/// Columns 188 to 193: the check reference.
+const CHECK: Field = field!(188 193 Digits);
 
 const TABLE: [Field; 6] = [
     field!(2 2 Carried),
     field!(3 5 AirlineCode),
     field!(6 187 Carried),
-    field!(188 193 Digits),
+    CHECK,
     field!(194 194 Code),
-    field!(195 200 Digits),
+    SERIAL,
 ];
 
 fn trailer_fault(bytes: &[u8; 200]) -> Option<usize>
@@ -87,9 +91,9 @@ fn trailer_of(bytes: &[u8; 200]) -> Trailer
         spare: carried_at(bytes, 2),
         airline: airline_at(bytes),
         release: release_at(bytes),
-        check: digits_at(bytes, 188, 193),
+        check: digits_at(bytes, CHECK),
         code: code_at(bytes),
-        serial: digits_at(bytes, 195, 200),
+        serial: serial_at(bytes),
     }
 }
 

@@ -1,8 +1,8 @@
 //! A leg of an itinerary.
 
-ghost use Rattle.std.specs.Prelude.{◌≡◌, ◌+◌, ◌<◌, ◌^◌, IfOk, map};
+ghost use Rattle.std.specs.Prelude.{◌≡◌, ◌<◌, ◌^◌, IfOk, map};
 ghost use Rattle.ssim_base.specs.Export.{same_leg, same_tails};
-ghost use Rattle.ssim_schedule.specs.Shared.{four_bytes, leg_hash};
+ghost use Rattle.ssim_schedule.specs.Shared.{leg_hash};
 
 use ssim_records::{LegColumns, SegmentTail};
 use ssim_values::Memory;
@@ -92,18 +92,12 @@ impl PlacedLeg {
             && same_tails(&self.tails, &other.tails)
     }
 
-    /// A hash of the stations, the aircraft times, the aircraft type and the number of tails.
+    /// A hash of the columns and the number of tails.
     pub(crate) fn hash(&self) -> u64
         ensures value { result ≡ leg_hash self.now }
         ensures bound { result < 2 ^ 55 }
     {
-        let bytes = self.columns.bytes();
-        four_bytes(&bytes, 1)
-            + 31 * four_bytes(&bytes, 8)
-            + 1_009 * four_bytes(&bytes, 19)
-            + 32_749 * four_bytes(&bytes, 22)
-            + 1_000_003 * four_bytes(&bytes, 37)
-            + 16_777_213 * (self.tails.len() % 4_096) as u64
+        self.columns.quick_hash() + 16_777_213 * (self.tails.len() % 4_096) as u64
     }
 
     /// An equal leg.
@@ -130,14 +124,4 @@ fn same_tails(mine: &[SegmentTail], theirs: &[SegmentTail]) -> bool
         }
     }
     true
-}
-
-// The number that four bytes of a leg's columns spell, the first byte as the highest digit.
-fn four_bytes(bytes: &[u8; 158], first: usize) -> u64
-    requires { first + 4 < 158 }
-    ensures value { result ≡ four_bytes bytes.now first }
-    ensures bound { result < 2 ^ 32 }
-{
-    let high = bytes[first] as u64 * 16_777_216 + bytes[first + 1] as u64 * 65_536;
-    high + bytes[first + 2] as u64 * 256 + bytes[first + 3] as u64
 }

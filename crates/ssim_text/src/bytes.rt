@@ -2,7 +2,7 @@
 ghost use Rattle.std.specs.Prelude.{◌≡◌, ◌∷◌, take, drop};
 ghost use Rattle.std.specs.List.{list_all};
 ghost use Rattle.ssim_text.specs.Bytes.{before, from, drop_blanks, word, behind, is_alphanumeric};
-ghost use Rattle.ssim_values.specs.Characters.{is_digit, is_letter};
+ghost use Rattle.ssim_values.specs.Characters.{is_letter};
 
 /// The bytes before the first `mark`, and those from it on.
 pub fn cut(text: &[u8], mark: u8) -> (&[u8], &[u8])
@@ -48,12 +48,6 @@ pub(crate) fn front(text: &[u8], count: usize) -> (&[u8], &[u8])
     } else {
         text.split_at(text.len())
     }
-}
-
-pub(crate) fn all_digits(text: &[u8]) -> bool
-    ensures { result ≡ list_all is_digit text.now }
-{
-    text.iter().all(|byte| b'0' <= *byte && *byte <= b'9')
 }
 
 pub(crate) fn all_letters(text: &[u8]) -> bool

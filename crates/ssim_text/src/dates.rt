@@ -2,8 +2,8 @@
 ghost use Rattle.std.specs.Prelude.{◌≡◌, IfSome, IfNone};
 ghost use Rattle.ssim_text.specs.Lines.{month_day_in, date_of, last_date_of, compact_days_of, period_of};
 
-use crate::bytes::{all_digits, first_word};
-use ssim_values::{Day, DayMask, DayMonth};
+use crate::bytes::first_word;
+use ssim_values::{Day, DayMask, DayMonth, are_digits};
 
 /// A date with its year, or without (`01JUL25`, `01JUL`).
 #[derive(Clone, Copy, Debug, PartialEq, Eq)]
@@ -80,7 +80,7 @@ fn compact_days(text: &[u8]) -> Option<DayMask>
     ensures some { IfSome result (λ days. compact_days_of text.now ≡ Some days) }
     ensures none { IfNone result (compact_days_of text.now ≡ None) }
 {
-    if !all_digits(text) {
+    if !are_digits(text) {
         return None;
     }
     match DayMask::parse(text) {

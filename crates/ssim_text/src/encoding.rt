@@ -16,14 +16,8 @@ use crate::message::FreeLine;
 use crate::originator::Originator;
 use crate::reference::{GivenReference, GroupCode};
 use crate::segment::SegmentLine;
-use ssim_values::{Clock, Designator, Station, TimeMode};
+use ssim_values::{Clock, Designator, Station, TimeMode, last_digit};
 use std::alloc::AllocError;
-
-fn digit(n: u32) -> u8
-    ensures { result ≡ 48 + n % 10 }
-{
-    b'0' + (n % 10) as u8
-}
 
 /// A line.
 pub(crate) fn push_line(out: &mut Vec<u8>, line: &[u8]) -> Result<(), AllocError>
@@ -51,18 +45,18 @@ pub(crate) fn three_digits(n: u16) -> [u8; 3]
     ensures { result ≡ three_digits n }
 {
     let n = n as u32;
-    [digit(n / 100), digit(n / 10), digit(n)]
+    [last_digit(n / 100), last_digit(n / 10), last_digit(n)]
 }
 
 pub(crate) fn five_digits(n: u32) -> [u8; 5]
     ensures { result ≡ five_digits n }
 {
     [
-        digit(n / 10000),
-        digit(n / 1000),
-        digit(n / 100),
-        digit(n / 10),
-        digit(n),
+        last_digit(n / 10000),
+        last_digit(n / 1000),
+        last_digit(n / 100),
+        last_digit(n / 10),
+        last_digit(n),
     ]
 }
 
@@ -217,7 +211,7 @@ fn push_variation(out: &mut Vec<u8>, variation: u8) -> Result<(), AllocError>
         return Ok(());
     }
     out.push(b'/')?;
-    out.push(digit(variation as u32))?;
+    out.push(last_digit(variation as u32))?;
     Ok(())
 }
 

@@ -5,12 +5,12 @@ ghost use Rattle.ssim_values.specs.Flight.{number_of};
 ghost use Rattle.ssim_values.specs.Characters.{is_digit};
 ghost use Rattle.std.specs.List.{list_all};
 
-use crate::bytes::{all_digits, front};
+use crate::bytes::front;
 use crate::dates::month_day;
 use crate::encoding::{five_digits, three_digits};
 use crate::kind::Kind;
 use crate::originator::Originator;
-use ssim_values::{Day, DayMonth};
+use ssim_values::{Day, DayMonth, are_digits};
 use std::alloc::{AllocError, Global};
 use std::cmp::Ordering;
 use std::fmt;
@@ -124,7 +124,7 @@ pub(crate) fn digits(low: usize, high: usize, text: &[u8]) -> Option<u32>
     if text.len() < low || text.len() > high {
         return None;
     }
-    if !all_digits(text) {
+    if !are_digits(text) {
         return None;
     }
     Some(number(text))

@@ -2,12 +2,11 @@
 
 ghost use Rattle.std.specs.Prelude.{◌≡◌, ◌↔◌, ◌++◌, ◌∷◌, [], ◌<◌, ◌*◌, ◌^◌, ℕ, List, length, IfNone, IfSome, IsSomeAnd, IsTrue, Some};
 ghost use Rattle.std.specs.Fmt.{decimal};
-ghost use Rattle.std.specs.List.{list_all};
 ghost use Rattle.ssim_text.specs.Bytes.{before, from};
 ghost use Rattle.ssim_held.specs.File.{counted};
 ghost use Rattle.ssim_held.specs.Opening.{is_number};
-ghost use Rattle.ssim_values.specs.Characters.{is_digit};
 
+use ssim_values::are_digits;
 use std::str;
 
 /// How many elements follow. None means a number that no memory can hold.
@@ -35,12 +34,6 @@ fn first_line(bytes: &[u8]) -> Option<(&[u8], &[u8])>
     None
 }
 
-fn all_digits(text: &[u8]) -> bool
-    ensures { result ≡ list_all is_digit text.now }
-{
-    text.iter().all(|byte| b'0' <= *byte && *byte <= b'9')
-}
-
 /// Whether the bytes are a decimal number without leading zeros, however long.
 fn is_number(text: &[u8]) -> bool
     ensures { result ≡ is_number text.now }
@@ -48,7 +41,7 @@ fn is_number(text: &[u8]) -> bool
     match text {
         [] => false,
         [b'0', rest @ ..] => rest.is_empty(),
-        _ => all_digits(text),
+        _ => are_digits(text),
     }
 }
 

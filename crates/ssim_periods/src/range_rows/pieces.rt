@@ -9,6 +9,7 @@ use crate::cover::{last_in, period_of, unlike_in_row};
 use crate::numbers::{ValueNumber, numbered_days};
 use crate::range_rows::RangeRows;
 use crate::rows::{DAYS, place_of, range_end, row_at};
+use crate::weekdays::first_on;
 use ssim_values::{Day, Memory, Period};
 
 const NO_DAYS: [bool; 7] = [false; 7];
@@ -92,7 +93,7 @@ impl<V: Value> RangeRows<V> {
         requires all_days { length self.now.days ≡ 36525 }
         ensures { result ≡ has_value V.alike self.now.days value.now (first + (weekday + 7 - slot first) % 7) }
     {
-        let day = first + (weekday + 7 - (first + 5) % 7) % 7;
+        let day = first_on(weekday, first);
         match Day::from_number(day as u16) {
             Some(day) => value.same(self.at(day)),
             None => false,

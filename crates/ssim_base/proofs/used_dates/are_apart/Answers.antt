@@ -1,9 +1,9 @@
 -- No day is in the ranges of two periods that lie apart.
+use Rattle.ssim_periods.specs.CommonDays.{meet}
 use Rattle.std.proofs.Common.{◌≡◌, ℕ, ◌<◌, ◌≤◌, max, min, false, refl, arith}
 use Rattle.std.proofs.lemmas.Bool.Decides.{nat_tests}
 use Rattle.ssim_values.specs.Period.{DayRange}
-use Rattle.ssim_base.specs.Base.{meet}
-use Rattle.ssim_base.proofs.DateLemmas.{meet-none}
+use Rattle.ssim_periods.proofs.CommonDayLemmas.{meet-none}
 use Rattle.ssim_base.proofs.used_dates.are_apart.Goals as goal
 
 none : (p q : DayRange) → ((n : ℕ) → max p.first q.first ≤ n → n ≤ min p.last q.last → ⊥) → meet p q ≡ false

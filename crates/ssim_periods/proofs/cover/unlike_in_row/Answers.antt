@@ -9,11 +9,13 @@ pub returns-then-has-days : goal.returns-then-has-days
 returns-then-has-days g c =
     let i = c.loop-day.invariant in let alike = g.V.Value.alike c.args.value.now in let row = c.args.row.now in let days = c.args.days.now in
     let same = c.index-row-weekday.is in let has = c.same-has.ensures in
-    let w = slot c.loop-day.day in let on = slice_index_or days w false in
+    let w = c.weekday_of-weekday.result in let on = slice_index_or days w false in
     let test = λ (n : ℕ). differ (alike (slice_index_or row (slot n) g.V.Value.nothing)) (slice_index_or days (slot n) false) in
     let week = i.week in let within = i.within in let lt = c.loop-day-test.true in let o = c.requires.ordered in let from = c.loop-day.auto.day in
     let has_is : c.same-has.result ≡ alike (slice_index_or row w g.V.Value.nothing) = has ∙ ap alike (index-default row w c.index-row-weekday.result g.V.Value.nothing (omega arith)) in
-    let unlike : test c.loop-day.day ≡ true = sym (ap (λ b. differ b on) has_is) ∙ differ-tested c.same-has.result on c.if-has-days.true in
+    let unlike : test c.loop-day.day ≡ true =
+    ap (λ (s : ℕ). differ (alike (slice_index_or row s g.V.Value.nothing)) (slice_index_or days s false)) (sym c.weekday_of-weekday.ensures.value)
+    ∙ sym (ap (λ b. differ b on) has_is) ∙ differ-tested c.same-has.result on c.if-has-days.true in
     sym (first_where-is test c.args.from (c.args.to - c.args.from) c.loop-day.day from (omega arith) unlike i.passed)
 
 pub returns : goal.returns

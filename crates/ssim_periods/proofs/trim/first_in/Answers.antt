@@ -1,4 +1,4 @@
-use Rattle.std.proofs.Common.{◌≡◌, ◌+◌, ◌-◌, ℕ, false, slice_index_or, sym, ◌∙◌, arith}
+use Rattle.std.proofs.Common.{◌≡◌, ◌+◌, ◌-◌, ℕ, false, slice_index_or, ap, sym, ◌∙◌, arith}
 use Rattle.ssim_periods.specs.Calendar.{slot}
 use Rattle.ssim_periods.proofs.CoverLemmas.{first_where-is, first_where-none}
 use Rattle.ssim_periods.proofs.trim.first_in.Goals as goal
@@ -7,7 +7,7 @@ pub returns-then-days-weekday : goal.returns-then-days-weekday
 returns-then-days-weekday c =
     let test = λ (n : ℕ). slice_index_or c.args.days.now (slot n) false in
     let from = c.loop-day.auto.day in let lt = c.loop-day-test.true in
-    sym (first_where-is test c.args.from (c.args.to - c.args.from) c.loop-day.day from (omega arith) c.if-days-weekday.true c.loop-day.invariant)
+    sym (first_where-is test c.args.from (c.args.to - c.args.from) c.loop-day.day from (omega arith) (ap (λ (w : ℕ). slice_index_or c.args.days.now w false) (sym c.weekday_of-weekday.ensures.value) ∙ c.if-days-weekday.true) c.loop-day.invariant)
 
 pub returns : goal.returns
 returns c =

@@ -8,6 +8,6 @@ use Rattle.ssim_program.proofs.show.push_leg.Goals as goal
 pub returns : goal.returns
 returns c =
     let old = c.args.lines.now.items in
-    let s = c.sequence.result in let d = c.bytes-own.result in
+    let s = c.sequence.result in let d = c.columns.result in
     joined old (two_digits s ++ columns_text d) (10 ∷ []) (joined old (two_digits s) (columns_text d) c.in_ok-push_sequence.ensures c.in_ok-push_columns.ensures) c.in_ok-push.ensures.items
-    ∙ ap₂ (λ (n : ℕ) (e : List ℕ). old ++ ((two_digits n ++ columns_text e) ++ 10 ∷ [])) c.sequence.ensures.value (c.bytes-own.ensures.value ∙ c.columns.ensures)
+    ∙ ap₂ (λ (n : ℕ) (e : List ℕ). old ++ ((two_digits n ++ columns_text e) ++ 10 ∷ [])) c.sequence.ensures.value c.columns.ensures

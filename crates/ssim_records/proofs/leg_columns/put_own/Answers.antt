@@ -10,4 +10,4 @@ returns c =
     ∙ c.append.ensures.value _
     ∙ c.append-at-2.ensures.value _
     ∙ c.append-at.ensures.value _ in
-    rw (parts, c.bytes_of.ensures, c.bytes_of-2.ensures) refl
+    rw (parts, c.bytes_of.ensures, c.bytes_of-2.ensures, c.text.ensures.value, c.text-2.ensures.value, c.text-3.ensures.value) refl

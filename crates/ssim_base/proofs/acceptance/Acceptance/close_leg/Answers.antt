@@ -1,10 +1,10 @@
--- A leg record is allowed if none before it has one of its dates.
+-- A leg record stands where none before it has one of its dates.
+use Rattle.ssim_periods.specs.CommonDays.{have_common_date}
 use Rattle.std.proofs.Common.{ℕ, refl, sym, ap, subst, ◌∙◌}
 use Rattle.ssim_values.specs.Flight.{IsFlight}
 use Rattle.ssim_periods.specs.Calendar.{holds}
 use Rattle.ssim_records.specs.Leg.{LegFields, Name}
 use Rattle.ssim_records.specs.declared.record.Record.TheVariants.{Leg}
-use Rattle.ssim_base.specs.Dates.{have_common_date}
 use Rattle.ssim_base.specs.AcceptedRecords.{AddsRecord}
 use Rattle.ssim_base.specs.LegTable.{AddsLegAt, legs_at, uses_date}
 use Rattle.ssim_base.specs.ReadBack.{place_of}

@@ -1,9 +1,9 @@
 -- The entry of the leg sequence has one more leg record.
+use Rattle.ssim_periods.specs.CommonDays.{have_common_date}
 use Rattle.std.proofs.Common.{◌≡◌, ℕ, ◌<◌, ◌||◌, nat_eq, Option, Some, length, set, slice_get, refl, sym, ap, subst, ◌∙◌, arith}
 use Rattle.std.proofs.lemmas.Option.{slice_get_read}
 use Rattle.std.proofs.lemmas.Result.{IfOk-weaker}
 use Rattle.ssim_periods.specs.Calendar.{holds}
-use Rattle.ssim_base.specs.Dates.{have_common_date}
 use Rattle.ssim_base.specs.LegTable.{AddsLeg, entry_of, index_of, used_of, variation_of}
 use Rattle.ssim_base.specs.declared.leg_sequence.LegSequence.{LegSequence}
 use Rattle.ssim_base.proofs.LegSequences.{adds, entry-set, has-set, on-both}

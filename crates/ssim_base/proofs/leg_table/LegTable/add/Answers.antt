@@ -1,11 +1,11 @@
 -- The flight of the name has one more leg record.
+use Rattle.ssim_periods.specs.CommonDays.{have_common_date}
 use Rattle.std.proofs.Common.{◌≡◌, ◌/◌, ◌%◌, ℕ, List, length, slice_get, refl, sym, ap, ◌∙◌}
 use Rattle.std.proofs.lemmas.Option.{slice_get_read}
 use Rattle.std.proofs.lemmas.Result.{IfOk-weaker}
 use Rattle.std.specs.Vec.{with_item}
 use Rattle.ssim_values.specs.Flight.{FlightNumber}
 use Rattle.ssim_periods.specs.Calendar.{holds}
-use Rattle.ssim_base.specs.Dates.{have_common_date}
 use Rattle.ssim_base.specs.LegTable.{flights_of, legs_at, legs_in, uses_date}
 use Rattle.ssim_base.specs.ReadBack.{place_of}
 use Rattle.ssim_base.specs.declared.flight_legs.FlightLegs.{FlightLegs}

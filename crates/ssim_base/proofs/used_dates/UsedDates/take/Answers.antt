@@ -1,10 +1,9 @@
 -- Among few periods a date is used that one of them holds.
+use Rattle.ssim_periods.specs.CommonDays.{have_common_date, meet}
 use Rattle.std.proofs.Common.{List, sym, ap, ◌∙◌}
 use Rattle.std.specs.List.{list_any}
 use Rattle.ssim_values.specs.Period.{DayRange}
 use Rattle.ssim_periods.specs.Calendar.{holds}
-use Rattle.ssim_base.specs.Base.{meet}
-use Rattle.ssim_base.specs.Dates.{have_common_date}
 use Rattle.ssim_base.specs.LegTable.{is_used}
 use Rattle.ssim_base.specs.declared.used_dates.UsedDates.{UsedDates}
 use Rattle.ssim_base.proofs.DateLemmas.{meets-any}

@@ -19,7 +19,7 @@ returns-then-has_digits-clause-same c =
     let r = c.args.self.now in
     let b = c.args.bytes.now in
     let days = c.write.ensures.places ∙ ap (λ (x : LegFields). places_of x.days) c.self.view_is in
-    let value : c.are_same_seven.result ≡ bytes_eq (columns 29 35 b) (places_of r.days) = rw (← days, ← c.seven.ensures) c.are_same_seven.ensures in
+    let value : c.are_same_seven.result ≡ bytes_eq (columns 29 35 b) (places_of r.days) = rw (← days, ← c.text.ensures.value, ← c.seven.ensures) c.are_same_seven.ensures in
     let same = bytes_eq-Decides (columns 29 35 b) (places_of r.days) in
     (λ h. leg_is_written r b c.told-bytes c.requires (c.has_digits.ensures.0 c.if-has_digits.true) (same.0 (sym value ∙ h)), λ e. value ∙ same.1 (written_leg_has r b (returns-then-has_digits-clause-is_leg c) e).1)
 

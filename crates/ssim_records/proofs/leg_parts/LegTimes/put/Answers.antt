@@ -17,8 +17,8 @@ all_written c =
       c.write-2.ensures.value,
       c.write-3.ensures.value,
       c.write-4.ensures.value,
-      c.digit.ensures,
-      c.digit-2.ensures,
+      c.last_digit.ensures,
+      c.last_digit-2.ensures,
     ) refl
 
 pub returns-clause-value : goal.returns-clause-value

@@ -1,7 +1,7 @@
--- The joined parts are the written spelling.
-use Rattle.std.proofs.Common.{[], ◌∷◌, subst}
+-- The texts of the name and the period are the fields of the written spelling.
+use Rattle.std.proofs.Common.{[], ◌∷◌}
 use Rattle.std.specs.Prelude.{codes, slice_range}
-use Rattle.ssim_records.specs.Leg.{AreLegColumns, name_texts, period_texts}
+use Rattle.ssim_records.specs.Leg.{name_texts, period_texts}
 use Rattle.ssim_records.specs.Numbers.{digits}
 use Rattle.ssim_records.proofs.Places.{period_joined}
 use Rattle.ssim_records.proofs.texts.NameText.write_leg.Goals as goal
@@ -10,8 +10,5 @@ pub returns-clause-value : goal.returns-clause-value
 returns-clause-value c =
     let own = c.args.columns.now in
     let back = (32 ∷ []) ∷ slice_range own 1 92 ∷ (32 ∷ []) ∷ slice_range own 92 158 ∷ digits 6 c.args.serial ∷ [] in
-    rw (c.join.ensures, c.self.invariant, c.period.invariant, c.bytes-own.ensures.value, c.six_digits.ensures, ← c.self.view_is, ← c.period.view_is)
+    rw (c.write_leg.ensures.value, c.self.invariant, c.period.invariant, ← c.self.view_is, ← c.period.view_is)
     (period_joined (codes "3") (name_texts c.self.inside.name) (slice_range own 0 1 ∷ []) (period_texts c.period.inside.period) back)
-
-pub returns-clause-columns : goal.returns-clause-columns
-returns-clause-columns c = subst AreLegColumns c.bytes-own.ensures.value c.bytes-own.ensures.stands

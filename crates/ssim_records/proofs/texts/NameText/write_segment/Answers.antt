@@ -1,4 +1,4 @@
--- The joined parts are the written spelling.
+-- The text of the name is the first fields of the written spelling.
 use Rattle.std.proofs.Common.{[], ◌∷◌}
 use Rattle.std.specs.Prelude.{codes, slice_index, slice_range}
 use Rattle.ssim_records.specs.Leg.{name_texts}
@@ -10,4 +10,4 @@ pub returns-clause-value : goal.returns-clause-value
 returns-clause-value c =
     let own = c.args.tail.now in
     let back = (slice_index c.args.columns.now 0 ∷ []) ∷ slice_range own 0 13 ∷ (32 ∷ []) ∷ slice_range own 13 179 ∷ digits 6 c.args.serial ∷ [] in
-    rw (c.join.ensures, c.self.invariant, c.bytes_held.ensures.value, c.bytes_held-own.ensures.value, c.six_digits.ensures, ← c.self.view_is) (name_joined (codes "4") (name_texts c.self.inside.name) back)
+    rw (c.write_segment.ensures.value, c.self.invariant, c.bytes_held.ensures.value, ← c.self.view_is) (name_joined (codes "4") (name_texts c.self.inside.name) back)

@@ -2,8 +2,8 @@
 use Rattle.std.proofs.Common.{true, false, sym, ◌∙◌}
 use Rattle.std.proofs.lemmas.Bool.Decides.{Decides-eqb}
 use Rattle.ssim_records.proofs.Clocks.{signed_variation}
-use Rattle.ssim_records.proofs.field.is_signed_clock.Goals as goal
-use Rattle.ssim_records.proofs.field.is_signed_clock.Goals.{then-text-eq43, else-text-eq43}
+use Rattle.ssim_records.proofs.leg_points.is_signed_clock.Goals as goal
+use Rattle.ssim_records.proofs.leg_points.is_signed_clock.Goals.{then-text-eq43, else-text-eq43}
 
 pub returns-then-text-eq45 : goal.returns-then-text-eq45
 returns-then-text-eq45 c =

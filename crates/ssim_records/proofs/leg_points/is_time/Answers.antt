@@ -1,7 +1,7 @@
 -- What spells a time is one.
 use Rattle.std.proofs.Common.{sym, ◌∙◌}
 use Rattle.ssim_records.proofs.Clocks.{some_clock}
-use Rattle.ssim_records.proofs.field.is_time.Goals as goal
+use Rattle.ssim_records.proofs.leg_points.is_time.Goals as goal
 
 pub returns-then-is_clock_to : goal.returns-then-is_clock_to
 returns-then-is_clock_to c =

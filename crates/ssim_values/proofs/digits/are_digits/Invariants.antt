@@ -2,7 +2,7 @@
 use Rattle.std.proofs.Common.{◌≡◌, ◌&&◌, drop}
 use Rattle.std.specs.List.{list_all}
 use Rattle.ssim_values.specs.Characters.{is_digit}
-use Rattle.ssim_records.proofs.number.are_digits.Given as goal
+use Rattle.ssim_values.proofs.digits.are_digits.Given as goal
 
 abbrev pub invariant-loop-byte : goal.invariant-loop-byte
 invariant-loop-byte l = (l.all && list_all is_digit (drop l.byte-index l.text)) ≡ list_all is_digit l.text
