@@ -5,7 +5,9 @@ For k = 1, 2, .. growth number k of a run is refused, and then every growth from
 refusal. Each run ends with status 0 and exactly the bytes and the file of a run without refusals; or with status 1 and
 `refused 90 Memory`, and no file is kept or changed. Before a 90 `take` may have printed the lines of its first texts, and no
 other command anything. `rehearse` may print 90 in the line of a step: then the other lines are those of the script without
-the step. The last line is 'N passed, M failed'; the lines before it say how many runs each command took.
+the step. It may print 90 in the line of a desk, and does so in some run: then the other desks have the lines that they have
+without it, and the last line is `same` only if all desks have this line. The last line is 'N passed, M failed'; the lines
+before it say how many runs each command took.
 """
 import concurrent.futures
 import os
@@ -64,23 +66,33 @@ class Sweep:
         return self.whole.out.startswith(out) and out.endswith(b"\n")
 
     def is_rehearsal(self, out):
-        """Whether these are the lines of a rehearsal in which no other steps were refused than those whose lines say 90."""
-        lines = lines_of(out)
-        count = len(SCRIPT.splitlines()) - 1
-        refused = tuple(place for place in range(count) if lines[place : place + 1] and lines[place].endswith(b" " + MEMORY))
+        """Whether these are the lines of a rehearsal in which no other steps and exports were refused than those whose lines say 90."""
+        refused = tuple(place for place, line in enumerate(lines_of(out)) if line.endswith(b" " + MEMORY))
         if refused not in self.rehearsals:
             self.rehearsals[refused] = self.rehearsal_without(refused)
         return out == self.rehearsals[refused]
 
     def rehearsal_without(self, places):
-        """What is printed of the script without these steps, and the line of a 90 in the place of each."""
+        """What is printed of the script without the steps of these lines, and the line of a 90 in the place of each step and desk."""
         first, *steps = SCRIPT.splitlines(keepends=True)
-        self.runs.write({"script": "".join([first, *(step for place, step in enumerate(steps) if place not in places)]).encode()})
+        left = [step for place, step in enumerate(steps) if place not in places]
+        self.runs.write({"script": "".join([first, *left]).encode()})
         lines = lines_of(self.runs.run(self.words).out)
         self.runs.put_back(self.runs.files())
         for place in places:
-            lines.insert(place, steps[place].split()[1].encode() + b" " + MEMORY)
+            if place < len(steps):
+                lines.insert(place, steps[place].split()[1].encode() + b" " + MEMORY)
+        desks = [place for place in places if place >= len(steps)]
+        for place in desks:
+            lines[place : place + 1] = [b"desk %d " % (place - len(steps) + 1) + MEMORY]
+        if desks:
+            lines[-1] = b"same\n" if len(desks) == int(first.split()[1]) else b"different\n"
         return b"".join(lines)
+
+    def has_refused_export(self):
+        """Whether a run printed 90 in the line of a desk."""
+        steps = len(SCRIPT.splitlines()) - 1
+        return any(place >= steps for places in self.rehearsals for place in places)
 
     def refuse(self, onward):
         """Refuses growth 1, 2, ..: the number of runs, and what was wrong."""
@@ -93,6 +105,8 @@ class Sweep:
                               f"{answer.out[:200]!r}, {answer.err[:200]!r}")
             self.runs.put_back(answer.files)
             if answer.refused == 0:
+                if self.name == "rehearse" and not onward and not self.has_refused_export():
+                    faults.append("growths: rehearse: no line of a desk has 90")
                 return number, faults
 
 

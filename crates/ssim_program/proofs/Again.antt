@@ -75,7 +75,7 @@ tidied_once law all name bytes again kept own is fits made =
     let base = made.0 in
     let notes = made.1 in
     let dataset = made.2.0 in
-    let same : dataset ≡ bytes = ap (λ (o : Option (List ℕ)). unwrap_or o dataset) (sym made.2.1 ∙ is) in
+    let same : dataset ≡ bytes = ap (λ (o : Option (List ℕ)). unwrap_or o dataset) (sym made.2.1.1 ∙ is) in
     let read : IsReadAs file_limit bytes (Ok (base, notes)) = subst (λ (d : List ℕ). IsReadAs file_limit d (Ok (base, notes))) same made.2.2 in
     as_itself base notes again bytes own made.3 (law bytes own.count own.records own.base [] file_limit (read_as base notes) own.read own.stands fits read)
 

@@ -1,7 +1,6 @@
 -- The export of a desk into a buffer is the export of what the desk holds.
-use Rattle.std.proofs.Common.{◌≡◌, ◌∙◌, ◌++◌, ℕ, List, [], Option, Some, Ok, Err, sym, ap}
+use Rattle.std.proofs.Common.{◌≡◌, ◌∙◌, ◌++◌, ℕ, List, [], Option, Some, Ok, Err, refl, sym, ap}
 use Rattle.ssim_records.specs.Device.{Buffer}
-use Rattle.ssim_base.specs.Export as exported
 use Rattle.ssim_schedule.specs.Plan.{RefusesBase, WritesBase}
 use Rattle.ssim_schedule.specs.declared.export.ExportFault.{ExportFault}
 use Rattle.ssim_schedule.specs.declared.export.ExportFault.TheVariants as export
@@ -9,7 +8,7 @@ use Rattle.ssim_held.specs.Entries.{AreEntries, DeskSeen, state_of}
 use Rattle.ssim_desk.specs.Desk.{days_of_desk, timetable_of}
 use Rattle.ssim_desk.specs.Meaning.{Exports}
 use Rattle.ssim_desk.proofs.Meant.{has_meaning}
-use Rattle.ssim_program.specs.Rehearsal.{Outcome, refused_outcome}
+use Rattle.ssim_program.specs.Rehearsal.{IsOutcome}
 
 abbrev taken : Buffer → Option (List ℕ)
 taken s = Some s.bytes
@@ -23,13 +22,11 @@ exports_ok desk old new entries none w =
     let all : new.bytes ≡ w.2.0 = w.2.2 ∙ ap (λ (front : List ℕ). front ++ w.2.0) none in
     record { frame = w.0; has_frame = w.1; timetable = timetable_of desk; means = has_meaning desk entries; exported = ap Ok all ∙ sym w.2.1 }
 
-pub exports_err : (desk : DeskSeen) (old new : Buffer) (fault : ExportFault) (o : Outcome) → AreEntries desk.base.records desk.held
-    → RefusesBase taken failures desk.base.records (days_of_desk desk) old new fault → Some o ≡ refused_outcome fault → Exports (state_of desk) o
-exports_err desk old new (export.Variations flight) o entries r is =
-    let same : o ≡ Err (exported.Variations flight) = cc in
-    record { frame = r.0; has_frame = r.1; timetable = timetable_of desk; means = has_meaning desk entries; exported = same ∙ sym r.2.0 }
-exports_err desk old new export.Records o entries r is =
-    let same : o ≡ Err exported.Records = cc in
-    record { frame = r.0; has_frame = r.1; timetable = timetable_of desk; means = has_meaning desk entries; exported = same ∙ sym r.2.0 }
-exports_err desk old new export.WriteFault o entries r is = absurd cc
-exports_err desk old new export.Memory o entries r is = absurd cc
+pub exports_err : (desk : DeskSeen) (old new : Buffer) (fault : ExportFault) → AreEntries desk.base.records desk.held
+    → RefusesBase taken failures desk.base.records (days_of_desk desk) old new fault → (fault ≡ export.WriteFault → ⊥) → IsOutcome (state_of desk) (Err fault)
+exports_err desk old new (export.Variations flight) entries r other =
+    record { frame = r.0; has_frame = r.1; timetable = timetable_of desk; means = has_meaning desk entries; exported = sym r.2.0 }
+exports_err desk old new export.Records entries r other =
+    record { frame = r.0; has_frame = r.1; timetable = timetable_of desk; means = has_meaning desk entries; exported = sym r.2.0 }
+exports_err desk old new export.WriteFault entries r other = absurd (other refl)
+exports_err desk old new export.Memory entries r other = tt

@@ -6,7 +6,6 @@ use Rattle.std.proofs.lemmas.List.{take_more}
 use Rattle.ssim_base.specs.BaseSeen.{BaseSeen}
 use Rattle.ssim_text.specs.Grammar.{OneMessage}
 use Rattle.ssim_held.specs.Held.{DeskState, HeldMessages, Says}
-use Rattle.ssim_desk.specs.Meaning.{Exports}
 use Rattle.ssim_desk.specs.Steps.{IsInRange, MergesOne, Runs, Takes, desk_at}
 use Rattle.ssim_desk.specs.declared.steps.Answer.{Answer}
 use Rattle.ssim_desk.specs.declared.steps.Answer.TheVariants.{Taken, Repeated, Merged, Refused}
@@ -14,7 +13,7 @@ use Rattle.ssim_desk.specs.declared.steps.Step.{Step}
 use Rattle.ssim_desk.specs.declared.steps.Step.TheVariants.{Take, Merge}
 use Rattle.ssim_desk.proofs.Moments.{Moment, at_step}
 use Rattle.ssim_program.specs.Files.{Files}
-use Rattle.ssim_program.specs.Rehearsal.{AreExports, AreLoaded, AreStepLines, HasLine, HasMergeLine, HasTakeLine, HaveLines, IsLoaded, IsStepLine, Outcome, RefusesStep, RefusesTexts, desk_of}
+use Rattle.ssim_program.specs.Rehearsal.{AreExports, AreLoaded, AreStepLines, HasLine, HasMergeLine, HasTakeLine, HaveLines, IsLoaded, IsOutcome, IsStepLine, Outcome, RefusesStep, RefusesTexts, desk_of}
 use Rattle.ssim_program.specs.Script.{IsFirstOther, Written, step_in}
 use Rattle.ssim_program.specs.declared.refusal.Refusal.{Refusal}
 use Rattle.ssim_program.specs.declared.rehearse.line.RehearsalLine.{RehearsalLine}
@@ -28,7 +27,7 @@ loaded_more files [] (x ∷ ss) w s are is = absurd are
 loaded_more files (y ∷ ws) [] w s are is = absurd are
 loaded_more files (y ∷ ws) (x ∷ ss) w s are is = (are.0, loaded_more files ws ss w s are.1 is)
 
-exports_more : (desks : List DeskState) (os : List Outcome) (desk : DeskState) (o : Outcome) → AreExports desks os → Exports desk o → AreExports (desks ++ desk ∷ []) (os ++ o ∷ [])
+exports_more : (desks : List DeskState) (os : List Outcome) (desk : DeskState) (o : Outcome) → AreExports desks os → IsOutcome desk o → AreExports (desks ++ desk ∷ []) (os ++ o ∷ [])
 exports_more [] [] desk o are is = (is, tt)
 exports_more [] (x ∷ os) desk o are is = absurd are
 exports_more (d ∷ desks) [] desk o are is = absurd are
@@ -58,11 +57,11 @@ loaded_next f files xs i x ss new s lt at are is pushed =
     (loaded_more files (map f (take i xs)) ss (f (get_or xs i x)) s are (subst (λ y. IsLoaded files (f y) s) at is)))
 
 pub exports_next : {X : Type 0} (f : X → DeskState) (xs : List X) (i : ℕ) (x : X) (os new : List Outcome) (o : Outcome) → i < length xs → x ≡ get_or xs i x
-    → AreExports (map f (take i xs)) os → Exports (f x) o → new ≡ os ++ o ∷ [] → AreExports (map f (take (i + 1) xs)) new
+    → AreExports (map f (take i xs)) os → IsOutcome (f x) o → new ≡ os ++ o ∷ [] → AreExports (map f (take (i + 1) xs)) new
 exports_next f xs i x os new o lt at are is pushed =
     subst (λ ws. AreExports ws new) (sym (map_more f xs i x lt))
     (subst (AreExports (map f (take i xs) ++ f (get_or xs i x) ∷ [])) (sym pushed)
-    (exports_more (map f (take i xs)) os (f (get_or xs i x)) o are (subst (λ y. Exports (f y) o) at is)))
+    (exports_more (map f (take i xs)) os (f (get_or xs i x)) o are (subst (λ y. IsOutcome (f y) o) at is)))
 
 pub lines_next : (base : BaseSeen) (ss : List Step) (us : List Answer) (i : ℕ) (s : Step) (u : Answer) (ls new : List RehearsalLine) (l : RehearsalLine) → i < length ss → i < length us
     → s ≡ get_or ss i s → u ≡ get_or us i u → AreStepLines base (take i ss) (take i us) ls → IsStepLine base s u l → new ≡ ls ++ l ∷ [] → AreStepLines base (take (i + 1) ss) (take (i + 1) us) new

@@ -1,5 +1,5 @@
 -- What the commands make from a data set.
-use Rattle.std.specs.Prelude.{◌≡◌, ◌⊎◌, ℕ, ◌<◌, IfSome, List, ◌++◌, length, Option, Some, Ok, Err}
+use Rattle.std.specs.Prelude.{◌≡◌, ◌⊎◌, ℕ, ◌<◌, ◌≤◌, IfSome, List, ◌++◌, length, Option, Some, Ok, Err}
 use Rattle.std.specs.List.{flat_map}
 use Rattle.ssim_values.specs.Flight.{FlightNumber}
 use Rattle.ssim_records.specs.declared.fault.RecordFault.TheVariants as record_fault
@@ -62,9 +62,10 @@ AreLinesOn base notes bytes = (flights : List FlightNumber) × AreFlights base f
 abbrev pub file_limit : ℕ
 file_limit = 268435456
 
--- the file of this name has these bytes, if the contract can see the files
+-- the bytes are within the limit, and the file of this name has them, if the contract can see the
+-- files
 abbrev pub HasFile : Option Files → Text → List ℕ → Type 0
-HasFile files name bytes = IfSome files (λ all. file_of all name ≡ Some bytes)
+HasFile files name bytes = (length bytes ≤ file_limit) × IfSome files (λ all. file_of all name ≡ Some bytes)
 
 -- the data set in the file of this name is read as this
 abbrev pub ReadsFile : Option Files → Text → Outcome → Type 0

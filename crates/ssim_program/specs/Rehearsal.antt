@@ -7,7 +7,7 @@ use Rattle.std.specs.List.{flat_map}
 use Rattle.ssim_base.specs.Base.{airline_of}
 use Rattle.ssim_base.specs.BaseSeen.{BaseSeen}
 use Rattle.ssim_base.specs.Export as exported
-use Rattle.ssim_base.specs.Export.{ExportRefusal, line}
+use Rattle.ssim_base.specs.Export.{line}
 use Rattle.ssim_schedule.specs.declared.export.ExportFault.{ExportFault}
 use Rattle.ssim_schedule.specs.declared.export.ExportFault.TheVariants as export
 use Rattle.ssim_base.specs.declared.note.Note.{Note}
@@ -110,26 +110,31 @@ HaveLines base steps answers = (k : ℕ) (step : Step) (answer : Answer) → IsS
 
 -- the export of a desk: its bytes, or why there are none
 abbrev pub Outcome : Type 0
-Outcome = Result (List ℕ) ExportRefusal
+Outcome = Result (List ℕ) ExportFault
 
 -- the export of a desk as the specification sees it
 abbrev pub outcome_of : kept.Outcome → Outcome
 outcome_of (kept_as.Exported buffer) = Ok buffer.bytes
-outcome_of (kept_as.Variations flight) = Err (exported.Variations flight)
-outcome_of kept_as.Records = Err exported.Records
+outcome_of (kept_as.Refused fault) = Err fault
 
--- the outcome that a fault of an export means, unless memory ran out
-abbrev pub refused_outcome : ExportFault → Option Outcome
-refused_outcome (export.Variations flight) = Some (Err (exported.Variations flight))
-refused_outcome export.Records = Some (Err exported.Records)
-refused_outcome export.WriteFault = None
-refused_outcome export.Memory = None
+-- the export that a buffer has, unless there was a fault
+abbrev pub outcome_with : List ℕ → Option ExportFault → Outcome
+outcome_with bytes None = Ok bytes
+outcome_with bytes (Some fault) = Err fault
+
+-- The desk has this export: the bytes of its meaning, or 50 or 51 if its meaning has none. Or
+-- memory ran out, and the refusal is 90.
+abbrev pub IsOutcome : DeskState → Outcome → Type 0
+IsOutcome desk (Ok bytes) = Exports desk (Ok bytes)
+IsOutcome desk (Err (export.Variations flight)) = Exports desk (Err (exported.Variations flight))
+IsOutcome desk (Err export.Records) = Exports desk (Err exported.Records)
+IsOutcome desk (Err export.WriteFault) = ⊥
+IsOutcome desk (Err export.Memory) = Unit {0}
 
 -- the line of the desk with this number and export
 abbrev pub desk_line : ℕ → DeskState → Outcome → RehearsalLine
 desk_line n desk (Ok bytes) = printed.Exported n (length (entries desk.held)) (length bytes)
-desk_line n desk (Err (exported.Variations flight)) = printed.NotExported n (airline_of desk.base.records) (export.Variations flight)
-desk_line n desk (Err exported.Records) = printed.NotExported n (airline_of desk.base.records) export.Records
+desk_line n desk (Err fault) = printed.NotExported n (airline_of desk.base.records) fault
 
 -- the lines of desks and their exports; n is the number of the first
 abbrev pub desk_lines : ℕ → List DeskState → List Outcome → List RehearsalLine
@@ -140,7 +145,7 @@ desk_lines n (desk ∷ desks) (outcome ∷ outcomes) = desk_line n desk outcome 
 -- each desk has this export
 abbrev pub AreExports : List DeskState → List Outcome → Type 0
 AreExports [] [] = Unit {0}
-AreExports (desk ∷ desks) (outcome ∷ outcomes) = Exports desk outcome × AreExports desks outcomes
+AreExports (desk ∷ desks) (outcome ∷ outcomes) = IsOutcome desk outcome × AreExports desks outcomes
 AreExports desks outcomes = ⊥
 
 -- each of these exports is equal to the one given

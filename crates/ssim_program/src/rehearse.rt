@@ -24,8 +24,9 @@ use std::alloc::Global;
 ///
 /// The data set is loaded first, then the station table; the table is read before the data set.
 /// Then the script is loaded and read whole, and its texts are loaded, before the first step. A
-/// refusal of a step, or of the export of a desk, is in the line of the step or the desk. If an
-/// export runs out of memory, the command is refused with 90.
+/// refusal of a step, or of the export of a desk, is in the line of the step or the desk, 90 too.
+/// If there is no memory for the bytes of an export or for the lines, the command is refused with
+/// 90.
 pub(crate) fn rehearse<S: Store>(
     alloc: Global,
     dataset: &str,

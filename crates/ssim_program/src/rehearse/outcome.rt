@@ -1,14 +1,13 @@
 //! The exports of desks, and whether they are equal.
-ghost use Rattle.std.specs.Prelude.{◌≡◌, ◌↔◌, ◌<◌, ◌+◌, ◌^◌, ◌≤◌, ◌++◌, IfOk, IsTrue, OnOk, length, map, option_map};
+ghost use Rattle.std.specs.Prelude.{◌≡◌, ◌↔◌, ◌<◌, ◌+◌, ◌%◌, ◌^◌, ◌≤◌, ◌++◌, [], IfOk, IsTrue, OnErr, OnOk, length, map};
 ghost use Rattle.ssim_held.specs.Entries.{state_of};
-ghost use Rattle.ssim_desk.specs.Meaning.{Exports};
-ghost use Rattle.ssim_program.specs.Rehearsal.{AreEqualTo, AreExports, AreSame, HasEnds, IsVerdict, desk_line, desk_lines, outcome_of, refused_outcome};
+ghost use Rattle.ssim_program.specs.Rehearsal.{AreEqualTo, AreExports, AreSame, HasEnds, IsOutcome, IsVerdict, desk_line, desk_lines, outcome_of, outcome_with};
 
 use crate::rehearse::line::RehearsalLine;
 use ssim_desk::{DeskFault, Holdings};
 use ssim_records::Bytes;
 use ssim_schedule::ExportFault;
-use ssim_values::{Flight, Memory};
+use ssim_values::Memory;
 use std::alloc::Global;
 
 /// The export of a desk.
@@ -16,38 +15,41 @@ use std::alloc::Global;
 pub(crate) enum Outcome {
     /// Its bytes.
     Exported(Bytes),
-    /// 50: the flight has more than 99 itinerary variations.
-    Variations(Flight),
-    /// 51: there are more than 999,999 records.
-    Records,
+    /// Why there is none: 50, 51 or 90.
+    Refused(ExportFault),
 }
 
-/// The outcome that a fault is, if memory has not run out.
-fn refused(fault: ExportFault) -> Option<Outcome>
-    ensures { option_map outcome_of result ≡ refused_outcome fault }
-{
-    match fault {
-        ExportFault::Variations(flight) => Some(Outcome::Variations(flight)),
-        ExportFault::Records => Some(Outcome::Records),
-        ExportFault::WriteFault => None,
-        ExportFault::Memory => None,
-    }
-}
-
-/// Exports a desk into memory. An export consumes its desk, so a copy of the desk is exported.
-fn export_of(alloc: Global, desk: &Holdings) -> Result<Outcome, Memory>
-    ensures { IfOk result (λ outcome. Exports (state_of desk.now) (outcome_of outcome)) }
+/// Exports a desk into an empty buffer. An export consumes its desk, so a copy of the desk is
+/// exported. Returns why there is no export, if there is none. `Err` if memory ran out for the
+/// bytes in the buffer.
+fn export_into(desk: &Holdings, out: &mut Bytes) -> Result<Option<ExportFault>, Memory>
+    requires empty { out.now.bytes ≡ [] }
+    ensures ok { IfOk result (λ fault. IsOutcome (state_of desk.now) (outcome_with out.new.bytes fault)) }
+    ensures err { OnErr result (out.new.failures ≡ (out.old.failures + 1) % 2 ^ 64) }
 {
     // No effect at run time. The proof reads from this use what the desk's messages are.
     let _ = desk.held();
-    let mut out = Bytes::new(alloc);
-    let copy = desk.copy()?;
-    match copy.export(&mut out) {
-        Ok(()) => Ok(Outcome::Exported(out)),
-        Err(fault) => match refused(fault) {
-            Some(outcome) => Ok(outcome),
-            None => Err(Memory),
+    match desk.copy() {
+        Ok(copy) => match copy.export(out) {
+            Ok(()) => Ok(None),
+            Err(fault) => match fault {
+                ExportFault::WriteFault => Err(Memory),
+                _ => Ok(Some(fault)),
+            },
         },
+        Err(_) => Ok(Some(ExportFault::Memory)),
+    }
+}
+
+/// Exports a desk into memory.
+fn export_of(alloc: Global, desk: &Holdings) -> Result<Outcome, Memory>
+    ensures { IfOk result (λ outcome. IsOutcome (state_of desk.now) (outcome_of outcome)) }
+{
+    let mut out = Bytes::new(alloc);
+    match export_into(desk, &mut out) {
+        Ok(None) => Ok(Outcome::Exported(out)),
+        Ok(Some(fault)) => Ok(Outcome::Refused(fault)),
+        Err(_) => Err(Memory),
     }
 }
 
@@ -73,15 +75,10 @@ fn line_of(number: usize, desk: &Holdings, outcome: &Outcome) -> RehearsalLine
             messages: desk.held().len(),
             bytes: bytes.bytes().len(),
         },
-        Outcome::Variations(flight) => RehearsalLine::NotExported {
+        Outcome::Refused(fault) => RehearsalLine::NotExported {
             desk: number,
             airline: desk.data_set().airline(),
-            fault: ExportFault::Variations(*flight),
-        },
-        Outcome::Records => RehearsalLine::NotExported {
-            desk: number,
-            airline: desk.data_set().airline(),
-            fault: ExportFault::Records,
+            fault: *fault,
         },
     }
 }
@@ -117,12 +114,8 @@ fn same(one: &Outcome, other: &Outcome) -> bool
             Outcome::Exported(others) => bytes.bytes() == others.bytes(),
             _ => false,
         },
-        Outcome::Variations(flight) => match other {
-            Outcome::Variations(another) => flight == another,
-            _ => false,
-        },
-        Outcome::Records => match other {
-            Outcome::Records => true,
+        Outcome::Refused(fault) => match other {
+            Outcome::Refused(another) => fault == another,
             _ => false,
         },
     }
