@@ -12,12 +12,12 @@ import sys
 TOP = os.path.dirname(os.path.dirname(os.path.abspath(__file__)))
 
 
-def rows_after(page, heading):
-    """The cells of each row of the first table after a line."""
+def rows_from(page, first):
+    """The cells of each row of the first table from a line on."""
     with open(os.path.join(TOP, page), encoding="utf-8", newline="\n") as file:
         lines = file.read().split("\n")
     rows = []
-    for line in lines[lines.index(heading) + 1 :]:
+    for line in lines[lines.index(first) :]:
         if line.startswith("|"):
             rows.append([cell.strip().replace("`", "") for cell in line.strip("|").split("|")])
         elif rows:
@@ -28,7 +28,7 @@ def rows_after(page, heading):
 def reasons():
     """The name and the reason of each number, by docs/FORMATS.md."""
     found = {}
-    for number, name, _place, why in rows_after("docs/FORMATS.md", "standard output."):
+    for number, name, _place, why in rows_from("docs/FORMATS.md", "| Number | Name | Place | Why |"):
         found[int(number)] = (name, why)
     return found
 
@@ -37,7 +37,7 @@ def remedies():
     """The name of each number and what to do about it, by the README."""
     found = {}
     last = None
-    for names, _meaning, remedy in rows_after("README.md", "## When it refuses"):
+    for names, _meaning, remedy in rows_from("README.md", "## When it refuses"):
         if remedy != "the same":
             last = remedy
         for number, name in re.findall(r"(\d+) (\w+)", names):

@@ -3,7 +3,7 @@
 ghost use Rattle.std.specs.Prelude.{◌≡◌, ◌↔◌, IsTrue, IfOk, IfErr};
 ghost use Rattle.std.specs.List.{All};
 ghost use Rattle.ssim_base.specs.Base.{airline_of};
-ghost use Rattle.ssim_base.specs.BaseSeen.{AreFlights};
+ghost use Rattle.ssim_base.specs.BaseSeen.{AreFlights, base_with};
 ghost use Rattle.ssim_base.specs.Closed.{IsClosed};
 ghost use Rattle.ssim_base.specs.ReadBack.{AreInOrder, HasFrame};
 ghost use Rattle.ssim_base.specs.Reading.{Answers, Came, FailsAfter, FailsAs, IsReadOf, NeverEnds};
@@ -81,6 +81,21 @@ impl Base {
         ensures rows { result.rows ≡ stations }
     {
         Base { data_set, stations }
+    }
+
+    /// The data set and the station table.
+    pub fn into_parts(self) -> (DataSet, Stations)
+        ensures { base_with result.0 result.1 ≡ self }
+    {
+        let Base { data_set, stations } = self;
+        (data_set, stations)
+    }
+
+    /// The data set.
+    pub fn data_set(&self) -> &DataSet
+        ensures { result.now ≡ self.now.records }
+    {
+        &self.data_set
     }
 
     /// The same base.

@@ -1,5 +1,5 @@
--- A desk after a text and after a merge.
-use Rattle.std.proofs.Common.{◌≡◌, ◌≢◌, ◌≤◌, ℕ, List, [], ◌∷◌, ◌++◌, length, take, drop, Some, None, slice_get, refl, sym, ap, subst, ◌∙◌, arith, length-append}
+-- What a text and a merge make of a desk.
+use Rattle.std.proofs.Common.{◌≡◌, ◌≢◌, ◌≤◌, ◌+◌, ℕ, List, [], ◌∷◌, ◌++◌, length, take, drop, Some, None, slice_get, refl, sym, ap, subst, ◌∙◌, arith, length-append}
 use Rattle.std.proofs.lemmas.List.{length-take, take-append-le, take_all}
 use Rattle.std.proofs.lemmas.List.Elements.{All-append, All-cons, All-drop, All-take}
 use Rattle.std.specs.FinMap.{get}
@@ -21,15 +21,25 @@ use Rattle.ssim_held.specs.Entries.{AreEntries, AreRising, DeskSeen, Entry, IsEn
 use Rattle.ssim_held.specs.Ordered.{Belongs}
 use Rattle.ssim_held.proofs.Entries.{map_of_with, not_held, rising_with}
 use Rattle.ssim_desk.specs.Desk.{IsReplayed}
-use Rattle.ssim_desk.specs.Private.{IsOffer, IsReplaced}
+use Rattle.ssim_desk.specs.Private.{IsOffer, IsReplaced, IsReplay}
 use Rattle.ssim_desk.specs.declared.offer.Offer.{Offer}
+use Rattle.ssim_desk.specs.declared.replay.Replay.{Replay}
 use Rattle.ssim_desk.specs.Steps.{IsInConflict, IsKnown, IsNew, RefusesText}
 
 -- ---- messages that are replaced
 
-pub replaced_entries : (old new : DeskSeen) (at : ℕ) (rest : List Entry) → IsReplaced old at rest new → AreEntries old.base.records (take at old.held ++ rest) → AreEntries new.base.records new.held
-replaced_entries old new at rest r h =
-    subst (λ b. let records = b.records in AreEntries records new.held) (sym r.base) (subst (AreEntries old.base.records) (sym r.held) h)
+-- the messages from a position on are replaced, once as many were applied
+pub replaced : (old new : DeskSeen) (at : ℕ) (rest : List Entry) (base : BaseSeen) (r : Replay) → at ≤ length old.held → r.from ≤ at → at ≤ r.from + 31
+    → IsReplay base (take at old.held ++ rest) r → new.base ≡ old.base → new.held ≡ take at old.held ++ rest → new.applied ≡ r.applied → IsReplaced old at rest new
+replaced old new at rest base r place low near replay base_is held_is applied_is =
+    let all : r.applied + r.from ≡ at + length rest = omega (arith, place, replay.counted, length-append (take at old.held) rest, length-take at old.held) in
+    record {
+      base = base_is;
+      held = held_is;
+      at_least = omega (arith, applied_is, all, low);
+      at_most = omega (arith, applied_is, all, near);
+      whole = λ none. omega (arith, applied_is, all, low, none);
+    }
 
 pub inserted_entries : (records : List Record) (es : List Entry) (at : ℕ) (new : Entry) → AreEntries records es → Belongs es new.reference at at → IsEntry records new
     → AreEntries records (take at es ++ (new ∷ drop at es))
@@ -59,12 +69,6 @@ replayed old new at first others place r absent =
     }
 
 -- ---- a text
-
--- the same offer, of the same messages
-pub offered : (base : BaseSeen) (text : List ℕ) (es fs : List Entry) (f g : Offer) → es ≡ fs → f ≡ g → IsOffer (record { base = base; held = map_of es }) es text f
-    → IsOffer (record { base = base; held = map_of fs }) fs text g
-offered base text es fs f g held is h =
-    subst (λ (x : Offer). IsOffer (record { base = base; held = map_of fs }) fs text x) is (subst (λ (xs : List Entry). IsOffer (record { base = base; held = map_of xs }) xs text f) held h)
 
 pub no_text : (desk : DeskState) (text : List ℕ) (fault : TextFault) → NoMessage text fault → IsRefusal text fault → RefusesText desk text (text_refused fault)
 no_text desk text text_fault.Memory none place = tt

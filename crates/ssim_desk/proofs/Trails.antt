@@ -8,7 +8,8 @@ use Rattle.ssim_base.specs.Stations.{Row}
 use Rattle.ssim_schedule.specs.declared.finding.Finding.{Finding}
 use Rattle.ssim_values.specs.Flight.{FlightNumber, IsFlight}
 use Rattle.ssim_held.specs.Entries.{Entry}
-use Rattle.ssim_desk.specs.Private.{AddsSubPoints, AreCheckpoints, IsAfter, IsHistory, Shows}
+use Rattle.ssim_desk.specs.Private.{AddsSubPoints, AreCheckpoints, IsAfter, IsHistory, IsReplay, Shows}
+use Rattle.ssim_desk.specs.{declared.history.History.History, declared.replay.Replay.Replay}
 use Rattle.ssim_desk.specs.Meaning.{Timetable, after_entries, after_entry, entries_findings, found_by, left_by, subs_findings}
 use Rattle.ssim_desk.proofs.Points.{more_at}
 
@@ -133,12 +134,8 @@ begun_each : (base : BaseSeen) (schedule : Table) → IsAfter base [] schedule �
 begun_each base schedule after zero = after
 begun_each base schedule after (suc k) = tt
 
-pub begun_trail : (base : BaseSeen) (schedule : Table) → IsAfter base [] schedule → IsHistory base [] (schedule ∷ []) schedule []
-begun_trail base schedule after = record {
-  latest_is = after;
-  found_is = refl;
-  kept = record { count = omega arith; each = begun_each base schedule after };
-}
+begun_kept : (base : BaseSeen) (schedule : Table) → IsAfter base [] schedule → AreCheckpoints base [] 0 (schedule ∷ [])
+begun_kept base schedule after = record { count = omega arith; each = begun_each base schedule after }
 
 module _ (base : BaseSeen) (held : List Entry) (from : ℕ) where
   pub start_latest : (latest : Table) → from ≡ length held → IsAfter base held latest → IsAfter base (take from held) latest
@@ -174,6 +171,34 @@ module _ (base : BaseSeen) (held rest : List Entry) (from at : ℕ) (low : from 
       front : length (take (from / 32 + 1) cps) ≡ from / 32 + 1
       front = omega (arith, old.count, length-take (from / 32 + 1) cps)
 
--- if all messages are replaced, exactly the new ones were applied
-pub all_applied : {X : Type 0} (old rest : List X) (from at applied : ℕ) → from ≤ at → applied + from ≡ length (take at old ++ rest) → at ≡ 0 → applied ≡ length rest
-all_applied old rest from at applied low counted none = omega (arith, low, counted, none, length-append (take at old) rest, length-take at old)
+-- the history of messages that were all applied
+pub made : (base : BaseSeen) (held : List Entry) (began : Table) (r : Replay) (h : History) → IsAfter base [] began → IsReplay base held r → r.from ≡ 0
+    → h.latest ≡ r.latest → h.found.items ≡ r.found.items → h.checkpoints.items ≡ began ∷ r.checkpoints.items → IsHistory base held h
+made base held began r h after replay none latest found checkpoints = record {
+  latest_is = subst (IsAfter base held) (sym latest) replay.latest_is;
+  found_is = found ∙ ap (λ n. found_by base (take n held) ++ r.found.items) (sym none) ∙ replay.found_is;
+  kept = subst (AreCheckpoints base held 0) (sym checkpoints)
+      (kept_in_place base [] held 0 0 (omega arith) (omega arith) (began ∷ []) r.checkpoints.items (begun_kept base began after)
+      (subst (λ n. AreCheckpoints base held (n / 32 + 1) r.checkpoints.items) none replay.kept));
+}
+
+-- the history after messages from a position on were replaced
+pub put_in_place : (base : BaseSeen) (held rest : List Entry) (at : ℕ) (r : Replay) (old new : History) → at ≤ length held → r.from ≤ at
+    → IsHistory base held old → IsReplay base (take at held ++ rest) r → new.latest ≡ r.latest
+    → new.found.items ≡ take r.from old.found.items ++ r.found.items
+    → new.checkpoints.items ≡ take (r.from / 32 + 1) old.checkpoints.items ++ r.checkpoints.items → IsHistory base (take at held ++ rest) new
+put_in_place base held rest at r old new place low history replay latest found checkpoints = record {
+  latest_is = subst (IsAfter base (take at held ++ rest)) (sym latest) replay.latest_is;
+  found_is = found ∙ found_in_place base held rest r.from at low place old.found.items r.found.items history.found_is replay.found_is;
+  kept = subst (AreCheckpoints base (take at held ++ rest) 0) (sym checkpoints)
+      (kept_in_place base held rest r.from at low place old.checkpoints.items r.checkpoints.items history.kept replay.kept);
+}
+
+-- a history with the same schedules and findings
+pub same_history : (base : BaseSeen) (held : List Entry) (old new : History) → new.latest ≡ old.latest → new.found.items ≡ old.found.items
+    → new.checkpoints.items ≡ old.checkpoints.items → IsHistory base held old → IsHistory base held new
+same_history base held old new latest found checkpoints history = record {
+  latest_is = subst (IsAfter base held) (sym latest) history.latest_is;
+  found_is = found ∙ history.found_is;
+  kept = subst (AreCheckpoints base held 0) (sym checkpoints) history.kept;
+}

@@ -1,6 +1,8 @@
--- Definitions that only private functions cite. No law and no public contract cites them, so nobody
--- has to believe them.
-use Rattle.std.specs.Prelude.{◌≡◌, ◌⊎◌, ◌||◌, ℕ, ◌+◌, ◌*◌, ◌/◌, ◌%◌, ◌<◌, ◌≤◌, List, ◌++◌, length, take, map, slice_get, Contains, IsTrue, IfSome}
+-- Definitions that only private functions cite. No law and no public contract cites them, so nobody has to believe them.
+use Rattle.std.specs.Prelude.{◌≡◌, ◌⊎◌, ◌||◌, ℕ, ◌+◌, ◌*◌, ◌/◌, ◌%◌, ◌<◌, ◌≤◌, List, ◌∷◌, ◌++◌, length, take, map, slice_get, Contains, IsTrue, IfSome}
+use Rattle.std.specs.Prelude.{Option, None, Some}
+use Rattle.std.specs.FinMap.{get}
+use Rattle.std.specs.Prelude.{Vec, vec_capacity, vec_len}
 use Rattle.std.specs.List.{flat_map, list_any}
 use Rattle.ssim_periods.specs.Days.{each_day}
 use Rattle.ssim_base.specs.{BaseSeen.BaseSeen, Stations.Row}
@@ -8,8 +10,9 @@ use Rattle.ssim_schedule.specs.{Schedule.{Table, cuts_in, days_in}, declared.fin
 use Rattle.ssim_base.specs.declared.sub_message.ResolvedSub.{ResolvedSub}
 use Rattle.ssim_text.specs.Message.{MessageValue}
 use Rattle.ssim_values.specs.Flight.{FlightNumber, IsFlight}
-use Rattle.ssim_held.specs.{Held.{DeskState, Holds, Says}, Entries.{DeskSeen, Entry, IsEntry}, Ordered.Belongs}
+use Rattle.ssim_held.specs.{Held.{DeskState, Holds, Says}, Entries.{AreEntries, DeskSeen, Entry, IsEntry, map_of, state_of}, Ordered.Belongs}
 use Rattle.ssim_desk.specs.{Desk.{AreDeskPoints, is_row_point, is_sub_point}, Meaning.{Timetable, found_by, left_by}}
+use Rattle.ssim_desk.specs.{Steps.IsUnion, declared.history.History.History}
 use Rattle.ssim_desk.specs.{declared.offer.Offer.Offer, declared.offer.Offer.TheVariants.{Known, New}, declared.replay.Replay.Replay}
 
 -- ---- a text that is offered
@@ -18,6 +21,23 @@ use Rattle.ssim_desk.specs.{declared.offer.Offer.Offer, declared.offer.Offer.The
 abbrev pub IsOffer : DeskState → List Entry → List ℕ → Offer → Type 0
 IsOffer desk held text (Known reference) = (message : MessageValue) × Says desk.base text reference message × Holds desk reference message
 IsOffer desk held text (New at e) = Belongs held e.reference at at × IsEntry desk.base.records e × Says desk.base text e.reference e.message
+
+-- ---- another desk
+
+-- what a merge brings: the messages from a position on, the first of which is new
+pub record Brings (mine theirs : DeskSeen) (at : ℕ) (rest : List Entry) : Type 0 where
+  pub within : at ≤ length mine.held
+  pub entries : AreEntries mine.base.records (take at mine.held ++ rest)
+  pub union : IsUnion (state_of mine) (state_of theirs) (map_of (take at mine.held ++ rest))
+  pub first : Entry
+  pub others : List Entry
+  pub begins : rest ≡ first ∷ others
+  pub is_new : get (map_of mine.held) first.reference ≡ None
+
+-- what a merge changes: nothing, as each message of the other is held; or it brings messages
+abbrev pub IsChange : {A : Type 0} → DeskSeen → DeskSeen → Option (ℕ × Vec Entry A) → Type 0
+IsChange mine theirs None = IsUnion (state_of mine) (state_of theirs) (map_of mine.held)
+IsChange mine theirs (Some change) = Brings mine theirs change.0 change.1.items
 
 -- ---- a history: the schedule after every 32 messages, the latest one, and what each message found
 
@@ -44,27 +64,30 @@ pub record AreCheckpoints (base : BaseSeen) (entries : List Entry) (first : ℕ)
   pub count : first + length checkpoints ≡ length entries / 32 + 1
   pub each : (k : ℕ) → IfSome (slice_get checkpoints k) (IsAfter base (take (32 * (first + k)) entries))
 
--- what a history stores of a base and messages
-pub record IsHistory (base : BaseSeen) (entries : List Entry) (checkpoints : List Table) (latest : Table) (found : List (List Finding)) : Type 0 where
-  pub latest_is : IsAfter base entries latest
-  pub found_is : found ≡ found_by base entries
-  pub kept : AreCheckpoints base entries 0 checkpoints
+-- what a history keeps of a base and messages
+pub record IsHistory (base : BaseSeen) (entries : List Entry) (history : History) : Type 0 where
+  pub latest_is : IsAfter base entries history.latest
+  pub found_is : history.found.items ≡ found_by base entries
+  pub kept : AreCheckpoints base entries 0 history.checkpoints.items
 
--- what follows the first `from` messages: the checkpoints, the findings, and how many messages were
--- applied
-pub record IsReplay (base : BaseSeen) (entries : List Entry) (from : ℕ) (tail : Replay) : Type 0 where
-  pub within : from ≤ length entries
-  pub latest_is : IsAfter base entries tail.latest
-  pub found_is : found_by base (take from entries) ++ tail.found.items ≡ found_by base entries
-  pub kept : AreCheckpoints base entries (from / 32 + 1) tail.checkpoints.items
-  pub counted : tail.applied + from ≡ length entries
-  pub since_is : tail.since ≡ length entries % 32
+-- what follows the first messages: the checkpoints, the findings, and how many messages were applied
+pub record IsReplay (base : BaseSeen) (entries : List Entry) (replay : Replay) : Type 0 where
+  pub within : replay.from ≤ length entries
+  pub latest_is : IsAfter base entries replay.latest
+  pub found_is : found_by base (take replay.from entries) ++ replay.found.items ≡ found_by base entries
+  pub kept : AreCheckpoints base entries (replay.from / 32 + 1) replay.checkpoints.items
+  pub counted : replay.applied + replay.from ≡ length entries
+  pub since_is : replay.since ≡ length entries % 32
 
--- a replay counts the messages that were applied, and has the remainder of all messages after the
--- last multiple of 32
-pub record IsCounted (tail : Replay) : Type 0 where
-  pub each : tail.applied ≡ length tail.found.items
-  pub few : tail.since < 32
+-- the lists of a history have room for what follows
+pub record HasRoom (history : History) (replay : Replay) : Type 0 where
+  pub found : vec_len history.found + vec_len replay.found ≤ vec_capacity history.found
+  pub checkpoints : vec_len history.checkpoints + vec_len replay.checkpoints ≤ vec_capacity history.checkpoints
+
+-- a replay counts the messages that were applied, and how many the last multiple of 32 leaves
+pub record IsCounted (replay : Replay) : Type 0 where
+  pub each : replay.applied ≡ length replay.found.items
+  pub few : replay.since < 32
 
 -- The messages from a position on are replaced. The new ones were applied, and fewer than 32 before
 -- them; only the new ones if all messages are replaced.

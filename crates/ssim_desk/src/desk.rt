@@ -9,19 +9,20 @@ ghost use Rattle.ssim_schedule.specs.Plan.{ReadsBackBase, RefusesBase, WritesBas
 ghost use Rattle.ssim_base.specs.Sinks.{CountsFault, TakesFront};
 ghost use Rattle.ssim_held.specs.File.{CanBeSaved, desk_file};
 ghost use Rattle.ssim_held.specs.Opening.{FailsAs, NeverEnds, Opens, RefusesFile};
-ghost use Rattle.ssim_held.specs.Held.{Agree};
 ghost use Rattle.ssim_held.specs.Entries.{AreEntries, AreRising, IsEntry, map_of, state_of};
 ghost use Rattle.ssim_held.specs.Ordered.{Belongs};
 ghost use Rattle.ssim_desk.specs.Desk.{AreDeskPoints, IsReplayed, at_rest, days_of_desk, finding_lines, merge_answer, point_bound, take_answer, timetable_of};
 ghost use Rattle.ssim_desk.specs.Private.{IsReplaced};
 ghost use Rattle.ssim_desk.specs.Meaning.{Finds, Means, Timetable, found_by};
-ghost use Rattle.ssim_desk.specs.Steps.{IsUnion, Merges, Takes};
+ghost use Rattle.ssim_desk.specs.Steps.{Merges, Takes};
 
 use crate::finding_line::{FindingLine, push_lines};
 use crate::history::History;
-use crate::offer::{Offer, offer_over};
+use crate::holdings::Holdings;
+use crate::offer::Offer;
+use crate::replay::apply_all;
 use ssim_base::{Base, WriteFault};
-use ssim_held::{DeskFault, Held, Opened, first_conflict, first_new, merged, put_desk, read_desk};
+use ssim_held::{DeskFault, Held, read_desk};
 use ssim_records::{Sink, Source};
 use ssim_schedule::{ExportFault, PlacedLeg};
 use ssim_values::{Day, Flight, Memory};
@@ -44,18 +45,19 @@ pub enum Took {
 /// is applied from there on.
 #[derive(Drop)]
 pub struct Desk {
-    trail: History,
+    holdings: Holdings,
+    history: History,
 }
 
 impl Model for Desk {
-    ghost use Rattle.ssim_held.specs.File.{CanBeSaved, desk_file};
-    ghost use Rattle.ssim_held.specs.Entries.{AreEntries, DeskSeen};
+    ghost use Rattle.ssim_held.specs.Entries.{DeskSeen};
+    ghost use Rattle.ssim_desk.specs.Private.{IsHistory};
 
     ghost Value = { DeskSeen };
 
-    ghost view = { λ d. d.trail };
+    ghost view = { λ d. let h = d.holdings in record { base = h.base; held = h.held; applied = d.history.applied } };
 
-    ghost invariant = { λ d. let t = d.trail in AreEntries t.base.records t.held };
+    ghost invariant = { λ d. let h = d.holdings in IsHistory h.base h.held d.history };
 }
 
 impl Desk {
@@ -63,9 +65,7 @@ impl Desk {
     pub fn start(alloc: Global, base: Base) -> Result<Desk, Memory>
         ensures { IfOk result (λ desk. desk ≡ record { base = base; held = []; applied = 0 }) }
     {
-        Ok(Desk {
-            trail: History::new(alloc, base)?,
-        })
+        Desk::over(Holdings::over(alloc, base))
     }
 
     /// Opens a desk file: reads all bytes of the reader, at most `limit`, and then the desk whose
@@ -83,13 +83,8 @@ impl Desk {
         ensures failure { IfErr result (λ e. FailsAs (R.failures reader.old) (R.failures reader.new) e) }
         ensures never_ends { IfErr result (λ e. NeverEnds limit (Came (R.left reader.old) (R.left reader.new) (R.came reader.old) (R.came reader.new)) e) }
     {
-        let Opened {
-            data_set,
-            stations,
-            held,
-        } = read_desk(alloc, reader, limit)?;
-        let base = Base::of(data_set, stations);
-        let desk = Desk::with(alloc, base, held)?;
+        let opened = read_desk(alloc, reader, limit)?;
+        let desk = Desk::over(Holdings::of(alloc, opened))?;
         Ok(desk)
     }
 
@@ -97,7 +92,7 @@ impl Desk {
     pub fn base(&self) -> &Base
         ensures { result.now ≡ self.now.base }
     {
-        self.trail.base()
+        self.holdings.base()
     }
 
     /// The messages that are held, in order of reference.
@@ -106,7 +101,7 @@ impl Desk {
         ensures kept { AreEntries self.now.base.records self.now.held }
         ensures rising { AreRising result.now }
     {
-        self.trail.held()
+        self.holdings.held()
     }
 
     /// How many messages the latest `take` that returned `Taken`, or the latest successful `merge`,
@@ -114,7 +109,7 @@ impl Desk {
     pub fn applied(&self) -> u64
         ensures { result ≡ self.now.applied }
     {
-        self.trail.applied()
+        self.history.applied
     }
 
     /// Takes a text: holds its message if it is new.
@@ -129,8 +124,7 @@ impl Desk {
         ensures repeated { result ≡ Ok Took.Repeated → self.new ≡ self.old }
         ensures err { OnErr result (self.new ≡ self.old) }
     {
-        let alloc = self.trail.allocator();
-        let offered = offer_over(alloc, self.base().frame(), self.held(), text)?;
+        let offered = self.holdings.offer(text)?;
         match offered {
             Offer::Known(_) => Ok(Took::Repeated),
             Offer::New(at, new) => {
@@ -150,14 +144,17 @@ impl Desk {
         ensures replayed { OnOk result (IsReplayed self.old self.new ⊎ (self.new ≡ at_rest self.old)) }
         ensures err { OnErr result (self.new ≡ self.old) }
     {
-        if !self.base().same(other.base()) {
-            return Err(DeskFault::OtherBase);
+        let change = self.holdings.change_by(&other.holdings)?;
+        match change {
+            None => {
+                self.history.applied = 0;
+                Ok(())
+            }
+            Some((at, rest)) => {
+                self.replace_from(at, rest)?;
+                Ok(())
+            }
         }
-        if let Some(reference) = first_conflict(self.held(), other.held()) {
-            return Err(DeskFault::Conflict(reference));
-        }
-        self.bring(other)?;
-        Ok(())
     }
 
     /// The legs of a flight on a date of origin, by leg sequence; none if it does not fly.
@@ -166,11 +163,13 @@ impl Desk {
         ensures means { Means (state_of self.now) (timetable_of self.now) }
         ensures only { (timetable : Timetable) → Means (state_of self.now) timetable → result.now ≡ timetable flight.now day }
     {
-        // No effect at run time. The proof reads from these uses that the flight and the day exist.
+        // No effect at run time. The proof reads from these uses that the flight and the day
+        // exist, and that the messages are those of a desk.
         let _ = flight.number();
         let _ = flight.suffix();
         let _ = day.number();
-        self.trail.latest().itinerary(flight, day)
+        let _ = self.holdings.held();
+        self.history.latest.itinerary(flight, day)
     }
 
     /// The rising days at which a stored range of the flight begins or ends; none for a flight that
@@ -191,7 +190,7 @@ impl Desk {
         // No effect at run time. The proof reads from these uses that the flight exists.
         let _ = flight.number();
         let _ = flight.suffix();
-        self.trail.latest().cuts(flight)
+        self.history.latest.cuts(flight)
     }
 
     /// A line for each sub-message that is held, in order: what it found on the dates of its
@@ -200,8 +199,8 @@ impl Desk {
         ensures lines { IfOk result (λ lines. lines.items ≡ finding_lines self.now) }
         ensures finds { IfOk result (λ lines. Finds (state_of self.now) (found_by self.now.base self.now.held)) }
     {
-        let mut lines = Vec::new(self.trail.allocator());
-        push_lines(&mut lines, self.trail.held(), self.trail.found())?;
+        let mut lines = Vec::new(self.holdings.allocator());
+        push_lines(&mut lines, self.holdings.held(), &self.history.found)?;
         Ok(lines)
     }
 
@@ -218,7 +217,7 @@ impl Desk {
         ensures device { W.device out.new ≡ W.device out.old }
         ensures reads_back { OnOk result (ReadsBackBase W.taken self.now.base.records (days_of_desk self.now) out.old out.new) }
     {
-        self.trail.latest().export(self.trail.base(), out)
+        self.history.latest.export(self.holdings.base(), out)
     }
 
     /// Writes the desk file: the base and the messages that are held, in version 2 of the format.
@@ -232,41 +231,16 @@ impl Desk {
         ensures failures { CountsFault (W.failures out.old) (W.failures out.new) result }
         ensures device { W.device out.new ≡ W.device out.old }
     {
-        let base = self.base();
-        put_desk(out, base.records(), base.rows(), self.held())
+        self.holdings.save(out)
     }
 
-    // A desk of a base and messages.
-    fn with(alloc: Global, base: Base, held: Vec<Held>) -> Result<Desk, Memory>
-        requires { AreEntries base.records held.items }
-        ensures { IfOk result (λ desk. desk ≡ record { base = base; held = held.items; applied = length held.items }) }
+    // The desk that holds this. All its messages are applied.
+    fn over(holdings: Holdings) -> Result<Desk, Memory>
+        ensures { IfOk result (λ desk. desk ≡ record { base = holdings.base; held = holdings.held; applied = length holdings.held }) }
     {
-        let mut trail = History::new(alloc, base)?;
-        trail.replace_from(0, held)?;
-        Ok(Desk { trail })
-    }
-
-    // Holds what another desk over the same base holds, too.
-    fn bring(&mut self, other: &Desk) -> Result<(), Memory>
-        requires base { self.old.base ≡ other.now.base }
-        requires agree { Agree (map_of self.old.held) (map_of other.now.held) }
-        ensures union { OnOk result (IsUnion (state_of self.old) (state_of other.now) (map_of self.new.held)) }
-        ensures base { self.new.base ≡ self.old.base }
-        ensures replayed { OnOk result (IsReplayed self.old self.new ⊎ (self.new ≡ at_rest self.old)) }
-        ensures err { OnErr result (self.new ≡ self.old) }
-    {
-        match first_new(self.held(), other.held()) {
-            None => {
-                self.trail.rest();
-                Ok(())
-            }
-            Some((place, at)) => {
-                let alloc = self.trail.allocator();
-                let rest = merged(alloc, &self.held()[at..], &other.held()[place..])?;
-                self.replace_from(at, rest)?;
-                Ok(())
-            }
-        }
+        let alloc = holdings.allocator();
+        let history = History::of(alloc, holdings.base(), holdings.held())?;
+        Ok(Desk { holdings, history })
     }
 
     // Inserts a new message at its position.
@@ -276,30 +250,33 @@ impl Desk {
         ensures ok { OnOk result (IsReplaced self.old at (new ∷ drop at self.old.held) self.new) }
         ensures err { OnErr result (self.new ≡ self.old) }
     {
-        let rest = with_all(self.trail.allocator(), new, &self.held()[at..])?;
-        self.replace_from(at, rest)
+        let alloc = self.holdings.allocator();
+        let base = self.holdings.base();
+        let held = self.holdings.held();
+        let mut replay = self.history.replay_to(alloc, base, held, at)?;
+        replay.apply(alloc, base, &new)?;
+        apply_all(alloc, base, &mut replay, &held[at..])?;
+        self.history.reserve(&replay)?;
+        self.holdings.insert(at, new)?;
+        self.history.put(replay);
+        Ok(())
     }
 
     // Replaces the messages from position `at` on.
     fn replace_from(&mut self, at: usize, rest: Vec<Held>) -> Result<(), Memory>
-        requires place { at ≤ length self.old.held }
+        requires within { at ≤ length self.old.held }
         requires entries { AreEntries self.old.base.records (take at self.old.held ++ rest.items) }
         ensures ok { OnOk result (IsReplaced self.old at rest.items self.new) }
         ensures err { OnErr result (self.new ≡ self.old) }
     {
-        self.trail.replace_from(at, rest)?;
+        let alloc = self.holdings.allocator();
+        let base = self.holdings.base();
+        let held = self.holdings.held();
+        let mut replay = self.history.replay_to(alloc, base, held, at)?;
+        apply_all(alloc, base, &mut replay, &rest)?;
+        self.history.reserve(&replay)?;
+        self.holdings.replace_from(at, rest)?;
+        self.history.put(replay);
         Ok(())
     }
-}
-
-// A message, and others after it.
-fn with_all(alloc: Global, first: Held, others: &[Held]) -> Result<Vec<Held>, Memory>
-    ensures { IfOk result (λ all. all.items ≡ first ∷ others.now) }
-{
-    let mut all = Vec::with_capacity(alloc, others.len() + 1)?;
-    all.push(first)?;
-    for held in others {
-        all.push(held.copy()?)?;
-    }
-    Ok(all)
 }

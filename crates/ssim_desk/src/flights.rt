@@ -2,54 +2,49 @@
 
 ghost use Rattle.std.specs.Prelude.{◌≡◌, ◌++◌, map, IfOk, OnOk};
 ghost use Rattle.std.specs.List.{list_any};
-ghost use Rattle.ssim_base.specs.BaseSeen.{base_with};
 ghost use Rattle.ssim_desk.specs.Desk.{is_sub_of};
 ghost use Rattle.ssim_desk.specs.Meaning.{Timetable, after_entries, entries_findings, found_by, left_by};
 ghost use Rattle.ssim_desk.specs.Private.{Shows, flights_of};
 
 use crate::message_effect::act;
 use crate::replay::MessageFindings;
-use ssim_base::{DataSet, ResolvedSub, StationRow};
+use ssim_base::{Base, ResolvedSub, StationRow};
 use ssim_held::Held;
 use ssim_schedule::{PlacedLeg, Schedule};
 use ssim_values::{Day, Flight, Memory};
 use std::alloc::Global;
 
-/// The legs of a flight on a date of origin that messages, in this order, leave of the timetable of
-/// a data set. Of this timetable only the flight's is made, and only the messages that name the
-/// flight act.
+/// The legs of a flight on a date of origin that messages, in this order, leave of the timetable of a base. Of this timetable only the
+/// flight's is made, and only the messages that name the flight act.
 pub(crate) fn legs_after(
     alloc: Global,
-    data_set: &DataSet,
-    rows: &[StationRow],
+    base: &Base,
     messages: &[Held],
     flight: &Flight,
     day: Day,
 ) -> Result<Vec<PlacedLeg>, Memory>
-    ensures { IfOk result (λ legs. legs.items ≡ left_by (base_with data_set.now rows.now) messages.now flight.now day) }
+    ensures { IfOk result (λ legs. legs.items ≡ left_by base.now messages.now flight.now day) }
 {
     // No effect at run time. The proof reads from these uses that the flight and the day exist.
     let _ = flight.number();
     let _ = flight.suffix();
     let _ = day.number();
-    let mut schedule = Schedule::of_flights(data_set, &[*flight])?;
-    act_on(alloc, rows, &mut schedule, *flight, messages)?;
+    let mut schedule = Schedule::of_flights(base.data_set(), &[*flight])?;
+    act_on(alloc, base.rows(), &mut schedule, *flight, messages)?;
     copies(alloc, schedule.itinerary(flight, day))
 }
 
-/// What each of these messages finds in this order. Of the data set's timetable only the flights
-/// are made that the messages name.
+/// What each of these messages finds in this order. Of the base's timetable only the flights are made that the messages name.
 pub(crate) fn found_by(
     alloc: Global,
-    data_set: &DataSet,
-    rows: &[StationRow],
+    base: &Base,
     messages: &[Held],
 ) -> Result<Vec<MessageFindings>, Memory>
-    ensures { IfOk result (λ found. found.items ≡ found_by (base_with data_set.now rows.now) messages.now) }
+    ensures { IfOk result (λ found. found.items ≡ found_by base.now messages.now) }
 {
     let flights = flights_of(alloc, messages)?;
-    let mut schedule = Schedule::of_flights(data_set, &flights)?;
-    act_all(alloc, rows, &mut schedule, messages)
+    let mut schedule = Schedule::of_flights(base.data_set(), &flights)?;
+    act_all(alloc, base.rows(), &mut schedule, messages)
 }
 
 // The flights of the sub-messages, in their order.

@@ -1,9 +1,9 @@
-//! Messages in order, and the schedule that they leave.
+//! The schedules that messages leave, from which a late message is applied.
 
-ghost use Rattle.std.specs.Prelude.{◌≡◌, ◌⊎◌, ◌≤◌, ◌+◌, ◌*◌, ◌/◌, ◌++◌, [], length, take, IfOk, OnErr, OnOk};
-ghost use Rattle.ssim_held.specs.Entries.{DeskSeen};
-ghost use Rattle.ssim_desk.specs.Meaning.{found_by};
-ghost use Rattle.ssim_desk.specs.Private.{IsAfter, IsReplaced, IsReplay};
+ghost use Rattle.std.specs.Prelude.{◌≡◌, ◌⊎◌, ◌≤◌, ◌+◌, ◌*◌, ◌/◌, ◌++◌, ℕ, List, length, take, IfOk, OnOk};
+ghost use Rattle.ssim_base.specs.BaseSeen.{BaseSeen};
+ghost use Rattle.ssim_held.specs.Entries.{Entry};
+ghost use Rattle.ssim_desk.specs.Private.{HasRoom, IsAfter, IsCounted, IsHistory, IsReplay};
 
 use crate::replay::{MessageFindings, Replay, STEP, apply_all};
 use ssim_base::Base;
@@ -11,182 +11,111 @@ use ssim_held::Held;
 use ssim_schedule::Schedule;
 use ssim_values::Memory;
 use std::alloc::Global;
-use std::marker::Model;
 
-/// A base and messages in order, with the schedule after them, after every 32 of them, and what
+/// Of a base and messages in order: the schedule after them and after every 32 of them, and what
 /// each of them found.
 #[derive(Drop)]
 pub(crate) struct History {
-    base: Base,
-    held: Vec<Held>,
     /// The schedule after 0, 32, 64, .. messages.
-    checkpoints: Vec<Schedule>,
+    pub checkpoints: Vec<Schedule>,
     /// The schedule after all messages.
-    latest: Schedule,
+    pub latest: Schedule,
     /// Of each message.
-    found: Vec<MessageFindings>,
+    pub found: Vec<MessageFindings>,
     /// How many messages the latest change applied to a schedule.
-    applied: u64,
-    alloc: Global,
-}
-
-impl Model for History {
-    ghost use Rattle.ssim_held.specs.Entries.{DeskSeen};
-    ghost use Rattle.ssim_desk.specs.Meaning.{found_by};
-    ghost use Rattle.ssim_desk.specs.Private.{IsHistory};
-
-    ghost Value = { DeskSeen };
-
-    ghost view = { λ t. record { base = t.base; held = t.held.items; applied = t.applied } };
-
-    ghost invariant = { λ t. IsHistory t.base t.held.items t.checkpoints.items t.latest t.found.items };
+    pub applied: u64,
 }
 
 impl History {
-    /// The base, without messages.
-    pub(crate) fn new(alloc: Global, base: Base) -> Result<History, Memory>
-        ensures { IfOk result (λ trail. trail ≡ record { base = base; held = []; applied = 0 }) }
+    /// All messages are applied to the base's schedule.
+    pub(crate) fn of(alloc: Global, base: &Base, held: &[Held]) -> Result<History, Memory>
+        ensures is { IfOk result (IsHistory base.now held.now) }
+        ensures applied { IfOk result (λ history. history.applied ≡ length held.now) }
     {
-        let began = Schedule::of(&base)?;
-        let latest = began.copy()?;
+        let began = Schedule::of(base)?;
+        let mut replay = Replay::after(alloc, &began, 0)?;
+        apply_all(alloc, base, &mut replay, held)?;
         let mut checkpoints = Vec::with_capacity(alloc, 1)?;
         checkpoints.push(began)?;
+        checkpoints.append(&mut replay.checkpoints)?;
         Ok(History {
-            base,
-            held: Vec::new(alloc),
             checkpoints,
-            latest,
-            found: Vec::new(alloc),
-            applied: 0,
-            alloc,
+            latest: replay.latest,
+            found: replay.found,
+            applied: replay.applied,
         })
     }
 
-    pub(crate) fn base(&self) -> &Base
-        ensures { result.now ≡ self.now.base }
+    /// What follows if the messages from position `at` on are replaced, up to this position. It
+    /// begins at the latest schedule if there are none, else at the last checkpoint before them.
+    pub(crate) fn replay_to(
+        &self,
+        alloc: Global,
+        base: &Base,
+        held: &[Held],
+        at: usize,
+    ) -> Result<Replay, Memory>
+        requires is { IsHistory base.now held.now self.now }
+        requires within { at ≤ length held.now }
+        ensures counted { IfOk result IsCounted }
+        ensures low { IfOk result (λ replay. replay.from ≤ at) }
+        ensures near { IfOk result (λ replay. at ≤ replay.from + 31) }
+        ensures replay { IfOk result (IsReplay base.now (take at held.now)) }
     {
-        &self.base
+        let from = start(held.len(), at);
+        let mut replay = Replay::after(alloc, self.schedule(held.len(), from), from)?;
+        apply_all(alloc, base, &mut replay, &held[from..at])?;
+        Ok(replay)
     }
 
-    /// The messages in order.
-    pub(crate) fn held(&self) -> &[Held]
-        ensures { result.now ≡ self.now.held }
+    // The schedule after the first `from` messages of this many: the latest, or a checkpoint.
+    fn schedule(&self, count: usize, from: usize) -> &Schedule
+        requires within { from ≤ count }
+        requires kept { (from ≡ count) ⊎ (from ≡ 32 * (from / 32)) }
+        requires history { (base : BaseSeen) × (held : List Entry) × IsHistory base held self.now × (count ≡ length held) }
+        ensures { (base : BaseSeen) (held : List Entry) → count ≡ length held → IsHistory base held self.now → IsAfter base (take from held) result.now }
     {
-        &self.held
-    }
-
-    /// The schedule after all messages.
-    pub(crate) fn latest(&self) -> &Schedule
-        ensures { IsAfter self.now.base self.now.held result.now }
-    {
-        &self.latest
-    }
-
-    /// What each message found.
-    pub(crate) fn found(&self) -> &[MessageFindings]
-        ensures { result.now ≡ found_by self.now.base self.now.held }
-    {
-        &self.found
-    }
-
-    /// How many messages the latest change applied to a schedule.
-    pub(crate) fn applied(&self) -> u64
-        ensures { result ≡ self.now.applied }
-    {
-        self.applied
-    }
-
-    /// The allocator of the history.
-    pub(crate) fn allocator(&self) -> Global {
-        self.alloc
-    }
-
-    /// The latest change applied no message.
-    pub(crate) fn rest(&mut self)
-        ensures { self.new ≡ record { base = self.old.base; held = self.old.held; applied = 0 } }
-    {
-        self.applied = 0;
-    }
-
-    /// Replaces the messages from position `at` on. They are applied to the latest schedule if
-    /// there were none, else from the last checkpoint before them.
-    pub(crate) fn replace_from(&mut self, at: usize, rest: Vec<Held>) -> Result<(), Memory>
-        requires { at ≤ length self.old.held }
-        ensures ok { OnOk result (IsReplaced self.old at rest.items self.new) }
-        ensures err { OnErr result (self.new ≡ self.old) }
-    {
-        let from = self.start(at);
-        let tail = self.tail(from, at, &rest)?;
-        self.put(from, at, rest, tail)
-    }
-
-    // How many messages need not be applied again if those from position `at` on are replaced: all,
-    // or there is a checkpoint after them, fewer than 32 before the position.
-    fn start(&self, at: usize) -> usize
-        requires { at ≤ length self.now.held }
-        ensures low { result ≤ at }
-        ensures near { at ≤ result + 31 }
-        ensures kept { (result ≡ length self.now.held) ⊎ (result ≡ 32 * (result / 32)) }
-    {
-        if at == self.held.len() {
-            at
-        } else {
-            at / STEP * STEP
-        }
-    }
-
-    // What follows the first `from` messages if those from position `at` on are replaced.
-    fn tail(&self, from: usize, at: usize, rest: &[Held]) -> Result<Replay, Memory>
-        requires place { at ≤ length self.now.held }
-        requires low { from ≤ at }
-        requires kept { (from ≡ length self.now.held) ⊎ (from ≡ 32 * (from / 32)) }
-        ensures { IfOk result (IsReplay self.now.base (take at self.now.held ++ rest.now) from) }
-    {
-        let mut tail = Replay::after(self.alloc, self.schedule(from), from % STEP)?;
-        apply_all(self.alloc, &self.base, &mut tail, &self.held[from..at])?;
-        apply_all(self.alloc, &self.base, &mut tail, rest)?;
-        Ok(tail)
-    }
-
-    // The schedule after the first `from` messages: the latest, or a checkpoint.
-    fn schedule(&self, from: usize) -> &Schedule
-        requires within { from ≤ length self.now.held }
-        requires kept { (from ≡ length self.now.held) ⊎ (from ≡ 32 * (from / 32)) }
-        ensures { IsAfter self.now.base (take from self.now.held) result.now }
-    {
-        if from == self.held.len() {
+        if from == count {
             &self.latest
         } else {
             &self.checkpoints[from / STEP]
         }
     }
 
-    // Puts messages and what follows in place of the old ones.
-    fn put(
-        &mut self,
-        from: usize,
-        at: usize,
-        mut rest: Vec<Held>,
-        mut tail: Replay,
-    ) -> Result<(), Memory>
-        requires place { at ≤ length self.old.held }
-        requires low { from ≤ at }
-        requires near { at ≤ from + 31 }
-        requires tail { IsReplay self.old.base (take at self.old.held ++ rest.items) from tail }
-        ensures ok { OnOk result (IsReplaced self.old at rest.items self.new) }
-        ensures err { OnErr result (self.new ≡ self.old) }
+    /// Makes room for what follows. Nothing else changes.
+    pub(crate) fn reserve(&mut self, replay: &Replay) -> Result<(), Memory>
+        ensures room { OnOk result (HasRoom self.new replay.now) }
+        ensures same { (base : BaseSeen) (held : List Entry) → IsHistory base held self.old → IsHistory base held self.new }
+        ensures applied { self.new.applied ≡ self.old.applied }
     {
-        self.held.reserve(rest.len())?;
-        self.found.reserve(tail.found.len())?;
-        self.checkpoints.reserve(tail.checkpoints.len())?;
-        self.held.truncate(at);
-        self.held.append(&mut rest).unwrap();
-        self.found.truncate(from);
-        self.found.append(&mut tail.found).unwrap();
-        self.checkpoints.truncate(from / STEP + 1);
-        self.checkpoints.append(&mut tail.checkpoints).unwrap();
-        self.latest = tail.latest;
-        self.applied = tail.applied;
+        self.found.reserve(replay.found.len())?;
+        self.checkpoints.reserve(replay.checkpoints.len())?;
         Ok(())
     }
+
+    /// Puts what follows in place of the old.
+    pub(crate) fn put(&mut self, mut replay: Replay)
+        requires { HasRoom self.old replay }
+        ensures is { (base : BaseSeen) (held rest : List Entry) (at : ℕ) → at ≤ length held → replay.from ≤ at → IsHistory base held self.old → IsReplay base (take at held ++ rest) replay → IsHistory base (take at held ++ rest) self.new }
+        ensures applied { self.new.applied ≡ replay.applied }
+    {
+        self.found.truncate(replay.from);
+        self.found.append(&mut replay.found).unwrap();
+        self.checkpoints.truncate(replay.from / STEP + 1);
+        self.checkpoints.append(&mut replay.checkpoints).unwrap();
+        self.latest = replay.latest;
+        self.applied = replay.applied;
+    }
+}
+
+// How many of the messages, of which there are this many, need not be applied again if those from
+// position `at` on are replaced: all, or there is a checkpoint after them, fewer than 32 before the
+// position.
+fn start(count: usize, at: usize) -> usize
+    requires { at ≤ count }
+    ensures low { result ≤ at }
+    ensures near { at ≤ result + 31 }
+    ensures kept { (result ≡ count) ⊎ (result ≡ 32 * (result / 32)) }
+{
+    if at == count { at } else { at / STEP * STEP }
 }

@@ -68,9 +68,9 @@ impl Holder for Holdings {
     }
 
     fn is_desk(&self) {
-        // No effect at run time. The proof reads from these uses what is always true of a data
-        // set and of the messages that are held.
-        let _ = self.data_set().records();
+        // No effect at run time. The proof reads from these uses what is always true of a base
+        // and of the messages that are held.
+        let _ = self.base().records();
         let _ = self.held();
     }
 }

@@ -1,6 +1,6 @@
 //! What a desk holds, without the timetable that it leaves.
 
-ghost use Rattle.std.specs.Prelude.{◌≡◌, ◌↔◌, ◌++◌, [], IsTrue, ◌∷◌, take, drop, Ok, IfErr, IfOk, OnErr, OnOk};
+ghost use Rattle.std.specs.Prelude.{◌≡◌, ◌≤◌, ◌++◌, [], ◌∷◌, length, take, drop, Ok, IfErr, IfOk, OnErr, OnOk};
 ghost use Rattle.std.specs.Io.KnownBytes.{Appends};
 ghost use Rattle.ssim_base.specs.BaseSeen.{base_with};
 ghost use Rattle.ssim_schedule.specs.Plan.{ReadsBackBase, RefusesBase, WritesBase};
@@ -8,21 +8,22 @@ ghost use Rattle.ssim_base.specs.Sinks.{CountsFault, TakesFront};
 ghost use Rattle.ssim_held.specs.File.{CanBeSaved, IsDeskFile, desk_file};
 ghost use Rattle.ssim_text.specs.Message.{MessageValue};
 ghost use Rattle.ssim_text.specs.declared.reference.Reference.{Reference};
-ghost use Rattle.ssim_held.specs.Held.{Says};
+ghost use Rattle.ssim_held.specs.Held.{Agree, Says};
 ghost use Rattle.ssim_held.specs.Entries.{AreEntries, AreRising, IsEntry, map_of, state_of};
 ghost use Rattle.ssim_held.specs.Opening.{RefusesBytes};
 ghost use Rattle.ssim_held.specs.Ordered.{Belongs};
 ghost use Rattle.ssim_desk.specs.Desk.{days_of_desk, finding_lines, merge_answer, timetable_of, took_answer};
 ghost use Rattle.ssim_desk.specs.Meaning.{Finds, Means, Timetable, found_by};
-ghost use Rattle.ssim_desk.specs.Steps.{Merges, Takes};
+ghost use Rattle.ssim_desk.specs.Private.{IsChange, IsOffer};
+ghost use Rattle.ssim_desk.specs.Steps.{Merges, RefusesDesk, RefusesText, Takes};
 
 use crate::desk::Took;
 use crate::finding_line::{FindingLine, push_lines};
 use crate::flights::{found_by, legs_after};
 use crate::message_effect::act_in_order;
 use crate::offer::{Offer, offer_over};
-use ssim_base::{DataSet, Stations, WriteFault};
-use ssim_held::{DeskFault, Held, Opened, first_conflict, merged, put_desk, read_parts};
+use ssim_base::{Base, DataSet, Stations, WriteFault};
+use ssim_held::{DeskFault, Held, Opened, first_conflict, first_new, merged, put_desk, read_parts};
 use ssim_records::{Parts, Sink};
 use ssim_schedule::{ExportFault, PlacedLeg, Schedule};
 use ssim_text::Reference;
@@ -38,21 +39,20 @@ use std::marker::Model;
 /// Contracts see it as a desk whose latest change applied no message.
 #[derive(Drop)]
 pub struct Holdings {
-    data_set: DataSet,
-    stations: Stations,
+    base: Base,
+    /// In order of reference.
     held: Vec<Held>,
     alloc: Global,
 }
 
 impl Model for Holdings {
-    ghost use Rattle.ssim_base.specs.BaseSeen.{base_with};
     ghost use Rattle.ssim_held.specs.Entries.{AreEntries, DeskSeen};
 
     ghost Value = { DeskSeen };
 
-    ghost view = { λ h. record { base = base_with h.data_set h.stations; held = h.held.items; applied = 0 } };
+    ghost view = { λ h. record { base = h.base; held = h.held.items; applied = 0 } };
 
-    ghost invariant = { λ h. AreEntries h.data_set h.held.items };
+    ghost invariant = { λ h. AreEntries h.base.records h.held.items };
 }
 
 impl Holdings {
@@ -60,9 +60,15 @@ impl Holdings {
     pub fn start(alloc: Global, data_set: DataSet, stations: Stations) -> Holdings
         ensures { result ≡ record { base = base_with data_set stations; held = []; applied = 0 } }
     {
+        Holdings::over(alloc, Base::of(data_set, stations))
+    }
+
+    /// A base, and no message.
+    pub(crate) fn over(alloc: Global, base: Base) -> Holdings
+        ensures { result ≡ record { base = base; held = []; applied = 0 } }
+    {
         Holdings {
-            data_set,
-            stations,
+            base,
             held: Vec::new(alloc),
             alloc,
         }
@@ -82,11 +88,18 @@ impl Holdings {
         Ok(Holdings::of(alloc, opened))
     }
 
-    /// The data set of the base. No call changes it.
+    /// The base. No call changes it.
+    pub fn base(&self) -> &Base
+        ensures { result.now ≡ self.now.base }
+    {
+        &self.base
+    }
+
+    /// The data set of the base.
     pub fn data_set(&self) -> &DataSet
         ensures { result.now ≡ self.now.base.records }
     {
-        &self.data_set
+        self.base.data_set()
     }
 
     /// The messages that are held, in order of reference.
@@ -107,7 +120,7 @@ impl Holdings {
         ensures repeated { (reference : Reference) → result ≡ Ok (Took.Repeated, reference) → self.new ≡ self.old }
         ensures err { OnErr result (self.new ≡ self.old) }
     {
-        let offered = offer_over(self.alloc, self.data_set.frame(), &self.held, text)?;
+        let offered = self.offer(text)?;
         match offered {
             Offer::Known(reference) => Ok((Took::Repeated, reference)),
             Offer::New(at, new) => {
@@ -124,18 +137,9 @@ impl Holdings {
         ensures base { self.new.base ≡ self.old.base }
         ensures err { OnErr result (self.new ≡ self.old) }
     {
-        if !same_base(
-            &self.data_set,
-            &self.stations,
-            &other.data_set,
-            &other.stations,
-        ) {
-            return Err(DeskFault::OtherBase);
+        if let Some((at, rest)) = self.change_by(other)? {
+            self.replace_from(at, rest)?;
         }
-        if let Some(reference) = first_conflict(&self.held, &other.held) {
-            return Err(DeskFault::Conflict(reference));
-        }
-        self.held = merged(self.alloc, &self.held, &other.held)?;
         Ok(())
     }
 
@@ -149,12 +153,7 @@ impl Holdings {
         ensures failures { CountsFault (W.failures out.old) (W.failures out.new) result }
         ensures device { W.device out.new ≡ W.device out.old }
     {
-        put_desk(
-            out,
-            self.data_set.records(),
-            self.stations.rows(),
-            &self.held,
-        )
+        put_desk(out, self.base.records(), self.base.rows(), &self.held)
     }
 
     /// The legs of a flight on a date of origin, by leg sequence; none if it does not fly. Reads
@@ -164,14 +163,7 @@ impl Holdings {
         ensures means { Means (state_of self.now) (timetable_of self.now) }
         ensures only { IfOk result (λ legs. (timetable : Timetable) → Means (state_of self.now) timetable → legs.items ≡ timetable flight.now day) }
     {
-        legs_after(
-            self.alloc,
-            &self.data_set,
-            self.stations.rows(),
-            &self.held,
-            flight,
-            day,
-        )
+        legs_after(self.alloc, &self.base, &self.held, flight, day)
     }
 
     /// A line for each sub-message that is held, in order: what it found on the dates of its
@@ -180,7 +172,7 @@ impl Holdings {
         ensures lines { IfOk result (λ lines. lines.items ≡ finding_lines self.now) }
         ensures finds { IfOk result (λ lines. Finds (state_of self.now) (found_by self.now.base self.now.held)) }
     {
-        let found = found_by(self.alloc, &self.data_set, self.stations.rows(), &self.held)?;
+        let found = found_by(self.alloc, &self.base, &self.held)?;
         let mut lines = Vec::new(self.alloc);
         push_lines(&mut lines, &self.held, &found)?;
         Ok(lines)
@@ -195,12 +187,8 @@ impl Holdings {
         ensures device { W.device out.new ≡ W.device out.old }
         ensures reads_back { OnOk result (ReadsBackBase W.taken self.base.records (days_of_desk self) out.old out.new) }
     {
-        let Holdings {
-            data_set,
-            stations,
-            held,
-            alloc,
-        } = self;
+        let Holdings { base, held, alloc } = self;
+        let (data_set, stations) = base.into_parts();
         let (mut schedule, frame) = Schedule::of_data_set(data_set)?;
         act_in_order(alloc, stations.rows(), &mut schedule, &held)?;
         schedule.export_in(&frame, out)
@@ -211,15 +199,14 @@ impl Holdings {
         ensures { IfOk result (λ copy. copy ≡ self.now) }
     {
         Ok(Holdings {
-            data_set: self.data_set.copy()?,
-            stations: self.stations.copy(self.alloc)?,
+            base: self.base.copy()?,
             held: copies(self.alloc, &self.held)?,
             alloc: self.alloc,
         })
     }
 
-    // What a desk file has.
-    fn of(alloc: Global, opened: Opened) -> Holdings
+    /// What a desk file has.
+    pub(crate) fn of(alloc: Global, opened: Opened) -> Holdings
         requires { AreEntries opened.data_set opened.held.items }
         ensures { result ≡ record { base = base_with opened.data_set opened.stations; held = opened.held.items; applied = 0 } }
     {
@@ -229,15 +216,28 @@ impl Holdings {
             held,
         } = opened;
         Holdings {
-            data_set,
-            stations,
+            base: Base::of(data_set, stations),
             held,
             alloc,
         }
     }
 
-    // Inserts a new message at its position.
-    fn insert(&mut self, at: usize, new: Held) -> Result<(), Memory>
+    /// The allocator of what is held.
+    pub(crate) fn allocator(&self) -> Global {
+        self.alloc
+    }
+
+    /// What a text is to the messages that are held. The errors are those of `Desk::take`.
+    pub(crate) fn offer(&self, text: &[u8]) -> Result<Offer, DeskFault>
+        ensures ok { IfOk result (IsOffer (state_of self.now) self.now.held text.now) }
+        ensures err { IfErr result (RefusesText (state_of self.now) text.now) }
+        ensures rising { AreRising self.now.held }
+    {
+        offer_over(self.alloc, self.base.frame(), &self.held, text)
+    }
+
+    /// Puts a new message where it belongs.
+    pub(crate) fn insert(&mut self, at: usize, new: Held) -> Result<(), Memory>
         requires gap { Belongs self.old.held new.reference at at }
         requires entry { IsEntry self.old.base.records new }
         ensures ok { OnOk result (self.new.held ≡ take at self.old.held ++ (new ∷ drop at self.old.held)) }
@@ -247,13 +247,54 @@ impl Holdings {
         self.held.insert(at, new)?;
         Ok(())
     }
-}
 
-// Whether two data sets with their station tables are the same base.
-fn same_base(mine: &DataSet, rows: &Stations, theirs: &DataSet, their_rows: &Stations) -> bool
-    ensures { IsTrue result ↔ (base_with mine.now rows.now ≡ base_with theirs.now their_rows.now) }
-{
-    mine.same(theirs) && rows.same(their_rows)
+    /// What a merge with the other changes: the first position where a message is new, and the
+    /// messages from there on; nothing if each of its messages is held. The errors are those of
+    /// `Desk::merge`.
+    pub(crate) fn change_by(
+        &self,
+        other: &Holdings,
+    ) -> Result<Option<(usize, Vec<Held>)>, DeskFault>
+        ensures ok { IfOk result (IsChange self.now other.now) }
+        ensures err { IfErr result (RefusesDesk (state_of self.now) (state_of other.now)) }
+    {
+        if !self.base.same(&other.base) {
+            return Err(DeskFault::OtherBase);
+        }
+        if let Some(reference) = first_conflict(&self.held, &other.held) {
+            return Err(DeskFault::Conflict(reference));
+        }
+        Ok(self.news_of(other)?)
+    }
+
+    // What a merge with the other changes, if the two agree.
+    fn news_of(&self, other: &Holdings) -> Result<Option<(usize, Vec<Held>)>, Memory>
+        requires base { self.now.base ≡ other.now.base }
+        requires agree { Agree (map_of self.now.held) (map_of other.now.held) }
+        ensures { IfOk result (IsChange self.now other.now) }
+    {
+        match first_new(&self.held, &other.held) {
+            None => Ok(None),
+            Some((place, at)) => {
+                let rest = merged(self.alloc, &self.held[at..], &other.held[place..])?;
+                Ok(Some((at, rest)))
+            }
+        }
+    }
+
+    /// Replaces the messages from position `at` on.
+    pub(crate) fn replace_from(&mut self, at: usize, mut rest: Vec<Held>) -> Result<(), Memory>
+        requires within { at ≤ length self.old.held }
+        requires entries { AreEntries self.old.base.records (take at self.old.held ++ rest.items) }
+        ensures ok { OnOk result (self.new.held ≡ take at self.old.held ++ rest.items) }
+        ensures base { self.new.base ≡ self.old.base }
+        ensures err { OnErr result (self.new ≡ self.old) }
+    {
+        self.held.reserve(rest.len())?;
+        self.held.truncate(at);
+        self.held.append(&mut rest).unwrap();
+        Ok(())
+    }
 }
 
 // Equal messages, which share their contents.

@@ -1,6 +1,6 @@
 //! Schedule, findings and checkpoints of the messages from a checkpoint on.
 
-ghost use Rattle.std.specs.Prelude.{◌≡◌, ◌<◌, ◌%◌, ◌++◌, ◌∷◌, [], ℕ, List, length, IfOk, OnOk};
+ghost use Rattle.std.specs.Prelude.{◌≡◌, ◌++◌, ◌∷◌, [], List, length, IfOk, OnOk};
 ghost use Rattle.ssim_base.specs.BaseSeen.{BaseSeen};
 ghost use Rattle.ssim_held.specs.Entries.{Entry};
 ghost use Rattle.ssim_desk.specs.Private.{IsAfter, IsCounted, IsReplay};
@@ -58,24 +58,26 @@ pub(crate) struct Replay {
     pub checkpoints: Vec<Schedule>,
     /// How many messages were applied.
     pub applied: u64,
-    /// The remainder of all messages after the last multiple of 32.
+    /// How many messages come before those that were applied.
+    pub from: usize,
+    /// How many messages the last multiple of 32 leaves.
     pub since: usize,
 }
 
 impl Replay {
-    /// Nothing follows yet. `since` is the number of the schedule's messages after the last
-    /// multiple of 32.
-    pub(crate) fn after(alloc: Global, schedule: &Schedule, since: usize) -> Result<Replay, Memory>
-        requires { since < 32 }
+    /// Nothing follows yet, after the schedule of this many messages.
+    pub(crate) fn after(alloc: Global, schedule: &Schedule, from: usize) -> Result<Replay, Memory>
         ensures counted { IfOk result IsCounted }
-        ensures nothing { IfOk result (λ tail. (base : BaseSeen) (entries : List Entry) (from : ℕ) → from ≡ length entries → since ≡ from % 32 → IsAfter base entries schedule.now → IsReplay base entries from tail) }
+        ensures from { IfOk result (λ replay. replay.from ≡ from) }
+        ensures nothing { IfOk result (λ replay. (base : BaseSeen) (entries : List Entry) → from ≡ length entries → IsAfter base entries schedule.now → IsReplay base entries replay) }
     {
         Ok(Replay {
             latest: schedule.copy()?,
             found: Vec::new(alloc),
             checkpoints: Vec::new(alloc),
             applied: 0,
-            since,
+            from,
+            since: from % STEP,
         })
     }
 
@@ -83,7 +85,8 @@ impl Replay {
     pub(crate) fn apply(&mut self, alloc: Global, base: &Base, held: &Held) -> Result<(), Memory>
         requires { IsCounted self.old }
         ensures counted { IsCounted self.new }
-        ensures applied { OnOk result ((before : List Entry) (from : ℕ) → IsReplay base.now before from self.old → IsReplay base.now (before ++ held.now ∷ []) from self.new) }
+        ensures from { self.new.from ≡ self.old.from }
+        ensures applied { OnOk result ((before : List Entry) → IsReplay base.now before self.old → IsReplay base.now (before ++ held.now ∷ []) self.new) }
     {
         let findings = act(alloc, base.rows(), &mut self.latest, held)?;
         self.found.push(MessageFindings { findings })?;
@@ -100,15 +103,16 @@ impl Replay {
 pub(crate) fn apply_all(
     alloc: Global,
     base: &Base,
-    tail: &mut Replay,
+    replay: &mut Replay,
     messages: &[Held],
 ) -> Result<(), Memory>
-    requires { IsCounted tail.old }
-    ensures counted { IsCounted tail.new }
-    ensures applied { OnOk result ((before : List Entry) (from : ℕ) → IsReplay base.now before from tail.old → IsReplay base.now (before ++ messages.now) from tail.new) }
+    requires { IsCounted replay.old }
+    ensures counted { IsCounted replay.new }
+    ensures from { replay.new.from ≡ replay.old.from }
+    ensures applied { OnOk result ((before : List Entry) → IsReplay base.now before replay.old → IsReplay base.now (before ++ messages.now) replay.new) }
 {
     for held in messages {
-        tail.apply(alloc, base, held)?;
+        replay.apply(alloc, base, held)?;
     }
     Ok(())
 }

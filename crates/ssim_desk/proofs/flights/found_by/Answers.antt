@@ -1,9 +1,10 @@
--- The schedule shows the timetable of the flights that the messages name, in which they find what
--- they find in the whole.
-use Rattle.std.proofs.Common.{List, Result, Ok, Err, IfOk, subst, ◌∙◌}
+-- The schedule shows the timetable of the flights that the messages name, in which they find what they find in the whole.
+use Rattle.std.proofs.Common.{◌≡◌, List, Result, Ok, Err, IfOk, subst, ◌∙◌}
 use Rattle.ssim_values.specs.Flight.{FlightNumber}
-use Rattle.ssim_base.specs.BaseSeen.{base_with}
+use Rattle.ssim_records.specs.declared.record.Record.{Record}
+use Rattle.ssim_base.specs.Stations.{Row}
 use Rattle.ssim_base.specs.Timetable.{itinerary_among}
+use Rattle.ssim_desk.specs.Meaning.{Timetable, entries_findings}
 use Rattle.ssim_desk.specs.Private.{Shows, flights_of}
 use Rattle.ssim_desk.proofs.SomeFlights.{found_among}
 use Rattle.ssim_desk.proofs.flights.found_by.Goals as goal
@@ -14,8 +15,10 @@ if_ok (Err e) f p = p
 
 pub returns : goal.returns
 returns c =
-    let base = base_with c.args.data_set.now c.args.rows.now in
+    let base = c.args.base.now in
     let messages = c.args.messages.now in
     let named = c.deref.ensures.value ∙ c.in_ok-flights.ensures in
-    let shows = subst (λ (flights : List FlightNumber). Shows c.in_ok-schedule.schedule (itinerary_among flights base.records)) named c.in_ok-schedule.ensures in
-    if_ok c.act_all.result (λ found h. h (itinerary_among (flights_of messages) base.records) shows ∙ found_among base messages) c.act_all.ensures
+    let shows = subst (λ (flights : List FlightNumber). Shows c.in_ok-schedule.schedule (itinerary_among flights base.records)) named
+    (subst (λ (records : List Record). Shows c.in_ok-schedule.schedule (itinerary_among c.deref.result.now records)) c.data_set.ensures c.in_ok-schedule.ensures) in
+    if_ok c.act_all.result (λ found h. h (itinerary_among (flights_of messages) base.records) shows ∙ found_among base messages)
+    (subst (λ (rows : List Row). IfOk c.act_all.result (λ found. (before : Timetable) → Shows c.in_ok-schedule.schedule before → found.items ≡ entries_findings rows messages before)) c.rows.ensures c.act_all.ensures)

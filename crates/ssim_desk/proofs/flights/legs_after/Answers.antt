@@ -4,9 +4,11 @@ use Rattle.std.specs.Prelude.{IsTrue, slice_index_or}
 use Rattle.ssim_periods.proofs.DayLemmas.{day_count-is}
 use Rattle.ssim_values.specs.Flight.{IsFlight, is_suffix}
 use Rattle.ssim_base.proofs.Calendars.{at-each_day}
-use Rattle.ssim_base.specs.BaseSeen.{base_with}
+use Rattle.ssim_records.specs.declared.record.Record.{Record}
+use Rattle.ssim_base.specs.Stations.{Row}
 use Rattle.ssim_base.specs.Timetable.{Legs, itinerary, itinerary_among}
-use Rattle.ssim_desk.specs.Meaning.{left_by}
+use Rattle.ssim_desk.specs.Meaning.{Timetable, after_entries, left_by}
+use Rattle.ssim_desk.specs.Private.{Shows}
 use Rattle.ssim_desk.proofs.SomeFlights.{among_is, entries_agree, is_among_one}
 use Rattle.ssim_desk.proofs.flights.legs_after.Goals as goal
 
@@ -16,7 +18,7 @@ if_ok (Err e) f p = p
 
 pub returns : goal.returns
 returns c =
-    let base = base_with c.args.data_set.now c.args.rows.now in
+    let base = c.args.base.now in
     let messages = c.args.messages.now in
     let g = c.args.flight.now in
     let exists : IsFlight g = record {
@@ -24,7 +26,9 @@ returns c =
       suffixed = subst (λ s. IsTrue (is_suffix s)) c.suffix.ensures.value c.suffix.ensures.suffix;
     } in
     let one = itinerary_among (g ∷ []) base.records in
-    let acted = c.in_ok-act_on.ensures one c.in_ok-schedule.ensures in
+    let shows = subst (λ (records : List Record). Shows c.in_ok-schedule.schedule (itinerary_among (g ∷ []) records)) c.data_set.ensures c.in_ok-schedule.ensures in
+    let acts = subst (λ (rows : List Row). (before : Timetable) → Shows c.in_ok-schedule.schedule before → (after : Timetable) × Shows c.act_on.new.schedule after × (after g ≡ after_entries rows messages before g)) c.rows.ensures c.in_ok-act_on.ensures in
+    let acted = acts one shows in
     let within : c.args.day < 36525 = subst (λ n. n < 36525) c.number-2.ensures.value c.number-2.ensures.bound in
     let legs : c.itinerary.result.now ≡ left_by base messages g c.args.day =
     c.itinerary.ensures.value

@@ -1,4 +1,4 @@
-use Rattle.std.proofs.Common.{ℕ, List, take, ◌++◌}
+use Rattle.std.proofs.Common.{◌≡◌, List, take, ◌++◌}
 use Rattle.ssim_base.specs.BaseSeen.{BaseSeen}
 use Rattle.ssim_held.specs.Entries.{Entry}
 use Rattle.ssim_desk.specs.Private.{IsCounted, IsReplay}
@@ -7,7 +7,8 @@ use Rattle.ssim_desk.proofs.replay.apply_all.Given as goal
 
 pub record AreApplied (base : BaseSeen) (messages : List Entry) (old now : Replay) : Type 0 where
   pub counted : IsCounted now
-  pub applied : (before : List Entry) (from : ℕ) → IsReplay base before from old → IsReplay base (before ++ messages) from now
+  pub from : now.from ≡ old.from
+  pub applied : (before : List Entry) → IsReplay base before old → IsReplay base (before ++ messages) now
 
 abbrev pub invariant-loop-held : goal.invariant-loop-held
-invariant-loop-held l = AreApplied l.base (take l.held-index l.messages) l.fn.tail l.tail
+invariant-loop-held l = AreApplied l.base (take l.held-index l.messages) l.fn.replay l.replay

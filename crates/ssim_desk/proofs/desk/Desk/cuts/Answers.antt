@@ -19,7 +19,7 @@ exists c = record {
 points : (c : goal.After-cuts) → AreDeskPoints c.args.self.now.base c.args.self.now.held c.args.flight.now c.cuts.result.now
 points c =
     subst (λ (t : DeskSeen). AreDeskPoints t.base t.held c.args.flight.now c.cuts.result.now) c.self.view_is
-    (subst (AreDeskPoints c.self.inside.trail.base c.self.inside.trail.held c.args.flight.now) (sym c.cuts.ensures.cuts) (c.latest.ensures.cuts c.args.flight.now (exists c)))
+    (subst (AreDeskPoints c.self.inside.holdings.base c.self.inside.holdings.held c.args.flight.now) (sym c.cuts.ensures.cuts) (c.self.invariant.latest_is.cuts c.args.flight.now (exists c)))
 
 pub returns-clause-points : goal.returns-clause-points
 returns-clause-points c = points c
@@ -27,9 +27,9 @@ returns-clause-points c = points c
 pub returns-clause-bound : goal.returns-clause-bound
 returns-clause-bound c = within_bound c.args.self.now.base c.args.self.now.held c.args.flight.now c.cuts.result.now c.cuts.ensures.rising (points c)
 
-legs : (c : goal.After-cuts) (day : ℕ) → day < 36525 → on_day (days_in c.latest.result.now c.args.flight.now) day ≡ timetable_of c.args.self.now c.args.flight.now day
+legs : (c : goal.After-cuts) (day : ℕ) → day < 36525 → on_day (days_in c.self.inside.history.latest c.args.flight.now) day ≡ timetable_of c.args.self.now c.args.flight.now day
 legs c day within =
-    legs_after c.self.inside.trail.base c.self.inside.trail.held c.latest.result.now c.latest.ensures c.args.flight.now (exists c) day within
+    legs_after c.self.inside.holdings.base c.self.inside.holdings.held c.self.inside.history.latest c.self.invariant.latest_is c.args.flight.now (exists c) day within
     ∙ ap (λ (t : DeskSeen). timetable_of t c.args.flight.now day) c.self.view_is
 
 pub returns-clause-weekly : goal.returns-clause-weekly

@@ -17,18 +17,18 @@ if_err (Err e) f p = f e p
 
 pub returns-clause-ok : goal.returns-clause-ok
 returns-clause-ok g c =
-    let t = c.self.inside.trail in let days = days_in c.latest.result.now in
+    let t = c.self.inside.holdings in let days = days_in c.self.inside.history.latest in
     on_ok c.export.result
     (λ w. subst (λ (d : DeskSeen). WritesBase g.W.Sink.taken g.W.Sink.failures d.base.records (days_of_desk d) c.args.out.now c.export.new.out) c.self.view_is
-    (writes days (days_of_desk t) c.latest.ensures.shows g.W.Sink.taken g.W.Sink.failures t.base.records c.args.out.now c.export.new.out
+    (writes days (days_of_desk t) c.self.invariant.latest_is.shows g.W.Sink.taken g.W.Sink.failures t.base.records c.args.out.now c.export.new.out
     (subst (λ (b : BaseSeen). let records = b.records in WritesBase g.W.Sink.taken g.W.Sink.failures records days c.args.out.now c.export.new.out) c.base.ensures w)))
     c.export.ensures.ok
 
 pub returns-clause-err : goal.returns-clause-err
 returns-clause-err g c =
-    let t = c.self.inside.trail in let days = days_in c.latest.result.now in
+    let t = c.self.inside.holdings in let days = days_in c.self.inside.history.latest in
     if_err c.export.result
     (λ fault r. subst (λ (d : DeskSeen). RefusesBase g.W.Sink.taken g.W.Sink.failures d.base.records (days_of_desk d) c.args.out.now c.export.new.out fault) c.self.view_is
-    (refuses days (days_of_desk t) c.latest.ensures.shows g.W.Sink.taken g.W.Sink.failures t.base.records c.args.out.now c.export.new.out fault
+    (refuses days (days_of_desk t) c.self.invariant.latest_is.shows g.W.Sink.taken g.W.Sink.failures t.base.records c.args.out.now c.export.new.out fault
     (subst (λ (b : BaseSeen). let records = b.records in RefusesBase g.W.Sink.taken g.W.Sink.failures records days c.args.out.now c.export.new.out fault) c.base.ensures r)))
     c.export.ensures.err

@@ -1,3 +1,4 @@
+-- There are findings for each message that is held.
 use Rattle.std.proofs.Common.{List, ◌∙◌, length, sym, ap, subst}
 use Rattle.ssim_schedule.specs.declared.finding.Finding.{Finding}
 use Rattle.ssim_base.specs.Timetable.{itinerary}
@@ -8,8 +9,9 @@ use Rattle.ssim_desk.proofs.desk.Desk.findings.Goals as goal
 
 pub push_lines-requires : goal.push_lines-requires
 push_lines-requires c =
-    let t = c.self.inside.trail in
-    ap (λ (es : List Entry). length es) c.held.ensures ∙ sym (length-findings t.base.rows t.held (itinerary t.base.records)) ∙ sym (ap (λ (fs : List (List Finding)). length fs) c.found.ensures)
+    let t = c.self.inside.holdings in
+    let found = c.deref.ensures.value ∙ c.self.invariant.found_is in
+    ap (λ (es : List Entry). length es) c.held.ensures.value ∙ sym (length-findings t.base.rows t.held (itinerary t.base.records)) ∙ sym (ap (λ (fs : List (List Finding)). length fs) found)
 
 pub returns-clause-finds : goal.returns-clause-finds
-returns-clause-finds c = has_findings c.args.self.now (subst (λ (t : DeskSeen). AreEntries t.base.records t.held) c.self.view_is c.self.invariant)
+returns-clause-finds c = has_findings c.args.self.now (subst (λ (t : DeskSeen). AreEntries t.base.records t.held) c.self.view_is c.held.ensures.kept)

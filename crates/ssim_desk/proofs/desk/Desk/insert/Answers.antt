@@ -1,12 +1,44 @@
-use Rattle.std.proofs.Common.{◌≡◌, ◌∷◌, ◌++◌, List, take, drop, sym, subst, arith}
+-- The message and those after it are applied, and both parts of the desk get what follows.
+use Rattle.std.proofs.Common.{◌≡◌, ◌≤◌, ◌+◌, ◌-◌, ◌∷◌, ◌++◌, ◌∙◌, [], List, length, take, drop, ap, sym, subst, append_assoc, arith}
 use Rattle.std.proofs.lemmas.Grind.{common_steps}
-use Rattle.ssim_held.specs.Entries.{AreEntries, Entry}
-use Rattle.ssim_desk.proofs.Changes.{inserted_entries}
+use Rattle.ssim_base.specs.BaseSeen.{BaseSeen}
+use Rattle.ssim_held.specs.Entries.{DeskSeen, Entry}
+use Rattle.ssim_desk.specs.Private.{IsHistory, IsReplay, IsReplaced}
+use Rattle.ssim_desk.proofs.Changes.{replaced}
 use Rattle.ssim_desk.proofs.desk.Desk.insert.Goals as goal
 
-pub replace_from-requires-clause-entries : goal.replace_from-requires-clause-entries
-replace_from-requires-clause-entries c =
-    let held = c.args.self.now.held in
-    let items : c.in_ok-rest.rest.items ≡ c.args.new ∷ drop c.args.at held = grind (arith, common_steps) in
-    subst (λ (es : List Entry). AreEntries c.args.self.now.base.records (take c.args.at held ++ es)) (sym items)
-    (inserted_entries c.args.self.now.base.records held c.args.at c.args.new c.held.ensures.kept c.requires.gap c.requires.entry)
+pub invariant_of-self-2 : goal.invariant_of-self-2
+invariant_of-self-2 c =
+    let h = c.self.inside.holdings in let at = c.args.at in let new = c.args.new in
+    let b = c.base-base.result.now in let hs = c.held-held.result.now in
+    let r = c.apply_all.new.replay in
+    let first = c.in_ok-apply.ensures.applied (take at hs) c.in_ok-replay.ensures.replay in
+    let second = c.in_ok-apply_all.ensures.applied (take at hs ++ new ∷ []) first in
+    let left : take (length hs - at) (drop at hs) ≡ drop at hs = grind (arith, common_steps) in
+    let third = subst (λ (es : List Entry). IsReplay b es r) (append_assoc (take at hs) (new ∷ []) (take (length hs - at) (drop at hs)) ∙ ap (λ (es : List Entry). take at hs ++ new ∷ es) left) second in
+    let fourth = subst (λ (x : BaseSeen). IsReplay x (take at hs ++ new ∷ drop at hs) r) c.base-base.ensures third in
+    let replay = subst (λ (es : List Entry). IsReplay h.base (take at es ++ new ∷ drop at es) r) c.held-held.ensures.value fourth in
+    let place = subst (λ (d : DeskSeen). at ≤ length d.held) (sym c.self.view_is) c.requires.gap.within in
+    let low : r.from ≤ at = omega (arith, c.in_ok-apply_all.ensures.from, c.in_ok-apply.ensures.from, c.in_ok-replay.ensures.low) in
+    let history = c.put.ensures.is h.base h.held (new ∷ drop at h.held) at place low (c.in_ok-reserve.ensures.same h.base h.held c.self.invariant) replay in
+    subst (λ (x : BaseSeen). IsHistory x c.insert.new.self.held c.put.new.self) (sym c.in_ok-insert.ensures.base)
+    (subst (λ (es : List Entry). IsHistory h.base es c.put.new.self) (sym c.in_ok-insert.ensures.ok) history)
+
+pub returns-clause-ok : goal.returns-clause-ok
+returns-clause-ok c =
+    let h = c.self.inside.holdings in let at = c.args.at in let new = c.args.new in
+    let b = c.base-base.result.now in let hs = c.held-held.result.now in
+    let r = c.apply_all.new.replay in
+    let first = c.in_ok-apply.ensures.applied (take at hs) c.in_ok-replay.ensures.replay in
+    let second = c.in_ok-apply_all.ensures.applied (take at hs ++ new ∷ []) first in
+    let left : take (length hs - at) (drop at hs) ≡ drop at hs = grind (arith, common_steps) in
+    let third = subst (λ (es : List Entry). IsReplay b es r) (append_assoc (take at hs) (new ∷ []) (take (length hs - at) (drop at hs)) ∙ ap (λ (es : List Entry). take at hs ++ new ∷ es) left) second in
+    let fourth = subst (λ (x : BaseSeen). IsReplay x (take at hs ++ new ∷ drop at hs) r) c.base-base.ensures third in
+    let replay = subst (λ (es : List Entry). IsReplay h.base (take at es ++ new ∷ drop at es) r) c.held-held.ensures.value fourth in
+    let place = subst (λ (d : DeskSeen). at ≤ length d.held) (sym c.self.view_is) c.requires.gap.within in
+    let low : r.from ≤ at = omega (arith, c.in_ok-apply_all.ensures.from, c.in_ok-apply.ensures.from, c.in_ok-replay.ensures.low) in
+    let near : at ≤ r.from + 31 = omega (arith, c.in_ok-apply_all.ensures.from, c.in_ok-apply.ensures.from, c.in_ok-replay.ensures.near) in
+    let before : DeskSeen = record { base = h.base; held = h.held; applied = c.self.inside.history.applied } in
+    let after : DeskSeen = record { base = c.insert.new.self.base; held = c.insert.new.self.held; applied = c.put.new.self.applied } in
+    subst (λ (d : DeskSeen). IsReplaced d at (new ∷ drop at d.held) after) c.self.view_is
+    (replaced before after at (new ∷ drop at h.held) h.base r place low near replay c.in_ok-insert.ensures.base c.in_ok-insert.ensures.ok c.put.ensures.applied)

@@ -14,12 +14,12 @@ exists c = record {
 }
 
 entries : (c : goal.After-itinerary) → AreEntries c.args.self.now.base.records c.args.self.now.held
-entries c = subst (λ (t : DeskSeen). AreEntries t.base.records t.held) c.self.view_is c.self.invariant
+entries c = subst (λ (t : DeskSeen). AreEntries t.base.records t.held) c.self.view_is c.held.ensures.kept
 
 legs : (c : goal.After-itinerary) → c.itinerary.result.now ≡ timetable_of c.args.self.now c.args.flight.now c.args.day
 legs c =
     c.itinerary.ensures.value
-    ∙ legs_after c.self.inside.trail.base c.self.inside.trail.held c.latest.result.now c.latest.ensures c.args.flight.now (exists c) c.args.day (subst (λ n. n < 36525) c.number-2.ensures.value c.number-2.ensures.bound)
+    ∙ legs_after c.self.inside.holdings.base c.self.inside.holdings.held c.self.inside.history.latest c.self.invariant.latest_is c.args.flight.now (exists c) c.args.day (subst (λ n. n < 36525) c.number-2.ensures.value c.number-2.ensures.bound)
     ∙ ap (λ (t : DeskSeen). timetable_of t c.args.flight.now c.args.day) c.self.view_is
 
 pub returns-clause-value : goal.returns-clause-value

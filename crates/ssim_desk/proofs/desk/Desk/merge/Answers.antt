@@ -1,12 +1,16 @@
-use Rattle.std.proofs.Common.{◌∙◌, List, refl, sym, subst}
-use Rattle.ssim_held.specs.Held.{Agree}
-use Rattle.ssim_held.specs.Entries.{Entry, map_of}
+-- What the merge brings was applied.
+use Rattle.std.proofs.Common.{◌≡◌, ◌≤◌, inl, List, None, length, subst}
+use Rattle.std.specs.FinMap.{get}
+use Rattle.ssim_held.specs.Entries.{DeskSeen, Entry, map_of}
+use Rattle.ssim_desk.specs.Private.{Brings, IsChange, IsReplaced}
+use Rattle.ssim_desk.proofs.Changes.{replayed}
 use Rattle.ssim_desk.proofs.desk.Desk.merge.Goals as goal
 
-pub bring-requires-clause-base : goal.bring-requires-clause-base
-bring-requires-clause-base c = sym c.base.ensures ∙ c.if-not-same.ensures.0 refl ∙ c.base-2.ensures
-
-pub bring-requires-clause-agree : goal.bring-requires-clause-agree
-bring-requires-clause-agree c =
-    subst (λ (es : List Entry). Agree (map_of es) (map_of c.args.other.now.held)) c.held.ensures.value
-    (subst (λ (es : List Entry). Agree (map_of c.held.result.now) (map_of es)) c.held-2.ensures.value c.in_default.ensures.none)
+pub returns-in_ok-replace_from-in-Some-clause-replayed : goal.returns-in_ok-replace_from-in-Some-clause-replayed
+returns-in_ok-replace_from-in-Some-clause-replayed c =
+    let h = c.self.inside.holdings in let o = c.other.inside.holdings in let at = c.in-Some.at in
+    let b : Brings h o at c.in-Some.rest.items = subst (λ change. IsChange h o change) c.in-Some.is c.in_ok-change.ensures.ok in
+    let within = subst (λ (d : DeskSeen). at ≤ length d.held) c.self.view_is b.within in
+    let absent = subst (λ (d : DeskSeen). get (map_of d.held) b.first.reference ≡ None) c.self.view_is b.is_new in
+    inl (replayed c.args.self.now c.replace_from.new.self at b.first b.others within
+    (subst (λ (es : List Entry). IsReplaced c.args.self.now at es c.replace_from.new.self) b.begins c.in_ok-replace_from-in-Some.ensures.ok) absent)

@@ -1,6 +1,6 @@
--- The messages have acted on the timetable of the data set, and the export is written in its frame.
-use Rattle.std.proofs.Common.{OnOk, IfErr, Result, Ok, Err, subst}
-use Rattle.ssim_base.specs.BaseSeen.{base_with}
+-- The messages have acted on the timetable of the data set, and the export stands in its frame.
+use Rattle.std.proofs.Common.{OnOk, IfErr, Result, Ok, Err, ap, subst, ◌∙◌}
+use Rattle.ssim_base.specs.BaseSeen.{BaseSeen, base_with}
 use Rattle.ssim_schedule.specs.Plan.{ReadsBackBase, RefusesBase, WritesBase}
 use Rattle.ssim_schedule.specs.Schedule.{days_in}
 use Rattle.ssim_base.specs.Timetable.{itinerary}
@@ -20,44 +20,47 @@ if_err (Err e) f p = f e p
 pub returns-clause-ok : goal.returns-clause-ok
 returns-clause-ok g c =
     let i = c.self.inside in
-    let base = base_with i.data_set i.stations in
+    let parts = c.into_parts-data_set.result in
+    let base = base_with parts.0 parts.1 in
     let held = i.held.items in
     let desk : DeskSeen = record { base = base; held = held; applied = 0 } in
     let schedule = c.act_in_order.new.schedule in
-    let shows = left base held c.rows.result.now c.deref.result.now schedule c.rows.ensures c.deref.ensures.value (c.in_ok-act_in_order.ensures (itinerary i.data_set) c.in_ok-schedule.ensures.days) in
+    let shows = left base held c.rows.result.now c.deref.result.now schedule c.rows.ensures c.deref.ensures.value (c.in_ok-act_in_order.ensures (itinerary parts.0) c.in_ok-schedule.ensures.days) in
     let frame = c.in_ok-schedule.frame in
     let has_frame = c.in_ok-schedule.ensures.frame in
     on_ok c.export_in.result
-    (λ wrote. subst (λ (d : DeskSeen). WritesBase g.W.Sink.taken g.W.Sink.failures d.base.records (days_of_desk d) c.args.out.now c.export_in.new.out) c.self.view_is
-    (writes (days_in schedule) (days_of_desk desk) shows g.W.Sink.taken g.W.Sink.failures i.data_set c.args.out.now c.export_in.new.out (frame, has_frame, wrote)))
+    (λ wrote. subst (λ (d : DeskSeen). WritesBase g.W.Sink.taken g.W.Sink.failures d.base.records (days_of_desk d) c.args.out.now c.export_in.new.out) (ap (λ (b : BaseSeen). let d : DeskSeen = record { base = b; held = held; applied = 0 } in d) c.into_parts-data_set.ensures ∙ c.self.view_is)
+    (writes (days_in schedule) (days_of_desk desk) shows g.W.Sink.taken g.W.Sink.failures parts.0 c.args.out.now c.export_in.new.out (frame, has_frame, wrote)))
     c.export_in.ensures.ok
 
 pub returns-clause-err : goal.returns-clause-err
 returns-clause-err g c =
     let i = c.self.inside in
-    let base = base_with i.data_set i.stations in
+    let parts = c.into_parts-data_set.result in
+    let base = base_with parts.0 parts.1 in
     let held = i.held.items in
     let desk : DeskSeen = record { base = base; held = held; applied = 0 } in
     let schedule = c.act_in_order.new.schedule in
-    let shows = left base held c.rows.result.now c.deref.result.now schedule c.rows.ensures c.deref.ensures.value (c.in_ok-act_in_order.ensures (itinerary i.data_set) c.in_ok-schedule.ensures.days) in
+    let shows = left base held c.rows.result.now c.deref.result.now schedule c.rows.ensures c.deref.ensures.value (c.in_ok-act_in_order.ensures (itinerary parts.0) c.in_ok-schedule.ensures.days) in
     let frame = c.in_ok-schedule.frame in
     let has_frame = c.in_ok-schedule.ensures.frame in
     if_err c.export_in.result
-    (λ fault refused. subst (λ (d : DeskSeen). RefusesBase g.W.Sink.taken g.W.Sink.failures d.base.records (days_of_desk d) c.args.out.now c.export_in.new.out fault) c.self.view_is
-    (refuses (days_in schedule) (days_of_desk desk) shows g.W.Sink.taken g.W.Sink.failures i.data_set c.args.out.now c.export_in.new.out fault (frame, has_frame, refused)))
+    (λ fault refused. subst (λ (d : DeskSeen). RefusesBase g.W.Sink.taken g.W.Sink.failures d.base.records (days_of_desk d) c.args.out.now c.export_in.new.out fault) (ap (λ (b : BaseSeen). let d : DeskSeen = record { base = b; held = held; applied = 0 } in d) c.into_parts-data_set.ensures ∙ c.self.view_is)
+    (refuses (days_in schedule) (days_of_desk desk) shows g.W.Sink.taken g.W.Sink.failures parts.0 c.args.out.now c.export_in.new.out fault (frame, has_frame, refused)))
     c.export_in.ensures.err
 
 pub returns-clause-reads_back : goal.returns-clause-reads_back
 returns-clause-reads_back g c =
     let i = c.self.inside in
-    let base = base_with i.data_set i.stations in
+    let parts = c.into_parts-data_set.result in
+    let base = base_with parts.0 parts.1 in
     let held = i.held.items in
     let desk : DeskSeen = record { base = base; held = held; applied = 0 } in
     let schedule = c.act_in_order.new.schedule in
-    let shows = left base held c.rows.result.now c.deref.result.now schedule c.rows.ensures c.deref.ensures.value (c.in_ok-act_in_order.ensures (itinerary i.data_set) c.in_ok-schedule.ensures.days) in
+    let shows = left base held c.rows.result.now c.deref.result.now schedule c.rows.ensures c.deref.ensures.value (c.in_ok-act_in_order.ensures (itinerary parts.0) c.in_ok-schedule.ensures.days) in
     let frame = c.in_ok-schedule.frame in
     let has_frame = c.in_ok-schedule.ensures.frame in
     on_ok c.export_in.result
-    (λ back. subst (λ (d : DeskSeen). ReadsBackBase g.W.Sink.taken d.base.records (days_of_desk d) c.args.out.now c.export_in.new.out) c.self.view_is
-    (reads_back (days_in schedule) (days_of_desk desk) shows g.W.Sink.taken i.data_set c.args.out.now c.export_in.new.out (frame, has_frame, back.0, back.1, back.2)))
+    (λ back. subst (λ (d : DeskSeen). ReadsBackBase g.W.Sink.taken d.base.records (days_of_desk d) c.args.out.now c.export_in.new.out) (ap (λ (b : BaseSeen). let d : DeskSeen = record { base = b; held = held; applied = 0 } in d) c.into_parts-data_set.ensures ∙ c.self.view_is)
+    (reads_back (days_in schedule) (days_of_desk desk) shows g.W.Sink.taken parts.0 c.args.out.now c.export_in.new.out (frame, has_frame, back.0, back.1, back.2)))
     c.export_in.ensures.reads_back

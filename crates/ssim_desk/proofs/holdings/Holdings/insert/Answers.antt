@@ -10,4 +10,4 @@ invariant_of-self-2 c =
     let i = c.self.inside in
     let gap = subst (λ (d : DeskSeen). Belongs d.held c.args.new.reference c.args.at c.args.at) (sym c.self.view_is) c.requires.gap in
     let entry = subst (λ (d : DeskSeen). IsEntry d.base.records c.args.new) (sym c.self.view_is) c.requires.entry in
-    subst (AreEntries i.data_set) (sym c.in_ok-insert.ensures.items) (inserted_entries i.data_set i.held.items c.args.at c.args.new c.self.invariant gap entry)
+    subst (AreEntries i.base.records) (sym c.in_ok-insert.ensures.items) (inserted_entries i.base.records i.held.items c.args.at c.args.new c.self.invariant gap entry)

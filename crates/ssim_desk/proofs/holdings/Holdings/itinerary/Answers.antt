@@ -1,7 +1,5 @@
 -- What the messages leave is the meaning of what is held.
 use Rattle.std.proofs.Common.{List, Result, Ok, Err, IfOk, ap, subst, ◌∙◌}
-use Rattle.ssim_base.specs.BaseSeen.{base_with}
-use Rattle.ssim_base.specs.Stations.{Row}
 use Rattle.ssim_held.specs.Entries.{AreEntries, DeskSeen, Entry}
 use Rattle.ssim_desk.specs.Desk.{timetable_of}
 use Rattle.ssim_desk.specs.Meaning.{Timetable, left_by}
@@ -25,8 +23,7 @@ returns-clause-only c =
     if_ok c.legs_after.result
     (λ legs is timetable means.
     is
-    ∙ ap (λ (rows : List Row). left_by (base_with c.self.inside.data_set rows) c.deref.result.now flight day) c.rows.ensures
-    ∙ ap (λ (es : List Entry). left_by (base_with c.self.inside.data_set c.self.inside.stations) es flight day) c.deref.ensures.value
+    ∙ ap (λ (es : List Entry). left_by c.self.inside.base es flight day) c.deref.ensures.value
     ∙ ap (λ (t : DeskSeen). timetable_of t flight day) c.self.view_is
     ∙ ap (λ (t : Timetable). t flight day) (only_meaning c.args.self.now (entries c) timetable means))
     c.legs_after.ensures

@@ -7,7 +7,8 @@ use Rattle.ssim_desk.proofs.Trails.{after_more, found_next, kept_more, kept_none
 use Rattle.ssim_desk.proofs.replay.Replay.apply.Goals as goal
 
 pub returns-in_ok-push-2-clause-applied : goal.returns-in_ok-push-2-clause-applied
-returns-in_ok-push-2-clause-applied c before from tail =
+returns-in_ok-push-2-clause-applied c before tail =
+    let from = c.args.self.now.from in
     let base = c.args.base.now in let e = c.args.held.now in
     let acts = rw c.rows.ensures at c.in_ok-findings.ensures in
     let latest = after_more base before e c.args.self.now.latest c.act.new.schedule tail.latest_is (acts.shows (left_by base before) tail.latest_is.shows) acts.cuts in
@@ -24,7 +25,8 @@ returns-in_ok-push-2-clause-applied c before from tail =
     }
 
 pub returns-else-self-eq0-clause-applied : goal.returns-else-self-eq0-clause-applied
-returns-else-self-eq0-clause-applied c before from tail =
+returns-else-self-eq0-clause-applied c before tail =
+    let from = c.args.self.now.from in
     let base = c.args.base.now in let e = c.args.held.now in
     let acts = rw c.rows.ensures at c.in_ok-findings.ensures in
     let off : (length before + 1) % 32 ≢ 0 = λ z. c.if-self-eq0.false (omega (arith, tail.since_is, z)) in
