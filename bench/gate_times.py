@@ -32,15 +32,27 @@ def part_of(words):
     return crate, "tests" if "--test" in words else "wrong bodies" if "--incremental" in words else "proof"
 
 
+def fields_of(pid):
+    """The fields of a process after its name: the second is its parent."""
+    with open(f"/proc/{pid}/stat", encoding="utf-8", errors="replace") as file:
+        return file.read().rpartition(")")[2].split()
+
+
+def is_below(pid, top):
+    """Whether a process was begun by the process `top`, or by one that it began."""
+    while pid not in ("0", "1", top):
+        pid = fields_of(pid)[1]
+    return pid == top
+
+
 def read_processes(seen):
-    """Notes how many seconds each process of the prover has taken so far."""
+    """Notes how many seconds each process of the prover below this one has taken so far."""
     for pid in filter(str.isdigit, os.listdir("/proc")):
         try:
             with open(f"/proc/{pid}/cmdline", encoding="utf-8", errors="replace") as file:
                 part = part_of(file.read().split("\0"))
-            if part:
-                with open(f"/proc/{pid}/stat", encoding="utf-8", errors="replace") as file:
-                    fields = file.read().rpartition(")")[2].split()
+            if part and is_below(pid, str(os.getpid())):
+                fields = fields_of(pid)
                 seen[pid, fields[19], *part] = (int(fields[11]) + int(fields[12])) / TICKS
         except OSError:
             pass
@@ -91,7 +103,7 @@ def table(times):
     rows.append(("all of the prover", str(sum(times["functions"].values())), *map(minutes, sums)))
     return [f"Processor minutes of a whole gate from nothing on {times['day']}, which took {times['wall'] / 60:.0f} minutes on "
             f"{times['processors']} processors", f"and {times['all'] / 60:.0f} processor minutes, of them "
-            f"{(times['all'] - sum(sums)) / 60:.0f} for compilers, programs and scripts. It ended with `{times['last']}`.", "",
+            f"{(times['all'] - sum(sums)) / 60:.0f} for {'' if sums[2] else 'wrong bodies, '}compilers, programs and scripts. It ended with `{times['last']}`.", "",
             "| Crate | Functions | Proof | Tests | Wrong bodies |", "|---|---|---|---|---|", *[f"| {' | '.join(row)} |" for row in rows]]
 
 
