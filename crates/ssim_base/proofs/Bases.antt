@@ -18,8 +18,8 @@ use Rattle.ssim_records.specs.Segment.{IsTail}
 use Rattle.ssim_records.specs.Trailer.{TrailerFields, IsTrailer}
 use Rattle.ssim_records.specs.declared.record.Record.{Record}
 use Rattle.ssim_records.specs.declared.record.Record.TheVariants.{Header, Carrier, Leg, Segment, Trailer}
-use Rattle.ssim_records.specs.declared.end_code.EndCode.{EndCode}
-use Rattle.ssim_records.specs.declared.end_code.EndCode.TheVariants.{Continuation, End}
+use Rattle.ssim_columns.specs.declared.field.end_code.EndCode.{EndCode}
+use Rattle.ssim_columns.specs.declared.field.end_code.EndCode.TheVariants.{Continuation, End}
 use Rattle.ssim_base.specs.Timetable.{LegValue, Legs, same_flight, same_name, tails_of, leg_of, period_of, is_on, placed, itinerary, Above}
 use Rattle.ssim_base.specs.Base as base
 use Rattle.ssim_base.specs.Base.{refuse_if, or_else, first_of, airline_of, carrier_end, closed, is_trailer, overlaps, is_overflow, is_rate, is_continued, place_refusal, own_refusal, refusal_at, missing, kept, kept_all, Ending, Done, Broken, at_record, at_end, first_refusal, notes_of, data_set}

@@ -10,8 +10,8 @@ use Rattle.ssim_records.specs.Leg.{LegFields, Name}
 use Rattle.ssim_records.specs.Record.{fault_number, serial_of}
 use Rattle.ssim_records.specs.declared.record.Record.{Record}
 use Rattle.ssim_records.specs.declared.record.Record.TheVariants.{Header, Carrier, Leg, Segment, Trailer}
-use Rattle.ssim_records.specs.declared.end_code.EndCode.{EndCode}
-use Rattle.ssim_records.specs.declared.end_code.EndCode.TheVariants.{Continuation, End}
+use Rattle.ssim_columns.specs.declared.field.end_code.EndCode.{EndCode}
+use Rattle.ssim_columns.specs.declared.field.end_code.EndCode.TheVariants.{Continuation, End}
 use Rattle.ssim_base.specs.Timetable.{same_flight, same_name, period_of}
 use Rattle.ssim_records.specs.declared.fault.RecordFault.{RecordFault}
 use Rattle.ssim_base.specs.declared.fault.BaseFault.{BaseFault}

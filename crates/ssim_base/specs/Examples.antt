@@ -4,7 +4,7 @@ use Rattle.ssim_values.specs.Flight.{FlightNumber}
 use Rattle.ssim_records.specs.declared.record.Record.{Record}
 use Rattle.ssim_records.specs.declared.record.Record.TheVariants.{Header, Carrier, Leg, Segment, Trailer}
 use Rattle.ssim_values.specs.declared.time_mode.TimeMode.TheVariants.{Utc}
-use Rattle.ssim_records.specs.declared.end_code.EndCode.TheVariants as code
+use Rattle.ssim_columns.specs.declared.field.end_code.EndCode.TheVariants as code
 use Rattle.ssim_base.specs.Timetable.{LegValue, itinerary}
 use Rattle.ssim_base.specs.Export.{flight_at}
 use Rattle.ssim_base.specs.ReadBack.{place_of, section_items}

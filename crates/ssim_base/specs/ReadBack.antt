@@ -12,7 +12,7 @@ use Rattle.ssim_records.specs.Segment.{IsTail}
 use Rattle.ssim_records.specs.Trailer.{IsTrailer}
 use Rattle.ssim_records.specs.declared.record.Record.{Record}
 use Rattle.ssim_records.specs.declared.record.Record.TheVariants.{Header, Carrier, Trailer}
-use Rattle.ssim_records.specs.declared.end_code.EndCode.TheVariants.{End}
+use Rattle.ssim_columns.specs.declared.field.end_code.EndCode.TheVariants.{End}
 use Rattle.ssim_base.specs.Timetable.{LegValue, Days, itinerary, days_of, on_day, Above, same_flight}
 use Rattle.ssim_base.specs.Base.{Ending, Done, first_refusal, kept_all, data_set}
 use Rattle.ssim_base.specs.declared.note.Note.{Note}

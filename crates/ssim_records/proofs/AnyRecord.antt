@@ -5,19 +5,19 @@ use Rattle.ssim_records.specs.declared.record.Record.{Record}
 use Rattle.ssim_records.specs.declared.record.Record.TheVariants.{Header, Carrier, Leg, Segment, Trailer}
 use Rattle.ssim_records.specs.declared.fault.RecordFault.{RecordFault}
 use Rattle.ssim_records.specs.declared.fault.RecordFault.TheVariants.{BadColumn, BadType}
-use Rattle.ssim_records.specs.Columns.{columns, first_fault}
+use Rattle.ssim_columns.specs.Columns.{columns, first_fault}
 use Rattle.ssim_records.specs.Header.{HeaderFields, SpellsHeader, header_table}
 use Rattle.ssim_records.specs.Carrier.{CarrierFields, SpellsCarrier, carrier_table}
-use Rattle.ssim_records.specs.Leg.{LegFields, SpellsLeg, leg_table}
-use Rattle.ssim_records.specs.Segment.{SegmentFields, SpellsSegment, segment_table}
+use Rattle.ssim_columns.specs.Leg.{LegFields, SpellsLeg, leg_table}
+use Rattle.ssim_columns.specs.Segment.{SegmentFields, SpellsSegment, segment_table}
 use Rattle.ssim_records.specs.Trailer.{TrailerFields, SpellsTrailer, trailer_table}
 use Rattle.ssim_records.specs.Record.{Spells, IsRecord, written, table_of, fault_of}
 use Rattle.ssim_records.proofs.Headers.{one_header, spells_header}
 use Rattle.ssim_records.proofs.Carriers.{one_carrier, spells_carrier}
-use Rattle.ssim_records.proofs.Legs.{one_leg, spells_leg}
-use Rattle.ssim_records.proofs.Segments.{one_segment, spells_segment}
+use Rattle.ssim_columns.proofs.lemmas.Legs.{one_leg, spells_leg}
+use Rattle.ssim_columns.proofs.lemmas.Segments.{one_segment, spells_segment}
 use Rattle.ssim_records.proofs.Trailers.{one_trailer, spells_trailer}
-use Rattle.ssim_records.proofs.Rows.{none_fault}
+use Rattle.ssim_columns.proofs.lemmas.Rows.{none_fault}
 
 pub spells_written : (r : Record) → IsRecord r → Spells r (written r)
 spells_written (Header r) h = spells_header r h

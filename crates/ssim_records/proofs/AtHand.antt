@@ -7,7 +7,7 @@ use Rattle.ssim_records.specs.Frames.{trim, is_fill}
 use Rattle.ssim_records.specs.Blocks.{Fetches, GivesBlock, GivesOther, StandsFirst}
 use Rattle.ssim_records.proofs.Framing.{Stays, fetches_first, fetches_on, gives_other, none_skipped, one_taken, took}
 use Rattle.ssim_records.proofs.LineEnds.{is_end, trim_front, trim_less, trim_pass}
-use Rattle.ssim_records.proofs.Slices.{front_length, same_front}
+use Rattle.ssim_columns.proofs.lemmas.Slices.{front_length, same_front}
 
 -- ---- the block at the beginning
 

@@ -5,18 +5,18 @@ use Rattle.std.specs.List.{AllZip}
 use Rattle.ssim_values.specs.Airline.{is_airline}
 use Rattle.ssim_values.specs.Day.{day_of, day_text}
 use Rattle.ssim_values.proofs.DayLaws.{day_of-day_text}
-use Rattle.ssim_records.specs.declared.field.Kind.TheVariants.{Carried, AirlineCode}
+use Rattle.ssim_columns.specs.declared.field.Kind.TheVariants.{Carried, AirlineCode}
 use Rattle.ssim_values.specs.declared.time_mode.TimeMode.{TimeMode}
 use Rattle.ssim_values.specs.declared.time_mode.TimeMode.TheVariants.{Utc, Local}
-use Rattle.ssim_records.specs.Numbers.{digits_of, digits}
-use Rattle.ssim_records.specs.Columns.{columns, fault_in, end_from, time_mode_of}
-use Rattle.ssim_records.specs.Leg.{end_text}
-use Rattle.ssim_records.specs.Carrier.{CarrierFields, IsCarrier, SpellsCarrier, carrier_texts, time_mode_text, written_carrier}
-use Rattle.ssim_records.proofs.Days.{length_day, length_end, end_from-end_text}
-use Rattle.ssim_records.proofs.Names.{length_airline}
-use Rattle.ssim_records.proofs.Numbers.{digits_of-digits}
-use Rattle.ssim_records.proofs.Places.{all_placed, length_concat, dates_stand}
-use Rattle.ssim_records.proofs.Rows.{none_other, stands_by, stands_as}
+use Rattle.ssim_columns.specs.Numbers.{digits_of, digits}
+use Rattle.ssim_columns.specs.Columns.{time_mode_text, columns, fault_in, end_from, time_mode_of}
+use Rattle.ssim_columns.specs.Leg.{end_text}
+use Rattle.ssim_records.specs.Carrier.{CarrierFields, IsCarrier, SpellsCarrier, carrier_texts, written_carrier}
+use Rattle.ssim_columns.proofs.lemmas.Days.{length_day, length_end, end_from-end_text}
+use Rattle.ssim_columns.proofs.lemmas.Names.{length_airline}
+use Rattle.ssim_columns.proofs.lemmas.Numbers.{digits_of-digits}
+use Rattle.ssim_columns.proofs.lemmas.Places.{all_placed, length_concat, dates_stand}
+use Rattle.ssim_columns.proofs.lemmas.Rows.{none_other, stands_by, stands_as}
 
 carrier_of : TimeMode → List ℕ → List ℕ → ℕ → Option ℕ → ℕ → List ℕ → ℕ → CarrierFields
 carrier_of time_mode airline season first last created details serial = record { time_mode = time_mode; airline = airline; season = season; first = first; last = last; created = created; details = details; serial = serial }

@@ -6,13 +6,13 @@ use Rattle.ssim_values.specs.Day.{day_of, day_text}
 use Rattle.ssim_values.specs.DayMask.{days_of}
 use Rattle.ssim_values.specs.Clock.{clock_of}
 use Rattle.ssim_values.specs.Variation.{variation_of}
-use Rattle.ssim_records.specs.Columns.{end_from, passenger_time_of, utc_variation_of, time_mode_of, end_code_of, is_title, dates_fault}
+use Rattle.ssim_columns.specs.Columns.{end_from, passenger_time_of, utc_variation_of, time_mode_of, end_code_of, is_title, dates_fault}
 use Rattle.ssim_records.specs.Frames.{is_fill}
 use Rattle.ssim_records.specs.Header.{SpellsHeader, written_header}
 use Rattle.ssim_records.specs.Carrier.{SpellsCarrier, written_carrier}
-use Rattle.ssim_records.specs.Leg.{SpellsLeg, written_leg}
-use Rattle.ssim_records.specs.LegParts.{new_leg, station_columns, with_equipment, with_times}
-use Rattle.ssim_records.specs.Numbers.{digits_of, number_of, sequence_of, drop_blanks_at_end}
+use Rattle.ssim_columns.specs.Leg.{SpellsLeg, written_leg}
+use Rattle.ssim_columns.specs.LegParts.{new_leg, station_columns, with_equipment, with_times}
+use Rattle.ssim_columns.specs.Numbers.{digits_of, number_of, sequence_of, drop_blanks_at_end}
 use Rattle.ssim_records.specs.Record.{table_of}
 use Rattle.ssim_records.specs.Trailer.{SpellsTrailer, written_trailer}
 use Rattle.ssim_records.specs.Worked.{WorkedRecords, carrier_bytes, data_set, header_bytes, leg_bytes, the_carrier, the_header, the_leg, the_trailer, trailer_bytes}

@@ -4,7 +4,8 @@ use Rattle.std.specs.Prelude.{nat_lt}
 use Rattle.std.proofs.lemmas.Bool.Decides.{nat_tests}
 use Rattle.std.proofs.lemmas.List.{length-take, length-drop, take-append-drop}
 use Rattle.ssim_records.specs.Frames.{trim, Frames}
-use Rattle.ssim_records.proofs.LineEnds.{pick, trim_less}
+use Rattle.ssim_columns.proofs.lemmas.Choices.{pick}
+use Rattle.ssim_records.proofs.LineEnds.{trim_less}
 use Rattle.ssim_records.proofs.Framing.{first_frame, no_frame}
 
 exist_to : (fuel beyond : ℕ) (behind : Bool) (bytes : List ℕ) → length bytes < fuel → (blocks : List (List ℕ)) × ((rest : List ℕ) × Frames beyond behind bytes blocks rest)

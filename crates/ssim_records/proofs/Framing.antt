@@ -13,7 +13,7 @@ use Rattle.ssim_records.specs.Device.{CountsBytes}
 use Rattle.ssim_records.specs.Frames.{trim, Frames, others, is_fill}
 use Rattle.ssim_records.specs.Blocks.{SameAhead, NextBlock, GivesBlock, GivesOther, Ahead, CountsOn, Fetches, Takes}
 use Rattle.ssim_records.proofs.LineEnds.{trim_front, trim_pass, trim_twice, trim_less}
-use Rattle.ssim_records.proofs.Slices.{same_front, same_back}
+use Rattle.ssim_columns.proofs.lemmas.Slices.{same_front, same_back}
 
 -- what came and what is held, if the reader reports its bytes: the fetched bytes are held after the
 -- earlier ones, without line ends at the beginning

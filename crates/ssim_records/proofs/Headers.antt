@@ -2,13 +2,13 @@
 use Rattle.std.proofs.Common.{◌≡◌, ℕ, List, [], ◌∷◌, length, Some, None, refl, sym, ap, ◌∙◌}
 use Rattle.std.specs.Prelude.{codes}
 use Rattle.std.specs.List.{AllZip}
-use Rattle.ssim_records.specs.declared.field.Kind.TheVariants.{Carried, Title}
-use Rattle.ssim_records.specs.Numbers.{digits_of, digits}
-use Rattle.ssim_records.specs.Columns.{columns, fault_in, title, is_title}
+use Rattle.ssim_columns.specs.declared.field.Kind.TheVariants.{Carried, Title}
+use Rattle.ssim_columns.specs.Numbers.{digits_of, digits}
+use Rattle.ssim_columns.specs.Columns.{columns, fault_in, title, is_title}
 use Rattle.ssim_records.specs.Header.{HeaderFields, IsHeader, SpellsHeader, header_texts, written_header}
-use Rattle.ssim_records.proofs.Numbers.{digits_of-digits}
-use Rattle.ssim_records.proofs.Places.{all_placed, length_concat}
-use Rattle.ssim_records.proofs.Rows.{none_other, stands_as}
+use Rattle.ssim_columns.proofs.lemmas.Numbers.{digits_of-digits}
+use Rattle.ssim_columns.proofs.lemmas.Places.{all_placed, length_concat}
+use Rattle.ssim_columns.proofs.lemmas.Rows.{none_other, stands_as}
 
 header_of : List ℕ → ℕ → HeaderFields
 header_of details serial = record { details = details; serial = serial }

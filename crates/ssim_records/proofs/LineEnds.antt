@@ -1,12 +1,9 @@
 -- Line ends at the beginning of bytes, passed over in one step or in two.
-use Rattle.std.proofs.Common.{◌≡◌, ℕ, ◌<◌, ◌≤◌, ◌==◌, Bool, true, false, ◌&&◌, List, [], ◌∷◌, ◌++◌, length, refl, sym, ap, ◌∙◌, arith, ◌⊎◌, inl, inr}
+use Rattle.std.proofs.Common.{◌≡◌, ℕ, ◌<◌, ◌≤◌, ◌==◌, Bool, true, false, ◌&&◌, List, [], ◌∷◌, ◌++◌, length, refl, sym, ap, ◌∙◌, arith, inl, inr}
 use Rattle.std.proofs.lemmas.Bool.Decides.{nat_tests}
 use Rattle.std.proofs.lemmas.List.{length-append, append-nil}
+use Rattle.ssim_columns.proofs.lemmas.Choices.{pick}
 use Rattle.ssim_records.specs.Frames.{drop_line_ends, trim}
-
-pub pick : (t : Bool) → (t ≡ true) ⊎ (t ≡ false)
-pick true = inl refl
-pick false = inr refl
 
 -- line ends that are passed over are passed over whatever follows
 pub pass_front : (P L : List ℕ) → drop_line_ends (drop_line_ends P ++ L) ≡ drop_line_ends (P ++ L)

@@ -6,14 +6,14 @@ use Rattle.std.proofs.lemmas.Bool.Decides.{nat_tests}
 use Rattle.std.proofs.lemmas.Slice.Eq.{bytes_eq-Decides}
 use Rattle.ssim_records.specs.declared.record.Record.{Record}
 use Rattle.ssim_records.specs.declared.record.Record.TheVariants.{Header, Carrier, Leg, Segment, Trailer}
-use Rattle.ssim_records.specs.Columns.{columns}
+use Rattle.ssim_columns.specs.Columns.{columns}
 use Rattle.ssim_records.specs.Frames.{drop_line_ends, Frames, fill, is_fill, others}
 use Rattle.ssim_records.specs.Record.{IsRecord, written, block_of, lines, numbered, IsItem, AreItems}
-use Rattle.ssim_records.proofs.LineEnds.{pick}
+use Rattle.ssim_columns.proofs.lemmas.Choices.{pick}
 use Rattle.ssim_records.proofs.Headers.{length_header}
 use Rattle.ssim_records.proofs.Carriers.{length_carrier}
-use Rattle.ssim_records.proofs.Legs.{length_leg}
-use Rattle.ssim_records.proofs.Segments.{length_segment}
+use Rattle.ssim_columns.proofs.lemmas.Legs.{length_leg}
+use Rattle.ssim_columns.proofs.lemmas.Segments.{length_segment}
 use Rattle.ssim_records.proofs.Trailers.{length_trailer}
 use Rattle.ssim_records.proofs.AnyRecord.{kind_of, kind_is, spells_written}
 

@@ -5,9 +5,9 @@ use Rattle.ssim_records.specs.declared.blocks.Stop.{Stop}
 use Rattle.ssim_records.specs.declared.blocks.Stop.TheVariants as stop
 use Rattle.ssim_records.specs.declared.fault.RecordFault.{RecordFault}
 use Rattle.ssim_records.specs.declared.fault.RecordFault.TheVariants.{Short, BadType, BadColumn, ReadFault, ReaderNeverEnds}
-use Rattle.ssim_records.specs.declared.field.Field.{Field}
+use Rattle.ssim_columns.specs.declared.field.Field.{Field}
 use Rattle.ssim_records.specs.declared.record.Record.{Record}
-use Rattle.ssim_records.specs.Columns.{first_fault}
+use Rattle.ssim_columns.specs.Columns.{first_fault}
 use Rattle.ssim_records.specs.Blocks.{GivesOther}
 use Rattle.ssim_records.specs.Record.{Spells, HasSpelt, fault_of, fault_by, column_fault, table_of}
 use Rattle.ssim_records.specs.Reading.{Reading, IsAhead, Answers, Counts, GivesNext, given, IsRefused, HasNumber, FailsAs, NeverEnds, HoldsFew}

@@ -3,16 +3,16 @@ use Rattle.std.proofs.Common.{◌≡◌, ℕ, List, [], ◌∷◌, length, Some,
 use Rattle.std.specs.Prelude.{codes}
 use Rattle.std.specs.List.{AllZip}
 use Rattle.ssim_values.specs.Airline.{is_airline}
-use Rattle.ssim_records.specs.declared.field.Kind.TheVariants.{Carried, AirlineCode}
-use Rattle.ssim_records.specs.declared.end_code.EndCode.{EndCode}
-use Rattle.ssim_records.specs.declared.end_code.EndCode.TheVariants.{Continuation, End}
-use Rattle.ssim_records.specs.Numbers.{digits_of, digits}
-use Rattle.ssim_records.specs.Columns.{columns, fault_in, is_carried, end_code_of}
-use Rattle.ssim_records.specs.Trailer.{TrailerFields, IsTrailer, SpellsTrailer, trailer_texts, end_code_text, written_trailer}
-use Rattle.ssim_records.proofs.Names.{length_airline}
-use Rattle.ssim_records.proofs.Numbers.{digits_of-digits}
-use Rattle.ssim_records.proofs.Places.{all_placed, length_concat}
-use Rattle.ssim_records.proofs.Rows.{is_true, none_other, stands_by, stands_as}
+use Rattle.ssim_columns.specs.declared.field.Kind.TheVariants.{Carried, AirlineCode}
+use Rattle.ssim_columns.specs.declared.field.end_code.EndCode.{EndCode}
+use Rattle.ssim_columns.specs.declared.field.end_code.EndCode.TheVariants.{Continuation, End}
+use Rattle.ssim_columns.specs.Numbers.{digits_of, digits}
+use Rattle.ssim_columns.specs.Columns.{end_code_text, columns, fault_in, is_carried, end_code_of}
+use Rattle.ssim_records.specs.Trailer.{TrailerFields, IsTrailer, SpellsTrailer, trailer_texts, written_trailer}
+use Rattle.ssim_columns.proofs.lemmas.Names.{length_airline}
+use Rattle.ssim_columns.proofs.lemmas.Numbers.{digits_of-digits}
+use Rattle.ssim_columns.proofs.lemmas.Places.{all_placed, length_concat}
+use Rattle.ssim_columns.proofs.lemmas.Rows.{is_true, none_other, stands_by, stands_as}
 
 trailer_of : ℕ → List ℕ → List ℕ → ℕ → EndCode → ℕ → TrailerFields
 trailer_of spare airline release check code serial = record { spare = spare; airline = airline; release = release; check = check; code = code; serial = serial }

@@ -8,7 +8,7 @@ use Rattle.std.proofs.lemmas.List.{take-take, drop-take, drop-drop, take_at, dro
 use borrow.Rule.Slice.PartMut.{put_mid, post_of}
 use Rattle.ssim_records.specs.Frames.{drop_line_ends}
 use Rattle.ssim_records.specs.Blocks.{SameAhead}
-use Rattle.ssim_records.proofs.Slices.{length_slice}
+use Rattle.ssim_columns.proofs.lemmas.Slices.{length_slice}
 use Rattle.ssim_records.proofs.LineEnds.{is_end}
 
 pub take_through : (F Y : List ℕ) (a n : ℕ) → length F ≡ a → take (a + n) (F ++ Y) ≡ F ++ take n Y

@@ -4,13 +4,12 @@ use Rattle.std.specs.List.{concat, list_all}
 use Rattle.ssim_values.specs.Calendar.{day_limit}
 use Rattle.ssim_values.specs.Day.{day_of, day_text}
 use Rattle.ssim_values.specs.Airline.{is_airline}
-use Rattle.ssim_records.specs.declared.field.Kind.TheVariants.{AirlineCode, Carried, Dates, Date, Digits, Mode}
-use Rattle.ssim_records.specs.declared.field.Field.{Field}
+use Rattle.ssim_columns.specs.declared.field.Kind.TheVariants.{AirlineCode, Carried, Dates, Date, Digits, Mode}
+use Rattle.ssim_columns.specs.declared.field.Field.{Field}
 use Rattle.ssim_values.specs.declared.time_mode.TimeMode.{TimeMode}
-use Rattle.ssim_values.specs.declared.time_mode.TimeMode.TheVariants.{Utc, Local}
-use Rattle.ssim_records.specs.Numbers.{digits_of, digits}
-use Rattle.ssim_records.specs.Columns.{columns, field, is_carried, end_from, time_mode_of, EachStands}
-use Rattle.ssim_records.specs.Leg.{end_text, IsEnd}
+use Rattle.ssim_columns.specs.Numbers.{digits_of, digits}
+use Rattle.ssim_columns.specs.Columns.{columns, field, is_carried, end_from, time_mode_of, time_mode_text, EachStands}
+use Rattle.ssim_columns.specs.Leg.{end_text, IsEnd}
 
 -- what a carrier record says: time mode, airline, columns 6 to 14 (the season among them),
 -- validity, creation date, columns 36 to 194, and its serial; `last` is none if the end is open
@@ -48,11 +47,6 @@ pub record SpellsCarrier (r : CarrierFields) (bytes : List ℕ) : Type 0 where
   pub created : day_of (columns 29 35 bytes) ≡ Some r.created
   pub details : columns 36 194 bytes ≡ r.details
   pub serial : digits_of (columns 195 200 bytes) ≡ Some r.serial
-
--- the letter of a time mode
-abbrev pub time_mode_text : TimeMode → List ℕ
-time_mode_text Utc = codes "U"
-time_mode_text Local = codes "L"
 
 -- the fields of a carrier record as they are written, in the order of the columns
 abbrev pub carrier_texts : CarrierFields → List (List ℕ)

@@ -1,10 +1,10 @@
 -- Header records, type 1.
 use Rattle.std.specs.Prelude.{ℕ, ◌≡◌, ◌<◌, IsTrue, List, [], ◌∷◌, length, codes, Some}
 use Rattle.std.specs.List.{concat, list_all}
-use Rattle.ssim_records.specs.declared.field.Kind.TheVariants.{Carried, Digits, Title}
-use Rattle.ssim_records.specs.declared.field.Field.{Field}
-use Rattle.ssim_records.specs.Numbers.{digits_of, digits}
-use Rattle.ssim_records.specs.Columns.{columns, field, is_carried, title, EachStands}
+use Rattle.ssim_columns.specs.declared.field.Kind.TheVariants.{Carried, Digits, Title}
+use Rattle.ssim_columns.specs.declared.field.Field.{Field}
+use Rattle.ssim_columns.specs.Numbers.{digits_of, digits}
+use Rattle.ssim_columns.specs.Columns.{columns, field, is_carried, title, EachStands}
 
 -- what a header says: columns 36 to 194, and its serial
 pub record HeaderFields : Type 0 where

@@ -1,17 +1,17 @@
 -- Records of any type: what they say, how they are written, and why bytes are refused.
 use Rattle.std.specs.Prelude.{ℕ, false, ◌≡◌, ◌==◌, ◌+◌, if◌then◌else◌, List, [], ◌∷◌, ◌++◌, Option, Some, None, slice_index, map, codes}
 use Rattle.std.specs.List.{flat_map}
-use Rattle.ssim_records.specs.declared.field.Field.{Field}
+use Rattle.ssim_columns.specs.declared.field.Field.{Field}
 use Rattle.ssim_records.specs.declared.fault.RecordFault.{RecordFault}
 use Rattle.ssim_records.specs.declared.fault.RecordFault.TheVariants.{Short, BadType, BadColumn, ReadFault, ReaderNeverEnds}
 use Rattle.ssim_records.specs.declared.record.Record.{Record}
 use Rattle.ssim_records.specs.declared.record.Record.TheVariants.{Header, Carrier, Leg, Segment, Trailer}
-use Rattle.ssim_records.specs.Columns.{first_fault}
+use Rattle.ssim_columns.specs.Columns.{first_fault}
 use Rattle.ssim_records.specs.Frames.{Frames, fill, others}
 use Rattle.ssim_records.specs.Header.{SpellsHeader, IsHeader, header_table, written_header}
 use Rattle.ssim_records.specs.Carrier.{SpellsCarrier, IsCarrier, carrier_table, written_carrier}
-use Rattle.ssim_records.specs.Leg.{SpellsLeg, IsLeg, leg_table, written_leg}
-use Rattle.ssim_records.specs.Segment.{SpellsSegment, IsSegment, segment_table, written_segment}
+use Rattle.ssim_columns.specs.Leg.{SpellsLeg, IsLeg, leg_table, written_leg}
+use Rattle.ssim_columns.specs.Segment.{SpellsSegment, IsSegment, segment_table, written_segment}
 use Rattle.ssim_records.specs.Trailer.{SpellsTrailer, IsTrailer, trailer_table, written_trailer}
 
 -- the 200 bytes spell the record

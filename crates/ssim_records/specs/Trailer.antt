@@ -2,12 +2,11 @@
 use Rattle.std.specs.Prelude.{ℕ, ◌≡◌, ◌<◌, IsTrue, List, [], ◌∷◌, length, codes, Some}
 use Rattle.std.specs.List.{concat, list_all}
 use Rattle.ssim_values.specs.Airline.{is_airline}
-use Rattle.ssim_records.specs.declared.field.Kind.TheVariants.{AirlineCode, Carried, Digits, Code}
-use Rattle.ssim_records.specs.declared.field.Field.{Field}
-use Rattle.ssim_records.specs.declared.end_code.EndCode.{EndCode}
-use Rattle.ssim_records.specs.declared.end_code.EndCode.TheVariants.{Continuation, End}
-use Rattle.ssim_records.specs.Numbers.{digits_of, digits}
-use Rattle.ssim_records.specs.Columns.{columns, field, is_carried, end_code_of, EachStands}
+use Rattle.ssim_columns.specs.declared.field.Kind.TheVariants.{AirlineCode, Carried, Digits, Code}
+use Rattle.ssim_columns.specs.declared.field.Field.{Field}
+use Rattle.ssim_columns.specs.declared.field.end_code.EndCode.{EndCode}
+use Rattle.ssim_columns.specs.Numbers.{digits_of, digits}
+use Rattle.ssim_columns.specs.Columns.{columns, field, is_carried, end_code_of, end_code_text, EachStands}
 
 -- what a trailer says: column 2, the airline, columns 6 to 187 (the release date among them), the
 -- serial that it checks, whether more carriers follow, and its own serial
@@ -40,11 +39,6 @@ pub record SpellsTrailer (r : TrailerFields) (bytes : List ℕ) : Type 0 where
   pub check : digits_of (columns 188 193 bytes) ≡ Some r.check
   pub code : end_code_of (columns 194 194 bytes) ≡ Some r.code
   pub serial : digits_of (columns 195 200 bytes) ≡ Some r.serial
-
--- the letter of an end code
-abbrev pub end_code_text : EndCode → List ℕ
-end_code_text Continuation = codes "C"
-end_code_text End = codes "E"
 
 -- the fields of a trailer record as they are written, in the order of the columns
 abbrev pub trailer_texts : TrailerFields → List (List ℕ)

@@ -1,19 +1,19 @@
 -- A small data set, worked out by hand: its records, their fields, its frames, wrong bytes in it,
 -- and changed columns.
 use Rattle.std.specs.Prelude.{◌≡◌, ℕ, true, false, List, [], ◌∷◌, ◌++◌, codes, take, drop, Some}
-use Rattle.ssim_records.specs.declared.end_code.EndCode.TheVariants.{End}
+use Rattle.ssim_columns.specs.declared.field.end_code.EndCode.TheVariants.{End}
 use Rattle.ssim_records.specs.declared.fault.RecordFault.TheVariants.{BadType, BadColumn}
-use Rattle.ssim_records.specs.declared.leg_parts.LegStations.{LegStations}
-use Rattle.ssim_records.specs.declared.leg_parts.LegTimes.{LegTimes}
+use Rattle.ssim_columns.specs.declared.leg.leg_parts.LegStations.{LegStations}
+use Rattle.ssim_columns.specs.declared.leg.leg_parts.LegTimes.{LegTimes}
 use Rattle.ssim_records.specs.declared.record.Record.{Record}
 use Rattle.ssim_records.specs.declared.record.Record.TheVariants.{Header, Carrier, Leg, Trailer}
 use Rattle.ssim_values.specs.declared.time_mode.TimeMode.TheVariants.{Utc}
-use Rattle.ssim_records.specs.Columns.{columns}
+use Rattle.ssim_columns.specs.Columns.{columns}
 use Rattle.ssim_records.specs.Frames.{Frames, others}
 use Rattle.ssim_records.specs.Header.{HeaderFields}
 use Rattle.ssim_records.specs.Carrier.{CarrierFields}
-use Rattle.ssim_records.specs.Leg.{LegFields, own_columns}
-use Rattle.ssim_records.specs.LegParts.{EquipmentFields, new_leg, with_equipment, with_times}
+use Rattle.ssim_columns.specs.Leg.{LegFields, own_columns}
+use Rattle.ssim_columns.specs.LegParts.{EquipmentFields, new_leg, with_equipment, with_times}
 use Rattle.ssim_records.specs.Trailer.{TrailerFields}
 use Rattle.ssim_records.specs.Record.{Spells, fault_of, written}
 

@@ -20,70 +20,32 @@
 //! than the limit. Only [`Bytes`] and [`Parts`] allocate, when they grow.
 #![tactic(auto)]
 
-// A row of a table: the columns of a field, and its kind.
-macro_rules! field {
-    ($first:literal $last:literal $kind:ident) => {
-        Field {
-            first: $first,
-            last: $last,
-            kind: Kind::$kind,
-        }
-    };
-}
-
 mod blocks;
 mod bytes;
-mod carrier;
-mod clock_digits;
-mod columns;
 mod device;
-mod end_code;
 mod fault;
-mod field;
-mod header;
-mod latest;
 mod laws;
-mod leg;
-mod leg_columns;
-pub mod leg_fields;
-mod leg_head;
-mod leg_name;
-mod leg_parts;
-mod leg_points;
-mod name_text;
-mod number;
 mod parts;
 mod record;
-mod record_texts;
 mod records;
-mod same;
-mod segment;
-mod segment_head;
-mod segment_tail;
 mod stream;
-mod texts;
-mod time_mode;
-mod trailer;
 mod window;
 
 pub use bytes::Bytes;
-pub use carrier::Carrier;
 pub use device::{DeviceFault, Sink, Source};
-pub use end_code::EndCode;
 pub use fault::RecordFault;
-pub use field::Field;
-pub use header::Header;
 pub use laws::{frames_are_one, worked_records, written_records_read_back};
-pub use leg::LegRecord;
-pub use leg_columns::LegColumns;
-pub use leg_name::LegName;
-pub use leg_parts::{LegEquipment, LegStations, LegTimes};
 pub use parts::Parts;
+pub use record::carrier::Carrier;
+pub use record::header::Header;
+pub use record::leg::LegRecord;
+pub use record::segment::SegmentRecord;
+pub use record::trailer::Trailer;
 pub use record::{Record, RecordReader, read_into, read_record, write_over, write_record};
 pub use records::Records;
-pub use segment::SegmentRecord;
-pub use segment_tail::SegmentTail;
+pub use ssim_columns::{
+    EndCode, Field, LegColumns, LegEquipment, LegName, LegStations, LegTimes, NameText, PeriodText,
+    SegmentTail, leg_fields,
+};
 pub use ssim_values::TimeMode;
 pub use stream::{Input, Output};
-pub use texts::{NameText, PeriodText};
-pub use trailer::Trailer;

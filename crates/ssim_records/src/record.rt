@@ -1,19 +1,23 @@
 //! A record of any type.
 
 ghost use Rattle.std.specs.Prelude.{◌≡◌, ◌≢◌, ◌<◌, ◌↔◌, ◌∷◌, ℕ, [], Ok, Some, IfOk, IfErr, OnOk, IsTrue, false, length};
-ghost use Rattle.ssim_records.specs.Columns.{columns};
+ghost use Rattle.ssim_columns.specs.Columns.{columns};
 ghost use Rattle.ssim_records.specs.declared.record.Record.{Record};
 ghost use Rattle.ssim_records.specs.Record.{Spells, HasSpelt, IsRecord, written, fault_of, with_serial, serial_of};
 
-use crate::carrier::{Carrier, read_carrier};
+pub(crate) mod carrier;
+pub(crate) mod header;
+pub(crate) mod leg;
+pub(crate) mod segment;
+pub(crate) mod trailer;
+
 use crate::fault::RecordFault;
-use crate::header::{Header, read_header};
-use crate::latest::Latest;
-use crate::leg::{LegRecord, leg_with};
-use crate::leg_head::read_leg_head;
-use crate::segment::SegmentRecord;
-use crate::segment_head::read_segment_head;
-use crate::trailer::{Trailer, read_trailer};
+use crate::record::carrier::{Carrier, read_carrier};
+use crate::record::header::{Header, read_header};
+use crate::record::leg::{LegRecord, leg_with};
+use crate::record::segment::SegmentRecord;
+use crate::record::trailer::{Trailer, read_trailer};
+use ssim_columns::{LatestColumns, read_leg_head, read_segment_head};
 
 /// A record of chapter 7, by its type in column 1.
 #[derive(Clone, Copy, Debug)]
@@ -57,7 +61,11 @@ fn put_other(bytes: &[u8; 200], into: &mut Option<Record>) -> Result<bool, usize
 
 // Puts a flight leg into `into`. A leg that is there already is overwritten, so that its columns
 // are copied once.
-fn put_leg(bytes: &[u8; 200], latest: &mut Latest, into: &mut Option<Record>) -> Result<(), usize>
+fn put_leg(
+    bytes: &[u8; 200],
+    latest: &mut LatestColumns,
+    into: &mut Option<Record>,
+) -> Result<(), usize>
     requires { columns 1 1 bytes.now ≡ 51 ∷ [] }
     ensures ok { OnOk result (HasSpelt into.new bytes.now) }
     ensures err { IfErr result (λ column. (number : ℕ) → fault_of number bytes.now ≡ Some (RecordFault.BadColumn number column)) }
@@ -74,7 +82,7 @@ fn put_leg(bytes: &[u8; 200], latest: &mut Latest, into: &mut Option<Record>) ->
 // overwritten, so that their columns are copied once.
 fn put_segment(
     bytes: &[u8; 200],
-    latest: &mut Latest,
+    latest: &mut LatestColumns,
     into: &mut Option<Record>,
 ) -> Result<(), usize>
     requires { columns 1 1 bytes.now ≡ 52 ∷ [] }
@@ -97,7 +105,7 @@ fn put_segment(
 // Says whether there is such a type.
 fn put_record(
     bytes: &[u8; 200],
-    latest: &mut Latest,
+    latest: &mut LatestColumns,
     into: &mut Option<Record>,
 ) -> Result<bool, usize>
     ensures ok { IfOk result (λ known. IsTrue known → HasSpelt into.new bytes.now) }
@@ -116,14 +124,14 @@ fn put_record(
 /// columns are not parsed again.
 #[derive(Drop)]
 pub struct RecordReader {
-    latest: Latest,
+    latest: LatestColumns,
 }
 
 impl RecordReader {
     /// A reader before the first record.
     pub fn new() -> RecordReader {
         RecordReader {
-            latest: Latest::new(),
+            latest: LatestColumns::new(),
         }
     }
 

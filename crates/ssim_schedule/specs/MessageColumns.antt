@@ -4,8 +4,8 @@ use Rattle.ssim_values.specs.Variation.{Offset}
 use Rattle.ssim_records.specs.LegParts as leg
 use Rattle.ssim_records.specs.LegParts.{EquipmentFields, new_leg}
 use Rattle.ssim_records.specs.Segment.{new_tail}
-use Rattle.ssim_records.specs.declared.leg_parts.LegStations.{LegStations}
-use Rattle.ssim_records.specs.declared.leg_parts.LegTimes.{LegTimes}
+use Rattle.ssim_columns.specs.declared.leg.leg_parts.LegStations.{LegStations}
+use Rattle.ssim_columns.specs.declared.leg.leg_parts.LegTimes.{LegTimes}
 use Rattle.ssim_text.specs.Values.{EquipmentValue}
 use Rattle.ssim_text.specs.declared.leg.LegLine.{LegLine}
 use Rattle.ssim_text.specs.declared.segment.SegmentLine.{SegmentLine}

@@ -2,7 +2,7 @@
 use Rattle.std.proofs.Common.{◌≡◌, ◌+◌, ◌∙◌, length, take, drop, Ok, arith, ap, sym, rules}
 use Rattle.std.proofs.lemmas.List.{take-append-drop, length-drop}
 use Rattle.ssim_records.proofs.Framing.{took, stays_on, counts_on, never_ends, none_taken, none_trimmed, one_taken, faulted, all_held, ends_short}
-use Rattle.ssim_records.proofs.Slices.{front_length}
+use Rattle.ssim_columns.proofs.lemmas.Slices.{front_length}
 use Rattle.ssim_records.proofs.blocks.next_block.Goals as goal
 
 pub loop-limit-preserved : goal.loop-limit-preserved

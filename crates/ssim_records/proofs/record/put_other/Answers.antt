@@ -3,7 +3,7 @@ use Rattle.std.proofs.Common.{◌≡◌, ◌≢◌, ◌∷◌, [], ℕ, List, Er
 use Rattle.std.specs.Prelude.{◌==◌}
 use Rattle.std.proofs.lemmas.Bool.Decides.{nat_tests}
 use Rattle.ssim_records.proofs.AnyRecord.{header_fault, carrier_fault, trailer_fault, other_fault}
-use Rattle.ssim_records.proofs.LineEnds.{pick}
+use Rattle.ssim_columns.proofs.lemmas.Choices.{pick}
 use Rattle.ssim_records.proofs.record.put_other.Goals as goal
 
 abbrev only_byte : ℕ → List ℕ

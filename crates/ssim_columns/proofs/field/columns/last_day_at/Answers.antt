@@ -1,0 +1,11 @@
+-- A valid end is open or a day not before its start.
+use Rattle.std.proofs.Common.{sym, ◌∙◌}
+use Rattle.ssim_columns.proofs.lemmas.Places.{no_last_day}
+use Rattle.ssim_columns.proofs.lemmas.Days.{is_end}
+use Rattle.ssim_columns.proofs.field.columns.last_day_at.Goals as goal
+
+pub unreachable-requires : goal.unreachable-requires
+unreachable-requires c = no_last_day c.args.bytes.now c.args.first c.requires.stands c.requires.first (sym c.end_from.ensures ∙ c.in-None.is)
+
+pub returns-clause-below : goal.returns-clause-below
+returns-clause-below c = is_end c.args.first _ c.in-Some.day (sym c.end_from.ensures ∙ c.in-Some.is)

@@ -1,0 +1,13 @@
+-- The first four digits are those that were read.
+use Rattle.std.proofs.Common.{sym, ap, ◌∙◌, arith, lit≤}
+use Rattle.ssim_columns.specs.Numbers.{digits_of}
+use Rattle.ssim_columns.proofs.lemmas.Serials.{serial_of_parts}
+use Rattle.ssim_columns.proofs.lemmas.Slices.{length_slice}
+use Rattle.ssim_columns.proofs.latest_columns.SerialRead.serial_in.Goals as goal
+
+pub returns-clause-value : goal.returns-clause-value
+returns-clause-value c =
+    let b = c.args.bytes.now in
+    serial_of_parts b c.self.inside.number c.in_ok-last.last (length_slice b 198 200 (lit≤ tt) (omega (arith, c.told-bytes)))
+    (ap digits_of (c.are_same_four.ensures c.if-not-are_same_four.false) ∙ c.self.invariant.value)
+    (sym c.in_ok-last.ensures.value)

@@ -1,0 +1,41 @@
+-- Records with the same bytes in columns that are parsed have the same flight, the same leg of it,
+-- the same ends of a period, and the same days.
+use Rattle.std.proofs.Common.{◌≡◌, ℕ, Bool, ◌+◌, ◌≤◌, List, sym, ap, ◌∙◌, lit≤}
+use Rattle.std.specs.Prelude.{slice_range, Some}
+use Rattle.ssim_values.specs.Day.{day_of}
+use Rattle.ssim_values.specs.DayMask.{days_of}
+use Rattle.ssim_columns.specs.declared.latest_columns.LegEnds.{LegEnds}
+use Rattle.ssim_columns.specs.declared.leg.leg_name.AirlineFlight.{AirlineFlight}
+use Rattle.ssim_columns.specs.declared.leg.leg_name.FlightLeg.{FlightLeg}
+use Rattle.ssim_columns.specs.Columns.{columns, end_from}
+use Rattle.ssim_columns.specs.internal.LatestColumns.{SpellsEnds, SpellsFlight, SpellsFlightLeg}
+use Rattle.ssim_columns.specs.Numbers.{number_of, sequence_of}
+use Rattle.ssim_columns.proofs.lemmas.Slices.{slice_in}
+
+same_part : (a b : List ℕ) (from to i j : ℕ) → slice_range b from to ≡ slice_range a from to → i ≤ j → from + j ≤ to → slice_range b (from + i) (from + j) ≡ slice_range a (from + i) (from + j)
+same_part a b from to i j e le within = sym (slice_in b from to i j le within) ∙ ap (λ (t : List ℕ). slice_range t i j) e ∙ slice_in a from to i j le within
+
+pub same_flight : (f : AirlineFlight) (a b : List ℕ) → columns 2 9 b ≡ columns 2 9 a → SpellsFlight f a → SpellsFlight f b
+same_flight f a b e s = record {
+  suffix = same_part a b 1 9 0 1 e (lit≤ tt) (lit≤ tt) ∙ s.suffix;
+  airline = same_part a b 1 9 1 4 e (lit≤ tt) (lit≤ tt) ∙ s.airline;
+  number = ap number_of (same_part a b 1 9 4 8 e (lit≤ tt) (lit≤ tt)) ∙ s.number;
+}
+
+pub same_flight_leg : (l : FlightLeg) (a b : List ℕ) → columns 10 13 b ≡ columns 10 13 a → SpellsFlightLeg l a → SpellsFlightLeg l b
+same_flight_leg l a b e s = record {
+  variation = ap number_of (same_part a b 9 13 0 2 e (lit≤ tt) (lit≤ tt)) ∙ s.variation;
+  sequence = ap sequence_of (same_part a b 9 13 2 4 e (lit≤ tt) (lit≤ tt)) ∙ s.sequence;
+  variation_to = s.variation_to;
+  sequence_from = s.sequence_from;
+  sequence_to = s.sequence_to;
+}
+
+pub same_ends : (l : LegEnds) (a b : List ℕ) → columns 15 22 b ≡ columns 15 22 a → columns 21 28 b ≡ columns 21 28 a → SpellsEnds l a → SpellsEnds l b
+same_ends l a b e f s = record {
+  first = ap day_of (same_part a b 14 22 0 7 e (lit≤ tt) (lit≤ tt)) ∙ s.first;
+  last = ap (end_from (Some l.first)) (same_part a b 20 28 1 8 f (lit≤ tt) (lit≤ tt)) ∙ s.last;
+}
+
+pub same_days : (d : List Bool) (a b : List ℕ) → columns 28 35 b ≡ columns 28 35 a → days_of (columns 29 35 a) ≡ Some d → days_of (columns 29 35 b) ≡ Some d
+same_days d a b e s = ap days_of (same_part a b 27 35 1 8 e (lit≤ tt) (lit≤ tt)) ∙ s

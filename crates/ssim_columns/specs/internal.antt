@@ -1,0 +1,5 @@
+-- What only the proofs of this crate cite.
+pub mod LatestColumns
+pub mod LegPoints
+pub mod Clocks
+pub mod Serials

@@ -1,0 +1,336 @@
+//! The fields of a record: their columns, their valid texts, and the first column of the first
+//! invalid field.
+
+ghost use Rattle.std.specs.Prelude.{◌≡◌, ◌≤◌, ◌<◌, ◌+◌, length, Some, None, IsTrue, IfSome, is_some};
+ghost use Rattle.std.specs.List.{list_all};
+ghost use Rattle.ssim_values.specs.Day.{day_of};
+ghost use Rattle.ssim_values.specs.DayMask.{days_of};
+ghost use Rattle.ssim_values.specs.Clock.{clock_of};
+ghost use Rattle.ssim_values.specs.Variation.{variation_of};
+ghost use Rattle.ssim_values.specs.Station.{is_station};
+ghost use Rattle.ssim_values.specs.Airline.{is_airline};
+ghost use Rattle.ssim_values.specs.Flight.{is_suffix};
+ghost use Rattle.ssim_values.specs.Calendar.{day_limit};
+ghost use Rattle.ssim_columns.specs.Numbers.{is_blank};
+ghost use Rattle.ssim_columns.specs.Columns.{columns, is_carried, is_printed, is_title, end_from, passenger_time_of, utc_variation_of, time_mode_of, end_code_of, unless, dates_fault, place_of_other, fault_in, fits_kind, first_fault, are_fields, AreColumns};
+
+pub(crate) mod columns;
+pub(crate) mod end_code;
+pub(crate) mod time_mode;
+
+use crate::field::end_code::end_code_of;
+use crate::field::time_mode::time_mode_of;
+use crate::text::array::{five, four, seven, three};
+use crate::text::equality::are_same_seven;
+use crate::text::number::{digits_of, number_of, sequence_of};
+use ssim_values::{Airline, Clock, Day, DayMask, Station, Variation};
+
+/// The kind of a field: the texts that are valid in its columns.
+#[derive(Clone, Copy, Debug, PartialEq, Eq)]
+pub enum Kind {
+    Suffix,
+    AirlineCode,
+    Number,
+    Sequence,
+    Carried,
+    Dates,
+    Date,
+    Days,
+    StationCode,
+    Time,
+    PassengerTime,
+    UtcVariation,
+    Digits,
+    Mode,
+    Code,
+    Title,
+}
+
+/// A field of a record: its columns, counted from 1, and its kind.
+#[derive(Clone, Copy, Debug, PartialEq, Eq)]
+pub struct Field {
+    pub first: usize,
+    pub last: usize,
+    pub kind: Kind,
+}
+
+impl Field {
+    /// The columns of the field in a record.
+    #[inline(always)]
+    pub fn text(self, bytes: &[u8; 200]) -> &[u8]
+        requires { AreColumns self.first self.last }
+        ensures len { length result.now + self.first ≡ self.last + 1 }
+        ensures value { result.now ≡ columns self.first self.last bytes.now }
+    {
+        &bytes[self.first - 1..self.last]
+    }
+}
+
+// ---- bytes
+
+fn is_carried(byte: u8) -> bool
+    ensures { result ≡ is_carried byte }
+{
+    byte >= 32 && byte != 127
+}
+
+fn is_blank(byte: u8) -> bool
+    ensures { result ≡ is_blank byte }
+{
+    byte == b' '
+}
+
+fn are_blank(text: &[u8]) -> bool
+    ensures { result ≡ list_all is_blank text.now }
+{
+    text.iter().all(|b| is_blank(*b))
+}
+
+/// Whether each byte can be carried. The loop has no early exit, so that several bytes are tested
+/// at once.
+pub fn are_carried(text: &[u8]) -> bool
+    ensures { result ≡ list_all is_carried text.now }
+{
+    let mut all = true;
+    for byte in text {
+        all &= is_carried(*byte);
+    }
+    all
+}
+
+fn is_suffix(byte: u8) -> bool
+    ensures { result ≡ is_suffix byte }
+{
+    byte == b' ' || byte.is_ascii_uppercase()
+}
+
+fn are_suffixes(text: &[u8]) -> bool
+    ensures { result ≡ list_all is_suffix text.now }
+{
+    text.iter().all(|b| is_suffix(*b))
+}
+
+fn place_of_other(text: &[u8]) -> Option<usize>
+    ensures within { IfSome result (λ place. place ≤ length text.now) }
+    ensures value { result ≡ place_of_other is_carried 0 text.now }
+{
+    for (i, byte) in text.iter().enumerate() {
+        if !is_carried(*byte) {
+            return Some(i);
+        }
+    }
+    None
+}
+
+// The index of the first byte that cannot be carried. Mostly there is none.
+#[tactic(auto, using(crate::proofs::lemmas::Rows::none_other))]
+fn carried_fault(text: &[u8]) -> Option<usize>
+    requires { length text.now ≤ 200 }
+    ensures small { IfSome result (λ place. place ≤ 200) }
+    ensures value { result ≡ place_of_other is_carried 0 text.now }
+{
+    if are_carried(text) {
+        None
+    } else {
+        place_of_other(text)
+    }
+}
+
+// ---- values
+
+pub fn is_station(text: &[u8]) -> bool
+    requires { length text.now ≡ 3 }
+    ensures { result ≡ is_station text.now }
+{
+    match Station::parse(&three(text)) {
+        Ok(_) => true,
+        Err(_) => false,
+    }
+}
+
+pub fn is_airline(text: &[u8]) -> bool
+    requires { length text.now ≡ 3 }
+    ensures { result ≡ is_airline text.now }
+{
+    match Airline::parse(&three(text)) {
+        Ok(_) => true,
+        Err(_) => false,
+    }
+}
+
+pub fn day_of(text: &[u8]) -> Option<Day>
+    requires { length text.now ≡ 7 }
+    ensures { result ≡ day_of text.now }
+{
+    match Day::parse(&seven(text)) {
+        Ok(day) => Some(day),
+        Err(_) => None,
+    }
+}
+
+pub fn days_of(text: &[u8]) -> Option<DayMask>
+    ensures { result ≡ days_of text.now }
+{
+    match DayMask::parse(text) {
+        Ok(days) => Some(days),
+        Err(_) => None,
+    }
+}
+
+pub fn clock_of(text: &[u8]) -> Option<Clock>
+    requires { length text.now ≡ 4 }
+    ensures { result ≡ clock_of text.now }
+{
+    match Clock::parse(&four(text)) {
+        Ok(clock) => Some(clock),
+        Err(_) => None,
+    }
+}
+
+fn variation_of(text: &[u8]) -> Option<Variation>
+    requires { length text.now ≡ 5 }
+    ensures { result ≡ variation_of text.now }
+{
+    match Variation::parse(&five(text)) {
+        Ok(variation) => Some(variation),
+        Err(_) => None,
+    }
+}
+
+/// A time, or none in blank columns.
+#[tactic(auto, unfolding(crate::specs::Columns::passenger_time_of))]
+pub fn passenger_time_of(text: &[u8]) -> Option<Option<Clock>>
+    requires { length text.now ≡ 4 }
+    ensures { result ≡ passenger_time_of text.now }
+{
+    if are_blank(text) {
+        return Some(None);
+    }
+    match clock_of(text) {
+        Some(clock) => Some(Some(clock)),
+        None => None,
+    }
+}
+
+/// A UTC variation, or none in blank columns.
+#[tactic(auto, unfolding(crate::specs::Columns::utc_variation_of))]
+pub fn utc_variation_of(text: &[u8]) -> Option<Option<Variation>>
+    requires { length text.now ≡ 5 }
+    ensures { result ≡ utc_variation_of text.now }
+{
+    if are_blank(text) {
+        return Some(None);
+    }
+    match variation_of(text) {
+        Some(variation) => Some(Some(variation)),
+        None => None,
+    }
+}
+
+/// The day of an end that is not before the start, or the open end.
+#[tactic(auto, unfolding(crate::specs::Columns::end_from))]
+pub fn end_from(start: Day, text: &[u8]) -> Option<Option<Day>>
+    requires { length text.now ≡ 7 }
+    ensures { result ≡ end_from (Some start) text.now }
+{
+    if are_same_seven(seven(text), *b"00XXX00") {
+        return Some(None);
+    }
+    match day_of(text) {
+        Some(end) if end.number() >= start.number() => Some(Some(end)),
+        _ => None,
+    }
+}
+
+#[tactic(auto, unfolding(crate::specs::Columns::is_title))]
+fn is_title(text: &[u8]) -> bool
+    ensures { result ≡ is_title text.now }
+{
+    text == b"AIRLINE STANDARD SCHEDULE DATA SET".as_slice()
+}
+
+// ---- faults
+
+fn unless(stands: bool) -> Option<usize>
+    ensures { result ≡ unless stands }
+{
+    if stands { None } else { Some(0) }
+}
+
+#[tactic(auto, unfolding(crate::specs::Columns::dates_fault))]
+fn dates_fault(text: &[u8]) -> Option<usize>
+    requires { length text.now ≡ 14 }
+    ensures small { IfSome result (λ place. place ≤ 7) }
+    ensures value { result ≡ dates_fault text.now }
+{
+    let (first, last) = text.split_at(7);
+    let Some(start) = day_of(first) else {
+        return Some(0);
+    };
+    match end_from(start, last) {
+        Some(_) => None,
+        None => Some(7),
+    }
+}
+
+/// The index of the first fault in the columns of a field, from 0.
+fn fault_in(kind: Kind, text: &[u8]) -> Option<usize>
+    requires fits { IsTrue (fits_kind kind (length text.now)) }
+    requires len { length text.now ≤ 200 }
+    ensures small { IfSome result (λ place. place ≤ 200) }
+    ensures value { result ≡ fault_in kind text.now }
+{
+    match kind {
+        Kind::Suffix => unless(are_suffixes(text)),
+        Kind::AirlineCode => unless(is_airline(text)),
+        Kind::Number => unless(number_of(text).is_some()),
+        Kind::Sequence => unless(sequence_of(text).is_some()),
+        Kind::Carried => carried_fault(text),
+        Kind::Dates => dates_fault(text),
+        Kind::Date => unless(day_of(text).is_some()),
+        Kind::Days => unless(days_of(text).is_some()),
+        Kind::StationCode => unless(is_station(text)),
+        Kind::Time => unless(clock_of(text).is_some()),
+        Kind::PassengerTime => unless(passenger_time_of(text).is_some()),
+        Kind::UtcVariation => unless(utc_variation_of(text).is_some()),
+        Kind::Digits => unless(digits_of(text).is_some()),
+        Kind::Mode => unless(time_mode_of(text).is_some()),
+        Kind::Code => unless(end_code_of(text).is_some()),
+        Kind::Title => unless(is_title(text)),
+    }
+}
+
+// Whether each byte is from 32 to 126. The loop has no early exit, so that several bytes are tested
+// at once.
+fn are_printed(text: &[u8]) -> bool
+    ensures { result ≡ list_all is_printed text.now }
+{
+    let mut most = 0;
+    for byte in text {
+        most = most.max(byte.wrapping_sub(b' '));
+    }
+    most < 95
+}
+
+/// Whether each byte of columns 3 to 194 can be carried. Mostly each is from 32 to 126.
+#[tactic(auto, using(crate::proofs::lemmas::Rows::all_printed))]
+pub fn middle_is_carried(bytes: &[u8; 200]) -> bool
+    ensures { result ≡ list_all is_carried (columns 3 194 bytes.now) }
+{
+    let middle = &bytes[2..194];
+    are_printed(middle) || are_carried(middle)
+}
+
+/// The first column of the first invalid field.
+pub fn first_fault(fields: &[Field], bytes: &[u8; 200]) -> Option<usize>
+    requires { IsTrue (are_fields fields.now) }
+    ensures { result ≡ first_fault bytes.now fields.now }
+{
+    for field in fields {
+        let text = &bytes[field.first - 1..field.last];
+        if let Some(place) = fault_in(field.kind, text) {
+            return Some(field.first + place);
+        }
+    }
+    None
+}

@@ -1,0 +1,382 @@
+//! What the latest records had in columns that are parsed. Mostly the next record has the same, and
+//! it is not parsed again.
+
+ghost use Rattle.std.specs.Prelude.{◌≡◌, ◌<◌, IfSome, Some};
+ghost use Rattle.ssim_values.specs.DayMask.{days_of};
+ghost use Rattle.ssim_columns.specs.Columns.{columns};
+ghost use Rattle.ssim_columns.specs.Leg.{IsName, SpellsName};
+ghost use Rattle.ssim_columns.specs.internal.LatestColumns.{SpellsDates, SpellsEnds, SpellsFlight, SpellsFlightLeg};
+ghost use Rattle.ssim_columns.specs.Numbers.{digits_of};
+
+use crate::field::{day_of, days_of, end_from};
+use crate::leg::leg_name::{
+    AirlineFlight, FlightLeg, LegName, name_with, read_flight, read_flight_leg,
+};
+use crate::text::array::{eight, four};
+use crate::text::equality::{are_same, are_same_four};
+use crate::text::number::digits_of;
+use ssim_values::{Day, DayMask};
+use std::marker::Model;
+
+/// A flight, and the bytes of columns 2 to 9 that spell it.
+#[derive(Drop)]
+struct FlightRead {
+    columns: [u8; 8],
+    named: AirlineFlight,
+}
+
+impl Model for FlightRead {
+    ghost use Rattle.ssim_columns.specs.internal.LatestColumns.{IsFlightRead};
+
+    ghost Value = { Rattle.ssim_columns.specs.internal.LatestColumns.FlightRead };
+
+    ghost view = { λ r. record { columns = r.columns; named = r.named } };
+
+    ghost invariant = { λ r. IsFlightRead (record { columns = r.columns; named = r.named }) };
+}
+
+/// Columns 15 to 35 of a leg: the first day of its period, its last day, or none if it is open, and
+/// the days of operation.
+#[derive(Clone, Copy, Debug)]
+pub(crate) struct LegDates {
+    pub(crate) first: Day,
+    pub(crate) last: Option<Day>,
+    pub(crate) days: DayMask,
+}
+
+/// Columns 15 to 28 of a leg.
+#[derive(Clone, Copy, Debug)]
+struct LegEnds {
+    first: Day,
+    last: Option<Day>,
+}
+
+/// The ends of a period, and the bytes of columns 15 to 22 and 21 to 28 that spell them.
+#[derive(Drop)]
+struct EndsRead {
+    first: [u8; 8],
+    last: [u8; 8],
+    ends: LegEnds,
+}
+
+impl Model for EndsRead {
+    ghost use Rattle.ssim_columns.specs.internal.LatestColumns.{AreEndsRead};
+
+    ghost Value = { Rattle.ssim_columns.specs.internal.LatestColumns.EndsRead };
+
+    ghost view = { λ r. record { first = r.first; last = r.last; ends = r.ends } };
+
+    ghost invariant = { λ r. AreEndsRead (record { first = r.first; last = r.last; ends = r.ends }) };
+}
+
+/// Days of operation, and the bytes of columns 28 to 35 that spell them.
+#[derive(Drop)]
+struct DaysRead {
+    columns: [u8; 8],
+    days: DayMask,
+}
+
+impl Model for DaysRead {
+    ghost use Rattle.ssim_columns.specs.internal.LatestColumns.{AreDaysRead};
+
+    ghost Value = { Rattle.ssim_columns.specs.internal.LatestColumns.DaysRead };
+
+    ghost view = { λ r. record { columns = r.columns; days = r.days } };
+
+    ghost invariant = { λ r. AreDaysRead (record { columns = r.columns; days = r.days }) };
+}
+
+/// The bytes of columns 195 to 198, the first four digits of a serial, and the number that they
+/// spell.
+#[derive(Drop)]
+struct SerialRead {
+    columns: [u8; 4],
+    number: u32,
+}
+
+impl Model for SerialRead {
+    ghost use Rattle.ssim_columns.specs.internal.Serials.{IsSerialRead};
+
+    ghost Value = { Rattle.ssim_columns.specs.internal.Serials.SerialRead };
+
+    ghost view = { λ r. record { columns = r.columns; number = r.number } };
+
+    ghost invariant = { λ r. IsSerialRead (record { columns = r.columns; number = r.number }) };
+}
+
+/// A leg of a flight, and the bytes of columns 10 to 13 that spell it.
+#[derive(Drop)]
+struct FlightLegRead {
+    columns: [u8; 4],
+    leg: FlightLeg,
+}
+
+impl Model for FlightLegRead {
+    ghost use Rattle.ssim_columns.specs.internal.LatestColumns.{IsFlightLegRead};
+
+    ghost Value = { Rattle.ssim_columns.specs.internal.LatestColumns.FlightLegRead };
+
+    ghost view = { λ r. record { columns = r.columns; leg = r.leg } };
+
+    ghost invariant = { λ r. IsFlightLegRead (record { columns = r.columns; leg = r.leg }) };
+}
+
+impl FlightRead {
+    fn new(bytes: &[u8; 200], named: &AirlineFlight) -> FlightRead
+        requires { SpellsFlight named.now bytes.now }
+    {
+        FlightRead {
+            columns: eight(&bytes[1..9]),
+            named: *named,
+        }
+    }
+
+    // The flight, if the record has the same columns.
+    fn flight_in(&self, bytes: &[u8; 200]) -> Option<AirlineFlight>
+        ensures { IfSome result (λ named. SpellsFlight named bytes.now) }
+    {
+        if are_same(&bytes[1..9], &self.columns) {
+            Some(self.named)
+        } else {
+            None
+        }
+    }
+}
+
+impl FlightLegRead {
+    fn new(bytes: &[u8; 200], leg: FlightLeg) -> FlightLegRead
+        requires { SpellsFlightLeg leg bytes.now }
+    {
+        FlightLegRead {
+            columns: four(&bytes[9..13]),
+            leg,
+        }
+    }
+
+    // The leg, if the record has the same columns.
+    fn leg_in(&self, bytes: &[u8; 200]) -> Option<FlightLeg>
+        ensures { IfSome result (λ leg. SpellsFlightLeg leg bytes.now) }
+    {
+        if are_same_four(&bytes[9..13], &self.columns) {
+            Some(self.leg)
+        } else {
+            None
+        }
+    }
+}
+
+impl EndsRead {
+    fn new(bytes: &[u8; 200], ends: &LegEnds) -> EndsRead
+        requires { SpellsEnds ends.now bytes.now }
+    {
+        EndsRead {
+            first: eight(&bytes[14..22]),
+            last: eight(&bytes[20..28]),
+            ends: *ends,
+        }
+    }
+
+    // The ends, if the record has the same columns.
+    fn ends_in(&self, bytes: &[u8; 200]) -> Option<LegEnds>
+        ensures { IfSome result (λ ends. SpellsEnds ends bytes.now) }
+    {
+        if are_same(&bytes[14..22], &self.first) && are_same(&bytes[20..28], &self.last) {
+            Some(self.ends)
+        } else {
+            None
+        }
+    }
+}
+
+fn read_ends(bytes: &[u8; 200]) -> Option<LegEnds>
+    ensures { IfSome result (λ ends. SpellsEnds ends bytes.now) }
+{
+    let first = day_of(&bytes[14..21])?;
+    let last = end_from(first, &bytes[21..28])?;
+    Some(LegEnds { first, last })
+}
+
+impl DaysRead {
+    fn new(bytes: &[u8; 200], days: DayMask) -> DaysRead
+        requires { days_of (columns 29 35 bytes.now) ≡ Some days }
+    {
+        DaysRead {
+            columns: eight(&bytes[27..35]),
+            days,
+        }
+    }
+
+    // The days, if the record has the same columns.
+    fn days_in(&self, bytes: &[u8; 200]) -> Option<DayMask>
+        ensures { IfSome result (λ days. days_of (columns 29 35 bytes.now) ≡ Some days) }
+    {
+        if are_same(&bytes[27..35], &self.columns) {
+            Some(self.days)
+        } else {
+            None
+        }
+    }
+}
+
+impl SerialRead {
+    // Of the serials below 100.
+    fn new() -> SerialRead {
+        SerialRead {
+            columns: *b"0000",
+            number: 0,
+        }
+    }
+
+    // Of the record's serial, if it begins with four digits.
+    fn read(bytes: &[u8; 200]) -> Option<SerialRead> {
+        let columns = four(&bytes[194..198]);
+        let number = digits_of(&columns)?;
+        Some(SerialRead { columns, number })
+    }
+
+    // The serial in columns 195 to 200, if it begins with the same digits.
+    fn serial_in(&self, bytes: &[u8; 200]) -> Option<u32>
+        ensures below { IfSome result (λ serial. serial < 1000000) }
+        ensures value { IfSome result (λ serial. digits_of (columns 195 200 bytes.now) ≡ Some serial) }
+    {
+        if !are_same_four(&bytes[194..198], &self.columns) {
+            return None;
+        }
+        let last = digits_of(&bytes[198..200])?;
+        Some(self.number * 100 + last)
+    }
+}
+
+/// The latest flight, its latest leg, the latest ends of a period, the latest days of operation and
+/// the first digits of the latest serial of the records so far.
+#[derive(Drop)]
+pub struct LatestColumns {
+    flight: Option<FlightRead>,
+    leg: Option<FlightLegRead>,
+    ends: Option<EndsRead>,
+    days: Option<DaysRead>,
+    serial: SerialRead,
+}
+
+impl LatestColumns {
+    pub fn new() -> LatestColumns {
+        LatestColumns {
+            flight: None,
+            leg: None,
+            ends: None,
+            days: None,
+            serial: SerialRead::new(),
+        }
+    }
+
+    // Does what `flight_in` does if the flight is another one. It is not inlined, since the flight
+    // is mostly the same.
+    #[inline(never)]
+    fn other_flight_in(&mut self, bytes: &[u8; 200]) -> Option<AirlineFlight>
+        ensures { IfSome result (λ named. SpellsFlight named bytes.now) }
+    {
+        let named = read_flight(bytes)?;
+        self.flight = Some(FlightRead::new(bytes, &named));
+        Some(named)
+    }
+
+    // The flight in columns 2 to 9, if they spell one.
+    #[inline(always)]
+    fn flight_in(&mut self, bytes: &[u8; 200]) -> Option<AirlineFlight>
+        ensures { IfSome result (λ named. SpellsFlight named bytes.now) }
+    {
+        if let Some(read) = &self.flight {
+            if let Some(named) = read.flight_in(bytes) {
+                return Some(named);
+            }
+        }
+        self.other_flight_in(bytes)
+    }
+
+    // The leg of a flight in columns 10 to 13, if they spell one. A segment mostly has the leg of
+    // the record before it.
+    #[inline(always)]
+    fn leg_in(&mut self, bytes: &[u8; 200]) -> Option<FlightLeg>
+        ensures { IfSome result (λ leg. SpellsFlightLeg leg bytes.now) }
+    {
+        if let Some(read) = &self.leg {
+            if let Some(leg) = read.leg_in(bytes) {
+                return Some(leg);
+            }
+        }
+        let leg = read_flight_leg(bytes)?;
+        self.leg = Some(FlightLegRead::new(bytes, leg));
+        Some(leg)
+    }
+
+    /// The name in columns 2 to 13, if they spell one.
+    #[inline(always)]
+    pub(crate) fn name_in(&mut self, bytes: &[u8; 200]) -> Option<LegName>
+        ensures spells { IfSome result (λ name. SpellsName name bytes.now) }
+        ensures is_name { IfSome result (λ name. IsName name) }
+    {
+        let named = self.flight_in(bytes)?;
+        let leg = self.leg_in(bytes)?;
+        Some(name_with(bytes, named, leg))
+    }
+
+    // The ends of the period in columns 15 to 28, if they spell some.
+    fn ends_in(&mut self, bytes: &[u8; 200]) -> Option<LegEnds>
+        ensures { IfSome result (λ ends. SpellsEnds ends bytes.now) }
+    {
+        if let Some(read) = &self.ends {
+            if let Some(ends) = read.ends_in(bytes) {
+                return Some(ends);
+            }
+        }
+        let ends = read_ends(bytes)?;
+        self.ends = Some(EndsRead::new(bytes, &ends));
+        Some(ends)
+    }
+
+    // The days of operation in columns 29 to 35, if they spell some.
+    fn days_in(&mut self, bytes: &[u8; 200]) -> Option<DayMask>
+        ensures { IfSome result (λ days. days_of (columns 29 35 bytes.now) ≡ Some days) }
+    {
+        if let Some(read) = &self.days {
+            if let Some(days) = read.days_in(bytes) {
+                return Some(days);
+            }
+        }
+        let days = days_of(&bytes[28..35])?;
+        self.days = Some(DaysRead::new(bytes, days));
+        Some(days)
+    }
+
+    /// The dates in columns 15 to 35, if they spell some.
+    pub(crate) fn dates_in(&mut self, bytes: &[u8; 200]) -> Option<LegDates>
+        ensures { IfSome result (λ dates. SpellsDates dates bytes.now) }
+    {
+        let LegEnds { first, last } = self.ends_in(bytes)?;
+        let days = self.days_in(bytes)?;
+        Some(LegDates { first, last, days })
+    }
+
+    // Does what `serial_in` does if the first digits are others. It is not inlined, since they are
+    // mostly the same.
+    #[inline(never)]
+    fn other_serial_in(&mut self, bytes: &[u8; 200]) -> Option<u32>
+        ensures below { IfSome result (λ serial. serial < 1000000) }
+        ensures value { IfSome result (λ serial. digits_of (columns 195 200 bytes.now) ≡ Some serial) }
+    {
+        self.serial = SerialRead::read(bytes)?;
+        self.serial.serial_in(bytes)
+    }
+
+    /// The serial in columns 195 to 200, if they spell one.
+    #[inline(always)]
+    pub(crate) fn serial_in(&mut self, bytes: &[u8; 200]) -> Option<u32>
+        ensures below { IfSome result (λ serial. serial < 1000000) }
+        ensures value { IfSome result (λ serial. digits_of (columns 195 200 bytes.now) ≡ Some serial) }
+    {
+        if let Some(serial) = self.serial.serial_in(bytes) {
+            return Some(serial);
+        }
+        self.other_serial_in(bytes)
+    }
+}

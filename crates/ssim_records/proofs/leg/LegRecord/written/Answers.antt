@@ -1,6 +1,0 @@
--- The written spelling spells the record.
-use Rattle.ssim_records.proofs.Legs.{spells_leg}
-use Rattle.ssim_records.proofs.leg.LegRecord.written.Goals as goal
-
-pub returns-clause-spells : goal.returns-clause-spells
-returns-clause-spells c = rw c.write_over.ensures.value (spells_leg _ c.write_over.ensures.is_leg)

@@ -1,8 +1,0 @@
--- Each field is valid if the table has no fault.
-use Rattle.std.proofs.Common.{sym, ◌∙◌}
-use Rattle.ssim_records.specs.Segment.{segment_table}
-use Rattle.ssim_records.proofs.Rows.{each_stands}
-use Rattle.ssim_records.proofs.segment_head.read_segment_head.Goals as goal
-
-pub head_of-requires : goal.head_of-requires
-head_of-requires c = each_stands c.args.bytes.now segment_table (sym c.segment_fault.ensures ∙ c.in-None.is)
