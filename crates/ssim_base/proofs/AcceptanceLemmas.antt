@@ -16,9 +16,9 @@ use Rattle.ssim_records.specs.declared.record.Record.TheVariants.{Header, Carrie
 use Rattle.ssim_base.specs.Base.{airline_of, carrier_end, closed, end_of, is_leg_named, is_overflow, is_rate, is_continued, is_trailer, kept, overlaps, refusal_at}
 use Rattle.ssim_base.specs.Base as base
 use Rattle.ssim_base.specs.BaseSeen.{is_leg_of}
-use Rattle.ssim_base.specs.Acceptance.{AreLegs, Follows, HasAccepted, IsExpectedAfter, LegStands, Stood, gives}
-use Rattle.ssim_base.specs.AcceptedRecords.{AddsRecord}
-use Rattle.ssim_base.specs.LegTable.{AddsLegAt, has_legs, legs_at, names_leg, uses_date}
+use Rattle.ssim_base.specs.internal.Acceptance.{AreLegs, Follows, HasAccepted, IsExpectedAfter, LegStands, Stood, gives}
+use Rattle.ssim_base.specs.internal.AcceptedRecords.{AddsRecord}
+use Rattle.ssim_base.specs.internal.LegTable.{AddsLegAt, has_legs, legs_at, names_leg, uses_date}
 use Rattle.ssim_base.specs.ReadBack.{place_of}
 use Rattle.ssim_base.specs.Timetable.{period_of, same_flight, same_name}
 use Rattle.ssim_base.specs.declared.acceptance.CarrierTerms.{CarrierTerms}

@@ -11,7 +11,7 @@ use Rattle.ssim_values.specs.Period.{DayRange}
 use Rattle.ssim_periods.specs.Calendar.{day_count, holds, slot}
 use Rattle.ssim_periods.specs.CommonDays.{have_common_date, meet}
 use Rattle.ssim_periods.proofs.CommonDayLemmas.{common-date, holds-between, no-common-date}
-use Rattle.ssim_base.specs.Dates.{has_date}
+use Rattle.ssim_base.specs.internal.Dates.{has_date}
 
 -- ---- whether one of some dates passes two tests
 

@@ -13,7 +13,7 @@ use Rattle.ssim_values.specs.Period.{DayRange}
 use Rattle.ssim_records.specs.declared.record.Record.{Record}
 use Rattle.ssim_base.specs.BaseSeen.{AreFlights, is_leg_of}
 use Rattle.ssim_base.specs.Export.{flight_at, flight_count}
-use Rattle.ssim_base.specs.LegTable.{AddsLeg, AddsLegAt, entries_of, flights_from, flights_in, flights_left, flights_of, has_legs, legs_at, legs_in}
+use Rattle.ssim_base.specs.internal.LegTable.{AddsLeg, AddsLegAt, entries_of, flights_from, flights_in, flights_left, flights_of, has_legs, legs_at, legs_in}
 use Rattle.ssim_base.specs.ReadBack.{Rise, place_of}
 use Rattle.ssim_base.specs.Timetable.{same_flight}
 use Rattle.ssim_base.specs.declared.flight_legs.FlightLegs.{FlightLegs}

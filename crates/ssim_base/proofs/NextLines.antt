@@ -3,7 +3,7 @@ use Rattle.std.proofs.Common.{◌≡◌, ◌++◌, ◌≤◌, ℕ, List, length,
 use Rattle.std.specs.Prelude.{is_some}
 use Rattle.std.proofs.lemmas.List.{take-append-drop}
 use Rattle.ssim_records.specs.declared.record.Record.{Record}
-use Rattle.ssim_base.specs.SavedBase.{IsLineOf}
+use Rattle.ssim_base.specs.internal.SavedLines.{IsLineOf}
 use Rattle.ssim_base.proofs.SavedLines.{whole-line}
 
 pub line_of : (into : Option Record) (line rest old new : List ℕ) → length line ≡ 201 → old ≡ line ++ new → IsLineOf into line rest → IsLineOf into old new

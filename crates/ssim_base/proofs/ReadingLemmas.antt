@@ -15,8 +15,8 @@ use Rattle.ssim_records.specs.declared.record.Record.{Record}
 use Rattle.ssim_records.specs.declared.records.Ending as records
 use Rattle.ssim_records.proofs.Framing.{takes_all}
 use Rattle.ssim_base.specs.Base.{Ending, Done, Broken, Outcome, at_record, check_notes, data_set, first_refusal, kept, kept_all, missing, note_if, notes_of, refusal_at, unless_refused}
-use Rattle.ssim_base.specs.DataSetReader.{IsSoFar, notes_at}
-use Rattle.ssim_base.specs.Acceptance.{HasAccepted, IsRefused, Stood}
+use Rattle.ssim_base.specs.internal.DataSetReader.{IsSoFar, notes_at}
+use Rattle.ssim_base.specs.internal.Acceptance.{HasAccepted, IsRefused, Stood}
 use Rattle.ssim_base.specs.Reading.{AreBlocks, AreGiven, AreGivenOf, Begins, Came, FailsAfter, Gives, IsReadOf, NeverEnds, Refuses, Stops}
 use Rattle.ssim_base.specs.ReadBack.{EachSpells}
 use Rattle.ssim_base.specs.declared.fault.BaseFault.{BaseFault}

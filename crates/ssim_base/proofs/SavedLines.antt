@@ -15,7 +15,8 @@ use Rattle.ssim_records.proofs.AnyRecord.{no_fault, one_record, same_record, spe
 use Rattle.ssim_records.proofs.Lines.{length_written}
 use Rattle.ssim_base.specs.Base.{Done, first_refusal, kept, kept_all, missing, notes_of, refusal_at, unless_refused}
 use Rattle.ssim_base.specs.BaseSeen.{WasRead}
-use Rattle.ssim_base.specs.SavedBase.{IsBare, IsBaseRecords, IsLine, saved}
+use Rattle.ssim_base.specs.SavedBase.{IsBare, IsBaseRecords, saved}
+use Rattle.ssim_base.specs.internal.SavedLines.{IsLine}
 use Rattle.ssim_base.specs.declared.fault.BaseRefusal.{BaseRefusal}
 use Rattle.ssim_base.proofs.Bases.{from-ok, stood}
 use Rattle.ssim_base.proofs.SavedBases.{all-kept, its_records, kept-bare, numbered-are}

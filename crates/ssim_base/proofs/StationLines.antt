@@ -8,7 +8,8 @@ use Rattle.ssim_text.specs.Bytes.{before, from, word, behind, ◌>>=◌}
 use Rattle.ssim_text.specs.Left.{without_end, numbered, left_from, pieces}
 use Rattle.ssim_text.specs.Lines.{station_in, day_in}
 use Rattle.ssim_text.proofs.LeftLemmas.{after, first_piece}
-use Rattle.ssim_base.specs.Stations.{Row, SpellsRow, AreRows, IsFirstOther, NamesLine, StopsAs, row_of, row_before, row_then, rows_of, variation_in}
+use Rattle.ssim_base.specs.Stations.{Row, SpellsRow, AreRows, IsFirstOther, NamesLine, variation_in}
+use Rattle.ssim_base.specs.internal.StationRows.{StopsAs, row_of, row_before, row_then, rows_of}
 use Rattle.ssim_base.specs.declared.stations.StationFault.{StationFault}
 use Rattle.ssim_base.specs.declared.stations.StationFault.TheVariants.{Memory, Stations}
 

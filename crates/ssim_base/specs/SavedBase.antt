@@ -1,5 +1,5 @@
 -- What the records of a base are, and how they are read again once they are written.
-use Rattle.std.specs.Prelude.{◌≡◌, ◌⊎◌, ℕ, ◌≤◌, List, [], ◌∷◌, ◌++◌, map, length, Option, Some, None, Ok, IsSome}
+use Rattle.std.specs.Prelude.{◌≡◌, ◌⊎◌, ℕ, ◌≤◌, List, [], ◌∷◌, ◌++◌, map, length, Ok, IsSome}
 use Rattle.std.specs.List.{All, flat_map}
 use Rattle.ssim_records.specs.Record.{IsRecord, written}
 use Rattle.ssim_records.specs.declared.record.Record.{Record}
@@ -31,17 +31,6 @@ pub record IsBaseRecords (base : List Record) : Type 0 where
 -- each record as it is written, followed by LF
 abbrev pub saved : List Record → List ℕ
 saved = flat_map (λ r. written r ++ 10 ∷ [])
-
--- the bytes are the line of a bare record, and this rest
-pub record IsLine (r : Record) (bytes rest : List ℕ) : Type 0 where
-  pub is_record : IsRecord r
-  pub bare : IsBare r
-  pub written_is : bytes ≡ (written r ++ 10 ∷ []) ++ rest
-
--- the bytes are the line of the bare record that is there, and this rest
-abbrev pub IsLineOf : Option Record → List ℕ → List ℕ → Type 0
-IsLineOf None bytes rest = ⊥
-IsLineOf (Some r) bytes rest = IsLine r bytes rest
 
 -- the fault has at most as many bytes left as the lines have
 abbrev pub IsWithin : List ℕ → SavedFault → Type 0

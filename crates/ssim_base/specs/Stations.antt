@@ -1,10 +1,8 @@
 -- A table of the UTC variations of stations: how its lines are spelled, and which row counts.
-use Rattle.std.specs.Prelude.{◌≡◌, ◌⊎◌, ℕ, ◌≤◌, Bool, false, ◌&&◌, ◌==◌, nat_le, if◌then◌else◌, List, [], ◌∷◌, length, Option, Some, None, Result, Ok, Err, codes, refl}
+use Rattle.std.specs.Prelude.{◌≡◌, ◌⊎◌, ℕ, ◌≤◌, Bool, ◌&&◌, ◌==◌, nat_le, if◌then◌else◌, List, [], ◌∷◌, length, Option, Some, None, Result, Ok, Err}
 use Rattle.std.specs.Str.{bytes_eq}
-use Rattle.ssim_values.specs.Calendar.{day_number, leap_years, months_length}
-use Rattle.ssim_values.specs.Day.{day_of}
 use Rattle.ssim_values.specs.Variation.{Offset, variation_of}
-use Rattle.ssim_text.specs.Bytes.{◌>>=◌, word, behind}
+use Rattle.ssim_text.specs.Bytes.{word, behind}
 use Rattle.ssim_text.specs.Left.{lines_left}
 use Rattle.ssim_text.specs.Lines.{station_in, day_in}
 use Rattle.ssim_base.specs.declared.stations.StationFault.{StationFault}
@@ -72,56 +70,7 @@ abbrev pub variation_at : List Row → List ℕ → ℕ → Option Offset
 variation_at [] station day = None
 variation_at (row ∷ rows) station day = if covers row station day then Some row.variation else variation_at rows station day
 
--- ---- tables read by functions
-
--- the row that a line spells
-unfoldable pub row_of : List ℕ → Option Row
-row_of line = do
-  station ← station_in (word line)
-  first ← day_in (word (behind line))
-  last ← day_in (word (behind (behind line)))
-  variation ← variation_in (behind (behind (behind line)))
-  if nat_le first last then Some (record { station = station; first = first; last = last; variation = variation }) else None
-
--- a row before the rows of the later lines
-abbrev pub row_before : Row → Result (List Row) ℕ → Result (List Row) ℕ
-row_before row (Ok rows) = Ok (row ∷ rows)
-row_before row (Err n) = Err n
-
--- the rows from a line on: its own row before the later ones, or the line's number if it spells
--- none
-abbrev pub row_then : ℕ → Option Row → Result (List Row) ℕ → Result (List Row) ℕ
-row_then n None later = Err n
-row_then n (Some row) later = row_before row later
-
--- the rows of lines, or the number of the first that spells none
-abbrev pub rows_of : List (ℕ × List ℕ) → Result (List Row) ℕ
-rows_of [] = Ok []
-rows_of (line ∷ lines) = row_then line.0 (row_of line.1) (rows_of lines)
-
--- the fault names the same line as `rows_of`; out of memory says nothing of the lines
-abbrev pub StopsAs : Result (List Row) ℕ → StationFault → Type 0
-StopsAs read Memory = Unit {0}
-StopsAs read (Stations n) = read ≡ Err n
-
 -- the number of each fault
 abbrev pub station_fault_number : StationFault → ℕ
 station_fault_number Memory = 90
 station_fault_number (Stations n) = 39
-
--- ---- two rows and a line that is none, computed
-
-abbrev row_from : ℕ → ℕ → ℕ → List ℕ → Row
-row_from minutes first last station = record { station = station; first = first; last = last; variation = record { negative = false; minutes = minutes } }
-
-zurich_summer : row_of (codes "ZRH 30MAR25 25OCT25 +0200") ≡ Some (row_from 120 9220 9429 (codes "ZRH"))
-unfolding row_of day_of day_number leap_years months_length variation_of
-zurich_summer = refl
-
-london_winter : row_of (codes "LHR  26OCT25 28MAR26   +0000") ≡ Some (row_from 0 9430 9583 (codes "LHR"))
-unfolding row_of day_of day_number leap_years months_length variation_of
-london_winter = refl
-
-ends_first : row_of (codes "ZRH 30MAR25 29MAR25 +0200") ≡ None
-unfolding row_of day_of day_number leap_years months_length variation_of
-ends_first = refl

@@ -4,8 +4,8 @@ ghost use Rattle.std.specs.Prelude.{◌≡◌, [], List, IfErr, IfOk, OnOk};
 ghost use Rattle.std.specs.Str.{bytes_eq};
 ghost use Rattle.ssim_records.specs.declared.record.Record.{Record};
 ghost use Rattle.ssim_base.specs.Base.{end_of, is_overflow, is_rate, missing};
-ghost use Rattle.ssim_base.specs.AcceptedRecords.{AddsRecord, AreAccepted, keeps};
-ghost use Rattle.ssim_base.specs.Acceptance.{Accepts, HasAccepted, IsExpectedAfter, IsRefused, LegStands, Stood};
+ghost use Rattle.ssim_base.specs.internal.AcceptedRecords.{AddsRecord, AreAccepted, keeps};
+ghost use Rattle.ssim_base.specs.internal.Acceptance.{Accepts, HasAccepted, IsExpectedAfter, IsRefused, LegStands, Stood};
 ghost use Rattle.ssim_base.specs.declared.acceptance.Expected.TheVariants as expected;
 
 use crate::accepted_records::AcceptedRecords;

@@ -2,7 +2,7 @@
 
 ghost use Rattle.std.specs.Prelude.{◌≡◌, ◌<◌, ◌∷◌, ◌++◌, [], List, OnOk, length, reverse, vec_capacity, vec_len};
 ghost use Rattle.ssim_records.specs.declared.record.Record.{Record};
-ghost use Rattle.ssim_base.specs.AcceptedRecords.{AddsRecord, AreAccepted, InList, keeps};
+ghost use Rattle.ssim_base.specs.internal.AcceptedRecords.{AddsRecord, AreAccepted, InList, keeps};
 
 use ssim_records::Record;
 use ssim_values::Memory;

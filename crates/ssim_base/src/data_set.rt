@@ -47,9 +47,9 @@ impl Model for DataSet {
 }
 
 impl DataSet {
-    ghost use Rattle.ssim_base.specs.DataSetReader.{HasRead, IsWhole};
-    ghost use Rattle.ssim_base.specs.Acceptance.{HasAccepted, IsWholeBase};
-    ghost use Rattle.ssim_base.specs.AcceptedRecords.{InList, keeps};
+    ghost use Rattle.ssim_base.specs.internal.DataSetReader.{HasRead, IsWhole};
+    ghost use Rattle.ssim_base.specs.internal.Acceptance.{HasAccepted, IsWholeBase};
+    ghost use Rattle.ssim_base.specs.internal.AcceptedRecords.{InList, keeps};
 
     /// Reads a data set, record by record. At most `limit` bytes and one more are fetched. The
     /// refusals are those of `Base::read`.

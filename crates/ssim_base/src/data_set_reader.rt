@@ -3,8 +3,8 @@
 ghost use Rattle.std.specs.Prelude.{◌≡◌, ◌∷◌, ◌++◌, [], List, IfErr, IfOk, OnOk};
 ghost use Rattle.ssim_records.specs.Record.{IsRecord, serial_of};
 ghost use Rattle.ssim_records.specs.declared.record.Record.{Record};
-ghost use Rattle.ssim_base.specs.AcceptedRecords.{AreAccepted, keeps};
-ghost use Rattle.ssim_base.specs.DataSetReader.{HasRead};
+ghost use Rattle.ssim_base.specs.internal.AcceptedRecords.{AreAccepted, keeps};
+ghost use Rattle.ssim_base.specs.internal.DataSetReader.{HasRead};
 ghost use Rattle.ssim_base.specs.Reading.{Came, FailsAfter, FailsAs, NeverEnds, Refuses};
 
 use crate::acceptance::Acceptance;
@@ -25,8 +25,8 @@ pub(crate) struct DataSetReader {
 }
 
 impl DataSetReader {
-    ghost use Rattle.ssim_base.specs.Acceptance.{HasAccepted, IsRefused, Stood};
-    ghost use Rattle.ssim_base.specs.DataSetReader.{notes_at};
+    ghost use Rattle.ssim_base.specs.internal.Acceptance.{HasAccepted, IsRefused, Stood};
+    ghost use Rattle.ssim_base.specs.internal.DataSetReader.{notes_at};
 
     /// No record.
     pub(crate) fn new(alloc: Global, records: AcceptedRecords) -> DataSetReader

@@ -3,7 +3,7 @@
 ghost use Rattle.ssim_periods.specs.CommonDays.{have_common_date};
 ghost use Rattle.std.specs.Prelude.{◌≡◌, ℕ, ◌<◌, ◌||◌, false, nat_eq, vec_len, IfOk};
 ghost use Rattle.ssim_periods.specs.Calendar.{holds};
-ghost use Rattle.ssim_base.specs.Dates.{has_date};
+ghost use Rattle.ssim_base.specs.internal.Dates.{has_date};
 
 use ssim_periods::weekday_of;
 use ssim_values::{Memory, Period};

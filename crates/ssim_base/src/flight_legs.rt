@@ -4,7 +4,7 @@ ghost use Rattle.ssim_periods.specs.CommonDays.{have_common_date};
 ghost use Rattle.std.specs.Prelude.{◌≡◌, ◌<◌, OnOk, IfOk, [], None};
 ghost use Rattle.std.specs.List.{position_or_len};
 ghost use Rattle.ssim_periods.specs.Calendar.{holds};
-ghost use Rattle.ssim_base.specs.LegTable.{AddsLeg, entry_of, has_legs, index_of, is_numbered, names_leg, uses_date};
+ghost use Rattle.ssim_base.specs.internal.LegTable.{AddsLeg, entry_of, has_legs, index_of, is_numbered, names_leg, uses_date};
 
 use crate::leg_sequence::LegSequence;
 use ssim_values::{Memory, Period};

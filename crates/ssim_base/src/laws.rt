@@ -5,7 +5,8 @@ ghost use Rattle.ssim_base.specs.Resolve.{HasOneOutcome};
 ghost use Rattle.ssim_base.specs.SavedBase.{SavedCanBeRead, SavedIsOne, SavedIsRead};
 ghost use Rattle.ssim_base.specs.Stations.{SameBytesSameRows};
 // The worked examples, which are computed: a false one is an error in this file.
-ghost use Rattle.ssim_base.specs.Examples;
+ghost use Rattle.ssim_base.specs.examples.DataSets;
+ghost use Rattle.ssim_base.specs.examples.StationTables;
 
 use ssim_records::{frames_are_one, written_records_read_back};
 

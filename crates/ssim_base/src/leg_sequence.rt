@@ -3,7 +3,7 @@
 ghost use Rattle.ssim_periods.specs.CommonDays.{have_common_date};
 ghost use Rattle.std.specs.Prelude.{◌≡◌, ℕ, ◌<◌, ◌||◌, false, nat_eq, OnOk, IfOk};
 ghost use Rattle.ssim_periods.specs.Calendar.{holds};
-ghost use Rattle.ssim_base.specs.LegTable.{has_variation, is_used};
+ghost use Rattle.ssim_base.specs.internal.LegTable.{has_variation, is_used};
 
 use crate::used_dates::UsedDates;
 use ssim_values::{Memory, Period};

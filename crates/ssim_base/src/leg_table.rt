@@ -5,7 +5,7 @@ ghost use Rattle.std.specs.Prelude.{◌≡◌, ◌≢◌, ℕ, ◌+◌, ◌*◌,
 ghost use Rattle.ssim_values.specs.Flight.{IsFlight};
 ghost use Rattle.ssim_periods.specs.Calendar.{holds};
 ghost use Rattle.ssim_base.specs.Export.{flight_at};
-ghost use Rattle.ssim_base.specs.LegTable.{AddsLeg, AddsLegAt, flights_in, flights_left, flights_of, has_legs, legs_at, legs_in, names_leg, uses_date};
+ghost use Rattle.ssim_base.specs.internal.LegTable.{AddsLeg, AddsLegAt, flights_in, flights_left, flights_of, has_legs, legs_at, legs_in, names_leg, uses_date};
 ghost use Rattle.ssim_base.specs.ReadBack.{place_of};
 
 use crate::flight_legs::FlightLegs;

@@ -2,7 +2,8 @@
 
 ghost use Rattle.std.specs.Prelude.{◌≡◌, ◌≢◌, ◌↔◌, ◌++◌, ℕ, List, IfErr, IfNone, IfOk, IfSome, IsFalse, IsTrue, length};
 ghost use Rattle.ssim_records.specs.declared.record.Record.{Record};
-ghost use Rattle.ssim_base.specs.SavedBase.{IsBare, IsBaseRecords, IsLine, IsLineOf, IsWithin, saved};
+ghost use Rattle.ssim_base.specs.SavedBase.{IsBare, IsBaseRecords, IsWithin, saved};
+ghost use Rattle.ssim_base.specs.internal.SavedLines.{IsLine, IsLineOf};
 
 use crate::acceptance::Acceptance;
 use crate::accepted_records::AcceptedRecords;

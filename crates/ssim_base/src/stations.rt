@@ -3,7 +3,8 @@
 ghost use Rattle.std.specs.Prelude.{◌≡◌, ◌≤◌, ◌++◌, List, [], IfOk, IfErr, IfSome, IfNone, IsTrue, ◌↔◌, Ok, Some};
 ghost use Rattle.ssim_text.specs.Left.{lines_left, numbered};
 ghost use Rattle.ssim_text.specs.Lines.{day_in};
-ghost use Rattle.ssim_base.specs.Stations.{Gives, NamesLine, Row, SpellsTable, StopsAs, covers, row_of, rows_of, variation_at, variation_in};
+ghost use Rattle.ssim_base.specs.Stations.{Gives, NamesLine, Row, SpellsTable, covers, variation_at, variation_in};
+ghost use Rattle.ssim_base.specs.internal.StationRows.{StopsAs, row_of, rows_of};
 
 use crate::place::Place;
 use ssim_text::{cut, first_word, read_station, without_end};
@@ -139,7 +140,7 @@ impl StationRow {
     }
 
     /// Reads a station, two days and a variation.
-    #[tactic(auto, unfolding(crate::specs::Stations::row_of))]
+    #[tactic(auto, unfolding(crate::specs::internal::StationRows::row_of))]
     fn parse(line: &[u8]) -> Option<StationRow>
         ensures some { IfSome result (λ row. row_of line.now ≡ Some row) }
         ensures none { IfNone result (row_of line.now ≡ None) }

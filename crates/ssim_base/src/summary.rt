@@ -24,7 +24,7 @@ pub struct Summary {
 }
 
 impl Summary {
-    ghost use Rattle.ssim_base.specs.DataSetReader.{HasRead, IsWhole};
+    ghost use Rattle.ssim_base.specs.internal.DataSetReader.{HasRead, IsWhole};
 
     /// Reads a data set, record by record. At most `limit` bytes and one more are fetched. The
     /// refusals are those of `Base::read`.

@@ -4,8 +4,8 @@ ghost use Rattle.std.specs.Prelude.{◌≡◌, ℕ, ◌<◌, ◌≤◌, ◌||◌
 ghost use Rattle.std.specs.List.{list_any};
 ghost use Rattle.ssim_periods.specs.Calendar.{holds, slot};
 ghost use Rattle.ssim_periods.specs.CommonDays.{have_common_date, meet};
-ghost use Rattle.ssim_base.specs.Dates.{has_date};
-ghost use Rattle.ssim_base.specs.LegTable.{is_used};
+ghost use Rattle.ssim_base.specs.internal.Dates.{has_date};
+ghost use Rattle.ssim_base.specs.internal.LegTable.{is_used};
 
 use crate::day_set::DaySet;
 use ssim_periods::meets;

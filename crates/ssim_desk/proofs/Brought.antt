@@ -8,7 +8,7 @@ use Rattle.ssim_held.proofs.Entries.{not_held}
 use Rattle.ssim_held.proofs.Unions.{IsHeldIn, union_entries, union_first, union_held, union_is}
 use Rattle.ssim_desk.specs.Desk.{IsReplayed}
 use Rattle.ssim_desk.specs.Steps.{IsUnion}
-use Rattle.ssim_desk.specs.Private.{Brings, IsReplaced}
+use Rattle.ssim_desk.specs.internal.Changes.{Brings, IsReplaced}
 use Rattle.ssim_desk.proofs.Changes.{replayed}
 
 module _ (old other : DeskSeen) (base : old.base ≡ other.base) (agree : Agree (map_of old.held) (map_of other.held)) (mine : AreEntries old.base.records old.held) (theirs : AreEntries other.base.records other.held) where

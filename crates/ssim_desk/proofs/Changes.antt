@@ -21,7 +21,7 @@ use Rattle.ssim_held.specs.Entries.{AreEntries, AreRising, DeskSeen, Entry, IsEn
 use Rattle.ssim_held.specs.Ordered.{Belongs}
 use Rattle.ssim_held.proofs.Entries.{map_of_with, not_held, rising_with}
 use Rattle.ssim_desk.specs.Desk.{IsReplayed}
-use Rattle.ssim_desk.specs.Private.{IsOffer, IsReplaced, IsReplay}
+use Rattle.ssim_desk.specs.internal.Changes.{IsOffer, IsReplaced, IsReplay}
 use Rattle.ssim_desk.specs.declared.offer.Offer.{Offer}
 use Rattle.ssim_desk.specs.declared.replay.Replay.{Replay}
 use Rattle.ssim_desk.specs.Steps.{IsInConflict, IsKnown, IsNew, RefusesText}

@@ -13,7 +13,7 @@ use Rattle.ssim_schedule.specs.declared.export.ExportFault.{ExportFault}
 use Rattle.ssim_values.specs.Flight.{FlightNumber, IsFlight}
 use Rattle.ssim_held.specs.Entries.{Entry}
 use Rattle.ssim_desk.specs.Meaning.{after_entries, left_by}
-use Rattle.ssim_desk.specs.Private.{Shows}
+use Rattle.ssim_desk.specs.internal.Changes.{Shows}
 
 module _ (days others : FlightNumber → Days) (same : (flight : FlightNumber) → IsFlight flight → days flight ≡ others flight) where
   pub same_chapter7 : (frame : Frame) → chapter7 frame days ≡ chapter7 frame others

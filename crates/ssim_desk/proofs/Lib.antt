@@ -19,4 +19,3 @@ pub mod Exports
 pub mod Brought
 pub mod DeskFiles
 pub mod Lines
-pub mod Examples

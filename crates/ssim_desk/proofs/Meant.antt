@@ -11,7 +11,7 @@ use Rattle.ssim_held.specs.Entries.{AreEntries, DeskSeen, Entry, IsEntry, state_
 use Rattle.ssim_held.proofs.Entries.{entries-map_of}
 use Rattle.ssim_desk.specs.Desk.{timetable_of}
 use Rattle.ssim_desk.specs.Meaning.{Finds, HasDates, Lists, Means, Timetable, found_by, left_by}
-use Rattle.ssim_desk.specs.Private.{IsAfter}
+use Rattle.ssim_desk.specs.internal.Changes.{IsAfter}
 use Rattle.ssim_desk.proofs.Meanings.{has_one_meaning}
 
 -- a desk's messages are listed as it keeps them

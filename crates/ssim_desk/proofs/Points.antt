@@ -23,7 +23,7 @@ use Rattle.ssim_text.specs.declared.action.Action.{Action}
 use Rattle.ssim_values.specs.Flight.{FlightNumber, IsFlight}
 use Rattle.ssim_values.specs.Period.{DayRange}
 use Rattle.ssim_held.specs.Entries.{Entry}
-use Rattle.ssim_desk.specs.Private.{AddsSubPoints}
+use Rattle.ssim_desk.specs.internal.Changes.{AddsSubPoints}
 use Rattle.ssim_desk.specs.Desk.{AreDeskPoints, is_desk_point, is_row_point, is_sub_of, is_sub_point, point_bound, subs_of}
 
 -- ---- parts of a test

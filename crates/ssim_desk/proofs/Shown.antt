@@ -15,7 +15,7 @@ use Rattle.ssim_text.specs.declared.action.Action.{Action}
 use Rattle.ssim_text.specs.declared.action.Sub.{Sub}
 use Rattle.ssim_values.specs.Flight.{FlightNumber, IsFlight}
 use Rattle.ssim_values.specs.Period.{DayRange}
-use Rattle.ssim_desk.specs.Private.{Shows}
+use Rattle.ssim_desk.specs.internal.Changes.{Shows}
 use Rattle.ssim_desk.specs.Meaning.{Timetable, after_one, after_subs, subs_findings}
 
 changed-range : (s : ℕ → Bool) (after : ℕ → Legs → Legs) (f : ℕ → Legs) (a k : ℕ) → changed_by s after a (map f (range_with_len a k)) ≡ map (λ n. if s n then after n (f n) else f n) (range_with_len a k)

@@ -20,7 +20,7 @@ use Rattle.ssim_values.specs.Flight.{FlightNumber}
 use Rattle.ssim_held.specs.Entries.{Entry}
 use Rattle.ssim_desk.specs.Desk.{is_sub_of}
 use Rattle.ssim_desk.specs.Meaning.{Timetable, after_entries, after_entry, after_one, after_subs, entries_findings, found_by, subs_findings}
-use Rattle.ssim_desk.specs.Private.{flights_of}
+use Rattle.ssim_desk.specs.internal.Changes.{flights_of}
 use Rattle.ssim_desk.proofs.Trails.{after_entries-++, findings-++}
 
 -- ---- at one flight

@@ -8,7 +8,7 @@ use Rattle.ssim_base.specs.Stations.{Row}
 use Rattle.ssim_schedule.specs.declared.finding.Finding.{Finding}
 use Rattle.ssim_values.specs.Flight.{FlightNumber, IsFlight}
 use Rattle.ssim_held.specs.Entries.{Entry}
-use Rattle.ssim_desk.specs.Private.{AddsSubPoints, AreCheckpoints, IsAfter, IsHistory, IsReplay, Shows}
+use Rattle.ssim_desk.specs.internal.Changes.{AddsSubPoints, AreCheckpoints, IsAfter, IsHistory, IsReplay, Shows}
 use Rattle.ssim_desk.specs.{declared.history.History.History, declared.replay.Replay.Replay}
 use Rattle.ssim_desk.specs.Meaning.{Timetable, after_entries, after_entry, entries_findings, found_by, left_by, subs_findings}
 use Rattle.ssim_desk.proofs.Points.{more_at}

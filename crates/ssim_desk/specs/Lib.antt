@@ -4,4 +4,5 @@ pub mod Merging
 pub mod Reach
 pub mod Agreement
 pub mod Desk
-pub mod Private
+pub mod internal
+pub mod examples

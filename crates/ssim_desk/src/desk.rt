@@ -12,7 +12,7 @@ ghost use Rattle.ssim_held.specs.Opening.{FailsAs, NeverEnds, Opens, RefusesFile
 ghost use Rattle.ssim_held.specs.Entries.{AreEntries, AreRising, IsEntry, map_of, state_of};
 ghost use Rattle.ssim_held.specs.Ordered.{Belongs};
 ghost use Rattle.ssim_desk.specs.Desk.{AreDeskPoints, IsReplayed, at_rest, days_of_desk, finding_lines, merge_answer, point_bound, take_answer, timetable_of};
-ghost use Rattle.ssim_desk.specs.Private.{IsReplaced};
+ghost use Rattle.ssim_desk.specs.internal.Changes.{IsReplaced};
 ghost use Rattle.ssim_desk.specs.Meaning.{Finds, Means, Timetable, found_by};
 ghost use Rattle.ssim_desk.specs.Steps.{Merges, Takes};
 
@@ -51,7 +51,7 @@ pub struct Desk {
 
 impl Model for Desk {
     ghost use Rattle.ssim_held.specs.Entries.{DeskSeen};
-    ghost use Rattle.ssim_desk.specs.Private.{IsHistory};
+    ghost use Rattle.ssim_desk.specs.internal.Changes.{IsHistory};
 
     ghost Value = { DeskSeen };
 

@@ -4,7 +4,7 @@ ghost use Rattle.std.specs.Prelude.{◌≡◌, ◌++◌, map, IfOk, OnOk};
 ghost use Rattle.std.specs.List.{list_any};
 ghost use Rattle.ssim_desk.specs.Desk.{is_sub_of};
 ghost use Rattle.ssim_desk.specs.Meaning.{Timetable, after_entries, entries_findings, found_by, left_by};
-ghost use Rattle.ssim_desk.specs.Private.{Shows, flights_of};
+ghost use Rattle.ssim_desk.specs.internal.Changes.{Shows, flights_of};
 
 use crate::message_effect::act;
 use crate::replay::MessageFindings;

@@ -3,7 +3,7 @@
 ghost use Rattle.std.specs.Prelude.{◌≡◌, ◌⊎◌, ◌≤◌, ◌+◌, ◌*◌, ◌/◌, ◌++◌, ℕ, List, length, take, IfOk, OnOk};
 ghost use Rattle.ssim_base.specs.BaseSeen.{BaseSeen};
 ghost use Rattle.ssim_held.specs.Entries.{Entry};
-ghost use Rattle.ssim_desk.specs.Private.{HasRoom, IsAfter, IsCounted, IsHistory, IsReplay};
+ghost use Rattle.ssim_desk.specs.internal.Changes.{HasRoom, IsAfter, IsCounted, IsHistory, IsReplay};
 
 use crate::replay::{MessageFindings, Replay, STEP, apply_all};
 use ssim_base::Base;

@@ -4,6 +4,8 @@ ghost use Rattle.ssim_desk.specs.Agreement.{AnyTwoDesksAgree, NoConflict, Offere
 ghost use Rattle.ssim_desk.specs.Meaning.{HasExport, HasMeaning, HasOneExport, HasOneMeaning};
 ghost use Rattle.ssim_desk.specs.Merging.{MergesAreDetermined, MergesAssociate, MergesCommute, MergesRepeat, TakesAreDetermined, ThreeDesksMerge};
 ghost use Rattle.ssim_desk.specs.Reach.{HoldsWhatReached};
+// The worked examples, which are computed: a false one is an error in this file.
+ghost use Rattle.ssim_desk.specs.examples.Desks;
 
 use ssim_base::laws::{
     bases_can_be_exported, resolving_has_one_outcome, same_bytes_same_base, same_bytes_same_rows,

@@ -19,8 +19,8 @@
 //! `ssim_held`, whose definitions these contracts cite, too. The other definitions are in `specs/`:
 //! `Meaning` (what each flight has on each date), `Steps` (what texts and merges do), `Reach`
 //! (which messages reach which desks), `Agreement` and `Merging` (the laws) and `Desk` (what the
-//! calls of a desk return). `Private` is cited by private functions alone. Computed examples are in
-//! `proofs/Examples`.
+//! calls of a desk return). Those in `specs/internal/` are cited by private functions alone.
+//! Computed examples are in `specs/examples/`.
 #![tactic(auto)]
 
 mod desk;

@@ -7,7 +7,7 @@ ghost use Rattle.ssim_base.specs.ReadBack.{HasFrame};
 ghost use Rattle.ssim_base.specs.Resolve.{ResolvesIn};
 ghost use Rattle.ssim_text.specs.Spelling.{SpellsMessage};
 ghost use Rattle.ssim_held.specs.Entries.{AreEntries, AreRising, map_of};
-ghost use Rattle.ssim_desk.specs.Private.{IsOffer};
+ghost use Rattle.ssim_desk.specs.internal.Changes.{IsOffer};
 ghost use Rattle.ssim_desk.specs.Steps.{RefusesText};
 
 use ssim_base::{BaseFrame, ResolvedText};

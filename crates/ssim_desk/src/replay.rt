@@ -3,7 +3,7 @@
 ghost use Rattle.std.specs.Prelude.{◌≡◌, ◌++◌, ◌∷◌, [], List, length, IfOk, OnOk};
 ghost use Rattle.ssim_base.specs.BaseSeen.{BaseSeen};
 ghost use Rattle.ssim_held.specs.Entries.{Entry};
-ghost use Rattle.ssim_desk.specs.Private.{IsAfter, IsCounted, IsReplay};
+ghost use Rattle.ssim_desk.specs.internal.Changes.{IsAfter, IsCounted, IsReplay};
 
 use crate::message_effect::act;
 use ssim_base::Base;

@@ -4,8 +4,8 @@ use Rattle.std.specs.Prelude.{Option, None}
 use Rattle.ssim_records.specs.Blocks.{CountsOn, Fetches}
 use Rattle.ssim_records.specs.Reading.{Reading}
 use Rattle.ssim_records.specs.declared.record.Record.{Record}
-use Rattle.ssim_base.specs.DataSetReader.{IsSoFar}
-use Rattle.ssim_base.specs.AcceptedRecords.{keeps}
+use Rattle.ssim_base.specs.internal.DataSetReader.{IsSoFar}
+use Rattle.ssim_base.specs.internal.AcceptedRecords.{keeps}
 use Rattle.ssim_base.specs.declared.data_set_reader.DataSetReader.{DataSetReader}
 use Rattle.ssim_base.specs.declared.accepted_records.AcceptedRecords.{AcceptedRecords}
 use Rattle.ssim_base.proofs.ReadingLemmas.{Numbered, Told}

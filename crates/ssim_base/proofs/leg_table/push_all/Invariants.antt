@@ -1,6 +1,6 @@
 -- The flights so far and those that are left are all.
 use Rattle.std.proofs.Common.{◌≡◌, ℕ, ◌*◌, ◌/◌, ◌%◌, ◌++◌, Bool, slice_get}
-use Rattle.ssim_base.specs.LegTable.{flights_left, flights_of, has_legs, legs_in}
+use Rattle.ssim_base.specs.internal.LegTable.{flights_left, flights_of, has_legs, legs_in}
 use Rattle.ssim_base.proofs.leg_table.push_all.Given as goal
 
 abbrev pub invariant-loop-number : goal.invariant-loop-number

@@ -3,7 +3,7 @@ use Rattle.std.proofs.Common.{◌≡◌, ◌+◌, ◌*◌, ◌<◌, ◌++◌, �
 use Rattle.std.proofs.lemmas.Option.{slice_get_read}
 use Rattle.ssim_values.specs.Flight.{FlightNumber}
 use Rattle.ssim_base.specs.Export.{flight_at, flight_count}
-use Rattle.ssim_base.specs.LegTable.{entries_of, flights_left, has_legs, legs_in}
+use Rattle.ssim_base.specs.internal.LegTable.{entries_of, flights_left, has_legs, legs_in}
 use Rattle.ssim_base.proofs.LegTables.{in-range, pass-next, push-next, skip-flights}
 use Rattle.ssim_base.proofs.leg_table.push_flights.Goals as goal
 use Rattle.ssim_base.proofs.leg_table.push_flights.Goals.{then-has_legs+in_ok-push, else-has_legs}

@@ -1,6 +1,6 @@
 -- The flights so far and those that are left are all that were left.
 use Rattle.std.proofs.Common.{◌≡◌, ℕ, ◌+◌, ◌*◌, ◌<◌, ◌++◌, Bool}
-use Rattle.ssim_base.specs.LegTable.{flights_left, has_legs, legs_in}
+use Rattle.ssim_base.specs.internal.LegTable.{flights_left, has_legs, legs_in}
 use Rattle.ssim_base.proofs.leg_table.push_flights.Given as goal
 
 abbrev pub invariant-loop-suffix : goal.invariant-loop-suffix

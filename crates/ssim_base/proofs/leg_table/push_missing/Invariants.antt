@@ -1,6 +1,6 @@
 -- As many flights as were counted, and no leg record more.
 use Rattle.std.proofs.Common.{◌≡◌, ℕ, length}
-use Rattle.ssim_base.specs.LegTable.{legs_in}
+use Rattle.ssim_base.specs.internal.LegTable.{legs_in}
 use Rattle.ssim_base.proofs.leg_table.push_missing.Given as goal
 
 abbrev pub invariant-loop : goal.invariant-loop

@@ -1,6 +1,6 @@
 -- As many lists as were counted, and no flight more.
 use Rattle.std.proofs.Common.{◌≡◌, ℕ, length, slice_get}
-use Rattle.ssim_base.specs.LegTable.{flights_of}
+use Rattle.ssim_base.specs.internal.LegTable.{flights_of}
 use Rattle.ssim_base.proofs.leg_table.push_numbers.Given as goal
 
 abbrev pub invariant-loop : goal.invariant-loop

@@ -1,7 +1,7 @@
 -- The line is whole in one part, or is copied from several.
 use Rattle.std.proofs.Common.{List, ℕ, sym, ◌∙◌}
 use Rattle.ssim_records.specs.declared.record.Record.{Record}
-use Rattle.ssim_base.specs.SavedBase.{IsLine, IsLineOf}
+use Rattle.ssim_base.specs.internal.SavedLines.{IsLine, IsLineOf}
 use Rattle.ssim_base.proofs.NextLines.{enough, front_first, line_of, was_not, was_read}
 use Rattle.ssim_base.proofs.SavedLines.{line-first}
 use Rattle.ssim_base.proofs.saved_lines.next_line.Goals as goal

@@ -1,7 +1,7 @@
 -- The next 201 bytes are the line of a record, or no line is next.
 use Rattle.std.proofs.Common.{◌≡◌, ◌<◌, ◌≤◌, ℕ, List, length, true, false, refl, sym, ◌∙◌, arith}
 use Rattle.ssim_records.specs.declared.record.Record.{Record}
-use Rattle.ssim_base.specs.SavedBase.{IsLine, IsLineOf}
+use Rattle.ssim_base.specs.internal.SavedLines.{IsLine, IsLineOf}
 use Rattle.ssim_base.proofs.NextLines.{line_of, was_not, was_read}
 use Rattle.ssim_base.proofs.SavedLines.{few-bytes, line-first}
 use Rattle.ssim_base.proofs.saved_lines.next_line_copied.Goals as goal

@@ -3,8 +3,9 @@
 use Rattle.std.proofs.Common.{List, ◌≡◌, ◌++◌, ◌∷◌, length, reverse, refl, sym, ap, subst, ◌∙◌, arith}
 use Rattle.std.proofs.lemmas.List.{length-reverse}
 use Rattle.ssim_records.specs.declared.record.Record.{Record}
-use Rattle.ssim_base.specs.Acceptance.{HasAccepted, IsRefused}
-use Rattle.ssim_base.specs.SavedBase.{IsBaseRecords, IsLine, saved}
+use Rattle.ssim_base.specs.internal.Acceptance.{HasAccepted, IsRefused}
+use Rattle.ssim_base.specs.SavedBase.{IsBaseRecords, saved}
+use Rattle.ssim_base.specs.internal.SavedLines.{IsLine}
 use Rattle.ssim_base.specs.declared.fault.BaseFault.TheVariants.{Refused}
 use Rattle.ssim_base.proofs.SavedBases.{base-records, kept-bare}
 use Rattle.ssim_base.proofs.SavedLines.{end-lacks, end-whole, left-more, left-none, line-after, next-refused}

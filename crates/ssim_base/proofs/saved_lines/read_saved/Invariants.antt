@@ -2,8 +2,8 @@
 -- complete a base.
 use Rattle.std.proofs.Common.{◌≡◌, ◌≤◌, ◌-◌, ℕ, List, length}
 use Rattle.ssim_records.specs.declared.record.Record.{Record}
-use Rattle.ssim_base.specs.Acceptance.{HasAccepted}
-use Rattle.ssim_base.specs.AcceptedRecords.{InList, keeps}
+use Rattle.ssim_base.specs.internal.Acceptance.{HasAccepted}
+use Rattle.ssim_base.specs.internal.AcceptedRecords.{InList, keeps}
 use Rattle.ssim_base.specs.declared.acceptance.Acceptance.{Acceptance}
 use Rattle.ssim_base.proofs.SavedLines.{IsLeft}
 use Rattle.ssim_base.proofs.saved_lines.read_saved.Given as goal

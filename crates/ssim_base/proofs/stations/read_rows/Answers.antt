@@ -2,7 +2,7 @@
 use Rattle.std.proofs.Common.{rules, ◌≡◌, ℕ, List, [], Err, get_or, sym, ap, subst, ◌∙◌, arith}
 use Rattle.ssim_text.specs.Left.{lines_left, numbered, without_end}
 use Rattle.ssim_text.proofs.LeftLemmas.{from_shorter, tail_cons, tail_none}
-use Rattle.ssim_base.specs.Stations.{StopsAs, rows_of}
+use Rattle.ssim_base.specs.internal.StationRows.{StopsAs, rows_of}
 use Rattle.ssim_base.proofs.StationLines.{line_on, last_line, stops}
 use Rattle.ssim_base.proofs.stations.read_rows.Goals as goal
 

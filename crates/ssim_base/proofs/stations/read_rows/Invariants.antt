@@ -1,7 +1,7 @@
 -- The rows so far and the rows of the rest are the rows of the text.
 use Rattle.std.proofs.Common.{◌≡◌, ◌≤◌, ◌+◌, length}
 use Rattle.ssim_text.specs.Left.{left_from, lines_left, pieces}
-use Rattle.ssim_base.specs.Stations.{rows_of}
+use Rattle.ssim_base.specs.internal.StationRows.{rows_of}
 use Rattle.ssim_base.proofs.StationLines.{rows_on}
 use Rattle.ssim_base.proofs.stations.read_rows.Given as goal
 

@@ -1,7 +1,7 @@
 use Rattle.std.proofs.Common.{◌≡◌, ℕ, take}
 use Rattle.std.specs.List.{list_any}
 use Rattle.ssim_periods.specs.Calendar.{holds}
-use Rattle.ssim_base.specs.Dates.{has_date}
+use Rattle.ssim_base.specs.internal.Dates.{has_date}
 use Rattle.ssim_base.proofs.used_dates.set_of.Given as goal
 
 abbrev pub invariant-loop-period : goal.invariant-loop-period

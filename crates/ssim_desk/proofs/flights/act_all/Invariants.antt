@@ -5,7 +5,7 @@ use Rattle.ssim_base.specs.Stations.{Row}
 use Rattle.ssim_schedule.specs.declared.finding.Finding.{Finding}
 use Rattle.ssim_held.specs.Entries.{Entry}
 use Rattle.ssim_desk.specs.Meaning.{Timetable, after_entries, entries_findings}
-use Rattle.ssim_desk.specs.Private.{Shows}
+use Rattle.ssim_desk.specs.internal.Changes.{Shows}
 use Rattle.ssim_desk.proofs.flights.act_all.Given as goal
 
 pub record HaveActed (rows : List Row) (messages : List Entry) (before : Timetable) (now : Table) (found : List (List Finding)) : Type 0 where

@@ -2,7 +2,7 @@
 use Rattle.std.proofs.Common.{◌∙◌, sym, subst}
 use Rattle.ssim_schedule.specs.Schedule.{Table}
 use Rattle.ssim_desk.specs.Meaning.{after_entry}
-use Rattle.ssim_desk.specs.Private.{Shows}
+use Rattle.ssim_desk.specs.internal.Changes.{Shows}
 use Rattle.ssim_desk.proofs.SomeFlights.{named_more, other_more}
 use Rattle.ssim_desk.proofs.flights.act_on.Goals as goal
 use Rattle.ssim_desk.proofs.flights.act_on.Goals.{then-names+in_ok-act, else-names}

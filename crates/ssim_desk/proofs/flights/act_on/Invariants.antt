@@ -5,7 +5,7 @@ use Rattle.ssim_schedule.specs.Schedule.{Table}
 use Rattle.ssim_base.specs.Stations.{Row}
 use Rattle.ssim_held.specs.Entries.{Entry}
 use Rattle.ssim_desk.specs.Meaning.{Timetable, after_entries}
-use Rattle.ssim_desk.specs.Private.{Shows}
+use Rattle.ssim_desk.specs.internal.Changes.{Shows}
 use Rattle.ssim_desk.proofs.flights.act_on.Given as goal
 
 abbrev pub HaveActedOn : List Row → List Entry → FlightNumber → Timetable → Table → Type 0

@@ -1,6 +1,6 @@
 -- The flights so far are those that the messages so far name.
 use Rattle.std.proofs.Common.{◌≡◌, take}
-use Rattle.ssim_desk.specs.Private.{flights_of}
+use Rattle.ssim_desk.specs.internal.Changes.{flights_of}
 use Rattle.ssim_desk.proofs.flights.flights_of.Given as goal
 
 abbrev pub invariant-loop-held : goal.invariant-loop-held

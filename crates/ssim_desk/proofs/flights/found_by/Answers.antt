@@ -5,7 +5,7 @@ use Rattle.ssim_records.specs.declared.record.Record.{Record}
 use Rattle.ssim_base.specs.Stations.{Row}
 use Rattle.ssim_base.specs.Timetable.{itinerary_among}
 use Rattle.ssim_desk.specs.Meaning.{Timetable, entries_findings}
-use Rattle.ssim_desk.specs.Private.{Shows, flights_of}
+use Rattle.ssim_desk.specs.internal.Changes.{Shows, flights_of}
 use Rattle.ssim_desk.proofs.SomeFlights.{found_among}
 use Rattle.ssim_desk.proofs.flights.found_by.Goals as goal
 

@@ -8,7 +8,7 @@ use Rattle.ssim_records.specs.declared.record.Record.{Record}
 use Rattle.ssim_base.specs.Stations.{Row}
 use Rattle.ssim_base.specs.Timetable.{Legs, itinerary, itinerary_among}
 use Rattle.ssim_desk.specs.Meaning.{Timetable, after_entries, left_by}
-use Rattle.ssim_desk.specs.Private.{Shows}
+use Rattle.ssim_desk.specs.internal.Changes.{Shows}
 use Rattle.ssim_desk.proofs.SomeFlights.{among_is, entries_agree, is_among_one}
 use Rattle.ssim_desk.proofs.flights.legs_after.Goals as goal
 

@@ -5,7 +5,7 @@ use Rattle.ssim_schedule.specs.Schedule.{cuts_in}
 use Rattle.ssim_schedule.specs.declared.finding.Finding.{Finding}
 use Rattle.ssim_text.specs.Message.{MessageValue}
 use Rattle.ssim_text.specs.declared.action.Sub.{Sub}
-use Rattle.ssim_desk.specs.Private.{Shows}
+use Rattle.ssim_desk.specs.internal.Changes.{Shows}
 use Rattle.ssim_desk.specs.Meaning.{after_one, after_subs, subs_findings}
 use Rattle.ssim_desk.proofs.Points.{adds_next, adds_none}
 use Rattle.ssim_desk.proofs.Shown.{finds_on, leads_on, splits}

@@ -5,7 +5,7 @@ use Rattle.ssim_schedule.specs.Schedule.{Table, cuts_in}
 use Rattle.ssim_base.specs.Stations.{Row}
 use Rattle.ssim_schedule.specs.declared.finding.Finding.{Finding}
 use Rattle.ssim_held.specs.Entries.{Entry}
-use Rattle.ssim_desk.specs.Private.{AddsSubPoints, Shows}
+use Rattle.ssim_desk.specs.internal.Changes.{AddsSubPoints, Shows}
 use Rattle.ssim_desk.specs.Meaning.{Timetable, after_subs, subs_findings}
 use Rattle.ssim_values.specs.Flight.{FlightNumber, IsFlight}
 use Rattle.ssim_desk.proofs.message_effect.act.Given as goal

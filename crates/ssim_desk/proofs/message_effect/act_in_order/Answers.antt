@@ -1,7 +1,7 @@
 -- One more message acts.
 use Rattle.std.proofs.Common.{take, subst}
 use Rattle.ssim_desk.specs.Meaning.{after_entries}
-use Rattle.ssim_desk.specs.Private.{Shows}
+use Rattle.ssim_desk.specs.internal.Changes.{Shows}
 use Rattle.ssim_desk.proofs.SomeFlights.{after_one_more}
 use Rattle.ssim_desk.proofs.message_effect.act_in_order.Goals as goal
 

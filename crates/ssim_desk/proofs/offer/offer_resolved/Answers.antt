@@ -2,7 +2,7 @@
 use Rattle.std.proofs.Common.{◌≡◌, sym, subst}
 use Rattle.ssim_held.specs.Held.{DeskState}
 use Rattle.ssim_held.specs.Entries.{Entry, map_of}
-use Rattle.ssim_desk.specs.Private.{IsOffer}
+use Rattle.ssim_desk.specs.internal.Changes.{IsOffer}
 use Rattle.ssim_desk.specs.declared.offer.Offer.TheVariants.{New}
 use Rattle.ssim_desk.proofs.Changes.{in_conflict, is_entry, is_known, says}
 use Rattle.ssim_desk.proofs.offer.offer_resolved.Goals as goal

@@ -1,7 +1,7 @@
 use Rattle.std.proofs.Common.{◌≡◌, List, take, ◌++◌}
 use Rattle.ssim_base.specs.BaseSeen.{BaseSeen}
 use Rattle.ssim_held.specs.Entries.{Entry}
-use Rattle.ssim_desk.specs.Private.{IsCounted, IsReplay}
+use Rattle.ssim_desk.specs.internal.Changes.{IsCounted, IsReplay}
 use Rattle.ssim_desk.specs.declared.replay.Replay.{Replay}
 use Rattle.ssim_desk.proofs.replay.apply_all.Given as goal
 

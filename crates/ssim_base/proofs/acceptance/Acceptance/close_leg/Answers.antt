@@ -5,8 +5,8 @@ use Rattle.ssim_values.specs.Flight.{IsFlight}
 use Rattle.ssim_periods.specs.Calendar.{holds}
 use Rattle.ssim_records.specs.Leg.{LegFields, Name}
 use Rattle.ssim_records.specs.declared.record.Record.TheVariants.{Leg}
-use Rattle.ssim_base.specs.AcceptedRecords.{AddsRecord}
-use Rattle.ssim_base.specs.LegTable.{AddsLegAt, legs_at, uses_date}
+use Rattle.ssim_base.specs.internal.AcceptedRecords.{AddsRecord}
+use Rattle.ssim_base.specs.internal.LegTable.{AddsLegAt, legs_at, uses_date}
 use Rattle.ssim_base.specs.ReadBack.{place_of}
 use Rattle.ssim_base.proofs.AcceptanceLemmas.{kept_leg, leg-refused, stood-leg}
 use Rattle.ssim_base.proofs.acceptance.Acceptance.close_leg.Goals as goal

@@ -2,7 +2,7 @@
 use Rattle.std.proofs.Common.{rules, refl, subst}
 use Rattle.ssim_records.specs.Segment.{SegmentFields}
 use Rattle.ssim_records.specs.declared.record.Record.TheVariants.{Segment}
-use Rattle.ssim_base.specs.AcceptedRecords.{AddsRecord}
+use Rattle.ssim_base.specs.internal.AcceptedRecords.{AddsRecord}
 use Rattle.ssim_base.proofs.AcceptanceLemmas.{segment-refused, stood-segment}
 use Rattle.ssim_base.proofs.acceptance.Acceptance.close_segment.Goals as goal
 

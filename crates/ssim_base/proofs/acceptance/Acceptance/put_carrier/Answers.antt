@@ -2,7 +2,7 @@
 use Rattle.std.proofs.Common.{subst}
 use Rattle.ssim_records.specs.Carrier.{CarrierFields}
 use Rattle.ssim_records.specs.declared.record.Record.TheVariants.{Carrier}
-use Rattle.ssim_base.specs.AcceptedRecords.{AddsRecord}
+use Rattle.ssim_base.specs.internal.AcceptedRecords.{AddsRecord}
 use Rattle.ssim_base.proofs.AcceptanceLemmas.{stood-carrier}
 use Rattle.ssim_base.proofs.acceptance.Acceptance.put_carrier.Goals as goal
 

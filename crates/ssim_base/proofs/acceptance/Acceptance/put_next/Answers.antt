@@ -1,7 +1,7 @@
 -- A leg or a segment that was accepted is allowed, since its closed record is what is added to the
 -- records.
 use Rattle.ssim_records.specs.declared.record.Record.TheVariants.{Leg, Segment}
-use Rattle.ssim_base.specs.AcceptedRecords.{AddsRecord}
+use Rattle.ssim_base.specs.internal.AcceptedRecords.{AddsRecord}
 use Rattle.ssim_base.proofs.acceptance.Acceptance.put_next.Goals.{in-Leg+in_ok-close_leg-in-Leg, in-Segment+in_ok-close_segment-in-Segment}
 use Rattle.ssim_base.proofs.acceptance.Acceptance.put_next.Goals as goal
 

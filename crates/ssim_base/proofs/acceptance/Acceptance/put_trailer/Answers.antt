@@ -2,7 +2,7 @@
 use Rattle.std.proofs.Common.{rules, subst}
 use Rattle.ssim_records.specs.Trailer.{TrailerFields}
 use Rattle.ssim_records.specs.declared.record.Record.TheVariants.{Trailer}
-use Rattle.ssim_base.specs.AcceptedRecords.{AddsRecord}
+use Rattle.ssim_base.specs.internal.AcceptedRecords.{AddsRecord}
 use Rattle.ssim_base.proofs.AcceptanceLemmas.{stood-trailer}
 use Rattle.ssim_base.proofs.acceptance.Acceptance.put_trailer.Goals as goal
 

@@ -4,8 +4,8 @@ use Rattle.ssim_values.specs.Flight.{FlightNumber}
 use Rattle.ssim_records.specs.declared.record.Record.{Record}
 use Rattle.ssim_base.specs.BaseSeen.{AreFlights, WasRead}
 use Rattle.ssim_base.specs.Export.{Frame}
-use Rattle.ssim_base.specs.Acceptance.{IsWholeBase}
-use Rattle.ssim_base.specs.AcceptedRecords.{AreAccepted}
+use Rattle.ssim_base.specs.internal.Acceptance.{IsWholeBase}
+use Rattle.ssim_base.specs.internal.AcceptedRecords.{AreAccepted}
 use Rattle.ssim_base.specs.ReadBack.{HasFrame}
 use Rattle.ssim_base.specs.declared.acceptance.Acceptance.{Acceptance}
 use Rattle.ssim_base.proofs.FrameLemmas.{are-of-frame, exportable, length-framed}

@@ -1,7 +1,7 @@
 -- Setting the bit of a day adds that day alone.
 use Rattle.std.proofs.Common.{ℕ, ◌<◌, ◌*◌, ◌/◌, ◌%◌, ◌^◌, length, slice_set, bit_or, ap, ◌∙◌, arith}
 use Rattle.std.proofs.lemmas.List.{get_or_default}
-use Rattle.ssim_base.specs.Dates.{has_date}
+use Rattle.ssim_base.specs.internal.Dates.{has_date}
 use Rattle.ssim_base.proofs.DateLemmas.{date-added}
 use Rattle.ssim_base.proofs.day_set.DaySet.add.Goals as goal
 

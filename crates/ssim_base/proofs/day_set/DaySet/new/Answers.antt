@@ -1,6 +1,6 @@
 -- In words that are all 0 no date has its bit.
 use Rattle.std.proofs.Common.{ℕ, List, ap, ◌∙◌}
-use Rattle.ssim_base.specs.Dates.{has_date}
+use Rattle.ssim_base.specs.internal.Dates.{has_date}
 use Rattle.ssim_base.proofs.DateLemmas.{no-bits}
 use Rattle.ssim_base.proofs.day_set.DaySet.new.Goals as goal
 

@@ -4,7 +4,7 @@ use Rattle.std.proofs.Common.{◌≡◌, ℕ, ◌<◌, ◌||◌, nat_eq, Option,
 use Rattle.std.proofs.lemmas.Option.{slice_get_read}
 use Rattle.std.proofs.lemmas.Result.{IfOk-weaker}
 use Rattle.ssim_periods.specs.Calendar.{holds}
-use Rattle.ssim_base.specs.LegTable.{AddsLeg, entry_of, index_of, used_of, variation_of}
+use Rattle.ssim_base.specs.internal.LegTable.{AddsLeg, entry_of, index_of, used_of, variation_of}
 use Rattle.ssim_base.specs.declared.leg_sequence.LegSequence.{LegSequence}
 use Rattle.ssim_base.proofs.LegSequences.{adds, entry-set, has-set, on-both}
 use Rattle.ssim_base.proofs.flight_legs.FlightLegs.add.Goals as goal

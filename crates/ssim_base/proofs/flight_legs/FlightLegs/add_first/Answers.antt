@@ -1,7 +1,7 @@
 -- The first leg record of a leg sequence.
 use Rattle.std.proofs.Common.{◌≡◌, ◌||◌, nat_eq, List, [], ◌∷◌, ◌++◌, Option, subst, refl, sym, ap, ◌∙◌}
 use Rattle.ssim_periods.specs.Calendar.{holds}
-use Rattle.ssim_base.specs.LegTable.{AddsLeg, used_of, variation_of}
+use Rattle.ssim_base.specs.internal.LegTable.{AddsLeg, used_of, variation_of}
 use Rattle.ssim_base.specs.declared.leg_sequence.LegSequence.{LegSequence}
 use Rattle.ssim_base.proofs.LegSequences.{adds, entry-push, has-push}
 use Rattle.ssim_base.proofs.flight_legs.FlightLegs.add_first.Goals as goal

@@ -6,7 +6,7 @@ use Rattle.std.proofs.lemmas.Result.{IfOk-weaker}
 use Rattle.std.specs.Vec.{with_item}
 use Rattle.ssim_values.specs.Flight.{FlightNumber}
 use Rattle.ssim_periods.specs.Calendar.{holds}
-use Rattle.ssim_base.specs.LegTable.{flights_of, legs_at, legs_in, uses_date}
+use Rattle.ssim_base.specs.internal.LegTable.{flights_of, legs_at, legs_in, uses_date}
 use Rattle.ssim_base.specs.ReadBack.{place_of}
 use Rattle.ssim_base.specs.declared.flight_legs.FlightLegs.{FlightLegs}
 use Rattle.ssim_base.specs.declared.leg_sequence.LegSequence.{LegSequence}

@@ -4,7 +4,7 @@ use Rattle.std.proofs.Common.{List, sym, ap, ◌∙◌}
 use Rattle.std.specs.List.{list_any}
 use Rattle.ssim_values.specs.Period.{DayRange}
 use Rattle.ssim_periods.specs.Calendar.{holds}
-use Rattle.ssim_base.specs.LegTable.{is_used}
+use Rattle.ssim_base.specs.internal.LegTable.{is_used}
 use Rattle.ssim_base.specs.declared.used_dates.UsedDates.{UsedDates}
 use Rattle.ssim_base.proofs.DateLemmas.{meets-any}
 use Rattle.ssim_base.proofs.used_dates.UsedDates.take.Goals as goal

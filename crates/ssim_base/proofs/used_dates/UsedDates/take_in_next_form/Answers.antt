@@ -3,7 +3,7 @@ use Rattle.ssim_periods.specs.CommonDays.{have_common_date}
 use Rattle.std.proofs.Common.{sym, ap, ◌∙◌}
 use Rattle.std.specs.List.{range_with_len}
 use Rattle.ssim_periods.specs.Calendar.{day_count, holds}
-use Rattle.ssim_base.specs.LegTable.{is_used}
+use Rattle.ssim_base.specs.internal.LegTable.{is_used}
 use Rattle.ssim_base.specs.declared.used_dates.UsedDates.{UsedDates}
 use Rattle.ssim_base.proofs.DateLemmas.{any-none}
 use Rattle.ssim_base.proofs.used_dates.UsedDates.take_in_next_form.Goals as goal

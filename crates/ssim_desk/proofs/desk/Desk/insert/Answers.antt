@@ -3,7 +3,7 @@ use Rattle.std.proofs.Common.{◌≡◌, ◌≤◌, ◌+◌, ◌-◌, ◌∷◌,
 use Rattle.std.proofs.lemmas.Grind.{common_steps}
 use Rattle.ssim_base.specs.BaseSeen.{BaseSeen}
 use Rattle.ssim_held.specs.Entries.{DeskSeen, Entry}
-use Rattle.ssim_desk.specs.Private.{IsHistory, IsReplay, IsReplaced}
+use Rattle.ssim_desk.specs.internal.Changes.{IsHistory, IsReplay, IsReplaced}
 use Rattle.ssim_desk.proofs.Changes.{replaced}
 use Rattle.ssim_desk.proofs.desk.Desk.insert.Goals as goal
 

@@ -2,7 +2,7 @@
 use Rattle.std.proofs.Common.{◌≡◌, ◌≤◌, inl, List, None, length, subst}
 use Rattle.std.specs.FinMap.{get}
 use Rattle.ssim_held.specs.Entries.{DeskSeen, Entry, map_of}
-use Rattle.ssim_desk.specs.Private.{Brings, IsChange, IsReplaced}
+use Rattle.ssim_desk.specs.internal.Changes.{Brings, IsChange, IsReplaced}
 use Rattle.ssim_desk.proofs.Changes.{replayed}
 use Rattle.ssim_desk.proofs.desk.Desk.merge.Goals as goal
 

@@ -4,7 +4,7 @@ use Rattle.ssim_held.specs.Entries.{AreRising, DeskSeen, map_of, state_of}
 use Rattle.ssim_held.specs.declared.fault.DeskFault.{DeskFault}
 use Rattle.ssim_held.proofs.Entries.{not_held}
 use Rattle.ssim_desk.specs.Desk.{take_answer}
-use Rattle.ssim_desk.specs.Private.{IsOffer}
+use Rattle.ssim_desk.specs.internal.Changes.{IsOffer}
 use Rattle.ssim_desk.specs.Steps.{RefusesText, Takes}
 use Rattle.ssim_desk.specs.declared.desk.Took.{Took}
 use Rattle.ssim_desk.specs.declared.offer.Offer.TheVariants.{Known, New}

@@ -2,7 +2,7 @@
 use Rattle.std.proofs.Common.{◌≡◌, ◌∷◌, [], ◌∙◌, refl, arith}
 use Rattle.std.proofs.lemmas.Grind.{common_steps}
 use Rattle.ssim_schedule.specs.Schedule.{cuts_in}
-use Rattle.ssim_desk.specs.Private.{IsAfter}
+use Rattle.ssim_desk.specs.internal.Changes.{IsAfter}
 use Rattle.ssim_desk.proofs.Points.{begun_at}
 use Rattle.ssim_desk.proofs.Trails.{made}
 use Rattle.ssim_desk.proofs.history.History.of.Goals as goal

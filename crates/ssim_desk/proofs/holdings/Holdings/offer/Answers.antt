@@ -1,7 +1,7 @@
 -- The text is offered to the messages that are held.
 use Rattle.std.proofs.Common.{List, IfErr, IfOk, sym, subst}
 use Rattle.ssim_held.specs.Entries.{AreEntries, AreRising, DeskSeen, Entry, map_of, state_of}
-use Rattle.ssim_desk.specs.Private.{IsOffer}
+use Rattle.ssim_desk.specs.internal.Changes.{IsOffer}
 use Rattle.ssim_desk.specs.Steps.{RefusesText}
 use Rattle.ssim_desk.proofs.holdings.Holdings.offer.Goals as goal
 

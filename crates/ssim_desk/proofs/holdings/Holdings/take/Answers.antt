@@ -5,7 +5,7 @@ use Rattle.ssim_held.specs.Held.{Says}
 use Rattle.ssim_held.specs.Entries.{map_of, state_of}
 use Rattle.ssim_held.specs.declared.fault.DeskFault.{DeskFault}
 use Rattle.ssim_desk.specs.Desk.{took_answer}
-use Rattle.ssim_desk.specs.Private.{IsOffer}
+use Rattle.ssim_desk.specs.internal.Changes.{IsOffer}
 use Rattle.ssim_desk.specs.Steps.{Takes}
 use Rattle.ssim_desk.specs.declared.desk.Took.{Took}
 use Rattle.ssim_desk.proofs.Changes.{is_new, known}

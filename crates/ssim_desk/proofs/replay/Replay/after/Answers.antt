@@ -1,6 +1,6 @@
 use Rattle.std.proofs.Common.{◌/◌, ◌+◌, ◌%◌, ◌++◌, List, ap, sym, subst, ◌∙◌, take, arith}
 use Rattle.ssim_schedule.specs.declared.finding.Finding.{Finding}
-use Rattle.ssim_desk.specs.Private.{AreCheckpoints, IsAfter}
+use Rattle.ssim_desk.specs.internal.Changes.{AreCheckpoints, IsAfter}
 use Rattle.ssim_desk.specs.Meaning.{found_by}
 use Rattle.ssim_desk.proofs.Trails.{nothing_found, nothing_kept}
 use Rattle.ssim_desk.proofs.replay.Replay.after.Goals as goal

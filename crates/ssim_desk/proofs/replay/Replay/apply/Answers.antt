@@ -1,7 +1,7 @@
 use Rattle.std.proofs.Common.{◌≡◌, ◌≢◌, ◌+◌, ◌++◌, ◌∷◌, ◌%◌, ◌/◌, [], List, ◌∙◌, ap, sym, length, take, subst, arith, length-append}
 use Rattle.ssim_schedule.specs.Schedule.{Table}
 use Rattle.ssim_schedule.specs.declared.finding.Finding.{Finding}
-use Rattle.ssim_desk.specs.Private.{AreCheckpoints}
+use Rattle.ssim_desk.specs.internal.Changes.{AreCheckpoints}
 use Rattle.ssim_desk.specs.Meaning.{found_by, left_by}
 use Rattle.ssim_desk.proofs.Trails.{after_more, found_next, kept_more, kept_none}
 use Rattle.ssim_desk.proofs.replay.Replay.apply.Goals as goal

@@ -1,4 +1,4 @@
--- Definitions that only private functions cite. No law and no public contract cites them, so nobody has to believe them.
+-- What a text or a merge changes in the messages that are held, and the history of schedules.
 use Rattle.std.specs.Prelude.{◌≡◌, ◌⊎◌, ◌||◌, ℕ, ◌+◌, ◌*◌, ◌/◌, ◌%◌, ◌<◌, ◌≤◌, List, ◌∷◌, ◌++◌, length, take, map, slice_get, Contains, IsTrue, IfSome}
 use Rattle.std.specs.Prelude.{Option, None, Some}
 use Rattle.std.specs.FinMap.{get}

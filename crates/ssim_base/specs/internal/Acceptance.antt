@@ -10,8 +10,8 @@ use Rattle.ssim_records.specs.declared.record.Record.{Record}
 use Rattle.ssim_records.specs.declared.record.Record.TheVariants.{Header, Carrier, Leg, Segment, Trailer}
 use Rattle.ssim_base.specs.Base.{airline_of, carrier_end, is_trailer, is_leg_named, is_overflow, is_rate, refusal_at, kept}
 use Rattle.ssim_base.specs.BaseSeen.{WasRead, is_leg_of}
-use Rattle.ssim_base.specs.AcceptedRecords.{AddsRecord, AreAccepted}
-use Rattle.ssim_base.specs.LegTable.{has_legs, legs_at, names_leg, uses_date}
+use Rattle.ssim_base.specs.internal.AcceptedRecords.{AddsRecord, AreAccepted}
+use Rattle.ssim_base.specs.internal.LegTable.{has_legs, legs_at, names_leg, uses_date}
 use Rattle.ssim_base.specs.ReadBack.{place_of}
 use Rattle.ssim_base.specs.Timetable.{same_flight, period_of}
 use Rattle.ssim_base.specs.declared.acceptance.CarrierTerms.{CarrierTerms}

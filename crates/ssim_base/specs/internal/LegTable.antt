@@ -7,7 +7,7 @@ use Rattle.std.specs.declared.vec.Vec.{Vec}
 use Rattle.ssim_values.specs.Flight.{FlightNumber}
 use Rattle.ssim_values.specs.Period.{DayRange}
 use Rattle.ssim_periods.specs.Calendar.{holds}
-use Rattle.ssim_base.specs.Dates.{has_date}
+use Rattle.ssim_base.specs.internal.Dates.{has_date}
 use Rattle.ssim_base.specs.Export.{flight_at, flight_count}
 use Rattle.ssim_base.specs.declared.flight_legs.FlightLegs.{FlightLegs}
 use Rattle.ssim_base.specs.declared.leg_sequence.LegSequence.{LegSequence}

@@ -1,0 +1,3 @@
+-- Computed examples.
+pub mod DataSets
+pub mod StationTables

@@ -1,0 +1,9 @@
+-- Definitions that only private functions cite. No law and no public contract cites them, so nobody
+-- has to believe them.
+pub mod Dates
+pub mod LegTable
+pub mod AcceptedRecords
+pub mod Acceptance
+pub mod DataSetReader
+pub mod StationRows
+pub mod SavedLines
