@@ -10,8 +10,8 @@ use ssim_records::leg_fields::{
 /// A field of a record.
 #[derive(Clone, Copy, Debug)]
 pub(crate) struct NamedField {
-    /// Column 1 of the records that have it.
-    kind: u8,
+    /// What column 1 is of the records that have it.
+    kinds: &'static [u8],
     first: usize,
     pub(crate) last: usize,
     pub(crate) name: &'static str,
@@ -41,9 +41,9 @@ const VARIATION: &str = "+ or - and HHMM up to 1500, or five blanks";
 const OVERFLOW_BYTE: &str = "a blank or 0";
 
 macro_rules! field {
-    ($kind:literal $first:literal $last:literal $name:literal $allowed:expr) => {
+    ($kinds:literal $first:literal $last:literal $name:literal $allowed:expr) => {
         NamedField {
-            kind: $kind,
+            kinds: $kinds,
             first: $first,
             last: $last,
             name: $name,
@@ -54,9 +54,9 @@ macro_rules! field {
 
 // A row whose columns are a leg's.
 macro_rules! leg_field {
-    ($kind:literal $field:ident $name:literal $allowed:expr) => {
+    ($kinds:literal $field:ident $name:literal $allowed:expr) => {
         NamedField {
-            kind: $kind,
+            kinds: $kinds,
             first: $field.first,
             last: $field.last,
             name: $name,
@@ -65,63 +65,52 @@ macro_rules! leg_field {
     };
 }
 
-const FIELDS: [NamedField; 50] = [
-    field!(b'1' 2 35 "title" TITLE),
-    field!(b'1' 36 194 "carried text" CARRIED),
-    field!(b'1' 195 200 "serial" SIX_DIGITS),
-    field!(b'2' 2 2 "time mode" "U for UTC, L for local time"),
-    field!(b'2' 3 5 "airline" AIRLINE_CODE),
-    field!(b'2' 6 14 "carried text, with the season" CARRIED),
-    field!(b'2' 15 21 "first day of the validity" DATE),
-    field!(b'2' 22 28 "end of the validity" END),
-    field!(b'2' 29 35 "creation date" DATE),
-    field!(b'2' 36 194 "carried text" CARRIED),
-    field!(b'2' 195 200 "serial" SIX_DIGITS),
-    leg_field!(b'3' SUFFIX "suffix" "a blank or a letter"),
-    leg_field!(b'3' AIRLINE "airline" AIRLINE_CODE),
-    leg_field!(b'3' FLIGHT_NUMBER "flight number" "1 to 4 digits, blanks before and after them"),
-    leg_field!(b'3' ITINERARY_VARIATION "itinerary variation" "1 or 2 digits, blanks before and after them"),
-    leg_field!(b'3' LEG_SEQUENCE "leg sequence" "1 or 2 digits, not 0, blanks before and after them"),
-    leg_field!(b'3' SERVICE_TYPE "service type" CARRIED),
-    leg_field!(b'3' FIRST_DAY "first day of the period" DATE),
-    leg_field!(b'3' LAST_DAY "end of the period" END),
-    leg_field!(b'3' DAYS "days of operation" "rising digits 1 (Monday) to 7 (Sunday), blanks anywhere"),
-    leg_field!(b'3' RATE "frequency rate" "a blank or 1"),
-    leg_field!(b'3' DEPARTURE_STATION "station of departure" STATION),
-    leg_field!(b'3' PASSENGER_DEPARTURE "passenger time of departure" PASSENGER),
-    leg_field!(b'3' AIRCRAFT_DEPARTURE "aircraft time of departure" TIME),
-    leg_field!(b'3' DEPARTURE_VARIATION "UTC variation of departure" VARIATION),
-    leg_field!(b'3' DEPARTURE_TERMINAL "terminal of departure" CARRIED),
-    leg_field!(b'3' ARRIVAL_STATION "station of arrival" STATION),
-    leg_field!(b'3' AIRCRAFT_ARRIVAL "aircraft time of arrival" TIME),
-    leg_field!(b'3' PASSENGER_ARRIVAL "passenger time of arrival" PASSENGER),
-    leg_field!(b'3' ARRIVAL_VARIATION "UTC variation of arrival" VARIATION),
-    leg_field!(b'3' AFTER_ARRIVAL "carried text, with the aircraft type" CARRIED),
-    leg_field!(b'3' OVERFLOW "overflow of the itinerary variation" OVERFLOW_BYTE),
-    leg_field!(b'3' AFTER_OVERFLOW "carried text, with the date variations" CARRIED),
-    leg_field!(b'3' SERIAL "serial" SIX_DIGITS),
-    leg_field!(b'4' SUFFIX "suffix" "a blank or a letter"),
-    leg_field!(b'4' AIRLINE "airline" AIRLINE_CODE),
-    leg_field!(b'4' FLIGHT_NUMBER "flight number" "1 to 4 digits, blanks before and after them"),
-    leg_field!(b'4' ITINERARY_VARIATION "itinerary variation" "1 or 2 digits, blanks before and after them"),
-    leg_field!(b'4' LEG_SEQUENCE "leg sequence" "1 or 2 digits, not 0, blanks before and after them"),
-    leg_field!(b'4' SERVICE_TYPE "service type" CARRIED),
-    field!(b'4' 15 27 "carried text" CARRIED),
-    field!(b'4' 28 28 "overflow of the itinerary variation" OVERFLOW_BYTE),
-    field!(b'4' 29 194 "carried text, with the points and the data" CARRIED),
-    leg_field!(b'4' SERIAL "serial" SIX_DIGITS),
-    field!(b'5' 2 2 "carried text" CARRIED),
-    field!(b'5' 3 5 "airline" AIRLINE_CODE),
-    field!(b'5' 6 187 "carried text, with the release date" CARRIED),
-    field!(b'5' 188 193 "check reference" SIX_DIGITS),
-    field!(b'5' 194 194 "continuation" "E for the end"),
-    field!(b'5' 195 200 "serial" SIX_DIGITS),
+const FIELDS: [NamedField; 39] = [
+    field!(b"1" 2 35 "title" TITLE),
+    field!(b"2" 2 2 "time mode" "U for UTC, L for local time"),
+    field!(b"2" 3 5 "airline" AIRLINE_CODE),
+    field!(b"2" 6 14 "carried text, with the season" CARRIED),
+    field!(b"2" 15 21 "first day of the validity" DATE),
+    field!(b"2" 22 28 "end of the validity" END),
+    field!(b"2" 29 35 "creation date" DATE),
+    field!(b"12" 36 194 "carried text" CARRIED),
+    leg_field!(b"34" SUFFIX "suffix" "a blank or a letter"),
+    leg_field!(b"34" AIRLINE "airline" AIRLINE_CODE),
+    leg_field!(b"34" FLIGHT_NUMBER "flight number" "1 to 4 digits, blanks before and after them"),
+    leg_field!(b"34" ITINERARY_VARIATION "itinerary variation" "1 or 2 digits, blanks before and after them"),
+    leg_field!(b"34" LEG_SEQUENCE "leg sequence" "1 or 2 digits, not 0, blanks before and after them"),
+    leg_field!(b"34" SERVICE_TYPE "service type" CARRIED),
+    leg_field!(b"3" FIRST_DAY "first day of the period" DATE),
+    leg_field!(b"3" LAST_DAY "end of the period" END),
+    leg_field!(b"3" DAYS "days of operation" "rising digits 1 (Monday) to 7 (Sunday), blanks anywhere"),
+    leg_field!(b"3" RATE "frequency rate" "a blank or 1"),
+    leg_field!(b"3" DEPARTURE_STATION "station of departure" STATION),
+    leg_field!(b"3" PASSENGER_DEPARTURE "passenger time of departure" PASSENGER),
+    leg_field!(b"3" AIRCRAFT_DEPARTURE "aircraft time of departure" TIME),
+    leg_field!(b"3" DEPARTURE_VARIATION "UTC variation of departure" VARIATION),
+    leg_field!(b"3" DEPARTURE_TERMINAL "terminal of departure" CARRIED),
+    leg_field!(b"3" ARRIVAL_STATION "station of arrival" STATION),
+    leg_field!(b"3" AIRCRAFT_ARRIVAL "aircraft time of arrival" TIME),
+    leg_field!(b"3" PASSENGER_ARRIVAL "passenger time of arrival" PASSENGER),
+    leg_field!(b"3" ARRIVAL_VARIATION "UTC variation of arrival" VARIATION),
+    leg_field!(b"3" AFTER_ARRIVAL "carried text, with the aircraft type" CARRIED),
+    leg_field!(b"3" OVERFLOW "overflow of the itinerary variation" OVERFLOW_BYTE),
+    leg_field!(b"3" AFTER_OVERFLOW "carried text, with the date variations" CARRIED),
+    field!(b"4" 15 27 "carried text" CARRIED),
+    field!(b"4" 28 28 "overflow of the itinerary variation" OVERFLOW_BYTE),
+    field!(b"4" 29 194 "carried text, with the points and the data" CARRIED),
+    field!(b"5" 2 2 "carried text" CARRIED),
+    field!(b"5" 3 5 "airline" AIRLINE_CODE),
+    field!(b"5" 6 187 "carried text, with the release date" CARRIED),
+    field!(b"5" 188 193 "check reference" SIX_DIGITS),
+    field!(b"5" 194 194 "continuation" "E for the end"),
+    leg_field!(b"12345" SERIAL "serial" SIX_DIGITS),
 ];
 
 /// The field of a record that begins at this column.
 pub(crate) fn field_at(kind: u8, column: usize) -> Option<NamedField> {
     for field in FIELDS {
-        if field.kind == kind && field.first == column {
+        if field.first == column && field.kinds.contains(&kind) {
             return Some(field);
         }
     }

@@ -1,6 +1,7 @@
 //! The words on a line of a text, a station table or a script, and on an element of a desk file.
 
 use crate::lines::{push_line, push_shown};
+use ssim_text::cut;
 use std::alloc::{AllocError, Global};
 
 /// The lines on the line with this number, from 1, at which a refusal has the number `refusal`: its
@@ -27,7 +28,7 @@ pub fn words_on_line(
 pub fn words_on_offset(alloc: Global, bytes: &[u8], offset: u64) -> Result<Vec<u8>, AllocError> {
     let mut lines = Vec::new(alloc);
     match rest_at(bytes, offset) {
-        Some(rest) => push_shown(&mut lines, "element", first_line(rest))?,
+        Some(rest) => push_shown(&mut lines, "element", cut(rest, b'\n').0)?,
         None => push_line(&mut lines, "element", "the file ends before it")?,
     }
     Ok(lines)
@@ -54,26 +55,13 @@ fn allowed_at(refusal: u8) -> Option<&'static str> {
 fn line_at(bytes: &[u8], number: u64) -> Option<&[u8]> {
     let mut rest = bytes;
     for _ in 1..number {
-        rest = after_line(rest)?;
+        let (_, after) = cut(rest, b'\n');
+        rest = after.split_first()?.1;
     }
     if rest.is_empty() {
         return None;
     }
-    Some(first_line(rest))
-}
-
-/// What follows the first LF.
-fn after_line(bytes: &[u8]) -> Option<&[u8]> {
-    let end = bytes.iter().position(|b| *b == b'\n')?;
-    bytes.get(end..)?.split_first().map(|(_, rest)| rest)
-}
-
-/// The bytes before the first LF.
-fn first_line(bytes: &[u8]) -> &[u8] {
-    match bytes.iter().position(|b| *b == b'\n') {
-        Some(end) => bytes.get(..end).unwrap_or(bytes),
-        None => bytes,
-    }
+    Some(cut(rest, b'\n').0)
 }
 
 /// The bytes from this offset on, if there are any.

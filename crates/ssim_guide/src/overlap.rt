@@ -7,6 +7,9 @@ use ssim_records::leg_fields::{DAYS, FIRST_DAY, FLIGHT_NUMBER, LAST_DAY, LEG_SEQ
 use ssim_values::{Day, DayMask, Period};
 use std::alloc::{AllocError, Global};
 
+/// How many days after its start a validity with an open end ends.
+const OPEN_DAYS: u16 = 730;
+
 /// The lines on the record with this number, and on the first one before it that has its flight and
 /// leg sequence on a common date.
 pub fn words_on_overlap(alloc: Global, bytes: &[u8], number: u64) -> Result<Vec<u8>, AllocError> {
@@ -62,11 +65,8 @@ fn text(record: &[u8], field: Field) -> Option<&[u8]> {
 fn common_day(one: &[u8], other: &[u8], end: Day) -> Option<Day> {
     let one = period_of(one, end)?;
     let other = period_of(other, end)?;
-    for number in one.first().number()..36_525 {
+    for number in one.first().number()..=one.last().number() {
         let day = Day::from_number(number)?;
-        if day > one.last() {
-            return None;
-        }
         if one.holds(day) && other.holds(day) {
             return Some(day);
         }
@@ -82,23 +82,19 @@ fn period_of(record: &[u8], end: Day) -> Option<Period> {
     Period::new(first, last, mask).ok()
 }
 
-/// The day on which the validity of a carrier record ends: an open end is its start and 730 days,
-/// or 31DEC99.
+/// The day on which the validity of a carrier record ends: an open end is 730 days after the start,
+/// or 31DEC99 if the calendar ends before.
 fn end_of_validity(carrier: &[u8]) -> Option<Day> {
     if let Some(end) = day_in(columns_of(carrier, 22, 28)?) {
         return Some(end);
     }
-    let first = day_in(columns_of(carrier, 15, 21)?)?.number();
-    if first < 35_794 {
-        Day::from_number(first + 730)
-    } else {
-        last_day()
-    }
+    let first = day_in(columns_of(carrier, 15, 21)?)?;
+    Day::from_number(first.number() + OPEN_DAYS).or(last_day())
 }
 
-/// 31DEC99.
+/// The last day of the calendar.
 fn last_day() -> Option<Day> {
-    Day::from_number(36_524)
+    day_in(b"31DEC99")
 }
 
 /// The day that seven columns spell.
