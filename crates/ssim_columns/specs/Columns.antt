@@ -153,9 +153,9 @@ first_fault bytes [] = None
 first_fault bytes (f ∷ fs) = or_else (field_fault bytes f) (first_fault bytes fs)
 
 -- each field of a table is valid
-abbrev pub EachStands : List ℕ → List Field → Type 0
-EachStands bytes [] = Unit {0}
-EachStands bytes (f ∷ fs) = (fault_in f.kind (columns f.first f.last bytes) ≡ None) × EachStands bytes fs
+abbrev pub EachIsValid : List ℕ → List Field → Type 0
+EachIsValid bytes [] = Unit {0}
+EachIsValid bytes (f ∷ fs) = (fault_in f.kind (columns f.first f.last bytes) ≡ None) × EachIsValid bytes fs
 
 -- ---- tables that are in order
 

@@ -10,7 +10,7 @@ use Rattle.ssim_values.specs.Period.{DayRange}
 use Rattle.ssim_columns.specs.declared.field.Kind.TheVariants.{Suffix, AirlineCode, Carried, Days, Number, Sequence, Digits, Dates, StationCode, Time, PassengerTime, UtcVariation}
 use Rattle.ssim_columns.specs.declared.field.Field.{Field}
 use Rattle.ssim_columns.specs.Numbers.{digits_of, number_of, sequence_of, digits}
-use Rattle.ssim_columns.specs.Columns.{columns, field, is_carried, end_from, EachStands}
+use Rattle.ssim_columns.specs.Columns.{columns, field, is_carried, end_from, EachIsValid}
 
 -- ---- which leg a record speaks of, in types 3 and 4
 
@@ -105,7 +105,7 @@ quick_hash d =
 -- each of these bytes may stand in its column
 pub record AreLegColumns (d : List ℕ) : Type 0 where
   pub len : length d ≡ 158
-  pub stands : EachStands (spread d) own_table
+  pub stands : EachIsValid (spread d) own_table
 
 -- ---- the record
 
@@ -137,7 +137,7 @@ leg_table =
 -- the bytes spell the record
 pub record SpellsLeg (r : LegFields) (bytes : List ℕ) : Type 0 where
   pub kind : columns 1 1 bytes ≡ codes "3"
-  pub stands : EachStands bytes leg_table
+  pub stands : EachIsValid bytes leg_table
   pub name : SpellsName r.name bytes
   pub first : day_of (columns 15 21 bytes) ≡ Some r.first
   pub last : end_from (Some r.first) (columns 22 28 bytes) ≡ Some r.last

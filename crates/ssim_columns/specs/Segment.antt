@@ -4,7 +4,7 @@ use Rattle.std.specs.List.{concat, list_all}
 use Rattle.ssim_columns.specs.declared.field.Kind.TheVariants.{Carried, Digits}
 use Rattle.ssim_columns.specs.declared.field.Field.{Field}
 use Rattle.ssim_columns.specs.Numbers.{digits_of, digits}
-use Rattle.ssim_columns.specs.Columns.{columns, field, filled, is_carried, EachStands}
+use Rattle.ssim_columns.specs.Columns.{columns, field, filled, is_carried, EachIsValid}
 use Rattle.ssim_columns.specs.Leg.{Name, name_table, SpellsName, name_texts, IsName}
 
 -- ---- the columns of a tail: 15 to 27 and 29 to 194
@@ -58,7 +58,7 @@ segment_table =
 -- the bytes spell the record
 pub record SpellsSegment (r : SegmentFields) (bytes : List ℕ) : Type 0 where
   pub kind : columns 1 1 bytes ≡ codes "4"
-  pub stands : EachStands bytes segment_table
+  pub stands : EachIsValid bytes segment_table
   pub name : SpellsName r.name bytes
   pub service : columns 14 14 bytes ≡ r.service ∷ []
   pub tail : tail_of bytes ≡ r.tail

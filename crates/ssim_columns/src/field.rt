@@ -2,7 +2,7 @@
 //! invalid field.
 
 ghost use Rattle.std.specs.Prelude.{◌≡◌, ◌≤◌, ◌<◌, ◌+◌, length, Some, None, IsTrue, IfSome, is_some};
-ghost use Rattle.std.specs.List.{list_all};
+ghost use Rattle.std.specs.List.{flat_map, list_all};
 ghost use Rattle.ssim_values.specs.Day.{day_of};
 ghost use Rattle.ssim_values.specs.DayMask.{days_of};
 ghost use Rattle.ssim_values.specs.Clock.{clock_of};
@@ -20,7 +20,7 @@ pub(crate) mod time_mode;
 
 use crate::field::end_code::end_code_of;
 use crate::field::time_mode::time_mode_of;
-use crate::text::array::{five, four, seven, three};
+use crate::text::array::{bytes_of, seven};
 use crate::text::equality::are_same_seven;
 use crate::text::number::{digits_of, number_of, sequence_of};
 use ssim_values::{Airline, Clock, Day, DayMask, Station, Variation};
@@ -88,7 +88,7 @@ fn are_blank(text: &[u8]) -> bool
 
 /// Whether each byte can be carried. The loop has no early exit, so that several bytes are tested
 /// at once.
-pub fn are_carried(text: &[u8]) -> bool
+pub(crate) fn are_carried(text: &[u8]) -> bool
     ensures { result ≡ list_all is_carried text.now }
 {
     let mut all = true;
@@ -138,27 +138,27 @@ fn carried_fault(text: &[u8]) -> Option<usize>
 
 // ---- values
 
-pub fn is_station(text: &[u8]) -> bool
+pub(crate) fn is_station(text: &[u8]) -> bool
     requires { length text.now ≡ 3 }
     ensures { result ≡ is_station text.now }
 {
-    match Station::parse(&three(text)) {
+    match Station::parse(&bytes_of::<3>(text)) {
         Ok(_) => true,
         Err(_) => false,
     }
 }
 
-pub fn is_airline(text: &[u8]) -> bool
+pub(crate) fn is_airline(text: &[u8]) -> bool
     requires { length text.now ≡ 3 }
     ensures { result ≡ is_airline text.now }
 {
-    match Airline::parse(&three(text)) {
+    match Airline::parse(&bytes_of::<3>(text)) {
         Ok(_) => true,
         Err(_) => false,
     }
 }
 
-pub fn day_of(text: &[u8]) -> Option<Day>
+pub(crate) fn day_of(text: &[u8]) -> Option<Day>
     requires { length text.now ≡ 7 }
     ensures { result ≡ day_of text.now }
 {
@@ -168,7 +168,7 @@ pub fn day_of(text: &[u8]) -> Option<Day>
     }
 }
 
-pub fn days_of(text: &[u8]) -> Option<DayMask>
+pub(crate) fn days_of(text: &[u8]) -> Option<DayMask>
     ensures { result ≡ days_of text.now }
 {
     match DayMask::parse(text) {
@@ -177,11 +177,11 @@ pub fn days_of(text: &[u8]) -> Option<DayMask>
     }
 }
 
-pub fn clock_of(text: &[u8]) -> Option<Clock>
+pub(crate) fn clock_of(text: &[u8]) -> Option<Clock>
     requires { length text.now ≡ 4 }
     ensures { result ≡ clock_of text.now }
 {
-    match Clock::parse(&four(text)) {
+    match Clock::parse(&bytes_of::<4>(text)) {
         Ok(clock) => Some(clock),
         Err(_) => None,
     }
@@ -191,7 +191,7 @@ fn variation_of(text: &[u8]) -> Option<Variation>
     requires { length text.now ≡ 5 }
     ensures { result ≡ variation_of text.now }
 {
-    match Variation::parse(&five(text)) {
+    match Variation::parse(&bytes_of::<5>(text)) {
         Ok(variation) => Some(variation),
         Err(_) => None,
     }
@@ -199,7 +199,7 @@ fn variation_of(text: &[u8]) -> Option<Variation>
 
 /// A time, or none in blank columns.
 #[tactic(auto, unfolding(crate::specs::Columns::passenger_time_of))]
-pub fn passenger_time_of(text: &[u8]) -> Option<Option<Clock>>
+pub(crate) fn passenger_time_of(text: &[u8]) -> Option<Option<Clock>>
     requires { length text.now ≡ 4 }
     ensures { result ≡ passenger_time_of text.now }
 {
@@ -214,7 +214,7 @@ pub fn passenger_time_of(text: &[u8]) -> Option<Option<Clock>>
 
 /// A UTC variation, or none in blank columns.
 #[tactic(auto, unfolding(crate::specs::Columns::utc_variation_of))]
-pub fn utc_variation_of(text: &[u8]) -> Option<Option<Variation>>
+pub(crate) fn utc_variation_of(text: &[u8]) -> Option<Option<Variation>>
     requires { length text.now ≡ 5 }
     ensures { result ≡ utc_variation_of text.now }
 {
@@ -229,7 +229,7 @@ pub fn utc_variation_of(text: &[u8]) -> Option<Option<Variation>>
 
 /// The day of an end that is not before the start, or the open end.
 #[tactic(auto, unfolding(crate::specs::Columns::end_from))]
-pub fn end_from(start: Day, text: &[u8]) -> Option<Option<Day>>
+pub(crate) fn end_from(start: Day, text: &[u8]) -> Option<Option<Day>>
     requires { length text.now ≡ 7 }
     ensures { result ≡ end_from (Some start) text.now }
 {
@@ -314,7 +314,7 @@ fn are_printed(text: &[u8]) -> bool
 
 /// Whether each byte of columns 3 to 194 can be carried. Mostly each is from 32 to 126.
 #[tactic(auto, using(crate::proofs::lemmas::Rows::all_printed))]
-pub fn middle_is_carried(bytes: &[u8; 200]) -> bool
+pub(crate) fn middle_is_carried(bytes: &[u8; 200]) -> bool
     ensures { result ≡ list_all is_carried (columns 3 194 bytes.now) }
 {
     let middle = &bytes[2..194];
@@ -330,6 +330,20 @@ pub fn first_fault(fields: &[Field], bytes: &[u8; 200]) -> Option<usize>
         let text = &bytes[field.first - 1..field.last];
         if let Some(place) = fault_in(field.kind, text) {
             return Some(field.first + place);
+        }
+    }
+    None
+}
+
+/// The first column of the first invalid field of the tables, one after another.
+pub(crate) fn first_fault_of(tables: &[&[Field]], bytes: &[u8; 200]) -> Option<usize>
+    requires { IsTrue (list_all (λ table. are_fields table.now) tables.now) }
+    ensures { result ≡ first_fault bytes.now (flat_map (λ table. table.now) tables.now) }
+{
+    for table in tables {
+        match first_fault(table, bytes) {
+            Some(column) => return Some(column),
+            None => {}
         }
     }
     None

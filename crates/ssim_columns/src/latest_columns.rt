@@ -8,15 +8,34 @@ ghost use Rattle.ssim_columns.specs.Leg.{IsName, SpellsName};
 ghost use Rattle.ssim_columns.specs.internal.LatestColumns.{SpellsDates, SpellsEnds, SpellsFlight, SpellsFlightLeg};
 ghost use Rattle.ssim_columns.specs.Numbers.{digits_of};
 
-use crate::field::{day_of, days_of, end_from};
+use crate::field::{Field, Kind, day_of, days_of, end_from};
+use crate::leg::leg_fields::{DAYS, FIRST_DAY, LAST_DAY};
 use crate::leg::leg_name::{
     AirlineFlight, FlightLeg, LegName, name_with, read_flight, read_flight_leg,
 };
-use crate::text::array::{eight, four};
+use crate::text::array::bytes_of;
 use crate::text::equality::{are_same, are_same_four};
 use crate::text::number::digits_of;
 use ssim_values::{Day, DayMask};
 use std::marker::Model;
+
+// Columns that are compared at once. Dates and days have seven, and are compared with a column
+// beside them as eight bytes.
+
+/// Columns 2 to 9: the flight of an airline.
+const FLIGHT: Field = field!(2 9 Carried);
+/// Columns 10 to 13: the leg of a flight.
+const FLIGHT_LEG: Field = field!(10 13 Carried);
+/// Columns 15 to 22: the first day of the period, and a column of its end.
+const WITH_FIRST_DAY: Field = field!(15 22 Carried);
+/// Columns 21 to 28: a column of the first day of the period, and its end.
+const WITH_LAST_DAY: Field = field!(21 28 Carried);
+/// Columns 28 to 35: a column of the end of the period, and the days of operation.
+const WITH_DAYS: Field = field!(28 35 Carried);
+/// Columns 195 to 198: the first four digits of the serial.
+const SERIAL_FRONT: Field = field!(195 198 Carried);
+/// Columns 199 and 200: the last two digits of the serial.
+const SERIAL_END: Field = field!(199 200 Carried);
 
 /// A flight, and the bytes of columns 2 to 9 that spell it.
 #[derive(Drop)]
@@ -126,7 +145,7 @@ impl FlightRead {
         requires { SpellsFlight named.now bytes.now }
     {
         FlightRead {
-            columns: eight(&bytes[1..9]),
+            columns: bytes_of::<8>(FLIGHT.text(bytes)),
             named: *named,
         }
     }
@@ -135,7 +154,7 @@ impl FlightRead {
     fn flight_in(&self, bytes: &[u8; 200]) -> Option<AirlineFlight>
         ensures { IfSome result (λ named. SpellsFlight named bytes.now) }
     {
-        if are_same(&bytes[1..9], &self.columns) {
+        if are_same(FLIGHT.text(bytes), &self.columns) {
             Some(self.named)
         } else {
             None
@@ -148,7 +167,7 @@ impl FlightLegRead {
         requires { SpellsFlightLeg leg bytes.now }
     {
         FlightLegRead {
-            columns: four(&bytes[9..13]),
+            columns: bytes_of::<4>(FLIGHT_LEG.text(bytes)),
             leg,
         }
     }
@@ -157,7 +176,7 @@ impl FlightLegRead {
     fn leg_in(&self, bytes: &[u8; 200]) -> Option<FlightLeg>
         ensures { IfSome result (λ leg. SpellsFlightLeg leg bytes.now) }
     {
-        if are_same_four(&bytes[9..13], &self.columns) {
+        if are_same_four(FLIGHT_LEG.text(bytes), &self.columns) {
             Some(self.leg)
         } else {
             None
@@ -170,8 +189,8 @@ impl EndsRead {
         requires { SpellsEnds ends.now bytes.now }
     {
         EndsRead {
-            first: eight(&bytes[14..22]),
-            last: eight(&bytes[20..28]),
+            first: bytes_of::<8>(WITH_FIRST_DAY.text(bytes)),
+            last: bytes_of::<8>(WITH_LAST_DAY.text(bytes)),
             ends: *ends,
         }
     }
@@ -180,7 +199,9 @@ impl EndsRead {
     fn ends_in(&self, bytes: &[u8; 200]) -> Option<LegEnds>
         ensures { IfSome result (λ ends. SpellsEnds ends bytes.now) }
     {
-        if are_same(&bytes[14..22], &self.first) && are_same(&bytes[20..28], &self.last) {
+        if are_same(WITH_FIRST_DAY.text(bytes), &self.first)
+            && are_same(WITH_LAST_DAY.text(bytes), &self.last)
+        {
             Some(self.ends)
         } else {
             None
@@ -191,8 +212,8 @@ impl EndsRead {
 fn read_ends(bytes: &[u8; 200]) -> Option<LegEnds>
     ensures { IfSome result (λ ends. SpellsEnds ends bytes.now) }
 {
-    let first = day_of(&bytes[14..21])?;
-    let last = end_from(first, &bytes[21..28])?;
+    let first = day_of(FIRST_DAY.text(bytes))?;
+    let last = end_from(first, LAST_DAY.text(bytes))?;
     Some(LegEnds { first, last })
 }
 
@@ -201,7 +222,7 @@ impl DaysRead {
         requires { days_of (columns 29 35 bytes.now) ≡ Some days }
     {
         DaysRead {
-            columns: eight(&bytes[27..35]),
+            columns: bytes_of::<8>(WITH_DAYS.text(bytes)),
             days,
         }
     }
@@ -210,7 +231,7 @@ impl DaysRead {
     fn days_in(&self, bytes: &[u8; 200]) -> Option<DayMask>
         ensures { IfSome result (λ days. days_of (columns 29 35 bytes.now) ≡ Some days) }
     {
-        if are_same(&bytes[27..35], &self.columns) {
+        if are_same(WITH_DAYS.text(bytes), &self.columns) {
             Some(self.days)
         } else {
             None
@@ -229,7 +250,7 @@ impl SerialRead {
 
     // Of the record's serial, if it begins with four digits.
     fn read(bytes: &[u8; 200]) -> Option<SerialRead> {
-        let columns = four(&bytes[194..198]);
+        let columns = bytes_of::<4>(SERIAL_FRONT.text(bytes));
         let number = digits_of(&columns)?;
         Some(SerialRead { columns, number })
     }
@@ -239,10 +260,10 @@ impl SerialRead {
         ensures below { IfSome result (λ serial. serial < 1000000) }
         ensures value { IfSome result (λ serial. digits_of (columns 195 200 bytes.now) ≡ Some serial) }
     {
-        if !are_same_four(&bytes[194..198], &self.columns) {
+        if !are_same_four(SERIAL_FRONT.text(bytes), &self.columns) {
             return None;
         }
-        let last = digits_of(&bytes[198..200])?;
+        let last = digits_of(SERIAL_END.text(bytes))?;
         Some(self.number * 100 + last)
     }
 }
@@ -343,7 +364,7 @@ impl LatestColumns {
                 return Some(days);
             }
         }
-        let days = days_of(&bytes[28..35])?;
+        let days = days_of(DAYS.text(bytes))?;
         self.days = Some(DaysRead::new(bytes, days));
         Some(days)
     }

@@ -56,7 +56,7 @@ pub use leg::period_text::{PeriodText, dates_text, end_text};
 pub use record_writers::{write_leg, write_segment};
 pub use segment::segment_head::{SegmentHead, read_segment_head};
 pub use segment::segment_tail::SegmentTail;
-pub use text::array::{seven, three};
+pub use text::array::{bytes_of, seven};
 pub use text::equality::are_same_seven;
 pub use text::number::six_digits;
 pub use text::overwriting::join;

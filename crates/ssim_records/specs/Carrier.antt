@@ -8,7 +8,7 @@ use Rattle.ssim_columns.specs.declared.field.Kind.TheVariants.{AirlineCode, Carr
 use Rattle.ssim_columns.specs.declared.field.Field.{Field}
 use Rattle.ssim_values.specs.declared.time_mode.TimeMode.{TimeMode}
 use Rattle.ssim_columns.specs.Numbers.{digits_of, digits}
-use Rattle.ssim_columns.specs.Columns.{columns, field, is_carried, end_from, time_mode_of, time_mode_text, EachStands}
+use Rattle.ssim_columns.specs.Columns.{columns, field, is_carried, end_from, time_mode_of, time_mode_text, EachIsValid}
 use Rattle.ssim_columns.specs.Leg.{end_text, IsEnd}
 
 -- what a carrier record says: time mode, airline, columns 6 to 14 (the season among them),
@@ -38,7 +38,7 @@ carrier_table =
 -- the bytes spell the record
 pub record SpellsCarrier (r : CarrierFields) (bytes : List ℕ) : Type 0 where
   pub kind : columns 1 1 bytes ≡ codes "2"
-  pub stands : EachStands bytes carrier_table
+  pub stands : EachIsValid bytes carrier_table
   pub time_mode : time_mode_of (columns 2 2 bytes) ≡ Some r.time_mode
   pub airline : columns 3 5 bytes ≡ r.airline
   pub season : columns 6 14 bytes ≡ r.season

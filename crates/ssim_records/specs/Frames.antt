@@ -14,14 +14,14 @@ abbrev pub trim : Bool → List ℕ → List ℕ
 trim true bytes = drop_line_ends bytes
 trim false bytes = bytes
 
--- The bytes are these blocks of 200, line ends after each, and then this rest. `behind` says
--- whether a block came just before them: only then may they begin with line ends. The last `beyond`
--- bytes came after the limit, and no block extends into them. The rest is too short for another
+-- The bytes are these blocks of 200, line ends after each, and then this rest. `after_block`
+-- says whether a block came just before them: only then may they begin with line ends. The last
+-- `over` bytes came after the limit, and no block extends into them. The rest is too short for another
 -- block within the limit.
 abbrev pub Frames : ℕ → Bool → List ℕ → List (List ℕ) → List ℕ → Type 0
-Frames beyond behind bytes [] rest = (trim behind bytes ≡ rest) × (length rest < 200 + beyond)
-Frames beyond behind bytes (block ∷ blocks) rest =
-    (later : List ℕ) × (length block ≡ 200) × (trim behind bytes ≡ block ++ later) × (beyond ≤ length later) × Frames beyond true later blocks rest
+Frames over after_block bytes [] rest = (trim after_block bytes ≡ rest) × (length rest < 200 + over)
+Frames over after_block bytes (block ∷ blocks) rest =
+    (later : List ℕ) × (length block ≡ 200) × (trim after_block bytes ≡ block ++ later) × (over ≤ length later) × Frames over true later blocks rest
 
 -- a record of 200 zero digits, which says nothing
 abbrev pub fill : List ℕ
@@ -38,9 +38,9 @@ others number (block ∷ blocks) = if is_fill block then others (number + 1) blo
 
 -- Any bytes have frames.
 abbrev pub FramesExist : Type 0
-FramesExist = (beyond : ℕ) (behind : Bool) (bytes : List ℕ) → (blocks : List (List ℕ)) × ((rest : List ℕ) × Frames beyond behind bytes blocks rest)
+FramesExist = (over : ℕ) (after_block : Bool) (bytes : List ℕ) → (blocks : List (List ℕ)) × ((rest : List ℕ) × Frames over after_block bytes blocks rest)
 
 -- Bytes have only one list of blocks and one rest.
 abbrev pub FramesAreOne : Type 0
-FramesAreOne = (beyond : ℕ) (behind : Bool) (bytes : List ℕ) (blocks blocks' : List (List ℕ)) (rest rest' : List ℕ)
-    → Frames beyond behind bytes blocks rest → Frames beyond behind bytes blocks' rest' → (blocks ≡ blocks') × (rest ≡ rest')
+FramesAreOne = (over : ℕ) (after_block : Bool) (bytes : List ℕ) (blocks blocks' : List (List ℕ)) (rest rest' : List ℕ)
+    → Frames over after_block bytes blocks rest → Frames over after_block bytes blocks' rest' → (blocks ≡ blocks') × (rest ≡ rest')

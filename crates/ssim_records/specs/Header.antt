@@ -4,7 +4,7 @@ use Rattle.std.specs.List.{concat, list_all}
 use Rattle.ssim_columns.specs.declared.field.Kind.TheVariants.{Carried, Digits, Title}
 use Rattle.ssim_columns.specs.declared.field.Field.{Field}
 use Rattle.ssim_columns.specs.Numbers.{digits_of, digits}
-use Rattle.ssim_columns.specs.Columns.{columns, field, is_carried, title, EachStands}
+use Rattle.ssim_columns.specs.Columns.{columns, field, is_carried, title, EachIsValid}
 
 -- what a header says: columns 36 to 194, and its serial
 pub record HeaderFields : Type 0 where
@@ -22,7 +22,7 @@ header_table =
 -- the bytes spell the record
 pub record SpellsHeader (r : HeaderFields) (bytes : List ℕ) : Type 0 where
   pub kind : columns 1 1 bytes ≡ codes "1"
-  pub stands : EachStands bytes header_table
+  pub stands : EachIsValid bytes header_table
   pub details : columns 36 194 bytes ≡ r.details
   pub serial : digits_of (columns 195 200 bytes) ≡ Some r.serial
 

@@ -6,7 +6,7 @@ use Rattle.ssim_columns.specs.declared.field.Kind.TheVariants.{AirlineCode, Carr
 use Rattle.ssim_columns.specs.declared.field.Field.{Field}
 use Rattle.ssim_columns.specs.declared.field.end_code.EndCode.{EndCode}
 use Rattle.ssim_columns.specs.Numbers.{digits_of, digits}
-use Rattle.ssim_columns.specs.Columns.{columns, field, is_carried, end_code_of, end_code_text, EachStands}
+use Rattle.ssim_columns.specs.Columns.{columns, field, is_carried, end_code_of, end_code_text, EachIsValid}
 
 -- what a trailer says: column 2, the airline, columns 6 to 187 (the release date among them), the
 -- serial that it checks, whether more carriers follow, and its own serial
@@ -32,7 +32,7 @@ trailer_table =
 -- the bytes spell the record
 pub record SpellsTrailer (r : TrailerFields) (bytes : List ℕ) : Type 0 where
   pub kind : columns 1 1 bytes ≡ codes "5"
-  pub stands : EachStands bytes trailer_table
+  pub stands : EachIsValid bytes trailer_table
   pub spare : columns 2 2 bytes ≡ r.spare ∷ []
   pub airline : columns 3 5 bytes ≡ r.airline
   pub release : columns 6 187 bytes ≡ r.release

@@ -1,12 +1,10 @@
 //! The 200-byte records of a schedule data set, as chapter 7 of IATA's Standard Schedules
 //! Information Manual has them, and the devices that they come from and go to.
 //!
-//! - [`Record`]: a [`Header`], [`Carrier`], [`LegRecord`], [`SegmentRecord`] or [`Trailer`], read by [`read_record`] or a [`RecordReader`] and
-//!   written by [`write_record`] and [`write_over`]. [`LegName`] identifies the leg of a record. [`LegColumns`] and [`SegmentTail`] are the
-//!   columns that a leg or a segment has of its own, with a reader for each field. [`NameText`] and [`PeriodText`] are texts that
-//!   several records have in common, so that they are written once.
-//! - [`leg_fields`]: the one table of a leg's fields with their columns. [`LegColumns::text`] returns the bytes of a field.
-//! - [`LegStations`], [`LegTimes`] and [`LegEquipment`]: the parts of a new leg's columns, and what messages change in them.
+//! - [`Record`]: a [`Header`], [`Carrier`], [`LegRecord`], [`SegmentRecord`] or [`Trailer`], read
+//!   by [`read_record`] or a [`RecordReader`] and written by [`write_record`] and [`write_over`].
+//! - [`leg_fields`], [`LegName`], [`LegColumns`], [`SegmentTail`], [`NameText`] and the like: the
+//!   columns of records, from `ssim_columns`.
 //! - [`Records`]: the records of a stream, one after another, from any [`Source`].
 //! - [`Source`] and [`Sink`]: devices that bytes come from and go to. Contracts know the bytes of a
 //!   `&[u8]`, of [`Bytes`] and of [`Parts`]. [`Input`] and [`Output`], over std's readers and

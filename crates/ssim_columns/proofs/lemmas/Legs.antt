@@ -8,11 +8,11 @@ use Rattle.ssim_values.specs.DayMask.{days_of, places_of}
 use Rattle.ssim_values.proofs.DayLaws.{day_of-day_text, day_of-one_text}
 use Rattle.ssim_values.proofs.DayMaskLaws.{days_of-places_of}
 use Rattle.ssim_columns.specs.declared.field.Field.{Field}
-use Rattle.ssim_columns.specs.declared.field.Kind.TheVariants.{Carried, Digits}
+use Rattle.ssim_columns.specs.declared.field.Kind.TheVariants.{Carried, Dates, Days, Digits}
 use Rattle.ssim_columns.specs.Numbers.{digits_of, digits}
-use Rattle.ssim_columns.specs.Columns.{columns, field, fault_in, is_carried, end_from, EachStands}
+use Rattle.ssim_columns.specs.Columns.{columns, field, fault_in, is_carried, end_from, EachIsValid}
 use Rattle.ssim_columns.specs.Heads.{HasDigits}
-use Rattle.ssim_columns.specs.Leg.{Name, LegFields, IsLeg, SpellsLeg, middle_table, own_columns, spread, leg_texts, end_text, written_leg}
+use Rattle.ssim_columns.specs.Leg.{Name, LegFields, IsLeg, SpellsLeg, middle_table, name_table, own_columns, spread, leg_texts, end_text, written_leg}
 use Rattle.ssim_columns.proofs.lemmas.Days.{length_day, length_end, length_places, end_from-end_text, end_from-one_text}
 use Rattle.ssim_columns.proofs.lemmas.Names.{one_name, NameLies, name_digits, name_lies, spells_name, name_stands, length_airline}
 use Rattle.ssim_columns.proofs.lemmas.Numbers.{digits_of-digits, digits_of-written}
@@ -73,8 +73,11 @@ lies r fits =
     let name : NameLies r.name (written_leg r) = record { suffix = p.1.0; airline = p.1.1.0; number = p.1.1.1.0; variation = p.1.1.1.1.0; sequence = p.1.1.1.1.1.0 } in
     record { kind = p.0; name = name; service = p.1.1.1.1.1.1.0; first = p.1.1.1.1.1.1.1.0; last = p.1.1.1.1.1.1.1.1.0; days = p.1.1.1.1.1.1.1.1.1.0; rate = p.1.1.1.1.1.1.1.1.1.1.0; middle = p.1.1.1.1.1.1.1.1.1.1.1.0; overflow = p.1.1.1.1.1.1.1.1.1.1.1.1.0; tail = p.1.1.1.1.1.1.1.1.1.1.1.1.1.0; serial = p.1.1.1.1.1.1.1.1.1.1.1.1.1.1.0 }
 
-abbrev behind_middle : List Field
+abbrev pub behind_middle : List Field
 behind_middle = field 128 128 Carried ∷ field 129 194 Carried ∷ field 195 200 Digits ∷ []
+
+abbrev pub beside_name : List Field
+beside_name = field 14 14 Carried ∷ field 15 28 Dates ∷ field 29 35 Days ∷ field 36 36 Carried ∷ (middle_table ++ behind_middle)
 
 -- valid fields at these positions spell the record
 spells : (r : LegFields) (b : List ℕ) → IsLeg r → Lies r b → SpellsLeg r b
@@ -87,35 +90,20 @@ spells r b fits at =
     let s = spread_parts r.columns fits.columns.len in
     let same : SameOwn (spread r.columns) b = record { service = sym s.service ∙ sym at.service; middle = sym s.middle ∙ sym at.middle; tail = sym s.tail ∙ sym at.tail } in
     let own = own_moves (spread r.columns) b same fits.columns.stands in
-    let rest : EachStands b behind_middle =
+    let rest : EachIsValid b behind_middle =
     (ap (fault_in Carried) at.overflow ∙ rw (is_true (is_carried r.overflow) fits.overflow) refl, ((rest_stands b middle_table (field 129 194 Carried ∷ []) own.1).0, (stands_as (digits_of (columns 195 200 b)) r.serial serial, tt))) in
     let n = name_stands r.name b fits.name name in
     record {
       kind = at.kind;
-      stands = (
-        n.0,
+      stands = both_stand b name_table beside_name n (
+        own.0,
         (
-          n.1.0,
+          dates_stand b r.first r.last first last,
           (
-            n.1.1.0,
+            stands_as (days_of (columns 29 35 b)) r.days days,
             (
-              n.1.1.1.0,
-              (
-                n.1.1.1.1.0,
-                (
-                  own.0,
-                  (
-                    dates_stand b r.first r.last first last,
-                    (
-                      stands_as (days_of (columns 29 35 b)) r.days days,
-                      (
-                        ap (fault_in Carried) at.rate ∙ rw (is_true (is_carried r.rate) fits.rate) refl,
-                        both_stand b middle_table behind_middle (front_stands b middle_table (field 129 194 Carried ∷ []) own.1) rest,
-                      ),
-                    ),
-                  ),
-                ),
-              ),
+              ap (fault_in Carried) at.rate ∙ rw (is_true (is_carried r.rate) fits.rate) refl,
+              both_stand b middle_table behind_middle (front_stands b middle_table (field 129 194 Carried ∷ []) own.1) rest,
             ),
           ),
         ),

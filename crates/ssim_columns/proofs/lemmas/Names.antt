@@ -10,7 +10,7 @@ use Rattle.ssim_values.specs.Airline.{is_airline}
 use Rattle.ssim_values.specs.Flight.{is_suffix}
 use Rattle.ssim_columns.specs.declared.field.Kind.TheVariants.{Suffix, AirlineCode}
 use Rattle.ssim_columns.specs.Numbers.{digits_of, from_one, number_of, sequence_of, digits}
-use Rattle.ssim_columns.specs.Columns.{columns, fault_in, EachStands}
+use Rattle.ssim_columns.specs.Columns.{columns, fault_in, EachIsValid}
 use Rattle.ssim_columns.specs.Heads.{HasDigits}
 use Rattle.ssim_columns.specs.Leg.{Name, SpellsName, IsName, name_table}
 use Rattle.ssim_columns.proofs.lemmas.Choices.{pick}
@@ -101,7 +101,7 @@ name_digits n b fits at =
       sequence = digits_are_some (columns 12 13 b) 1 n.sequence fits.sequence_to at.sequence;
     }
 
-pub name_stands : (n : Name) (b : List ℕ) → IsName n → SpellsName n b → EachStands b name_table
+pub name_stands : (n : Name) (b : List ℕ) → IsName n → SpellsName n b → EachIsValid b name_table
 name_stands n b fits s = (
   ap (fault_in Suffix) s.suffix ∙ rw (is_true (is_suffix n.flight.suffix) fits.flight.suffixed) refl,
   (

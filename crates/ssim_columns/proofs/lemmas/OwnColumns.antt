@@ -4,7 +4,7 @@ use Rattle.std.specs.Prelude.{slice_range, replicate}
 use Rattle.std.proofs.lemmas.List.{length-append}
 use Rattle.ssim_columns.specs.declared.field.Field.{Field}
 use Rattle.ssim_columns.specs.declared.field.Kind.TheVariants.{Carried, Digits}
-use Rattle.ssim_columns.specs.Columns.{field, columns, EachStands}
+use Rattle.ssim_columns.specs.Columns.{field, columns, EachIsValid}
 use Rattle.ssim_columns.specs.Leg.{leg_table, middle_table, own_table, own_columns, spread, leg_columns, AreLegColumns}
 use Rattle.ssim_columns.proofs.lemmas.Slices.{length_slice, slice_in}
 use Rattle.ssim_columns.proofs.lemmas.Places.{all_placed}
@@ -22,7 +22,7 @@ pub record SameOwn (x y : List ℕ) : Type 0 where
 abbrev tail_table : List Field
 tail_table = field 129 194 Carried ∷ []
 
-pub own_moves : (x y : List ℕ) → SameOwn x y → EachStands x own_table → EachStands y own_table
+pub own_moves : (x y : List ℕ) → SameOwn x y → EachIsValid x own_table → EachIsValid y own_table
 own_moves x y same h =
     let service = rows_move x y 13 14 (field 14 14 Carried ∷ []) same.service (lit< tt, lit≤ tt, lit≤ tt, tt) (h.0, tt) in
     let middle = rows_move x y 36 127 middle_table same.middle middle_lies (front_stands x middle_table tail_table h.1) in
@@ -62,13 +62,13 @@ abbrev behind_middle : List Field
 behind_middle = field 128 128 Carried ∷ field 129 194 Carried ∷ field 195 200 Digits ∷ []
 
 -- a record's leg columns are copied out of the record
-pub are_leg_columns : (b : List ℕ) → length b ≡ 200 → EachStands b leg_table → AreLegColumns (own_columns b)
+pub are_leg_columns : (b : List ℕ) → length b ≡ 200 → EachIsValid b leg_table → AreLegColumns (own_columns b)
 are_leg_columns b len h =
     let s = spread_parts (own_columns b) (length_own b len) in
     let d = own_parts b len in
     let same : SameOwn b (spread (own_columns b)) = record { service = sym d.service ∙ s.service; middle = sym d.middle ∙ s.middle; tail = sym d.tail ∙ s.tail } in
     let rest = h.1.1.1.1.1.1.1.1.1 in
-    let stands : EachStands b own_table = (h.1.1.1.1.1.0, both_stand b middle_table tail_table (front_stands b middle_table behind_middle rest) ((rest_stands b middle_table behind_middle rest).1.0, tt)) in
+    let stands : EachIsValid b own_table = (h.1.1.1.1.1.0, both_stand b middle_table tail_table (front_stands b middle_table behind_middle rest) ((rest_stands b middle_table behind_middle rest).1.0, tt)) in
     record { len = length_own b len; stands = own_moves b (spread (own_columns b)) same stands }
 
 -- ---- columns of a leg, in its bytes

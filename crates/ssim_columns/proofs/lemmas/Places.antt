@@ -1,6 +1,6 @@
 -- Parts one after another, each at its position.
 use Rattle.std.proofs.Common.{◌≡◌, ℕ, ◌+◌, ◌-◌, List, [], ◌∷◌, ◌++◌, length, take, drop, Option, Some, None, refl, sym, ap, ◌∙◌, append_assoc, arith}
-use Rattle.std.specs.Prelude.{slice_range}
+use Rattle.std.specs.Prelude.{slice_range, IsSome}
 use Rattle.std.specs.List.{concat, AllZip}
 use Rattle.std.proofs.lemmas.List.{take_at, drop_at, drop_all, drop-drop, drop-take, length-append, take-append-drop}
 use Rattle.std.proofs.lemmas.List.Folds.{concat-append}
@@ -74,20 +74,30 @@ first_day_in b = slice_in b 14 28 0 7 (omega arith) (omega arith)
 pub last_day_in : (b : List ℕ) → drop 7 (slice_range b 14 28) ≡ slice_range b 21 28
 last_day_in b = drop-take 7 7 (drop 14 b) ∙ ap (take 7) (drop-drop 7 14 b)
 
-pub no_first_day : (b : List ℕ) → fault_in Dates (columns 15 28 b) ≡ None → day_of (columns 15 21 b) ≡ None → ⊥
+no_first_day : (b : List ℕ) → fault_in Dates (columns 15 28 b) ≡ None → day_of (columns 15 21 b) ≡ None → ⊥
 unfolding dates_fault
 no_first_day b s h =
     let e : day_of (take 7 (slice_range b 14 28)) ≡ None = ap day_of (first_day_in b) ∙ h in
     let t = rw e at s in
     cc
 
-pub no_last_day : (b : List ℕ) (start : ℕ) → fault_in Dates (columns 15 28 b) ≡ None → day_of (columns 15 21 b) ≡ Some start → end_from (Some start) (columns 22 28 b) ≡ None → ⊥
+no_last_day : (b : List ℕ) (start : ℕ) → fault_in Dates (columns 15 28 b) ≡ None → day_of (columns 15 21 b) ≡ Some start → end_from (Some start) (columns 22 28 b) ≡ None → ⊥
 unfolding dates_fault
 no_last_day b start s p h =
     let e : day_of (take 7 (slice_range b 14 28)) ≡ Some start = ap day_of (first_day_in b) ∙ p in
     let f : end_from (Some start) (drop 7 (slice_range b 14 28)) ≡ None = ap (end_from (Some start)) (last_day_in b) ∙ h in
     let t = rw (e, f) at s in
     cc
+
+is_some_by : {A : Type 0} (o : Option A) → (o ≡ None → ⊥) → IsSome o
+is_some_by None h = absurd (h refl)
+is_some_by (Some x) h = refl
+
+pub is_first_day : (b : List ℕ) → fault_in Dates (columns 15 28 b) ≡ None → IsSome (day_of (columns 15 21 b))
+is_first_day b s = is_some_by (day_of (columns 15 21 b)) (no_first_day b s)
+
+pub is_last_day : (b : List ℕ) (start : ℕ) → fault_in Dates (columns 15 28 b) ≡ None → day_of (columns 15 21 b) ≡ Some start → IsSome (end_from (Some start) (columns 22 28 b))
+is_last_day b start s p = is_some_by (end_from (Some start) (columns 22 28 b)) (no_last_day b start s p)
 
 pub dates_stand : (b : List ℕ) (start : ℕ) (o : Option ℕ) → day_of (columns 15 21 b) ≡ Some start → end_from (Some start) (columns 22 28 b) ≡ Some o → fault_in Dates (columns 15 28 b) ≡ None
 unfolding dates_fault

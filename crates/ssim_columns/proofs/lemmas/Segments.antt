@@ -3,11 +3,12 @@ use Rattle.std.proofs.Common.{◌≡◌, ℕ, Bool, ◌&&◌, ◌+◌, ◌-◌, 
 use Rattle.std.specs.Prelude.{slice_range, codes, IsTrue, replicate, ◌==◌}
 use Rattle.std.specs.List.{list_all, AllZip}
 use Rattle.std.proofs.lemmas.List.{take-append-drop, append-nil, length-drop, length-append}
-use Rattle.ssim_columns.specs.declared.field.Kind.TheVariants.{Carried}
+use Rattle.ssim_columns.specs.declared.field.Kind.TheVariants.{Carried, Digits}
 use Rattle.ssim_columns.specs.Numbers.{digits_of, digits}
-use Rattle.ssim_columns.specs.Columns.{columns, fault_in, is_carried, EachStands}
+use Rattle.ssim_columns.specs.Columns.{columns, field, fault_in, is_carried, EachIsValid}
 use Rattle.ssim_columns.specs.Heads.{HasDigits}
-use Rattle.ssim_columns.specs.Leg.{Name}
+use Rattle.ssim_columns.specs.Leg.{Name, name_table}
+use Rattle.ssim_columns.specs.declared.field.Field.{Field}
 use Rattle.ssim_columns.specs.Segment.{SegmentFields, IsSegment, IsTail, SpellsSegment, segment_table, segment_texts, tail_of, spread_tail, tail_columns, written_segment}
 use Rattle.std.specs.Bool.{Decides}
 use Rattle.std.specs.Str.{bytes_eq}
@@ -18,7 +19,7 @@ use Rattle.ssim_columns.proofs.lemmas.Numbers.{digits_of-digits, digits_of-writt
 use Rattle.ssim_columns.proofs.lemmas.OwnColumns.{moved}
 use Rattle.ssim_columns.proofs.lemmas.Overwriting.{slice_cut}
 use Rattle.ssim_columns.proofs.lemmas.Places.{all_placed, length_concat, placed_whole}
-use Rattle.ssim_columns.proofs.lemmas.Rows.{is_true, all_carried, none_other, both_true, stands_as}
+use Rattle.ssim_columns.proofs.lemmas.Rows.{both_stand, is_true, all_carried, none_other, both_true, stands_as}
 use Rattle.ssim_columns.proofs.lemmas.Slices.{length_slice}
 
 segment_of : Name → ℕ → List ℕ → ℕ → ℕ → SegmentFields
@@ -70,7 +71,7 @@ tail_parts d h =
     let all : IsTrue (list_all is_carried (slice_range d 0 13 ++ slice_range d 13 179)) = subst (λ (t : List ℕ). IsTrue (list_all is_carried t)) (sym (whole_tail d h.len)) h.carried in
     both_carried (slice_range d 0 13) (slice_range d 13 179) all
 
-pub is_tail : (b : List ℕ) → length b ≡ 200 → EachStands b segment_table → IsTail (tail_of b)
+pub is_tail : (b : List ℕ) → length b ≡ 200 → EachIsValid b segment_table → IsTail (tail_of b)
 is_tail b len h =
     let one = length_slice b 14 27 (lit≤ tt) (omega arith) in
     let two = length_slice b 28 194 (lit≤ tt) (omega arith) in
@@ -131,6 +132,9 @@ lies r fits =
     let name : NameLies r.name (written_segment r) = record { suffix = p.1.0; airline = p.1.1.0; number = p.1.1.1.0; variation = p.1.1.1.1.0; sequence = p.1.1.1.1.1.0 } in
     record { kind = p.0; name = name; service = p.1.1.1.1.1.1.0; front = p.1.1.1.1.1.1.1.0; overflow = p.1.1.1.1.1.1.1.1.0; back = p.1.1.1.1.1.1.1.1.1.0; serial = p.1.1.1.1.1.1.1.1.1.1.0 }
 
+abbrev beside_name : List Field
+beside_name = field 14 14 Carried ∷ field 15 27 Carried ∷ field 28 28 Carried ∷ field 29 194 Carried ∷ field 195 200 Digits ∷ []
+
 spells : (r : SegmentFields) (b : List ℕ) → IsSegment r → Lies r b → SpellsSegment r b
 spells r b fits at =
     let name = spells_name r.name b fits.name at.name in
@@ -139,30 +143,15 @@ spells r b fits at =
     let n = name_stands r.name b fits.name name in
     record {
       kind = at.kind;
-      stands = (
-        n.0,
+      stands = both_stand b name_table beside_name n (
+        ap (fault_in Carried) at.service ∙ rw (is_true (is_carried r.service) fits.service) refl,
         (
-          n.1.0,
+          ap (fault_in Carried) at.front ∙ none_other 0 (slice_range r.tail 0 13) parts.0,
           (
-            n.1.1.0,
+            ap (fault_in Carried) at.overflow ∙ rw (is_true (is_carried r.overflow) fits.overflow) refl,
             (
-              n.1.1.1.0,
-              (
-                n.1.1.1.1.0,
-                (
-                  ap (fault_in Carried) at.service ∙ rw (is_true (is_carried r.service) fits.service) refl,
-                  (
-                    ap (fault_in Carried) at.front ∙ none_other 0 (slice_range r.tail 0 13) parts.0,
-                    (
-                      ap (fault_in Carried) at.overflow ∙ rw (is_true (is_carried r.overflow) fits.overflow) refl,
-                      (
-                        ap (fault_in Carried) at.back ∙ none_other 0 (slice_range r.tail 13 179) parts.1,
-                        (stands_as (digits_of (columns 195 200 b)) r.serial serial, tt),
-                      ),
-                    ),
-                  ),
-                ),
-              ),
+              ap (fault_in Carried) at.back ∙ none_other 0 (slice_range r.tail 13 179) parts.1,
+              (stands_as (digits_of (columns 195 200 b)) r.serial serial, tt),
             ),
           ),
         ),

@@ -4,39 +4,24 @@ ghost use Rattle.std.specs.Prelude.{◌≡◌, ◌<◌, ◌+◌, ◌^◌, ◌∷
 ghost use Rattle.std.specs.Str.{bytes_eq};
 ghost use Rattle.ssim_values.specs.Clock.{clock_of};
 ghost use Rattle.ssim_columns.specs.declared.field.Kind.TheVariants.{StationCode, Time, PassengerTime, UtcVariation};
-ghost use Rattle.ssim_columns.specs.Columns.{fault_in, is_carried, passenger_time_of, utc_variation_of, first_fault, EachStands};
+ghost use Rattle.ssim_columns.specs.Columns.{fault_in, is_carried, passenger_time_of, utc_variation_of, first_fault, EachIsValid};
 ghost use Rattle.ssim_columns.specs.Leg.{AreLegColumns, four_bytes, is_own, leg_columns, leg_table, own_table, own_columns, quick_hash, spread, three_bytes};
 ghost use Rattle.ssim_columns.specs.LegParts.{ChangesEquipment, ChangesTimes, equipment_fields, new_leg, with_equipment, with_times};
 
-use crate::field::{Field, clock_of, first_fault, passenger_time_of, utc_variation_of};
+use crate::field::{Field, clock_of, first_fault_of, passenger_time_of, utc_variation_of};
 use crate::leg::leg_fields::{
-    AFTER_ARRIVAL, AFTER_OVERFLOW, AIRCRAFT_ARRIVAL, AIRCRAFT_DEPARTURE, AIRCRAFT_TYPE,
-    ARRIVAL_STATION, ARRIVAL_TERMINAL, ARRIVAL_VARIATION, BEFORE_MIDDLE, BEFORE_TAIL,
-    BOOKING_DESIGNATORS, COLUMNS_96_TO_127, COLUMNS_129_TO_172, CONFIGURATION, DATE_VARIATIONS,
-    DEPARTURE_STATION, DEPARTURE_TERMINAL, DEPARTURE_VARIATION, MIDDLE, PASSENGER_ARRIVAL,
+    AFTER_OVERFLOW, AIRCRAFT_ARRIVAL, AIRCRAFT_DEPARTURE, AIRCRAFT_TYPE, ARRIVAL_STATION,
+    ARRIVAL_TERMINAL, ARRIVAL_VARIATION, BEFORE_MIDDLE, BEFORE_TAIL, BOOKING_DESIGNATORS,
+    COLUMNS_96_TO_127, COLUMNS_129_TO_172, CONFIGURATION, DATE_VARIATIONS, DEPARTURE_STATION,
+    DEPARTURE_TERMINAL, DEPARTURE_VARIATION, MIDDLE, MIDDLE_FIELDS, PASSENGER_ARRIVAL,
     PASSENGER_DEPARTURE, SERVICE_TYPE,
 };
 use crate::leg::leg_parts::{LegEquipment, LegStations, LegTimes};
-use crate::text::array::{bytes_of, three, twenty, two};
+use crate::text::array::bytes_of;
 use crate::text::equality::are_same_texts;
 use crate::text::overwriting::{append, join};
 use ssim_values::{Clock, Station, Variation};
 use std::marker::Model;
-
-const TABLE: [Field; 12] = [
-    SERVICE_TYPE,
-    DEPARTURE_STATION,
-    PASSENGER_DEPARTURE,
-    AIRCRAFT_DEPARTURE,
-    DEPARTURE_VARIATION,
-    DEPARTURE_TERMINAL,
-    ARRIVAL_STATION,
-    AIRCRAFT_ARRIVAL,
-    PASSENGER_ARRIVAL,
-    ARRIVAL_VARIATION,
-    AFTER_ARRIVAL,
-    AFTER_OVERFLOW,
-];
 
 /// The columns of a leg itself: the bytes of columns 14, 37 to 127 and 129 to 194 of its record,
 /// all of them valid. The readers are named by the columns of the record. Times are local or UTC as
@@ -81,7 +66,10 @@ fn spread(own: &[u8; 158]) -> [u8; 200]
 fn own_fault(own: &[u8; 158]) -> Option<usize>
     ensures { result ≡ first_fault (spread own.now) own_table }
 {
-    first_fault(&TABLE, &spread(own))
+    first_fault_of(
+        &[&[SERVICE_TYPE], &MIDDLE_FIELDS, &[AFTER_OVERFLOW]],
+        &spread(own),
+    )
 }
 
 // Writes the leg's own columns of a record, each part in whole words.
@@ -95,7 +83,7 @@ fn put_own(out: &mut [u8; 158], bytes: &[u8; 200])
 
 /// The leg's own columns of a record.
 pub fn own_columns_at(bytes: &[u8; 200]) -> LegColumns
-    requires { EachStands bytes.now leg_table }
+    requires { EachIsValid bytes.now leg_table }
     ensures value { own_columns bytes.now ≡ result }
     ensures stands { AreLegColumns result }
 {
@@ -109,7 +97,7 @@ fn station_of(text: &[u8]) -> Station
     requires stands { fault_in StationCode text.now ≡ None }
     ensures { result ≡ text.now }
 {
-    match Station::parse(&three(text)) {
+    match Station::parse(&bytes_of::<3>(text)) {
         Ok(station) => station,
         Err(_) => unreachable!(),
     }
@@ -120,10 +108,7 @@ fn time_of(text: &[u8]) -> Clock
     requires stands { fault_in Time text.now ≡ None }
     ensures { clock_of text.now ≡ Some result }
 {
-    match clock_of(text) {
-        Some(time) => time,
-        None => unreachable!(),
-    }
+    clock_of(text).unwrap()
 }
 
 fn time_or_blank(text: &[u8]) -> Option<Clock>
@@ -131,10 +116,7 @@ fn time_or_blank(text: &[u8]) -> Option<Clock>
     requires stands { fault_in PassengerTime text.now ≡ None }
     ensures { passenger_time_of text.now ≡ Some result }
 {
-    match passenger_time_of(text) {
-        Some(time) => time,
-        None => unreachable!(),
-    }
+    passenger_time_of(text).unwrap()
 }
 
 fn variation_or_blank(text: &[u8]) -> Option<Variation>
@@ -142,10 +124,7 @@ fn variation_or_blank(text: &[u8]) -> Option<Variation>
     requires stands { fault_in UtcVariation text.now ≡ None }
     ensures { utc_variation_of text.now ≡ Some result }
 {
-    match utc_variation_of(text) {
-        Some(variation) => variation,
-        None => unreachable!(),
-    }
+    utc_variation_of(text).unwrap()
 }
 
 // The number that three bytes spell, the first as its highest digit.
@@ -230,7 +209,7 @@ impl LegColumns {
 
     /// The leg's own columns of a record, over those before.
     pub fn put(&mut self, bytes: &[u8; 200])
-        requires { EachStands bytes.now leg_table }
+        requires { EachIsValid bytes.now leg_table }
         ensures value { own_columns bytes.now ≡ self.new }
         ensures stands { AreLegColumns self.new }
     {
@@ -314,7 +293,7 @@ impl LegColumns {
     pub fn departure_terminal(&self) -> [u8; 2]
         ensures { result ≡ leg_columns 53 54 self.now }
     {
-        two(self.text(DEPARTURE_TERMINAL))
+        bytes_of::<2>(self.text(DEPARTURE_TERMINAL))
     }
 
     /// Columns 55 to 57: the arrival station.
@@ -349,21 +328,21 @@ impl LegColumns {
     pub fn arrival_terminal(&self) -> [u8; 2]
         ensures { result ≡ leg_columns 71 72 self.now }
     {
-        two(self.text(ARRIVAL_TERMINAL))
+        bytes_of::<2>(self.text(ARRIVAL_TERMINAL))
     }
 
     /// Columns 73 to 75: the aircraft type.
     pub fn aircraft_type(&self) -> [u8; 3]
         ensures { result ≡ leg_columns 73 75 self.now }
     {
-        three(self.text(AIRCRAFT_TYPE))
+        bytes_of::<3>(self.text(AIRCRAFT_TYPE))
     }
 
     /// Columns 76 to 95: the booking designators (PRBD).
     pub fn booking_designators(&self) -> [u8; 20]
         ensures { result ≡ leg_columns 76 95 self.now }
     {
-        twenty(self.text(BOOKING_DESIGNATORS))
+        bytes_of::<20>(self.text(BOOKING_DESIGNATORS))
     }
 
     /// Columns 96 to 127, carried.
@@ -388,13 +367,13 @@ impl LegColumns {
     pub fn configuration(&self) -> [u8; 20]
         ensures { result ≡ leg_columns 173 192 self.now }
     {
-        twenty(self.text(CONFIGURATION))
+        bytes_of::<20>(self.text(CONFIGURATION))
     }
 
     /// Columns 193 and 194: the date variations of departure and arrival.
     pub fn date_variations(&self) -> [u8; 2]
         ensures { result ≡ leg_columns 193 194 self.now }
     {
-        two(self.text(DATE_VARIATIONS))
+        bytes_of::<2>(self.text(DATE_VARIATIONS))
     }
 }

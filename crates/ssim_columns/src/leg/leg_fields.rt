@@ -73,3 +73,28 @@ pub(crate) const MIDDLE: Field = field!(37 127 Carried);
 pub(crate) const BEFORE_MIDDLE: usize = 36;
 /// A column from 129 to 194 is this many bytes after its place in a leg's own columns.
 pub(crate) const BEFORE_TAIL: usize = 37;
+
+// ---- tables
+
+/// The fields of a leg's name, in records of types 3 and 4.
+pub(crate) const NAME_FIELDS: [Field; 5] = [
+    SUFFIX,
+    AIRLINE,
+    FLIGHT_NUMBER,
+    ITINERARY_VARIATION,
+    LEG_SEQUENCE,
+];
+
+/// The fields of columns 37 to 127.
+pub(crate) const MIDDLE_FIELDS: [Field; 10] = [
+    DEPARTURE_STATION,
+    PASSENGER_DEPARTURE,
+    AIRCRAFT_DEPARTURE,
+    DEPARTURE_VARIATION,
+    DEPARTURE_TERMINAL,
+    ARRIVAL_STATION,
+    AIRCRAFT_ARRIVAL,
+    PASSENGER_ARRIVAL,
+    ARRIVAL_VARIATION,
+    AFTER_ARRIVAL,
+];

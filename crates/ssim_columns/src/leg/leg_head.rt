@@ -1,52 +1,32 @@
 //! The columns of a flight leg record that are parsed: its name, its dates and its serial.
 
 ghost use Rattle.std.specs.Prelude.{◌≡◌, Some, IfOk, IfErr, IfSome};
-ghost use Rattle.ssim_columns.specs.Columns.{first_fault, EachStands};
+ghost use Rattle.ssim_columns.specs.Columns.{first_fault, EachIsValid};
 ghost use Rattle.ssim_columns.specs.Leg.{leg_table};
 ghost use Rattle.ssim_columns.specs.Heads.{IsLegHead};
 
 use crate::field::columns::{days_at, first_day_at, last_day_at, serial_at};
-use crate::field::{Field, first_fault, middle_is_carried};
+use crate::field::{first_fault_of, middle_is_carried};
 use crate::latest_columns::LatestColumns;
 use crate::leg::leg_fields::{
-    AFTER_ARRIVAL, AFTER_OVERFLOW, AIRCRAFT_ARRIVAL, AIRCRAFT_DEPARTURE, AIRLINE, ARRIVAL_STATION,
-    ARRIVAL_VARIATION, DATES, DAYS, DEPARTURE_STATION, DEPARTURE_TERMINAL, DEPARTURE_VARIATION,
-    FLIGHT_NUMBER, ITINERARY_VARIATION, LEG_SEQUENCE, OVERFLOW, PASSENGER_ARRIVAL,
-    PASSENGER_DEPARTURE, RATE, SERIAL, SERVICE_TYPE, SUFFIX,
+    AFTER_OVERFLOW, DATES, DAYS, MIDDLE_FIELDS, NAME_FIELDS, OVERFLOW, RATE, SERIAL, SERVICE_TYPE,
 };
 use crate::leg::leg_name::{LegName, name_at};
 use crate::leg::leg_points::{arrival_is_valid, departure_is_valid};
 use ssim_values::{Day, DayMask};
 
-const TABLE: [Field; 22] = [
-    SUFFIX,
-    AIRLINE,
-    FLIGHT_NUMBER,
-    ITINERARY_VARIATION,
-    LEG_SEQUENCE,
-    SERVICE_TYPE,
-    DATES,
-    DAYS,
-    RATE,
-    DEPARTURE_STATION,
-    PASSENGER_DEPARTURE,
-    AIRCRAFT_DEPARTURE,
-    DEPARTURE_VARIATION,
-    DEPARTURE_TERMINAL,
-    ARRIVAL_STATION,
-    AIRCRAFT_ARRIVAL,
-    PASSENGER_ARRIVAL,
-    ARRIVAL_VARIATION,
-    AFTER_ARRIVAL,
-    OVERFLOW,
-    AFTER_OVERFLOW,
-    SERIAL,
-];
-
 fn leg_fault(bytes: &[u8; 200]) -> Option<usize>
     ensures { result ≡ first_fault bytes.now leg_table }
 {
-    first_fault(&TABLE, bytes)
+    first_fault_of(
+        &[
+            &NAME_FIELDS,
+            &[SERVICE_TYPE, DATES, DAYS, RATE],
+            &MIDDLE_FIELDS,
+            &[OVERFLOW, AFTER_OVERFLOW, SERIAL],
+        ],
+        bytes,
+    )
 }
 
 /// The columns of a flight leg record that are parsed. The others are copied.
@@ -65,7 +45,7 @@ pub struct LegHead {
 }
 
 fn head_of(bytes: &[u8; 200]) -> LegHead
-    requires { EachStands bytes.now leg_table }
+    requires { EachIsValid bytes.now leg_table }
     ensures { IsLegHead result bytes.now }
 {
     let first = first_day_at(bytes);

@@ -1,13 +1,13 @@
 //! The name of a leg in a record of type 3 or 4.
 
 ghost use Rattle.std.specs.Prelude.{◌≡◌, ◌<◌, IsSome, IfSome, length};
-ghost use Rattle.ssim_columns.specs.Columns.{EachStands};
+ghost use Rattle.ssim_columns.specs.Columns.{EachIsValid};
 ghost use Rattle.ssim_columns.specs.internal.LatestColumns.{SpellsFlight, SpellsFlightLeg};
 ghost use Rattle.ssim_columns.specs.Leg.{Name, IsName, SpellsName, name_table};
 
 use crate::field::columns::{airline_at, number_at, sequence_at, suffix_at};
 use crate::leg::leg_fields::{AIRLINE, FLIGHT_NUMBER, ITINERARY_VARIATION, LEG_SEQUENCE, SUFFIX};
-use crate::text::array::three;
+use crate::text::array::bytes_of;
 use crate::text::number::{number_of, sequence_of};
 use ssim_values::{Airline, Flight};
 use std::marker::Model;
@@ -38,7 +38,7 @@ impl Model for LegName {
 
 /// The name in columns 2 to 13.
 pub(crate) fn name_at(bytes: &[u8; 200]) -> LegName
-    requires { EachStands bytes.now name_table }
+    requires { EachIsValid bytes.now name_table }
     ensures spells { SpellsName result bytes.now }
     ensures is_name { IsName result }
 {
@@ -115,7 +115,7 @@ fn airline_of(text: &[u8]) -> Option<Airline>
     requires { length text.now ≡ 3 }
     ensures { IfSome result (λ airline. airline ≡ text.now) }
 {
-    match Airline::parse(&three(text)) {
+    match Airline::parse(&bytes_of::<3>(text)) {
         Ok(airline) => Some(airline),
         Err(_) => None,
     }

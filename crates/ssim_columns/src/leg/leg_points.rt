@@ -60,7 +60,7 @@ fn is_passenger_time(text: &[u8], aircraft_time: &[u8]) -> bool
 
 /// Whether columns 37 to 52 of a leg are valid: its departure.
 #[tactic(auto, unfolding(crate::specs::internal::LegPoints::departure_is_valid))]
-pub fn departure_is_valid(bytes: &[u8; 200]) -> bool
+pub(crate) fn departure_is_valid(bytes: &[u8; 200]) -> bool
     ensures { result ≡ departure_is_valid bytes.now }
 {
     if !is_station(DEPARTURE_STATION.text(bytes)) {
@@ -80,7 +80,7 @@ pub fn departure_is_valid(bytes: &[u8; 200]) -> bool
 
 /// Whether columns 55 to 70 of a leg are valid: its arrival.
 #[tactic(auto, unfolding(crate::specs::internal::LegPoints::arrival_is_valid))]
-pub fn arrival_is_valid(bytes: &[u8; 200]) -> bool
+pub(crate) fn arrival_is_valid(bytes: &[u8; 200]) -> bool
     ensures { result ≡ arrival_is_valid bytes.now }
 {
     if !is_station(ARRIVAL_STATION.text(bytes)) {

@@ -1,35 +1,32 @@
 //! The columns of a segment data record that are parsed: its name and its serial.
 
 ghost use Rattle.std.specs.Prelude.{◌≡◌, Some, IfOk, IfErr, IfSome};
-ghost use Rattle.ssim_columns.specs.Columns.{first_fault, EachStands};
+ghost use Rattle.ssim_columns.specs.Columns.{first_fault, EachIsValid};
 ghost use Rattle.ssim_columns.specs.Segment.{segment_table};
 ghost use Rattle.ssim_columns.specs.Heads.{IsSegmentHead};
 
 use crate::field::columns::serial_at;
-use crate::field::{Field, Kind, first_fault, middle_is_carried};
+use crate::field::{Field, Kind, first_fault_of, middle_is_carried};
 use crate::latest_columns::LatestColumns;
-use crate::leg::leg_fields::{
-    AIRLINE, FLIGHT_NUMBER, ITINERARY_VARIATION, LEG_SEQUENCE, SERIAL, SERVICE_TYPE, SUFFIX,
-};
+use crate::leg::leg_fields::{NAME_FIELDS, SERIAL, SERVICE_TYPE};
 use crate::leg::leg_name::{LegName, name_at};
-
-const TABLE: [Field; 10] = [
-    SUFFIX,
-    AIRLINE,
-    FLIGHT_NUMBER,
-    ITINERARY_VARIATION,
-    LEG_SEQUENCE,
-    SERVICE_TYPE,
-    field!(15 27 Carried),
-    field!(28 28 Carried),
-    field!(29 194 Carried),
-    SERIAL,
-];
 
 fn segment_fault(bytes: &[u8; 200]) -> Option<usize>
     ensures { result ≡ first_fault bytes.now segment_table }
 {
-    first_fault(&TABLE, bytes)
+    first_fault_of(
+        &[
+            &NAME_FIELDS,
+            &[
+                SERVICE_TYPE,
+                field!(15 27 Carried),
+                field!(28 28 Carried),
+                field!(29 194 Carried),
+                SERIAL,
+            ],
+        ],
+        bytes,
+    )
 }
 
 /// The columns of a segment data record that are parsed. The others are copied.
@@ -42,7 +39,7 @@ pub struct SegmentHead {
 }
 
 fn head_of(bytes: &[u8; 200]) -> SegmentHead
-    requires { EachStands bytes.now segment_table }
+    requires { EachIsValid bytes.now segment_table }
     ensures { IsSegmentHead result bytes.now }
 {
     SegmentHead {

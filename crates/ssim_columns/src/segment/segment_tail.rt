@@ -2,11 +2,11 @@
 
 ghost use Rattle.std.specs.Prelude.{◌≡◌, ◌≤◌, ◌+◌, ◌↔◌, length, replicate, IsSome, IfSome};
 ghost use Rattle.std.specs.Str.{bytes_eq};
-ghost use Rattle.ssim_columns.specs.Columns.{EachStands};
+ghost use Rattle.ssim_columns.specs.Columns.{EachIsValid};
 ghost use Rattle.ssim_columns.specs.Segment.{IsTail, tail_of, tail_columns, new_tail, segment_table};
 
 use crate::field::are_carried;
-use crate::text::array::{bytes_of, three, two};
+use crate::text::array::bytes_of;
 use crate::text::equality::are_same_texts;
 use crate::text::number::three_digits;
 use crate::text::overwriting::{append, put, put_filled};
@@ -116,7 +116,7 @@ impl SegmentTail {
 
     /// The tail in a record, over the one before.
     pub fn put(&mut self, bytes: &[u8; 200])
-        requires { EachStands bytes.now segment_table }
+        requires { EachIsValid bytes.now segment_table }
         ensures value { tail_of bytes.now ≡ self.new }
         ensures is_tail { IsTail self.new }
     {
@@ -134,45 +134,41 @@ impl SegmentTail {
     pub fn columns_15_to_27(&self) -> [u8; 13]
         ensures { result ≡ tail_columns 15 27 self.now }
     {
-        let mut bytes = [0; 13];
-        bytes.copy_from_slice(&self.bytes[0..13]);
-        bytes
+        bytes_of::<13>(&self.bytes[0..13])
     }
 
     /// Columns 29 and 30: the indicators of board and off point.
     pub fn point_indicators(&self) -> [u8; 2]
         ensures { result ≡ tail_columns 29 30 self.now }
     {
-        two(part(&self.bytes, 29, 30))
+        bytes_of::<2>(part(&self.bytes, 29, 30))
     }
 
     /// Columns 31 to 33: the data element identifier.
     pub fn data_element_identifier(&self) -> [u8; 3]
         ensures { result ≡ tail_columns 31 33 self.now }
     {
-        three(part(&self.bytes, 31, 33))
+        bytes_of::<3>(part(&self.bytes, 31, 33))
     }
 
     /// Columns 34 to 36: the board point.
     pub fn board_point(&self) -> [u8; 3]
         ensures { result ≡ tail_columns 34 36 self.now }
     {
-        three(part(&self.bytes, 34, 36))
+        bytes_of::<3>(part(&self.bytes, 34, 36))
     }
 
     /// Columns 37 to 39: the off point.
     pub fn off_point(&self) -> [u8; 3]
         ensures { result ≡ tail_columns 37 39 self.now }
     {
-        three(part(&self.bytes, 37, 39))
+        bytes_of::<3>(part(&self.bytes, 37, 39))
     }
 
     /// Columns 40 to 194: the data.
     pub fn data(&self) -> [u8; 155]
         ensures { result ≡ tail_columns 40 194 self.now }
     {
-        let mut bytes = [0; 155];
-        bytes.copy_from_slice(part(&self.bytes, 40, 194));
-        bytes
+        bytes_of::<155>(part(&self.bytes, 40, 194))
     }
 }

@@ -13,42 +13,7 @@ pub fn bytes_of<const N: usize>(text: &[u8]) -> [u8; N]
     bytes
 }
 
-pub fn two(text: &[u8]) -> [u8; 2]
-    requires { length text.now ≡ 2 }
-    ensures { result ≡ text.now }
-{
-    let mut bytes = [0; 2];
-    bytes.copy_from_slice(text);
-    bytes
-}
-
-pub fn three(text: &[u8]) -> [u8; 3]
-    requires { length text.now ≡ 3 }
-    ensures { result ≡ text.now }
-{
-    let mut bytes = [0; 3];
-    bytes.copy_from_slice(text);
-    bytes
-}
-
-pub fn four(text: &[u8]) -> [u8; 4]
-    requires { length text.now ≡ 4 }
-    ensures { result ≡ text.now }
-{
-    let mut bytes = [0; 4];
-    bytes.copy_from_slice(text);
-    bytes
-}
-
-pub fn five(text: &[u8]) -> [u8; 5]
-    requires { length text.now ≡ 5 }
-    ensures { result ≡ text.now }
-{
-    let mut bytes = [0; 5];
-    bytes.copy_from_slice(text);
-    bytes
-}
-
+/// Seven bytes by value. They are taken one by one, which is faster than a copy of seven.
 pub fn seven(text: &[u8]) -> [u8; 7]
     requires { length text.now ≡ 7 }
     ensures { result ≡ text.now }
@@ -57,22 +22,4 @@ pub fn seven(text: &[u8]) -> [u8; 7]
         [a, b, c, d, e, f, g] => [*a, *b, *c, *d, *e, *f, *g],
         _ => unreachable!(),
     }
-}
-
-pub fn twenty(text: &[u8]) -> [u8; 20]
-    requires { length text.now ≡ 20 }
-    ensures { result ≡ text.now }
-{
-    let mut bytes = [0; 20];
-    bytes.copy_from_slice(text);
-    bytes
-}
-
-pub fn eight(text: &[u8]) -> [u8; 8]
-    requires { length text.now ≡ 8 }
-    ensures { result ≡ text.now }
-{
-    let mut bytes = [0; 8];
-    bytes.copy_from_slice(text);
-    bytes
 }

@@ -4,7 +4,7 @@ ghost use Rattle.std.specs.Prelude.{◌≡◌, ◌≤◌, ◌*◌, ◌^◌, ◌<
 ghost use Rattle.ssim_values.specs.Clock.{clock_text};
 ghost use Rattle.ssim_columns.specs.internal.Clocks.{HasClockDigits};
 
-use crate::text::array::four;
+use crate::text::array::bytes_of;
 
 /// The text `0000`.
 const ZEROS: u32 = 0x3030_3030;
@@ -25,11 +25,11 @@ fn are_digits(digits: u32) -> bool
 }
 
 /// Whether a text is a time, hours and minutes, up to this number of hours.
-pub fn is_clock_to(text: &[u8], hours: u32) -> bool
+pub(crate) fn is_clock_to(text: &[u8], hours: u32) -> bool
     requires len { length text.now ≡ 4 }
     requires day { hours ≤ 24 }
     ensures { IsTrue result → (n : ℕ) × (n ≤ hours * 60) × (text.now ≡ clock_text n) }
 {
-    let digits = u32::from_be_bytes(four(text)).wrapping_sub(ZEROS);
+    let digits = u32::from_be_bytes(bytes_of::<4>(text)).wrapping_sub(ZEROS);
     digits <= hours / 10 * 0x0100_0000 + hours % 10 * 0x0001_0000 && are_digits(digits)
 }

@@ -3,23 +3,23 @@
 ghost use Rattle.std.specs.Prelude.{◌≡◌, ◌≤◌, ◌↔◌, ◌++◌, ◌∷◌, [], IsTrue, length};
 ghost use Rattle.std.specs.Str.{bytes_eq};
 
-use crate::text::array::{eight, four};
+use crate::text::array::bytes_of;
 
 /// Whether two texts of four bytes are the same.
-pub fn are_same_four(text: &[u8], other: &[u8]) -> bool
+pub(crate) fn are_same_four(text: &[u8], other: &[u8]) -> bool
     requires text { length text.now ≡ 4 }
     requires other { length other.now ≡ 4 }
     ensures { IsTrue result → text.now ≡ other.now }
 {
-    u32::from_le_bytes(four(text)) == u32::from_le_bytes(four(other))
+    u32::from_le_bytes(bytes_of::<4>(text)) == u32::from_le_bytes(bytes_of::<4>(other))
 }
 
 /// Whether eight bytes are these.
-pub fn are_same(text: &[u8], other: &[u8; 8]) -> bool
+pub(crate) fn are_same(text: &[u8], other: &[u8; 8]) -> bool
     requires { length text.now ≡ 8 }
     ensures { IsTrue result ↔ (text.now ≡ other.now) }
 {
-    u64::from_le_bytes(eight(text)) == u64::from_le_bytes(*other)
+    u64::from_le_bytes(bytes_of::<8>(text)) == u64::from_le_bytes(*other)
 }
 
 // Seven bytes and a zero.
@@ -39,7 +39,7 @@ pub fn are_same_seven(text: [u8; 7], other: [u8; 7]) -> bool
 
 /// Whether two texts of one length are the same: eight bytes at a time, and the last eight at the
 /// end.
-pub fn are_same_texts(text: &[u8], other: &[u8]) -> bool
+pub(crate) fn are_same_texts(text: &[u8], other: &[u8]) -> bool
     requires some { 8 ≤ length text.now }
     requires same_length { length other.now ≡ length text.now }
     ensures { result ≡ bytes_eq text.now other.now }
@@ -47,10 +47,16 @@ pub fn are_same_texts(text: &[u8], other: &[u8]) -> bool
     let last = text.len() - 8;
     let mut place = 0;
     while place < last {
-        if !are_same(&text[place..place + 8], &eight(&other[place..place + 8])) {
+        if !are_same(
+            &text[place..place + 8],
+            &bytes_of::<8>(&other[place..place + 8]),
+        ) {
             return false;
         }
         place += 8;
     }
-    are_same(&text[last..last + 8], &eight(&other[last..last + 8]))
+    are_same(
+        &text[last..last + 8],
+        &bytes_of::<8>(&other[last..last + 8]),
+    )
 }

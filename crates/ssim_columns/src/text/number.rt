@@ -7,7 +7,7 @@ use ssim_values::{is_digit, last_digit, write_two_digits};
 
 /// The number that digits alone spell.
 #[tactic(auto, unfolding(crate::specs::Numbers::digits_of))]
-pub fn digits_of(text: &[u8]) -> Option<u32>
+pub(crate) fn digits_of(text: &[u8]) -> Option<u32>
     requires { length text.now ≤ 6 }
     ensures below { IfSome result (λ number. number < 10 ^ length text.now) }
     ensures value { result ≡ digits_of text.now }
@@ -63,7 +63,7 @@ fn number_beside_blanks(text: &[u8]) -> Option<u32>
 /// The number that digits spell, with blanks before or after.
 // Mostly there are only digits.
 #[tactic(auto, unfolding(crate::specs::Numbers::number_of), using(crate::proofs::lemmas::Numbers::digits_alone))]
-pub fn number_of(text: &[u8]) -> Option<u32>
+pub(crate) fn number_of(text: &[u8]) -> Option<u32>
     requires { length text.now ≤ 6 }
     ensures below { IfSome result (λ number. number < 10 ^ length text.now) }
     ensures value { result ≡ number_of text.now }
@@ -76,7 +76,7 @@ pub fn number_of(text: &[u8]) -> Option<u32>
 
 /// The number that digits spell, with blanks before or after, if it is not 0.
 #[tactic(auto, unfolding(crate::specs::Numbers::sequence_of))]
-pub fn sequence_of(text: &[u8]) -> Option<u32>
+pub(crate) fn sequence_of(text: &[u8]) -> Option<u32>
     requires { length text.now ≤ 6 }
     ensures below { IfSome result (λ number. (0 < number) × (number < 10 ^ length text.now)) }
     ensures value { result ≡ sequence_of text.now }
@@ -88,13 +88,13 @@ pub fn sequence_of(text: &[u8]) -> Option<u32>
 }
 
 #[tactic(auto, using(crate::proofs::lemmas::Numbers::last_two))]
-pub fn two_digits(number: u32) -> [u8; 2]
+pub(crate) fn two_digits(number: u32) -> [u8; 2]
     ensures { result ≡ digits 2 number }
 {
     write_two_digits((number % 100) as u8)
 }
 
-pub fn three_digits(number: u32) -> [u8; 3]
+pub(crate) fn three_digits(number: u32) -> [u8; 3]
     ensures { result ≡ digits 3 number }
 {
     [
@@ -106,7 +106,7 @@ pub fn three_digits(number: u32) -> [u8; 3]
 
 /// The two digits of a number below 100.
 #[tactic(auto, using(crate::proofs::lemmas::Numbers::two_alone))]
-pub fn both_digits(number: u8) -> [u8; 2]
+pub(crate) fn both_digits(number: u8) -> [u8; 2]
     requires { number < 100 }
     ensures { result ≡ digits 2 number }
 {
@@ -114,7 +114,7 @@ pub fn both_digits(number: u8) -> [u8; 2]
 }
 
 /// The four digits of a number below 10,000.
-pub fn four_digits(number: u32) -> [u8; 4]
+pub(crate) fn four_digits(number: u32) -> [u8; 4]
     requires { number < 10000 }
     ensures { result ≡ digits 4 number }
 {

@@ -18,7 +18,7 @@ pub fn join(out: &mut [u8], parts: &[&[u8]])
 
 /// Writes a part from an index on, and returns the index after it. A record whose parts have known
 /// lengths is written in less time than by `join`.
-pub fn append(out: &mut [u8], at: usize, part: &[u8]) -> usize
+pub(crate) fn append(out: &mut [u8], at: usize, part: &[u8]) -> usize
     requires { at + length part.now ≤ length out.old }
     ensures place { result ≡ at + length part.now }
     ensures room { length out.new ≡ length out.old }
@@ -29,7 +29,7 @@ pub fn append(out: &mut [u8], at: usize, part: &[u8]) -> usize
 }
 
 /// Writes the text over the bytes from an index on.
-pub fn put(bytes: &mut [u8], at: usize, text: &[u8])
+pub(crate) fn put(bytes: &mut [u8], at: usize, text: &[u8])
     requires { at + length text.now ≤ length bytes.old }
     ensures { bytes.new ≡ over at text.now bytes.old }
 {
@@ -37,7 +37,7 @@ pub fn put(bytes: &mut [u8], at: usize, text: &[u8])
 }
 
 /// Writes the text, and blanks after it, over `width` bytes from an index on.
-pub fn put_filled(bytes: &mut [u8], at: usize, width: usize, text: &[u8])
+pub(crate) fn put_filled(bytes: &mut [u8], at: usize, width: usize, text: &[u8])
     requires { at + width ≤ length bytes.old }
     ensures { bytes.new ≡ over at (filled width text.now) bytes.old }
 {

@@ -4,14 +4,14 @@ ghost use Rattle.std.specs.Prelude.{◌≡◌, ◌<◌, ◌∷◌, [], None, Ok,
 ghost use Rattle.std.specs.List.{list_all};
 ghost use Rattle.ssim_values.specs.Calendar.{day_limit};
 ghost use Rattle.ssim_columns.specs.declared.field.Kind.TheVariants.{Carried, Mode};
-ghost use Rattle.ssim_columns.specs.Columns.{columns, fault_in, first_fault, is_carried, time_mode_of, EachStands};
+ghost use Rattle.ssim_columns.specs.Columns.{columns, fault_in, first_fault, is_carried, time_mode_of, EachIsValid};
 ghost use Rattle.ssim_columns.specs.Leg.{IsEnd};
 ghost use Rattle.ssim_records.specs.Carrier.{CarrierFields, IsCarrier, SpellsCarrier, carrier_table, written_carrier};
 
 use ssim_columns::leg_fields::SERIAL;
 use ssim_columns::{
-    Field, Kind, airline_at, created_at, details_at, end_text, field, first_day_at, first_fault,
-    join, last_day_at, serial_at, six_digits, three, time_mode_of, time_mode_text,
+    Field, Kind, airline_at, bytes_of, created_at, details_at, end_text, field, first_day_at,
+    first_fault, join, last_day_at, serial_at, six_digits, time_mode_of, time_mode_text,
 };
 use ssim_values::{Airline, Day, TimeMode};
 use std::marker::Model;
@@ -36,10 +36,7 @@ fn time_mode_at(bytes: &[u8; 200]) -> TimeMode
     requires { fault_in Mode (columns 2 2 bytes.now) ≡ None }
     ensures { time_mode_of (columns 2 2 bytes.now) ≡ Some result }
 {
-    match time_mode_of(&bytes[1..2]) {
-        Some(mode) => mode,
-        None => unreachable!(),
-    }
+    time_mode_of(&bytes[1..2]).unwrap()
 }
 
 #[tactic(auto, using(ssim_columns::proofs::lemmas::Rows::all_carried))]
@@ -48,9 +45,7 @@ fn season_at(bytes: &[u8; 200]) -> [u8; 9]
     ensures ok { IsTrue (list_all is_carried result) }
     ensures value { columns 6 14 bytes.now ≡ result }
 {
-    let mut season = [0; 9];
-    season.copy_from_slice(&bytes[5..14]);
-    season
+    bytes_of::<9>(&bytes[5..14])
 }
 
 /// The carrier of a data set: its airline, and when the schedule is valid.
@@ -88,7 +83,7 @@ impl Model for Carrier {
 
 fn carrier_of(bytes: &[u8; 200]) -> Carrier
     requires kind { columns 1 1 bytes.now ≡ 50 ∷ [] }
-    requires stands { EachStands bytes.now carrier_table }
+    requires stands { EachIsValid bytes.now carrier_table }
     ensures { SpellsCarrier result bytes.now }
 {
     let first = first_day_at(bytes);
@@ -136,7 +131,7 @@ impl Carrier {
     pub fn season(&self) -> [u8; 3]
         ensures { result ≡ slice_range self.now.season 5 8 }
     {
-        three(&self.season[5..8])
+        bytes_of::<3>(&self.season[5..8])
     }
 
     /// Columns 6 to 14, carried: the season and the columns beside it.

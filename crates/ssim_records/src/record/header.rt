@@ -1,7 +1,7 @@
 //! Header records, type 1.
 
 ghost use Rattle.std.specs.Prelude.{◌≡◌, ◌<◌, ◌∷◌, [], None, Ok, IfOk, IfErr, Some};
-ghost use Rattle.ssim_columns.specs.Columns.{columns, first_fault, EachStands};
+ghost use Rattle.ssim_columns.specs.Columns.{columns, first_fault, EachIsValid};
 ghost use Rattle.ssim_records.specs.Header.{HeaderFields, IsHeader, SpellsHeader, header_table, written_header};
 
 use ssim_columns::leg_fields::SERIAL;
@@ -40,7 +40,7 @@ impl Model for Header {
 
 fn header_of(bytes: &[u8; 200]) -> Header
     requires kind { columns 1 1 bytes.now ≡ 49 ∷ [] }
-    requires stands { EachStands bytes.now header_table }
+    requires stands { EachIsValid bytes.now header_table }
     ensures { SpellsHeader result bytes.now }
 {
     Header {

@@ -54,6 +54,7 @@ pub(crate) fn leg_with(bytes: &[u8; 200], head: &LegHead) -> LegRecord
     requires head { IsLegHead head.now bytes.now }
     ensures { SpellsLeg result bytes.now }
 {
+    // No effect at run time. The proof reads from these uses that the parts are valid.
     let _ = head.first.number();
     let _ = head.days.days();
     LegRecord {
@@ -84,6 +85,7 @@ impl LegRecord {
     pub fn new(name: LegName, period: Period, columns: LegColumns) -> LegRecord
         ensures { result ≡ record { name = name; first = period.first; last = Some period.last; days = period.days; rate = 32; columns = columns; overflow = 32; serial = 0 } }
     {
+        // No effect at run time. The proof reads from these uses that the parts are valid.
         let _ = name.airline();
         let _ = columns.bytes();
         LegRecord {
@@ -180,33 +182,13 @@ impl LegRecord {
         leg
     }
 
-    /// The same record with this last day.
-    pub fn with_last(self, last: Day) -> LegRecord
-        requires { self.first ≤ last }
-        ensures { result ≡ record self { last = Some last } }
-    {
-        let _ = last.number();
-        let mut leg = self;
-        leg.last = Some(last);
-        leg
-    }
-
-    /// The same record with blanks for frequency rate and overflow.
-    pub fn with_blanks(self) -> LegRecord
-        ensures { result ≡ record self { rate = 32; overflow = 32 } }
-    {
-        let mut leg = self;
-        leg.rate = b' ';
-        leg.overflow = b' ';
-        leg
-    }
-
     /// The last day becomes this one, frequency rate and overflow become blanks, and the serial
     /// becomes 0.
     pub fn close(&mut self, last: Day)
         requires { self.old.first ≤ last }
         ensures { self.new ≡ record self.old { last = Some last; rate = 32; overflow = 32; serial = 0 } }
     {
+        // No effect at run time. The proof reads from this use that the day is in range.
         let _ = last.number();
         self.last = Some(last);
         self.rate = b' ';
@@ -232,6 +214,7 @@ impl LegRecord {
         requires head { IsLegHead head.now bytes.now }
         ensures { SpellsLeg self.new bytes.now }
     {
+        // No effect at run time. The proof reads from these uses that the parts are valid.
         let _ = head.first.number();
         let _ = head.days.days();
         self.name = head.name;

@@ -46,6 +46,7 @@ impl SegmentRecord {
         requires { IsTrue (is_carried service) }
         ensures { result ≡ record { name = name; service = service; tail = tail; overflow = 32; serial = 0 } }
     {
+        // No effect at run time. The proof reads from these uses that the parts are valid.
         let _ = name.airline();
         let _ = tail.bytes();
         SegmentRecord {
@@ -115,15 +116,6 @@ impl SegmentRecord {
         segment
     }
 
-    /// The same record with a blank for overflow.
-    pub fn with_blank(self) -> SegmentRecord
-        ensures { result ≡ record self { overflow = 32 } }
-    {
-        let mut segment = self;
-        segment.overflow = b' ';
-        segment
-    }
-
     /// The overflow becomes a blank, and the serial becomes 0.
     pub fn close(&mut self)
         ensures { self.new ≡ record self.old { overflow = 32; serial = 0 } }
@@ -187,6 +179,7 @@ impl SegmentRecord {
         ensures same { IsTrue result ↔ (bytes.now ≡ written_segment self.now) }
         ensures is_segment { IsSegment self.now }
     {
+        // No effect at run time. The proof reads from this use that the record is valid.
         let _ = self.serial();
         has_digits(bytes)
     }

@@ -3,13 +3,13 @@
 ghost use Rattle.std.specs.Prelude.{◌≡◌, ◌<◌, ◌∷◌, [], None, Ok, IfOk, IfErr, Some, IsTrue, slice_range};
 ghost use Rattle.std.specs.List.{list_all};
 ghost use Rattle.ssim_columns.specs.declared.field.Kind.TheVariants.{Carried, Code};
-ghost use Rattle.ssim_columns.specs.Columns.{columns, fault_in, first_fault, is_carried, end_code_of, EachStands};
+ghost use Rattle.ssim_columns.specs.Columns.{columns, fault_in, first_fault, is_carried, end_code_of, EachIsValid};
 ghost use Rattle.ssim_records.specs.Trailer.{TrailerFields, IsTrailer, SpellsTrailer, trailer_table, written_trailer};
 
 use ssim_columns::leg_fields::SERIAL;
 use ssim_columns::{
-    EndCode, Field, Kind, airline_at, carried_at, digits_at, end_code_of, end_code_text, field,
-    first_fault, join, serial_at, seven, six_digits,
+    EndCode, Field, Kind, airline_at, bytes_of, carried_at, digits_at, end_code_of, end_code_text,
+    field, first_fault, join, serial_at, seven, six_digits,
 };
 use ssim_values::Airline;
 use std::marker::Model;
@@ -38,19 +38,14 @@ fn release_at(bytes: &[u8; 200]) -> [u8; 182]
     ensures ok { IsTrue (list_all is_carried result) }
     ensures value { columns 6 187 bytes.now ≡ result }
 {
-    let mut release = [0; 182];
-    release.copy_from_slice(&bytes[5..187]);
-    release
+    bytes_of::<182>(&bytes[5..187])
 }
 
 fn code_at(bytes: &[u8; 200]) -> EndCode
     requires { fault_in Code (columns 194 194 bytes.now) ≡ None }
     ensures { end_code_of (columns 194 194 bytes.now) ≡ Some result }
 {
-    match end_code_of(&bytes[193..194]) {
-        Some(code) => code,
-        None => unreachable!(),
-    }
+    end_code_of(&bytes[193..194]).unwrap()
 }
 
 /// The trailer of a carrier's records.
@@ -84,7 +79,7 @@ impl Model for Trailer {
 
 fn trailer_of(bytes: &[u8; 200]) -> Trailer
     requires kind { columns 1 1 bytes.now ≡ 53 ∷ [] }
-    requires stands { EachStands bytes.now trailer_table }
+    requires stands { EachIsValid bytes.now trailer_table }
     ensures { SpellsTrailer result bytes.now }
 {
     Trailer {

@@ -1,7 +1,6 @@
 -- A valid start is a day.
-use Rattle.std.proofs.Common.{sym, ◌∙◌}
-use Rattle.ssim_columns.proofs.lemmas.Places.{no_first_day}
+use Rattle.ssim_columns.proofs.lemmas.Places.{is_first_day}
 use Rattle.ssim_columns.proofs.field.columns.first_day_at.Goals as goal
 
-pub unreachable-requires : goal.unreachable-requires
-unreachable-requires c = no_first_day c.args.bytes.now c.requires.stands (sym c.day_of.ensures ∙ c.in-None.is)
+pub day_in-requires-clause-is_day : goal.day_in-requires-clause-is_day
+day_in-requires-clause-is_day c = rw (c.text.ensures.value) (is_first_day c.args.bytes.now c.requires.stands)

@@ -4,4 +4,4 @@ use Rattle.ssim_columns.proofs.lemmas.SameColumns.{same_flight_leg}
 use Rattle.ssim_columns.proofs.latest_columns.FlightLegRead.new.Goals as goal
 
 pub invariant_of-result : goal.invariant_of-result
-invariant_of-result c = λ bytes same. same_flight_leg c.args.leg c.args.bytes.now bytes (same ∙ c.four.ensures) c.requires
+invariant_of-result c = λ bytes same. same_flight_leg c.args.leg c.args.bytes.now bytes (same ∙ c.bytes_of.ensures ∙ c.text.ensures.value) c.requires

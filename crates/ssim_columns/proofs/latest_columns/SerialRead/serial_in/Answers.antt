@@ -9,5 +9,5 @@ pub returns-clause-value : goal.returns-clause-value
 returns-clause-value c =
     let b = c.args.bytes.now in
     serial_of_parts b c.self.inside.number c.in_ok-last.last (length_slice b 198 200 (lit≤ tt) (omega (arith, c.told-bytes)))
-    (ap digits_of (c.are_same_four.ensures c.if-not-are_same_four.false) ∙ c.self.invariant.value)
-    (sym c.in_ok-last.ensures.value)
+    (ap digits_of (sym c.text.ensures.value ∙ c.are_same_four.ensures c.if-not-are_same_four.false) ∙ c.self.invariant.value)
+    (ap digits_of (sym c.text-2.ensures.value) ∙ sym c.in_ok-last.ensures.value)
