@@ -83,20 +83,21 @@ expect "a file may be as long as the limit" 1 "" $'refused 11 BadType record 1\n
 expect "a file is too long" 1 "" $'refused 91 File too_long.ssim\n' check too_long.ssim
 input=too_long.ssim expect "standard input is too long" 1 "" $'refused 91 File -\n' check -
 
-# Thirty flights on a hundred dates from 30MAR25 on, which is a Sunday: a leg record for each date, with another aircraft on one weekday.
+# single_dates COUNT: this many flights on a hundred dates from 30MAR25 on, which is a Sunday: a leg record for each date, with
+# another aircraft on one weekday.
 single_dates() {
     head -n 2 divided.ssim
-    seq 0 99 | sed 's/$/ days 2025-03-30/' | LC_ALL=C date -f - +%d%b%y | tr a-z A-Z | tee dates | awk -v leg="$leg" '{
-        for (flight = 1; flight <= 30; flight++)
+    seq 0 99 | sed 's/$/ days 2025-03-30/' | LC_ALL=C date -f - +%d%b%y | tr a-z A-Z | tee dates | awk -v leg="$leg" -v flights="$1" '{
+        for (flight = 1; flight <= flights; flight++)
             print substr(leg, 1, 5) sprintf("%04d", flight) substr(leg, 10, 5) $1 $1 substr(leg, 29, 44) \
                 ((NR - 1) % 7 == flight % 7 ? "319" : "320") substr(leg, 76)
     }'
     tail -n 1 divided.ssim
 }
 
-# Their canonical form: two pieces a flight, the one that begins first before the other.
+# joined_dates COUNT: their canonical form: two pieces a flight, the one that begins first before the other.
 joined_dates() {
-    awk -v leg="$leg" -v header="$(sed -n 1p "$tidied")" -v carrier="$(sed -n 6p "$tidied")" -v trailer="$(sed -n 16p "$tidied")" '
+    awk -v leg="$leg" -v flights="$1" -v header="$(sed -n 1p "$tidied")" -v carrier="$(sed -n 6p "$tidied")" -v trailer="$(sed -n 16p "$tidied")" '
         function fill() { for (i = 0; i < 4; i++) { printf "%0200d\n", 0 } }
         function piece(variation, first, last, days, aircraft) {
             printf "%s%04d%02d%s%s%s%s%s%s%s%06d\n", substr(leg, 1, 5), flight, variation, substr(leg, 12, 3), date[first], date[last], days,
@@ -106,7 +107,7 @@ joined_dates() {
         END {
             print header; fill(); print carrier; fill()
             serial = 2
-            for (flight = 1; flight <= 30; flight++) {
+            for (flight = 1; flight <= flights; flight++) {
                 own = flight % 7
                 weekday = (own + 6) % 7 + 1
                 others = "1234567"
@@ -121,18 +122,23 @@ joined_dates() {
 }
 
 leg=$(sed -n 11p "$tidied")
-single_dates > single.ssim
-joined_dates > joined.ssim
+single_dates 30 > single.ssim
+joined_dates 30 > joined.ssim
 expect "records of single dates are joined" 0 @joined.ssim "" tidy single.ssim
 expect "joined records are left as they are" 0 @joined.ssim "" tidy joined.ssim
 
 taken=$'taken SSM 01JUN25 00001 001\n' conflict=$'refused 60 Conflict SSM 01JUN25 00001 001\n'
 
+# The records of a data set without serials and check reference, as a desk file has them.
+unnumbered() {
+    sed -E 's/.{6}$/000000/; s/^(5.{186}).{6}/\1000000/' "$1"
+}
+
 # The files of the commands on desks. The desk files are by their format: the records of the data set without serials and
 # check reference, between the lines.
 desk_inputs() {
     local records
-    records=$(sed -E 's/.{6}$/000000/; s/^(5.{186}).{6}/\1000000/' divided.ssim)
+    records=$(unnumbered divided.ssim)
     mkdir folder
     touch none before after
     printf 'SSM\nUTC\n01JUN00001E001\nCNL\nLX544\n01JUL25 07JUL25 2\n' > x2
@@ -215,10 +221,34 @@ expect "empty lines do not tell the kind" 0 $'valid station table\n' "" explain 
 expect "a missing file is not explained" 1 "" $'refused 91 File missing.ssim\n' explain missing.ssim
 to=/dev/full expect "an explanation cannot be written" 1 "" $'refused 52 WriteFault\n' explain 12
 
+# A data set of five megabytes, and its desk files.
+long_files() {
+    single_dates 250 > long.ssim
+    joined_dates 250 > long.joined
+    {
+        printf 'SSIMDESK 2\nRECORDS 25003\n'
+        unnumbered long.ssim
+        printf 'STATIONS 0\nTEXTS 0\nEND\n'
+    } > long.expected
+    expect "a long data set is joined" 0 @long.joined "" tidy long.ssim
+    input=long.ssim expect "a long data set comes from standard input" 0 @long.joined "" tidy -
+    expect "a desk starts from a long data set" 0 $'held 0\n' "" start long.ssim none long
+    expect_file "a desk starts from a long data set" long long.expected
+    expect "a long desk takes a text" 0 "$taken" "" take long long.held x2
+    expect "long desks merge" 0 $'held 1\n' "" merge long long.held long.merged
+    expect_file "long desks merge" long.merged long.held
+    input=long.held expect "a long desk is exported" 0 @long.joined "" export -
+    expect "a long desk shows its last flight" 0 $'LX250 07JUL25\n01 ZRH 0545 0545 +0200 LHR 0700 0700 +0100 00 J 320\n' "" \
+        show long.held LX250 07JUL25
+    head -c 3000000 long.held > long.cut
+    expect "a long desk is cut" 1 "" $'refused 62 DeskFile offset 2999950\n' findings long.cut
+}
+
 desk_inputs
 desks_written
 desks_refused
 desks_printed
+long_files
 for name in check tidy start take merge show findings export rehearse explain; do
     expect "help of $name" 0 @ "" "$name" --help
     expect "$name without its words" 2 "" @ "$name"
