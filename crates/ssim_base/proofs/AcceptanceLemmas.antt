@@ -1,4 +1,5 @@
--- One more record before those that are kept: what its leg adds to the table of leg records, and that it stands.
+-- One more record before those that are kept: what its leg adds to the table of leg records, and
+-- that it is allowed.
 use Rattle.ssim_periods.specs.CommonDays.{have_common_date, meet}
 use Rattle.std.proofs.Common.{◌≡◌, ◌≢◌, ℕ, Bool, true, false, ◌&&◌, ◌||◌, nat_eq, nat_lt, List, [], ◌∷◌, Some, None, unwrap_or, refl, sym, ap, subst, ◌∙◌, arith}
 use Rattle.std.proofs.lemmas.Bool.Decides.{nat_tests}

@@ -1,5 +1,6 @@
--- A base has a frame, and gives a timetable, that can be exported: behind records that stand, each later leg record of a flight and day has
--- another sequence, so the legs of a day have rising sequences; and the order of the types leaves no other form than that with a frame.
+-- A base has a frame, and gives a timetable, that can be exported. After records that are allowed,
+-- each later leg record of a flight and day has another sequence, so the legs of a day have rising
+-- sequences; and the order of the types leaves no other form than that with a frame.
 use Rattle.ssim_periods.specs.CommonDays.{meet}
 use Rattle.std.proofs.Common.{◌≡◌, ℕ, zero, suc, ◌+◌, ◌<◌, ◌≤◌, Bool, true, false, not, ◌&&◌, ◌||◌, nat_eq, nat_lt, if◌then◌else◌, List, [], ◌∷◌, ◌++◌, map, Option, Some, None, Ok, refl, sym, ap, subst, ◌∙◌, arith}
 use Rattle.std.proofs.lemmas.Bool.Decides.{nat_tests}

@@ -14,7 +14,8 @@ use Rattle.ssim_base.specs.Base as base
 use Rattle.ssim_base.specs.declared.note.Note.{Note}
 use Rattle.ssim_base.specs.Base.{Done, Outcome, first_refusal, kept_all, notes_of, data_set}
 use Rattle.ssim_base.specs.Export.{Frame, all_flights, flights_records, sections, export_refusal, chapter7_records, export_bytes, result_map}
-use Rattle.ssim_base.specs.ReadBack.{IsFrame, IsTimetable, records_of, base_of, items_of, EachSpells, HasFrame, kept_frame, BytesReadBack, ReadOnce, BytesTell, SameBytes}
+use Rattle.ssim_base.specs.ReadBack.{IsFrame, IsTimetable, records_of, base_of, items_of, EachSpells, HasFrame, kept_frame, BytesReadBack, ExportsAreOne, IsExport}
+use Rattle.ssim_base.proofs.ExportLaws.{BytesDetermine, ReadOnce, SameBytes}
 use Rattle.ssim_base.proofs.Whole.{exported, base-frame, reads_back, exports_again, same_export}
 use Rattle.ssim_base.proofs.Calendars.{same-days}
 use Rattle.ssim_base.proofs.Stands.{stands}
@@ -97,8 +98,8 @@ same-base c d rs ss base these count records f g =
     let pair : kept_as base ≡ kept_as these = cc in
     ap (λ p. p.0) pair
 
-pub bytes_tell : WrittenIsFramed → WrittenSpells → ReadOnce → BytesTell
-bytes_tell framed spells once frame other days others bytes is are =
+bytes_determine : WrittenIsFramed → WrittenSpells → ReadOnce → BytesDetermine
+bytes_determine framed spells once frame other days others bytes is are =
     let a = bytes_read_back framed spells frame days bytes is in
     let b = bytes_read_back framed spells other others bytes are in
     let one = once bytes a.count b.count a.records b.records a.read b.read in
@@ -109,9 +110,15 @@ bytes_tell framed spells once frame other days others bytes is are =
 
 -- ---- equal timetables
 
-pub same_bytes : SameBytes
+same_bytes : SameBytes
 same_bytes frame other days others kept is are same =
     ap (λ f. result_map export_bytes (chapter7_records f days)) kept
     ∙ ap (λ r. result_map export_bytes r)
     (same_export other days others (λ flight exists. same-days (days flight) (others flight) (is.each_day flight exists ∙ sym (are.each_day flight exists))
     (λ n l. let len = is.each_day flight exists in same flight n exists (omega arith))))
+
+pub exports_are_one : WrittenIsFramed → WrittenSpells → ReadOnce → ExportsAreOne
+exports_are_one framed spells once frame other days others bytes these is are = (
+    λ same. bytes_determine framed spells once frame other days others bytes is (subst (IsExport other others) (sym same) are),
+    λ alike. let ok : Ok bytes ≡ Ok these = sym is.written ∙ same_bytes frame other days others alike.0 is.timetable are.timetable alike.1 ∙ are.written in cc,
+)

@@ -8,7 +8,8 @@ use Rattle.ssim_records.specs.declared.record.Record.{Record}
 use Rattle.ssim_base.specs.Timetable.{Days, same_flight, on_day}
 use Rattle.ssim_base.specs.Export.{Frame, same_itinerary, pieces, pieces_records, flight_records, flights_records, flight_count, flight_at, all_flights, sections, unless_refused, export_refusal, chapter7_records}
 use Rattle.ssim_base.specs.ReadBack as law
-use Rattle.ssim_base.specs.ReadBack.{place_of, FlownSuffice}
+use Rattle.ssim_base.specs.ReadBack.{place_of}
+use Rattle.ssim_base.proofs.ExportLaws.{FlownSuffice}
 use Rattle.ssim_periods.specs.Pieces.{values_of, pieces_with, sort_by_first}
 use Rattle.ssim_base.proofs.Places.{flight-is, flight-place, place-below, same-places}
 use Rattle.ssim_periods.specs.Days.{each_day}

@@ -1,4 +1,6 @@
 pub mod Bases
+pub mod ExportLaws
+pub mod FirstRefusals
 pub mod Bytes
 pub mod Calendars
 pub mod Each

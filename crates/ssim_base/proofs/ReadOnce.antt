@@ -3,7 +3,8 @@ use Rattle.std.proofs.Common.{◌≡◌, ℕ, false, List, [], ◌∷◌, length
 use Rattle.ssim_records.specs.Frames.{FramesAreOne, others}
 use Rattle.ssim_records.specs.declared.record.Record.{Record}
 use Rattle.ssim_records.proofs.AnyRecord.{one_record}
-use Rattle.ssim_base.specs.ReadBack.{EachSpells, ReadOnce}
+use Rattle.ssim_base.specs.ReadBack.{EachSpells}
+use Rattle.ssim_base.proofs.ExportLaws.{ReadOnce}
 
 spells-once : (blocks : List (ℕ × List ℕ)) (rs ss : List (ℕ × Record)) → EachSpells blocks rs → EachSpells blocks ss → rs ≡ ss
 spells-once [] [] [] f g = refl

@@ -7,7 +7,8 @@ use Rattle.ssim_records.specs.declared.fault.RecordFault.TheVariants.{Short}
 use Rattle.ssim_records.specs.declared.record.Record.{Record}
 use Rattle.ssim_text.specs.Left.{lines_left}
 use Rattle.ssim_base.specs.Base.{Broken, Done, Ending, Outcome, data_set, first_refusal, kept, kept_all, notes_of, refusal_at}
-use Rattle.ssim_base.specs.ReadBack.{AreRead, EachSpells, ReadOnce}
+use Rattle.ssim_base.specs.ReadBack.{AreRead, EachSpells}
+use Rattle.ssim_base.proofs.ExportLaws.{ReadOnce}
 use Rattle.ssim_base.specs.Reading.{AreGiven, Gives, IsReadAs, SameBytesSameBase}
 use Rattle.ssim_base.specs.Stations.{SameBytesSameRows}
 use Rattle.ssim_base.specs.declared.note.Note.{Note}

@@ -15,7 +15,8 @@ use Rattle.ssim_records.specs.declared.record.Record.{Record}
 use Rattle.ssim_records.specs.declared.record.Record.TheVariants.{Header, Carrier, Leg, Segment, Trailer}
 use Rattle.ssim_base.specs.Base.{Done, airline_of, carrier_end, closed, first_of, first_refusal, is_leg_named, is_overflow, is_rate, kept, kept_all, missing, notes_of, or_else, overlaps, own_refusal, place_refusal, refusal_at, refuse_if, unless_refused}
 use Rattle.ssim_base.specs.BaseSeen.{WasRead}
-use Rattle.ssim_base.specs.ReadBack.{AreRead, EachSpells, ReadOnce}
+use Rattle.ssim_base.specs.ReadBack.{AreRead, EachSpells}
+use Rattle.ssim_base.proofs.ExportLaws.{ReadOnce}
 use Rattle.ssim_base.specs.Reading.{FailedReader, Gives, IsReadBack}
 use Rattle.ssim_base.specs.SavedBase.{IsBare, IsBaseRecords, IsOfRecords, SavedCanBeRead, SavedIsOne, SavedIsRead, saved}
 use Rattle.ssim_base.specs.Timetable.{period_of}

@@ -1,5 +1,5 @@
--- No record of an export is refused. "These records stand" is said with what follows them, so that facts on what stands before
--- travel through legs, pieces and flights.
+-- No record of an export is refused. That records are allowed is said with what follows them, so that
+-- facts on what is before them travel through legs, pieces and flights.
 use Rattle.ssim_periods.specs.CommonDays.{meet}
 use Rattle.std.proofs.Common.{subst, ◌≡◌, ℕ, zero, suc, ◌+◌, ◌<◌, ◌≤◌, Bool, true, false, ◌&&◌, nat_eq, nat_lt, if◌then◌else◌, List, [], ◌∷◌, ◌++◌, map, length, slice_index, Some, None, ◌⊎◌, inl, inr, refl, sym, ap, ◌∙◌, arith}
 use Rattle.std.proofs.lemmas.Bool.Decides.{nat_tests}
@@ -17,7 +17,8 @@ use Rattle.ssim_columns.specs.declared.field.end_code.EndCode.TheVariants.{End}
 use Rattle.ssim_base.specs.Timetable.{Legs, Days, same_flight, is_on, period_of, on_day, Above}
 use Rattle.ssim_base.specs.Base.{airline_of, is_trailer, overlaps, is_leg_named, refusal_at, missing, Done, at_record, first_refusal, kept}
 use Rattle.ssim_base.specs.Export.{Piece, same_itinerary, pieces, tail_record, leg_records, piece_records, pieces_records, flight_records, flights_records, flight_count, flight_at, all_flights, with_serial, numbered, sections, export_refusal}
-use Rattle.ssim_base.specs.ReadBack.{IsTimetable, records_of, Stands}
+use Rattle.ssim_base.specs.ReadBack.{IsTimetable, records_of}
+use Rattle.ssim_base.proofs.ExportLaws.{NoneRefused}
 use Rattle.ssim_base.proofs.Places.{same-self, same-turned, same-places, flight-is}
 use Rattle.ssim_base.proofs.Pieces.{bytes-self, itinerary_pieces}
 use Rattle.ssim_base.proofs.Parts.{and_false, false_and, same_name-self, own_name, own_tails, flights_from}
@@ -319,7 +320,7 @@ trailer-stands a r [] same code good = absurd good
 trailer-stands a r (x ∷ []) same code good = absurd good
 trailer-stands a r (x ∷ y ∷ e) same code good = (rw (good.0, good.1, same, bytes-self a, code) refl, refl)
 
-pub stands : Stands
+pub stands : NoneRefused
 stands frame days s frame_is is h number records numbers =
     let a = frame.carrier.airline in
     let body = flights_records a days all_flights in

@@ -12,7 +12,8 @@ use Rattle.ssim_records.specs.declared.record.Record.TheVariants.{Header, Carrie
 use Rattle.ssim_base.specs.Timetable.{LegValue, Legs, Days, itinerary, days_of, on_day}
 use Rattle.ssim_base.specs.Base.{kept, kept_all}
 use Rattle.ssim_base.specs.Export.{Frame, Piece, ExportRefusal, Variations, Records, pieces, tail_record, leg_records, pieces_records, flight_records, flights_records, flight_count, flight_at, all_flights, with_serial, numbered, sections, export_refusal, unless_refused, chapter7_records}
-use Rattle.ssim_base.specs.ReadBack.{IsTimetable, records_of, base_of, kept_frame, HasFrame, place_of, ReadsBack, ExportsAgain, ExportsTell, SameExport}
+use Rattle.ssim_base.specs.ReadBack.{IsTimetable, records_of, base_of, kept_frame, HasFrame, place_of}
+use Rattle.ssim_base.proofs.ExportLaws.{ExportsAgain, ReadsBack, SameExport}
 use Rattle.ssim_base.proofs.Each.{each-map}
 use Rattle.ssim_base.proofs.Places.{flight-is, flight-place, place-below}
 use Rattle.ssim_base.proofs.Pieces.{itinerary_pieces}
@@ -89,10 +90,6 @@ pub reads_back : ReadsBack
 reads_back frame days s is h f n flight within =
     ap (λ rs. itinerary rs f n) (base-export frame days s h)
     ∙ subst (λ g. itinerary (based frame (body_of frame days)) g n ≡ on_day (days g) n) (flight-place f flight) (given-back frame days is (place_of f) n (place-below f flight) within)
-
-pub exports_tell : ExportsTell
-exports_tell frame days others s is are h k f n flight within =
-    sym (reads_back frame days s is h f n flight within) ∙ reads_back frame others s are k f n flight within
 
 -- ---- the export of what was read
 

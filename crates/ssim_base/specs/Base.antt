@@ -1,5 +1,5 @@
 -- The base of a data set, and the first invalid record.
-use Rattle.std.specs.Prelude.{ℕ, ◌+◌, ◌-◌, Bool, true, false, not, ◌&&◌, ◌||◌, ◌==◌, nat_eq, nat_lt, min, if◌then◌else◌, List, [], ◌∷◌, ◌++◌, map, Option, Some, None, Result, Ok, Err, unwrap_or}
+use Rattle.std.specs.Prelude.{◌≡◌, ℕ, ◌+◌, ◌-◌, ◌<◌, IfSome, reverse, slice_get, take, Bool, true, false, not, ◌&&◌, ◌||◌, ◌==◌, nat_eq, nat_lt, min, if◌then◌else◌, List, [], ◌∷◌, ◌++◌, map, Option, Some, None, Result, Ok, Err, unwrap_or}
 use Rattle.std.specs.List.{list_any}
 use Rattle.std.specs.Str.{bytes_eq}
 use Rattle.ssim_values.specs.Calendar.{day_limit}
@@ -246,3 +246,28 @@ unless_refused None base = Ok base
 -- what a data set is read as: its records and notes, or the fault of its first invalid record
 abbrev pub data_set : Ending → List (ℕ × Record) → Outcome
 data_set ending records = unless_refused (first_refusal ending [] records) (kept_all [] (map (λ r. r.1) records), notes_of 0 records)
+
+-- ---- the first invalid record
+
+-- the records before record k, counted from 0, as the base has them; the latest comes first
+abbrev pub before_record : List (ℕ × Record) → ℕ → List Record
+before_record records k = reverse (kept_all [] (map (λ r. r.1) (take k records)))
+
+-- record k is allowed after the records before it
+abbrev pub IsAllowed : List (ℕ × Record) → ℕ → Type 0
+IsAllowed records k = IfSome (slice_get records k) (λ r. refusal_at (before_record records k) r.1 ≡ None)
+
+-- If record k is refused after the records before it, and each of these is allowed, then the data
+-- set is refused for record k.
+abbrev pub NamesTheFirst : Type 0
+NamesTheFirst =
+    (ending : Ending) (records : List (ℕ × Record)) (k : ℕ) (r : ℕ × Record) (refusal : BaseRefusal)
+    → ((j : ℕ) → j < k → IsAllowed records j) → slice_get records k ≡ Some r → refusal_at (before_record records k) r.1 ≡ Some refusal
+    → data_set ending records ≡ Err (Refused r.0 refusal)
+
+-- If each record is allowed, the ending and a missing record decide.
+abbrev pub NamesTheEnd : Type 0
+NamesTheEnd =
+    (ending : Ending) (records : List (ℕ × Record)) → ((j : ℕ) → IsAllowed records j)
+    → let base = kept_all [] (map (λ r. r.1) records) in
+    data_set ending records ≡ unless_refused (at_end ending (missing (reverse base))) (base, notes_of 0 records)

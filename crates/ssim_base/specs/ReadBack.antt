@@ -1,6 +1,6 @@
 -- What it means that an export reads back.
-use Rattle.std.specs.Prelude.{◌≡◌, ℕ, ◌<◌, ◌≤◌, ◌+◌, ◌-◌, ◌*◌, false, nat_eq, if◌then◌else◌, List, [], ◌∷◌, ◌++◌, map, length, replicate, Option, Some, None, Ok}
-use Rattle.std.specs.List.{flat_map, list_any, All}
+use Rattle.std.specs.Prelude.{◌≡◌, ◌↔◌, ℕ, ◌<◌, ◌≤◌, ◌+◌, ◌-◌, ◌*◌, false, nat_eq, if◌then◌else◌, List, [], ◌∷◌, ◌++◌, map, length, replicate, Option, Some, None, Ok}
+use Rattle.std.specs.List.{flat_map, All}
 use Rattle.ssim_values.specs.Flight.{FlightNumber, IsFlight}
 use Rattle.ssim_periods.specs.Calendar.{day_count}
 use Rattle.ssim_records.specs.Carrier.{IsCarrier}
@@ -13,10 +13,10 @@ use Rattle.ssim_records.specs.Trailer.{IsTrailer}
 use Rattle.ssim_records.specs.declared.record.Record.{Record}
 use Rattle.ssim_records.specs.declared.record.Record.TheVariants.{Header, Carrier, Trailer}
 use Rattle.ssim_columns.specs.declared.field.end_code.EndCode.TheVariants.{End}
-use Rattle.ssim_base.specs.Timetable.{LegValue, Days, itinerary, days_of, on_day, Above, same_flight}
-use Rattle.ssim_base.specs.Base.{Ending, Done, first_refusal, kept_all, data_set}
+use Rattle.ssim_base.specs.Timetable.{LegValue, Days, itinerary, days_of, on_day, Above}
+use Rattle.ssim_base.specs.Base.{Ending, Done, kept_all, data_set}
 use Rattle.ssim_base.specs.declared.note.Note.{Note}
-use Rattle.ssim_base.specs.Export.{Frame, pieces, chapter7_records, export_of, fill_count, chapter7}
+use Rattle.ssim_base.specs.Export.{Frame, fill_count, chapter7}
 
 -- On each date the legs of a flight are ordered by rising leg sequence, from 1 to 99. No sequence
 -- is there twice.
@@ -49,40 +49,6 @@ kept_frame frame = record {
   trailer = record frame.trailer { check = 0; serial = 0 };
 }
 
--- An export gives the itineraries by day that were exported.
-abbrev pub GivesBack : (FlightNumber → Days) → List (List Record) → Type 0
-GivesBack days sections = (flight : FlightNumber) (n : ℕ) → IsFlight flight → n < day_count
-    → itinerary (base_of (records_of sections)) flight n ≡ on_day (days flight) n
-
--- Reading back, part 1: each flight has the same itinerary on each date.
-abbrev pub ReadsBack : Type 0
-ReadsBack = (frame : Frame) (days : FlightNumber → Days) (sections : List (List Record)) → IsTimetable days
-    → chapter7_records frame days ≡ Ok sections → GivesBack days sections
-
--- Reading back, part 2: the records that were read are exported as the same records.
-abbrev pub ExportsAgain : Type 0
-ExportsAgain = (frame : Frame) (days : FlightNumber → Days) (sections : List (List Record)) → IsTimetable days
-    → chapter7_records frame days ≡ Ok sections
-    → chapter7_records (kept_frame frame) (days_of (base_of (records_of sections))) ≡ Ok sections
-
--- Reading back, part 3: no record of an export is refused, whatever numbers its records have among
--- the fill.
-abbrev pub Stands : Type 0
-Stands = (frame : Frame) (days : FlightNumber → Days) (sections : List (List Record)) → IsFrame frame → IsTimetable days
-    → chapter7_records frame days ≡ Ok sections
-    → (number : ℕ) (records : List (ℕ × Record)) → map (λ r. r.1) records ≡ records_of sections → first_refusal (Done number) [] records ≡ None
-
--- Equal exports are exports of equal timetables.
-abbrev pub ExportsTell : Type 0
-ExportsTell = (frame : Frame) (days others : FlightNumber → Days) (sections : List (List Record)) → IsTimetable days → IsTimetable others
-    → chapter7_records frame days ≡ Ok sections → chapter7_records frame others ≡ Ok sections
-    → (flight : FlightNumber) (n : ℕ) → IsFlight flight → n < day_count → on_day (days flight) n ≡ on_day (others flight) n
-
--- Equal timetables have equal exports.
-abbrev pub SameExport : Type 0
-SameExport = (frame : Frame) (days others : FlightNumber → Days) → ((flight : FlightNumber) → IsFlight flight → days flight ≡ others flight)
-    → chapter7_records frame days ≡ chapter7_records frame others
-
 -- the rank of a flight among all flights
 abbrev pub place_of : FlightNumber → ℕ
 place_of f = 27 * f.number + (if nat_eq f.suffix 32 then 0 else f.suffix - 64)
@@ -91,16 +57,6 @@ place_of f = 27 * f.number + (if nat_eq f.suffix 32 then 0 else f.suffix - 64)
 abbrev pub Rise : ℕ → List FlightNumber → Type 0
 Rise low [] = Unit {0}
 Rise low (f ∷ fs) = (low ≤ place_of f) × IsFlight f × Rise (place_of f + 1) fs
-
--- the flights that are not in the list have no piece
-abbrev pub NoOther : (FlightNumber → Days) → List FlightNumber → Type 0
-NoOther days fs = (g : FlightNumber) → IsFlight g → list_any (same_flight g) fs ≡ false → pieces (days g) ≡ []
-
--- Flights without a flown day add nothing to an export, so the flights of a map serve in place of
--- all flights.
-abbrev pub FlownSuffice : Type 0
-FlownSuffice = (frame : Frame) (days : FlightNumber → Days) (fs : List FlightNumber) → Rise 0 fs → NoOther days fs
-    → chapter7_records frame days ≡ export_of fs frame days
 
 -- ---- on bytes
 
@@ -171,22 +127,15 @@ pub record IsExport (frame : Frame) (days : FlightNumber → Days) (bytes : List
 abbrev pub BytesReadBack : Type 0
 BytesReadBack = (frame : Frame) (days : FlightNumber → Days) (bytes : List ℕ) → IsExport frame days bytes → ReadsBackFrom frame days bytes
 
--- Bytes are read in at most one way.
-abbrev pub ReadOnce : Type 0
-ReadOnce = (bytes : List ℕ) (count other : ℕ) (records others : List (ℕ × Record)) → AreRead bytes count records → AreRead bytes other others
-    → (count ≡ other) × (records ≡ others)
+-- two timetables have the same itineraries
+abbrev pub HaveSameItineraries : (FlightNumber → Days) → (FlightNumber → Days) → Type 0
+HaveSameItineraries days others = (flight : FlightNumber) (n : ℕ) → IsFlight flight → n < day_count → on_day (days flight) n ≡ on_day (others flight) n
 
--- Equal bytes are exports of equal timetables, in frames that a base keeps alike.
-abbrev pub BytesTell : Type 0
-BytesTell = (frame other : Frame) (days others : FlightNumber → Days) (bytes : List ℕ) → IsExport frame days bytes → IsExport other others bytes
-    → (kept_frame frame ≡ kept_frame other)
-    × ((flight : FlightNumber) (n : ℕ) → IsFlight flight → n < day_count → on_day (days flight) n ≡ on_day (others flight) n)
-
--- Equal timetables in frames that a base keeps alike have the same bytes.
-abbrev pub SameBytes : Type 0
-SameBytes = (frame other : Frame) (days others : FlightNumber → Days) → kept_frame frame ≡ kept_frame other → IsTimetable days → IsTimetable others
-    → ((flight : FlightNumber) (n : ℕ) → IsFlight flight → n < day_count → on_day (days flight) n ≡ on_day (others flight) n)
-    → chapter7 frame days ≡ chapter7 other others
+-- The bytes of two exports are equal exactly if their timetables have the same itineraries and a
+-- base keeps their frames alike.
+abbrev pub ExportsAreOne : Type 0
+ExportsAreOne = (frame other : Frame) (days others : FlightNumber → Days) (bytes these : List ℕ) → IsExport frame days bytes → IsExport other others these
+    → (bytes ≡ these) ↔ ((kept_frame frame ≡ kept_frame other) × HaveSameItineraries days others)
 
 -- a timetable can be exported and read back: each day has its legs by rising sequence, with columns
 -- and tails that records may have

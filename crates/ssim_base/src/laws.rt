@@ -1,5 +1,6 @@
 //! Laws of exports, of bases, and of messages resolved against bases.
-ghost use Rattle.ssim_base.specs.ReadBack.{BasesExport, BytesReadBack, BytesTell, ReadOnce, SameBytes, ReadsBack, ExportsAgain, ExportsTell, FlownSuffice, SameExport, Stands};
+ghost use Rattle.ssim_base.specs.Base.{NamesTheEnd, NamesTheFirst};
+ghost use Rattle.ssim_base.specs.ReadBack.{BasesExport, BytesReadBack, ExportsAreOne};
 ghost use Rattle.ssim_base.specs.Reading.{IsReadBack, SameBytesSameBase};
 ghost use Rattle.ssim_base.specs.Resolve.{HasOneOutcome};
 ghost use Rattle.ssim_base.specs.SavedBase.{SavedCanBeRead, SavedIsOne, SavedIsRead};
@@ -10,35 +11,25 @@ ghost use Rattle.ssim_base.specs.examples.StationTables;
 
 use ssim_records::{frames_are_one, written_records_read_back};
 
-/// An export reads back to the timetable that was exported. No record of it is refused, and
-/// exporting what was read gives the same records. So two exports in one frame are equal exactly if
-/// their timetables are.
-pub fn export_reads_back()
-    ensures stands { Stands }
-    ensures same { ReadsBack }
-    ensures again { ExportsAgain }
-    ensures tells { ExportsTell }
-    ensures told { SameExport }
-{}
-
-/// Flights without a flown day add nothing to an export.
-pub fn flown_flights_suffice()
-    ensures { FlownSuffice }
-{}
-
 /// The bytes of an export are read as records. None is refused, and there are no notes. The base
 /// has the frame and, on each date, the itineraries that were exported, and its export is the same
-/// bytes. Bytes are read in only one way. So the bytes of two exports are equal exactly if their
-/// timetables are equal and a base keeps their frames alike.
+/// bytes. The bytes of two exports are equal exactly if their timetables have the same itineraries
+/// and a base keeps their frames alike.
 pub fn export_bytes_read_back()
     ensures read { BytesReadBack }
-    ensures once { ReadOnce }
-    ensures tells { BytesTell }
-    ensures told { SameBytes }
+    ensures one { ExportsAreOne }
 {
     frames_are_one();
     written_records_read_back();
 }
+
+/// A data set is refused for its first invalid record: the least number n such that record n is not
+/// allowed after records 1 to n - 1. If each record is valid, a missing record or the end of the
+/// bytes decides.
+pub fn first_invalid_record_is_named()
+    ensures first { NamesTheFirst }
+    ensures end { NamesTheEnd }
+{}
 
 /// Bytes that spell the records of a base, and nothing else, are read as this base with its notes,
 /// unless the reader fails. So the bytes of an export are read as the base of

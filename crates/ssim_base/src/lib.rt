@@ -16,7 +16,8 @@
 //! - [`OutputBuffer`]: bytes for a sink, or a [`WriteFault`]. [`put_record`], [`put_leg`],
 //!   [`put_segment`], [`put_fill`] and [`put_bytes`] fill it, and [`flush`] empties it.
 //! - [`Place`]: what a fault names, such as a record, a column, a line, a sub-message or a flight.
-//! - [`laws`]: a base and its export read back; saved records read back; a message has one outcome.
+//! - [`laws`]: the first invalid record is named; a base and its export read back; saved records
+//!   read back; a message has one outcome.
 //!
 //! The promise: a data set, a station table and a message's dates are read exactly, however a
 //! reader cuts the bytes, and the first invalid record, line or date is the one that is named.

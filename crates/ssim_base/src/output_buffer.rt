@@ -199,25 +199,8 @@ fn make_room<W: Sink>(out: &mut W, block: &mut OutputBuffer) -> Result<(), Write
     Ok(())
 }
 
-/// Appends a record and LF to the buffer. If the buffer has no room for them, its bytes are put
-/// into the sink first. After a 52 the buffer is unchanged.
-fn put_line<W: Sink>(
-    out: &mut W,
-    block: &mut OutputBuffer,
-    bytes: &[u8; 200],
-) -> Result<(), WriteFault>
-    ensures ok { OnOk result (TakesUpTo (block.old ++ line bytes.now) block.new (W.taken out.old) (W.taken out.new)) }
-    ensures err { OnErr result (TakesFront (block.old ++ line bytes.now) (W.taken out.old) (W.taken out.new)) }
-    ensures unchanged { OnErr result (block.new ≡ block.old) }
-    ensures failures { CountsFault (W.failures out.old) (W.failures out.new) result }
-    ensures device { W.device out.new ≡ W.device out.old }
-{
-    make_room(out, block)?;
-    block.push_line(bytes);
-    Ok(())
-}
-
-/// Appends a record as it is written, and LF, to the buffer, as `put_line` does.
+/// Appends a record as it is written, and LF, to the buffer. If there is no room for them, the
+/// buffer's bytes are put into the sink first. After a 52 the buffer is unchanged.
 pub fn put_record<W: Sink>(
     out: &mut W,
     block: &mut OutputBuffer,
@@ -318,7 +301,8 @@ pub fn put_fill<W: Sink>(
 {
     let mut left = count;
     while left > 0 {
-        put_line(out, block, &FILL)?;
+        make_room(out, block)?;
+        block.push_line(&FILL);
         left -= 1;
     }
     Ok(())

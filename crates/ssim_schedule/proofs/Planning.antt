@@ -16,6 +16,7 @@ use Rattle.ssim_schedule.specs.Plan.{IsRefusedAs, Planned, Refuses, pieces_count
 use Rattle.ssim_schedule.specs.Schedule.{Table, AreRising, days_in, key_at, no_entry}
 use Rattle.ssim_base.specs.ReadBack as law
 use Rattle.ssim_base.specs.ReadBack.{place_of}
+use Rattle.ssim_base.proofs.ExportLaws.{NoOther}
 use Rattle.ssim_schedule.specs.declared.export.ExportFault.{ExportFault}
 use Rattle.ssim_schedule.specs.declared.export.ExportFault.TheVariants.{Variations, Records, WriteFault, Memory}
 use Rattle.ssim_schedule.specs.declared.flight_table.FlightPeriods.{FlightPeriods}
@@ -150,7 +151,7 @@ absent (f ∷ table) g is each none = by (same_flight g f.flight) (nat_eq (place
         let same : same_flight g f.flight ≡ true = ap (λ (x : FlightNumber). same_flight g x) (sym one) ∙ same-self g in
         absurd cc
 
-no_other : (table : Table) → Each Exists table → law.NoOther (days_in table) (flights_in table)
+no_other : (table : Table) → Each Exists table → NoOther (days_in table) (flights_in table)
 no_other table each g is out =
     ap pieces (absent table g is each out) ∙ unflown (each_day (λ n. [])) (λ n l. let len = length-each_day (λ n. []) in at-each_day (λ n. []) n (omega arith))
 

@@ -15,7 +15,7 @@ use crate::export::lines::put_export;
 use crate::export::plan::{divide, measure};
 use crate::flight_blocks::FlightBlocks;
 use crate::schedule::Schedule;
-use ssim_base::laws::{export_bytes_read_back, export_reads_back};
+use ssim_base::laws::export_bytes_read_back;
 use ssim_base::{Base, BaseFrame, DataSet, Place};
 use ssim_records::{Carrier, Header, Sink, Trailer};
 use ssim_values::{Airline, Designator, Flight, Memory};
@@ -145,7 +145,6 @@ pub fn export_data_set<W: Sink>(data_set: DataSet, out: &mut W) -> Result<(), Ex
     // the same bytes.
     ensures reads_back { OnOk result (ReadsBackBase W.taken data_set (days_of data_set) out.old out.new) }
 {
-    export_reads_back();
     let (schedule, frame) = Schedule::of_data_set(data_set)?;
     schedule.export_in(&frame, out)
 }

@@ -1,4 +1,4 @@
--- A leg record stands where none before it has one of its dates.
+-- A leg record is allowed if none before it has one of its dates.
 use Rattle.ssim_periods.specs.CommonDays.{have_common_date}
 use Rattle.std.proofs.Common.{ℕ, refl, sym, ap, subst, ◌∙◌}
 use Rattle.ssim_values.specs.Flight.{IsFlight}
