@@ -26,7 +26,7 @@ same_option None None f g = refl
 same_option None (Some y) f g = g y refl
 same_option (Some x) b f g = sym (f x refl)
 
-same_desk : (v w : DeskState) → v.base ≡ w.base → ((r : Reference) (m : MessageValue) → Holds v r m → Holds w r m) → ((r : Reference) (m : MessageValue) → Holds w r m → Holds v r m) → v ≡ w
+pub same_desk : (v w : DeskState) → v.base ≡ w.base → ((r : Reference) (m : MessageValue) → Holds v r m → Holds w r m) → ((r : Reference) (m : MessageValue) → Holds w r m → Holds v r m) → v ≡ w
 same_desk v w base f g =
     let held : v.held ≡ w.held = same_map reference_total reference_apart v.held w.held (λ q. same_option (get v.held q) (get w.held q) (f q) (g q)) in
     λ i. record { base = base i; held = held i }

@@ -1,15 +1,18 @@
 -- What a desk shows is what its messages mean.
-use Rattle.std.proofs.Common.{◌≡◌, ℕ, ◌<◌, List, [], slice_index_or, refl, sym, ap, ◌∙◌}
+use Rattle.std.proofs.Common.{◌≡◌, ℕ, ◌<◌, IfErr, List, [], OnOk, Option, Result, Ok, Err, slice_index_or, refl, sym, ap, ◌∙◌}
 use Rattle.std.proofs.lemmas.List.Elements.{All-weaker}
 use Rattle.ssim_periods.proofs.DayLemmas.{day_count-is}
 use Rattle.ssim_base.proofs.Calendars.{at-each_day}
 use Rattle.ssim_base.specs.BaseSeen.{BaseSeen}
+use Rattle.ssim_schedule.specs.Plan.{RefusesBase, WritesBase}
 use Rattle.ssim_schedule.specs.Schedule.{Table, days_in}
+use Rattle.ssim_schedule.specs.declared.export.ExportFault.{ExportFault}
+use Rattle.ssim_schedule.specs.declared.export.ExportFault.TheVariants.{Variations, Records, WriteFault, Memory}
 use Rattle.ssim_base.specs.Timetable.{Legs}
 use Rattle.ssim_values.specs.Flight.{FlightNumber, IsFlight}
 use Rattle.ssim_held.specs.Entries.{AreEntries, DeskSeen, Entry, IsEntry, state_of}
 use Rattle.ssim_held.proofs.Entries.{entries-map_of}
-use Rattle.ssim_desk.specs.Desk.{timetable_of}
+use Rattle.ssim_desk.specs.Desk.{WritesDesk, days_of_desk, timetable_of}
 use Rattle.ssim_desk.specs.Meaning.{Finds, HasDates, Lists, Means, Timetable, found_by, left_by}
 use Rattle.ssim_desk.specs.internal.Changes.{IsAfter}
 use Rattle.ssim_desk.proofs.Meanings.{has_one_meaning}
@@ -37,3 +40,17 @@ pub legs_after : (base : BaseSeen) (entries : List Entry) (schedule : Table) →
     → slice_index_or (days_in schedule flight) day [] ≡ left_by base entries flight day
 legs_after base entries schedule is flight exists day within =
     ap (λ (days : List Legs). slice_index_or days day []) (is.shows flight exists) ∙ at-each_day (left_by base entries flight) day (rw day_count-is within)
+
+-- what an export in the frame of a base leaves is what the export of the desk leaves
+pub writes_desk : {W : Type 0} (taken : W → Option (List ℕ)) (failures : W → ℕ) (desk : DeskSeen) (old new : W) (r : Result (Unit {0}) ExportFault) → AreEntries desk.base.records desk.held
+    → OnOk r (WritesBase taken failures desk.base.records (days_of_desk desk) old new) → IfErr r (RefusesBase taken failures desk.base.records (days_of_desk desk) old new)
+    → WritesDesk taken (state_of desk) old new r
+writes_desk taken failures desk old new (Ok x) entries w e =
+    (w.2.0, record { frame = w.0; has_frame = w.1; timetable = timetable_of desk; means = has_meaning desk entries; exported = sym w.2.1 }, w.2.2)
+writes_desk taken failures desk old new (Err (Variations flight)) entries w e =
+    record { frame = e.0; has_frame = e.1; timetable = timetable_of desk; means = has_meaning desk entries; exported = sym e.2.0 }
+writes_desk taken failures desk old new (Err Records) entries w e =
+    record { frame = e.0; has_frame = e.1; timetable = timetable_of desk; means = has_meaning desk entries; exported = sym e.2.0 }
+writes_desk taken failures desk old new (Err WriteFault) entries w e =
+    (e.2.0, record { frame = e.0; has_frame = e.1; timetable = timetable_of desk; means = has_meaning desk entries; exported = sym e.2.1 }, e.2.2)
+writes_desk taken failures desk old new (Err Memory) entries w e = tt

@@ -1,16 +1,18 @@
 -- What the calls of a desk do and return.
 use Rattle.std.specs.Prelude.{◌≡◌, ℕ, ◌+◌, ◌*◌, ◌≤◌, Bool, ◌&&◌, ◌||◌, nat_eq, IsTrue, List, [], ◌∷◌, ◌++◌, length, take, slice_get, Contains, None}
-use Rattle.std.specs.Prelude.{Some, Result, Ok, Err}
-use Rattle.std.specs.{FinMap.get, List.{count_by, flat_map, list_any}}
+use Rattle.std.specs.Prelude.{Option, Some, Result, Ok, Err}
+use Rattle.std.specs.{FinMap.get, Io.KnownBytes.Appends, List.{count_by, flat_map, list_any}}
 use Rattle.ssim_periods.specs.Days.{each_day}
-use Rattle.ssim_base.specs.{BaseSeen.{BaseSeen, is_leg_of}, Stations.Row, Timetable.{Days, Legs, same_flight}}
-use Rattle.ssim_schedule.specs.{DivisionPoints.is_point}
+use Rattle.ssim_base.specs.{BaseSeen.{BaseSeen, is_leg_of}, Sinks.TakesFront, Stations.Row, Timetable.{Days, Legs, same_flight}}
+use Rattle.ssim_base.specs.Export as exported
+use Rattle.ssim_schedule.specs.{DivisionPoints.is_point, declared.export.ExportFault.ExportFault}
+use Rattle.ssim_schedule.specs.declared.export.ExportFault.TheVariants as export
 use Rattle.ssim_base.specs.{declared.sub_message.ResolvedSub.ResolvedSub}
 use Rattle.ssim_schedule.specs.{declared.finding.Finding.Finding}
 use Rattle.ssim_text.specs.{Grammar.identifier_of, declared.action.Sub.Sub, declared.reference.Reference.Reference}
 use Rattle.ssim_values.specs.Flight.{FlightNumber}
-use Rattle.ssim_held.specs.{Entries.{DeskSeen, Entry, map_of}, declared.fault.DeskFault.DeskFault}
-use Rattle.ssim_desk.specs.{Meaning.{found_by, left_by}, declared.desk.Took.Took, declared.finding_line.FindingLine.FindingLine}
+use Rattle.ssim_held.specs.{Entries.{DeskSeen, Entry, map_of}, Held.DeskState, declared.fault.DeskFault.DeskFault}
+use Rattle.ssim_desk.specs.{Meaning.{Exports, found_by, left_by}, declared.desk.Took.Took, declared.finding_line.FindingLine.FindingLine}
 use Rattle.ssim_desk.specs.declared.steps.Answer.{Answer}
 use Rattle.ssim_desk.specs.declared.steps.Answer.TheVariants.{Taken, Repeated, Merged, Refused}
 use Rattle.ssim_desk.specs.declared.desk.Took.TheVariants as took
@@ -75,6 +77,16 @@ entry_lines _ _ = []
 -- order of reference
 abbrev pub finding_lines : DeskSeen → List FindingLine
 finding_lines desk = entry_lines desk.held (found_by desk.base desk.held)
+
+-- What an export of a desk leaves. The sink has taken the bytes of the desk's export; or the desk's
+-- export is this refusal, 50 or 51; or the sink failed, and has taken a prefix of the bytes of the
+-- desk's export; or memory ran out.
+abbrev pub WritesDesk : {W : Type 0} → (W → Option (List ℕ)) → DeskState → W → W → Result (Unit {0}) ExportFault → Type 0
+WritesDesk taken desk old new (Ok x) = (bytes : List ℕ) × Exports desk (Ok bytes) × Appends (taken old) (taken new) bytes
+WritesDesk taken desk old new (Err (export.Variations flight)) = Exports desk (Err (exported.Variations flight))
+WritesDesk taken desk old new (Err export.Records) = Exports desk (Err exported.Records)
+WritesDesk taken desk old new (Err export.WriteFault) = (bytes : List ℕ) × Exports desk (Ok bytes) × TakesFront bytes (taken old) (taken new)
+WritesDesk taken desk old new (Err export.Memory) = Unit {0}
 
 -- ---- cuts: the days at which the dates of a flight are divided
 

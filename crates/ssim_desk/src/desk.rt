@@ -11,7 +11,7 @@ ghost use Rattle.ssim_held.specs.File.{CanBeSaved, desk_file};
 ghost use Rattle.ssim_held.specs.Opening.{FailsAs, NeverEnds, Opens, RefusesFile};
 ghost use Rattle.ssim_held.specs.Entries.{AreEntries, AreRising, IsEntry, map_of, state_of};
 ghost use Rattle.ssim_held.specs.Ordered.{Belongs};
-ghost use Rattle.ssim_desk.specs.Desk.{AreDeskPoints, IsReplayed, at_rest, days_of_desk, finding_lines, merge_answer, point_bound, take_answer, timetable_of};
+ghost use Rattle.ssim_desk.specs.Desk.{AreDeskPoints, IsReplayed, WritesDesk, at_rest, days_of_desk, finding_lines, merge_answer, point_bound, take_answer, timetable_of};
 ghost use Rattle.ssim_desk.specs.internal.Changes.{IsReplaced};
 ghost use Rattle.ssim_desk.specs.Meaning.{Finds, Means, Timetable, found_by};
 ghost use Rattle.ssim_desk.specs.Steps.{Merges, Takes};
@@ -216,7 +216,11 @@ impl Desk {
         ensures err { IfErr result (λ fault. RefusesBase W.taken W.failures self.now.base.records (days_of_desk self.now) out.old out.new fault) }
         ensures device { W.device out.new ≡ W.device out.old }
         ensures reads_back { OnOk result (ReadsBackBase W.taken self.now.base.records (days_of_desk self.now) out.old out.new) }
+        ensures exports { WritesDesk W.taken (state_of self.now) out.old out.new result }
     {
+        // No effect at run time. The proof reads from this use that the messages are those of a
+        // desk.
+        let _ = self.holdings.held();
         self.history.latest.export(self.holdings.base(), out)
     }
 

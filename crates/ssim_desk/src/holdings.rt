@@ -12,7 +12,7 @@ ghost use Rattle.ssim_held.specs.Held.{Agree, Says};
 ghost use Rattle.ssim_held.specs.Entries.{AreEntries, AreRising, IsEntry, map_of, state_of};
 ghost use Rattle.ssim_held.specs.Opening.{RefusesBytes};
 ghost use Rattle.ssim_held.specs.Ordered.{Belongs};
-ghost use Rattle.ssim_desk.specs.Desk.{days_of_desk, finding_lines, merge_answer, timetable_of, took_answer};
+ghost use Rattle.ssim_desk.specs.Desk.{WritesDesk, days_of_desk, finding_lines, merge_answer, timetable_of, took_answer};
 ghost use Rattle.ssim_desk.specs.Meaning.{Finds, Means, Timetable, found_by};
 ghost use Rattle.ssim_desk.specs.internal.Changes.{IsChange, IsOffer};
 ghost use Rattle.ssim_desk.specs.Steps.{Merges, RefusesDesk, RefusesText, Takes};
@@ -186,6 +186,7 @@ impl Holdings {
         ensures err { IfErr result (λ fault. RefusesBase W.taken W.failures self.base.records (days_of_desk self) out.old out.new fault) }
         ensures device { W.device out.new ≡ W.device out.old }
         ensures reads_back { OnOk result (ReadsBackBase W.taken self.base.records (days_of_desk self) out.old out.new) }
+        ensures exports { WritesDesk W.taken (state_of self) out.old out.new result }
     {
         let Holdings { base, held, alloc } = self;
         let (data_set, stations) = base.into_parts();

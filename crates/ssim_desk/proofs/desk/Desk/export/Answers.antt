@@ -2,9 +2,10 @@ use Rattle.std.proofs.Common.{OnOk, IfErr, Result, Ok, Err, subst}
 use Rattle.ssim_base.specs.BaseSeen.{BaseSeen}
 use Rattle.ssim_schedule.specs.Plan.{RefusesBase, WritesBase}
 use Rattle.ssim_schedule.specs.Schedule.{days_in}
-use Rattle.ssim_held.specs.Entries.{DeskSeen}
+use Rattle.ssim_held.specs.Entries.{AreEntries, DeskSeen}
 use Rattle.ssim_desk.specs.Desk.{days_of_desk}
 use Rattle.ssim_desk.proofs.Exports.{refuses, writes}
+use Rattle.ssim_desk.proofs.Meant.{writes_desk}
 use Rattle.ssim_desk.proofs.desk.Desk.export.Goals as goal
 
 on_ok : {T E A B : Type 0} (r : Result T E) → (A → B) → OnOk r A → OnOk r B
@@ -32,3 +33,8 @@ returns-clause-err g c =
     (refuses days (days_of_desk t) c.self.invariant.latest_is.shows g.W.Sink.taken g.W.Sink.failures t.base.records c.args.out.now c.export.new.out fault
     (subst (λ (b : BaseSeen). let records = b.records in RefusesBase g.W.Sink.taken g.W.Sink.failures records days c.args.out.now c.export.new.out fault) c.base.ensures r)))
     c.export.ensures.err
+
+pub returns-clause-exports : goal.returns-clause-exports
+returns-clause-exports g c =
+    let entries = subst (λ (d : DeskSeen). AreEntries d.base.records d.held) c.self.view_is c.held.ensures.kept in
+    writes_desk g.W.Sink.taken g.W.Sink.failures c.args.self.now c.args.out.now c.export.new.out c.export.result entries (returns-clause-ok g c) (returns-clause-err g c)

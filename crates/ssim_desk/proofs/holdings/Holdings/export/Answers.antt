@@ -4,9 +4,10 @@ use Rattle.ssim_base.specs.BaseSeen.{BaseSeen, base_with}
 use Rattle.ssim_schedule.specs.Plan.{ReadsBackBase, RefusesBase, WritesBase}
 use Rattle.ssim_schedule.specs.Schedule.{days_in}
 use Rattle.ssim_base.specs.Timetable.{itinerary}
-use Rattle.ssim_held.specs.Entries.{DeskSeen}
+use Rattle.ssim_held.specs.Entries.{AreEntries, DeskSeen}
 use Rattle.ssim_desk.specs.Desk.{days_of_desk}
 use Rattle.ssim_desk.proofs.Exports.{left, reads_back, refuses, writes}
+use Rattle.ssim_desk.proofs.Meant.{writes_desk}
 use Rattle.ssim_desk.proofs.holdings.Holdings.export.Goals as goal
 
 on_ok : {T E A B : Type 0} (r : Result T E) → (A → B) → OnOk r A → OnOk r B
@@ -64,3 +65,8 @@ returns-clause-reads_back g c =
     (λ back. subst (λ (d : DeskSeen). ReadsBackBase g.W.Sink.taken d.base.records (days_of_desk d) c.args.out.now c.export_in.new.out) (ap (λ (b : BaseSeen). let d : DeskSeen = record { base = b; held = held; applied = 0 } in d) c.into_parts-data_set.ensures ∙ c.self.view_is)
     (reads_back (days_in schedule) (days_of_desk desk) shows g.W.Sink.taken parts.0 c.args.out.now c.export_in.new.out (frame, has_frame, back.0, back.1, back.2)))
     c.export_in.ensures.reads_back
+
+pub returns-clause-exports : goal.returns-clause-exports
+returns-clause-exports g c =
+    let entries = subst (λ (d : DeskSeen). AreEntries d.base.records d.held) c.self.view_is c.self.invariant in
+    writes_desk g.W.Sink.taken g.W.Sink.failures c.args.self c.args.out.now c.export_in.new.out c.export_in.result entries (returns-clause-ok g c) (returns-clause-err g c)
