@@ -12,3 +12,4 @@ pub mod Outcomes
 pub mod Scripted
 pub mod Saying
 pub mod Writers
+pub mod Verdict

@@ -15,4 +15,5 @@ pub mod Help
 pub mod Script
 pub mod Explained
 pub mod Rehearsal
+pub mod Verdict
 pub mod Examples
