@@ -10,6 +10,7 @@ pub mod Effects
 pub mod Again
 pub mod Reasons
 pub mod World
+pub mod Offices
 pub mod Exported
 pub mod Help
 pub mod Script
