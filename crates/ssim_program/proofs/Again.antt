@@ -15,7 +15,7 @@ use Rattle.ssim_base.specs.Timetable.{Days, days_of}
 use Rattle.ssim_base.specs.declared.note.Note.{Note}
 use Rattle.ssim_base.proofs.FrameLemmas.{first-is, last-is, second-is}
 use Rattle.ssim_program.specs.Again.{GrowsByItself, ReadsAsItself, TidiesOnce}
-use Rattle.ssim_program.specs.Made.{IsExportOf, file_limit}
+use Rattle.ssim_program.specs.Made.{IsExport, IsExportOf, file_limit}
 
 -- ---- a base has one frame
 
@@ -41,10 +41,10 @@ one_frame f g base p q =
     ∙ ap (λ (x : CarrierFields). frame_from g.header x f.trailer) carrier
     ∙ ap (λ (x : TrailerFields). frame_from g.header g.carrier x) trailer
 
-one_export : (base : List Record) (a b : List ℕ) → IsExportOf base a → IsExportOf base b → a ≡ b
-one_export base a b p q =
+pub one_export : (base : List Record) (days : FlightNumber → Days) (a b : List ℕ) → IsExport base days a → IsExport base days b → a ≡ b
+one_export base days a b p q =
     let frame = one_frame p.0 q.0 base p.1 q.1 in
-    let same : Ok a ≡ Ok b = sym p.2 ∙ ap (λ (f : Frame). chapter7 f (days_of base)) frame ∙ q.2 in
+    let same : Ok a ≡ Ok b = sym p.2 ∙ ap (λ (f : Frame). chapter7 f days) frame ∙ q.2 in
     ap (bytes_in a) same
   where
     bytes_in : List ℕ → Result (List ℕ) ExportRefusal → List ℕ
@@ -67,7 +67,7 @@ read_as base notes = Ok (base, notes)
 as_itself : (base : List Record) (notes : List Note) (again bytes : List ℕ) (own : ReadsAsItself bytes) → IsExportOf base again
     → (read_as base notes ≡ read_as own.base []) ⊎ FailedReader (read_as base notes) → again ≡ bytes
 as_itself base notes again bytes own export (inl e) =
-    one_export own.base again bytes (subst (λ (b : List Record). IsExportOf b again) (ap (base_in base) e) export) own.export
+    one_export own.base (days_of own.base) again bytes (subst (λ (b : List Record). IsExportOf b again) (ap (base_in base) e) export) own.export
 as_itself base notes again bytes own export (inr f) = absurd (true≢false (ap is_read f.1))
 
 pub tidied_once : IsReadBack → TidiesOnce

@@ -12,3 +12,9 @@ pub mod Outcomes
 pub mod Scripted
 pub mod Saying
 pub mod Writers
+pub mod Origins
+pub mod SavedDesks
+pub mod Offices
+pub mod Prints
+pub mod Verdict
+pub mod Did

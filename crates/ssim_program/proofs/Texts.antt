@@ -3,7 +3,7 @@ use Rattle.std.proofs.Common.{◌≡◌, ◌∙◌, inl, inr, ℕ, zero, suc, �
 use Rattle.std.specs.List.{slice_get}
 use Rattle.std.proofs.Math.Seq.{take-length}
 use Rattle.ssim_held.specs.File.{desk_file}
-use Rattle.ssim_held.specs.Entries.{DeskSeen}
+use Rattle.ssim_held.specs.Entries.{AreRising, DeskSeen}
 use Rattle.ssim_program.specs.Desks.{PrintsTexts, ReadsDesk, RefusesDeskFile, RefusesFileText, RefusesKeep, TakesFirst, TakesText, TakesTexts}
 use Rattle.ssim_program.specs.Files.{Files, with_kept}
 use Rattle.ssim_command_line.specs.Line.{Text, Take}
@@ -98,19 +98,19 @@ module _ (files : Option Files) (file out : Text) (names : List Text) where
       })
 
       -- the desk file is kept or not
-      pub kept_or_not : (k : Result (Unit {0}) Refusal) (between new : Option Files) → between ≡ files → Grows [] q r → r.flushed ≡ true
+      pub kept_or_not : (k : Result (Unit {0}) Refusal) (between new : Option Files) → AreRising last.held → between ≡ files → Grows [] q r → r.flushed ≡ true
           → OnOk k (new ≡ with_kept (Some (out, desk_file last.base last.held)) between) → IfErr k (RefusesKeep out) → OnErr k (new ≡ between)
           → Does (Take file out names) (world files p) (world new r) k
-      kept_or_not (Ok x) between new before grows flushed done why same = record {
+      kept_or_not (Ok x) between new rising before grows flushed done why same = record {
         printed = printed.0;
         kept = Some (out, desk_file last.base last.held);
-        makes = (desk, last, read, printed.1, refl);
+        makes = (desk, last, read, printed.1, rising, refl);
         again = tt;
         files = done ∙ ap (with_kept (Some (out, desk_file last.base last.held))) before;
         grows = flushed_after printed.0 p q r printed.2 grows;
         flushed = flushed;
       }
-      kept_or_not (Err refusal) between new before grows flushed done why same = inl (record {
+      kept_or_not (Err refusal) between new rising before grows flushed done why same = inl (record {
         printed = printed.0;
         why = inr (desk, read, inr ((last, printed.1), why));
         files = same ∙ before;

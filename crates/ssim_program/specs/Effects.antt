@@ -2,6 +2,7 @@
 use Rattle.std.specs.Prelude.{◌≡◌, ℕ, List, [], length, Option, Some, None, Ok}
 use Rattle.ssim_records.specs.declared.record.Record.{Record}
 use Rattle.ssim_base.specs.BaseSeen.{BaseSeen}
+use Rattle.ssim_base.specs.SavedBase.{IsBaseRecords}
 use Rattle.ssim_base.specs.declared.note.Note.{Note}
 use Rattle.ssim_held.specs.File.{desk_file}
 use Rattle.ssim_held.specs.Entries.{AreRising, DeskSeen}
@@ -14,16 +15,19 @@ use Rattle.ssim_program.specs.Made.{AreLinesOn, IsExportOf, ReadsBase, ReadsFile
 use Rattle.ssim_program.specs.Rehearsal.{RehearsesFiles}
 use Rattle.ssim_program.specs.Shown.{findings_lines}
 
--- What each command makes of the files: the bytes that it prints, and the file that it keeps.
+-- What each command makes of the files: the bytes that it prints, and the file that it keeps. The
+-- records of a new desk's base can be written, and the messages of a desk that is kept are in order
+-- of reference.
 abbrev pub Makes : Line → Option Files → List ℕ → Kept → Type 0
 Makes (Check name) files printed kept =
     (base : List Record) × (notes : List Note) × ReadsFile files name (Ok (base, notes)) × AreLinesOn base notes printed × (kept ≡ None)
 Makes (Tidy name) files printed kept =
     (base : List Record) × (notes : List Note) × ReadsFile files name (Ok (base, notes)) × IsExportOf base printed × (kept ≡ None)
 Makes (Start dataset stations out) files printed kept =
-    (base : BaseSeen) × (notes : List Note) × ReadsBase files dataset stations base notes × (printed ≡ held_line 0) × (kept ≡ Some (out, desk_file base []))
+    (base : BaseSeen) × (notes : List Note) × ReadsBase files dataset stations base notes × IsBaseRecords base.records
+    × (printed ≡ held_line 0) × (kept ≡ Some (out, desk_file base []))
 Makes (Take file out names) files printed kept =
-    (before : DeskSeen) × (after : DeskSeen) × ReadsDesk files file before × TakesTexts files names before after printed
+    (before : DeskSeen) × (after : DeskSeen) × ReadsDesk files file before × TakesTexts files names before after printed × AreRising after.held
     × (kept ≡ Some (out, desk_file after.base after.held))
 Makes (Merge file other out) files printed kept =
     (mine : DeskSeen) × (theirs : DeskSeen) × (after : DeskSeen) × ReadsDesk files file mine × ReadsDesk files other theirs × IsMergeOf mine theirs after × AreRising after.held

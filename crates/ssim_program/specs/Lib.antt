@@ -10,9 +10,11 @@ pub mod Effects
 pub mod Again
 pub mod Reasons
 pub mod World
+pub mod Offices
 pub mod Exported
 pub mod Help
 pub mod Script
 pub mod Explained
 pub mod Rehearsal
+pub mod Verdict
 pub mod Examples

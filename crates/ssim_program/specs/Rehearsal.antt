@@ -6,6 +6,7 @@ use Rattle.std.specs.FinMap.{entries}
 use Rattle.std.specs.List.{flat_map}
 use Rattle.ssim_base.specs.Base.{airline_of}
 use Rattle.ssim_base.specs.BaseSeen.{BaseSeen}
+use Rattle.ssim_base.specs.SavedBase.{IsBaseRecords}
 use Rattle.ssim_base.specs.Export as exported
 use Rattle.ssim_base.specs.Export.{line}
 use Rattle.ssim_schedule.specs.declared.export.ExportFault.{ExportFault}
@@ -234,6 +235,7 @@ pub record RehearsesFiles (files : Option Files) (dataset stations script : Text
   pub base : BaseSeen
   pub notes : List Note
   pub read : ReadsBase files dataset stations base notes
+  pub records : IsBaseRecords base.records
   pub count : ℕ
   pub steps : List Step
   pub has_steps : HasSteps files script count steps

@@ -1,8 +1,13 @@
-//! What holds of the bytes that the commands write.
+//! What holds of the bytes that the commands write, and of desk files after any commands.
 
+ghost use Rattle.ssim_command_line.specs.Line.{Export, Findings, Show, Text};
 ghost use Rattle.ssim_program.specs.Again.{TidiesOnce};
+ghost use Rattle.ssim_program.specs.Offices.{HoldsWhatWasBrought, OfficesAgree, PrintsTheSame};
+ghost use Rattle.ssim_program.specs.Verdict.{EndsWithSame};
 
-use ssim_base::laws::written_bases_are_read;
+use ssim_base::laws::{same_bytes_same_base, same_bytes_same_rows, written_bases_are_read};
+use ssim_desk::laws::{any_two_desks_agree, no_two_desks_have_one_file};
+use ssim_text::laws::{canonical_reads_back, one_message};
 
 /// Of a file that is the export of its own base, as all that `tidy` wrote is, `tidy` makes the same
 /// bytes.
@@ -10,4 +15,39 @@ pub fn tidied_once()
     ensures { TidiesOnce }
 {
     written_bases_are_read();
+}
+
+/// Two offices begin their desks by `start` from the same data set and the same station table. If
+/// the same messages are brought to both desks, by texts or by merges, in any order and however
+/// often, both have the same desk file, byte for byte. Each desk file that can be read holds the
+/// messages that were brought to it, and no others.
+pub fn offices_agree()
+    ensures agree { OfficesAgree }
+    ensures holds { HoldsWhatWasBrought }
+{
+    one_message();
+    canonical_reads_back();
+    no_two_desks_have_one_file();
+    same_bytes_same_base();
+    same_bytes_same_rows();
+}
+
+/// Of two equal desk files `show`, `findings` and `export` print the same: each flight on each
+/// date, what each sub-message found, and the chapter 7 data set, byte for byte.
+pub fn equal_files_print_the_same()
+    ensures show { (flight date : Text) → PrintsTheSame (λ file. Show file flight date) }
+    ensures findings { PrintsTheSame Findings }
+    ensures export { PrintsTheSame Export }
+{
+    no_two_desks_have_one_file();
+}
+
+/// A script runs texts and merges on several desks. If the same messages reached all of them, by
+/// texts or by merges, `rehearse` prints `same` as its last line. The one exception is a run in
+/// which a line `desk d refused 90 Memory` says that there was no memory for an export.
+pub fn rehearsals_end_with_same()
+    ensures { EndsWithSame }
+{
+    one_message();
+    any_two_desks_agree();
 }

@@ -5,6 +5,7 @@ ghost use Rattle.std.specs.Io.KnownBytes.{Keeps};
 ghost use Rattle.ssim_program.specs.Files.{Files};
 ghost use Rattle.ssim_program.specs.Help.{Answers, PrintsHelp, RefusesHelp, SaysHelp, SaysWrong};
 ghost use Rattle.ssim_command_line.specs.Line.{Line, Spells};
+ghost use Rattle.ssim_program.specs.Offices.{Did};
 ghost use Rattle.ssim_program.specs.Reasons.{PrintsRefusal};
 ghost use Rattle.ssim_command_line.specs.Request.{line_of};
 ghost use Rattle.ssim_command_line.specs.Usage.{HasFault, IsCommand, IsNoCommand, Names, is_help};
@@ -67,6 +68,10 @@ pub fn run<S: Store, O: Write, E: Write>(
         × EndsWithLine line (world (S.files store.old) (paper (O.contents out.old) 0))
         (world (S.files store.new) (paper (O.contents out.new) failed))
         (paper (E.contents err.old) 0) (paper (E.contents err.new) err_failed) }
+
+    // Whatever its status, a command has kept the file of what it makes, or no file changed.
+    ensures did { (line : Line) → Names (map (λ w. w.now) words.now) line
+        → Did line (S.files store.old) (S.files store.new) }
 
     // Help is printed on `out`, or refused; what is wrong with the words is printed on `err`. No
     // file changes.
@@ -143,6 +148,10 @@ pub fn run_on<S: Store, O: Write, E: Write>(
     ensures ends { (line : Line) → Names (map (λ w. w.now) words.now) line → result ≡ 1
         → EndsWithLine line (world (S.files store.old) out.old) (world (S.files store.new) out.new)
         err.old err.new }
+
+    // Whatever its status, a command has kept the file of what it makes, or no file changed.
+    ensures did { (line : Line) → Names (map (λ w. w.now) words.now) line
+        → Did line (S.files store.old) (S.files store.new) }
 
     // Help is printed on `out`, or refused; what is wrong with the words is printed on `err`. No
     // file changes.

@@ -40,6 +40,8 @@ pub(crate) fn rehearse<S: Store>(
     let (data_set, stations) = load_base(alloc, dataset, stations, store)?;
     let (count, steps) = load_steps(alloc, script, store)?;
     let desk = Holdings::start(alloc, data_set, stations);
+    // No effect at run time. The proof reads from this use what is always true of a base.
+    let _ = desk.base().records();
     let lines = rehearsal_of(alloc, &desk, count, &steps)?;
     let bytes = bytes_of(alloc, &lines)?;
     Ok(bytes)

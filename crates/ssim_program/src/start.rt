@@ -27,6 +27,8 @@ pub(crate) fn start<S: Store>(
 {
     let (data_set, stations) = load_base(alloc, dataset, stations, store)?;
     let desk = Holdings::start(alloc, data_set, stations);
+    // No effect at run time. The proof reads from this use what is always true of a base.
+    let _ = desk.base().records();
     let line = held_line(alloc, 0)?;
     keep(alloc, &desk, name, store)?;
     Ok(line)

@@ -34,6 +34,8 @@ pub(crate) fn take<S: Store, W: Write>(
     let mut desk = open_holdings(alloc, file, store)?;
     take_texts(alloc, &mut desk, names, store, out)?;
     out.flush()?;
+    // No effect at run time. The proof reads from this use that the messages are in order.
+    let _ = desk.held();
     keep(alloc, &desk, kept, store)
 }
 

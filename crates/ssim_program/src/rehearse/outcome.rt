@@ -27,8 +27,6 @@ fn export_into(desk: &Holdings, out: &mut Bytes) -> Result<Option<ExportFault>, 
     ensures ok { IfOk result (λ fault. IsOutcome (state_of desk.now) (outcome_with out.new.bytes fault)) }
     ensures err { OnErr result (out.new.failures ≡ (out.old.failures + 1) % 2 ^ 64) }
 {
-    // No effect at run time. The proof reads from this use what the desk's messages are.
-    let _ = desk.held();
     match desk.copy() {
         Ok(copy) => match copy.export(out) {
             Ok(()) => Ok(None),

@@ -2,6 +2,7 @@
 use Rattle.std.proofs.Common.{inr, map}
 use Rattle.ssim_program.specs.World.{world}
 use Rattle.ssim_command_line.proofs.Lines.{spells_names}
+use Rattle.ssim_program.proofs.Did.{did}
 use Rattle.ssim_program.proofs.Saying.{answered, obeyed}
 use Rattle.ssim_program.proofs.program.run_on.Goals as goal
 
@@ -79,3 +80,9 @@ returns-in-Err-clause-devices g c = (answered (map (λ w. w.now) c.args.words.no
 
 pub returns-in-Ok-clause-files : goal.returns-in-Ok-clause-files
 returns-in-Ok-clause-files g c = inr (_, c.in-Ok.ensures.named)
+
+pub returns-in-Ok-clause-did : goal.returns-in-Ok-clause-did
+returns-in-Ok-clause-did g c line names = did _ _ _ _ _ _ (obeyed (map (λ w. w.now) c.args.words.now) _ (world (g.S.Store.files c.args.store.now) c.args.out.now) (world (g.S.Store.files c.obey.new.store) c.obey.new.out) c.args.err.now c.obey.new.err c.obey.result c.in-Ok.ensures.named c.obey.ensures) line names
+
+pub returns-in-Err-clause-did : goal.returns-in-Err-clause-did
+returns-in-Err-clause-did g c line names = did _ _ _ _ _ _ (answered (map (λ w. w.now) c.args.words.now) (g.S.Store.files c.args.store.now) c.args.out.now c.answer.new.out c.args.err.now c.answer.new.err c.answer.result c.in-Err.fault c.in-Err.ensures.fault c.answer.ensures) line names

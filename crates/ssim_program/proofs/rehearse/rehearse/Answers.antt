@@ -1,7 +1,8 @@
 -- The base is refused, or the steps are.
 use Rattle.std.proofs.Common.{rules, ◌≡◌, ◌∙◌, inl, inr, refl, Err, List, None, Option, subst}
 use Rattle.std.specs.List.{flat_map}
-use Rattle.ssim_base.specs.BaseSeen.{base_with}
+use Rattle.ssim_base.specs.BaseSeen.{BaseSeen, base_with}
+use Rattle.ssim_base.specs.SavedBase.{IsBaseRecords}
 use Rattle.ssim_held.specs.Entries.{DeskSeen}
 use Rattle.ssim_desk.specs.declared.steps.Step.{Step}
 use Rattle.ssim_program.specs.Files.{Files}
@@ -32,12 +33,15 @@ returns g c =
     let on_desk : Rehearses c.start-desk.result.base count steps lines =
     subst (λ (given : List Step). Rehearses c.start-desk.result.base count given lines) c.deref.ensures.value c.in_ok-lines.ensures in
     let rehearsed : Rehearses base count steps lines = subst (λ (desk : DeskSeen). Rehearses desk.base count steps lines) c.start-desk.ensures on_desk in
+    let of_desk = subst (λ (b : BaseSeen). IsBaseRecords b.records) c.base.ensures (subst IsBaseRecords c.records.ensures.value c.records.ensures.is_base) in
+    let records : IsBaseRecords base.records = subst (λ (d : DeskSeen). IsBaseRecords d.base.records) c.start-desk.ensures of_desk in
     let printed : c.in_ok-bytes.bytes.items ≡ flat_map printed_line lines = search rules in
     let rehearses : RehearsesFiles (g.S.Store.files c.args.store.now) c.args.dataset.now c.args.stations.now c.args.script.now c.in_ok-bytes.bytes.items =
     record {
       base = base;
       notes = c.in_ok-data_set.ensures.read.0;
       read = c.in_ok-data_set.ensures.read.1;
+      records = records;
       count = count;
       steps = steps;
       has_steps = has_steps;

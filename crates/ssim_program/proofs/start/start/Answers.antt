@@ -1,6 +1,7 @@
 -- The base is read, and its desk is kept.
-use Rattle.std.proofs.Common.{◌≡◌, ◌∙◌, ap, inl, inr, refl, rules, Err, Some}
-use Rattle.ssim_base.specs.BaseSeen.{base_with}
+use Rattle.std.proofs.Common.{◌≡◌, ◌∙◌, ap, inl, inr, refl, rules, subst, Err, Some}
+use Rattle.ssim_base.specs.BaseSeen.{BaseSeen, base_with}
+use Rattle.ssim_base.specs.SavedBase.{IsBaseRecords}
 use Rattle.ssim_held.specs.File.{desk_file}
 use Rattle.ssim_held.specs.Entries.{DeskSeen}
 use Rattle.ssim_program.specs.Files.{with_kept}
@@ -19,8 +20,11 @@ returns-in_err-keep g c =
 pub returns : goal.returns
 returns g c =
     let desk = c.start-desk.result in let name = c.args.name.now in
-    let kept = Some (name, desk_file desk.base desk.held) in (
+    let kept = Some (name, desk_file desk.base desk.held) in
+    let base = base_with c.in_ok-data_set.data_set c.in_ok-data_set.stations in
+    let of_desk = subst (λ (b : BaseSeen). IsBaseRecords b.records) c.base.ensures (subst IsBaseRecords c.records.ensures.value c.records.ensures.is_base) in
+    let is_base : IsBaseRecords base.records = subst (λ (d : DeskSeen). IsBaseRecords d.base.records) c.start-desk.ensures of_desk in (
       kept,
-      (base_with c.in_ok-data_set.data_set c.in_ok-data_set.stations, c.in_ok-data_set.ensures.read.0, c.in_ok-data_set.ensures.read.1, c.in_ok-line.ensures, ap (λ (d : DeskSeen). Some (name, desk_file d.base d.held)) c.start-desk.ensures),
+      (base, c.in_ok-data_set.ensures.read.0, c.in_ok-data_set.ensures.read.1, is_base, c.in_ok-line.ensures, ap (λ (d : DeskSeen). Some (name, desk_file d.base d.held)) c.start-desk.ensures),
       c.in_ok-keep.ensures.kept ∙ ap (with_kept kept) c.load_base.ensures.same,
     )

@@ -1,5 +1,6 @@
 -- The desk is opened, the texts are taken, and the desk is kept.
 use Rattle.std.proofs.Common.{◌≡◌, ◌∙◌, Option, map, ap, subst, rules, Err, IfErr, OnErr, OnOk}
+use Rattle.ssim_held.specs.Entries.{AreRising}
 use Rattle.ssim_held.specs.File.{desk_file}
 use Rattle.ssim_program.specs.Desks.{PrintsTexts}
 use Rattle.ssim_program.specs.Files.{Files}
@@ -34,4 +35,4 @@ returns g c =
     let files = g.S.Store.files c.args.store.now in
     let printed = subst (λ (f : Option Files). HavePrinted f names c.in_ok-desk.desk c.take_texts.new.desk c.args.out.now c.take_texts.new.out) c.open_holdings.ensures.same c.in_ok-take_texts.ensures.texts in
     kept_or_not files c.args.file.now c.args.kept.now names c.in_ok-desk.desk c.in_ok-desk.ensures.read c.take_texts.new.desk c.args.out.now c.take_texts.new.out printed c.flush.new.self
-    c.keep.result (g.S.Store.files c.take_texts.new.store) (g.S.Store.files c.keep.new.store) (c.take_texts.ensures.same ∙ c.open_holdings.ensures.same) c.in_ok-flush.ensures.0 c.in_ok-flush.ensures.1 c.keep.ensures.kept c.keep.ensures.why c.keep.ensures.same
+    c.keep.result (g.S.Store.files c.take_texts.new.store) (g.S.Store.files c.keep.new.store) (subst AreRising c.held.ensures.value c.held.ensures.rising) (c.take_texts.ensures.same ∙ c.open_holdings.ensures.same) c.in_ok-flush.ensures.0 c.in_ok-flush.ensures.1 c.keep.ensures.kept c.keep.ensures.why c.keep.ensures.same

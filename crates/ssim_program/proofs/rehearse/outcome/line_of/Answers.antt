@@ -1,16 +1,13 @@
 -- As many messages as the map has entries.
-use Rattle.std.proofs.Common.{◌≡◌, ◌∙◌, suc, List, [], ◌∷◌, length, sym, ap, subst, refl}
+use Rattle.std.proofs.Common.{◌≡◌, ◌∙◌, List, length, sym, ap, subst}
 use Rattle.std.specs.FinMap.{entries}
-use Rattle.ssim_held.specs.Entries.{AreRising, Entry, keyed, map_of, state_of}
+use Rattle.ssim_held.specs.Entries.{AreRising, Entry, map_of, state_of}
 use Rattle.ssim_held.proofs.Entries.{entries-map_of}
+use Rattle.ssim_program.proofs.SavedDesks.{length-keyed}
 use Rattle.ssim_program.specs.Rehearsal.{desk_line, outcome_of}
 use Rattle.ssim_program.specs.declared.rehearse.line.RehearsalLine.TheVariants as printed
 use Rattle.ssim_program.specs.declared.rehearse.outcome.Outcome.{Outcome}
 use Rattle.ssim_program.proofs.rehearse.outcome.line_of.Goals as goal
-
-length-keyed : (es : List Entry) → length (keyed es) ≡ length es
-length-keyed [] = refl
-length-keyed (e ∷ es) = ap suc (length-keyed es)
 
 held_count : (held es : List Entry) → held ≡ es → AreRising held → length held ≡ length (entries (map_of es))
 held_count held es is rising = ap length is ∙ sym (ap length (entries-map_of es (subst AreRising is rising)) ∙ length-keyed es)

@@ -1,0 +1,86 @@
+-- What the file of a name is after an event, by where it comes from.
+use Rattle.std.proofs.Common.{◌≡◌, ◌∙◌, ℕ, Bool, true, false, if◌then◌else◌, List, [], ◌∷◌, Option, None, Some, refl, sym, ap, subst, option_map, find}
+use Rattle.std.specs.Str.{bytes_eq}
+use Rattle.ssim_base.specs.BaseSeen.{BaseSeen}
+use Rattle.ssim_base.specs.SavedBase.{IsBaseRecords}
+use Rattle.ssim_base.specs.declared.note.Note.{Note}
+use Rattle.ssim_held.specs.Entries.{AreRising, DeskSeen}
+use Rattle.ssim_held.specs.File.{desk_file}
+use Rattle.ssim_program.specs.Desks.{IsMergeOf, ReadsDesk, TakesTexts}
+use Rattle.ssim_program.specs.Files.{Files, Kept, file_of, with_kept}
+use Rattle.ssim_command_line.specs.Line.{Line, Text, Check, Tidy, Start, Take, Merge, Show, Findings, Export, Rehearse, Explain}
+use Rattle.ssim_program.specs.Made.{ReadsBase}
+use Rattle.ssim_program.specs.Offices.{Event, Done, Refused, Copied, Came, IsMade, Leaves, Origin, Was, Started, Took, Merged, Given, origin_of}
+
+-- what the file of a name is, by where it comes from
+abbrev pub Comes : Origin → Files → Option (List ℕ) → Type 0
+Comes (Was name) files file = file ≡ file_of files name
+Comes (Started dataset stations) files file =
+    (base : BaseSeen) × (notes : List Note) × ReadsBase (Some files) dataset stations base notes × IsBaseRecords base.records × (file ≡ Some (desk_file base []))
+Comes (Took desk texts) files file =
+    (before : DeskSeen) × (after : DeskSeen) × (printed : List ℕ) × ReadsDesk (Some files) desk before × TakesTexts (Some files) texts before after printed × AreRising after.held
+    × (file ≡ Some (desk_file after.base after.held))
+Comes (Merged one other) files file =
+    (mine : DeskSeen) × (theirs : DeskSeen) × (after : DeskSeen) × ReadsDesk (Some files) one mine × ReadsDesk (Some files) other theirs × IsMergeOf mine theirs after × AreRising after.held
+    × (file ≡ Some (desk_file after.base after.held))
+Comes (Given bytes) files file = file ≡ Some bytes
+
+-- ---- files after one was kept
+
+-- the file of a name after a file was kept
+pub kept_file : (out name : Text) (bytes : List ℕ) (files : Files) → file_of ((out, bytes) ∷ files) name ≡ (if bytes_eq out name then Some bytes else file_of files name)
+kept_file out name bytes files = by (bytes_eq out name)
+  where
+    by : (b : Bool) → option_map (λ (f : List ℕ × List ℕ). f.1) (if b then Some (out, bytes) else find (λ (f : List ℕ × List ℕ). bytes_eq f.0 name) files) ≡ (if b then Some bytes else file_of files name)
+    by true = refl
+    by false = refl
+
+-- the file under the new name comes from there, and each other file is as it was
+written : (out name : Text) (bytes : List ℕ) (old new : Files) (origin : Origin) → new ≡ (out, bytes) ∷ old → Comes origin old (Some bytes)
+    → Comes (if bytes_eq out name then origin else Was name) old (file_of new name)
+written out name bytes old new origin is comes =
+    subst (Comes (if bytes_eq out name then origin else Was name) old) (sym (ap (λ (all : Files). file_of all name) is ∙ kept_file out name bytes old)) (by (bytes_eq out name))
+  where
+    by : (b : Bool) → Comes (if b then origin else Was name) old (if b then Some bytes else file_of old name)
+    by true = comes
+    by false = refl
+
+pub same_some : {A : Type 0} (x y : A) → Some x ≡ Some y → x ≡ y
+same_some x y e = cc
+
+-- no file was kept
+unchanged : (name : Text) (kept : Kept) (old new : Files) → kept ≡ None → Some new ≡ with_kept kept (Some old) → file_of new name ≡ file_of old name
+unchanged name kept old new none is =
+    ap (λ (all : Files). file_of all name) (same_some new old (is ∙ ap (λ (k : Kept). with_kept k (Some old)) none))
+
+-- a file was kept
+with_file : (out : Text) (bytes : List ℕ) (kept : Kept) (old new : Files) → kept ≡ Some (out, bytes) → Some new ≡ with_kept kept (Some old) → new ≡ (out, bytes) ∷ old
+with_file out bytes kept old new some is = same_some new ((out, bytes) ∷ old) (is ∙ ap (λ (k : Kept). with_kept k (Some old)) some)
+
+-- ---- by the event
+
+done_comes : (line : Line) (old new : Files) (name : Text) → IsMade line (Some old) (Some new) → Comes (origin_of (Done line) name) old (file_of new name)
+done_comes (Check file) old new name (printed, kept, makes, is) = unchanged name kept old new makes.4 is
+done_comes (Tidy file) old new name (printed, kept, makes, is) = unchanged name kept old new makes.4 is
+done_comes (Start dataset stations out) old new name (printed, kept, makes, is) =
+    let bytes = desk_file makes.0 [] in
+    written out name bytes old new (Started dataset stations) (with_file out bytes kept old new makes.5 is) (makes.0, makes.1, makes.2, makes.3, refl)
+done_comes (Take desk out texts) old new name (printed, kept, makes, is) =
+    let after = makes.1 in
+    let bytes = desk_file after.base after.held in
+    written out name bytes old new (Took desk texts) (with_file out bytes kept old new makes.5 is) (makes.0, after, printed, makes.2, makes.3, makes.4, refl)
+done_comes (Merge one other out) old new name (printed, kept, makes, is) =
+    let after = makes.2 in
+    let bytes = desk_file after.base after.held in
+    written out name bytes old new (Merged one other) (with_file out bytes kept old new makes.8 is) (makes.0, makes.1, after, makes.3, makes.4, makes.5, makes.6, refl)
+done_comes (Show file flight date) old new name (printed, kept, makes, is) = unchanged name kept old new makes.3 is
+done_comes (Findings file) old new name (printed, kept, makes, is) = unchanged name kept old new makes.3 is
+done_comes (Export file) old new name (printed, kept, makes, is) = unchanged name kept old new makes.3 is
+done_comes (Rehearse dataset stations script) old new name (printed, kept, makes, is) = unchanged name kept old new makes.1 is
+done_comes (Explain word) old new name (printed, kept, makes, is) = unchanged name kept old new makes.1 is
+
+pub comes : (event : Event) (old new : Files) (name : Text) → Leaves event old new → Comes (origin_of event name) old (file_of new name)
+comes (Done line) old new name leaves = done_comes line old new name leaves
+comes (Refused line) old new name leaves = ap (λ (all : Files). file_of all name) leaves
+comes (Copied from to) old new name (bytes, is, all) = written to name bytes old new (Was from) all (sym is)
+comes (Came other bytes) old new name leaves = written other name bytes old new (Given bytes) leaves refl

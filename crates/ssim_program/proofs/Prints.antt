@@ -1,0 +1,49 @@
+-- Equal files are of one desk, so commands print the same of them.
+use Rattle.std.proofs.Common.{◌≡◌, ◌∙◌, ℕ, List, Some, sym, subst, arith}
+use Rattle.ssim_values.proofs.DesignatorLemmas.{SpellsDesignator-unique}
+use Rattle.ssim_base.specs.BaseSeen.{BaseSeen}
+use Rattle.ssim_held.specs.Entries.{DeskSeen, Entry}
+use Rattle.ssim_held.specs.File.{IsDeskFile, NoTwoDesks}
+use Rattle.ssim_desk.specs.Desk.{days_of_desk, entry_lines}
+use Rattle.ssim_desk.specs.Meaning.{found_by, left_by}
+use Rattle.ssim_command_line.specs.Line.{Text, Show, Findings, Export}
+use Rattle.ssim_program.specs.Desks.{ReadsDesk}
+use Rattle.ssim_program.specs.Files.{Files}
+use Rattle.ssim_program.specs.Made.{IsExport}
+use Rattle.ssim_program.specs.Offices.{IsSameFile, PrintsTheSame}
+use Rattle.ssim_program.specs.Shown.{findings_lines, shown_flight}
+use Rattle.ssim_program.proofs.Again.{one_export}
+use Rattle.ssim_program.proofs.Origins.{same_some}
+
+-- a desk, whatever its latest change applied
+abbrev seen : BaseSeen → List Entry → DeskSeen
+seen base held = record { base = base; held = held; applied = 0 }
+
+module _ (no_two : NoTwoDesks) where
+  -- equal files are read as one desk
+  one_desk : (files others : Files) (name another : Text) (desk other : DeskSeen) → IsSameFile files name others another → ReadsDesk (Some files) name desk → ReadsDesk (Some others) another other
+      → (desk.base ≡ other.base) × (desk.held ≡ other.held)
+  one_desk files others name another desk other (bytes, here, there) (mine, has, is) (theirs, has_too, are) =
+      let same : theirs ≡ mine = same_some theirs mine (sym has_too.1 ∙ there ∙ sym here ∙ has.1) in
+      no_two mine desk.base other.base desk.held other.held (omega (arith, has.0)) is (subst (λ (bs : List ℕ). IsDeskFile bs other.base other.held) same are)
+
+  pub findings_same : PrintsTheSame Findings
+  findings_same files others name another printed again kept also same (desk, read, is, _) (other, reads, are, _) =
+      let one = one_desk files others name another desk other same read reads in
+      is ∙ (λ i. findings_lines (entry_lines (one.1 i) (found_by (one.0 i) (one.1 i)))) ∙ sym are
+
+  pub export_same : PrintsTheSame Export
+  export_same files others name another printed again kept also same (desk, read, is, _) (other, reads, are, _) =
+      let one = one_desk files others name another desk other same read reads in
+      one_export other.base.records (days_of_desk (seen other.base other.held)) printed again
+      (subst (λ (es : List Entry). IsExport other.base.records (days_of_desk (seen other.base es)) printed) one.1
+      (subst (λ (b : BaseSeen). IsExport b.records (days_of_desk (seen b desk.held)) printed) one.0 is)) are
+
+  pub show_same : (flight date : Text) → PrintsTheSame (λ file. Show file flight date)
+  show_same flight date files others name another printed again kept also same (desk, read, is, _) (other, reads, are, _) =
+      let one = one_desk files others name another desk other same read reads in
+      let designator = SpellsDesignator-unique is.designator are.designator flight is.spelled are.spelled in
+      let day : is.day ≡ are.day = same_some is.day are.day (sym is.dated ∙ are.dated) in
+      is.printed_is
+      ∙ (λ i. shown_flight (designator i) (day i) (left_by (one.0 i) (one.1 i) (designator i).flight (day i)))
+      ∙ sym are.printed_is

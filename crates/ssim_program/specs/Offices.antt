@@ -1,0 +1,168 @@
+-- What is in desk files after any commands: offices to whose desks the same messages were brought
+-- have the same desk file.
+use Rattle.std.specs.Prelude.{◌≡◌, ◌⊎◌, ◌↔◌, ℕ, ◌≤◌, if◌then◌else◌, List, [], ◌∷◌, length, Option, Some}
+use Rattle.std.specs.Str.{bytes_eq}
+use Rattle.ssim_base.specs.BaseSeen.{BaseSeen}
+use Rattle.ssim_text.specs.Message.{MessageValue}
+use Rattle.ssim_text.specs.declared.reference.Reference.{Reference}
+use Rattle.ssim_held.specs.Entries.{DeskSeen, Entry, map_of, state_of}
+use Rattle.ssim_held.specs.File.{IsDeskFile}
+use Rattle.ssim_held.specs.Held.{Holds, Says}
+use Rattle.ssim_program.specs.Desks.{ReadsDesk}
+use Rattle.ssim_program.specs.Effects.{Makes}
+use Rattle.ssim_program.specs.Files.{Files, Kept, file_of, with_kept}
+use Rattle.ssim_command_line.specs.Line.{Line, Text, Start, Take, Merge}
+use Rattle.ssim_program.specs.Made.{HasFile, file_limit}
+
+-- ---- what a command leaves, whatever its status
+
+-- the command has made what it makes of the old files, and the new files are these with the file
+-- that it keeps
+abbrev pub IsMade : Line → Option Files → Option Files → Type 0
+IsMade line old new = (printed : List ℕ) × (kept : Kept) × Makes line old printed kept × (new ≡ with_kept kept old)
+
+-- The command has made it, or the files are as they were. So a call of the program on the words of a
+-- command is an event of a history: `Done` or `Refused`.
+abbrev pub Did : Line → Option Files → Option Files → Type 0
+Did line old new = IsMade line old new ⊎ (new ≡ old)
+
+-- ---- histories
+
+-- What happens to named files: a command is done; a command is refused, and they stay as they were;
+-- a file is copied under another name; a file comes from elsewhere, as a telegram does.
+pub data Event : Type 0 where
+  Done : Line → Event
+  Refused : Line → Event
+  Copied : Text → Text → Event
+  Came : Text → List ℕ → Event
+
+-- a history: the files at the beginning, and then events, each with the files after it
+pub data History : Type 0 where
+  Began : Files → History
+  Then : History → Event → Files → History
+
+-- the files at the end of a history
+abbrev pub files_of : History → Files
+files_of (Began files) = files
+files_of (Then history event files) = files
+
+-- the event leaves these files
+abbrev pub Leaves : Event → Files → Files → Type 0
+Leaves (Done line) old new = IsMade line (Some old) (Some new)
+Leaves (Refused line) old new = new ≡ old
+Leaves (Copied from to) old new = (bytes : List ℕ) × (file_of old from ≡ Some bytes) × (new ≡ (to, bytes) ∷ old)
+Leaves (Came name bytes) old new = new ≡ (name, bytes) ∷ old
+
+-- each event of the history leaves the files after it
+abbrev pub Happened : History → Type 0
+Happened (Began files) = Unit {0}
+Happened (Then history event files) = Happened history × Leaves event (files_of history) files
+
+-- ---- where the file of a name comes from
+
+-- The file of a name after an event: it is the file of some name before; `start` made it of a data
+-- set and a station table; `take` of a desk file and texts; `merge` of two desk files; or it came
+-- from elsewhere.
+pub data Origin : Type 0 where
+  Was : Text → Origin
+  Started : Text → Text → Origin
+  Took : Text → List Text → Origin
+  Merged : Text → Text → Origin
+  Given : List ℕ → Origin
+
+-- where the file of this name comes from
+abbrev pub origin_of : Event → Text → Origin
+origin_of (Done (Start dataset stations out)) name = if bytes_eq out name then Started dataset stations else Was name
+origin_of (Done (Take desk out texts)) name = if bytes_eq out name then Took desk texts else Was name
+origin_of (Done (Merge mine theirs out)) name = if bytes_eq out name then Merged mine theirs else Was name
+origin_of (Copied from to) name = if bytes_eq to name then Was from else Was name
+origin_of (Came other bytes) name = if bytes_eq other name then Given bytes else Was name
+origin_of event name = Was name
+
+-- ---- what was brought
+
+-- the bytes, within the limit, are the desk file of a desk that holds the message
+abbrev pub IsIn : List ℕ → Reference → MessageValue → Type 0
+IsIn bytes reference message =
+    (base : BaseSeen) × (held : List Entry) × (length bytes ≤ file_limit) × IsDeskFile bytes base held
+    × Holds (record { base = base; held = map_of held }) reference message
+
+-- a text in one of the files of these names says the message over the base
+abbrev pub IsSaid : Files → BaseSeen → List Text → Reference → MessageValue → Type 0
+IsSaid files base [] reference message = ⊥
+IsSaid files base (name ∷ names) reference message =
+    ((text : List ℕ) × HasFile (Some files) name text × Says base text reference message) ⊎ IsSaid files base names reference message
+
+-- one of the texts says the message to the desk in the file of this name
+abbrev pub IsSaidTo : Files → Text → List Text → Reference → MessageValue → Type 0
+IsSaidTo files name texts reference message = (desk : DeskSeen) × ReadsDesk (Some files) name desk × IsSaid files desk.base texts reference message
+
+-- which messages, each under its reference, were brought to the files of which names
+abbrev pub Bringing : Type 1
+Bringing = Text → Reference → MessageValue → Type 0
+
+-- what was brought to a file, by where it comes from: to a new desk nothing; to one that took texts
+-- what they say and what was brought to it before; to a merged one what was brought to both; and to
+-- one that came from elsewhere what it holds
+abbrev pub BroughtBy : Origin → Files → Bringing → Reference → MessageValue → Type 0
+BroughtBy (Was name) files before reference message = before name reference message
+BroughtBy (Started dataset stations) files before reference message = ⊥
+BroughtBy (Took desk texts) files before reference message = before desk reference message ⊎ IsSaidTo files desk texts reference message
+BroughtBy (Merged mine theirs) files before reference message = before mine reference message ⊎ before theirs reference message
+BroughtBy (Given bytes) files before reference message = IsIn bytes reference message
+
+-- The message was brought to the file of this name: by a text that a `take` took, by a desk file to
+-- which it had been brought, or in a desk file that came from elsewhere or was there at the
+-- beginning.
+abbrev pub Brought : History → Bringing
+Brought (Began files) name reference message = (bytes : List ℕ) × (file_of files name ≡ Some bytes) × IsIn bytes reference message
+Brought (Then history event files) name reference message = BroughtBy (origin_of event name) (files_of history) (Brought history) reference message
+
+-- ---- where a desk began
+
+-- the desk began by `start` from these bytes of a data set and of a station table
+abbrev pub BeganBy : Origin → Files → (Text → List ℕ → List ℕ → Type 0) → List ℕ → List ℕ → Type 0
+BeganBy (Was name) files before dataset stations = before name dataset stations
+BeganBy (Started data_file table_file) files before dataset stations = (file_of files data_file ≡ Some dataset) × (file_of files table_file ≡ Some stations)
+BeganBy (Took desk texts) files before dataset stations = before desk dataset stations
+BeganBy (Merged mine theirs) files before dataset stations = before mine dataset stations
+BeganBy (Given bytes) files before dataset stations = ⊥
+
+-- the desk in the file of this name began so
+abbrev pub BeganFrom : History → Text → List ℕ → List ℕ → Type 0
+BeganFrom (Began files) name dataset stations = ⊥
+BeganFrom (Then history event files) name dataset stations = BeganBy (origin_of event name) (files_of history) (BeganFrom history) dataset stations
+
+-- ---- the laws
+
+-- A desk file that can be read holds the messages that were brought to it, and no others.
+abbrev pub HoldsWhatWasBrought : Type 0
+HoldsWhatWasBrought =
+    (history : History) (name : Text) (desk : DeskSeen) → Happened history → ReadsDesk (Some (files_of history)) name desk
+    → (reference : Reference) (message : MessageValue) → Holds (state_of desk) reference message ↔ Brought history name reference message
+
+-- two desks began from the same bytes, and the same messages were brought to both
+pub record BroughtTheSame (one other : History) (name another : Text) : Type 0 where
+  pub dataset : List ℕ
+  pub stations : List ℕ
+  pub began_one : BeganFrom one name dataset stations
+  pub began_other : BeganFrom other another dataset stations
+  pub same : (reference : Reference) (message : MessageValue) → Brought one name reference message ↔ Brought other another reference message
+
+-- the files of two names have the same bytes
+abbrev pub IsSameFile : Files → Text → Files → Text → Type 0
+IsSameFile files name others another = (bytes : List ℕ) × (file_of files name ≡ Some bytes) × (file_of others another ≡ Some bytes)
+
+-- Two offices have the same desk file, byte for byte, if their desks began by `start` from the same
+-- data set and station table and the same messages were brought to both: whatever commands each
+-- office typed, in whatever order, and however often.
+abbrev pub OfficesAgree : Type 0
+OfficesAgree =
+    (one other : History) (name another : Text) → Happened one → Happened other → BroughtTheSame one other name another
+    → IsSameFile (files_of one) name (files_of other) another
+
+-- of equal files the command prints equal bytes
+abbrev pub PrintsTheSame : (Text → Line) → Type 0
+PrintsTheSame command =
+    (files others : Files) (name another : Text) (printed again : List ℕ) (kept none : Kept) → IsSameFile files name others another
+    → Makes (command name) (Some files) printed kept → Makes (command another) (Some others) again none → printed ≡ again
