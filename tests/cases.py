@@ -17,6 +17,27 @@ import tempfile
 KNOWN = {"", "#", "let", "|", "=", "^", "at", "cut", "out", "load", "file", "run", "prefixes", "show", "size", "equal"}
 
 
+# The constants of the vectors, whose names are theirs in small letters.
+VECTORS = os.path.join(os.path.dirname(os.path.dirname(os.path.abspath(__file__))), "crates", "ssim_vectors", "src")
+TEXT = re.compile(r'pub const (\w+): &\[u8(?:; 200)?\] =\s*b"((?:[^"\\]|\\.)*)";', re.DOTALL)
+RECORDS = re.compile(r"pub const (\w+): &\[&\[u8; 200\]\] =\s*&\[([^]]*)\];")
+
+
+def vectors():
+    """The lines of each vector by its name."""
+    sources = []
+    for name in "data_sets.rt", "texts.rt":
+        with open(os.path.join(VECTORS, name), encoding="ascii", newline="\n") as file:
+            sources.append(file.read())
+    source, found = "".join(sources), {}
+    for name, literal in TEXT.findall(source):
+        data = re.sub(r"\\\n\s*", "", literal).encode("ascii").decode("unicode_escape").encode("latin-1")
+        found[name.lower()] = data if data.endswith(b"\n") else data + b"\n"
+    for name, records in RECORDS.findall(source):
+        found[name.lower()] = b"".join(found[record.lower()] for record in re.findall(r"\w+", records))
+    return found
+
+
 def bytes_shown(text):
     """The bytes that a text shows."""
     def sign(found):

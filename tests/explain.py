@@ -1,13 +1,16 @@
 #!/usr/bin/env python3
-"""Compares what `explain` prints of each number with the tables of the documents: explain.py PROGRAM
+"""Compares what `explain` prints of each number, and of a file for each, with the tables of the documents: explain.py PROGRAM
 
 docs/FORMATS.md has a row for each refusal, whose name and reason `explain` prints. The README has the names again, and what
-to do. No other number has a refusal. The last line is 'N passed, M failed'.
+to do. No other number has a refusal. A file is explained for each number that a file alone may be refused by: the first line has
+the place, the second the reason, and the last what to do. The last line is 'N passed, M failed'.
 """
 import os
 import re
 import subprocess
 import sys
+
+from cases import vectors
 
 TOP = os.path.dirname(os.path.dirname(os.path.abspath(__file__)))
 
@@ -55,25 +58,83 @@ def expected(number, reason, remedy):
     return f"refused {number} {name}\n{name}: {why}\nwhat to do: {remedy[number][1]}\n"
 
 
-def printed(program, number):
-    """What is printed, without the place in the first line."""
-    done = subprocess.run([program, "explain", str(number)], stdin=subprocess.DEVNULL, stdout=subprocess.PIPE,
-                          stderr=subprocess.STDOUT, timeout=60, check=False)
+def printed(program, word, given=b""):
+    """What `explain` prints of a number, or of a file: `-` is the standard input."""
+    done = subprocess.run([program, "explain", word], input=given, stdout=subprocess.PIPE, stderr=subprocess.STDOUT,
+                          timeout=60, check=False)
     text = done.stdout.decode("utf-8", "replace")
-    return re.sub(r"^(refused \d+ \w+).*", r"\1", text, count=1) if done.returncode == 0 else f"status {done.returncode}: {text}"
+    return text if done.returncode == 0 else f"status {done.returncode}: {text}"
+
+
+def without_place(text):
+    return re.sub(r"^(refused \d+ \w+).*", r"\1", text, count=1)
+
+
+def over(line, column, text):
+    """A record with other bytes from a column on."""
+    return line[: column - 1] + text + line[column - 1 + len(text) :]
+
+
+def message(*lines, start=0):
+    """A text that has other lines in the place of those of a text that cancels a flight, from a line on."""
+    usual = vectors()["one_date_cancelled"].split(b"\n")[:-1]
+    return b"\n".join([*usual[: start - 1], *lines, *usual[start - 1 + len(lines) :]]) + b"\n"
+
+
+def refused_files():
+    """A file that is refused by each number that a file alone may have, and the place."""
+    records = vectors()
+    h, c, leg, segment, t = (records[name] for name in ("header", "carrier", "leg", "segment", "trailer"))
+    times = records["times_changed_on_mondays"]
+    return {
+        10: (records["summer"][:-2], "record 4"),
+        11: (h + c + over(leg, 1, b"6") + t, "record 3"),
+        12: (h + c + over(leg, 37, b"Z1H") + t, "record 3 column 37"),
+        20: (message(b"SSN", start=1), "line 1"),
+        21: (message(b"01JUN0001E001", start=3), "line 3"),
+        22: (message(b"CNL NEW", start=4), "line 4"),
+        23: (message(b"LX544 1/X", start=5), "line 5"),
+        24: (message(b"30FEB 25OCT25 1", start=6), "line 6"),
+        25: (message(b"EQT", b"LX544", b"01JUL25 07JUL25 2", b"J 320 CY/Z", start=4), "line 7"),
+        26: (message(b"NEW", b"LX544", b"01JUL25 07JUL25 2", b"J 320", b"ZRH0545 LHR2460", start=4), "line 8"),
+        27: (message(b"J 320", start=7), "line 7"),
+        28: (times + 20 * times[-16:], "line 27"),
+        29: (message(b"LX5\xe944", start=5), "line 5"),
+        30: (c + leg + t, "record 1"),
+        31: (h + leg + t, "record 2"),
+        32: (h + c + leg, "record 4"),
+        33: (h + c + over(leg, 3, b"BA ") + t, "record 3"),
+        34: (h + c + leg + leg + t, "record 4"),
+        35: (h + c + segment + leg + t, "record 3"),
+        36: (h + c + over(leg, 128, b"1") + t, "record 3"),
+        37: (h + c + over(leg, 36, b"2") + t, "record 3"),
+        38: (h + c + leg + over(t, 194, b"C"), "record 4"),
+        39: (records["stations"] + b"JFK\n", "line 5"),
+        62: (b"SSIMDESK 2\nRECORDS\n", "offset 11"),
+        63: (b"DESKS 2\nTAKE 3 x2\n", "line 2"),
+    }
+
+
+def ends_of(text):
+    """The first two lines and the last one."""
+    lines = text.splitlines(keepends=True)
+    return "".join([*lines[:2], *lines[-1:]])
 
 
 def main():
     program = os.path.abspath(sys.argv[1])
     reason, remedy = reasons(), remedies()
+    answers = [(number, expected(number, reason, remedy), without_place(printed(program, str(number)))) for number in range(100)]
+    for number, (data, place) in refused_files().items():
+        wanted = expected(number, reason, remedy).replace("\n", f" {place}\n", 1)
+        answers.append((f"a file with {number}", wanted, ends_of(printed(program, "-", data))))
     passed = failed = 0
-    for number in range(100):
-        wanted, got = expected(number, reason, remedy), printed(program, number)
+    for name, wanted, got in answers:
         if got == wanted:
             passed += 1
         else:
             failed += 1
-            print(f"explain: {number}: expected\n{wanted}but it printed\n{got}")
+            print(f"explain: {name}: expected\n{wanted}but it printed\n{got}")
     for number in sorted(set(remedy) - set(reason)):
         failed += 1
         print(f"explain: {number} is in the README alone")
