@@ -24,7 +24,6 @@ pub mod FrameLaws
 pub mod Examples
 pub mod ReadOnce
 pub mod SameColumns
-pub mod AtHand
 pub mod Eights
 pub mod Clocks
 pub mod Serials
