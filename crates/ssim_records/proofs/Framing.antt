@@ -11,7 +11,7 @@ use Rattle.ssim_records.specs.declared.blocks.Stop.TheVariants.{Short, ReadFault
 use Rattle.ssim_records.specs.declared.device.DeviceFault.{DeviceFault}
 use Rattle.ssim_records.specs.Device.{CountsBytes}
 use Rattle.ssim_records.specs.Frames.{trim, Frames, others, is_fill}
-use Rattle.ssim_records.specs.Blocks.{SameAhead, NextBlock, GivesBlock, GivesOther, Ahead, CountsOn, Fetches, Takes}
+use Rattle.ssim_records.specs.Blocks.{CameOn, SameAhead, NextBlock, GivesBlock, GivesOther, Ahead, CountsOn, Fetches, Takes}
 use Rattle.ssim_records.proofs.LineEnds.{trim_front, trim_pass, trim_twice, trim_less}
 use Rattle.ssim_columns.proofs.lemmas.Slices.{same_front, same_back}
 
@@ -128,6 +128,24 @@ faulted behind limit came0 came old held trimmed new (Some x) left1 (Some y) sta
     (omega (arith, on.1), tt)
 
 -- ---- counts
+
+-- n bytes more came, and are held
+pub came_more : (l0 l1 l2 : Option (List ℕ)) (held : List ℕ) (came0 came n : ℕ) → CameOn l0 l1 came0 came → SameAhead [] l1 held l2 → length held ≡ n → CameOn l0 l2 came0 (came + n)
+came_more None l1 l2 held came0 came n h same is = tt
+came_more (Some x) None l2 held came0 came n h same is = absurd h
+came_more (Some x) (Some y) None held came0 came n h same is = same
+came_more (Some x) (Some y) (Some z) held came0 came n h same is = omega (arith, h, is, ap length same, length-append held z)
+
+pub came_none : (l : Option (List ℕ)) (came : ℕ) → CameOn l l came came
+came_none None came = tt
+came_none (Some x) came = refl
+
+-- no byte came
+pub came_same : (l0 l1 l2 : Option (List ℕ)) (held : List ℕ) (came0 came : ℕ) → CameOn l0 l1 came0 came → SameAhead [] l1 held l2 → length held ≡ 0 → CameOn l0 l2 came0 came
+came_same None l1 l2 held came0 came h same is = tt
+came_same (Some x) None l2 held came0 came h same is = absurd h
+came_same (Some x) (Some y) None held came0 came h same is = same
+came_same (Some x) (Some y) (Some z) held came0 came h same is = omega (arith, h, is, ap length same, length-append held z)
 
 pub counts_on : (l0 l1 l2 : Option (List ℕ)) (r0 r1 r2 came0 came n : ℕ) → CountsOn l0 l1 r0 r1 came0 came → CountsBytes l1 l2 r1 r2 (Ok n) → CountsOn l0 l2 r0 r2 came0 (came + n)
 counts_on (Some x) l1 l2 r0 r1 r2 came0 came n h k = tt

@@ -9,6 +9,5 @@ pub mod Lines
 pub mod Readings
 pub mod FrameLaws
 pub mod Examples
-pub mod AtHand
 pub use Rattle.ssim_columns.proofs.lemmas.CarriedTexts
 pub use Rattle.ssim_columns.proofs.lemmas.Days

@@ -1,5 +1,5 @@
 -- What the steps of framing do with the bytes that are held and those that a reader has left.
-use Rattle.std.specs.Prelude.{ℕ, ◌≡◌, ◌+◌, ◌-◌, ◌%◌, ◌^◌, ◌<◌, ◌≤◌, Bool, true, false, List, [], ◌∷◌, ◌++◌, length, take, drop, nat_lt, Option, Some, None, Result, Ok, Err}
+use Rattle.std.specs.Prelude.{ℕ, ◌≡◌, ◌+◌, ◌-◌, ◌%◌, ◌^◌, ◌<◌, ◌≤◌, Bool, true, false, List, [], ◌∷◌, ◌++◌, length, take, drop, nat_lt, ⊤, Option, Some, None, Result, Ok, Err}
 use Rattle.ssim_records.specs.declared.blocks.Stop.{Stop}
 use Rattle.ssim_records.specs.declared.blocks.Stop.TheVariants.{Short, ReadFault, ReaderNeverEnds}
 use Rattle.ssim_records.specs.Frames.{trim, Frames, is_fill, others}
@@ -68,11 +68,6 @@ block_count (Ok None) = 0
 block_count (Ok (Some block)) = 1
 block_count (Err stop) = 0
 
--- The first `count` bytes are a block that is not fill. If `behind` is true, line ends may come
--- before it.
-abbrev pub StandsFirst : Bool → List ℕ → List ℕ → ℕ → Type 0
-StandsFirst behind bytes block count = (length block ≡ 200) × (count ≤ length bytes) × (trim behind (take count bytes) ≡ block) × (is_fill block ≡ false)
-
 -- a reader that failed left too few bytes for a block
 abbrev pub HoldsFew : List ℕ → Result (Option (List ℕ)) Stop → Type 0
 HoldsFew held (Ok o) = Unit {0}
@@ -106,6 +101,21 @@ FailsOnce old new (Ok o) = new ≡ old
 FailsOnce old new (Err Short) = new ≡ old
 FailsOnce old new (Err ReadFault) = new ≡ (old + 1) % 2 ^ 64
 FailsOnce old new (Err ReaderNeverEnds) = new ≡ old
+
+-- The bytes that came are those that the reader no longer has left. Nothing is said if the reader
+-- does not report its bytes.
+abbrev pub CameOn : Option (List ℕ) → Option (List ℕ) → ℕ → ℕ → Type 0
+CameOn None left' came came' = Unit {0}
+CameOn (Some left) None came came' = ⊥
+CameOn (Some left) (Some left') came came' = came' + length left' ≡ came + length left
+
+-- The reader's failures are counted while the rest is skipped: one more if the result is a read
+-- fault, else none. After any other fault more bytes came than the limit.
+abbrev pub FailsAtRest : ℕ → ℕ → ℕ → ℕ → Result ⊤ Stop → Type 0
+FailsAtRest limit came old new (Ok x) = new ≡ old
+FailsAtRest limit came old new (Err Short) = ⊥
+FailsAtRest limit came old new (Err ReadFault) = new ≡ (old + 1) % 2 ^ 64
+FailsAtRest limit came old new (Err ReaderNeverEnds) = (new ≡ old) × (limit < came)
 
 -- A source that does not report its bytes has counted the bytes that came.
 abbrev pub CountsOn : Option (List ℕ) → Option (List ℕ) → ℕ → ℕ → ℕ → ℕ → Type 0

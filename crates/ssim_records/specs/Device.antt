@@ -21,15 +21,6 @@ abbrev pub CountsPut : ℕ → ℕ → Result ℕ DeviceFault → List ℕ → T
 CountsPut old new (Err e) bytes = new ≡ (old + 1) % 2 ^ 64
 CountsPut old new (Ok n) bytes = new ≡ (if n == 0 && nat_lt 0 (length bytes) then (old + 1) % 2 ^ 64 else old)
 
--- The bytes at hand come next. Only a source that reports its bytes has any.
-abbrev pub IsAtHand : Option (List ℕ) → List ℕ → Type 0
-IsAtHand left bytes = 0 < length bytes → (more : List ℕ) × (left ≡ Some (bytes ++ more))
-
--- Bytes at hand were skipped, or nothing was.
-abbrev pub SkipsAtHand : Option (List ℕ) → Option (List ℕ) → ℕ → Bool → Type 0
-SkipsAtHand old new count false = new ≡ old
-SkipsAtHand old new count true = (left : List ℕ) × (old ≡ Some left) × (count ≤ length left) × (new ≡ Some (drop count left))
-
 -- a buffer: what it holds, and how often it could not grow
 pub record Buffer : Type 0 where
   pub bytes : List ℕ

@@ -1,5 +1,5 @@
 -- Reading the records of a stream: what is ahead, and what each call returns.
-use Rattle.std.specs.Prelude.{ℕ, ◌≡◌, ◌+◌, ◌*◌, ◌%◌, ◌^◌, ◌<◌, ◌≤◌, List, [], ◌∷◌, ◌++◌, length, nat_lt, Option, Some, None, Result, Ok, Err}
+use Rattle.std.specs.Prelude.{ℕ, ◌≡◌, ◌+◌, ◌*◌, ◌%◌, ◌^◌, ◌<◌, ◌≤◌, List, [], ◌∷◌, ◌++◌, length, nat_lt, ⊤, Option, Some, None, Result, Ok, Err}
 use Rattle.ssim_records.specs.declared.fault.RecordFault.{RecordFault}
 use Rattle.ssim_records.specs.declared.fault.RecordFault.TheVariants.{Short, BadType, BadColumn, ReadFault, ReaderNeverEnds}
 use Rattle.ssim_records.specs.declared.record.Record.{Record}
@@ -119,6 +119,16 @@ abbrev pub NeverEnds : Reading → Answer → Type 0
 NeverEnds new (Ok found) = Unit {0}
 NeverEnds new (Err (ReaderNeverEnds n)) = (new.limit < new.came) × (length new.held < 201)
 NeverEnds new (Err fault) = Unit {0}
+
+-- The reader's failures are counted while the rest is skipped: one more if the fault is 13, else
+-- none. If the fault is 14, more bytes came than the limit. There is no other fault.
+abbrev pub RestFails : Reading → ℕ → ℕ → Result ⊤ RecordFault → Type 0
+RestFails r old new (Ok x) = new ≡ old
+RestFails r old new (Err (Short n)) = ⊥
+RestFails r old new (Err (BadType n)) = ⊥
+RestFails r old new (Err (BadColumn n column)) = ⊥
+RestFails r old new (Err (ReadFault n)) = new ≡ (old + 1) % 2 ^ 64
+RestFails r old new (Err (ReaderNeverEnds n)) = (new ≡ old) × (r.limit < r.came)
 
 -- what each call returns after the end
 abbrev pub last_answer : Ending → Answer

@@ -1,12 +1,13 @@
 //! The blocks of a stream of bytes, one after another.
 
-ghost use Rattle.std.specs.Prelude.{◌≡◌, ◌<◌, ◌≤◌, ◌+◌, ◌*◌, [], IfSome, length, nat_lt, Ok, Err, true, false};
+ghost use Rattle.std.specs.Prelude.{◌≡◌, ◌<◌, ◌≤◌, ◌+◌, ◌*◌, [], OnOk, length, nat_lt, Ok, Err, true, false};
+ghost use Rattle.std.specs.Io.KnownBytes.{IsAtEnd};
 ghost use Rattle.ssim_records.specs.declared.blocks.Stop.TheVariants.{ReaderNeverEnds};
 ghost use Rattle.ssim_records.specs.Frames.{is_fill};
-ghost use Rattle.ssim_records.specs.Blocks.{behind_front, with_front, GivesBlock, GivesOther, FailsOnce, CountsOn, Fetches, HoldsFew, StandsFirst, block_count};
+ghost use Rattle.ssim_records.specs.Blocks.{behind_front, with_front, CameOn, FailsAtRest, GivesBlock, GivesOther, FailsOnce, CountsOn, Fetches, HoldsFew, block_count};
 
 use crate::device::Source;
-use crate::window::{Window, trimmed};
+use crate::window::{ROOM, Window};
 use std::marker::Model;
 
 /// Why no block came.
@@ -48,9 +49,6 @@ fn next_block<R: Source>(
     ensures fault { FailsOnce (R.failures reader.old) (R.failures reader.new) (with_front window.new result) }
     ensures count { CountsOn (R.left reader.old) (R.left reader.new) (R.came reader.old) (R.came reader.new) came.old came.new }
 {
-    // If the reader has bytes at hand, only this block is fetched: the blocks after it can be read
-    // without a copy.
-    let near = !reader.at_hand().is_empty();
     loop {
         window.trim(behind);
         if window.len() >= needed(*came, limit) {
@@ -59,8 +57,7 @@ fn next_block<R: Source>(
         if *came > limit as u128 {
             return Err(Stop::ReaderNeverEnds);
         }
-        let most = if near { 200 - window.len() } else { 16384 };
-        let room = (limit as u128 + 1 - *came).min(most as u128) as usize;
+        let room = (limit as u128 + 1 - *came).min(ROOM as u128) as usize;
         match window.fetch(reader, room) {
             Err(_) => return Err(Stop::ReadFault),
             Ok(0) => {
@@ -85,20 +82,6 @@ fn is_fill(block: &[u8; 200]) -> bool
         return false;
     }
     block.as_slice() == FILL.as_slice()
-}
-
-/// The block at the beginning of the bytes, and how many bytes it takes with the line ends before
-/// it. None if the block is cut, is fill, or ends after the first `most` bytes.
-#[inline(always)]
-pub fn first_block(bytes: &[u8], behind: bool, most: u128) -> Option<(&[u8; 200], usize)>
-    ensures { IfSome result (λ found. StandsFirst behind bytes.now found.0.now found.1 × (found.1 ≤ most)) }
-{
-    let (block, rest) = trimmed(bytes, behind).split_first_chunk()?;
-    let count = bytes.len() - rest.len();
-    if count as u128 > most || is_fill(block) {
-        return None;
-    }
-    Some((block, count))
 }
 
 /// Brings the next block that is not fill to the beginning of the window, of all that the window
@@ -133,5 +116,35 @@ pub fn next_other<R: Source>(
             return Ok(true);
         }
         window.skip();
+    }
+}
+
+/// Fetches the bytes that the reader has left, and forgets them with those that the window holds.
+pub fn skip_rest<R: Source>(
+    window: &mut Window,
+    came: &mut u128,
+    limit: u64,
+    reader: &mut R,
+) -> Result<(), Stop>
+    requires { came.old ≤ limit + 1 }
+    ensures came { came.new ≤ limit + 1 }
+    ensures more { came.old ≤ came.new }
+    ensures held { length window.new ≡ 0 }
+    ensures end { OnOk result (IsAtEnd (R.left reader.new) × (came.new ≤ limit)) }
+    ensures fault { FailsAtRest limit came.new (R.failures reader.old) (R.failures reader.new) result }
+    ensures total { CameOn (R.left reader.old) (R.left reader.new) came.old came.new }
+    ensures count { CountsOn (R.left reader.old) (R.left reader.new) (R.came reader.old) (R.came reader.new) came.old came.new }
+{
+    loop {
+        window.clear();
+        if *came > limit as u128 {
+            return Err(Stop::ReaderNeverEnds);
+        }
+        let room = (limit as u128 + 1 - *came).min(ROOM as u128) as usize;
+        match window.fetch(reader, room) {
+            Err(_) => return Err(Stop::ReadFault),
+            Ok(0) => return Ok(()),
+            Ok(n) => *came += n as u128,
+        }
     }
 }

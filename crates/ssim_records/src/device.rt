@@ -3,7 +3,7 @@
 ghost use Rattle.std.specs.Prelude.{◌≡◌, List, ℕ, Option, Some, Ok, length, min};
 ghost use Rattle.std.specs.Io.{ReadsAtMost, WritesAtMost};
 ghost use Rattle.std.specs.Io.KnownBytes.{ReadConsumes, WriteAppends};
-ghost use Rattle.ssim_records.specs.Device.{CountsBytes, CountsFailure, CountsPut, IsAtHand, SkipsAtHand};
+ghost use Rattle.ssim_records.specs.Device.{CountsBytes, CountsFailure, CountsPut};
 
 use thiserror::Error;
 
@@ -39,24 +39,6 @@ pub trait Source {
         ensures bytes { ReadConsumes (left self.old) (left self.new) result into.new }
         ensures count { CountsBytes (left self.old) (left self.new) (came self.old) (came self.new) result }
         ensures failures { CountsFailure (failures self.old) (failures self.new) result };
-
-    /// The bytes that come next, as far as they are in memory. They can be read here and skipped,
-    /// without a fetch. Only a source whose bytes the contract knows has any.
-    fn at_hand(&self) -> &[u8]
-        ensures { IsAtHand (left self.now) result.now }
-    {
-        &[]
-    }
-
-    /// Skips the next `count` bytes, if they are at hand. Returns whether it did.
-    fn skip_at_hand(&mut self, count: usize) -> bool
-        ensures left { SkipsAtHand (left self.old) (left self.new) count result }
-        ensures came { came self.new ≡ came self.old }
-        ensures failures { failures self.new ≡ failures self.old }
-    {
-        let _ = count;
-        false
-    }
 }
 
 /// A device that bytes go to.
@@ -102,23 +84,5 @@ impl<'a> Source for &'a [u8] {
         into[..n].copy_from_slice(front);
         *self = rest;
         Ok(n)
-    }
-
-    fn at_hand(&self) -> &[u8]
-        ensures { IsAtHand (Some self.now.now) result.now }
-    {
-        self
-    }
-
-    fn skip_at_hand(&mut self, count: usize) -> bool
-        ensures left { SkipsAtHand (Some self.old.now) (Some self.new.now) count result }
-    {
-        match self.get(count..) {
-            Some(rest) => {
-                *self = rest;
-                true
-            }
-            None => false,
-        }
     }
 }

@@ -3,7 +3,7 @@
 ghost use Rattle.std.specs.Prelude.{◌≡◌, ◌↔◌, ◌++◌, ◌≤◌, [], IfErr, IfSome, IsFalse, IsTrue, OnErr, OnOk, Ok, Some, drop, length, take};
 ghost use Rattle.std.specs.Io.{ReadsAtMost};
 ghost use Rattle.std.specs.Io.KnownBytes.{ReadConsumes};
-ghost use Rattle.ssim_records.specs.Device.{CountsFailure, IsAtHand, SkipsAtHand};
+ghost use Rattle.ssim_records.specs.Device.{CountsFailure};
 
 use crate::device::{DeviceFault, Source};
 use ssim_values::Memory;
@@ -155,22 +155,5 @@ impl Source for Parts {
         self.used += n;
         self.len -= n;
         Ok(n)
-    }
-
-    fn at_hand(&self) -> &[u8]
-        ensures { IsAtHand (Some self.now) result.now }
-    {
-        &self.front[self.used..]
-    }
-
-    fn skip_at_hand(&mut self, count: usize) -> bool
-        ensures left { SkipsAtHand (Some self.old) (Some self.new) count result }
-    {
-        if count > self.front.len() - self.used {
-            return false;
-        }
-        self.used += count;
-        self.len -= count;
-        true
     }
 }

@@ -1,10 +1,11 @@
 //! The records of a stream, one after another.
 
-ghost use Rattle.std.specs.Prelude.{◌≡◌, ◌≤◌, ◌<◌, ◌+◌, ◌*◌, [], IfNone, IfSome, IfOk};
-ghost use Rattle.ssim_records.specs.Blocks.{CountsOn};
-ghost use Rattle.ssim_records.specs.Reading.{Counts, FailsAs, FetchesNext, GivesNext, HasNumber, HoldsFew, NeverEnds, given, last_answer, ending_of};
+ghost use Rattle.std.specs.Prelude.{◌≡◌, ◌≤◌, ◌<◌, ◌+◌, ◌*◌, [], IfNone, IfSome, IfOk, OnOk};
+ghost use Rattle.std.specs.Io.KnownBytes.{IsAtEnd};
+ghost use Rattle.ssim_records.specs.Blocks.{CameOn, CountsOn};
+ghost use Rattle.ssim_records.specs.Reading.{Counts, FailsAs, FetchesNext, GivesNext, HasNumber, HoldsFew, NeverEnds, RestFails, given, last_answer, ending_of};
 
-use crate::blocks::{Stop, first_block, next_other};
+use crate::blocks::{Stop, next_other, skip_rest};
 use crate::device::Source;
 use crate::fault::RecordFault;
 use crate::record::{Record, RecordReader};
@@ -74,44 +75,8 @@ impl Records {
         self.number
     }
 
-    // Returns what `next_into` returns before the end. A block that the reader has at hand is read
-    // without a copy.
+    // Returns what `next_into` returns before the end.
     fn answer<R: Source>(
-        &mut self,
-        reader: &mut R,
-        into: &mut Option<Record>,
-    ) -> Result<u64, RecordFault>
-        ensures limit { self.new.limit ≡ self.old.limit }
-        ensures record { GivesNext self.old (R.left reader.old) self.new (R.left reader.new) (given into.new result) }
-        ensures number { HasNumber self.new.number (given into.new result) }
-        ensures counts { Counts self.old self.new (given into.new result) }
-        ensures never_ends { NeverEnds self.new (given into.new result) }
-        ensures fetched { FetchesNext self.old (R.left reader.old) self.new (R.left reader.new) }
-        ensures few_left { HoldsFew self.new.held (given into.new result) }
-        ensures fault { FailsAs (R.failures reader.old) (R.failures reader.new) (given into.new result) }
-        ensures count { CountsOn (R.left reader.old) (R.left reader.new) (R.came reader.old) (R.came reader.new) self.old.came self.new.came }
-        ensures returned { IfOk result (λ number. number ≡ self.new.number) }
-    {
-        if self.window.len() == 0 {
-            let most = (self.limit as u128).saturating_sub(self.came);
-            let found = first_block(reader.at_hand(), self.number > 0, most);
-            if let Some((block, count)) = found {
-                let read = self.records.read_into(block, self.number + 1, into);
-                if reader.skip_at_hand(count) {
-                    self.came += count as u128;
-                    self.number += 1;
-                    return match read {
-                        Ok(()) => Ok(self.number),
-                        Err(fault) => Err(fault),
-                    };
-                }
-            }
-        }
-        self.fetched_answer(reader, into)
-    }
-
-    // Does what `answer` does if the next block has to be fetched into the window.
-    fn fetched_answer<R: Source>(
         &mut self,
         reader: &mut R,
         into: &mut Option<Record>,
@@ -241,6 +206,27 @@ impl Records {
         match record {
             Some(record) => Ok(Some((number, record))),
             None => Ok(None),
+        }
+    }
+    /// Fetches the bytes that are left, and uses neither these nor those that are held. 13 is
+    /// returned if the reader failed, 14 if more bytes came than the limit.
+    pub fn skip_rest<R: Source>(&mut self, reader: &mut R) -> Result<(), RecordFault>
+        ensures limit { self.new.limit ≡ self.old.limit }
+        ensures end { OnOk result (IsAtEnd (R.left reader.new) × (self.new.came ≤ self.new.limit)) }
+        ensures fault { RestFails self.new (R.failures reader.old) (R.failures reader.new) result }
+
+        // The bytes that came are those of the reader.
+        ensures total { CameOn (R.left reader.old) (R.left reader.new) self.old.came self.new.came }
+        ensures count { CountsOn (R.left reader.old) (R.left reader.new) (R.came reader.old) (R.came reader.new) self.old.came self.new.came }
+    {
+        match skip_rest(&mut self.window, &mut self.came, self.limit, reader) {
+            Ok(()) => Ok(()),
+            Err(Stop::ReadFault) => Err(RecordFault::ReadFault {
+                record: self.number + 1,
+            }),
+            Err(_) => Err(RecordFault::ReaderNeverEnds {
+                record: self.number + 1,
+            }),
         }
     }
 }

@@ -10,8 +10,8 @@ use crate::device::{DeviceFault, Source};
 use std::marker::Model;
 
 /// The number of bytes that a window has room for. A fetch asks for this number, less a rest below
-/// a block, if the source has no bytes at hand.
-const ROOM: usize = 16384;
+/// a block.
+pub const ROOM: usize = 65536;
 
 /// The bytes after the line ends at the beginning. It is not inlined, since there is mostly one
 /// line end.
@@ -44,13 +44,11 @@ fn after_one_line_end(bytes: &[u8]) -> Option<&[u8]>
     }
 }
 
-/// The bytes after the line ends at the beginning, if these follow a block.
-pub fn trimmed(bytes: &[u8], behind: bool) -> &[u8]
-    ensures { result.now ≡ trim behind bytes.now }
+/// The bytes after the line ends at the beginning.
+#[inline(always)]
+fn trimmed(bytes: &[u8]) -> &[u8]
+    ensures { result.now ≡ drop_line_ends bytes.now }
 {
-    if !behind {
-        return bytes;
-    }
     match after_one_line_end(bytes) {
         Some(rest) => rest,
         None => after_line_ends(bytes),
@@ -73,7 +71,7 @@ impl Model for Window {
 
     ghost view = { λ w. slice_range w.bytes w.start w.end };
 
-    ghost invariant = { λ w. (w.start ≤ w.end) × (w.end ≤ 16384) };
+    ghost invariant = { λ w. (w.start ≤ w.end) × (w.end ≤ 65536) };
 }
 
 impl Window {
@@ -89,7 +87,7 @@ impl Window {
 
     pub fn len(&self) -> usize
         ensures value { result ≡ length self.now }
-        ensures small { result ≤ 16384 }
+        ensures small { result ≤ 65536 }
     {
         self.end - self.start
     }
@@ -99,8 +97,16 @@ impl Window {
         ensures less { length self.new ≤ length self.old }
         ensures value { self.new ≡ drop_line_ends self.old }
     {
-        let rest = after_line_ends(&self.bytes[self.start..self.end]).len();
+        let rest = trimmed(&self.bytes[self.start..self.end]).len();
         self.start = self.end - rest;
+    }
+
+    /// Forgets all bytes.
+    pub fn clear(&mut self)
+        ensures { self.new ≡ [] }
+    {
+        self.start = 0;
+        self.end = 0;
     }
 
     /// Skips the line ends at the beginning, if they follow a block.
