@@ -16,3 +16,4 @@ pub mod Script
 pub mod Explained
 pub mod Rehearsal
 pub mod Examples
+pub mod Unread
