@@ -1,9 +1,8 @@
--- What is said of the records and the notes of a data set is said of its base, and of its records
--- alone.
+-- What is said of the records and the notes of a data set is said of its base.
 use Rattle.std.proofs.Common.{List, Vec, Global, Ok, Err}
 use Rattle.ssim_records.specs.declared.record.Record.{Record}
 use Rattle.ssim_base.specs.Base.{Outcome}
-use Rattle.ssim_base.specs.Reading.{Answers, AnswersAs, AnswersRecords}
+use Rattle.ssim_base.specs.Reading.{Answers, AnswersAs}
 use Rattle.ssim_base.specs.declared.fault.BaseFault.{BaseFault}
 use Rattle.ssim_base.specs.declared.fault.BaseFault.TheVariants as fault
 use Rattle.ssim_base.specs.declared.note.Note.{Note}
@@ -18,8 +17,3 @@ pub of_base : (e : BaseFault) (P : Outcome → Type 0) → AnswersAs noted (Err 
 of_base fault.Memory P h = tt
 of_base (fault.Read f) P h = h
 of_base (fault.Refused number refusal) P h = h
-
-pub of_records : (e : BaseFault) (P : Outcome → Type 0) → AnswersAs noted (Err e) P → AnswersRecords (Err e) P
-of_records fault.Memory P h = tt
-of_records (fault.Read f) P h = h
-of_records (fault.Refused number refusal) P h = h

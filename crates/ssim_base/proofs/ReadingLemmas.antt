@@ -1,13 +1,14 @@
 -- From record to record: what was read so far, and what the blocks that are left still give.
-use Rattle.std.proofs.Common.{◌≡◌, ℕ, zero, suc, ◌+◌, ◌-◌, ◌<◌, ◌%◌, ◌^◌, false, not, nat_eq, List, [], ◌∷◌, ◌++◌, map, reverse, length, Option, Some, None, Ok, Err, inl, inr, refl, sym, ap, subst, ◌∙◌, append_assoc, arith}
+use Rattle.std.proofs.Common.{◌≡◌, ℕ, zero, suc, ◌+◌, ◌-◌, ◌<◌, ◌≤◌, ◌%◌, ◌^◌, true, false, not, nat_eq, List, [], ◌∷◌, ◌++◌, map, reverse, length, Option, Some, None, Ok, Err, inl, inr, refl, sym, ap, subst, ◌∙◌, append_assoc, arith}
 use Rattle.std.proofs.lemmas.List.{append-nil, reverse-append}
 use Rattle.std.proofs.lemmas.List.Elements.{All-append}
 use Rattle.std.specs.List.{All}
-use Rattle.std.specs.Prelude.{IfNone}
-use Rattle.ssim_records.specs.Blocks.{CountsOn, Fetches, beyond}
+use Rattle.std.specs.Prelude.{IfNone, IfSome}
+use Rattle.std.specs.Io.KnownBytes.{IsAtEnd}
+use Rattle.ssim_records.specs.Blocks.{CameOn, CountsOn, Fetches, beyond}
 use Rattle.ssim_records.specs.Frames.{Frames, FramesExist, others}
 use Rattle.ssim_records.specs.Reading as reading
-use Rattle.ssim_records.specs.Reading.{Answer, Reading, GivesNext, HasNumber, IsAhead}
+use Rattle.ssim_records.specs.Reading.{Answer, Reading, GivesNext, HasNumber, IsAhead, RestFails}
 use Rattle.ssim_records.specs.Record.{IsRecord, fault_of, serial_of}
 use Rattle.ssim_records.specs.declared.fault.RecordFault.{RecordFault}
 use Rattle.ssim_records.specs.declared.fault.RecordFault.TheVariants.{Short, BadType, BadColumn, ReadFault, ReaderNeverEnds}
@@ -17,7 +18,7 @@ use Rattle.ssim_records.proofs.Framing.{takes_all}
 use Rattle.ssim_base.specs.Base.{Ending, Done, Broken, Outcome, at_record, check_notes, data_set, first_refusal, kept, kept_all, missing, note_if, notes_of, refusal_at, unless_refused}
 use Rattle.ssim_base.specs.internal.DataSetReader.{IsSoFar, notes_at}
 use Rattle.ssim_base.specs.internal.Acceptance.{HasAccepted, IsRefused, Stood}
-use Rattle.ssim_base.specs.Reading.{AreBlocks, AreGiven, AreGivenOf, Begins, Came, FailsAfter, Gives, IsReadOf, NeverEnds, Refuses, Stops}
+use Rattle.ssim_base.specs.Reading.{AnswersAs, AreBlocks, AreGiven, AreGivenOf, Begins, Came, FailsAfter, FailsAs, Gives, IsReadOf, NeverEnds, Refuses, RefusesWhole, Stops, is_of_bytes}
 use Rattle.ssim_base.specs.ReadBack.{EachSpells}
 use Rattle.ssim_base.specs.declared.fault.BaseFault.{BaseFault}
 use Rattle.ssim_base.specs.declared.fault.BaseFault.TheVariants as fault
@@ -26,6 +27,7 @@ use Rattle.ssim_base.specs.declared.fault.BaseRefusal.{BaseRefusal}
 use Rattle.ssim_base.specs.declared.data_set_reader.DataSetReader.{DataSetReader}
 use Rattle.ssim_base.specs.declared.note.Note.{Note}
 use Rattle.ssim_base.specs.declared.note.Note.TheVariants.{Serial}
+use Rattle.ssim_base.proofs.NotedReads.{noted}
 
 abbrev pub Numbered : Type 0
 Numbered = ℕ × Record
@@ -232,7 +234,8 @@ stops limit all left left' r new done (ReaderNeverEnds n) same t given number =
 
 pub told-fault : (limit : ℕ) (told left left' : Option (List ℕ)) (r new : Reading) (g : DataSetReader) (earlier : List Record) (done : List Numbered) (f : RecordFault) → r.limit ≡ limit
     → IsSoFar g earlier done → Told limit told left r done → GivesNext r left new left' (Err f) → HasNumber new.number (Err f) → IsReadOf limit told (Err (Read f))
-told-fault limit None left left' r new g earlier done f same so_far t given number = tt
+told-fault limit None left left' r new g earlier done f same so_far t given number =
+    record { records = done; ending = Broken f; valid = so_far.records; is = fault-outcome g earlier done f so_far }
 told-fault limit (Some all) None left' r new g earlier done f same so_far t given number = absurd t
 told-fault limit (Some all) (Some left) None r new g earlier done f same so_far t given number = absurd given
 told-fault limit (Some all) (Some left) (Some left') r new g earlier done f same so_far t given number =
@@ -244,11 +247,18 @@ told-fault limit (Some all) (Some left) (Some left') r new g earlier done f same
     })
 
 pub told-refused : (limit : ℕ) (told left left' : Option (List ℕ)) (r new : Reading) (g : DataSetReader) (earlier : List Record) (done : List Numbered) (x : Numbered) (refusal : BaseRefusal)
-    → IsSoFar g earlier done → Told limit told left r done → GivesNext r left new left' (Ok (Some x)) → refusal_at earlier x.1 ≡ Some refusal → IsReadOf limit told (Err (Refused x.0 refusal))
-told-refused limit None left left' r new g earlier done x refusal so_far t given is = tt
-told-refused limit (Some all) None left' r new g earlier done x refusal so_far t given is = absurd t
-told-refused limit (Some all) (Some left) None r new g earlier done x refusal so_far t given is = absurd given
-told-refused limit (Some all) (Some left) (Some left') r new g earlier done x refusal so_far t given is =
+    → IsSoFar g earlier done → Told limit told left r done → GivesNext r left new left' (Ok (Some x)) → refusal_at earlier x.1 ≡ Some refusal → IsRecord x.1
+    → IsReadOf limit told (Err (Refused x.0 refusal))
+told-refused limit None left left' r new g earlier done x refusal so_far t given is valid =
+    record {
+      records = done ++ x ∷ [];
+      ending = Done 0;
+      valid = All-append (λ r. IsRecord r.1) done (x ∷ []) so_far.records (all-one x valid);
+      is = refused-outcome g earlier done [] (Done 0) x refusal so_far is ∙ ap (data_set (Done 0)) (append-nil (done ++ x ∷ []));
+    }
+told-refused limit (Some all) None left' r new g earlier done x refusal so_far t given is valid = absurd t
+told-refused limit (Some all) (Some left) None r new g earlier done x refusal so_far t given is valid = absurd given
+told-refused limit (Some all) (Some left) (Some left') r new g earlier done x refusal so_far t given is valid =
     let after = step limit all left left' r new done x t given in
     inr (record {
       records = done ++ x ∷ [];
@@ -270,15 +280,15 @@ while-open (Some x) e h = absurd cc
 
 -- the refusal of a record, if one more was read
 pub step-refused : (limit : ℕ) (told left left' : Option (List ℕ)) (r new : Reading) (g : DataSetReader) (earlier : List Record) (done : List Numbered) (x : Numbered) (e : BaseFault)
-    → IsSoFar g earlier done → Told limit told left r done → GivesNext r left new left' (Ok (Some x)) → IsRefused x.0 earlier x.1 e → Refuses limit told e
-step-refused limit told left left' r new g earlier done x fault.Memory so_far t given is = tt
-step-refused limit told left left' r new g earlier done x (Read f) so_far t given is = absurd is
-step-refused limit told left left' r new g earlier done x (Refused n refusal) so_far t given is =
-    subst (λ k. IsReadOf limit told (Err (Refused k refusal))) (sym is.0) (told-refused limit told left left' r new g earlier done x refusal so_far t given is.1)
+    → IsSoFar g earlier done → Told limit told left r done → GivesNext r left new left' (Ok (Some x)) → IsRefused x.0 earlier x.1 e → IsRecord x.1 → Refuses limit told e
+step-refused limit told left left' r new g earlier done x fault.Memory so_far t given is valid = tt
+step-refused limit told left left' r new g earlier done x (Read f) so_far t given is valid = absurd is
+step-refused limit told left left' r new g earlier done x (Refused n refusal) so_far t given is valid =
+    subst (λ k. IsReadOf limit told (Err (Refused k refusal))) (sym is.0) (told-refused limit told left left' r new g earlier done x refusal so_far t given is.1 valid)
 
 -- ---- how many bytes came
 
-came-in : (limit : ℕ) (told left left' : Option (List ℕ)) (start now n : ℕ) (r new : Reading) (done : List Numbered) (a : Answer) → n ≡ new.came → Told limit told left r done
+pub came-in : (limit : ℕ) (told left left' : Option (List ℕ)) (start now n : ℕ) (r new : Reading) (done : List Numbered) (a : Answer) → n ≡ new.came → Told limit told left r done
     → GivesNext r left new left' a → CountsOn told left' start now 0 new.came → Came told left' start now n
 came-in limit None left None start now n r new done a is t given counts =
     let wrapped : (now + 0) % 2 ^ 128 ≡ (start + new.came) % 2 ^ 128 = counts in
@@ -347,6 +357,124 @@ missing-outcome g earlier done number refusal so_far lacking =
     (ap (first_refusal (Done number) []) (sym (append-nil done)) ∙ so_far.refused (Done number) [] ∙ ap (λ o. at_record number o None) lacking))
 
 -- the outcome of all records
-pub of-all : (limit : ℕ) (told : Option (List ℕ)) (done : List Numbered) (number : ℕ) (outcome : Outcome) → AreGivenOf limit told done (Done number) → outcome ≡ data_set (Done number) done → IsReadOf limit told outcome
-of-all limit None done number outcome given is = tt
-of-all limit (Some all) done number outcome given is = inl (record { records = done; ending = Done number; given = given; is = is })
+pub of-all : (limit : ℕ) (told : Option (List ℕ)) (done : List Numbered) (number : ℕ) (outcome : Outcome) → AreGivenOf limit told done (Done number) → outcome ≡ data_set (Done number) done → All (λ r. IsRecord r.1) done
+    → IsReadOf limit told outcome
+of-all limit None done number outcome given is valid = record { records = done; ending = Done number; valid = valid; is = is }
+of-all limit (Some all) done number outcome given is valid = inl (record { records = done; ending = Done number; given = given; is = is })
+
+-- ---- a reader that is read to its end
+
+gives-within : (count : ℕ) (rest : List ℕ) (over : ℕ) (left : List (ℕ × List ℕ)) (records : List Numbered) (number : ℕ) → Gives count rest over left records (Done number) → over ≡ 0
+gives-within count rest over left [] number g = g.2
+gives-within count rest over [] (r ∷ records) number g = absurd g
+gives-within count rest over (block ∷ left) (r ∷ records) number g = gives-within count rest over left records number g.2
+
+-- bytes whose records end at their end are within the limit
+pub whole-within : (limit : ℕ) (told : Option (List ℕ)) (done : List Numbered) (number : ℕ) → AreGivenOf limit told done (Done number) → IfSome told (λ bytes. length bytes ≤ limit)
+whole-within limit None done number given = tt
+whole-within limit (Some all) done number given =
+    let over : length all - limit ≡ 0 = gives-within (length given.blocks) given.rest (length all - limit) (others 0 given.blocks) done number given.given in
+    omega (arith, over)
+
+-- a fault of a data set that was read to its end
+pub whole-refused : (limit : ℕ) (told : Option (List ℕ)) (e : BaseFault) → IfSome told (λ bytes. length bytes ≤ limit) → AnswersAs noted (Err e) (IsReadOf limit told) → RefusesWhole limit told e
+whole-refused limit told fault.Memory within h = tt
+whole-refused limit told (Read (Short n)) within h = (h, within)
+whole-refused limit told (Read (BadType n)) within h = (h, within)
+whole-refused limit told (Read (BadColumn n column)) within h = (h, within)
+whole-refused limit told (Read (ReadFault n)) within h = tt
+whole-refused limit told (Read (ReaderNeverEnds n)) within h = tt
+whole-refused limit told (Refused n refusal) within h = (h, within)
+
+-- what bytes are read as, if the bytes that are left end within the limit
+rest-within : (limit : ℕ) (told left left' : Option (List ℕ)) (start now came came' : ℕ) → Came told left start now came → CameOn left left' came came' → IsAtEnd left' → came' ≤ limit
+    → IfSome told (λ bytes. length bytes ≤ limit)
+rest-within limit None left left' start now came came' h on end within = tt
+rest-within limit (Some all) None left' start now came came' h on end within = absurd h
+rest-within limit (Some all) (Some x) None start now came came' h on end within = absurd on
+rest-within limit (Some all) (Some x) (Some y) start now came came' h on end within = omega (arith, h, on, ap length end, within)
+
+-- the fault of the bytes, if those that are left end within the limit
+pub rest-refused : (limit : ℕ) (told left left' : Option (List ℕ)) (start now came came' : ℕ) (e : BaseFault) → Refuses limit told e → Came told left start now came → CameOn left left' came came' → IsAtEnd left' → came' ≤ limit
+    → RefusesWhole limit told e
+rest-refused limit told left left' start now came came' fault.Memory h c on end within = tt
+rest-refused limit told left left' start now came came' (Read (Short n)) h c on end within = (h, rest-within limit told left left' start now came came' c on end within)
+rest-refused limit told left left' start now came came' (Read (BadType n)) h c on end within = (h, rest-within limit told left left' start now came came' c on end within)
+rest-refused limit told left left' start now came came' (Read (BadColumn n column)) h c on end within = (h, rest-within limit told left left' start now came came' c on end within)
+rest-refused limit told left left' start now came came' (Read (ReadFault n)) h c on end within = tt
+rest-refused limit told left left' start now came came' (Read (ReaderNeverEnds n)) h c on end within = tt
+rest-refused limit told left left' start now came came' (Refused n refusal) h c on end within = (h, rest-within limit told left left' start now came came' c on end within)
+
+-- a fault that is not of the bytes says nothing of them
+pub other-refused : (limit : ℕ) (told : Option (List ℕ)) (e : BaseFault) → is_of_bytes e ≡ false → RefusesWhole limit told e
+other-refused limit told fault.Memory is = tt
+other-refused limit told (Read (Short n)) is = absurd cc
+other-refused limit told (Read (BadType n)) is = absurd cc
+other-refused limit told (Read (BadColumn n column)) is = absurd cc
+other-refused limit told (Read (ReadFault n)) is = tt
+other-refused limit told (Read (ReaderNeverEnds n)) is = tt
+other-refused limit told (Refused n refusal) is = absurd cc
+
+-- a fault of the bytes counts no failure
+pub bytes-count : (old new : ℕ) (e : BaseFault) → is_of_bytes e ≡ true → FailsAs old new e → new ≡ old
+bytes-count old new fault.Memory is h = h
+bytes-count old new (Read (Short n)) is h = h
+bytes-count old new (Read (BadType n)) is h = h
+bytes-count old new (Read (BadColumn n column)) is h = h
+bytes-count old new (Read (ReadFault n)) is h = absurd cc
+bytes-count old new (Read (ReaderNeverEnds n)) is h = h
+bytes-count old new (Refused n refusal) is h = h
+
+-- a fault of the bytes stays no fault of the reader, however many bytes came after it
+pub bytes-end : (limit : ℕ) (C D : ℕ → Type 0) (e : BaseFault) → is_of_bytes e ≡ true → NeverEnds limit C e → NeverEnds limit D e
+bytes-end limit C D fault.Memory is h = tt
+bytes-end limit C D (Read (Short n)) is h = tt
+bytes-end limit C D (Read (BadType n)) is h = tt
+bytes-end limit C D (Read (BadColumn n column)) is h = tt
+bytes-end limit C D (Read (ReadFault n)) is h = tt
+bytes-end limit C D (Read (ReaderNeverEnds n)) is h = absurd cc
+bytes-end limit C D (Refused n refusal) is h = tt
+
+pub bytes-fail : (old new now : ℕ) (e : BaseFault) → is_of_bytes e ≡ true → FailsAs old new e → now ≡ new → FailsAs old now e
+bytes-fail old new now fault.Memory is h same = same ∙ h
+bytes-fail old new now (Read (Short n)) is h same = same ∙ h
+bytes-fail old new now (Read (BadType n)) is h same = same ∙ h
+bytes-fail old new now (Read (BadColumn n column)) is h same = same ∙ h
+bytes-fail old new now (Read (ReadFault n)) is h same = absurd cc
+bytes-fail old new now (Read (ReaderNeverEnds n)) is h same = same ∙ h
+bytes-fail old new now (Refused n refusal) is h same = same ∙ h
+
+-- bytes that came after others
+came-then : (told left left' : Option (List ℕ)) (start mid now came came' : ℕ) → Came told left start mid came → CameOn left left' came came' → CountsOn left left' mid now came came' → Came told left' start now came'
+came-then None None None start mid now came came' c on counts = omega (arith, c, counts)
+came-then None None (Some y) start mid now came came' c on counts = absurd counts
+came-then None (Some x) left' start mid now came came' c on counts = absurd c
+came-then (Some all) None left' start mid now came came' c on counts = absurd c
+came-then (Some all) (Some x) None start mid now came came' c on counts = absurd on
+came-then (Some all) (Some x) (Some y) start mid now came came' c on counts = on ∙ c
+
+-- a fault of the rest: what it counts
+pub rest-fails : (r : Reading) (old mid new : ℕ) (f : RecordFault) → mid ≡ old → RestFails r mid new (Err f) → FailsAs old new (Read f)
+rest-fails r old mid new (Short n) same h = absurd h
+rest-fails r old mid new (BadType n) same h = absurd h
+rest-fails r old mid new (BadColumn n column) same h = absurd h
+rest-fails r old mid new (ReadFault n) same h = h ∙ ap (λ k. (k + 1) % 2 ^ 64) same
+rest-fails r old mid new (ReaderNeverEnds n) same h = h.0 ∙ same
+
+-- a fault of the rest: how many bytes came
+pub rest-ends : (limit : ℕ) (told left left' : Option (List ℕ)) (start mid now came : ℕ) (r : Reading) (old new : ℕ) (f : RecordFault) → r.limit ≡ limit → Came told left start mid came → CameOn left left' came r.came
+    → CountsOn left left' mid now came r.came → RestFails r old new (Err f) → NeverEnds limit (Came told left' start now) (Read f)
+rest-ends limit told left left' start mid now came r old new (Short n) same c on counts h = tt
+rest-ends limit told left left' start mid now came r old new (BadType n) same c on counts h = tt
+rest-ends limit told left left' start mid now came r old new (BadColumn n column) same c on counts h = tt
+rest-ends limit told left left' start mid now came r old new (ReadFault n) same c on counts h = tt
+rest-ends limit told left left' start mid now came r old new (ReaderNeverEnds n) same c on counts h =
+    (r.came, subst (λ k. k < r.came) same h.1, came-then told left left' start mid now came r.came c on counts)
+
+-- a fault of the rest says nothing of the bytes
+pub rest-other : (limit : ℕ) (told : Option (List ℕ)) (r : Reading) (old new : ℕ) (f : RecordFault) → RestFails r old new (Err f) → RefusesWhole limit told (Read f)
+rest-other limit told r old new (Short n) h = absurd h
+rest-other limit told r old new (BadType n) h = absurd h
+rest-other limit told r old new (BadColumn n column) h = absurd h
+rest-other limit told r old new (ReadFault n) h = tt
+rest-other limit told r old new (ReaderNeverEnds n) h = tt

@@ -1,7 +1,8 @@
 -- What the bytes of a data set are read as.
-use Rattle.std.specs.Prelude.{◌≡◌, ◌⊎◌, ℕ, ◌+◌, ◌-◌, ◌<◌, ◌≤◌, ◌%◌, ◌^◌, false, List, [], ◌∷◌, ◌++◌, length, Option, Some, None, Result, Ok, Err}
+use Rattle.std.specs.Prelude.{◌≡◌, ◌⊎◌, ℕ, ◌+◌, ◌-◌, ◌<◌, ◌≤◌, ◌%◌, ◌^◌, Bool, true, false, IfSome, List, [], ◌∷◌, ◌++◌, length, Option, Some, None, Result, Ok, Err}
+use Rattle.std.specs.List.{All}
 use Rattle.ssim_records.specs.Frames.{Frames, others}
-use Rattle.ssim_records.specs.Record.{Spells, fault_of}
+use Rattle.ssim_records.specs.Record.{IsRecord, Spells, fault_of}
 use Rattle.ssim_records.specs.declared.fault.RecordFault.{RecordFault}
 use Rattle.ssim_records.specs.declared.fault.RecordFault.TheVariants.{Short, BadType, BadColumn, ReadFault, ReaderNeverEnds}
 use Rattle.ssim_records.specs.declared.record.Record.{Record}
@@ -76,9 +77,17 @@ pub record IsOfFirst (limit : ℕ) (bytes : List ℕ) (outcome : Outcome) : Type
 abbrev pub IsReadAs : ℕ → List ℕ → Outcome → Type 0
 IsReadAs limit bytes outcome = IsOfAll limit bytes outcome ⊎ IsOfFirst limit bytes outcome
 
--- what bytes are read as; nothing is said if the reader does not report its bytes
+-- the outcome is that of some valid records and of the way they end
+pub record IsOfSome (outcome : Outcome) : Type 0 where
+  pub records : List (ℕ × Record)
+  pub ending : Ending
+  pub valid : All (λ r. IsRecord r.1) records
+  pub is : outcome ≡ data_set ending records
+
+-- What bytes are read as. If the reader does not report its bytes, the outcome is that of some
+-- records.
 abbrev pub IsReadOf : ℕ → Option (List ℕ) → Outcome → Type 0
-IsReadOf limit None outcome = Unit {0}
+IsReadOf limit None outcome = IsOfSome outcome
 IsReadOf limit (Some bytes) outcome = IsReadAs limit bytes outcome
 
 -- what records bytes have; nothing is said if the reader does not report its bytes
@@ -100,14 +109,6 @@ AnswersAs seen (Ok read) P = P (Ok (seen read))
 AnswersAs seen (Err fault.Memory) P = Unit {0}
 AnswersAs seen (Err (fault.Read f)) P = P (Err (fault.Read f))
 AnswersAs seen (Err (fault.Refused number refusal)) P = P (Err (fault.Refused number refusal))
-
--- the records of a data set have the property P, together with some notes; out of memory is no
--- outcome
-abbrev pub AnswersRecords : Result (List Record) BaseFault → (Outcome → Type 0) → Type 0
-AnswersRecords (Ok records) P = (notes : List Note) × P (Ok (records, notes))
-AnswersRecords (Err fault.Memory) P = Unit {0}
-AnswersRecords (Err (fault.Read f)) P = P (Err (fault.Read f))
-AnswersRecords (Err (fault.Refused number refusal)) P = P (Err (fault.Refused number refusal))
 
 -- the reader's failures are counted: one more if the fault is 13, else none
 abbrev pub FailsAs : ℕ → ℕ → BaseFault → Type 0
@@ -161,6 +162,34 @@ abbrev pub Refuses : ℕ → Option (List ℕ) → BaseFault → Type 0
 Refuses limit told fault.Memory = Unit {0}
 Refuses limit told (fault.Read f) = IsReadOf limit told (Err (fault.Read f))
 Refuses limit told (fault.Refused number refusal) = IsReadOf limit told (Err (fault.Refused number refusal))
+
+-- ---- reading to the end
+
+-- the outcome is what bytes within the limit are read as
+abbrev pub IsWholeOf : ℕ → Option (List ℕ) → Outcome → Type 0
+IsWholeOf limit told outcome = IsReadOf limit told outcome × IfSome told (λ bytes. length bytes ≤ limit)
+
+-- whether a fault is of the bytes: neither did memory run out, nor did the reader fail (13), nor did
+-- more bytes come than the limit (14)
+abbrev pub is_of_bytes : BaseFault → Bool
+is_of_bytes fault.Memory = false
+is_of_bytes (fault.Read (Short number)) = true
+is_of_bytes (fault.Read (BadType number)) = true
+is_of_bytes (fault.Read (BadColumn number column)) = true
+is_of_bytes (fault.Read (ReadFault number)) = false
+is_of_bytes (fault.Read (ReaderNeverEnds number)) = false
+is_of_bytes (fault.Refused number refusal) = true
+
+-- If the reader was read to its end, and the fault is of the bytes, the bytes are within the limit,
+-- and the fault is what they are read as.
+abbrev pub RefusesWhole : ℕ → Option (List ℕ) → BaseFault → Type 0
+RefusesWhole limit told fault.Memory = Unit {0}
+RefusesWhole limit told (fault.Read (Short number)) = IsWholeOf limit told (Err (fault.Read (Short number)))
+RefusesWhole limit told (fault.Read (BadType number)) = IsWholeOf limit told (Err (fault.Read (BadType number)))
+RefusesWhole limit told (fault.Read (BadColumn number column)) = IsWholeOf limit told (Err (fault.Read (BadColumn number column)))
+RefusesWhole limit told (fault.Read (ReadFault number)) = Unit {0}
+RefusesWhole limit told (fault.Read (ReaderNeverEnds number)) = Unit {0}
+RefusesWhole limit told (fault.Refused number refusal) = IsWholeOf limit told (Err (fault.Refused number refusal))
 
 -- ---- reading back what was written
 

@@ -1,23 +1,24 @@
 //! The records of a base.
 
-ghost use Rattle.std.specs.Prelude.{◌≡◌, ◌↔◌, ℕ, List, Option, IsTrue, IfOk, IfErr, reverse};
+ghost use Rattle.std.specs.Prelude.{◌≡◌, ◌↔◌, ℕ, List, Option, IsTrue, IfOk, IfErr, Ok, reverse};
 ghost use Rattle.std.specs.List.{All};
 ghost use Rattle.ssim_records.specs.declared.record.Record.{Record};
 ghost use Rattle.ssim_base.specs.Base.{airline_of};
 ghost use Rattle.ssim_base.specs.BaseSeen.{AreFlights};
 ghost use Rattle.ssim_base.specs.Closed.{IsClosed};
 ghost use Rattle.ssim_base.specs.ReadBack.{AreInOrder, CanExport, HasFrame};
-ghost use Rattle.ssim_base.specs.Reading.{AnswersAs, AnswersRecords, Came, FailsAfter, FailsAs, IsReadOf, NeverEnds};
+ghost use Rattle.ssim_base.specs.Reading.{AnswersAs, Came, FailsAfter, FailsAs, IsReadOf, IsWholeOf, NeverEnds, RefusesWhole};
+ghost use Rattle.ssim_base.specs.declared.note.Note.{Note};
 ghost use Rattle.ssim_base.specs.SavedBase.{IsBaseRecords};
 ghost use Rattle.ssim_base.specs.Timetable.{days_of};
 
 use crate::acceptance::Acceptance;
 use crate::accepted_records::AcceptedRecords;
 use crate::base_frame::BaseFrame;
-use crate::data_set_reader::{DataSetReader, read_records};
+use crate::data_set_reader::{DataSetReader, read_records, read_whole};
 use crate::fault::BaseFault;
 use crate::note::Note;
-use ssim_records::{Record, Source};
+use ssim_records::{Record, Records, Source};
 use ssim_values::{Airline, Flight, Memory};
 use std::alloc::Global;
 use std::marker::Model;
@@ -51,16 +52,19 @@ impl DataSet {
     ghost use Rattle.ssim_base.specs.internal.Acceptance.{HasAccepted, IsWholeBase};
     ghost use Rattle.ssim_base.specs.internal.AcceptedRecords.{InList, keeps};
 
-    /// Reads a data set, record by record. At most `limit` bytes and one more are fetched. The
-    /// refusals are those of `Base::read`.
+    /// Reads a data set, record by record, and its reader to the end. At most `limit` bytes and one
+    /// more are fetched. The refusals are those of `Base::read`. But if the reader fails after the
+    /// record that is refused, or more bytes come than the limit, 13 or 14 is returned.
     pub fn read<R: Source>(alloc: Global, reader: &mut R, limit: u64) -> Result<DataSet, BaseFault>
-        ensures read { AnswersRecords result (IsReadOf limit (R.left reader.old)) }
+        ensures read { IfOk result (λ read. (notes : List Note) × IsWholeOf limit (R.left reader.old) (Ok (read, notes))) }
+        ensures refused { IfErr result (RefusesWhole limit (R.left reader.old)) }
         ensures no_failure { IfOk result (λ _. R.failures reader.new ≡ R.failures reader.old) }
         ensures failure { IfErr result (λ e. FailsAs (R.failures reader.old) (R.failures reader.new) e) }
-        ensures fails_after { IfErr result (λ e. FailsAfter (R.left reader.old) (R.left reader.new) e) }
         ensures never_ends { IfErr result (λ e. NeverEnds limit (Came (R.left reader.old) (R.left reader.new) (R.came reader.old) (R.came reader.new)) e) }
     {
-        let (data_set, _) = DataSet::read_noted(alloc, reader, limit)?;
+        let records = AcceptedRecords::Kept(Vec::new(alloc));
+        let (records_read, number) = read_whole(alloc, records, reader, limit)?;
+        let (data_set, _) = DataSet::finish(alloc, records_read, number)?;
         Ok(data_set)
     }
 
@@ -77,7 +81,8 @@ impl DataSet {
         ensures never_ends { IfErr result (λ e. NeverEnds limit (Came (R.left reader.old) (R.left reader.new) (R.came reader.old) (R.came reader.new)) e) }
     {
         let records = AcceptedRecords::Kept(Vec::new(alloc));
-        let (records_read, number) = read_records(alloc, records, reader, limit)?;
+        let mut blocks = Records::new(limit);
+        let (records_read, number) = read_records(alloc, records, &mut blocks, reader)?;
         DataSet::finish(alloc, records_read, number)
     }
 

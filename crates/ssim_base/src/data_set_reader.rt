@@ -1,17 +1,17 @@
 //! The records that are read of a data set, with the notes on them.
 
-ghost use Rattle.std.specs.Prelude.{◌≡◌, ◌∷◌, ◌++◌, [], List, IfErr, IfOk, OnOk};
+ghost use Rattle.std.specs.Prelude.{◌≡◌, ◌<◌, ◌^◌, ◌∷◌, ◌++◌, [], List, IfErr, IfOk, OnOk};
 ghost use Rattle.ssim_records.specs.Record.{IsRecord, serial_of};
 ghost use Rattle.ssim_records.specs.declared.record.Record.{Record};
 ghost use Rattle.ssim_base.specs.internal.AcceptedRecords.{AreAccepted, keeps};
-ghost use Rattle.ssim_base.specs.internal.DataSetReader.{HasRead};
-ghost use Rattle.ssim_base.specs.Reading.{Came, FailsAfter, FailsAs, NeverEnds, Refuses};
+ghost use Rattle.ssim_base.specs.internal.DataSetReader.{HasRead, unread};
+ghost use Rattle.ssim_base.specs.Reading.{Came, FailsAfter, FailsAs, NeverEnds, Refuses, RefusesWhole, is_of_bytes};
 
 use crate::acceptance::Acceptance;
 use crate::accepted_records::AcceptedRecords;
 use crate::fault::BaseFault;
 use crate::note::Note;
-use ssim_records::{Record, Records, Source, frames_are_one};
+use ssim_records::{Record, RecordFault, Records, Source, frames_are_one};
 use ssim_values::Memory;
 use std::alloc::Global;
 
@@ -54,7 +54,7 @@ impl DataSetReader {
         ensures noted { OnOk result (self.new.notes.items ≡ self.old.notes.items ++ notes_at number self.old.previous one.old) }
         ensures previous { OnOk result (self.new.previous ≡ serial_of one.old) }
         ensures err { IfErr result (λ e. (earlier : List Record) → HasAccepted self.old.kept earlier → IsRefused number earlier one.old e) }
-        ensures is_record { OnOk result (IsRecord one.old) }
+        ensures is_record { IsRecord one.old }
     {
         // `put` closes the record, so its serial is read before.
         self.note(number, one)?;
@@ -98,20 +98,23 @@ impl DataSetReader {
 pub(crate) fn read_records<R: Source>(
     alloc: Global,
     records: AcceptedRecords,
+    blocks: &mut Records,
     reader: &mut R,
-    limit: u64,
 ) -> Result<(DataSetReader, u64), BaseFault>
-    requires { AreAccepted records [] }
-    ensures ok { IfOk result (λ read. HasRead limit (R.left reader.old) read.0 read.1) }
+    requires accepted { AreAccepted records [] }
+    requires unread { blocks.old ≡ unread blocks.old.limit }
+    requires limit { blocks.old.limit < 2 ^ 64 }
+    ensures ok { IfOk result (λ read. HasRead blocks.old.limit (R.left reader.old) read.0 read.1) }
     ensures keeps { IfOk result (λ read. keeps read.0.kept.records ≡ keeps records) }
-    ensures err { IfErr result (λ e. Refuses limit (R.left reader.old) e) }
+    ensures err { IfErr result (λ e. Refuses blocks.old.limit (R.left reader.old) e) }
     ensures no_failure { IfOk result (λ _. R.failures reader.new ≡ R.failures reader.old) }
     ensures failure { IfErr result (λ e. FailsAs (R.failures reader.old) (R.failures reader.new) e) }
     ensures fails_after { IfErr result (λ e. FailsAfter (R.left reader.old) (R.left reader.new) e) }
-    ensures never_ends { IfErr result (λ e. NeverEnds limit (Came (R.left reader.old) (R.left reader.new) (R.came reader.old) (R.came reader.new)) e) }
+    ensures never_ends { IfErr result (λ e. NeverEnds blocks.old.limit (Came (R.left reader.old) (R.left reader.new) (R.came reader.old) (R.came reader.new)) e) }
+    ensures limit { IfErr result (λ _. blocks.new.limit ≡ blocks.old.limit) }
+    ensures came { IfErr result (λ _. Came (R.left reader.old) (R.left reader.new) (R.came reader.old) (R.came reader.new) blocks.new.came) }
 {
     frames_are_one();
-    let mut blocks = Records::new(limit);
     let mut records_read = DataSetReader::new(alloc, records);
     let mut next = None;
     loop {
@@ -122,5 +125,49 @@ pub(crate) fn read_records<R: Source>(
             },
             Err(fault) => return Err(BaseFault::Read(fault)),
         }
+    }
+}
+
+/// Does what `read_records` does, and reads the reader to its end: after a fault of the bytes, those
+/// that are left are fetched too. If the reader fails then, or more bytes come than the limit, this
+/// is the fault.
+pub(crate) fn read_whole<R: Source>(
+    alloc: Global,
+    records: AcceptedRecords,
+    reader: &mut R,
+    limit: u64,
+) -> Result<(DataSetReader, u64), BaseFault>
+    requires { AreAccepted records [] }
+    ensures ok { IfOk result (λ read. HasRead limit (R.left reader.old) read.0 read.1) }
+    ensures keeps { IfOk result (λ read. keeps read.0.kept.records ≡ keeps records) }
+    ensures err { IfErr result (RefusesWhole limit (R.left reader.old)) }
+    ensures no_failure { IfOk result (λ _. R.failures reader.new ≡ R.failures reader.old) }
+    ensures failure { IfErr result (λ e. FailsAs (R.failures reader.old) (R.failures reader.new) e) }
+    ensures never_ends { IfErr result (λ e. NeverEnds limit (Came (R.left reader.old) (R.left reader.new) (R.came reader.old) (R.came reader.new)) e) }
+{
+    let mut blocks = Records::new(limit);
+    match read_records(alloc, records, &mut blocks, reader) {
+        Ok(read) => Ok(read),
+        Err(fault) => {
+            if !is_of_bytes(&fault) {
+                return Err(fault);
+            }
+            match blocks.skip_rest(reader) {
+                Ok(()) => Err(fault),
+                Err(rest) => Err(BaseFault::Read(rest)),
+            }
+        }
+    }
+}
+
+/// Whether a fault is of the bytes.
+fn is_of_bytes(fault: &BaseFault) -> bool
+    ensures { result ≡ is_of_bytes fault.now }
+{
+    match fault {
+        BaseFault::Memory => false,
+        BaseFault::Read(RecordFault::ReadFault { .. }) => false,
+        BaseFault::Read(RecordFault::ReaderNeverEnds { .. }) => false,
+        _ => true,
     }
 }

@@ -1,11 +1,11 @@
 //! What a data set has, without its records.
 
 ghost use Rattle.std.specs.Prelude.{◌≡◌, ℕ, List, Option, IfOk, IfErr};
-ghost use Rattle.ssim_base.specs.Reading.{Came, FailsAfter, FailsAs, NeverEnds};
-ghost use Rattle.ssim_base.specs.Summary.{Sums};
+ghost use Rattle.ssim_base.specs.Reading.{Came, FailsAs, NeverEnds, RefusesWhole};
+ghost use Rattle.ssim_base.specs.Summary.{IsSummary};
 
 use crate::accepted_records::AcceptedRecords;
-use crate::data_set_reader::{DataSetReader, read_records};
+use crate::data_set_reader::{DataSetReader, read_whole};
 use crate::fault::BaseFault;
 use crate::note::Note;
 use ssim_records::Source;
@@ -26,25 +26,25 @@ pub struct Summary {
 impl Summary {
     ghost use Rattle.ssim_base.specs.internal.DataSetReader.{HasRead, IsWhole};
 
-    /// Reads a data set, record by record. At most `limit` bytes and one more are fetched. The
-    /// refusals are those of `Base::read`.
+    /// Reads what a data set has, record by record, and its reader to the end. At most `limit` bytes
+    /// and one more are fetched. The refusals are those of `DataSet::read`.
     pub fn read<R: Source>(alloc: Global, reader: &mut R, limit: u64) -> Result<Summary, BaseFault>
-        ensures sums { Sums limit (R.left reader.old) result }
+        ensures sums { IfOk result (IsSummary limit (R.left reader.old)) }
+        ensures refused { IfErr result (RefusesWhole limit (R.left reader.old)) }
         ensures no_failure { IfOk result (λ _. R.failures reader.new ≡ R.failures reader.old) }
         ensures failure { IfErr result (λ e. FailsAs (R.failures reader.old) (R.failures reader.new) e) }
-        ensures fails_after { IfErr result (λ e. FailsAfter (R.left reader.old) (R.left reader.new) e) }
         ensures never_ends { IfErr result (λ e. NeverEnds limit (Came (R.left reader.old) (R.left reader.new) (R.came reader.old) (R.came reader.new)) e) }
     {
-        let (records_read, number) = read_records(alloc, AcceptedRecords::Count(0), reader, limit)?;
+        let (records_read, number) = read_whole(alloc, AcceptedRecords::Count(0), reader, limit)?;
         Summary::finish(records_read, number)
     }
 
     // The summary of the records that were read; an error if a record is missing at the end.
     fn finish(records_read: DataSetReader, number: u64) -> Result<Summary, BaseFault>
         requires { IsWhole records_read }
-        ensures sums { (limit : ℕ) (told : Option (List ℕ)) → HasRead limit told records_read number → Sums limit told result }
+        ensures sums { (limit : ℕ) (told : Option (List ℕ)) → HasRead limit told records_read number → IfOk result (IsSummary limit told) }
+        ensures refused { (limit : ℕ) (told : Option (List ℕ)) → HasRead limit told records_read number → IfErr result (RefusesWhole limit told) }
         ensures failure { (n : ℕ) → IfErr result (λ e. FailsAs n n e) }
-        ensures fails_after { (all left : Option (List ℕ)) → IfErr result (λ e. FailsAfter all left e) }
         ensures never_ends { (limit old new : ℕ) (left others : Option (List ℕ)) → IfErr result (λ e. NeverEnds limit (Came left others old new) e) }
     {
         let DataSetReader { kept, notes, .. } = records_read;

@@ -1,6 +1,6 @@
 //! Runs of the program on devices that may fail.
 
-use crate::devices::{FullWriter, NoStore};
+use crate::devices::{BrokenStore, FullWriter, NoStore};
 use crate::fault::Fault;
 use crate::memory_store::MemoryStore;
 use crate::shown::{number, parts, push_line, push_named, show};
@@ -12,6 +12,8 @@ use std::alloc::Global;
 pub struct Devices {
     /// The fault of the store, if it fails.
     store: Option<StoreFault>,
+    /// How many bytes a file gives before it fails, if it fails.
+    file: Option<usize>,
     /// How many bytes the standard output takes, and whether it can be flushed.
     room: usize,
     flushes: bool,
@@ -24,6 +26,7 @@ impl Devices {
     pub fn new() -> Devices {
         Devices {
             store: None,
+            file: None,
             room: usize::MAX,
             flushes: true,
             err_room: usize::MAX,
@@ -37,6 +40,7 @@ impl Devices {
             "out" => self.room = number(how)?,
             "err" => self.err_room = number(how)?,
             "flush" => self.flushes = false,
+            "file" => self.file = Some(number(how)?),
             "store" if how == "memory" => self.store = Some(StoreFault::Memory),
             "store" => self.store = Some(StoreFault::Fault),
             _ => return Err(Fault::Line),
@@ -46,9 +50,12 @@ impl Devices {
 
     /// Runs the program on these words.
     pub fn answer(&self, alloc: Global, words: &[&str], store: &mut MemoryStore) -> Answer {
-        match self.store {
-            None => self.answer_with(alloc, words, store),
-            Some(fault) => self.answer_with(alloc, words, &mut NoStore { fault }),
+        match (self.store, self.file) {
+            (Some(fault), _) => self.answer_with(alloc, words, &mut NoStore { fault }),
+            (None, Some(room)) => {
+                self.answer_with(alloc, words, &mut BrokenStore { store, room })
+            }
+            (None, None) => self.answer_with(alloc, words, store),
         }
     }
 

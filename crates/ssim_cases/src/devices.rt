@@ -1,6 +1,10 @@
 //! Devices and stores that fail.
 
+ghost use Rattle.std.specs.Prelude.{None};
+
+use crate::memory_store::MemoryStore;
 use ssim_program::{Content, Store, StoreFault};
+use ssim_records::{DeviceFault, Parts, Source};
 use std::alloc::Global;
 use std::io;
 use std::io::Write;
@@ -49,11 +53,86 @@ pub struct NoStore {
 }
 
 impl Store for NoStore {
+    type File = Parts;
+
+    fn open(&mut self, _alloc: Global, _name: &str) -> Result<Parts, StoreFault> {
+        Err(self.fault)
+    }
+
     fn load(&mut self, _alloc: Global, _name: &str, _limit: u64) -> Result<Vec<u8>, StoreFault> {
         Err(self.fault)
     }
 
     fn keep<C: Content>(&mut self, _name: &str, _content: &C) -> Result<(), StoreFault> {
         Err(self.fault)
+    }
+
+    ghost unfailing = { λ s. tt };
+}
+
+/// A store whose files fail after `room` bytes.
+#[derive(Drop)]
+pub struct BrokenStore<'a> {
+    pub store: &'a mut MemoryStore,
+    pub room: usize,
+}
+
+impl Store for BrokenStore<'_> {
+    type File = BrokenFile;
+
+    fn open(&mut self, alloc: Global, name: &str) -> Result<BrokenFile, StoreFault> {
+        let bytes = self.store.open(alloc, name)?;
+        Ok(BrokenFile {
+            bytes,
+            room: self.room,
+            came: 0,
+            failures: 0,
+        })
+    }
+
+    fn load(&mut self, alloc: Global, name: &str, limit: u64) -> Result<Vec<u8>, StoreFault> {
+        self.store.load(alloc, name, limit)
+    }
+
+    fn keep<C: Content>(&mut self, name: &str, content: &C) -> Result<(), StoreFault> {
+        self.store.keep(name, content)
+    }
+
+    ghost unfailing = { λ s. tt };
+}
+
+/// A file that fails after `room` bytes.
+#[derive(Drop)]
+pub struct BrokenFile {
+    bytes: Parts,
+    room: usize,
+    came: u128,
+    failures: u64,
+}
+
+impl Source for BrokenFile {
+    ghost left = { λ _. None };
+
+    ghost came = { λ s. s.came };
+
+    ghost failures = { λ s. s.failures };
+
+    fn fetch(&mut self, into: &mut [u8]) -> Result<usize, DeviceFault> {
+        if self.room == 0 {
+            self.failures = self.failures.wrapping_add(1);
+            return Err(DeviceFault::Failed);
+        }
+        let most = into.len().min(self.room);
+        match self.bytes.fetch(&mut into[..most]) {
+            Ok(n) => {
+                self.room -= n;
+                self.came = self.came.wrapping_add(n as u128);
+                Ok(n)
+            }
+            Err(fault) => {
+                self.failures = self.failures.wrapping_add(1);
+                Err(fault)
+            }
+        }
     }
 }

@@ -1,5 +1,5 @@
 -- A file that is the export of its own base is read as that base, so the base's export is the file.
-use Rattle.std.proofs.Common.{◌≡◌, ◌∙◌, ◌⊎◌, ℕ, Bool, true, false, true≢false, List, [], Option, Result, Ok, Err, unwrap_or, inl, inr, sym, ap, subst}
+use Rattle.std.proofs.Common.{◌≡◌, ◌∙◌, ◌⊎◌, ℕ, Bool, true, false, true≢false, List, [], Option, Some, Result, Ok, Err, inl, inr, sym, ap, subst}
 use Rattle.ssim_values.specs.Flight.{FlightNumber}
 use Rattle.ssim_records.specs.Carrier.{CarrierFields}
 use Rattle.ssim_records.specs.Header.{HeaderFields}
@@ -10,7 +10,7 @@ use Rattle.ssim_base.specs.Base.{Outcome}
 use Rattle.ssim_base.specs.Export.{ExportRefusal, Frame, chapter7, frame_from}
 use Rattle.ssim_schedule.specs.Plan.{ReadsBackBase}
 use Rattle.ssim_base.specs.ReadBack.{HasFrame, ReadsBackFrom, kept_frame}
-use Rattle.ssim_base.specs.Reading.{FailedReader, IsReadAs, IsReadBack}
+use Rattle.ssim_base.specs.Reading.{FailedReader, IsReadAs, IsReadBack, IsReadOf}
 use Rattle.ssim_base.specs.Timetable.{Days, days_of}
 use Rattle.ssim_base.specs.declared.note.Note.{Note}
 use Rattle.ssim_base.proofs.FrameLemmas.{first-is, last-is, second-is}
@@ -74,9 +74,9 @@ pub tidied_once : IsReadBack → TidiesOnce
 tidied_once law all name bytes again kept own is fits made =
     let base = made.0 in
     let notes = made.1 in
-    let dataset = made.2.0 in
-    let same : dataset ≡ bytes = ap (λ (o : Option (List ℕ)). unwrap_or o dataset) (sym made.2.1.1 ∙ is) in
-    let read : IsReadAs file_limit bytes (Ok (base, notes)) = subst (λ (d : List ℕ). IsReadAs file_limit d (Ok (base, notes))) same made.2.2 in
+    let opened = made.2.1 in
+    let left : made.2.0 ≡ Some bytes = opened.2 ∙ sym opened.1 ∙ is in
+    let read : IsReadAs file_limit bytes (Ok (base, notes)) = subst (λ (o : Option (List ℕ)). IsReadOf file_limit o (Ok (base, notes))) left made.2.2.0 in
     as_itself base notes again bytes own made.3 (law bytes own.count own.records own.base [] file_limit (read_as base notes) own.read own.stands fits read)
 
 -- ---- what was exported

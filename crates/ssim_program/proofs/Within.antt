@@ -1,72 +1,103 @@
--- A data set within the limit is never refused for its length: that refusal needs bytes after the
--- limit.
-use Rattle.std.proofs.Common.{◌≡◌, ◌≤◌, ◌<◌, ◌-◌, ◌++◌, ℕ, List, [], ◌∷◌, length, Option, Some, None, Result, Ok, Err, IfErr, subst, inl, inr, arith}
-use Rattle.ssim_records.specs.Frames.{others}
+-- What a data set in a file is read as, if the file is opened and read to its end.
+use Rattle.std.proofs.Common.{◌≡◌, ◌≤◌, ◌<◌, ◌⊎◌, ℕ, List, [], length, Option, Some, None, Err, subst, sym, ap, inl, inr, refl, arith}
+use Rattle.std.specs.Prelude.{IfSome}
 use Rattle.ssim_records.specs.declared.fault.RecordFault.{RecordFault}
 use Rattle.ssim_records.specs.declared.fault.RecordFault.TheVariants.{Short, BadType, BadColumn, ReadFault, ReaderNeverEnds}
-use Rattle.ssim_records.specs.declared.record.Record.{Record}
-use Rattle.ssim_base.specs.Base.{Ending, Done, Broken, at_record, first_refusal, kept, missing, refusal_at, unless_refused}
-use Rattle.ssim_base.specs.Reading.{AnswersRecords, FailsAs, Gives, IsReadAs}
-use Rattle.ssim_base.specs.Summary.{Sums}
+use Rattle.ssim_base.specs.Base.{Outcome}
+use Rattle.ssim_base.specs.Reading.{Came, FailsAs, IsReadAs, IsReadOf, IsWholeOf, NeverEnds, RefusesWhole}
 use Rattle.ssim_base.specs.declared.fault.BaseFault.{BaseFault}
 use Rattle.ssim_base.specs.declared.fault.BaseFault.TheVariants as fault
 use Rattle.ssim_base.specs.declared.fault.BaseFault.TheVariants.{Read, Refused}
-use Rattle.ssim_base.specs.declared.fault.BaseRefusal.{BaseRefusal}
-use Rattle.ssim_base.specs.declared.note.Note.{Note}
-use Rattle.ssim_base.specs.declared.summary.Summary.{Summary}
-use Rattle.ssim_program.specs.Made.{IsOfBytes}
+use Rattle.ssim_program.specs.Files.{Files, IsOpened, file_of}
+use Rattle.ssim_program.specs.Made.{HasFile, IsMissing, IsOfBytes, ReadsFile, RefusesLoad, file_limit}
+use Rattle.ssim_command_line.specs.Line.{Text}
+use Rattle.ssim_program.specs.Refusal.{IsOfFile}
+use Rattle.ssim_program.specs.Unread.{IsUnread}
+use Rattle.ssim_program.specs.declared.refusal.Refusal.{Refusal}
+use Rattle.ssim_program.specs.declared.refusal.Refusal.TheVariants as refused
 
-refused_later : (n : ℕ) (o : Option BaseRefusal) (later : Option BaseFault) (f : RecordFault) → at_record n o later ≡ Some (Read f) → later ≡ Some (Read f)
-refused_later n (Some r) later f e = absurd cc
-refused_later n None later f e = e
+-- ---- a file that was read
 
--- a fault of reading is that with which the records end
-ends_so : (ending : Ending) (earlier : List Record) (records : List (ℕ × Record)) (f : RecordFault) → first_refusal ending earlier records ≡ Some (Read f) → ending ≡ Broken f
-ends_so (Done n) earlier [] f e = let bad = refused_later n (missing earlier) None f e in absurd cc
-ends_so (Broken g) earlier [] f e = cc
-ends_so ending earlier (r ∷ later) f e =
-    ends_so ending (kept earlier r.1 ∷ earlier) later f (refused_later r.0 (refusal_at earlier r.1) (first_refusal ending (kept earlier r.1 ∷ earlier) later) f e)
+abbrev pub Fails : Option Files → ℕ → Type 0
+Fails files failures = IfSome files (λ all. failures ≡ 0)
 
-refused_by : (o : Option BaseFault) (base : List Record × List Note) (fault : BaseFault) → Err fault ≡ unless_refused o base → o ≡ Some fault
-refused_by (Some x) base fault e = cc
-refused_by None base fault e = absurd cc
+-- no file of a store fails, if the contract can see its files
+pub unfailing_at : {F : Type 0} (files : Option Files) (failures : F → ℕ) → IfSome files (λ all. (x : F) → failures x ≡ 0) → (x : F) → Fails files (failures x)
+unfailing_at None failures law x = tt
+unfailing_at (Some all) failures law x = law x
 
-comes_after : (count : ℕ) (rest : List ℕ) (beyond n : ℕ) (left : List (ℕ × List ℕ)) (records : List (ℕ × Record))
-    → Gives count rest beyond left records (Broken (ReaderNeverEnds n)) → 0 < beyond
-comes_after count rest beyond n left [] h = h.1
-comes_after count rest beyond n [] (r ∷ records) h = absurd h
-comes_after count rest beyond n (block ∷ left) (r ∷ records) h = comes_after count rest beyond n left records h.2
+-- the file was read to its end, and its bytes are refused
+pub reads_fault : (files : Option Files) (name : Text) (left : Option (List ℕ)) (e : BaseFault) → IsOpened files name left → RefusesWhole file_limit left e → IsUnread name e None
+    → IsOfBytes e × ReadsFile files name (Err e)
+reads_fault files name left fault.Memory opened whole is = absurd cc
+reads_fault files name left (Read (Short n)) opened whole is = (tt, (left, opened, whole))
+reads_fault files name left (Read (BadType n)) opened whole is = (tt, (left, opened, whole))
+reads_fault files name left (Read (BadColumn n column)) opened whole is = (tt, (left, opened, whole))
+reads_fault files name left (Read (ReadFault n)) opened whole is = let e = is.1 in absurd cc
+reads_fault files name left (Read (ReaderNeverEnds n)) opened whole is = let e = is.1 in absurd cc
+reads_fault files name left (Refused n why) opened whole is = (tt, (left, opened, whole))
 
-pub never_ends : (limit n : ℕ) (bytes : List ℕ) → length bytes ≤ limit → IsReadAs limit bytes (Err (Read (ReaderNeverEnds n))) → ⊥
-never_ends limit n bytes within (inl all) =
-    let ending : all.ending ≡ Broken (ReaderNeverEnds n) = ends_so all.ending [] all.records (ReaderNeverEnds n) (refused_by (first_refusal all.ending [] all.records) _ _ all.is) in
-    let g = all.given in
-    let over : 0 < length bytes - limit = comes_after (length g.blocks) g.rest (length bytes - limit) n (others 0 g.blocks) all.records
-    (subst (Gives (length g.blocks) g.rest (length bytes - limit) (others 0 g.blocks) all.records) ending g.given) in
-    absurd (omega (arith, over, within))
-never_ends limit n bytes within (inr first) =
-    let ending : Done 0 ≡ Broken (ReaderNeverEnds n) =
-    ends_so (Done 0) [] (first.records ++ []) (ReaderNeverEnds n) (refused_by (first_refusal (Done 0) [] (first.records ++ [])) _ _ (first.is [] (Done 0))) in
-    absurd cc
+some_is : (a b : Refusal) → Some a ≡ Some b → b ≡ a
+some_is a b e = cc
 
--- a slice within the limit, which never fails, is refused for its bytes alone
-of_fault : (f : RecordFault) (limit : ℕ) (bytes : List ℕ) → length bytes ≤ limit → IsReadAs limit bytes (Err (Read f)) → FailsAs 0 0 (Read f) → IsOfBytes (Read f)
-of_fault (Short n) limit bytes within read failed = tt
-of_fault (BadType n) limit bytes within read failed = tt
-of_fault (BadColumn n column) limit bytes within read failed = tt
-of_fault (ReadFault n) limit bytes within read failed = absurd (omega (arith, failed))
-of_fault (ReaderNeverEnds n) limit bytes within read failed = absurd (never_ends limit n bytes within read)
+-- a file that the contract can see has more bytes than the limit
+too_long : (files : Option Files) (name : Text) (left left' : Option (List ℕ)) (start now n : ℕ) → IsOpened files name left → file_limit < n → Came left left' start now n → IsMissing files name
+too_long None name left left' start now n opened over came = tt
+too_long (Some all) name left left' start now n opened over came = subst (λ (o : Option (List ℕ)). IfSome o (λ bytes. file_limit < length bytes)) (sym opened.1)
+    (longer left left' start now n opened.0 opened.2 over came)
+  where
+    longer : (left left' : Option (List ℕ)) (start now n : ℕ) (bytes : List ℕ) → left ≡ Some bytes → file_limit < n → Came left left' start now n → file_limit < length bytes
+    longer None left' start now n bytes is over came = absurd cc
+    longer (Some x) None start now n bytes is over came = absurd came
+    longer (Some x) (Some y) start now n bytes is over came =
+        let same : x ≡ bytes = cc in
+        omega (arith, ap length same, over, came)
 
--- the records of a data set within the limit are refused for its bytes alone
-pub records_of_bytes : (r : Result (List Record) BaseFault) (limit : ℕ) (bytes : List ℕ) → length bytes ≤ limit → AnswersRecords r (IsReadAs limit bytes) → IfErr r (FailsAs 0 0) → IfErr r IsOfBytes
-records_of_bytes (Ok x) limit bytes within read failed = tt
-records_of_bytes (Err fault.Memory) limit bytes within read failed = tt
-records_of_bytes (Err (Read f)) limit bytes within read failed = of_fault f limit bytes within read failed
-records_of_bytes (Err (Refused n why)) limit bytes within read failed = tt
+-- a file that was not read to its end, or has more bytes than the limit
+pub refuses_unread : (files : Option Files) (name : Text) (left left' : Option (List ℕ)) (start now old new : ℕ) (e : BaseFault) (refusal : Refusal) → IsOpened files name left → Fails files old → Fails files new
+    → FailsAs old new e → NeverEnds file_limit (Came left left' start now) e → IsUnread name e (Some refusal) → RefusesLoad files name refusal
+refuses_unread files name left left' start now old new fault.Memory refusal opened before after failed over is = inl (some_is refused.Memory refusal (sym is))
+refuses_unread files name left left' start now old new (Read (Short n)) refusal opened before after failed over is = absurd cc
+refuses_unread files name left left' start now old new (Read (BadType n)) refusal opened before after failed over is = absurd cc
+refuses_unread files name left left' start now old new (Read (BadColumn n column)) refusal opened before after failed over is = absurd cc
+refuses_unread None name left left' start now old new (Read (ReadFault n)) refusal opened before after failed over is =
+    let same : is.0 ≡ refusal = some_is refusal is.0 is.1 in
+    inr (subst (λ (r : Refusal). IsOfFile name r) same is.2, tt)
+refuses_unread (Some all) name left left' start now old new (Read (ReadFault n)) refusal opened before after failed over is = absurd (omega (arith, before, after, failed))
+refuses_unread files name left left' start now old new (Read (ReaderNeverEnds n)) refusal opened before after failed over is =
+    let same : is.0 ≡ refusal = some_is refusal is.0 is.1 in
+    inr (subst (λ (r : Refusal). IsOfFile name r) same is.2, too_long files name left left' start now over.0 opened over.1 over.2)
+refuses_unread files name left left' start now old new (Refused n why) refusal opened before after failed over is = absurd cc
 
--- the summary of bytes within the limit is refused for these bytes alone
-pub sums_of_bytes : (r : Result Summary BaseFault) (limit : ℕ) (bytes : List ℕ) → length bytes ≤ limit → Sums limit (Some bytes) r → IfErr r (FailsAs 0 0) → IfErr r IsOfBytes
-sums_of_bytes (Ok x) limit bytes within sums failed = tt
-sums_of_bytes (Err fault.Memory) limit bytes within sums failed = tt
-sums_of_bytes (Err (Read f)) limit bytes within sums failed = of_fault f limit bytes within sums failed
-sums_of_bytes (Err (Refused n why)) limit bytes within sums failed = tt
+-- there is no file of this name
+pub not_opened : (files : Option Files) (name : Text) → IfSome files (λ all. IfSome (file_of all name) (λ bytes. ⊥)) → IsMissing files name
+not_opened None name none = tt
+not_opened (Some all) name none = missing (file_of all name) none
+  where
+    missing : (o : Option (List ℕ)) → IfSome o (λ bytes. ⊥) → IfSome o (λ bytes. file_limit < length bytes)
+    missing None none = tt
+    missing (Some x) none = absurd none
+
+-- the file of this name is within the limit, if it was read
+pub has_file : (files : Option Files) (name : Text) (outcome : Outcome) → ReadsFile files name outcome → (bytes : List ℕ) × HasFile files name bytes
+has_file None name outcome read = ([], (omega arith, tt))
+has_file (Some all) name outcome read =
+    let bytes = read.1.0 in
+    (bytes, (subst (λ (o : Option (List ℕ)). IfSome o (λ b. length b ≤ file_limit)) read.1.2 read.2.1, read.1.1))
+
+-- ---- bytes in memory
+
+-- bytes within the limit, which are read without a failure, are refused for themselves
+pub bytes_refused : (bytes : List ℕ) (left' : Option (List ℕ)) (start now : ℕ) (e : BaseFault) → length bytes ≤ file_limit → RefusesWhole file_limit (Some bytes) e → FailsAs 0 0 e
+    → NeverEnds file_limit (Came (Some bytes) left' start now) e → (e ≡ fault.Memory) ⊎ (IsOfBytes e × IsReadAs file_limit bytes (Err e))
+bytes_refused bytes left' start now fault.Memory within whole failed over = inl refl
+bytes_refused bytes left' start now (Read (Short n)) within whole failed over = inr (tt, whole.0)
+bytes_refused bytes left' start now (Read (BadType n)) within whole failed over = inr (tt, whole.0)
+bytes_refused bytes left' start now (Read (BadColumn n column)) within whole failed over = inr (tt, whole.0)
+bytes_refused bytes left' start now (Read (ReadFault n)) within whole failed over = absurd (omega (arith, failed))
+bytes_refused bytes None start now (Read (ReaderNeverEnds n)) within whole failed over = absurd over.2
+bytes_refused bytes (Some x) start now (Read (ReaderNeverEnds n)) within whole failed over =
+    let more = over.1 in
+    let came = over.2 in
+    absurd (omega (arith, within, more, came))
+bytes_refused bytes left' start now (Refused n why) within whole failed over = inr (tt, whole.0)

@@ -18,6 +18,18 @@ LoadsBytes all name limit (Ok bytes) = file_of all name ≡ Some bytes
 LoadsBytes all name limit (Err fault.Memory) = ⊤
 LoadsBytes all name limit (Err fault.Fault) = IfSome (file_of all name) (λ bytes. limit < length bytes)
 
+-- An opened file has exactly these bytes to give, if the contract can see the files: those of the
+-- file of this name.
+abbrev pub IsOpened : Option Files → List ℕ → Option (List ℕ) → Type 0
+IsOpened None name left = ⊤
+IsOpened (Some all) name left = (bytes : List ℕ) × (file_of all name ≡ Some bytes) × (left ≡ Some bytes)
+
+-- the file of this name is opened, or there is none; `left` has the bytes that a file has to give
+abbrev pub OpensFile : {F : Type 0} → (F → Option (List ℕ)) → Option Files → List ℕ → Result F StoreFault → Type 0
+OpensFile left files name (Ok file) = IsOpened files name (left file)
+OpensFile left files name (Err fault.Memory) = ⊤
+OpensFile left files name (Err fault.Fault) = IfSome files (λ all. IfSome (file_of all name) (λ bytes. ⊥))
+
 -- a load into a vector
 abbrev pub LoadsFile : {A : Type 0} → Files → List ℕ → ℕ → Result (Vec ℕ A) StoreFault → Type 0
 LoadsFile all name limit (Ok v) = LoadsBytes all name limit (Ok v.items)

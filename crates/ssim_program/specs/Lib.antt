@@ -18,3 +18,4 @@ pub mod Explained
 pub mod Rehearsal
 pub mod Verdict
 pub mod Examples
+pub mod Unread

@@ -8,7 +8,7 @@ use Rattle.ssim_base.specs.Base.{Outcome}
 use Rattle.ssim_base.specs.BaseSeen.{AreFlights, BaseSeen}
 use Rattle.ssim_base.specs.Export.{Frame, chapter7, line}
 use Rattle.ssim_base.specs.ReadBack.{HasFrame}
-use Rattle.ssim_base.specs.Reading.{IsReadAs}
+use Rattle.ssim_base.specs.Reading.{IsWholeOf}
 use Rattle.ssim_base.specs.Stations.{NamesLine, Row, SpellsTable}
 use Rattle.ssim_base.specs.Summary.{IsSummary}
 use Rattle.ssim_base.specs.Timetable.{Days, days_of}
@@ -19,7 +19,7 @@ use Rattle.ssim_base.specs.declared.note.Note.TheVariants as note
 use Rattle.ssim_base.specs.declared.summary.Summary.{Summary}
 use Rattle.ssim_base.specs.declared.stations.StationFault.{StationFault}
 use Rattle.ssim_text.specs.Left.{lines_left}
-use Rattle.ssim_program.specs.Files.{Files, file_of}
+use Rattle.ssim_program.specs.Files.{Files, IsOpened, file_of}
 use Rattle.ssim_command_line.specs.Line.{Text}
 use Rattle.ssim_program.specs.Printed.{printed_text}
 use Rattle.ssim_program.specs.Refusal.{IsOfFile, refusal_of_base, refusal_of_stations}
@@ -67,13 +67,14 @@ file_limit = 268435456
 abbrev pub HasFile : Option Files → Text → List ℕ → Type 0
 HasFile files name bytes = (length bytes ≤ file_limit) × IfSome files (λ all. file_of all name ≡ Some bytes)
 
--- the data set in the file of this name is read as this
+-- The data set in the file of this name is within the limit, and is read as this. If the contract
+-- cannot see the files, some data set is.
 abbrev pub ReadsFile : Option Files → Text → Outcome → Type 0
-ReadsFile files name outcome = (bytes : List ℕ) × HasFile files name bytes × IsReadAs file_limit bytes outcome
+ReadsFile files name outcome = (left : Option (List ℕ)) × IsOpened files name left × IsWholeOf file_limit left outcome
 
 -- the data set in the file of this name has what the summary says
 abbrev pub SumsFile : Option Files → Text → Summary → Type 0
-SumsFile files name summary = (bytes : List ℕ) × HasFile files name bytes × IsSummary file_limit (Some bytes) summary
+SumsFile files name summary = (left : Option (List ℕ)) × IsOpened files name left × IsSummary file_limit left summary
 
 -- the fault is of the bytes: neither that the reader failed (13), nor that more came than the limit
 -- (14)

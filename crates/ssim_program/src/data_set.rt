@@ -1,18 +1,20 @@
 //! Files of the store: any file, the data set in a file, and a base from a data set and a station
 //! table.
 
-ghost use Rattle.std.specs.Prelude.{◌≡◌, ◌≤◌, List, IfErr, IfOk, Ok, Some, length};
+ghost use Rattle.std.specs.Prelude.{◌≡◌, ◌⊎◌, ◌≤◌, ℕ, List, IfErr, IfOk, Ok, Err, length};
+ghost use Rattle.ssim_records.specs.declared.record.Record.{Record};
 ghost use Rattle.ssim_base.specs.BaseSeen.{base_with};
-ghost use Rattle.ssim_base.specs.Reading.{AnswersRecords, IsReadAs};
-ghost use Rattle.ssim_base.specs.Stations.{Row};
+ghost use Rattle.ssim_base.specs.Reading.{IsReadAs};
+ghost use Rattle.ssim_base.specs.declared.fault.BaseFault.TheVariants as base_fault;
 ghost use Rattle.ssim_base.specs.declared.note.Note.{Note};
-ghost use Rattle.ssim_base.specs.Summary.{Sums};
+ghost use Rattle.ssim_program.specs.Files.{IsOpened};
 ghost use Rattle.ssim_program.specs.Made.{HasFile, IsOfBytes, ReadsBase, ReadsFile, RefusesBase, RefusesFile, RefusesLoad, SumsFile, file_limit};
+ghost use Rattle.ssim_program.specs.Unread.{IsUnread};
 
 use crate::refusal::Refusal;
 use crate::store::{Store, StoreFault};
 use ssim_base::{BaseFault, DataSet, Stations, Summary};
-use ssim_records::Parts;
+use ssim_records::{Parts, RecordFault};
 use std::alloc::Global;
 
 /// The most bytes that a file may have.
@@ -54,24 +56,91 @@ pub(crate) fn load_parts<S: Store>(
     }
 }
 
-/// Reads the data set in the file of this name, to be exported. The file's bytes are freed while
-/// they are read.
+/// Opens the file of this name. Returns 91 if there is no such file.
+fn open_file<S: Store>(alloc: Global, name: &str, store: &mut S) -> Result<S::File, Refusal>
+    ensures opened { IfOk result (λ file. IsOpened (S.files store.old) name.now (S.File.left file)) }
+    ensures refused { IfErr result (RefusesLoad (S.files store.old) name.now) }
+    ensures same { S.files store.new ≡ S.files store.old }
+{
+    match store.open(alloc, name) {
+        Ok(file) => Ok(file),
+        Err(StoreFault::Memory) => Err(Refusal::Memory),
+        Err(StoreFault::Fault) => Err(Refusal::of_file(alloc, name)),
+    }
+}
+
+/// Why a file has no outcome, if the fault is not of its bytes: memory ran out, or the file was not
+/// read to its end within the limit.
+fn unread(alloc: Global, name: &str, fault: &BaseFault) -> Option<Refusal>
+    ensures { IsUnread name.now fault.now result }
+{
+    match fault {
+        BaseFault::Memory => Some(Refusal::Memory),
+        BaseFault::Read(RecordFault::ReadFault { .. }) => Some(Refusal::of_file(alloc, name)),
+        BaseFault::Read(RecordFault::ReaderNeverEnds { .. }) => Some(Refusal::of_file(alloc, name)),
+        _ => None,
+    }
+}
+
+/// Reads the data set in the file of this name, to be exported: its records, or the fault of its
+/// bytes. Returns 91 if there is no such file within the limit.
+fn read_file<S: Store>(
+    alloc: Global,
+    name: &str,
+    store: &mut S,
+) -> Result<Result<DataSet, BaseFault>, Refusal>
+    ensures read { IfOk result (λ read. IfOk read (λ set. (notes : List Note) × ReadsFile (S.files store.old) name.now (Ok (set, notes)))) }
+    ensures fault { IfOk result (λ read. IfErr read (λ e. IsOfBytes e × ReadsFile (S.files store.old) name.now (Err e))) }
+    ensures within { IfOk result (λ _. (bytes : List ℕ) × HasFile (S.files store.old) name.now bytes) }
+    ensures refused { IfErr result (RefusesLoad (S.files store.old) name.now) }
+    ensures same { S.files store.new ≡ S.files store.old }
+{
+    let mut file = open_file(alloc, name, store)?;
+    match DataSet::read(alloc, &mut file, LIMIT) {
+        Ok(data_set) => Ok(Ok(data_set)),
+        Err(fault) => match unread(alloc, name, &fault) {
+            Some(refusal) => Err(refusal),
+            None => Ok(Err(fault)),
+        },
+    }
+}
+
+/// Reads what the data set in the file of this name has, or the fault of its bytes. Returns 91 if
+/// there is no such file within the limit.
+fn sum_file<S: Store>(
+    alloc: Global,
+    name: &str,
+    store: &mut S,
+) -> Result<Result<Summary, BaseFault>, Refusal>
+    ensures sums { IfOk result (λ read. IfOk read (SumsFile (S.files store.old) name.now)) }
+    ensures fault { IfOk result (λ read. IfErr read (λ e. IsOfBytes e × ReadsFile (S.files store.old) name.now (Err e))) }
+    ensures refused { IfErr result (RefusesLoad (S.files store.old) name.now) }
+    ensures same { S.files store.new ≡ S.files store.old }
+{
+    let mut file = open_file(alloc, name, store)?;
+    match Summary::read(alloc, &mut file, LIMIT) {
+        Ok(summary) => Ok(Ok(summary)),
+        Err(fault) => match unread(alloc, name, &fault) {
+            Some(refusal) => Err(refusal),
+            None => Ok(Err(fault)),
+        },
+    }
+}
+
+/// Reads the data set in the file of this name, to be exported.
 pub(crate) fn load<S: Store>(alloc: Global, name: &str, store: &mut S) -> Result<DataSet, Refusal>
     ensures read { IfOk result (λ read. (notes : List Note) × ReadsFile (S.files store.old) name.now (Ok (read, notes))) }
     ensures refused { IfErr result (RefusesFile (S.files store.old) name.now) }
     ensures same { S.files store.new ≡ S.files store.old }
 {
-    match load_parts(alloc, name, store) {
-        Ok(parts) => match read_set(alloc, parts) {
-            Ok(data_set) => Ok(data_set),
-            Err(fault) => Err(Refusal::from(fault)),
-        },
+    match read_file(alloc, name, store) {
+        Ok(Ok(data_set)) => Ok(data_set),
+        Ok(Err(fault)) => Err(Refusal::from(fault)),
         Err(refusal) => Err(refusal),
     }
 }
 
-/// Reads what the data set in the file of this name has. The file's bytes are freed while they are
-/// read.
+/// Reads what the data set in the file of this name has.
 pub(crate) fn load_summary<S: Store>(
     alloc: Global,
     name: &str,
@@ -81,11 +150,9 @@ pub(crate) fn load_summary<S: Store>(
     ensures refused { IfErr result (RefusesFile (S.files store.old) name.now) }
     ensures same { S.files store.new ≡ S.files store.old }
 {
-    match load_parts(alloc, name, store) {
-        Ok(parts) => match sum(alloc, parts) {
-            Ok(summary) => Ok(summary),
-            Err(fault) => Err(Refusal::from(fault)),
-        },
+    match sum_file(alloc, name, store) {
+        Ok(Ok(summary)) => Ok(summary),
+        Ok(Err(fault)) => Err(Refusal::from(fault)),
         Err(refusal) => Err(refusal),
     }
 }
@@ -93,35 +160,15 @@ pub(crate) fn load_summary<S: Store>(
 /// Reads what the bytes of a data set have.
 pub(crate) fn sum_bytes(alloc: Global, bytes: &[u8]) -> Result<Summary, BaseFault>
     requires { length bytes.now ≤ file_limit }
-    ensures sums { Sums file_limit (Some bytes.now) result }
-    ensures whole { IfErr result IsOfBytes }
+    ensures valid { IfOk result (λ summary. (base : List Record) × (notes : List Note) × IsReadAs file_limit bytes.now (Ok (base, notes))) }
+    ensures invalid { IfErr result (λ e. (e ≡ base_fault.Memory) ⊎ (IsOfBytes e × IsReadAs file_limit bytes.now (Err e))) }
 {
     let mut left = bytes;
     Summary::read(alloc, &mut left, LIMIT)
 }
 
-/// Reads what a data set in parts has.
-fn sum(alloc: Global, parts: Parts) -> Result<Summary, BaseFault>
-    requires { length parts ≤ file_limit }
-    ensures sums { Sums file_limit (Some parts) result }
-    ensures whole { IfErr result IsOfBytes }
-{
-    let mut left = parts;
-    Summary::read(alloc, &mut left, LIMIT)
-}
-
-/// Reads a data set in parts, to be exported.
-fn read_set(alloc: Global, parts: Parts) -> Result<DataSet, BaseFault>
-    requires { length parts ≤ file_limit }
-    ensures read { AnswersRecords result (IsReadAs file_limit parts) }
-    ensures whole { IfErr result IsOfBytes }
-{
-    let mut left = parts;
-    DataSet::read(alloc, &mut left, LIMIT)
-}
-
-/// Reads the data set in one file, with the station table in another. Both files are loaded first,
-/// the data set's before the table's; then the table is read, and then the data set.
+/// Reads the data set in one file, with the station table in another. The data set is read to its
+/// end first, and then the table is loaded and read; the fault of the data set comes last.
 pub(crate) fn load_base<S: Store>(
     alloc: Global,
     dataset: &str,
@@ -132,10 +179,10 @@ pub(crate) fn load_base<S: Store>(
     ensures refused { IfErr result (RefusesBase (S.files store.old) dataset.now stations.now) }
     ensures same { S.files store.new ≡ S.files store.old }
 {
-    let parts = load_parts(alloc, dataset, store)?;
+    let read = read_file(alloc, dataset, store)?;
     let table = load_file(alloc, stations, store)?;
     let stations = Stations::read(alloc, &table)?;
-    match read_set(alloc, parts) {
+    match read {
         Ok(data_set) => Ok((data_set, stations)),
         Err(fault) => Err(Refusal::from(fault)),
     }

@@ -1,13 +1,14 @@
 //! A store whose files are the system's, with `-` as the standard input.
 
 use crate::draft::fault_of;
+use crate::open_file::OpenFile;
 use crate::reading::{read_parts_within, read_within};
 use crate::whole_file::write_whole;
 use ssim_program::{Content, Store, StoreFault};
 use ssim_records::Parts;
 use std::alloc::{AllocError, Global};
 use std::fs;
-use std::fs::OpenFile;
+use std::fs::OpenFile as _;
 use std::rt::Files;
 
 /// How many bytes are read at once.
@@ -42,6 +43,18 @@ impl<'r, R> FileStore<'r, R> {
 }
 
 impl<R: Files + Input> Store for FileStore<'_, R> {
+    type File = OpenFile<R::File, R::Reader>;
+
+    fn open(&mut self, _alloc: Global, name: &str) -> Result<Self::File, StoreFault> {
+        if name == "-" {
+            return Ok(OpenFile::standard(self.rt.reader()));
+        }
+        match fs::open(self.rt, name) {
+            Ok(file) => Ok(OpenFile::named(file)),
+            Err(error) => Err(fault_of(&error)),
+        }
+    }
+
     fn load(&mut self, alloc: Global, name: &str, limit: u64) -> Result<Vec<u8>, StoreFault> {
         if name == "-" {
             return read_within(alloc, self.rt.reader(), &mut self.chunk, 0, limit);
@@ -76,4 +89,6 @@ impl<R: Files + Input> Store for FileStore<'_, R> {
         }
         write_whole(self.rt, self.alloc, name, content)
     }
+
+    ghost unfailing = { λ s. tt };
 }

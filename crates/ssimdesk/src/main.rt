@@ -3,6 +3,7 @@
 
 mod draft;
 mod files;
+mod open_file;
 mod reading;
 mod whole_file;
 

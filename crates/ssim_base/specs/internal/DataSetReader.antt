@@ -1,6 +1,7 @@
 -- What is known of the records of a data set so far.
-use Rattle.std.specs.Prelude.{◌≡◌, ℕ, ◌+◌, not, nat_eq, List, [], ◌++◌, reverse, map, Option}
+use Rattle.std.specs.Prelude.{◌≡◌, ℕ, ◌+◌, not, nat_eq, List, [], ◌++◌, reverse, map, Option, None}
 use Rattle.std.specs.List.{All}
+use Rattle.ssim_records.specs.Reading.{Reading}
 use Rattle.ssim_records.specs.Record.{IsRecord, serial_of}
 use Rattle.ssim_records.specs.declared.record.Record.{Record}
 use Rattle.ssim_base.specs.Base.{Ending, Done, kept_all, first_refusal, note_if, check_notes, notes_of}
@@ -9,6 +10,10 @@ use Rattle.ssim_base.specs.Reading.{AreGivenOf}
 use Rattle.ssim_base.specs.declared.data_set_reader.DataSetReader.{DataSetReader}
 use Rattle.ssim_base.specs.declared.note.Note.{Note}
 use Rattle.ssim_base.specs.declared.note.Note.TheVariants.{Serial}
+
+-- a reading of which nothing came
+abbrev pub unread : ℕ → Reading
+unread limit = record { limit = limit; came = 0; number = 0; held = []; ended = None }
 
 -- the notes of one record
 abbrev pub notes_at : ℕ → ℕ → Record → List Note

@@ -25,7 +25,7 @@ pub record Goes {R : Type 0} (left : R → Option (List ℕ)) (came_of failures 
   pub keeps_is : keeps g.kept.records ≡ keeps records
 
 abbrev pub invariant-loop-number : goal.invariant-loop-number
-invariant-loop-number g l = Goes g.R.Source.left g.R.Source.came g.R.Source.failures l.limit l.initial.records_read.kept.records l.initial.reader l.reader l.blocks l.records_read
+invariant-loop-number g l = Goes g.R.Source.left g.R.Source.came g.R.Source.failures l.initial.blocks.limit l.initial.records_read.kept.records l.initial.reader l.reader l.blocks l.records_read
 
 abbrev pub decreases-loop-number : goal.decreases-loop-number
-decreases-loop-number g l = l.limit + 1 - 200 * l.blocks.number
+decreases-loop-number g l = l.initial.blocks.limit + 1 - 200 * l.blocks.number

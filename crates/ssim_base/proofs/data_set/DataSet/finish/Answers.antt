@@ -10,7 +10,7 @@ use Rattle.ssim_base.proofs.data_set.DataSet.finish.Goals as goal
 pub returns-in-Some-clause-read : goal.returns-in-Some-clause-read
 returns-in-Some-clause-read c = λ limit told h.
     of-all limit told h.done c.args.number (Err (Refused c.args.number c.in-Some.refusal)) h.given
-    (missing-outcome c.args.records_read h.earlier h.done c.args.number c.in-Some.refusal h.so_far (sym (c.missing.ensures h.earlier h.so_far.is_kept) ∙ c.in-Some.is))
+    (missing-outcome c.args.records_read h.earlier h.done c.args.number c.in-Some.refusal h.so_far (sym (c.missing.ensures h.earlier h.so_far.is_kept) ∙ c.in-Some.is)) h.so_far.records
 
 pub of_kept-requires-clause-whole : goal.of_kept-requires-clause-whole
 of_kept-requires-clause-whole c =
@@ -38,3 +38,4 @@ returns-clause-read c = λ limit told h.
     (ap (λ (rs : List Record). outcome_of rs c.args.records_read.notes.items)
     (c.in_ok-data_set.ensures.records h.earlier h.so_far.is_kept)
     ∙ whole-outcome c.args.records_read h.earlier h.done c.args.number h.so_far (sym (c.missing.ensures h.earlier h.so_far.is_kept) ∙ none))
+    h.so_far.records

@@ -5,13 +5,15 @@ use Rattle.ssim_values.specs.Flight.{FlightNumber}
 use Rattle.ssim_base.specs.BaseSeen.{AreFlights}
 use Rattle.ssim_base.specs.declared.fault.BaseFault.TheVariants.{Refused}
 use Rattle.ssim_base.proofs.LegTables.{flights-are}
-use Rattle.ssim_base.proofs.ReadingLemmas.{missing-outcome, of-all, whole-outcome}
+use Rattle.ssim_base.proofs.ReadingLemmas.{missing-outcome, of-all, whole-outcome, whole-within}
 use Rattle.ssim_base.proofs.summary.Summary.finish.Goals as goal
 
-pub returns-in-Some-clause-sums : goal.returns-in-Some-clause-sums
-returns-in-Some-clause-sums c = λ limit told h.
-    of-all limit told h.done c.args.number (Err (Refused c.args.number c.in-Some.refusal)) h.given
-    (missing-outcome c.args.records_read h.earlier h.done c.args.number c.in-Some.refusal h.so_far (sym (c.missing.ensures h.earlier h.so_far.is_kept) ∙ c.in-Some.is))
+pub returns-in-Some-clause-refused : goal.returns-in-Some-clause-refused
+returns-in-Some-clause-refused c = λ limit told h. (
+  of-all limit told h.done c.args.number (Err (Refused c.args.number c.in-Some.refusal)) h.given
+      (missing-outcome c.args.records_read h.earlier h.done c.args.number c.in-Some.refusal h.so_far (sym (c.missing.ensures h.earlier h.so_far.is_kept) ∙ c.in-Some.is)) h.so_far.records,
+  whole-within limit told h.done c.args.number h.given,
+)
 
 pub returns-clause-sums : goal.returns-clause-sums
 returns-clause-sums c = λ limit told h.
@@ -19,8 +21,11 @@ returns-clause-sums c = λ limit told h.
     record {
       base = reverse h.earlier;
       flights = c.in_ok-flights.flights.items;
-      read = of-all limit told h.done c.args.number _ h.given
-          (whole-outcome c.args.records_read h.earlier h.done c.args.number h.so_far (sym (c.missing.ensures h.earlier h.so_far.is_kept) ∙ none));
+      read = (
+        of-all limit told h.done c.args.number _ h.given
+            (whole-outcome c.args.records_read h.earlier h.done c.args.number h.so_far (sym (c.missing.ensures h.earlier h.so_far.is_kept) ∙ none)) h.so_far.records,
+        whole-within limit told h.done c.args.number h.given,
+      );
       are_flights = subst (λ (fs : List FlightNumber). AreFlights (reverse h.earlier) fs) (sym c.in_ok-flights.ensures)
           (flights-are c.args.records_read.kept.legs h.earlier h.so_far.is_kept.legs.flown);
       records_are = c.len.ensures h.earlier h.so_far.is_kept.records ∙ sym (length-reverse h.earlier);
