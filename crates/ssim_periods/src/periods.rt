@@ -32,7 +32,7 @@ pub(crate) enum Form<V: Value> {
 
 impl<V: Value> Model for Periods<V> {
     ghost use Rattle.ssim_periods.specs.Days.{Seen};
-    ghost use Rattle.ssim_periods.specs.Forms.{seen};
+    ghost use Rattle.ssim_periods.specs.internal.Forms.{seen};
 
     ghost Value = { Seen V };
 
