@@ -8,12 +8,12 @@ use Rattle.std.proofs.lemmas.List.{take_more, drop_more}
 use Rattle.std.proofs.lemmas.List.Elements.{All-contains}
 use Rattle.ssim_values.specs.Calendar.{weekday}
 use Rattle.ssim_values.specs.Period.{DayRange, Holds}
-use Rattle.ssim_periods.specs.Apart.{empty_week, value_in, AreDivided, AreApart}
+use Rattle.ssim_periods.specs.internal.Apart.{empty_week, value_in, AreDivided, AreApart}
 use Rattle.ssim_periods.specs.Calendar.{holds, slot}
 use Rattle.ssim_periods.specs.Days.{AddsOnly, each_day, changed_on, count_on, counts_on}
 use Rattle.ssim_periods.specs.Pieces.{held_on}
-use Rattle.ssim_periods.specs.Rows.{value_on, AreRows}
-use Rattle.ssim_periods.specs.Splits.{with_cut}
+use Rattle.ssim_periods.specs.internal.Rows.{value_on, AreRows}
+use Rattle.ssim_periods.specs.internal.Splits.{with_cut}
 use Rattle.ssim_periods.proofs.ApplyLemmas.{All-with_cut, with_cut-keeps, with_cut-own, outside-before, outside-after}
 use Rattle.ssim_periods.proofs.CutLemmas.{rising-with_cut}
 use Rattle.ssim_periods.proofs.CoverLemmas.{le_or_lt}

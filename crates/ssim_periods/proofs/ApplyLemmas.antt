@@ -7,9 +7,9 @@ use Rattle.std.proofs.lemmas.Bool.Decides.{nat_tests}
 use Rattle.std.proofs.lemmas.List.Elements.{All-cons}
 use Rattle.ssim_values.specs.Period.{DayRange}
 use Rattle.ssim_periods.specs.Calendar.{slot, holds}
-use Rattle.ssim_periods.specs.Count.{is_within}
-use Rattle.ssim_periods.specs.Rows.{place, row_on, value_on, AreRows}
-use Rattle.ssim_periods.specs.Splits.{has_cut, with_cut, with_row, patched, patched_from}
+use Rattle.ssim_periods.specs.internal.Count.{is_within}
+use Rattle.ssim_periods.specs.internal.Rows.{place, row_on, value_on, AreRows}
+use Rattle.ssim_periods.specs.internal.Splits.{has_cut, with_cut, with_row, patched, patched_from}
 use Rattle.ssim_periods.proofs.RowLemmas.{row_on-place, row_on-week, place-le, slot-lt}
 use Rattle.ssim_periods.proofs.CutLemmas.{row_on-with_cut, place-with_cut-before, place-with_cut-after, place-with_cut-at, place-with_cut-self, place-mono, has_cut-with_cut, length-with_row, rising-with_cut}
 use Rattle.ssim_periods.proofs.SplitLemmas.{patched_from-below, patched_from-above, patched_from-at, length-patched_from, patched-at, length-patched}

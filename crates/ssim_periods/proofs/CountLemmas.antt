@@ -6,8 +6,8 @@ use Rattle.ssim_periods.specs.Calendar.{slot, day_count}
 use Rattle.ssim_periods.specs.Days.{each_day, count_on, counts_on}
 use Rattle.ssim_periods.proofs.DayLemmas.{day_count-is}
 use Rattle.std.specs.List.Sorted.{IsStrictlyIncreasing}
-use Rattle.ssim_periods.specs.Rows.{place, row_on, value_on, AreRows}
-use Rattle.ssim_periods.specs.Count.{below, with_days, tally, weigh, is_counted, is_within, is_of_class}
+use Rattle.ssim_periods.specs.internal.Rows.{place, row_on, value_on, AreRows}
+use Rattle.ssim_periods.specs.internal.Count.{below, with_days, tally, weigh, is_counted, is_within, is_of_class}
 use Rattle.ssim_periods.proofs.RowLemmas.{row_on-place}
 use Rattle.ssim_periods.proofs.CutLemmas.{Above, Above-all, place-low}
 use Rattle.ssim_periods.proofs.ApplyLemmas.{inside, outside-before, outside-after}

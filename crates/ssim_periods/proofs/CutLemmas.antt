@@ -5,8 +5,8 @@ use Rattle.ssim_periods.proofs.RowLemmas.{index-default}
 use Rattle.std.proofs.Common.{zero, suc, ◌&&◌, slice_index_or, sym, ◌≡◌, ℕ, ◌+◌, ◌-◌, ◌<◌, ◌≤◌, true, false, if◌then◌else◌, nat_lt, nat_eq, List, [], ◌∷◌, ◌++◌, length, refl, ap, ◌∙◌, arith, add-one}
 use Rattle.std.specs.List.{insert, All}
 use Rattle.std.proofs.lemmas.Bool.Decides.{nat_tests}
-use Rattle.ssim_periods.specs.Rows.{place, row_on}
-use Rattle.ssim_periods.specs.Splits.{has_cut, with_cut, with_row}
+use Rattle.ssim_periods.specs.internal.Rows.{place, row_on}
+use Rattle.ssim_periods.specs.internal.Splits.{has_cut, with_cut, with_row}
 
 -- if no cut is at the day, one is put in at its index
 pub with_cut-insert : (cuts : List ℕ) (day : ℕ) → has_cut cuts day ≡ false → insert cuts (place cuts day) day ≡ with_cut cuts day

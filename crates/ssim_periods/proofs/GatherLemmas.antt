@@ -1,7 +1,7 @@
 -- Collecting values from one list after another.
 use Rattle.std.proofs.Common.{◌≡◌, ℕ, zero, suc, ◌+◌, ◌<◌, ◌≤◌, Bool, ◌||◌, if◌then◌else◌, List, [], ◌∷◌, ◌++◌, length, get_or, drop, map, add-one, refl, ap, sym, arith}
 use Rattle.std.specs.List.{list_any, flat_map}
-use Rattle.ssim_periods.specs.Gather.{gathered}
+use Rattle.ssim_periods.specs.internal.Gather.{gathered}
 
 pub gathered-append : {V : Type 0} (alike : V → V → Bool) (nothing : V) (known xs ys : List V) → gathered alike nothing known (xs ++ ys) ≡ gathered alike nothing (gathered alike nothing known xs) ys
 gathered-append alike nothing known [] ys = refl

@@ -7,7 +7,7 @@ use Rattle.std.proofs.Math.Path.{fun_ext}
 use Rattle.std.proofs.lemmas.List.{drop_more, take_more, take-append-drop}
 use Rattle.std.proofs.lemmas.List.Folds.{list_any-append}
 use Rattle.ssim_values.specs.Period.{DayRange}
-use Rattle.ssim_periods.specs.Apart.{value_in, own_cover, given_on, given_cover, marked, last_values, AreApart}
+use Rattle.ssim_periods.specs.internal.Apart.{value_in, own_cover, given_on, given_cover, marked, last_values, AreApart}
 use Rattle.ssim_periods.specs.Calendar.{day_count, holds}
 use Rattle.ssim_periods.specs.Cover.{cover}
 use Rattle.ssim_periods.specs.Days.{each_day, changed_on}

@@ -4,8 +4,8 @@ use Rattle.std.specs.List.{All}
 use Rattle.std.specs.List.Sorted.{IsStrictlyIncreasing}
 use Rattle.std.proofs.lemmas.Bool.Decides.{nat_tests}
 use Rattle.ssim_periods.specs.Calendar.{slot}
-use Rattle.ssim_periods.specs.Count.{is_within}
-use Rattle.ssim_periods.specs.Rows.{row_on, value_on, AreRows}
+use Rattle.ssim_periods.specs.internal.Count.{is_within}
+use Rattle.ssim_periods.specs.internal.Rows.{row_on, value_on, AreRows}
 use Rattle.ssim_periods.proofs.ApplyLemmas.{outside-before, outside-after, inside}
 use Rattle.ssim_periods.proofs.CoverLemmas.{le_or_lt}
 use Rattle.ssim_periods.proofs.CutLemmas.{rising-push, upto-last}

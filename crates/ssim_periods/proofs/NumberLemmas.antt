@@ -9,9 +9,9 @@ use Rattle.ssim_values.specs.Period.{DayRange}
 use Rattle.ssim_periods.specs.Calendar.{slot, day_count}
 use Rattle.ssim_periods.specs.Cover.{cover}
 use Rattle.ssim_periods.specs.Days.{each_day}
-use Rattle.ssim_periods.specs.Gather.{gathered, numbered}
+use Rattle.ssim_periods.specs.internal.Gather.{gathered, numbered}
 use Rattle.ssim_periods.specs.Pieces.{has_value, pieces_with}
-use Rattle.ssim_periods.specs.Rows.{row_on, value_on, AreRows}
+use Rattle.ssim_periods.specs.internal.Rows.{row_on, value_on, AreRows}
 
 get-last : {V : Type 0} (xs : List V) (x : V) → slice_get (xs ++ x ∷ []) (length xs) ≡ Some x
 get-last [] x = refl

@@ -4,7 +4,7 @@ use Rattle.ssim_periods.specs.Calendar.{slot}
 use Rattle.ssim_periods.specs.Cover.{differ, breaks}
 use Rattle.ssim_periods.specs.Days.{each_day}
 use Rattle.ssim_periods.specs.Pieces.{has_value}
-use Rattle.ssim_periods.specs.Rows.{row_on, value_on}
+use Rattle.ssim_periods.specs.internal.Rows.{row_on, value_on}
 use Rattle.ssim_periods.proofs.DayLemmas.{length-each_day, index-each_day}
 use Rattle.ssim_periods.proofs.PieceLaw.{has_value-at}
 

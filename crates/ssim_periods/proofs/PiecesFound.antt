@@ -9,9 +9,9 @@ use Rattle.std.proofs.lemmas.List.Elements.{filter-append}
 use Rattle.ssim_values.specs.Period.{DayRange}
 use Rattle.ssim_periods.specs.Calendar.{slot, holds}
 use Rattle.ssim_periods.specs.Days.{each_day}
-use Rattle.ssim_periods.specs.Gather.{gathered}
+use Rattle.ssim_periods.specs.internal.Gather.{gathered}
 use Rattle.ssim_periods.specs.Pieces.{has_value, values_of, pieces_with, sort_by_first, pieces_of, held_on, alone}
-use Rattle.ssim_periods.specs.Rows.{place, row_on, value_on, AreRows}
+use Rattle.ssim_periods.specs.internal.Rows.{place, row_on, value_on, AreRows}
 use Rattle.ssim_periods.proofs.DayLemmas.{length-each_day, index-each_day}
 use Rattle.ssim_periods.proofs.RowLemmas.{place-le, row_on-place, row_on-week, slot-lt}
 use Rattle.ssim_periods.proofs.CoverLemmas.{le_or_lt}

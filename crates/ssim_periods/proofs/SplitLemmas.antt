@@ -1,7 +1,7 @@
 -- How `apply` changes cuts and rows.
 use Rattle.std.proofs.Common.{◌≡◌, ℕ, zero, suc, ◌+◌, ◌<◌, ◌≤◌, Bool, true, false, if◌then◌else◌, List, [], ◌∷◌, ◌++◌, length, slice_index_or, slice_set, Option, Some, None, unwrap_or, drop, map, get_or, subst, length-append, length-drop, append-nil, add-one, append_assoc, refl, ap, ◌∙◌, sym, arith}
 use Rattle.std.specs.List.{All}
-use Rattle.ssim_periods.specs.Splits.{patch_of, patched, patched_from}
+use Rattle.ssim_periods.specs.internal.Splits.{patch_of, patched, patched_from}
 
 -- the last value of a patch, put in
 pub patched-last : {V : Type 0} (row : List V) (patch : List (Option V)) (v : V) → length patch < length row → patched (slice_set row (length patch) v) patch ≡ patched row (patch ++ Some v ∷ [])

@@ -5,7 +5,7 @@ use Rattle.std.proofs.Math.Bool.{and-false}
 use Rattle.std.proofs.lemmas.Bool.Decides.{nat_tests}
 use Rattle.ssim_values.specs.DayMask.{IsMask}
 use Rattle.ssim_values.specs.Period.{DayRange}
-use Rattle.ssim_periods.specs.Apart.{weekdays_within}
+use Rattle.ssim_periods.specs.internal.Apart.{weekdays_within}
 use Rattle.ssim_periods.specs.Calendar.{day_count, holds, slot}
 use Rattle.ssim_periods.specs.Cover.{first_where, last_where, weekdays_of, breaks, break_after, period_at, cover}
 use Rattle.ssim_periods.proofs.ApartLemmas.{holds-same}

@@ -1,6 +1,6 @@
 -- The worked examples, each by computing.
 use Rattle.std.proofs.Common.{refl}
-use Rattle.ssim_periods.specs.Worked.{WorkedPieces}
+use Rattle.ssim_periods.specs.examples.Pieces.{WorkedPieces}
 
 pub worked_pieces : WorkedPieces
 worked_pieces = record {

@@ -1,12 +1,7 @@
 pub mod Calendar
 pub mod Days
-pub mod Rows
-pub mod Splits
-pub mod Count
 pub mod Cover
 pub mod Pieces
-pub mod Apart
-pub mod Forms
-pub mod Gather
-pub mod Worked
 pub mod CommonDays
+pub mod examples
+pub mod internal

@@ -3,11 +3,11 @@ ghost use Rattle.std.specs.Prelude.{◌≡◌, ◌≢◌, ℕ, ◌+◌, ◌<◌,
 ghost use Rattle.std.specs.List.{All, Contains};
 ghost use Rattle.std.specs.List.Sorted.{IsStrictlyIncreasing};
 ghost use Rattle.ssim_values.specs.Calendar.{weekday};
-ghost use Rattle.ssim_periods.specs.Apart.{empty_week, AreDivided};
+ghost use Rattle.ssim_periods.specs.internal.Apart.{empty_week, AreDivided};
 ghost use Rattle.ssim_periods.specs.Calendar.{day_count, holds};
 ghost use Rattle.ssim_periods.specs.Days.{each_day, changed_on, counts_on, AddsOnly};
 ghost use Rattle.ssim_periods.specs.Pieces.{pieces_of, held_on};
-ghost use Rattle.ssim_periods.specs.Splits.{with_cut};
+ghost use Rattle.ssim_periods.specs.internal.Splits.{with_cut};
 
 use crate::count::class_counts;
 use crate::entries::{copy_entries, meets_none, rows_of, shared_entries, value_at};
@@ -41,7 +41,7 @@ pub(crate) struct ApartPeriods<V: Value> {
 
 impl<V: Value> Model for ApartPeriods<V> {
     ghost use Rattle.std.specs.Prelude.{◌≡◌};
-    ghost use Rattle.ssim_periods.specs.Apart.{empty_week, value_in, AreApart};
+    ghost use Rattle.ssim_periods.specs.internal.Apart.{empty_week, value_in, AreApart};
     ghost use Rattle.ssim_periods.specs.Days.{Seen, each_day};
 
     ghost Value = { Seen V };

@@ -2,8 +2,8 @@
 ghost use Rattle.std.specs.Prelude.{◌≡◌, ℕ, ◌+◌, ◌-◌, ◌<◌, ◌≤◌, length, slice_index};
 ghost use Rattle.std.specs.List.{All};
 ghost use Rattle.ssim_periods.specs.Calendar.{slot};
-ghost use Rattle.ssim_periods.specs.Count.{tally, is_counted, is_of_class};
-ghost use Rattle.ssim_periods.specs.Rows.{AreRows};
+ghost use Rattle.ssim_periods.specs.internal.Count.{tally, is_counted, is_of_class};
+ghost use Rattle.ssim_periods.specs.internal.Rows.{AreRows};
 
 use crate::rows::{days_before, has_days, place_of, range_end, row_at};
 use crate::{Change, Value};

@@ -1,7 +1,7 @@
 //! Lists of periods with values.
 ghost use Rattle.std.specs.Prelude.{◌≡◌, ◌≤◌, ◌++◌, ◌∷◌, ℕ, List, [], true, length, IfOk, IsTrue};
 ghost use Rattle.std.specs.List.{Contains};
-ghost use Rattle.ssim_periods.specs.Apart.{marked, value_in, AreDivided};
+ghost use Rattle.ssim_periods.specs.internal.Apart.{marked, value_in, AreDivided};
 ghost use Rattle.ssim_periods.specs.Calendar.{holds};
 ghost use Rattle.ssim_periods.specs.Days.{each_day};
 ghost use Rattle.ssim_periods.specs.Pieces.{held_on};

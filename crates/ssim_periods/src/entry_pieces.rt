@@ -1,7 +1,7 @@
 //! The pieces of a list of periods with values.
 ghost use Rattle.std.specs.Prelude.{◌≡◌, ◌<◌, ◌++◌, ◌∷◌, [], IfOk, OnOk};
 ghost use Rattle.std.specs.List.{All, flat_map, list_any};
-ghost use Rattle.ssim_periods.specs.Apart.{given_cover, last_values, own_cover};
+ghost use Rattle.ssim_periods.specs.internal.Apart.{given_cover, last_values, own_cover};
 
 use crate::Value;
 use crate::entries::rows_of_value;

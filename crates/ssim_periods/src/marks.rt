@@ -3,9 +3,9 @@ ghost use Rattle.std.specs.Prelude.{◌≡◌, ℕ, ◌+◌, ◌<◌, ◌≤◌,
 ghost use Rattle.std.specs.List.{All};
 ghost use Rattle.std.specs.List.Sorted.{IsStrictlyIncreasing};
 ghost use Rattle.ssim_periods.specs.Calendar.{holds};
-ghost use Rattle.ssim_periods.specs.Count.{is_within};
+ghost use Rattle.ssim_periods.specs.internal.Count.{is_within};
 ghost use Rattle.ssim_periods.specs.Days.{changed_on};
-ghost use Rattle.ssim_periods.specs.Rows.{row_on, value_on, AreRows};
+ghost use Rattle.ssim_periods.specs.internal.Rows.{row_on, value_on, AreRows};
 
 use crate::entries::SetTo;
 use crate::numbers::ValueNumber;

@@ -4,8 +4,8 @@ ghost use Rattle.std.specs.Prelude.{◌≡◌, ℕ, [], ◌∷◌, false, Some, 
 ghost use Rattle.std.specs.List.{list_any, flat_map};
 ghost use Rattle.std.proofs.Common.{eqb-true, eq-eqb};
 ghost use Rattle.ssim_periods.specs.Days.{each_day};
-ghost use Rattle.ssim_periods.specs.Gather.{gathered, numbered};
-ghost use Rattle.ssim_periods.specs.Rows.{value_on, AreRows};
+ghost use Rattle.ssim_periods.specs.internal.Gather.{gathered, numbered};
+ghost use Rattle.ssim_periods.specs.internal.Rows.{value_on, AreRows};
 
 use crate::Value;
 use crate::range_rows::RangeRows;

@@ -3,9 +3,9 @@ ghost use Rattle.std.specs.Prelude.{◌≡◌, ℕ, ◌+◌, ◌-◌, ◌<◌, �
 ghost use Rattle.std.specs.List.{All};
 ghost use Rattle.std.specs.List.Sorted.{IsStrictlyIncreasing};
 ghost use Rattle.ssim_periods.specs.Calendar.{slot};
-ghost use Rattle.ssim_periods.specs.Count.{with_days};
-ghost use Rattle.ssim_periods.specs.Rows.{place, value_on, AreRows};
-ghost use Rattle.ssim_periods.specs.Splits.{has_cut, with_cut, with_row, patch_of, patched, patched_from};
+ghost use Rattle.ssim_periods.specs.internal.Count.{with_days};
+ghost use Rattle.ssim_periods.specs.internal.Rows.{place, value_on, AreRows};
+ghost use Rattle.ssim_periods.specs.internal.Splits.{has_cut, with_cut, with_row, patch_of, patched, patched_from};
 
 use crate::rows::{has_days, place_of, range_end, row_at};
 use crate::{Change, Value};

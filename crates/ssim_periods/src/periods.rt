@@ -32,7 +32,7 @@ pub(crate) enum Form<V: Value> {
 
 impl<V: Value> Model for Periods<V> {
     ghost use Rattle.ssim_periods.specs.Days.{Seen};
-    ghost use Rattle.ssim_periods.specs.Forms.{seen};
+    ghost use Rattle.ssim_periods.specs.internal.Forms.{seen};
 
     ghost Value = { Seen V };
 
@@ -68,7 +68,8 @@ impl<V: Value> Periods<V> {
     /// after an error nothing has changed. If no day of a period had a value before, applying a
     /// change costs one new value and the comparison of the period with the earlier ones. Otherwise
     /// the cost grows with the ranges that the period touches and with the later ranges, which are
-    /// moved.
+    /// moved. The first change that meets a day of the list, or finds the list full, also copies
+    /// the values of the list into rows.
     pub fn apply<C: Change<V>>(&mut self, period: &Period, change: &C) -> Result<[u32; 5], Memory>
         ensures days { OnOk result (self.new.days ≡ changed_on (holds period.now) (C.outcome change.now) 0 self.old.days) }
         ensures counts { IfOk result (λ counts. counts ≡ counts_on (holds period.now) (C.class_of change.now) self.old.days) }

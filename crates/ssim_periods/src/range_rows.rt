@@ -31,7 +31,7 @@ pub(crate) struct RangeRows<V: Value> {
 
 impl<V: Value> Model for RangeRows<V> {
     ghost use Rattle.ssim_periods.specs.Days.{Seen, each_day};
-    ghost use Rattle.ssim_periods.specs.Rows.{value_on, AreRows};
+    ghost use Rattle.ssim_periods.specs.internal.Rows.{value_on, AreRows};
 
     ghost Value = { Seen V };
 

@@ -2,9 +2,9 @@
 ghost use Rattle.std.specs.Prelude.{◌≡◌, ℕ, ◌+◌, ◌-◌, ◌<◌, ◌≤◌, ◌&&◌, Bool, false, nat_lt, List, ◌∷◌, length, IfOk, slice_index, slice_index_or, is_none, IfSome, IsTrue, if◌then◌else◌};
 ghost use Rattle.std.specs.List.{All};
 ghost use Rattle.std.specs.List.Sorted.{IsStrictlyIncreasing};
-ghost use Rattle.ssim_periods.specs.Rows.{place, row_on};
-ghost use Rattle.ssim_periods.specs.Splits.{has_cut};
-ghost use Rattle.ssim_periods.specs.Count.{below, with_days};
+ghost use Rattle.ssim_periods.specs.internal.Rows.{place, row_on};
+ghost use Rattle.ssim_periods.specs.internal.Splits.{has_cut};
+ghost use Rattle.ssim_periods.specs.internal.Count.{below, with_days};
 
 use crate::Value;
 use ssim_values::Memory;

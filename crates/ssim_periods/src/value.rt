@@ -32,7 +32,8 @@ pub trait Value: Drop {
 }
 
 /// A change of the value of each day of a period. Both calls are made only with values that some
-/// day of the period has.
+/// day of the period has. For a period that holds no day, `after` may be called once with the empty
+/// value.
 pub trait Change<V> {
     /// The new value.
     ghost outcome: { Self → V → V };

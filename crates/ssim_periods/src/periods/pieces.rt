@@ -3,7 +3,7 @@ ghost use Rattle.std.specs.Prelude.{◌≡◌, length, List, IfOk, OnOk};
 ghost use Rattle.ssim_periods.specs.Calendar.{day_count};
 ghost use Rattle.ssim_periods.specs.Cover.{CoverLaw};
 ghost use Rattle.ssim_periods.specs.Pieces.{pieces_of, ArePieces};
-ghost use Rattle.ssim_periods.specs.Worked.{WorkedPieces};
+ghost use Rattle.ssim_periods.specs.examples.Pieces.{WorkedPieces};
 
 use crate::periods::Form;
 use crate::{Periods, Value};

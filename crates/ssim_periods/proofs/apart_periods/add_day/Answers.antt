@@ -1,7 +1,7 @@
 use Rattle.std.proofs.Common.{sym, ap, ◌∙◌}
 use Rattle.std.specs.List.{insert}
-use Rattle.ssim_periods.specs.Rows.{place}
-use Rattle.ssim_periods.specs.Splits.{has_cut}
+use Rattle.ssim_periods.specs.internal.Rows.{place}
+use Rattle.ssim_periods.specs.internal.Splits.{has_cut}
 use Rattle.ssim_periods.proofs.CutLemmas.{with_cut-has, with_cut-insert}
 use Rattle.ssim_periods.proofs.apart_periods.add_day.Goals as goal
 

@@ -1,7 +1,7 @@
 use Rattle.std.proofs.Common.{◌≡◌, ◌+◌, ◌-◌, ◌<◌, ◌≤◌, ◌∷◌, length, slice_index_or, ap, sym, subst, ◌∙◌, arith, rules}
 use Rattle.ssim_periods.specs.Calendar.{slot}
-use Rattle.ssim_periods.specs.Rows.{place}
-use Rattle.ssim_periods.specs.Count.{tally, is_counted, is_of_class}
+use Rattle.ssim_periods.specs.internal.Rows.{place}
+use Rattle.ssim_periods.specs.internal.Count.{tally, is_counted, is_of_class}
 use Rattle.ssim_periods.proofs.RowLemmas.{place-le, index-default}
 use Rattle.ssim_periods.proofs.CountLemmas.{tally-le, place-next, stretch, longer}
 use Rattle.ssim_periods.proofs.count.class_counts.Goals as goal

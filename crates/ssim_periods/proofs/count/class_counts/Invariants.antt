@@ -1,6 +1,6 @@
 use Rattle.std.proofs.Common.{◌≡◌, ◌-◌, ◌<◌, ◌≤◌, ℕ, length, slice_index_or}
-use Rattle.ssim_periods.specs.Rows.{place}
-use Rattle.ssim_periods.specs.Count.{tally, is_of_class}
+use Rattle.ssim_periods.specs.internal.Rows.{place}
+use Rattle.ssim_periods.specs.internal.Count.{tally, is_of_class}
 use Rattle.ssim_periods.proofs.count.class_counts.Given as goal
 
 abbrev pub invariant-loop-day : goal.invariant-loop-day

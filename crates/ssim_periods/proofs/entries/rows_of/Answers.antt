@@ -1,5 +1,5 @@
 use Rattle.std.proofs.Common.{◌≡◌, ◌+◌, ◌-◌, ◌<◌, length, ap, sym, ◌∙◌, arith}
-use Rattle.ssim_periods.specs.Apart.{value_in}
+use Rattle.ssim_periods.specs.internal.Apart.{value_in}
 use Rattle.ssim_periods.specs.Days.{each_day}
 use Rattle.ssim_periods.proofs.ApartLemmas.{rows-more, cuts-more}
 use Rattle.ssim_periods.proofs.GatherLemmas.{drop-all}

@@ -1,7 +1,7 @@
 -- The rows have the values of the entries from the place on, and no cut that divides none of them.
 use Rattle.std.proofs.Common.{◌≡◌, ◌≤◌, ℕ, List, length, drop}
 use Rattle.std.specs.List.{Contains}
-use Rattle.ssim_periods.specs.Apart.{value_in, AreDivided}
+use Rattle.ssim_periods.specs.internal.Apart.{value_in, AreDivided}
 use Rattle.ssim_periods.specs.Days.{each_day}
 use Rattle.ssim_periods.proofs.entries.rows_of.Given as goal
 

@@ -1,6 +1,6 @@
 -- A period with the value adds its days to the marked ones, and another one adds none.
 use Rattle.std.proofs.Common.{◌≡◌, ◌+◌, ◌-◌, ◌<◌, [], ◌∷◌, ◌++◌, length, drop, ap, sym, ◌∙◌, arith}
-use Rattle.ssim_periods.specs.Apart.{marked}
+use Rattle.ssim_periods.specs.internal.Apart.{marked}
 use Rattle.ssim_periods.specs.Days.{each_day}
 use Rattle.ssim_periods.proofs.GatherLemmas.{drop-all}
 use Rattle.ssim_periods.proofs.ListPieces.{marks-same, marks-other, rest-next}

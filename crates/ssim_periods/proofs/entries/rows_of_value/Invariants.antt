@@ -1,6 +1,6 @@
 -- The days of the value's periods from the place on have marks.
 use Rattle.std.proofs.Common.{◌≡◌, ◌≤◌, ◌++◌, ◌∷◌, [], length, drop}
-use Rattle.ssim_periods.specs.Apart.{marked}
+use Rattle.ssim_periods.specs.internal.Apart.{marked}
 use Rattle.ssim_periods.specs.Days.{each_day}
 use Rattle.ssim_periods.proofs.entries.rows_of_value.Given as goal
 

@@ -1,6 +1,6 @@
 -- The periods after the place do not hold the day.
 use Rattle.std.proofs.Common.{◌≡◌, ◌+◌, ◌-◌, ◌<◌, length, slice_index_or, take, if◌then◌else◌, ap, sym, ◌∙◌, arith}
-use Rattle.ssim_periods.specs.Apart.{value_in}
+use Rattle.ssim_periods.specs.internal.Apart.{value_in}
 use Rattle.ssim_periods.proofs.ApartLemmas.{holds-is, value_in-earlier}
 use Rattle.ssim_periods.proofs.RowLemmas.{index-default}
 use Rattle.ssim_periods.proofs.entries.value_at.Goals as goal

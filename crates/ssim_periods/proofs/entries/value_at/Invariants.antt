@@ -1,5 +1,5 @@
 use Rattle.std.proofs.Common.{◌≡◌, ◌≤◌, length, take}
-use Rattle.ssim_periods.specs.Apart.{value_in}
+use Rattle.ssim_periods.specs.internal.Apart.{value_in}
 use Rattle.ssim_periods.proofs.entries.value_at.Given as goal
 
 abbrev pub invariant-loop-place : goal.invariant-loop-place

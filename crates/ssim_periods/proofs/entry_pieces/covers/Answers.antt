@@ -2,7 +2,7 @@
 -- nothing yet.
 use Rattle.std.proofs.Common.{◌++◌, ◌+◌, drop, ap, sym, ◌∙◌}
 use Rattle.std.specs.List.{flat_map, list_any}
-use Rattle.ssim_periods.specs.Apart.{given_cover, last_values}
+use Rattle.ssim_periods.specs.internal.Apart.{given_cover, last_values}
 use Rattle.ssim_periods.proofs.ListPieces.{covers-more, later-whole, values-later}
 use Rattle.ssim_periods.proofs.entry_pieces.covers.Goals as goal
 use Rattle.ssim_periods.proofs.entry_pieces.covers.Goals.{then-not-has_value+in_ok-push_value, else-not-has_value}

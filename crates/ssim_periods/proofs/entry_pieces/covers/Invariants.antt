@@ -1,6 +1,6 @@
 use Rattle.std.proofs.Common.{◌≡◌, ◌++◌, drop}
 use Rattle.std.specs.List.{flat_map}
-use Rattle.ssim_periods.specs.Apart.{given_cover, last_values}
+use Rattle.ssim_periods.specs.internal.Apart.{given_cover, last_values}
 use Rattle.ssim_periods.proofs.entry_pieces.covers.Given as goal
 
 abbrev pub invariant-loop-place : goal.invariant-loop-place

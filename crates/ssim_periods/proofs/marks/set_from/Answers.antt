@@ -1,7 +1,7 @@
 -- The row of the last cut is replaced if that is the day; else a cut and its row are appended.
 use Rattle.std.proofs.Common.{ℕ, ◌-◌, ◌<◌, List, [], ◌∷◌, ◌++◌, length, ap, subst, sym, ◌∙◌, arith, rules}
 use Rattle.std.specs.List.{All}
-use Rattle.ssim_periods.specs.Rows.{row_on, AreRows}
+use Rattle.ssim_periods.specs.internal.Rows.{row_on, AreRows}
 use Rattle.ssim_periods.proofs.MarkLemmas.{row_on-push, row_on-set, AreRows-push, below-day}
 use Rattle.ssim_periods.proofs.RowLemmas.{index-default}
 use Rattle.ssim_periods.proofs.marks.set_from.Goals as goal

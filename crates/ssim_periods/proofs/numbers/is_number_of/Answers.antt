@@ -1,5 +1,5 @@
 use Rattle.std.proofs.Common.{◌≡◌, ◌+◌, ◌<◌, ◌-◌, length, Some, map, sym, ap, ◌∙◌, arith}
-use Rattle.ssim_periods.specs.Gather.{numbered}
+use Rattle.ssim_periods.specs.internal.Gather.{numbered}
 use Rattle.ssim_periods.proofs.NumberLemmas.{number-read}
 use Rattle.ssim_periods.proofs.numbers.is_number_of.Goals as goal
 

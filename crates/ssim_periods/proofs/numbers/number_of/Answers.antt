@@ -1,5 +1,5 @@
 use Rattle.std.proofs.Common.{◌≡◌, Some, map, length, sym, arith, rules}
-use Rattle.ssim_periods.specs.Gather.{numbered}
+use Rattle.ssim_periods.specs.internal.Gather.{numbered}
 use Rattle.ssim_periods.proofs.NumberLemmas.{gathered-numbered, number-last}
 use Rattle.ssim_periods.proofs.numbers.number_of.Goals as goal
 

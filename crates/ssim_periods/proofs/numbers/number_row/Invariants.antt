@@ -1,5 +1,5 @@
 use Rattle.std.proofs.Common.{◌≡◌, Some, length, map, drop, take}
-use Rattle.ssim_periods.specs.Gather.{gathered, numbered}
+use Rattle.ssim_periods.specs.internal.Gather.{gathered, numbered}
 use Rattle.ssim_periods.proofs.numbers.number_row.Given as goal
 
 abbrev pub invariant-loop-weekday : goal.invariant-loop-weekday

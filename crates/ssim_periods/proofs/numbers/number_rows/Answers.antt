@@ -1,6 +1,6 @@
 use Rattle.std.proofs.Common.{◌+◌, ◌<◌, drop, length, map, ap, sym, ◌∙◌, arith}
 use Rattle.std.specs.List.{flat_map}
-use Rattle.ssim_periods.specs.Gather.{gathered}
+use Rattle.ssim_periods.specs.internal.Gather.{gathered}
 use Rattle.ssim_periods.proofs.GatherLemmas.{gathered-append, rows-next}
 use Rattle.ssim_periods.proofs.NumberLemmas.{rows-numbered}
 use Rattle.ssim_periods.proofs.numbers.number_rows.Goals as goal

@@ -1,6 +1,6 @@
 use Rattle.std.proofs.Common.{◌≡◌, Some, map, drop, take}
 use Rattle.std.specs.List.{flat_map}
-use Rattle.ssim_periods.specs.Gather.{gathered, numbered}
+use Rattle.ssim_periods.specs.internal.Gather.{gathered, numbered}
 use Rattle.ssim_periods.proofs.numbers.number_rows.Given as goal
 
 abbrev pub invariant-loop-row : goal.invariant-loop-row

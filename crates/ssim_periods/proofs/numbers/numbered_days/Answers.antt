@@ -2,8 +2,8 @@
 use Rattle.std.proofs.Common.{◌≡◌, [], Some, List, ℕ, map, ap, subst, sym, ◌∙◌}
 use Rattle.std.specs.List.{flat_map}
 use Rattle.ssim_periods.specs.Days.{each_day}
-use Rattle.ssim_periods.specs.Gather.{gathered, numbered}
-use Rattle.ssim_periods.specs.Rows.{value_on, AreRows}
+use Rattle.ssim_periods.specs.internal.Gather.{gathered, numbered}
+use Rattle.ssim_periods.specs.internal.Rows.{value_on, AreRows}
 use Rattle.ssim_periods.proofs.GatherLemmas.{gathered-append}
 use Rattle.ssim_periods.proofs.NumberLemmas.{row-gathered, AreRows-numbered, each_day-numbered}
 use Rattle.ssim_periods.proofs.numbers.numbered_days.Goals as goal

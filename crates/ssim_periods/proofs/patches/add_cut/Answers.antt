@@ -1,7 +1,7 @@
 use Rattle.std.proofs.Common.{[], unwrap_or, is_none, ap, sym, ◌∙◌}
 use Rattle.std.specs.List.{insert}
-use Rattle.ssim_periods.specs.Rows.{place}
-use Rattle.ssim_periods.specs.Splits.{with_row}
+use Rattle.ssim_periods.specs.internal.Rows.{place}
+use Rattle.ssim_periods.specs.internal.Splits.{with_row}
 use Rattle.ssim_periods.proofs.CutLemmas.{with_cut-insert, with_row-insert, with_cut-has, with_row-has}
 use Rattle.ssim_periods.proofs.patches.add_cut.Goals as goal
 

@@ -1,6 +1,6 @@
 use Rattle.std.proofs.Common.{◌≡◌, ◌++◌, drop, length, IfSome}
-use Rattle.ssim_periods.specs.Count.{with_days}
-use Rattle.ssim_periods.specs.Splits.{patch_of}
+use Rattle.ssim_periods.specs.internal.Count.{with_days}
+use Rattle.ssim_periods.specs.internal.Splits.{patch_of}
 use Rattle.ssim_periods.proofs.patches.new_row.Given as goal
 
 abbrev pub invariant-loop-weekday : goal.invariant-loop-weekday

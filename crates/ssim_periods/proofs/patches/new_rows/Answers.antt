@@ -2,8 +2,8 @@
 use Rattle.std.proofs.Common.{◌≡◌, ◌+◌, ◌-◌, ◌<◌, ◌≤◌, ℕ, false, if◌then◌else◌, List, [], ◌∷◌, ◌++◌, length, map, slice_index_or, vec_len, Option, Some, None, Vec, Global, ap, sym, subst, ◌∙◌, arith, rules, inl, inr}
 use Rattle.std.specs.List.{All}
 use Rattle.ssim_periods.specs.Calendar.{slot}
-use Rattle.ssim_periods.specs.Count.{with_days}
-use Rattle.ssim_periods.specs.Rows.{place, row_on, value_on}
+use Rattle.ssim_periods.specs.internal.Count.{with_days}
+use Rattle.ssim_periods.specs.internal.Rows.{place, row_on, value_on}
 use Rattle.ssim_periods.proofs.RowLemmas.{place-le, row_on-place, row_on-week, slot-lt}
 use Rattle.ssim_periods.proofs.CutLemmas.{place-mono}
 use Rattle.ssim_periods.proofs.SplitLemmas.{patch_of-at, patch_of-length, length-map-one, map-push, get_or-front, get_or-last, All-push}

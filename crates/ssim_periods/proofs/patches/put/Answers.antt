@@ -1,6 +1,6 @@
 use Rattle.std.proofs.Common.{◌≡◌, [], ◌∷◌, ◌++◌, length, slice_set, ap, sym, ◌∙◌, arith}
 use Rattle.std.proofs.Math.ListN.{length-set}
-use Rattle.ssim_periods.specs.Splits.{patched}
+use Rattle.ssim_periods.specs.internal.Splits.{patched}
 use Rattle.ssim_periods.proofs.SplitLemmas.{patched-last, patched-none, patched-nil, nil-from-length}
 use Rattle.ssim_periods.proofs.patches.put.Goals as goal
 

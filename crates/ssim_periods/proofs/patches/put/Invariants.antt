@@ -1,5 +1,5 @@
 use Rattle.std.proofs.Common.{◌≡◌, ◌≤◌, vec_len, length}
-use Rattle.ssim_periods.specs.Splits.{patched}
+use Rattle.ssim_periods.specs.internal.Splits.{patched}
 use Rattle.ssim_periods.proofs.patches.put.Given as goal
 
 abbrev pub invariant-loop-new : goal.invariant-loop-new

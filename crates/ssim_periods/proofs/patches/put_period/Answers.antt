@@ -1,7 +1,7 @@
 use Rattle.std.proofs.Common.{◌≡◌, ◌+◌, ◌-◌, ◌<◌, ◌≤◌, [], length, unwrap_or, vec_len, vec_capacity, ap, subst, sym, ◌∙◌, arith, rules}
 use Rattle.std.specs.List.Sorted.{IsStrictlyIncreasing}
-use Rattle.ssim_periods.specs.Rows.{place}
-use Rattle.ssim_periods.specs.Splits.{has_cut, with_cut}
+use Rattle.ssim_periods.specs.internal.Rows.{place}
+use Rattle.ssim_periods.specs.internal.Splits.{has_cut, with_cut}
 use Rattle.ssim_periods.proofs.CutLemmas.{rising-with_cut, place-with_cut-self, length-with_cut, length-with_row, has_cut-with_cut, room-for_period}
 use Rattle.ssim_periods.proofs.RowLemmas.{place-le}
 use Rattle.ssim_periods.proofs.patches.put_period.Goals as goal

@@ -1,5 +1,5 @@
 use Rattle.std.proofs.Common.{◌+◌, ◌≤◌, List, vec_len, slice_set, map, Option, Vec, Global, ap, sym, ◌∙◌, arith}
-use Rattle.ssim_periods.specs.Splits.{patched_from}
+use Rattle.ssim_periods.specs.internal.Splits.{patched_from}
 use Rattle.ssim_periods.proofs.SplitLemmas.{patched_from-last, patched_from-nil, nil-from-length, length-map-one, map-push, All-front}
 use Rattle.ssim_periods.proofs.patches.put_rows.Goals as goal
 

@@ -1,6 +1,6 @@
 use Rattle.std.proofs.Common.{◌≡◌, ◌+◌, ◌≤◌, vec_len, map}
 use Rattle.std.specs.List.{All}
-use Rattle.ssim_periods.specs.Splits.{patched_from}
+use Rattle.ssim_periods.specs.internal.Splits.{patched_from}
 use Rattle.ssim_periods.proofs.patches.put_rows.Given as goal
 
 abbrev pub invariant-loop-patch : goal.invariant-loop-patch

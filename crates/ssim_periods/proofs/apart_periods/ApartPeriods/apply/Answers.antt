@@ -1,6 +1,6 @@
 -- All days of the period had the empty value, so they are counted under its class.
 use Rattle.std.proofs.Common.{ap, ◌∙◌}
-use Rattle.ssim_periods.specs.Apart.{value_in}
+use Rattle.ssim_periods.specs.internal.Apart.{value_in}
 use Rattle.ssim_periods.specs.Calendar.{holds}
 use Rattle.ssim_periods.proofs.ApartLemmas.{counts-free}
 use Rattle.ssim_periods.proofs.apart_periods.ApartPeriods.apply.Goals as goal

@@ -1,5 +1,5 @@
 use Rattle.std.proofs.Common.{Some, slice_get, ap, sym, ◌∙◌, arith}
-use Rattle.ssim_periods.specs.Apart.{value_in}
+use Rattle.ssim_periods.specs.internal.Apart.{value_in}
 use Rattle.ssim_periods.proofs.ApartLemmas.{index-week}
 use Rattle.ssim_periods.proofs.DayLemmas.{get-each_day}
 use Rattle.ssim_periods.proofs.apart_periods.ApartPeriods.at.Goals as goal

@@ -1,6 +1,6 @@
 -- If no period of the list holds a day of the new one, these days have the empty value.
 use Rattle.std.proofs.Common.{ap, sym, subst, ◌∙◌}
-use Rattle.ssim_periods.specs.Apart.{AreDivided}
+use Rattle.ssim_periods.specs.internal.Apart.{AreDivided}
 use Rattle.ssim_periods.specs.Pieces.{held_on}
 use Rattle.ssim_periods.proofs.ApartLemmas.{days-free}
 use Rattle.ssim_periods.proofs.apart_periods.ApartPeriods.has_room_for.Goals as goal

@@ -2,7 +2,7 @@
 use Rattle.std.proofs.Common.{◌<◌, length, ap, subst, sym, ◌∙◌, rules}
 use Rattle.std.specs.List.{All, flat_map}
 use Rattle.std.proofs.lemmas.List.Sorted.{IsNonDecreasingBy-from_sort_by_key, IsPermutation-trans}
-use Rattle.ssim_periods.specs.Apart.{given_cover, last_values}
+use Rattle.ssim_periods.specs.internal.Apart.{given_cover, last_values}
 use Rattle.ssim_periods.proofs.DayLemmas.{day_count-is, length-each_day}
 use Rattle.ssim_periods.proofs.ListPieces.{all-end, list-pieces}
 use Rattle.ssim_periods.proofs.apart_periods.ApartPeriods.pieces.Goals as goal

@@ -2,7 +2,7 @@
 use Rattle.std.proofs.Common.{◌≡◌, ◌+◌, length, ap, subst, sym, ◌∙◌, arith}
 use Rattle.std.specs.List.Sorted.{IsStrictlyIncreasing}
 use Rattle.ssim_periods.specs.Days.{AddsOnly}
-use Rattle.ssim_periods.specs.Splits.{with_cut}
+use Rattle.ssim_periods.specs.internal.Splits.{with_cut}
 use Rattle.ssim_periods.proofs.ApartLemmas.{put-days, put-apart}
 use Rattle.ssim_periods.proofs.ApplyLemmas.{adds_only}
 use Rattle.ssim_periods.proofs.CutLemmas.{length-with_cut, rising-with_cut}

@@ -2,7 +2,7 @@
 use Rattle.std.proofs.Common.{◌≤◌, length, ap, subst, sym, rules}
 use Rattle.std.proofs.lemmas.Result.{IfOk-weaker}
 use Rattle.std.specs.List.{Contains}
-use Rattle.ssim_periods.specs.Apart.{AreDivided}
+use Rattle.ssim_periods.specs.internal.Apart.{AreDivided}
 use Rattle.ssim_periods.specs.Pieces.{held_on}
 use Rattle.ssim_periods.proofs.apart_periods.ApartPeriods.to_rows.Goals as goal
 

@@ -1,8 +1,8 @@
 -- The days of an appended period are those of the period.
 use Rattle.std.proofs.Common.{if◌then◌else◌, ap, sym, ◌∙◌}
-use Rattle.ssim_periods.specs.Count.{is_within}
+use Rattle.ssim_periods.specs.internal.Count.{is_within}
 use Rattle.ssim_periods.specs.Days.{changed_on}
-use Rattle.ssim_periods.specs.Rows.{value_on}
+use Rattle.ssim_periods.specs.internal.Rows.{value_on}
 use Rattle.ssim_periods.proofs.ApplyLemmas.{within-holds}
 use Rattle.ssim_periods.proofs.DayLemmas.{each_day-same, changed_on-each_day}
 use Rattle.ssim_periods.proofs.marks.RangeRows+ValueNumber.mark.Goals as goal

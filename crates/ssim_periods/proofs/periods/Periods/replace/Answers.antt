@@ -2,7 +2,7 @@
 use Rattle.std.proofs.Common.{◌+◌, OnOk, ap, subst, sym, ◌∙◌, inl, inr}
 use Rattle.std.specs.List.{Contains}
 use Rattle.ssim_periods.specs.Days.{AddsOnly}
-use Rattle.ssim_periods.specs.Forms.{seen}
+use Rattle.ssim_periods.specs.internal.Forms.{seen}
 use Rattle.ssim_periods.proofs.periods.Periods.replace.Goals as goal
 
 pub returns-then-has_room_for-clause-cuts : goal.returns-then-has_room_for-clause-cuts

@@ -1,7 +1,7 @@
 -- The days are counted before the first value is replaced.
 use Rattle.std.proofs.Common.{◌+◌, ◌-◌, ap, ◌∙◌, arith}
 use Rattle.ssim_periods.specs.Days.{counts_on}
-use Rattle.ssim_periods.specs.Count.{tally, is_of_class}
+use Rattle.ssim_periods.specs.internal.Count.{tally, is_of_class}
 use Rattle.ssim_periods.proofs.ApplyLemmas.{within-holds}
 use Rattle.ssim_periods.proofs.CountLemmas.{counts-of}
 use Rattle.ssim_periods.proofs.range_rows.RangeRows.apply.Goals as goal

@@ -3,7 +3,7 @@ use Rattle.std.proofs.Common.{◌≡◌, ◌+◌, ◌-◌, ◌<◌, ◌≤◌, �
 use Rattle.ssim_periods.specs.Calendar.{slot}
 use Rattle.ssim_periods.specs.Cover.{differ, breaks}
 use Rattle.ssim_periods.specs.Pieces.{has_value}
-use Rattle.ssim_periods.specs.Rows.{place}
+use Rattle.ssim_periods.specs.internal.Rows.{place}
 use Rattle.ssim_periods.proofs.DayLemmas.{length-each_day}
 use Rattle.ssim_periods.proofs.RowLemmas.{place-le, row_on-place}
 use Rattle.ssim_periods.proofs.CountLemmas.{le_or_lt, reaches}

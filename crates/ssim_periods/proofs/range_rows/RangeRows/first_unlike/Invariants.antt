@@ -1,7 +1,7 @@
 use Rattle.std.proofs.Common.{◌≡◌, ◌-◌, ◌<◌, ◌≤◌, ℕ, false}
 use Rattle.ssim_periods.specs.Cover.{breaks}
 use Rattle.ssim_periods.specs.Pieces.{has_value}
-use Rattle.ssim_periods.specs.Rows.{place}
+use Rattle.ssim_periods.specs.internal.Rows.{place}
 use Rattle.ssim_periods.proofs.range_rows.RangeRows.first_unlike.Given as goal
 
 abbrev pub invariant-loop-day : goal.invariant-loop-day

@@ -3,9 +3,9 @@ use Rattle.std.proofs.Common.{◌≡◌, ◌+◌, ◌<◌, List, ℕ, Some, [], 
 use Rattle.std.specs.List.{flat_map}
 use Rattle.std.proofs.lemmas.List.Sorted.{IsNonDecreasingBy-from_sort_by_key}
 use Rattle.ssim_periods.specs.Days.{each_day}
-use Rattle.ssim_periods.specs.Gather.{gathered, numbered}
+use Rattle.ssim_periods.specs.internal.Gather.{gathered, numbered}
 use Rattle.ssim_periods.specs.Pieces.{pieces_with}
-use Rattle.ssim_periods.specs.Rows.{value_on}
+use Rattle.ssim_periods.specs.internal.Rows.{value_on}
 use Rattle.ssim_periods.proofs.DayLemmas.{day_count-is, length-each_day}
 use Rattle.ssim_periods.proofs.GatherLemmas.{flat-next, drop-all}
 use Rattle.ssim_periods.proofs.NumberLemmas.{AreDistinct, number-read, gathered-distinct, pieces_with-number}

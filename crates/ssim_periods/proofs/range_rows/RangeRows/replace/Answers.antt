@@ -4,8 +4,8 @@ use Rattle.std.proofs.Common.{◌≡◌, ◌+◌, ◌-◌, List, [], map, length
 use Rattle.std.specs.List.Sorted.{IsStrictlyIncreasing}
 use Rattle.ssim_periods.specs.Calendar.{slot}
 use Rattle.ssim_periods.specs.Days.{AddsOnly, changed_on}
-use Rattle.ssim_periods.specs.Rows.{place, value_on, AreRows}
-use Rattle.ssim_periods.specs.Splits.{has_cut}
+use Rattle.ssim_periods.specs.internal.Rows.{place, value_on, AreRows}
+use Rattle.ssim_periods.specs.internal.Splits.{has_cut}
 use Rattle.ssim_periods.proofs.SplitLemmas.{length-map-one}
 use Rattle.ssim_periods.proofs.ApplyLemmas.{split-made, cuts-made, rows-made, within-holds, new_cuts, AreRows-put, adds_only, each_day-put}
 use Rattle.ssim_periods.proofs.range_rows.RangeRows.replace.Goals as goal

@@ -4,7 +4,7 @@ use Rattle.ssim_values.specs.Period.{DayRange}
 use Rattle.ssim_periods.specs.Calendar.{holds}
 use Rattle.ssim_periods.specs.Days.{changed_on, counts_on}
 use Rattle.ssim_periods.specs.Cover.{cover, holding}
-use Rattle.ssim_periods.specs.Gather.{gathered, numbered}
+use Rattle.ssim_periods.specs.internal.Gather.{gathered, numbered}
 use Rattle.ssim_periods.specs.Pieces.{pieces_of, held_on}
 
 -- all seven weekdays

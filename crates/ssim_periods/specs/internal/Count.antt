@@ -1,6 +1,6 @@
 -- Days counted by arithmetic.
 use Rattle.ssim_periods.specs.Calendar.{slot}
-use Rattle.ssim_periods.specs.Rows.{value_on}
+use Rattle.ssim_periods.specs.internal.Rows.{value_on}
 use Rattle.std.specs.Prelude.{[], ◌∷◌, nat_le, nat_lt, ℕ, zero, suc, ◌+◌, ◌-◌, ◌/◌, ◌%◌, Bool, false, ◌&&◌, nat_eq, List, slice_index_or, if◌then◌else◌}
 
 -- how many days before x have the weekday with this index
