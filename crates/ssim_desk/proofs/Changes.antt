@@ -9,7 +9,7 @@ use Rattle.ssim_base.specs.Resolve.{IsRefusedIn, ResolvesIn}
 use Rattle.ssim_base.specs.declared.resolution.ResolveFault.{ResolveFault}
 use Rattle.ssim_base.specs.declared.resolution.ResolveFault.TheVariants as resolve_fault
 use Rattle.ssim_base.specs.declared.resolution.ResolvedText.{ResolvedText}
-use Rattle.ssim_text.specs.Decoding.{IsRefusal, NoMessage}
+use Rattle.ssim_text.specs.Decoder.{IsRefusal, NoMessage}
 use Rattle.ssim_text.specs.Message.{MessageValue}
 use Rattle.ssim_text.specs.Spelling.{SpellsMessage}
 use Rattle.ssim_text.specs.declared.fault.TextFault.{TextFault}

@@ -8,7 +8,7 @@ use Rattle.std.specs.declared.cmp.Ordering.TheVariants.{Less, Equal, Greater}
 use Rattle.ssim_base.specs.BaseSeen.{BaseSeen}
 use Rattle.ssim_base.specs.Resolve.{HasOneOutcome, IsRefusedIn}
 use Rattle.ssim_base.specs.declared.resolution.ResolveFault.{ResolveFault}
-use Rattle.ssim_text.specs.Decoding.{OneRefusal}
+use Rattle.ssim_text.specs.Decoder.{OneRefusal}
 use Rattle.ssim_text.specs.Grammar.{OneMessage}
 use Rattle.ssim_text.specs.Message.{MessageValue}
 use Rattle.ssim_text.specs.Spelling.{SpellsMessage}

@@ -3,7 +3,7 @@
 use Rattle.std.specs.Prelude.{◌≡◌, ◌≢◌, ℕ, ◌<◌, ◌==◌, ◌&&◌, not, Bool, true, false, List, [], ◌∷◌, None, slice_get, slice_index_or, slice_set}
 use Rattle.std.specs.FinMap.{get, insert}
 use Rattle.ssim_base.specs.{Resolve.IsRefusedIn, declared.resolution.ResolveFault.ResolveFault}
-use Rattle.ssim_text.specs.{Decoding.{IsRefusal, NoMessage}, Message.MessageValue, Spelling.SpellsMessage, declared.fault.TextFault.TextFault}
+use Rattle.ssim_text.specs.{Decoder.{IsRefusal, NoMessage}, Message.MessageValue, Spelling.SpellsMessage, declared.fault.TextFault.TextFault}
 use Rattle.ssim_text.specs.declared.reference.Reference.{Reference}
 use Rattle.ssim_held.specs.{Held.{Agree, DeskState, HeldMessages, Holds, IsLeastConflict, Says, no_desk, union}}
 use Rattle.ssim_held.specs.declared.fault.DeskFault.{DeskFault}

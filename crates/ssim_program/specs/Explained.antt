@@ -14,7 +14,7 @@ use Rattle.ssim_base.specs.declared.fault.BaseFault.{BaseFault}
 use Rattle.ssim_base.specs.declared.note.Note.{Note}
 use Rattle.ssim_base.specs.declared.stations.StationFault.{StationFault}
 use Rattle.ssim_text.specs.Bytes.{before, behind, word}
-use Rattle.ssim_text.specs.Decoding.{IsRefusal, NoMessage}
+use Rattle.ssim_text.specs.Decoder.{IsRefusal, NoMessage}
 use Rattle.ssim_text.specs.Left.{lines_left, without_end}
 use Rattle.ssim_text.specs.Message.{MessageValue}
 use Rattle.ssim_text.specs.Spelling.{SpellsMessage}

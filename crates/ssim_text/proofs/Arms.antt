@@ -20,9 +20,9 @@ use Rattle.ssim_text.specs.declared.leg.LegLine.{LegLine}
 use Rattle.ssim_text.specs.Bytes.{◌>>=◌, before, from, word, behind}
 use Rattle.ssim_text.specs.declared.segment.SegmentLine.{SegmentLine}
 use Rattle.ssim_text.specs.declared.fault.Fault.TheVariants as fault
-use Rattle.ssim_text.specs.declared.state.Equipped.{Equipped}
-use Rattle.ssim_text.specs.declared.state.Body.{Body}
-use Rattle.ssim_text.specs.declared.state.State.TheVariants.{AtStart, AtKind, AtMode, AtReference, AtAction, AtFlight, AtDatedFlight, AtPeriod, AtEquipment, AtLegs, AtEnd, AtNext, AtFree}
+use Rattle.ssim_text.specs.declared.decoder_state.Equipped.{Equipped}
+use Rattle.ssim_text.specs.declared.decoder_state.Body.{Body}
+use Rattle.ssim_text.specs.declared.decoder_state.State.TheVariants.{AtStart, AtKind, AtMode, AtReference, AtAction, AtFlight, AtDatedFlight, AtPeriod, AtEquipment, AtLegs, AtEnd, AtNext, AtFree}
 use Rattle.ssim_values.specs.declared.designator.Designator.{Designator}
 use Rattle.ssim_values.specs.Designator.{SpellsDesignator}
 use Rattle.ssim_values.specs.Clock.{clock_of}

@@ -17,11 +17,11 @@ use Rattle.ssim_text.specs.declared.action.NewLegs.{NewLegs}
 use Rattle.ssim_text.specs.declared.action.Action.{Action}
 use Rattle.ssim_text.specs.declared.action.Action.TheVariants as action
 use Rattle.ssim_text.specs.declared.action.Sub.{Sub}
-use Rattle.ssim_text.specs.declared.state.Change.{Change}
-use Rattle.ssim_text.specs.declared.state.Change.TheVariants as change
-use Rattle.ssim_text.specs.declared.state.Body.{Body}
-use Rattle.ssim_text.specs.declared.state.State.{State}
-use Rattle.ssim_text.specs.declared.state.State.TheVariants.{AtStart, AtMode, AtAction, AtLegs, AtEnd, AtNext, AtFree}
+use Rattle.ssim_text.specs.declared.decoder_state.Change.{Change}
+use Rattle.ssim_text.specs.declared.decoder_state.Change.TheVariants as change
+use Rattle.ssim_text.specs.declared.decoder_state.Body.{Body}
+use Rattle.ssim_text.specs.declared.decoder_state.State.{State}
+use Rattle.ssim_text.specs.declared.decoder_state.State.TheVariants.{AtStart, AtMode, AtAction, AtLegs, AtEnd, AtNext, AtFree}
 use Rattle.ssim_text.specs.Message.{MessageValue, begun, with_sub, with_free}
 use Rattle.ssim_text.specs.Lines.{begins_free}
 use Rattle.ssim_text.specs.Grammar.{Part, KindPart, ReferencePart, ActionPart, LegPart, SegmentPart, Divider, FreePart, flight_parts, identifier_of, body_parts, sub_parts, later_parts, subs_parts, free_parts, IsOriginatorPart, IsModePart, flies, IsNewLegs, IsBody, AreDates, IsSub, BeginsFree, IsShape, IsFront, HasParts}

@@ -4,14 +4,14 @@ use Rattle.std.proofs.Common.{◌≡◌, ◌<◌, ◌≤◌, ◌+◌, ◌⊎◌,
 use Rattle.std.specs.List.{AllZip}
 use Rattle.std.proofs.lemmas.List.{take-take}
 use Rattle.std.specs.Prelude.{option_and_then}
-use Rattle.ssim_text.specs.Decoding.{IsFaultAt, IsMisplaced, IsNotAscii, IsRefusal, IsTooLong, IsWrittenTooLong, OneRefusal}
+use Rattle.ssim_text.specs.Decoder.{IsFaultAt, IsMisplaced, IsNotAscii, IsRefusal, IsTooLong, IsWrittenTooLong, OneRefusal}
 use Rattle.ssim_text.specs.Grammar.{NamesPlace, Part, Spells, Starts}
 use Rattle.ssim_text.specs.Left.{lines_left, numbers, place_number, texts}
 use Rattle.ssim_text.specs.Machine.{Reads, fault_before, run, step}
 use Rattle.ssim_text.specs.declared.fault.Fault.{Fault}
 use Rattle.ssim_text.specs.declared.fault.TextFault.TheVariants as answer
-use Rattle.ssim_text.specs.declared.state.State.{State}
-use Rattle.ssim_text.specs.declared.state.State.TheVariants.{AtStart}
+use Rattle.ssim_text.specs.declared.decoder_state.State.{State}
+use Rattle.ssim_text.specs.declared.decoder_state.State.TheVariants.{AtStart}
 use Rattle.ssim_text.proofs.Complete.{complete}
 use Rattle.ssim_text.proofs.Place.{at_end, lines_none, starts, take_drop}
 use Rattle.ssim_text.proofs.Runs.{GoesOn, bind_some, follow, none_some, some_same}

@@ -19,13 +19,13 @@ use Rattle.ssim_text.specs.declared.dates.Dates.TheVariants.{Period, Date}
 use Rattle.ssim_text.specs.declared.leg.LegLine.{LegLine}
 use Rattle.ssim_text.specs.declared.segment.SegmentLine.{SegmentLine}
 use Rattle.ssim_text.specs.declared.action.Action.TheVariants as action
-use Rattle.ssim_text.specs.declared.state.Change.{Change}
-use Rattle.ssim_text.specs.declared.state.Change.TheVariants as change
-use Rattle.ssim_text.specs.declared.state.Equipped.{Equipped}
-use Rattle.ssim_text.specs.declared.state.Equipped.TheVariants as equipped
-use Rattle.ssim_text.specs.declared.state.Body.{Body}
-use Rattle.ssim_text.specs.declared.state.State.{State}
-use Rattle.ssim_text.specs.declared.state.State.TheVariants.{AtStart, AtKind, AtMode, AtReference, AtAction, AtFlight, AtDatedFlight, AtPeriod, AtEquipment, AtLegs, AtEnd, AtNext, AtFree}
+use Rattle.ssim_text.specs.declared.decoder_state.Change.{Change}
+use Rattle.ssim_text.specs.declared.decoder_state.Change.TheVariants as change
+use Rattle.ssim_text.specs.declared.decoder_state.Equipped.{Equipped}
+use Rattle.ssim_text.specs.declared.decoder_state.Equipped.TheVariants as equipped
+use Rattle.ssim_text.specs.declared.decoder_state.Body.{Body}
+use Rattle.ssim_text.specs.declared.decoder_state.State.{State}
+use Rattle.ssim_text.specs.declared.decoder_state.State.TheVariants.{AtStart, AtKind, AtMode, AtReference, AtAction, AtFlight, AtDatedFlight, AtPeriod, AtEquipment, AtLegs, AtEnd, AtNext, AtFree}
 use Rattle.ssim_text.specs.Values.{EquipmentValue, no_originator}
 use Rattle.ssim_text.specs.Message.{MessageValue, begun, with_sub, with_free}
 use Rattle.ssim_text.specs.Lines.{numbers_of, reference_of, SpellsDatedFlight, date_of, period_of, equipment_of, leg_of}
@@ -34,7 +34,7 @@ use Rattle.ssim_text.specs.Machine.{step, finish, Takes, Refuses, sub_of, flight
 use Rattle.std.proofs.Common.{get_or, add-one, drop-cons, drop_of_length-le}
 use Rattle.ssim_text.specs.declared.fault.Fault.{Fault}
 use Rattle.ssim_text.specs.Machine.{fault_at, fault_of, fault_before}
-use Rattle.ssim_text.specs.Decoding.{IsFaultAt}
+use Rattle.ssim_text.specs.Decoder.{IsFaultAt}
 use Rattle.std.proofs.lemmas.List.{take_more, get_or-map}
 use Rattle.ssim_values.specs.Calendar.{day_number, leap_years, months_length}
 use Rattle.ssim_values.specs.Day.{day_of}

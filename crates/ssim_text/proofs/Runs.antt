@@ -14,8 +14,8 @@ use Rattle.ssim_text.specs.declared.kind.ActionIdentifier.{ActionIdentifier}
 use Rattle.ssim_text.specs.declared.kind.ActionIdentifier.TheVariants as identifier
 use Rattle.ssim_text.specs.declared.reference.GivenReference.{GivenReference}
 use Rattle.ssim_text.specs.declared.dates.GivenDate.{GivenDate}
-use Rattle.ssim_text.specs.declared.state.State.{State}
-use Rattle.ssim_text.specs.declared.state.State.TheVariants.{AtStart, AtKind, AtMode, AtReference, AtAction, AtFlight, AtDatedFlight, AtPeriod, AtEquipment, AtLegs, AtEnd, AtNext, AtFree}
+use Rattle.ssim_text.specs.declared.decoder_state.State.{State}
+use Rattle.ssim_text.specs.declared.decoder_state.State.TheVariants.{AtStart, AtKind, AtMode, AtReference, AtAction, AtFlight, AtDatedFlight, AtPeriod, AtEquipment, AtLegs, AtEnd, AtNext, AtFree}
 use Rattle.ssim_text.specs.Message.{MessageValue, with_free}
 use Rattle.ssim_text.specs.Lines.{originator_of, kind_text, mode_text, numbers_of, reference_of, identifier_text, SpellsDatedFlight, period_of, equipment_of, leg_of, segment_of, begins_free}
 use Rattle.ssim_text.specs.Grammar.{Part, OriginatorPart, KindPart, ModePart, ReferencePart, ActionPart, FlightPart, DatedFlightPart, PeriodPart, EquipmentPart, LegPart, SegmentPart, Divider, FreePart, Spells}

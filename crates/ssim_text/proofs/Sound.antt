@@ -17,13 +17,13 @@ use Rattle.ssim_text.specs.declared.leg.LegLine.{LegLine}
 use Rattle.ssim_text.specs.declared.segment.SegmentLine.{SegmentLine}
 use Rattle.ssim_text.specs.declared.action.Action.TheVariants as action
 use Rattle.ssim_text.specs.declared.action.Sub.{Sub}
-use Rattle.ssim_text.specs.declared.state.Change.{Change}
-use Rattle.ssim_text.specs.declared.state.Change.TheVariants as change
-use Rattle.ssim_text.specs.declared.state.Equipped.{Equipped}
-use Rattle.ssim_text.specs.declared.state.Equipped.TheVariants as equipped
-use Rattle.ssim_text.specs.declared.state.Body.{Body}
-use Rattle.ssim_text.specs.declared.state.State.{State}
-use Rattle.ssim_text.specs.declared.state.State.TheVariants.{AtStart, AtKind, AtMode, AtReference, AtAction, AtFlight, AtDatedFlight, AtPeriod, AtEquipment, AtLegs, AtEnd, AtNext, AtFree}
+use Rattle.ssim_text.specs.declared.decoder_state.Change.{Change}
+use Rattle.ssim_text.specs.declared.decoder_state.Change.TheVariants as change
+use Rattle.ssim_text.specs.declared.decoder_state.Equipped.{Equipped}
+use Rattle.ssim_text.specs.declared.decoder_state.Equipped.TheVariants as equipped
+use Rattle.ssim_text.specs.declared.decoder_state.Body.{Body}
+use Rattle.ssim_text.specs.declared.decoder_state.State.{State}
+use Rattle.ssim_text.specs.declared.decoder_state.State.TheVariants.{AtStart, AtKind, AtMode, AtReference, AtAction, AtFlight, AtDatedFlight, AtPeriod, AtEquipment, AtLegs, AtEnd, AtNext, AtFree}
 use Rattle.ssim_text.specs.Values.{EquipmentValue, no_originator}
 use Rattle.ssim_text.specs.Message.{MessageValue, begun, with_sub, with_free}
 use Rattle.ssim_text.specs.Lines.{begins_free}

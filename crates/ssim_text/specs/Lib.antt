@@ -10,5 +10,5 @@ pub mod Bounds
 pub mod Canonical
 pub mod Spelling
 pub mod Worked
-pub mod Decoding
+pub mod Decoder
 pub mod Reference

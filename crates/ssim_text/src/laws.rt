@@ -1,5 +1,5 @@
 //! Laws of the grammar.
-ghost use Rattle.ssim_text.specs.Decoding.{OneRefusal};
+ghost use Rattle.ssim_text.specs.Decoder.{OneRefusal};
 ghost use Rattle.ssim_text.specs.Grammar.{OneMessage};
 ghost use Rattle.ssim_text.specs.Spelling.{CanonicalReadsBack, EqualWhereWrittenEqual};
 ghost use Rattle.ssim_text.specs.Worked.{WorkedTexts};

@@ -1,17 +1,18 @@
 //! The lines of a text without empty lines, and without blanks and CR bytes at their ends.
-ghost use Rattle.std.specs.Prelude.{◌≡◌, ◌≤◌, ◌++◌, [], length, map, IfOk};
+ghost use Rattle.std.specs.Prelude.{◌≡◌, ℕ, ◌+◌, ◌≤◌, ◌++◌, [], length, map, IfOk};
 ghost use Rattle.ssim_text.specs.Left.{is_dropped, without_end, numbered, lines_left, place_number, numbers, first_unprintable};
 ghost use Rattle.ssim_text.specs.Bytes.{is_printable};
-ghost use Rattle.std.specs.List.{list_all};
+ghost use Rattle.std.specs.List.{All, list_all};
 
 use crate::bytes::cut;
 use std::alloc::{AllocError, Global};
 
 /// A line of a text that is not empty.
 #[derive(Clone, Copy)]
-pub(crate) struct Line<'a> {
-    /// Its number in the text, from 1.
-    pub number: u32,
+pub struct Line<'a> {
+    /// Its number among all lines of the text, from 1.
+    pub number: usize,
+    /// Its bytes, without the CR bytes and blanks at its end.
     pub bytes: &'a [u8],
 }
 
@@ -37,10 +38,11 @@ pub fn without_end(line: &[u8]) -> &[u8]
 /// These lines, and a further one if it is not empty.
 fn with_line<'a>(
     lines: Vec<Line<'a>>,
-    number: u32,
+    number: usize,
     bytes: &'a [u8],
 ) -> Result<Vec<Line<'a>>, AllocError>
-    ensures { IfOk result (λ v. map (λ l. (l.number, l.bytes.now)) v.items ≡ map (λ l. (l.number, l.bytes.now)) lines.entry.items ++ numbered number bytes.now []) }
+    ensures lines { IfOk result (λ v. map (λ l. (l.number, l.bytes.now)) v.items ≡ map (λ l. (l.number, l.bytes.now)) lines.entry.items ++ numbered number bytes.now []) }
+    ensures bound { IfOk result (λ v. (most : ℕ) → number ≤ most → All (λ l. l.number ≤ most) lines.entry.items → All (λ l. l.number ≤ most) v.items) }
 {
     let mut lines = lines;
     if bytes.is_empty() {
@@ -51,13 +53,13 @@ fn with_line<'a>(
 }
 
 /// The lines of a text that are not empty, with their numbers.
-pub(crate) fn lines_left<'a>(alloc: Global, text: &'a [u8]) -> Result<Vec<Line<'a>>, AllocError>
-    requires { length text.now ≤ 65536 }
-    ensures { IfOk result (λ v. map (λ l. (l.number, l.bytes.now)) v.items ≡ lines_left text.now) }
+pub fn lines_left<'a>(alloc: Global, text: &'a [u8]) -> Result<Vec<Line<'a>>, AllocError>
+    ensures lines { IfOk result (λ v. map (λ l. (l.number, l.bytes.now)) v.items ≡ lines_left text.now) }
+    ensures bound { IfOk result (λ v. All (λ l. l.number ≤ 1 + length text.now) v.items) }
 {
     let mut lines = Vec::new(alloc);
     let mut rest = text;
-    let mut number: u32 = 1;
+    let mut number: usize = 1;
     loop {
         let (piece, tail) = cut(rest, b'\n');
         lines = with_line(lines, number, without_end(piece))?;
@@ -78,7 +80,7 @@ fn is_printable(line: &[u8]) -> bool
 }
 
 /// The number of the first line with a byte outside 32 to 126.
-pub(crate) fn first_unprintable(lines: &[Line]) -> Option<u32>
+pub(crate) fn first_unprintable(lines: &[Line]) -> Option<usize>
     ensures { result ≡ first_unprintable (map (λ l. (l.number, l.bytes.now)) lines.now) }
 {
     for line in lines {
@@ -91,13 +93,14 @@ pub(crate) fn first_unprintable(lines: &[Line]) -> Option<u32>
 
 /// The number of the line at an index; past the last line, its number plus one; 1 without lines.
 pub(crate) fn number_at(lines: &[Line], index: usize) -> usize
+    requires { All (λ l. l.number ≤ 65537) lines.now }
     ensures { result ≡ place_number (numbers (map (λ l. (l.number, l.bytes.now)) lines.now)) index }
 {
     if index < lines.len() {
-        return lines[index].number as usize;
+        return lines[index].number;
     }
     match lines {
         [] => 1,
-        [.., last] => last.number as usize + 1,
+        [.., last] => last.number + 1,
     }
 }

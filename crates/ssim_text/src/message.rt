@@ -7,7 +7,7 @@ ghost use Rattle.ssim_text.specs.Bounds.{AreSubsBounded, IsReferenceBounded, Are
 ghost use Rattle.ssim_text.specs.Spelling.{SpellsMessage};
 
 use crate::action::Sub;
-use crate::encoding::{push_free, push_kind, push_mode, push_originator, push_subs};
+use crate::encoder::{push_free, push_kind, push_mode, push_originator, push_subs};
 use crate::kind::Kind;
 use crate::originator::Originator;
 use crate::reference::GivenReference;

@@ -7,7 +7,7 @@ ghost use Rattle.std.specs.List.{list_all};
 
 use crate::bytes::front;
 use crate::dates::month_day;
-use crate::encoding::{five_digits, three_digits};
+use crate::encoder::{five_digits, three_digits};
 use crate::kind::Kind;
 use crate::originator::Originator;
 use ssim_values::{Day, DayMonth, are_digits};

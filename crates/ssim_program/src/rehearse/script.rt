@@ -1,14 +1,12 @@
 //! Desk scripts: how many desks there are, and the steps that they try.
 
-ghost use Rattle.std.specs.Prelude.{◌≡◌, ◌<◌, ◌≤◌, ◌++◌, [], All, IfErr, IfOk, IfSome, Some, length, map, option_map};
-ghost use Rattle.ssim_text.specs.Left.{lines_left, numbered};
+ghost use Rattle.std.specs.Prelude.{◌≡◌, ◌<◌, ◌≤◌, All, IfErr, IfOk, IfSome, Some, map, option_map};
 ghost use Rattle.ssim_program.specs.Script.{IsOtherLine, IsStepOf, RefusesScript, SpellsScript, count_in, desk_in, merge_in, name_in, step_in, take_in};
 ghost use Rattle.ssim_program.specs.Rehearsal.{as_written, script_of};
 
 use crate::refusal::Refusal;
 use crate::word::is_word;
-use ssim_text::{cut, first_word, without_end};
-use ssim_values::Memory;
+use ssim_text::{Line, first_word, lines_left};
 use std::alloc::Global;
 
 /// A step of a script. Desks are counted from 0.
@@ -26,14 +24,6 @@ pub(crate) struct Script<'s> {
     /// How many desks there are, 1 to 9.
     pub count: usize,
     pub steps: Vec<Written<'s>>,
-}
-
-/// A line that is left after the dropping.
-#[derive(Clone, Copy)]
-struct Line<'s> {
-    /// Its number in the script, from 1.
-    number: u64,
-    bytes: &'s [u8],
 }
 
 // ---- a line
@@ -127,42 +117,6 @@ fn step_in<'s>(count: usize, line: &'s [u8]) -> Option<Written<'s>>
 
 // ---- the lines
 
-/// These lines, and a further one if it is not empty.
-fn with_line<'s>(
-    lines: Vec<Line<'s>>,
-    number: u64,
-    bytes: &'s [u8],
-) -> Result<Vec<Line<'s>>, Memory>
-    ensures { IfOk result (λ v. map (λ l. (l.number, l.bytes.now)) v.items ≡ map (λ l. (l.number, l.bytes.now)) lines.entry.items ++ numbered number bytes.now []) }
-{
-    let mut lines = lines;
-    if bytes.is_empty() {
-        return Ok(lines);
-    }
-    lines.push(Line { number, bytes })?;
-    Ok(lines)
-}
-
-/// The lines that are left of a text, with their numbers.
-fn lines_left<'s>(alloc: Global, text: &'s [u8]) -> Result<Vec<Line<'s>>, Memory>
-    ensures { IfOk result (λ v. map (λ l. (l.number, l.bytes.now)) v.items ≡ lines_left text.now) }
-{
-    let mut lines = Vec::new(alloc);
-    let mut rest = text;
-    let mut number: u64 = 1;
-    loop {
-        let (piece, tail) = cut(rest, b'\n');
-        lines = with_line(lines, number, without_end(piece))?;
-        match tail {
-            [_, next @ ..] => {
-                rest = next;
-                number += 1;
-            }
-            [] => return Ok(lines),
-        }
-    }
-}
-
 /// The steps that lines spell.
 fn read_steps<'s>(
     alloc: Global,
@@ -179,7 +133,9 @@ fn read_steps<'s>(
         match step_in(count, line.bytes) {
             Some(step) => steps.push(step)?,
             None => {
-                return Err(Refusal::Script { line: line.number });
+                return Err(Refusal::Script {
+                    line: line.number as u64,
+                });
             }
         }
     }
@@ -205,7 +161,9 @@ impl<'s> Script<'s> {
             return Err(Refusal::Script { line: 1 });
         };
         let Some(count) = count_in(first.bytes) else {
-            return Err(Refusal::Script { line: first.number });
+            return Err(Refusal::Script {
+                line: first.number as u64,
+            });
         };
         let steps = read_steps(alloc, count, others)?;
         Ok(Script { count, steps })

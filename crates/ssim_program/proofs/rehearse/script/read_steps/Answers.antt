@@ -1,7 +1,7 @@
 -- The current line spells no step.
 use Rattle.std.proofs.Common.{ℕ, List, [], get_or, inr, refl, sym}
 use Rattle.ssim_program.specs.Rehearsal.{as_written}
-use Rattle.ssim_program.specs.declared.rehearse.script.Line.{Line}
+use Rattle.ssim_text.specs.declared.lines.Line.{Line}
 use Rattle.ssim_program.proofs.Rehearsing.{first_other}
 use Rattle.ssim_program.proofs.Scripted.{any_default}
 use Rattle.ssim_program.proofs.rehearse.script.read_steps.Goals as goal

@@ -3,7 +3,7 @@ use Rattle.std.proofs.Common.{rules, ◌≡◌, ℕ, List, ◌∷◌, map, Err, 
 use Rattle.ssim_text.specs.Left.{lines_left}
 use Rattle.ssim_program.specs.Rehearsal.{as_written}
 use Rattle.ssim_program.specs.Script.{RefusesScript}
-use Rattle.ssim_program.specs.declared.rehearse.script.Line.{Line}
+use Rattle.ssim_text.specs.declared.lines.Line.{Line}
 use Rattle.ssim_program.proofs.Rehearsing.{are_steps}
 use Rattle.ssim_program.proofs.Scripted.{refuses_script}
 use Rattle.ssim_program.proofs.rehearse.script.Script.read.Goals as goal

@@ -2,7 +2,7 @@
 use Rattle.std.proofs.Common.{[], ◌∙◌}
 use Rattle.ssim_text.specs.declared.lines.Line.{Line}
 use Rattle.ssim_text.proofs.Place.{read_line, refused_line, all_read, refused_after, fault_line, fault_end, spells, only_one}
-use Rattle.ssim_text.proofs.decoding.read_lines.Goals as goal
+use Rattle.ssim_text.proofs.decoder.read_lines.Goals as goal
 
 nowhere : Line
 nowhere = record { number = 0; bytes = record { ref_ptr = (0, 0); now = [] } }

@@ -4,9 +4,9 @@ use Rattle.ssim_text.specs.declared.fault.Fault.{Fault}
 use Rattle.ssim_text.specs.declared.fault.Fault.TheVariants as fault
 use Rattle.ssim_text.specs.declared.fault.TextFault.{TextFault}
 use Rattle.ssim_text.specs.declared.fault.TextFault.TheVariants as answer
-use Rattle.ssim_text.specs.declared.decoding.Refusal.{Refusal}
-use Rattle.ssim_text.specs.declared.decoding.Refusal.TheVariants.{NoMemory, Misplaced}
-use Rattle.ssim_text.specs.declared.state.State.{State}
+use Rattle.ssim_text.specs.declared.decoder.Refusal.{Refusal}
+use Rattle.ssim_text.specs.declared.decoder.Refusal.TheVariants.{NoMemory, Misplaced}
+use Rattle.ssim_text.specs.declared.decoder_state.State.{State}
 use Rattle.ssim_text.specs.Message.{MessageValue}
 use Rattle.ssim_text.specs.Grammar.{SpellsText, NamesPlace}
 use Rattle.ssim_text.specs.Machine.{Reads, fault_before}

@@ -24,7 +24,7 @@ pub(crate) enum Stop {
 }
 
 impl From<AllocError> for Stop {
-    ghost use Rattle.ssim_text.specs.declared.state.Stop.TheVariants.{OutOfMemory};
+    ghost use Rattle.ssim_text.specs.declared.decoder_state.Stop.TheVariants.{OutOfMemory};
 
     ghost from_gives = { λ _ e. e ≡ OutOfMemory };
 

@@ -1,7 +1,7 @@
 -- The 100th segment line.
 use Rattle.std.proofs.Common.{arith, sym, ap, ◌∙◌, length}
 use Rattle.ssim_text.proofs.Arms.{segments_full}
-use Rattle.ssim_text.proofs.state.State.after_legs.Goals as goal
+use Rattle.ssim_text.proofs.decoder_state.State.after_legs.Goals as goal
 
 pub returns-then-lines-eq99-clause-err : goal.returns-then-lines-eq99-clause-err
 returns-then-lines-eq99-clause-err c =

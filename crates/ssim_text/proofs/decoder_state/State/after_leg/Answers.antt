@@ -1,7 +1,7 @@
 -- A leg line after a segment line, and the 21st leg line.
 use Rattle.std.proofs.Common.{arith, sym, ap, ◌∙◌, length}
 use Rattle.ssim_text.proofs.Arms.{leg_behind_segments, legs_full}
-use Rattle.ssim_text.proofs.state.State.after_leg.Goals as goal
+use Rattle.ssim_text.proofs.decoder_state.State.after_leg.Goals as goal
 
 pub returns-then-not-has_no_segment-clause-err : goal.returns-then-not-has_no_segment-clause-err
 returns-then-not-has_no_segment-clause-err c =

@@ -2,14 +2,14 @@
 ghost use Rattle.std.specs.Prelude.{◌≡◌, ◌≤◌, ℕ, length, map, IfOk, IfErr};
 ghost use Rattle.ssim_text.specs.Message.{MessageValue};
 ghost use Rattle.ssim_text.specs.Grammar.{SpellsText};
-ghost use Rattle.ssim_text.specs.Decoding.{IsRefusal, IsPlace, IsTooManyAtOne, NoMessage};
+ghost use Rattle.ssim_text.specs.Decoder.{IsRefusal, IsPlace, IsTooManyAtOne, NoMessage};
 ghost use Rattle.ssim_text.specs.Spelling.{SpellsMessage, IsSpelledWhereShort};
 ghost use Rattle.ssim_text.specs.Canonical.{canonical};
 
+use crate::decoder_state::{State, Stop};
 use crate::fault::{Fault, TextFault};
 use crate::lines::{Line, first_unprintable, lines_left, number_at};
 use crate::message::{Draft, Message};
-use crate::state::{State, Stop};
 use std::alloc::Global;
 
 /// Why lines are refused: out of memory, or a fault and the index of its line.
@@ -81,7 +81,7 @@ pub fn decode(alloc: Global, text: &[u8]) -> Result<Message, TextFault>
     if let Some(number) = first_unprintable(lines) {
         return Err(TextFault::Refused {
             fault: Fault::NotAscii,
-            line: number as usize,
+            line: number,
         });
     }
     match read_lines(alloc, lines) {

@@ -1,7 +1,7 @@
 -- After a divider comes an action, while there is room, or free text.
 use Rattle.std.proofs.Common.{arith, sym, ◌∙◌}
 use Rattle.ssim_text.proofs.Arms.{take_next, take_first_free, no_next}
-use Rattle.ssim_text.proofs.state.State.after_divider.Goals as goal
+use Rattle.ssim_text.proofs.decoder_state.State.after_divider.Goals as goal
 
 pub returns-then-sub_count-lt250-clause-ok : goal.returns-then-sub_count-lt250-clause-ok
 returns-then-sub_count-lt250-clause-ok c =

@@ -2,7 +2,7 @@
 use Rattle.std.proofs.Common.{◌≡◌, ◌++◌, map, take}
 use Rattle.ssim_text.specs.Grammar.{LegPart}
 use Rattle.ssim_text.specs.Canonical.{written}
-use Rattle.ssim_text.proofs.encoding.push_legs.Given as goal
+use Rattle.ssim_text.proofs.encoder.push_legs.Given as goal
 
 abbrev pub invariant-loop-leg : goal.invariant-loop-leg
 invariant-loop-leg l = l.out.items ≡ l.initial.out.items ++ written (map LegPart (take l.leg-index l.legs))

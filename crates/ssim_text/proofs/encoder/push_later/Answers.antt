@@ -1,6 +1,6 @@
 -- A divider comes before each sub-message.
 use Rattle.ssim_text.proofs.Writing.{written_later}
-use Rattle.ssim_text.proofs.encoding.push_later.Goals as goal
+use Rattle.ssim_text.proofs.encoder.push_later.Goals as goal
 
 pub loop-sub-preserved : goal.loop-sub-preserved
 loop-sub-preserved c =
