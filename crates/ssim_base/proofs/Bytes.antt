@@ -119,6 +119,6 @@ same_bytes frame other days others kept is are same =
 
 pub exports_are_one : WrittenIsFramed → WrittenSpells → ReadOnce → ExportsAreOne
 exports_are_one framed spells once frame other days others bytes these is are = (
-    λ same. bytes_determine framed spells once frame other days others bytes is (subst (IsExport other others) (sym same) are),
-    λ alike. let ok : Ok bytes ≡ Ok these = sym is.written ∙ same_bytes frame other days others alike.0 is.timetable are.timetable alike.1 ∙ are.written in cc,
+  λ same. bytes_determine framed spells once frame other days others bytes is (subst (IsExport other others) (sym same) are),
+  λ alike. let ok : Ok bytes ≡ Ok these = sym is.written ∙ same_bytes frame other days others alike.0 is.timetable are.timetable alike.1 ∙ are.written in cc,
 )
