@@ -2,7 +2,7 @@
 use Rattle.std.proofs.Common.{◌≡◌, ◌∙◌, ◌⊎◌, ◌↔◌, inl, inr, ℕ, ◌≤◌, ◌<◌, ◌^◌, true, List, [], ◌∷◌, length, Option, None, Some, Ok, refl, sym, ap, subst, arith}
 use Rattle.std.specs.FinMap.{entries, get, same_entries_map}
 use Rattle.ssim_base.specs.BaseSeen.{BaseSeen}
-use Rattle.ssim_base.specs.Reading.{IsReadAs, SameBytesSameBase}
+use Rattle.ssim_base.specs.Reading.{IsReadAs, IsReadOf, SameBytesSameBase}
 use Rattle.ssim_base.specs.Stations.{SameBytesSameRows, SpellsTable}
 use Rattle.ssim_base.specs.declared.note.Note.{Note}
 use Rattle.ssim_text.specs.Grammar.{OneMessage}
@@ -214,10 +214,11 @@ module _ (one : OneMessage) (again : CanonicalReadsBack) (no_two : NoTwoDesks) w
     founded began d s earlier (office.Was name) file c from = subst (λ (f : Option (List ℕ)). IsFounded f (brought name) d s) (sym c) (earlier name from)
     founded began d s earlier (office.Started dataset stations) file c from =
         let read = c.2 in
-        let same_set : read.0.0 ≡ d = same_some read.0.0 d (sym read.0.1.1 ∙ from.0) in
+        let opened = read.0.1 in
+        let left : read.0.0 ≡ Some d = opened.2 ∙ sym opened.1 ∙ from.0 in
         let same_table : read.1.0 ≡ s = same_some read.1.0 s (sym read.1.1.1 ∙ from.1) in (
           c.0,
-          (c.1, subst (λ (bs : List ℕ). IsReadAs file_limit bs (Ok (c.0.records, c.1))) same_set read.0.2, subst (λ (bs : List ℕ). SpellsTable c.0.rows bs) same_table read.1.2),
+          (c.1, subst (λ (o : Option (List ℕ)). IsReadOf file_limit o (Ok (c.0.records, c.1))) left read.0.2.0, subst (λ (bs : List ℕ). SpellsTable c.0.rows bs) same_table read.1.2),
           after_start dataset stations file c,
         )
     founded began d s earlier (office.Took name texts) file c from =
