@@ -1,10 +1,11 @@
 //! Runs of the program on devices that may fail.
 
-use crate::devices::{BrokenStore, FullWriter, NoStore};
+use crate::devices::{BrokenStore, NoStore};
 use crate::fault::Fault;
 use crate::memory_store::MemoryStore;
 use crate::shown::{number, parts, push_line, push_named, show};
 use ssim_program::{Store, StoreFault, run};
+use ssim_vectors::{Extent, FailingWriter};
 use std::alloc::Global;
 
 /// What fails in the next run.
@@ -14,11 +15,11 @@ pub struct Devices {
     store: Option<StoreFault>,
     /// How many bytes a file gives before it fails, if it fails.
     file: Option<usize>,
-    /// How many bytes the standard output takes, and whether it can be flushed.
-    room: usize,
+    /// What the standard output takes, and whether it can be flushed.
+    out: Extent,
     flushes: bool,
-    /// How many bytes the standard error takes.
-    err_room: usize,
+    /// What the standard error takes.
+    err: Extent,
 }
 
 impl Devices {
@@ -27,9 +28,9 @@ impl Devices {
         Devices {
             store: None,
             file: None,
-            room: usize::MAX,
+            out: Extent::whole(),
             flushes: true,
-            err_room: usize::MAX,
+            err: Extent::whole(),
         }
     }
 
@@ -37,14 +38,25 @@ impl Devices {
     pub fn let_fail(&mut self, rest: &str) -> Result<(), Fault> {
         let (device, how) = parts(rest)?;
         match device {
-            "out" => self.room = number(how)?,
-            "err" => self.err_room = number(how)?,
+            "out" => self.out.room = number(how)?,
+            "err" => self.err.room = number(how)?,
             "flush" => self.flushes = false,
             "file" => self.file = Some(number(how)?),
             "store" if how == "memory" => self.store = Some(StoreFault::Memory),
             "store" => self.store = Some(StoreFault::Fault),
             _ => return Err(Fault::Line),
         }
+        Ok(())
+    }
+
+    /// Lets the standard output take no more bytes after some.
+    pub fn let_stop(&mut self, rest: &str) -> Result<(), Fault> {
+        let (device, count) = parts(rest)?;
+        if device != "out" {
+            return Err(Fault::Line);
+        }
+        self.out.room = number(count)?;
+        self.out.stops = true;
         Ok(())
     }
 
@@ -60,8 +72,8 @@ impl Devices {
     }
 
     fn answer_with<S: Store>(&self, alloc: Global, words: &[&str], store: &mut S) -> Answer {
-        let mut out = FullWriter::new(alloc, self.room, self.flushes);
-        let mut err = FullWriter::new(alloc, self.err_room, true);
+        let mut out = FailingWriter::new(alloc, self.out, self.flushes);
+        let mut err = FailingWriter::new(alloc, self.err, true);
         let status = run(alloc, words, store, &mut out, &mut err);
         Answer {
             status,

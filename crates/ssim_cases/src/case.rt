@@ -2,6 +2,7 @@
 
 use crate::answer::{Answer, Devices};
 use crate::desks::{Desks, place_of};
+use crate::extents::Call;
 use crate::fault::Fault;
 use crate::memory_store::MemoryStore;
 use crate::printed;
@@ -12,6 +13,7 @@ use crate::shown::{add_shown, number, parts, push, push_line, push_named, push_r
 use ssim_desk::Step;
 use ssim_program::{Refusal, Store, StoreFault};
 use ssim_records::Bytes;
+use ssim_vectors::add_vector;
 use std::alloc::{AllocError, Global};
 
 /// The named lines, which last to the end of the input, and the state of the case that runs.
@@ -75,9 +77,11 @@ impl<'t> Case<'t> {
             "case" => self.begin(line),
             "let" => Ok(self.named.push(parts(rest)?)?),
             "|" => self.add(rest),
-            "=" => self.add(self.line_named(rest)?),
+            "=" => self.add_named(rest),
+            "times" => self.add_times(rest),
             "file" => self.keep(rest),
             "fails" => self.devices.let_fail(rest),
+            "stops" => self.devices.let_stop(rest),
             "guard" => self.begin_guard(rest),
             "cancels" => add_cancels(&mut self.bytes, rest),
             "desks" => self.start_desks(rest),
@@ -105,13 +109,34 @@ impl<'t> Case<'t> {
         Ok(())
     }
 
-    fn line_named(&self, name: &str) -> Result<&'t str, Fault> {
+    fn line_named(&self, name: &str) -> Option<&'t str> {
         for (other, text) in &self.named {
             if *other == name {
-                return Ok(*text);
+                return Some(*text);
             }
         }
+        None
+    }
+
+    /// Adds a named line, or the lines of a vector.
+    fn add_named(&mut self, name: &str) -> Result<(), Fault> {
+        if let Some(text) = self.line_named(name) {
+            return self.add(text);
+        }
+        self.last_line = self.bytes.len();
+        if add_vector(&mut self.bytes, name)? {
+            return Ok(());
+        }
         Err(Fault::Line)
+    }
+
+    /// Adds the same again and again.
+    fn add_times(&mut self, rest: &str) -> Result<(), Fault> {
+        let (count, name) = parts(rest)?;
+        for _ in 0..number(count)? {
+            self.add_named(name)?;
+        }
+        Ok(())
     }
 
     /// Changes the bytes that no file has yet.
@@ -162,7 +187,7 @@ impl<'t> Case<'t> {
     }
 
     fn load(&mut self, name: &str) -> Result<Vec<u8>, Fault> {
-        match self.store.load(self.alloc, name, 1_000_000) {
+        match self.store.load(self.alloc, name, 10_000_000) {
             Ok(bytes) => Ok(bytes),
             Err(StoreFault::Memory) => Err(Fault::Memory),
             Err(StoreFault::Fault) => Err(Fault::Line),
@@ -194,9 +219,41 @@ impl<'t> Case<'t> {
         match word {
             "run" => self.run(rest),
             "prefixes" => self.run_on_prefixes(rest),
+            "opens" | "reads" | "saves" | "exports" | "puts" => self.try_extents(word, rest),
             "show" | "size" | "equal" => self.show_file(word, rest),
             _ => self.ask(word, rest),
         }
+    }
+
+    /// Makes a call with devices that fail after each number of bytes, and prints the results.
+    fn try_extents(&mut self, word: &str, rest: &str) -> Result<(), Fault> {
+        let (how, rest) = parts(rest)?;
+        let (step, name) = parts(rest)?;
+        let (step, stops) = (number(step)?, how == "stop");
+        let out = &mut self.transcript;
+        match word {
+            "saves" => Call::Save(self.desks.desk(name)?).print(self.alloc, step, stops, out),
+            "exports" => Call::Export(self.desks.desk(name)?).print(self.alloc, step, stops, out),
+            _ => self.try_bytes(word, name, step, stops),
+        }
+    }
+
+    /// Makes a call on the bytes of files with such devices, and prints the results.
+    fn try_bytes(
+        &mut self,
+        word: &str,
+        names: &str,
+        step: usize,
+        stops: bool,
+    ) -> Result<(), Fault> {
+        let (name, table) = names.split_once(' ').unwrap_or((names, names));
+        let (bytes, table) = (self.load(name)?, self.load(table)?);
+        let call = match word {
+            "opens" => Call::Open(&bytes),
+            "reads" => Call::Read(&bytes, &table),
+            _ => Call::Put(&bytes),
+        };
+        call.print(self.alloc, step, stops, &mut self.transcript)
     }
 
     /// Calls the library, and prints the result. A guarded call that runs out of memory has to

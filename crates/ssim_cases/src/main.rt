@@ -4,14 +4,16 @@
 //!
 //! - `#`: a remark; `case TITLE`: a new case, with no file and no bytes. The line is printed.
 //! - `let NAME TEXT`: the name of a line. It lasts to the end of the input.
-//! - `| TEXT`, `= NAME`: a line is added to the bytes, shown or named; `^ COLUMN TEXT` writes over
-//!   the last one from a column on.
+//! - `| TEXT`, `= NAME`: a line is added to the bytes, shown or named; a name may also be that of a
+//!   worked vector, whose lines are then added. `times COUNT NAME` adds them so many times. `^ COLUMN
+//!   TEXT` writes over the last one from a column on.
 //! - `at OFFSET TEXT` writes over the bytes from an offset on; `cut COUNT`: the last bytes go.
 //! - `out`: what the last run printed is added to the bytes; `load NAME`: the bytes of a file are.
 //! - `file NAME`: the bytes become a file.
 //! - `fails out COUNT`: in the next run the standard output takes this many bytes and then fails;
 //!   `fails err COUNT`: so does the standard error; `fails flush always`: no flush of the standard
-//!   output works; `fails store memory`, `fails store always`: the store is out of memory, or gives
+//!   output works; `stops out COUNT`: the standard output takes this many bytes and then none of
+//!   each call; `fails store memory`, `fails store always`: the store is out of memory, or gives
 //!   no file.
 //! - `desks COUNT DATASET STATIONS`: new desks over the base of two files, numbered from 1; `more`
 //!   adds desks over another base; `copy DESK` adds one over a copy of the base of a desk.
@@ -46,6 +48,12 @@
 //!   `prefix`, and prints the results. Neighbouring lengths with the same result are printed
 //!   together.
 //!
+//! - `opens HOW STEP FILE`, `reads HOW STEP DATASET STATIONS`, `saves HOW STEP DESK`, `exports HOW
+//!   STEP DESK`, `puts HOW STEP FILE`: a desk file is opened, a base is read, a desk is saved or
+//!   exported, the bytes of a file are put in one call, each with a reader or writer of std that
+//!   moves so many bytes and then fails (`fail`) or moves none (`stop`), for each number of bytes
+//!   from 0 on in steps, up to all of them. Finding the end counts as a byte.
+//!
 //! In a text `<17>` is seventeen blanks, `<200*0>` two hundred zeros, `<x3C>` a byte by its
 //! hexadecimal digits. The transcript shows bytes in the same way, a line of them after `| `; `<>`
 //! at the end of a line says that no LF follows.
@@ -58,6 +66,7 @@ mod answer;
 mod case;
 mod desks;
 mod devices;
+mod extents;
 mod fault;
 mod memory_store;
 mod printed;
