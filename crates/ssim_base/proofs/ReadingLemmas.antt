@@ -307,7 +307,7 @@ ended-beyond limit told left left' start now r new done (BadType n) same t given
 ended-beyond limit told left left' start now r new done (BadColumn n column) same t given counts over = tt
 ended-beyond limit told left left' start now r new done (ReadFault n) same t given counts over = tt
 ended-beyond limit told left left' start now r new done (ReaderNeverEnds n) same t given counts over =
-    (new.came, subst (λ k. k < new.came) same over.0, came-in limit told left left' start now new.came r new done (Err (ReaderNeverEnds n)) refl t given counts)
+    came-in limit told left left' start now (limit + 1) r new done (Err (ReaderNeverEnds n)) (sym (over.0 ∙ ap (λ k. k + 1) same)) t given counts
 
 -- a record is never refused as 14
 pub never-refused : (limit : ℕ) (CameFrom : ℕ → Type 0) (n : ℕ) (earlier : List Record) (r : Record) (e : BaseFault) → IsRefused n earlier r e → NeverEnds limit CameFrom e
@@ -469,7 +469,7 @@ rest-ends limit told left left' start mid now came r old new (BadType n) same c 
 rest-ends limit told left left' start mid now came r old new (BadColumn n column) same c on counts h = tt
 rest-ends limit told left left' start mid now came r old new (ReadFault n) same c on counts h = tt
 rest-ends limit told left left' start mid now came r old new (ReaderNeverEnds n) same c on counts h =
-    (r.came, subst (λ k. k < r.came) same h.1, came-then told left left' start mid now came r.came c on counts)
+    subst (Came told left' start now) (h.1 ∙ ap (λ k. k + 1) same) (came-then told left left' start mid now came r.came c on counts)
 
 -- a fault of the rest says nothing of the bytes
 pub rest-other : (limit : ℕ) (told : Option (List ℕ)) (r : Reading) (old new : ℕ) (f : RecordFault) → RestFails r old new (Err f) → RefusesWhole limit told (Read f)

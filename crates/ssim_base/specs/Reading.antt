@@ -128,14 +128,14 @@ Came (Some left) None old new n = ⊥
 Came None (Some left') old new n = ⊥
 Came None None old new n = new % 2 ^ 128 ≡ (old + n) % 2 ^ 128
 
--- if the fault is 14, more bytes came than the limit
+-- if the fault is 14, one byte more came than the limit
 abbrev pub NeverEnds : ℕ → (ℕ → Type 0) → BaseFault → Type 0
 NeverEnds limit CameFrom fault.Memory = Unit {0}
 NeverEnds limit CameFrom (fault.Read (Short number)) = Unit {0}
 NeverEnds limit CameFrom (fault.Read (BadType number)) = Unit {0}
 NeverEnds limit CameFrom (fault.Read (BadColumn number column)) = Unit {0}
 NeverEnds limit CameFrom (fault.Read (ReadFault number)) = Unit {0}
-NeverEnds limit CameFrom (fault.Read (ReaderNeverEnds number)) = (n : ℕ) × (limit < n) × CameFrom n
+NeverEnds limit CameFrom (fault.Read (ReaderNeverEnds number)) = CameFrom (limit + 1)
 NeverEnds limit CameFrom (fault.Refused number refusal) = Unit {0}
 
 -- the number after the complete records of the bytes that came, which are all bytes but those that

@@ -85,7 +85,7 @@ counted_round = (refl, refl)
 
 -- not all of 849 bytes is read within a limit of 848
 too_many : NeverEnds 848 (λ count. count ≡ 849) (Read (ReaderNeverEnds 0))
-too_many = (849, omega arith, refl)
+too_many = refl
 
 -- ---- the lengths of the parts of a desk file: 11 + 10 + 4 * 201 + 11 + 8 + 4 are 848
 

@@ -69,9 +69,9 @@ FailsAs old new (desk_fault.File offset) = new ≡ old
 FailsAs old new desk_fault.Memory = new ≡ old
 FailsAs _ _ _ = ⊥
 
--- more bytes came than the limit if the fault is 14
+-- one byte more than the limit came if the fault is 14
 abbrev pub NeverEnds : ℕ → (ℕ → Type 0) → DeskFault → Type 0
-NeverEnds limit CameFrom (desk_fault.Read (ReaderNeverEnds n)) = (count : ℕ) × (limit < count) × CameFrom count
+NeverEnds limit CameFrom (desk_fault.Read (ReaderNeverEnds n)) = CameFrom (limit + 1)
 NeverEnds _ _ _ = Unit {0}
 
 -- the bytes that a reader has left, no more than the limit, are the file of the base and the

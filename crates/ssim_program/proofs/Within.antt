@@ -66,7 +66,7 @@ refuses_unread None name left left' start now old new (Read (ReadFault n)) refus
 refuses_unread (Some all) name left left' start now old new (Read (ReadFault n)) refusal opened before after failed over is = absurd (omega (arith, before, after, failed))
 refuses_unread files name left left' start now old new (Read (ReaderNeverEnds n)) refusal opened before after failed over is =
     let same : is.0 ≡ refusal = some_is refusal is.0 is.1 in
-    inr (subst (λ (r : Refusal). IsOfFile name r) same is.2, too_long files name left left' start now over.0 opened over.1 over.2)
+    inr (subst (λ (r : Refusal). IsOfFile name r) same is.2, too_long files name left left' start now (file_limit + 1) opened (omega arith) over)
 refuses_unread files name left left' start now old new (Refused n why) refusal opened before after failed over is = absurd cc
 
 -- there is no file of this name
@@ -95,9 +95,8 @@ bytes_refused bytes left' start now (Read (Short n)) within whole failed over = 
 bytes_refused bytes left' start now (Read (BadType n)) within whole failed over = inr (tt, whole.0)
 bytes_refused bytes left' start now (Read (BadColumn n column)) within whole failed over = inr (tt, whole.0)
 bytes_refused bytes left' start now (Read (ReadFault n)) within whole failed over = absurd (omega (arith, failed))
-bytes_refused bytes None start now (Read (ReaderNeverEnds n)) within whole failed over = absurd over.2
+bytes_refused bytes None start now (Read (ReaderNeverEnds n)) within whole failed over = absurd over
 bytes_refused bytes (Some x) start now (Read (ReaderNeverEnds n)) within whole failed over =
-    let more = over.1 in
-    let came = over.2 in
-    absurd (omega (arith, within, more, came))
+    let came = over in
+    absurd (omega (arith, within, came))
 bytes_refused bytes left' start now (Refused n why) within whole failed over = inr (tt, whole.0)

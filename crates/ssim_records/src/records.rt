@@ -139,6 +139,9 @@ impl Records {
         ensures ended { self.new.ended ≡ ending_of (given into.new result) }
         ensures limit { self.new.limit ≡ self.old.limit }
 
+        // At most one byte more than the limit is ever fetched.
+        ensures within { self.new.came ≤ self.new.limit + 1 }
+
         // If the contract knows the reader's bytes, the result is the next record of the bytes
         // ahead.
         ensures record { IfNone self.old.ended (GivesNext self.old (R.left reader.old) self.new (R.left reader.new) (given into.new result)) }
@@ -183,6 +186,9 @@ impl Records {
         ensures again { IfSome self.old.ended (λ e. (result ≡ last_answer e) × (self.new ≡ self.old) × (reader.new ≡ reader.old)) }
         ensures ended { self.new.ended ≡ ending_of result }
         ensures limit { self.new.limit ≡ self.old.limit }
+
+        // At most one byte more than the limit is ever fetched.
+        ensures within { self.new.came ≤ self.new.limit + 1 }
 
         // If the contract knows the reader's bytes, the result is the next record of the bytes
         // ahead.
