@@ -7,7 +7,7 @@ mod columns;
 mod devices;
 mod fields;
 
-use crate::data::{CARRIER, HEADER, LEG, TRAILER, with};
+use crate::data::with;
 use crate::pieces::{in_pieces, without_end};
 use ssim_records::*;
 

@@ -3,7 +3,7 @@
 
 ghost use Rattle.std.specs.Prelude.{◌≤◌, None};
 
-use crate::data::{HEADER, data_set};
+use crate::data::data_set;
 use crate::pieces::in_pieces;
 use ssim_base::{Base, BaseFault, Stations};
 use ssim_records::{DeviceFault, Sink, Source};

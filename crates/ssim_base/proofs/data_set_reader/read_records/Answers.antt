@@ -5,7 +5,7 @@ use Rattle.ssim_records.specs.Blocks.{CountsOn, Fetches}
 use Rattle.ssim_records.specs.Reading.{Answer, Counts, FailsAs, GivesNext, HasNumber, HoldsFew, NeverEnds, Reading, ending_of, given}
 use Rattle.ssim_records.proofs.Framing.{counts_none, counts_twice, fetches_first, fetches_on}
 use Rattle.ssim_base.specs.Base.{Done, kept}
-use Rattle.ssim_base.specs.Reading.{AreGivenOf}
+use Rattle.ssim_base.specs.Reading.{AreGivenOf, Came}
 use Rattle.ssim_base.proofs.ReadingLemmas.{Numbered, Told, came-in, ended-beyond, fails-after, never-refused, never-fails, step-refused, while-open, nothing, one-more, told-end, told-fault, told-first, told-step}
 use Rattle.ssim_base.proofs.data_set_reader.read_records.Goals as goal
 
@@ -101,7 +101,9 @@ returns-in_err-take-in-Some-clause-never_ends g c =
     let i = c.loop-number.invariant in
     let x : Numbered = (c.in-Ok.number, c.in-Some.record) in
     let refusal : c.from_residual.result ≡ Err c.in_err-take-in-Some.field-0.0 = search rules in
-    rw refusal (never-refused c.args.blocks.now.limit _ x.0 i.earlier x.1 c.in_err-take-in-Some.field-0.0 (c.in_err-take-in-Some.ensures.err i.earlier i.so_far.is_kept))
+    rw refusal (never-refused c.args.blocks.now.limit
+    (Came (g.R.Source.left c.args.reader.now) (g.R.Source.left c.next_into.new.reader) (g.R.Source.came c.args.reader.now) (g.R.Source.came c.next_into.new.reader))
+    x.0 i.earlier x.1 c.in_err-take-in-Some.field-0.0 (c.in_err-take-in-Some.ensures.err i.earlier i.so_far.is_kept))
 
 pub returns-in_err-take-in-Some-clause-fails_after : goal.returns-in_err-take-in-Some-clause-fails_after
 returns-in_err-take-in-Some-clause-fails_after g c =
