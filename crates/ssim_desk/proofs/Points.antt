@@ -57,6 +57,15 @@ member (y ∷ ys) x h = by (member ys x) (either (nat_eq x y) _ h)
     by rest (inl e) = (0, omega arith, sym (equal x y e))
     by rest (inr more) = let m = rest more in let lt = m.1 in (suc m.0, omega arith, m.2)
 
+-- if each element of one kind is of another, so is one of a list
+any_also : {X : Type 0} (p q : X → Bool) → ((x : X) → p x ≡ true → q x ≡ true) → (xs : List X) → list_any p xs ≡ true → list_any q xs ≡ true
+any_also p q also [] h = h
+any_also p q also (x ∷ xs) h = by (any_also p q also xs) (either (p x) _ h)
+  where
+    by : (list_any p xs ≡ true → list_any q xs ≡ true) → (p x ≡ true) ⊎ (list_any p xs ≡ true) → list_any q (x ∷ xs) ≡ true
+    by rest (inl yea) = left_true _ _ (also x yea)
+    by rest (inr more) = right_true (q x) _ (rest more)
+
 -- ---- both ends of the periods that count
 
 module _ {X : Type 0} (counts : X → Bool) (first end : X → ℕ) where
@@ -126,6 +135,11 @@ one_of day m n h = by (either (nat_eq day m) (nat_eq day n) h)
     by (inl e) = inl (equal day m e)
     by (inr e) = inr (equal day n e)
 
+-- whether the day is the first of the period of a sub-message that names the flight, or the day
+-- after its last
+abbrev is_sub_end : FlightNumber → ℕ → ResolvedSub → Bool
+is_sub_end flight day sub = is_sub_of flight sub && (nat_eq day sub.period.first || nat_eq day (sub.period.last + 1))
+
 module _ (base : BaseSeen) (entries : List Entry) (flight : FlightNumber) where
   abbrev leg_ends : List ℕ
   leg_ends = ends (is_leg_of flight) first_of end_of base.records
@@ -146,20 +160,60 @@ module _ (base : BaseSeen) (entries : List Entry) (flight : FlightNumber) where
   at_leg day (Segment r) h = absurd (let never : false ≡ true = h in cc)
   at_leg day (Trailer r) h = absurd (let never : false ≡ true = h in cc)
 
-  at_sub : (day : ℕ) (s : ResolvedSub) → is_sub_point flight day s ≡ true → (is_sub_of flight s ≡ true) × ((day ≡ s.period.first) ⊎ (day ≡ s.period.last + 1))
+  at_sub : (day : ℕ) (s : ResolvedSub) → is_sub_end flight day s ≡ true → (is_sub_of flight s ≡ true) × ((day ≡ s.period.first) ⊎ (day ≡ s.period.last + 1))
   at_sub day s h = let parts = both (is_sub_of flight s) _ h in (parts.0, one_of day s.period.first (s.period.last + 1) parts.1)
+
+  -- a point of a sub-message is an end of its period or of a row
+  sub_or_row : (day : ℕ) (subs : List ResolvedSub) → list_any (is_sub_point base.rows flight day) subs ≡ true → (list_any (is_sub_end flight day) subs ≡ true) ⊎ (list_any (is_row_point day) base.rows ≡ true)
+  sub_or_row day [] h = absurd (let never : false ≡ true = h in cc)
+  sub_or_row day (s ∷ subs) h = by (sub_or_row day subs) (either (is_sub_point base.rows flight day s) _ h)
+    where
+      there : Bool
+      there = nat_eq day s.period.first || nat_eq day (s.period.last + 1)
+
+      Ends : Type 0
+      Ends = (list_any (is_sub_end flight day) (s ∷ subs) ≡ true) ⊎ (list_any (is_row_point day) base.rows ≡ true)
+
+      later : (list_any (is_sub_end flight day) subs ≡ true) ⊎ (list_any (is_row_point day) base.rows ≡ true) → Ends
+      later (inl yea) = inl (right_true (is_sub_end flight day s) _ yea)
+      later (inr yea) = inr yea
+
+      at : is_sub_of flight s ≡ true → (there ≡ true) ⊎ (list_any (is_row_point day) base.rows ≡ true) → Ends
+      at named (inl yea) = inl (left_true _ _ (ap (λ b. b && there) named ∙ yea))
+      at named (inr yea) = inr yea
+
+      by : (list_any (is_sub_point base.rows flight day) subs ≡ true → (list_any (is_sub_end flight day) subs ≡ true) ⊎ (list_any (is_row_point day) base.rows ≡ true))
+          → (is_sub_point base.rows flight day s ≡ true) ⊎ (list_any (is_sub_point base.rows flight day) subs ≡ true) → Ends
+      by rest (inl yea) = let parts = both (is_sub_of flight s) _ yea in at parts.0 (either there _ parts.1)
+      by rest (inr more) = later (rest more)
 
   among : (day : ℕ) → is_desk_point base entries flight day ≡ true → list_any (nat_eq day) points ≡ true
   among day h = list_any-append (nat_eq day) leg_ends (sub_ends ++ row_ends) ∙ by (either (list_any (is_point flight day) base.records) _ h)
     where
-      rest : (list_any (is_sub_point flight day) (subs_of entries) ≡ true) ⊎ (list_any (is_row_point day) base.rows ≡ true) → list_any (nat_eq day) (sub_ends ++ row_ends) ≡ true
-      rest (inl yea) = list_any-append (nat_eq day) sub_ends row_ends ∙ left_true _ _ (at_end (is_sub_of flight) (λ s. s.period.first) (λ s. s.period.last + 1) day (is_sub_point flight day) (at_sub day) (subs_of entries) yea)
+      rest : (list_any (is_sub_end flight day) (subs_of entries) ≡ true) ⊎ (list_any (is_row_point day) base.rows ≡ true) → list_any (nat_eq day) (sub_ends ++ row_ends) ≡ true
+      rest (inl yea) = list_any-append (nat_eq day) sub_ends row_ends ∙ left_true _ _ (at_end (is_sub_of flight) (λ s. s.period.first) (λ s. s.period.last + 1) day (is_sub_end flight day) (at_sub day) (subs_of entries) yea)
       rest (inr yea) = list_any-append (nat_eq day) sub_ends row_ends ∙ right_true (list_any (nat_eq day) sub_ends) _ (at_end (λ (row : Row). true) (λ row. row.first) (λ row. row.last + 1) day (is_row_point day) (λ row e. (refl, one_of day row.first (row.last + 1) e)) base.rows yea)
 
-      by : (list_any (is_point flight day) base.records ≡ true) ⊎ ((list_any (is_sub_point flight day) (subs_of entries) || list_any (is_row_point day) base.rows) ≡ true)
+      by : (list_any (is_point flight day) base.records ≡ true) ⊎ (list_any (is_sub_point base.rows flight day) (subs_of entries) ≡ true)
           → (list_any (nat_eq day) leg_ends || list_any (nat_eq day) (sub_ends ++ row_ends)) ≡ true
       by (inl yea) = left_true _ _ (at_end (is_leg_of flight) first_of end_of day (is_point flight day) (at_leg day) base.records yea)
-      by (inr more) = right_true (list_any (nat_eq day) leg_ends) _ (rest (either (list_any (is_sub_point flight day) (subs_of entries)) _ more))
+      by (inr more) = right_true (list_any (nat_eq day) leg_ends) _ (rest (sub_or_row day (subs_of entries) more))
+
+  -- a flight with a point is named
+  named : (day : ℕ) → is_desk_point base entries flight day ≡ true → (list_any (is_leg_of flight) base.records || list_any (is_sub_of flight) (subs_of entries)) ≡ true
+  named day h = by (either (list_any (is_point flight day) base.records) _ h)
+    where
+      by : (list_any (is_point flight day) base.records ≡ true) ⊎ (list_any (is_sub_point base.rows flight day) (subs_of entries) ≡ true)
+          → (list_any (is_leg_of flight) base.records || list_any (is_sub_of flight) (subs_of entries)) ≡ true
+      by (inl yea) = left_true _ _ (any_also (is_point flight day) (is_leg_of flight) (λ r e. (at_leg day r e).0) base.records yea)
+      by (inr yea) = right_true (list_any (is_leg_of flight) base.records) _ (any_also (is_sub_point base.rows flight day) (is_sub_of flight) (λ s e. (both (is_sub_of flight s) _ e).0) (subs_of entries) yea)
+
+  -- a flight that is not named has no cuts
+  pub none_unnamed : (cuts : List ℕ) → AreDeskPoints base entries flight cuts → (list_any (is_leg_of flight) base.records || list_any (is_sub_of flight) (subs_of entries)) ≡ false → cuts ≡ []
+  none_unnamed [] are unnamed = refl
+  none_unnamed (cut ∷ cuts) are unnamed =
+      let never : true ≡ false = sym (named cut (are cut (0, omega arith, refl))) ∙ unnamed in
+      absurd (let clash : true ≡ false = never in cc)
 
   all_rows : (rows : List Row) → count_by (λ (row : Row). true) rows ≡ length rows
   all_rows rows = sym (is_count_by (λ (rs : List Row). length rs) (λ (row : Row). true) refl (λ y ys. omega arith) rows)
@@ -209,44 +263,31 @@ module _ (base : BaseSeen) (flight : FlightNumber) where
   pub more_at : (before : List Entry) (e : Entry) (old new : List ℕ) → AddsSubPoints base.rows e.dates flight old new → AreDeskPoints base before flight old → AreDeskPoints base (before ++ e ∷ []) flight new
   more_at before e old new adds are day has = by (adds day has)
     where
-      all : (list_any (is_sub_point flight day) (subs_of before) || list_any (is_sub_point flight day) (subs_of (e ∷ []))) ≡ list_any (is_sub_point flight day) (subs_of (before ++ e ∷ []))
-      all = sym (subs_more (is_sub_point flight day) before (e ∷ []))
+      point : ResolvedSub → Bool
+      point = is_sub_point base.rows flight day
+
+      all : (list_any point (subs_of before) || list_any point (subs_of (e ∷ []))) ≡ list_any point (subs_of (before ++ e ∷ []))
+      all = sym (subs_more point before (e ∷ []))
 
       at_records : Bool
       at_records = list_any (is_point flight day) base.records
 
-      at_rows : Bool
-      at_rows = list_any (is_row_point day) base.rows
+      put : (list_any point (subs_of before) || list_any point (subs_of (e ∷ []))) ≡ true → is_desk_point base (before ++ e ∷ []) flight day ≡ true
+      put yea = right_true at_records _ (sym all ∙ yea)
 
-      put : (list_any (is_sub_point flight day) (subs_of before) || list_any (is_sub_point flight day) (subs_of (e ∷ []))) ≡ true → is_desk_point base (before ++ e ∷ []) flight day ≡ true
-      put yea = right_true at_records _ (left_true _ at_rows (sym all ∙ yea))
-
-      by_old : (at_records ≡ true) ⊎ ((list_any (is_sub_point flight day) (subs_of before) || at_rows) ≡ true) → is_desk_point base (before ++ e ∷ []) flight day ≡ true
+      by_old : (at_records ≡ true) ⊎ (list_any point (subs_of before) ≡ true) → is_desk_point base (before ++ e ∷ []) flight day ≡ true
       by_old (inl yea) = left_true at_records _ yea
-      by_old (inr rest) = by_rest (either (list_any (is_sub_point flight day) (subs_of before)) at_rows rest)
-        where
-          by_rest : (list_any (is_sub_point flight day) (subs_of before) ≡ true) ⊎ (at_rows ≡ true) → is_desk_point base (before ++ e ∷ []) flight day ≡ true
-          by_rest (inl yea) = put (left_true _ _ yea)
-          by_rest (inr yea) = right_true at_records _ (right_true (list_any (is_sub_point flight day) (subs_of (before ++ e ∷ []))) at_rows yea)
+      by_old (inr yea) = put (left_true _ _ yea)
 
-      by_new : (list_any (is_sub_point flight day) e.dates ≡ true) ⊎ (at_rows ≡ true) → is_desk_point base (before ++ e ∷ []) flight day ≡ true
-      by_new (inl yea) = put (right_true (list_any (is_sub_point flight day) (subs_of before)) _ (list_any-append (is_sub_point flight day) e.dates [] ∙ left_true _ _ yea))
-      by_new (inr yea) = right_true at_records _ (right_true (list_any (is_sub_point flight day) (subs_of (before ++ e ∷ []))) at_rows yea)
-
-      by : Contains old day ⊎ IsTrue (list_any (is_sub_point flight day) e.dates || at_rows) → is_desk_point base (before ++ e ∷ []) flight day ≡ true
+      by : Contains old day ⊎ IsTrue (list_any point e.dates) → is_desk_point base (before ++ e ∷ []) flight day ≡ true
       by (inl kept) = by_old (either at_records _ (are day kept))
-      by (inr fresh) = by_new (either (list_any (is_sub_point flight day) e.dates) at_rows fresh)
+      by (inr fresh) = put (right_true (list_any point (subs_of before)) _ (list_any-append point e.dates [] ∙ left_true _ _ fresh))
 
 -- ---- one sub-message
 
 -- a row that divides an action's dates is a row point
 row_point : (action : Action) (day : ℕ) (rows : List Row) → list_any (divides action day) rows ≡ true → list_any (is_row_point day) rows ≡ true
-row_point action day [] h = h
-row_point action day (row ∷ rows) h = by (row_point action day rows) (either (divides action day row) _ h)
-  where
-    by : (list_any (divides action day) rows ≡ true → list_any (is_row_point day) rows ≡ true) → (divides action day row ≡ true) ⊎ (list_any (divides action day) rows ≡ true) → list_any (is_row_point day) (row ∷ rows) ≡ true
-    by rest (inl yea) = left_true _ _ (both (is_named action row.station) (is_row_point day row) yea).1
-    by rest (inr more) = right_true (is_row_point day row) _ (rest more)
+row_point action day = any_also (divides action day) (is_row_point day) (λ row h. (both (is_named action row.station) (is_row_point day row) h).1)
 
 -- what a sub-message adds, stated of the sub-message as it resolves
 pub adds_told : (rows : List Row) (action : Action) (sub : ResolvedSub) (flight : FlightNumber) (period : DayRange) (g : FlightNumber) (old new : List ℕ) → flight ≡ sub.flight → period ≡ sub.period → IsFlight sub.flight → IsFlight g
@@ -259,13 +300,19 @@ adds_told rows action sub flight period g old new same_flights same_period is is
     ends_told : (nat_eq day period.first || nat_eq day (period.last + 1)) ≡ true → (nat_eq day sub.period.first || nat_eq day (sub.period.last + 1)) ≡ true
     ends_told yea = subst (λ (p : DayRange). (nat_eq day p.first || nat_eq day (p.last + 1)) ≡ true) same_period yea
 
-    at : place_of flight ≡ place_of g → ((nat_eq day period.first || nat_eq day (period.last + 1)) ≡ true) ⊎ (list_any (divides action day) rows ≡ true) → (list_any (is_sub_point g day) (sub ∷ []) || list_any (is_row_point day) rows) ≡ true
-    at same (inl yea) = left_true _ _ (left_true (is_sub_point g day sub) false (ap (λ b. b && (nat_eq day sub.period.first || nat_eq day (sub.period.last + 1))) (flights same) ∙ ends_told yea))
-    at same (inr yea) = right_true (list_any (is_sub_point g day) (sub ∷ [])) _ (row_point action day rows yea)
+    there : Bool
+    there = (nat_eq day sub.period.first || nat_eq day (sub.period.last + 1)) || list_any (is_row_point day) rows
 
-    by : Contains old day ⊎ ((place_of flight ≡ place_of g) × IsTrue (is_point_of rows action period day)) → Contains old day ⊎ IsTrue (list_any (is_sub_point g day) (sub ∷ []) || list_any (is_row_point day) rows)
+    told : ((nat_eq day period.first || nat_eq day (period.last + 1)) ≡ true) ⊎ (list_any (divides action day) rows ≡ true) → there ≡ true
+    told (inl yea) = left_true _ _ (ends_told yea)
+    told (inr yea) = right_true (nat_eq day sub.period.first || nat_eq day (sub.period.last + 1)) _ (row_point action day rows yea)
+
+    at : place_of flight ≡ place_of g → there ≡ true → list_any (is_sub_point rows g day) (sub ∷ []) ≡ true
+    at same yea = left_true (is_sub_point rows g day sub) false (ap (λ b. b && there) (flights same) ∙ yea)
+
+    by : Contains old day ⊎ ((place_of flight ≡ place_of g) × IsTrue (is_point_of rows action period day)) → Contains old day ⊎ IsTrue (list_any (is_sub_point rows g day) (sub ∷ []))
     by (inl kept) = inl kept
-    by (inr (same, fresh)) = inr (at same (either (nat_eq day period.first || nat_eq day (period.last + 1)) _ fresh))
+    by (inr (same, fresh)) = inr (at same (told (either (nat_eq day period.first || nat_eq day (period.last + 1)) _ fresh)))
 
 -- cuts that are kept
 pub adds_none : (rows : List Row) (subs : List ResolvedSub) (g : FlightNumber) (old : List ℕ) → AddsSubPoints rows subs g old old
@@ -276,14 +323,13 @@ pub adds_next : (rows : List Row) (subs : List ResolvedSub) (sub : ResolvedSub) 
     → AddsSubPoints rows subs g old between → AddsSubPoints rows (sub ∷ []) g between new → AddsSubPoints rows subs g old new
 adds_next rows subs sub g place old between new within is before one day has = by (one day has)
   where
-    at : ((is_sub_point g day sub || false) ≡ true) ⊎ (list_any (is_row_point day) rows ≡ true) → IsTrue (list_any (is_sub_point g day) subs || list_any (is_row_point day) rows)
-    at (inl yea) = left_true _ _ (list_any_at (is_sub_point g day) subs place sub within (ap (is_sub_point g day) (sym is) ∙ first (is_sub_point g day sub) yea))
-      where
-        first : (b : Bool) → (b || false) ≡ true → b ≡ true
-        first true h = refl
-        first false h = h
-    at (inr yea) = right_true (list_any (is_sub_point g day) subs) _ yea
+    point : ResolvedSub → Bool
+    point = is_sub_point rows g day
 
-    by : Contains between day ⊎ IsTrue (list_any (is_sub_point g day) (sub ∷ []) || list_any (is_row_point day) rows) → Contains old day ⊎ IsTrue (list_any (is_sub_point g day) subs || list_any (is_row_point day) rows)
+    first : (b : Bool) → (b || false) ≡ true → b ≡ true
+    first true h = refl
+    first false h = h
+
+    by : Contains between day ⊎ IsTrue (list_any point (sub ∷ [])) → Contains old day ⊎ IsTrue (list_any point subs)
     by (inl kept) = before day kept
-    by (inr fresh) = inr (at (either (list_any (is_sub_point g day) (sub ∷ [])) _ fresh))
+    by (inr fresh) = inr (list_any_at point subs place sub within (ap point (sym is) ∙ first (point sub) fresh))

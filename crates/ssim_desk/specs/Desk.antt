@@ -5,7 +5,7 @@ use Rattle.std.specs.{FinMap.get, Io.KnownBytes.Appends, List.{count_by, flat_ma
 use Rattle.ssim_periods.specs.Days.{each_day}
 use Rattle.ssim_base.specs.{BaseSeen.{BaseSeen, is_leg_of}, Sinks.TakesFront, Stations.Row, Timetable.{Days, Legs, same_flight}}
 use Rattle.ssim_base.specs.Export as exported
-use Rattle.ssim_schedule.specs.{DivisionPoints.is_point, declared.export.ExportFault.ExportFault}
+use Rattle.ssim_schedule.specs.{DivisionPoints.is_point, Schedule.Table, declared.export.ExportFault.ExportFault}
 use Rattle.ssim_schedule.specs.declared.export.ExportFault.TheVariants as export
 use Rattle.ssim_base.specs.{declared.sub_message.ResolvedSub.ResolvedSub}
 use Rattle.ssim_schedule.specs.{declared.finding.Finding.Finding}
@@ -16,6 +16,12 @@ use Rattle.ssim_desk.specs.{Meaning.{Exports, found_by, left_by}, declared.desk.
 use Rattle.ssim_desk.specs.declared.steps.Answer.{Answer}
 use Rattle.ssim_desk.specs.declared.steps.Answer.TheVariants.{Taken, Repeated, Merged, Refused}
 use Rattle.ssim_desk.specs.declared.desk.Took.TheVariants as took
+
+-- what contracts see of a desk that keeps its timetable: what they see of any desk, and its latest
+-- schedule, which has the itineraries and cuts of each flight
+pub record ScheduledDesk : Type 0 where
+  pub seen : DeskSeen
+  pub schedule : Table
 
 -- the `Answer` for a result of `take`
 abbrev pub take_answer : Result Took DeskFault → Answer
@@ -98,20 +104,21 @@ subs_of entries = flat_map (λ e. e.dates) entries
 abbrev pub is_sub_of : FlightNumber → ResolvedSub → Bool
 is_sub_of flight sub = same_flight sub.flight flight
 
--- whether the day is the first of the period of a sub-message that names the flight, or the day
--- after its last
-abbrev pub is_sub_point : FlightNumber → ℕ → ResolvedSub → Bool
-is_sub_point flight day sub = is_sub_of flight sub && (nat_eq day sub.period.first || nat_eq day (sub.period.last + 1))
-
 -- whether the day is the first of a station row, or the day after its last
 abbrev pub is_row_point : ℕ → Row → Bool
 is_row_point day row = nat_eq day row.first || nat_eq day (row.last + 1)
 
--- whether the day is a division point of the flight: of a leg record, of a sub-message that names
--- it, or of a station row
+-- whether the sub-message names the flight, and the day is the first of its period or of a station
+-- row, or the day after the last of one of these
+abbrev pub is_sub_point : List Row → FlightNumber → ℕ → ResolvedSub → Bool
+is_sub_point rows flight day sub =
+    is_sub_of flight sub && ((nat_eq day sub.period.first || nat_eq day (sub.period.last + 1)) || list_any (is_row_point day) rows)
+
+-- whether the day is a division point of the flight: of a leg record, or of a sub-message that
+-- names it
 abbrev pub is_desk_point : BaseSeen → List Entry → FlightNumber → ℕ → Bool
 is_desk_point base entries flight day =
-    list_any (is_point flight day) base.records || (list_any (is_sub_point flight day) (subs_of entries) || list_any (is_row_point day) base.rows)
+    list_any (is_point flight day) base.records || list_any (is_sub_point base.rows flight day) (subs_of entries)
 
 -- each cut is a division point of the flight
 abbrev pub AreDeskPoints : BaseSeen → List Entry → FlightNumber → List ℕ → Type 0
@@ -122,3 +129,8 @@ AreDeskPoints base entries flight cuts = (cut : ℕ) → Contains cuts cut → I
 abbrev pub point_bound : BaseSeen → List Entry → FlightNumber → ℕ
 point_bound base entries flight =
     2 * (count_by (is_leg_of flight) base.records + count_by (is_sub_of flight) (subs_of entries) + length base.rows)
+
+-- whether a leg record of the base, or a sub-message that is held, names the flight
+abbrev pub is_flight_named : DeskSeen → FlightNumber → Bool
+is_flight_named desk flight =
+    list_any (is_leg_of flight) desk.base.records || list_any (is_sub_of flight) (subs_of desk.held)

@@ -1,17 +1,18 @@
 //! A desk: a base and messages by reference.
 
-ghost use Rattle.std.specs.Prelude.{◌≡◌, ◌⊎◌, ◌++◌, ◌<◌, ◌≤◌, ℕ, All, Contains, [], ◌∷◌, length, take, drop, Ok, IfOk, IfErr, OnErr, OnOk};
+ghost use Rattle.std.specs.Prelude.{◌≡◌, ◌⊎◌, ◌++◌, ◌<◌, ◌≤◌, ℕ, All, Contains, [], ◌∷◌, false, length, take, drop, Ok, IfOk, IfErr, OnErr, OnOk};
 ghost use Rattle.std.specs.Io.KnownBytes.{Appends};
 ghost use Rattle.std.specs.List.Sorted.{IsStrictlyIncreasing};
 ghost use Rattle.ssim_values.specs.Calendar.{weekday};
 ghost use Rattle.ssim_base.specs.Reading.{Came};
 ghost use Rattle.ssim_schedule.specs.Plan.{ReadsBackBase, RefusesBase, WritesBase};
+ghost use Rattle.ssim_schedule.specs.Schedule.{cuts_in};
 ghost use Rattle.ssim_base.specs.Sinks.{CountsFault, TakesFront};
 ghost use Rattle.ssim_held.specs.File.{CanBeSaved, desk_file};
 ghost use Rattle.ssim_held.specs.Opening.{FailsAs, NeverEnds, Opens, RefusesFile};
 ghost use Rattle.ssim_held.specs.Entries.{AreEntries, AreRising, IsEntry, map_of, state_of};
 ghost use Rattle.ssim_held.specs.Ordered.{Belongs};
-ghost use Rattle.ssim_desk.specs.Desk.{AreDeskPoints, IsReplayed, WritesDesk, at_rest, days_of_desk, finding_lines, merge_answer, point_bound, take_answer, timetable_of};
+ghost use Rattle.ssim_desk.specs.Desk.{AreDeskPoints, IsReplayed, WritesDesk, at_rest, days_of_desk, finding_lines, is_flight_named, merge_answer, point_bound, take_answer, timetable_of};
 ghost use Rattle.ssim_desk.specs.internal.Changes.{IsReplaced};
 ghost use Rattle.ssim_desk.specs.Meaning.{Finds, Means, Timetable, found_by};
 ghost use Rattle.ssim_desk.specs.Steps.{Merges, Takes};
@@ -50,12 +51,15 @@ pub struct Desk {
 }
 
 impl Model for Desk {
-    ghost use Rattle.ssim_held.specs.Entries.{DeskSeen};
+    ghost use Rattle.ssim_desk.specs.Desk.{ScheduledDesk};
     ghost use Rattle.ssim_desk.specs.internal.Changes.{IsHistory};
 
-    ghost Value = { DeskSeen };
+    ghost Value = { ScheduledDesk };
 
-    ghost view = { λ d. let h = d.holdings in record { base = h.base; held = h.held; applied = d.history.applied } };
+    ghost view = { λ d. let h = d.holdings in record {
+      seen = record { base = h.base; held = h.held; applied = d.history.applied };
+      schedule = d.history.latest;
+    } };
 
     ghost invariant = { λ d. let h = d.holdings in IsHistory h.base h.held d.history };
 }
@@ -63,7 +67,7 @@ impl Model for Desk {
 impl Desk {
     /// A desk that holds nothing. The base is freed if there is no memory.
     pub fn start(alloc: Global, base: Base) -> Result<Desk, Memory>
-        ensures { IfOk result (λ desk. desk ≡ record { base = base; held = []; applied = 0 }) }
+        ensures { IfOk result (λ desk. desk.seen ≡ record { base = base; held = []; applied = 0 }) }
     {
         Desk::over(Holdings::over(alloc, base))
     }
@@ -76,8 +80,8 @@ impl Desk {
     /// came than the limit, both with record number 0, and 62 if the bytes are no desk file, with
     /// the number of bytes before the first invalid element.
     pub fn open<R: Source>(alloc: Global, reader: &mut R, limit: u64) -> Result<Desk, DeskFault>
-        ensures ok { IfOk result (λ desk. Opens limit (R.left reader.old) desk.base desk.held) }
-        ensures applied { IfOk result (λ desk. desk.applied ≡ length desk.held) }
+        ensures ok { IfOk result (λ desk. Opens limit (R.left reader.old) desk.seen.base desk.seen.held) }
+        ensures applied { IfOk result (λ desk. desk.seen.applied ≡ length desk.seen.held) }
         ensures err { IfErr result (RefusesFile limit (R.left reader.old)) }
         ensures no_failure { IfOk result (λ _. R.failures reader.new ≡ R.failures reader.old) }
         ensures failure { IfErr result (λ e. FailsAs (R.failures reader.old) (R.failures reader.new) e) }
@@ -90,15 +94,15 @@ impl Desk {
 
     /// The base from which the desk began. No call changes it.
     pub fn base(&self) -> &Base
-        ensures { result.now ≡ self.now.base }
+        ensures { result.now ≡ self.now.seen.base }
     {
         self.holdings.base()
     }
 
     /// The messages that are held, in order of reference.
     pub fn held(&self) -> &[Held]
-        ensures value { result.now ≡ self.now.held }
-        ensures kept { AreEntries self.now.base.records self.now.held }
+        ensures value { result.now ≡ self.now.seen.held }
+        ensures kept { AreEntries self.now.seen.base.records self.now.seen.held }
         ensures rising { AreRising result.now }
     {
         self.holdings.held()
@@ -107,7 +111,7 @@ impl Desk {
     /// How many messages the latest `take` that returned `Taken`, or the latest successful `merge`,
     /// applied to a schedule; 0 at the start.
     pub fn applied(&self) -> u64
-        ensures { result ≡ self.now.applied }
+        ensures { result ≡ self.now.seen.applied }
     {
         self.history.applied
     }
@@ -118,9 +122,9 @@ impl Desk {
     /// resolve, 60 if another message is held under its reference. The desk changes only if the
     /// message was new.
     pub fn take(&mut self, text: &[u8]) -> Result<Took, DeskFault>
-        ensures takes { Takes (state_of self.old) text.now (take_answer result) (map_of self.new.held) }
-        ensures base { self.new.base ≡ self.old.base }
-        ensures taken { result ≡ Ok Took.Taken → IsReplayed self.old self.new }
+        ensures takes { Takes (state_of self.old.seen) text.now (take_answer result) (map_of self.new.seen.held) }
+        ensures base { self.new.seen.base ≡ self.old.seen.base }
+        ensures taken { result ≡ Ok Took.Taken → IsReplayed self.old.seen self.new.seen }
         ensures repeated { result ≡ Ok Took.Repeated → self.new ≡ self.old }
         ensures err { OnErr result (self.new ≡ self.old) }
     {
@@ -139,9 +143,10 @@ impl Desk {
     /// Returns 61 if it has another base, else 60 with the first reference under which the two hold
     /// different messages. The desk changes only if the other holds a message that is new.
     pub fn merge(&mut self, other: &Desk) -> Result<(), DeskFault>
-        ensures merges { Merges (state_of self.old) (state_of other.now) (merge_answer result) (map_of self.new.held) }
-        ensures base { self.new.base ≡ self.old.base }
-        ensures replayed { OnOk result (IsReplayed self.old self.new ⊎ (self.new ≡ at_rest self.old)) }
+        ensures merges { Merges (state_of self.old.seen) (state_of other.now.seen) (merge_answer result) (map_of self.new.seen.held) }
+        ensures base { self.new.seen.base ≡ self.old.seen.base }
+        ensures replayed { OnOk result (IsReplayed self.old.seen self.new.seen
+            ⊎ (self.new ≡ record self.old { seen = at_rest self.old.seen })) }
         ensures err { OnErr result (self.new ≡ self.old) }
     {
         let change = self.holdings.change_by(&other.holdings)?;
@@ -159,9 +164,9 @@ impl Desk {
 
     /// The legs of a flight on a date of origin, by leg sequence; none if it does not fly.
     pub fn itinerary(&self, flight: &Flight, day: Day) -> &[PlacedLeg]
-        ensures value { result.now ≡ timetable_of self.now flight.now day }
-        ensures means { Means (state_of self.now) (timetable_of self.now) }
-        ensures only { (timetable : Timetable) → Means (state_of self.now) timetable → result.now ≡ timetable flight.now day }
+        ensures value { result.now ≡ timetable_of self.now.seen flight.now day }
+        ensures means { Means (state_of self.now.seen) (timetable_of self.now.seen) }
+        ensures only { (timetable : Timetable) → Means (state_of self.now.seen) timetable → result.now ≡ timetable flight.now day }
     {
         // No effect at run time. The proof reads from these uses that the flight and the day
         // exist, and that the messages are those of a desk.
@@ -173,19 +178,21 @@ impl Desk {
     }
 
     /// The rising days at which a stored range of the flight begins or ends; none for a flight that
-    /// was never named.
+    /// no leg record and no message names.
     pub fn cuts(&self, flight: &Flight) -> &[u32]
+        ensures value { result.now ≡ cuts_in self.now.schedule flight.now }
         ensures rising { IsStrictlyIncreasing result.now }
         ensures in_calendar { All (λ cut. cut ≤ 36525) result.now }
 
-        // Each is the first day or the day after the last of a leg record of the flight, a
-        // sub-message that names it, or a station row.
-        ensures points { AreDeskPoints self.now.base self.now.held flight.now result.now }
-        ensures bound { length result.now ≤ point_bound self.now.base self.now.held flight.now }
+        // Each is the first day or the day after the last of a leg record of the flight, or of a
+        // sub-message that names it; or, if there is such a sub-message, of a station row.
+        ensures points { AreDeskPoints self.now.seen.base self.now.seen.held flight.now result.now }
+        ensures bound { length result.now ≤ point_bound self.now.seen.base self.now.seen.held flight.now }
+        ensures unnamed { is_flight_named self.now.seen flight.now ≡ false → result.now ≡ [] }
 
         // Two days of one weekday have the same itinerary if no cut is after the earlier and not
         // after the later.
-        ensures weekly { (m n : ℕ) → m ≤ n → n < 36525 → weekday m ≡ weekday n → ((cut : ℕ) → Contains result.now cut → m < cut → n < cut) → timetable_of self.now flight.now m ≡ timetable_of self.now flight.now n }
+        ensures weekly { (m n : ℕ) → m ≤ n → n < 36525 → weekday m ≡ weekday n → ((cut : ℕ) → Contains result.now cut → m < cut → n < cut) → timetable_of self.now.seen flight.now m ≡ timetable_of self.now.seen flight.now n }
     {
         // No effect at run time. The proof reads from these uses that the flight exists.
         let _ = flight.number();
@@ -196,8 +203,8 @@ impl Desk {
     /// A line for each sub-message that is held, in order: what it found on the dates of its
     /// period.
     pub fn findings(&self) -> Result<Vec<FindingLine>, Memory>
-        ensures lines { IfOk result (λ lines. lines.items ≡ finding_lines self.now) }
-        ensures finds { IfOk result (λ lines. Finds (state_of self.now) (found_by self.now.base self.now.held)) }
+        ensures lines { IfOk result (λ lines. lines.items ≡ finding_lines self.now.seen) }
+        ensures finds { IfOk result (λ lines. Finds (state_of self.now.seen) (found_by self.now.seen.base self.now.seen.held)) }
     {
         let mut lines = Vec::new(self.holdings.allocator());
         push_lines(&mut lines, self.holdings.held(), &self.history.found)?;
@@ -212,11 +219,11 @@ impl Desk {
     /// and 90 if there is no memory. None of them writes a byte. 52: the sink failed; it has taken
     /// a prefix of the export.
     pub fn export<W: Sink>(&self, out: &mut W) -> Result<(), ExportFault>
-        ensures ok { OnOk result (WritesBase W.taken W.failures self.now.base.records (days_of_desk self.now) out.old out.new) }
-        ensures err { IfErr result (λ fault. RefusesBase W.taken W.failures self.now.base.records (days_of_desk self.now) out.old out.new fault) }
+        ensures ok { OnOk result (WritesBase W.taken W.failures self.now.seen.base.records (days_of_desk self.now.seen) out.old out.new) }
+        ensures err { IfErr result (λ fault. RefusesBase W.taken W.failures self.now.seen.base.records (days_of_desk self.now.seen) out.old out.new fault) }
         ensures device { W.device out.new ≡ W.device out.old }
-        ensures reads_back { OnOk result (ReadsBackBase W.taken self.now.base.records (days_of_desk self.now) out.old out.new) }
-        ensures exports { WritesDesk W.taken (state_of self.now) out.old out.new result }
+        ensures reads_back { OnOk result (ReadsBackBase W.taken self.now.seen.base.records (days_of_desk self.now.seen) out.old out.new) }
+        ensures exports { WritesDesk W.taken (state_of self.now.seen) out.old out.new result }
     {
         // No effect at run time. The proof reads from this use that the messages are those of a
         // desk.
@@ -229,9 +236,9 @@ impl Desk {
     ///
     /// Fails only if the sink fails, with 52. The sink has then taken a prefix of the file.
     pub fn save<W: Sink>(&self, out: &mut W) -> Result<(), WriteFault>
-        ensures ok { OnOk result (Appends (W.taken out.old) (W.taken out.new) (desk_file self.now.base self.now.held)) }
-        ensures can_be_saved { OnOk result (CanBeSaved self.now.base self.now.held) }
-        ensures err { OnErr result (TakesFront (desk_file self.now.base self.now.held) (W.taken out.old) (W.taken out.new)) }
+        ensures ok { OnOk result (Appends (W.taken out.old) (W.taken out.new) (desk_file self.now.seen.base self.now.seen.held)) }
+        ensures can_be_saved { OnOk result (CanBeSaved self.now.seen.base self.now.seen.held) }
+        ensures err { OnErr result (TakesFront (desk_file self.now.seen.base self.now.seen.held) (W.taken out.old) (W.taken out.new)) }
         ensures failures { CountsFault (W.failures out.old) (W.failures out.new) result }
         ensures device { W.device out.new ≡ W.device out.old }
     {
@@ -240,7 +247,7 @@ impl Desk {
 
     // The desk that holds this. All its messages are applied.
     fn over(holdings: Holdings) -> Result<Desk, Memory>
-        ensures { IfOk result (λ desk. desk ≡ record { base = holdings.base; held = holdings.held; applied = length holdings.held }) }
+        ensures { IfOk result (λ desk. desk.seen ≡ record { base = holdings.base; held = holdings.held; applied = length holdings.held }) }
     {
         let alloc = holdings.allocator();
         let history = History::of(alloc, holdings.base(), holdings.held())?;
@@ -249,9 +256,9 @@ impl Desk {
 
     // Inserts a new message at its position.
     fn insert(&mut self, at: usize, new: Held) -> Result<(), Memory>
-        requires gap { Belongs self.old.held new.reference at at }
-        requires entry { IsEntry self.old.base.records new }
-        ensures ok { OnOk result (IsReplaced self.old at (new ∷ drop at self.old.held) self.new) }
+        requires gap { Belongs self.old.seen.held new.reference at at }
+        requires entry { IsEntry self.old.seen.base.records new }
+        ensures ok { OnOk result (IsReplaced self.old.seen at (new ∷ drop at self.old.seen.held) self.new.seen) }
         ensures err { OnErr result (self.new ≡ self.old) }
     {
         let alloc = self.holdings.allocator();
@@ -268,9 +275,9 @@ impl Desk {
 
     // Replaces the messages from position `at` on.
     fn replace_from(&mut self, at: usize, rest: Vec<Held>) -> Result<(), Memory>
-        requires within { at ≤ length self.old.held }
-        requires entries { AreEntries self.old.base.records (take at self.old.held ++ rest.items) }
-        ensures ok { OnOk result (IsReplaced self.old at rest.items self.new) }
+        requires within { at ≤ length self.old.seen.held }
+        requires entries { AreEntries self.old.seen.base.records (take at self.old.seen.held ++ rest.items) }
+        ensures ok { OnOk result (IsReplaced self.old.seen at rest.items self.new.seen) }
         ensures err { OnErr result (self.new ≡ self.old) }
     {
         let alloc = self.holdings.allocator();

@@ -86,6 +86,7 @@ impl History {
     pub(crate) fn reserve(&mut self, replay: &Replay) -> Result<(), Memory>
         ensures room { OnOk result (HasRoom self.new replay.now) }
         ensures same { (base : BaseSeen) (held : List Entry) → IsHistory base held self.old → IsHistory base held self.new }
+        ensures latest { self.new.latest ≡ self.old.latest }
         ensures applied { self.new.applied ≡ self.old.applied }
     {
         self.found.reserve(replay.found.len())?;

@@ -35,7 +35,7 @@ pub trait Holder {
 }
 
 impl Holder for Desk {
-    ghost seen = { λ desk. desk };
+    ghost seen = { λ desk. desk.seen };
 
     fn take(&mut self, text: &[u8]) -> Result<Took, DeskFault> {
         Desk::take(self, text)

@@ -5,7 +5,7 @@ use Rattle.std.proofs.lemmas.Bool.Decides.{nat_tests}
 use Rattle.std.proofs.lemmas.Grind.{get_or-set_at}
 use Rattle.std.proofs.lemmas.List.{get_or-set_other}
 use Rattle.std.proofs.lemmas.List.Folds.{list_any_more}
-use Rattle.std.specs.List.{filter}
+use Rattle.std.specs.List.{filter, list_any}
 use Rattle.ssim_values.specs.Flight.{FlightNumber, IsFlight}
 use Rattle.ssim_periods.specs.Calendar.{holds}
 use Rattle.ssim_periods.specs.Days.{each_day}
@@ -13,6 +13,7 @@ use Rattle.ssim_periods.proofs.DayLemmas.{each_day-same}
 use Rattle.ssim_records.specs.Leg.{Name}
 use Rattle.ssim_records.specs.declared.record.Record.{Record}
 use Rattle.ssim_records.specs.declared.record.Record.TheVariants.{Header, Carrier, Leg, Segment, Trailer}
+use Rattle.ssim_schedule.specs.DivisionPoints.{AreAtPoints, is_point}
 use Rattle.ssim_schedule.specs.FlightSet.{is_marked, is_record_of}
 use Rattle.ssim_base.specs.ReadBack.{AreInOrder, place_of}
 use Rattle.ssim_base.specs.Timetable.{Above, LegValue, Legs, days_of, is_among, itinerary, itinerary_among, leg_of, period_of, placed, same_flight, same_name, tails_of}
@@ -127,6 +128,59 @@ module _ (p : FlightNumber → Bool) where
           ∙ ap (λ b. if b then itinerary later g n else []) is_not
           ∙ ap (λ b. if b then (if on then placed (leg_of r later) (itinerary later g n) else itinerary later g n) else []) (sym is_not)
       by false false e f rest = rest
+
+  -- the division points of a flight of the set are the same, and a flight that is not in it has none
+  points_kept : (rs : List Record) (g : FlightNumber) (day : ℕ) → list_any (is_point g day) (those rs) ≡ (p g && list_any (is_point g day) rs)
+  points_kept [] g day = none (p g)
+    where
+      none : (b : Bool) → false ≡ (b && false)
+      none true = refl
+      none false = refl
+  points_kept (Header r ∷ later) g day = points_kept later g day
+  points_kept (Carrier r ∷ later) g day = points_kept later g day
+  points_kept (Trailer r ∷ later) g day = points_kept later g day
+  points_kept (Segment r ∷ later) g day = by (p r.name.flight) (points_kept later g day)
+    where
+      by : (b : Bool) → list_any (is_point g day) (those later) ≡ (p g && list_any (is_point g day) later)
+          → list_any (is_point g day) (cond b (Segment r ∷ those later) (those later)) ≡ (p g && list_any (is_point g day) later)
+      by true rest = rest
+      by false rest = rest
+  points_kept (Leg r ∷ later) g day = by (p r.name.flight) (same_flight r.name.flight g) refl refl (points_kept later g day)
+    where
+      at : Bool
+      at = nat_eq day r.first || nat_eq day ((period_of r).last + 1)
+
+      any : Bool
+      any = list_any (is_point g day) later
+
+      by : (b s : Bool) → p r.name.flight ≡ b → same_flight r.name.flight g ≡ s → list_any (is_point g day) (those later) ≡ (p g && any)
+          → list_any (is_point g day) (cond b (Leg r ∷ those later) (those later)) ≡ (p g && ((same_flight r.name.flight g && at) || any))
+      by true true e f rest =
+          let is : p g ≡ true = sym (ap p (same-true r.name.flight g f)) ∙ e in
+          ap (λ x. (same_flight r.name.flight g && at) || x) (rest ∙ ap (λ b. b && any) is)
+          ∙ ap (λ b. b && ((same_flight r.name.flight g && at) || any)) (sym is)
+      by true false e f rest =
+          ap (λ s. (s && at) || list_any (is_point g day) (those later)) f
+          ∙ rest ∙ ap (λ s. p g && ((s && at) || any)) (sym f)
+      by false true e f rest =
+          let is_not : p g ≡ false = sym (ap p (same-true r.name.flight g f)) ∙ e in
+          rest ∙ ap (λ b. b && any) is_not ∙ ap (λ b. b && ((same_flight r.name.flight g && at) || any)) (sym is_not)
+      by false false e f rest = rest ∙ ap (λ s. p g && ((s && at) || any)) (sym f)
+
+  -- division points among the records of the set are some among all records
+  pub all_points : (rs : List Record) (g : FlightNumber) (cuts : List ℕ) → AreAtPoints cuts g (those rs) → AreAtPoints cuts g rs
+  all_points rs g cuts are cut has = second (p g) _ (sym (points_kept rs g cut) ∙ are cut has)
+    where
+      second : (a b : Bool) → (a && b) ≡ true → b ≡ true
+      second true b h = h
+      second false b h = absurd (let never : false ≡ true = h in cc)
+
+  -- a flight that is not in the set has no cuts
+  pub no_points : (rs : List Record) (g : FlightNumber) (cuts : List ℕ) → p g ≡ false → AreAtPoints cuts g (those rs) → cuts ≡ []
+  no_points rs g [] is_not are = refl
+  no_points rs g (cut ∷ cuts) is_not are =
+      let never : true ≡ false = sym (are cut (0, omega arith, refl)) ∙ points_kept rs g cut ∙ ap (λ b. b && list_any (is_point g cut) rs) is_not in
+      absurd (let clash : true ≡ false = never in cc)
 
 -- a flight of the list has in the records of their set the days that it has in all records
 pub days_kept : (marks : List Bool) (flights : List FlightNumber) (rs : List Record) (g : FlightNumber) → is_marked marks g ≡ is_among flights g

@@ -1,7 +1,7 @@
 //! The timetable of records, built from the last record to the first, so that each tail comes
 //! before its leg.
 
-ghost use Rattle.std.specs.Prelude.{◌≡◌, ◌∷◌, ◌++◌, [], List, IfOk, OnOk, Some, filter};
+ghost use Rattle.std.specs.Prelude.{◌≡◌, ◌∷◌, ◌++◌, [], false, List, IfOk, OnOk, Some, filter};
 ghost use Rattle.std.specs.List.{All};
 ghost use Rattle.ssim_values.specs.Flight.{FlightNumber, IsFlight};
 ghost use Rattle.ssim_periods.specs.Days.{each_day};
@@ -12,7 +12,7 @@ ghost use Rattle.ssim_schedule.specs.FlightSet.{is_marked, is_record_of};
 ghost use Rattle.ssim_schedule.specs.DivisionPoints.{AreAtPoints};
 ghost use Rattle.ssim_base.specs.ReadBack.{HasFrame};
 ghost use Rattle.ssim_schedule.specs.Schedule.{cuts_in, days_in};
-ghost use Rattle.ssim_base.specs.Timetable.{days_of, itinerary_among};
+ghost use Rattle.ssim_base.specs.Timetable.{days_of, is_among, itinerary_among};
 
 use crate::flight_blocks::FlightBlocks;
 use crate::flight_set::FlightSet;
@@ -68,7 +68,13 @@ impl Schedule {
     /// The timetable of these flights of a data set, as in `of`. No other flight flies on any date.
     /// It takes less time and memory than the whole timetable if the flights are few.
     pub fn of_flights(data_set: &DataSet, flights: &[Flight]) -> Result<Schedule, Memory>
-        ensures { IfOk result (λ s. (g : FlightNumber) → IsFlight g → days_in s g ≡ each_day (itinerary_among flights.now data_set.now g)) }
+        ensures days { IfOk result (λ s. (g : FlightNumber) → IsFlight g → days_in s g ≡ each_day (itinerary_among flights.now data_set.now g)) }
+
+        // A cut is one as in `of`, and is of one of these flights.
+        ensures cuts { IfOk result (λ s. (g : FlightNumber) → IsFlight g
+            → AreAtPoints (cuts_in s g) g data_set.now) }
+        ensures others { IfOk result (λ s. (g : FlightNumber) → IsFlight g
+            → is_among flights.now g ≡ false → cuts_in s g ≡ []) }
     {
         let alloc = data_set.allocator();
         let set = FlightSet::of(alloc, flights)?;
@@ -82,6 +88,8 @@ impl Schedule {
     /// timetable is made, so it takes the memory of one of the two.
     pub fn of_data_set(data_set: DataSet) -> Result<(Schedule, BaseFrame), Memory>
         ensures days { IfOk result (λ made. (g : FlightNumber) → IsFlight g → days_in made.0 g ≡ days_of data_set g) }
+        ensures cuts { IfOk result (λ made. (g : FlightNumber) → IsFlight g
+            → AreAtPoints (cuts_in made.0 g) g data_set) }
         ensures frame { IfOk result (λ made. HasFrame made.1 data_set) }
         ensures exists { (frame : Frame) × HasFrame frame data_set }
     {

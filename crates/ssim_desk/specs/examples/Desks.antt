@@ -25,7 +25,7 @@ use Rattle.ssim_text.specs.declared.reference.Reference.{Reference}
 use Rattle.ssim_values.specs.Flight.{FlightNumber}
 use Rattle.ssim_held.specs.Entries.{Entry}
 use Rattle.ssim_desk.specs.Meaning.{Timetable, after_subs}
-use Rattle.ssim_desk.specs.Desk.{finding_lines, is_desk_point, point_bound}
+use Rattle.ssim_desk.specs.Desk.{finding_lines, is_desk_point, is_flight_named, point_bound}
 
 -- ---- meaning
 
@@ -134,6 +134,16 @@ day_before = refl
 
 row_ends : is_desk_point over holding lx600 9430 ≡ true
 row_ends = refl
+
+-- no message names LX600A, so the ends of the row are no points of it
+no_row_end : is_desk_point over holding (record { number = 600; suffix = 65 }) 9430 ≡ false
+no_row_end = refl
+
+named : is_flight_named (record { base = over; held = holding; applied = 1 }) lx600 ≡ true
+named = refl
+
+not_named : is_flight_named (record { base = over; held = holding; applied = 1 }) (record { number = 600; suffix = 65 }) ≡ false
+not_named = refl
 
 -- there are at most four cuts; of another flight at most two
 of_the_flight : point_bound over holding lx600 ≡ 4

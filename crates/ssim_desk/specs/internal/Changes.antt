@@ -1,5 +1,5 @@
 -- What a text or a merge changes in the messages that are held, and the history of schedules.
-use Rattle.std.specs.Prelude.{◌≡◌, ◌⊎◌, ◌||◌, ℕ, ◌+◌, ◌*◌, ◌/◌, ◌%◌, ◌<◌, ◌≤◌, List, ◌∷◌, ◌++◌, length, take, map, slice_get, Contains, IsTrue, IfSome}
+use Rattle.std.specs.Prelude.{◌≡◌, ◌⊎◌, ℕ, ◌+◌, ◌*◌, ◌/◌, ◌%◌, ◌<◌, ◌≤◌, List, ◌∷◌, ◌++◌, length, take, map, slice_get, Contains, IsTrue, IfSome}
 use Rattle.std.specs.Prelude.{Option, None, Some}
 use Rattle.std.specs.FinMap.{get}
 use Rattle.std.specs.Prelude.{Vec, vec_capacity, vec_len}
@@ -11,7 +11,7 @@ use Rattle.ssim_base.specs.declared.sub_message.ResolvedSub.{ResolvedSub}
 use Rattle.ssim_text.specs.Message.{MessageValue}
 use Rattle.ssim_values.specs.Flight.{FlightNumber, IsFlight}
 use Rattle.ssim_held.specs.{Held.{DeskState, Holds, Says}, Entries.{AreEntries, DeskSeen, Entry, IsEntry, map_of, state_of}, Ordered.Belongs}
-use Rattle.ssim_desk.specs.{Desk.{AreDeskPoints, is_row_point, is_sub_point}, Meaning.{Timetable, found_by, left_by}}
+use Rattle.ssim_desk.specs.{Desk.{AreDeskPoints, is_sub_point}, Meaning.{Timetable, found_by, left_by}}
 use Rattle.ssim_desk.specs.{Steps.IsUnion, declared.history.History.History}
 use Rattle.ssim_desk.specs.{declared.offer.Offer.Offer, declared.offer.Offer.TheVariants.{Known, New}, declared.replay.Replay.Replay}
 
@@ -49,10 +49,10 @@ Shows schedule timetable = (g : FlightNumber) → IsFlight g → days_in schedul
 abbrev pub flights_of : List Entry → List FlightNumber
 flights_of entries = flat_map (λ e. map (λ sub. sub.flight) e.dates) entries
 
--- a flight's new cuts are old ones, or division points of these sub-messages or of a row
+-- a flight's new cuts are old ones, or division points of those sub-messages that name it
 abbrev pub AddsSubPoints : List Row → List ResolvedSub → FlightNumber → List ℕ → List ℕ → Type 0
 AddsSubPoints rows subs flight old new =
-    (cut : ℕ) → Contains new cut → Contains old cut ⊎ IsTrue (list_any (is_sub_point flight cut) subs || list_any (is_row_point cut) rows)
+    (cut : ℕ) → Contains new cut → Contains old cut ⊎ IsTrue (list_any (is_sub_point rows flight cut) subs)
 
 -- the schedule is the base's after these messages
 pub record IsAfter (base : BaseSeen) (entries : List Entry) (schedule : Table) : Type 0 where

@@ -19,6 +19,6 @@ returns c =
     let messages = c.args.messages.now in
     let named = c.deref.ensures.value ∙ c.in_ok-flights.ensures in
     let shows = subst (λ (flights : List FlightNumber). Shows c.in_ok-schedule.schedule (itinerary_among flights base.records)) named
-    (subst (λ (records : List Record). Shows c.in_ok-schedule.schedule (itinerary_among c.deref.result.now records)) c.data_set.ensures c.in_ok-schedule.ensures) in
+    (subst (λ (records : List Record). Shows c.in_ok-schedule.schedule (itinerary_among c.deref.result.now records)) c.data_set.ensures c.in_ok-schedule.ensures.days) in
     if_ok c.act_all.result (λ found h. h (itinerary_among (flights_of messages) base.records) shows ∙ found_among base messages)
     (subst (λ (rows : List Row). IfOk c.act_all.result (λ found. (before : Timetable) → Shows c.in_ok-schedule.schedule before → found.items ≡ entries_findings rows messages before)) c.rows.ensures c.act_all.ensures)

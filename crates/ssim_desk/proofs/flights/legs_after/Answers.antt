@@ -26,7 +26,7 @@ returns c =
       suffixed = subst (λ s. IsTrue (is_suffix s)) c.suffix.ensures.value c.suffix.ensures.suffix;
     } in
     let one = itinerary_among (g ∷ []) base.records in
-    let shows = subst (λ (records : List Record). Shows c.in_ok-schedule.schedule (itinerary_among (g ∷ []) records)) c.data_set.ensures c.in_ok-schedule.ensures in
+    let shows = subst (λ (records : List Record). Shows c.in_ok-schedule.schedule (itinerary_among (g ∷ []) records)) c.data_set.ensures c.in_ok-schedule.ensures.days in
     let acts = subst (λ (rows : List Row). (before : Timetable) → Shows c.in_ok-schedule.schedule before → (after : Timetable) × Shows c.act_on.new.schedule after × (after g ≡ after_entries rows messages before g)) c.rows.ensures c.in_ok-act_on.ensures in
     let acted = acts one shows in
     let within : c.args.day < 36525 = subst (λ n. n < 36525) c.number-2.ensures.value c.number-2.ensures.bound in

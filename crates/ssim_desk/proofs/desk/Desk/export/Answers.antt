@@ -2,8 +2,8 @@ use Rattle.std.proofs.Common.{OnOk, IfErr, Result, Ok, Err, subst}
 use Rattle.ssim_base.specs.BaseSeen.{BaseSeen}
 use Rattle.ssim_schedule.specs.Plan.{RefusesBase, WritesBase}
 use Rattle.ssim_schedule.specs.Schedule.{days_in}
-use Rattle.ssim_held.specs.Entries.{AreEntries, DeskSeen}
-use Rattle.ssim_desk.specs.Desk.{days_of_desk}
+use Rattle.ssim_held.specs.Entries.{AreEntries}
+use Rattle.ssim_desk.specs.Desk.{ScheduledDesk, days_of_desk}
 use Rattle.ssim_desk.proofs.Exports.{refuses, writes}
 use Rattle.ssim_desk.proofs.Meant.{writes_desk}
 use Rattle.ssim_desk.proofs.desk.Desk.export.Goals as goal
@@ -20,7 +20,7 @@ pub returns-clause-ok : goal.returns-clause-ok
 returns-clause-ok g c =
     let t = c.self.inside.holdings in let days = days_in c.self.inside.history.latest in
     on_ok c.export.result
-    (λ w. subst (λ (d : DeskSeen). WritesBase g.W.Sink.taken g.W.Sink.failures d.base.records (days_of_desk d) c.args.out.now c.export.new.out) c.self.view_is
+    (λ w. subst (λ (d : ScheduledDesk). WritesBase g.W.Sink.taken g.W.Sink.failures d.seen.base.records (days_of_desk d.seen) c.args.out.now c.export.new.out) c.self.view_is
     (writes days (days_of_desk t) c.self.invariant.latest_is.shows g.W.Sink.taken g.W.Sink.failures t.base.records c.args.out.now c.export.new.out
     (subst (λ (b : BaseSeen). let records = b.records in WritesBase g.W.Sink.taken g.W.Sink.failures records days c.args.out.now c.export.new.out) c.base.ensures w)))
     c.export.ensures.ok
@@ -29,12 +29,12 @@ pub returns-clause-err : goal.returns-clause-err
 returns-clause-err g c =
     let t = c.self.inside.holdings in let days = days_in c.self.inside.history.latest in
     if_err c.export.result
-    (λ fault r. subst (λ (d : DeskSeen). RefusesBase g.W.Sink.taken g.W.Sink.failures d.base.records (days_of_desk d) c.args.out.now c.export.new.out fault) c.self.view_is
+    (λ fault r. subst (λ (d : ScheduledDesk). RefusesBase g.W.Sink.taken g.W.Sink.failures d.seen.base.records (days_of_desk d.seen) c.args.out.now c.export.new.out fault) c.self.view_is
     (refuses days (days_of_desk t) c.self.invariant.latest_is.shows g.W.Sink.taken g.W.Sink.failures t.base.records c.args.out.now c.export.new.out fault
     (subst (λ (b : BaseSeen). let records = b.records in RefusesBase g.W.Sink.taken g.W.Sink.failures records days c.args.out.now c.export.new.out fault) c.base.ensures r)))
     c.export.ensures.err
 
 pub returns-clause-exports : goal.returns-clause-exports
 returns-clause-exports g c =
-    let entries = subst (λ (d : DeskSeen). AreEntries d.base.records d.held) c.self.view_is c.held.ensures.kept in
-    writes_desk g.W.Sink.taken g.W.Sink.failures c.args.self.now c.args.out.now c.export.new.out c.export.result entries (returns-clause-ok g c) (returns-clause-err g c)
+    let entries = subst (λ (d : ScheduledDesk). AreEntries d.seen.base.records d.seen.held) c.self.view_is c.held.ensures.kept in
+    writes_desk g.W.Sink.taken g.W.Sink.failures c.args.self.now.seen c.args.out.now c.export.new.out c.export.result entries (returns-clause-ok g c) (returns-clause-err g c)

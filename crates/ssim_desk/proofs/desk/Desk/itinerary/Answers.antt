@@ -1,8 +1,8 @@
 use Rattle.std.proofs.Common.{◌≡◌, ◌≤◌, ◌<◌, ◌∙◌, ap, subst}
 use Rattle.std.specs.Prelude.{IsTrue}
 use Rattle.ssim_values.specs.Flight.{IsFlight, is_suffix}
-use Rattle.ssim_held.specs.Entries.{AreEntries, DeskSeen}
-use Rattle.ssim_desk.specs.Desk.{timetable_of}
+use Rattle.ssim_held.specs.Entries.{AreEntries}
+use Rattle.ssim_desk.specs.Desk.{ScheduledDesk, timetable_of}
 use Rattle.ssim_desk.specs.Meaning.{Timetable}
 use Rattle.ssim_desk.proofs.Meant.{has_meaning, legs_after, only_meaning}
 use Rattle.ssim_desk.proofs.desk.Desk.itinerary.Goals as goal
@@ -13,20 +13,20 @@ exists c = record {
   suffixed = subst (λ s. IsTrue (is_suffix s)) c.suffix.ensures.value c.suffix.ensures.suffix;
 }
 
-entries : (c : goal.After-itinerary) → AreEntries c.args.self.now.base.records c.args.self.now.held
-entries c = subst (λ (t : DeskSeen). AreEntries t.base.records t.held) c.self.view_is c.held.ensures.kept
+entries : (c : goal.After-itinerary) → AreEntries c.args.self.now.seen.base.records c.args.self.now.seen.held
+entries c = subst (λ (t : ScheduledDesk). AreEntries t.seen.base.records t.seen.held) c.self.view_is c.held.ensures.kept
 
-legs : (c : goal.After-itinerary) → c.itinerary.result.now ≡ timetable_of c.args.self.now c.args.flight.now c.args.day
+legs : (c : goal.After-itinerary) → c.itinerary.result.now ≡ timetable_of c.args.self.now.seen c.args.flight.now c.args.day
 legs c =
     c.itinerary.ensures.value
     ∙ legs_after c.self.inside.holdings.base c.self.inside.holdings.held c.self.inside.history.latest c.self.invariant.latest_is c.args.flight.now (exists c) c.args.day (subst (λ n. n < 36525) c.number-2.ensures.value c.number-2.ensures.bound)
-    ∙ ap (λ (t : DeskSeen). timetable_of t c.args.flight.now c.args.day) c.self.view_is
+    ∙ ap (λ (t : ScheduledDesk). timetable_of t.seen c.args.flight.now c.args.day) c.self.view_is
 
 pub returns-clause-value : goal.returns-clause-value
 returns-clause-value c = legs c
 
 pub returns-clause-means : goal.returns-clause-means
-returns-clause-means c = has_meaning c.args.self.now (entries c)
+returns-clause-means c = has_meaning c.args.self.now.seen (entries c)
 
 pub returns-clause-only : goal.returns-clause-only
-returns-clause-only c timetable means = legs c ∙ ap (λ (t : Timetable). t c.args.flight.now c.args.day) (only_meaning c.args.self.now (entries c) timetable means)
+returns-clause-only c timetable means = legs c ∙ ap (λ (t : Timetable). t c.args.flight.now c.args.day) (only_meaning c.args.self.now.seen (entries c) timetable means)

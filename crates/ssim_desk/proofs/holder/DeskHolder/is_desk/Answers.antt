@@ -8,4 +8,4 @@ use Rattle.ssim_desk.proofs.holder.DeskHolder.is_desk.Goals as goal
 pub returns : goal.returns
 returns c =
     let base = subst (λ (b : BaseSeen). IsBaseRecords b.records) c.base.ensures (subst IsBaseRecords c.records.ensures.value c.records.ensures.is_base) in
-    is_desk c.args.self.now base c.held.ensures.kept
+    is_desk c.args.self.now.seen base c.held.ensures.kept

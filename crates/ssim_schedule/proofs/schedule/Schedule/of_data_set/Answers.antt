@@ -1,7 +1,8 @@
 -- The timetable of a data set is one, and the table has its days.
-use Rattle.std.proofs.Common.{[], List, ap, ◌∙◌}
+use Rattle.std.proofs.Common.{[], List, sym, ap, subst, ◌∙◌}
 use Rattle.ssim_records.specs.declared.record.Record.{Record}
-use Rattle.ssim_schedule.specs.Schedule.{Table, days_in}
+use Rattle.ssim_schedule.specs.DivisionPoints.{AreAtPoints}
+use Rattle.ssim_schedule.specs.Schedule.{Table, cuts_in, days_in}
 use Rattle.ssim_base.specs.Timetable.{days_of}
 use Rattle.ssim_schedule.proofs.InOrder.{timetable-same}
 use Rattle.ssim_schedule.proofs.TimetableBuilderLemmas.{built_all}
@@ -12,6 +13,13 @@ returns-clause-days c = λ g is.
     let rs = c.into_parts-records.result.0.items in
     let built = built_all c.put_list.new.self rs (c.in_ok-put_list.ensures [] c.in_ok-building.ensures) in
     ap (λ (t : Table). days_in t g) c.share_where.ensures ∙ c.in_ok-table.ensures.days rs built g is ∙ ap (λ (xs : List Record). days_of xs g) c.into_parts-records.ensures.value
+
+pub returns-clause-cuts : goal.returns-clause-cuts
+returns-clause-cuts c = λ g is.
+    let rs = c.into_parts-records.result.0.items in
+    let built = built_all c.put_list.new.self rs (c.in_ok-put_list.ensures [] c.in_ok-building.ensures) in
+    subst (λ (t : Table). AreAtPoints (cuts_in t g) g c.args.data_set) (sym c.share_where.ensures)
+    (subst (λ (xs : List Record). AreAtPoints (cuts_in c.in_ok-table.table g) g xs) c.into_parts-records.ensures.value (c.in_ok-table.ensures.cuts rs built g is))
 
 pub invariant_of-result : goal.invariant_of-result
 invariant_of-result c =

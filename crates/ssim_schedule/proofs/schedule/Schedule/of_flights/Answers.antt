@@ -1,26 +1,48 @@
 -- The records are those of the data set, and the marks those of the flights.
-use Rattle.std.proofs.Common.{[], List, ap, subst, ◌∙◌}
+use Rattle.std.proofs.Common.{◌≡◌, ℕ, Bool, [], List, ap, subst, ◌∙◌}
 use Rattle.std.specs.List.{filter}
 use Rattle.ssim_periods.specs.Days.{each_day}
 use Rattle.ssim_records.specs.declared.record.Record.{Record}
+use Rattle.ssim_values.specs.Flight.{FlightNumber}
+use Rattle.ssim_schedule.specs.DivisionPoints.{AreAtPoints}
 use Rattle.ssim_schedule.specs.FlightSet.{is_marked, is_record_of}
-use Rattle.ssim_schedule.specs.Schedule.{days_in}
+use Rattle.ssim_schedule.specs.Schedule.{cuts_in, days_in}
 use Rattle.ssim_base.specs.Timetable.{days_of, itinerary_among}
 use Rattle.ssim_base.specs.ReadBack.{AreInOrder}
 use Rattle.ssim_base.proofs.Calendars.{length-each_day}
-use Rattle.ssim_schedule.proofs.FlightSets.{days_kept, order_among}
+use Rattle.ssim_schedule.proofs.FlightSets.{all_points, days_kept, no_points, order_among}
 use Rattle.ssim_schedule.proofs.InOrder.{timetable-same}
 use Rattle.ssim_schedule.proofs.TimetableBuilderLemmas.{built_all}
 use Rattle.ssim_schedule.proofs.schedule.Schedule.of_flights.Goals as goal
 
-pub returns : goal.returns
-returns c = λ g is.
+pub returns-clause-days : goal.returns-clause-days
+returns-clause-days c = λ g is.
     let p = is_record_of (is_marked c.in_ok-set.set.marks.items) in
     let kept = filter p c.records.result.now in
     let built = built_all c.put_those_of.new.self kept (c.in_ok-put_those_of.ensures [] c.in_ok-building.ensures) in
     c.in_ok-table.ensures.days kept built g is
     ∙ ap (λ (rs : List Record). days_of (filter p rs) g) c.records.ensures.value
     ∙ days_kept c.in_ok-set.set.marks.items c.args.flights.now c.args.data_set.now g (c.in_ok-set.ensures g is)
+
+-- the cuts of a flight are division points of its records in the set
+at_kept : (p : FlightNumber → Bool) (kept rs : List Record) (g : FlightNumber) (cuts : List ℕ) → kept ≡ rs → AreAtPoints cuts g (filter (is_record_of p) kept) → AreAtPoints cuts g (filter (is_record_of p) rs)
+at_kept p kept rs g cuts same are = subst (λ (rs : List Record). AreAtPoints cuts g (filter (is_record_of p) rs)) same are
+
+pub returns-clause-cuts : goal.returns-clause-cuts
+returns-clause-cuts c = λ g is.
+    let p = is_marked c.in_ok-set.set.marks.items in
+    let kept = filter (is_record_of p) c.records.result.now in
+    let built = built_all c.put_those_of.new.self kept (c.in_ok-put_those_of.ensures [] c.in_ok-building.ensures) in
+    let cuts = cuts_in c.in_ok-table.table g in
+    all_points p c.args.data_set.now g cuts (at_kept p c.records.result.now c.args.data_set.now g cuts c.records.ensures.value (c.in_ok-table.ensures.cuts kept built g is))
+
+pub returns-clause-others : goal.returns-clause-others
+returns-clause-others c = λ g is other.
+    let p = is_marked c.in_ok-set.set.marks.items in
+    let kept = filter (is_record_of p) c.records.result.now in
+    let built = built_all c.put_those_of.new.self kept (c.in_ok-put_those_of.ensures [] c.in_ok-building.ensures) in
+    let cuts = cuts_in c.in_ok-table.table g in
+    no_points p c.args.data_set.now g cuts (c.in_ok-set.ensures g is ∙ other) (at_kept p c.records.result.now c.args.data_set.now g cuts c.records.ensures.value (c.in_ok-table.ensures.cuts kept built g is))
 
 pub invariant_of-result : goal.invariant_of-result
 invariant_of-result c =
