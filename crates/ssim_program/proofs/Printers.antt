@@ -1,10 +1,8 @@
 -- What printers have after several calls.
-use Rattle.std.proofs.Common.{◌≡◌, ◌∙◌, inl, inr, ℕ, ◌+◌, ◌%◌, ◌^◌, List, [], ◌++◌, Option, Result, Ok, Err, refl, sym, ap, subst, append-nil}
-use Rattle.std.specs.Io.KnownBytes.{Appends}
+use Rattle.std.proofs.Common.{◌∙◌, inl, inr, ℕ, ◌+◌, ◌%◌, ◌^◌, List, [], ◌++◌, Result, Ok, Err, refl, ap, subst, append-nil}
 use Rattle.std.proofs.KnownBytes.{Appends-nil, Appends-trans}
-use Rattle.ssim_base.specs.Sinks.{TakesFront, TakesUpTo}
-use Rattle.ssim_base.proofs.SinkLemmas.{all_taken, taken_all, then_front}
-use Rattle.ssim_program.specs.Paper.{Breaks, Grows, Paper, Prints, PrintsOrFails}
+use Rattle.ssim_base.proofs.SinkLemmas.{front_more, then_front}
+use Rattle.ssim_program.specs.Paper.{Breaks, Grows, Paper, Prints, PrintsOrFails, Puts}
 use Rattle.ssim_program.specs.declared.refusal.Refusal.{Refusal}
 
 -- no call
@@ -34,16 +32,23 @@ flushed_after x p q r g h = subst (λ (bs : List ℕ). Grows bs p r) (append-nil
 pub breaks_after : (x : List ℕ) (p q r : Paper) → Grows x p q → Breaks [] q r → Breaks x p r
 breaks_after x p q r g h = subst (λ (bs : List ℕ). Breaks bs p r) (append-nil x) (breaks_more x [] p q r g h)
 
--- all bytes up to a rest, of which there is none; then a flush
-pub prints_rest : (bytes : List ℕ) (p q r : Paper) (result : Result (Unit {0}) Refusal) → TakesUpTo bytes [] p.taken q.taken → q.failures ≡ p.failures
-    → q.device ≡ p.device → Prints [] q r result → Prints bytes p r result
-prints_rest bytes p q r result taken failures device =
-    let grown : Grows bytes p q = record { taken = all_taken bytes p.taken q.taken taken; failures = failures; device = device } in
-    by_result result grown
-  where
-    by_result : (result : Result (Unit {0}) Refusal) → Grows bytes p q → Prints [] q r result → Prints bytes p r result
-    by_result (Ok x) g h = (flushed_after bytes p q r g h.0, h.1)
-    by_result (Err e) g h = (h.0, breaks_after bytes p q r g h.1)
+-- a prefix of some bytes is one of more bytes
+pub breaks_first : (x y : List ℕ) (p q : Paper) → Breaks x p q → Breaks (x ++ y) p q
+breaks_first x y p q b =
+    record { taken = front_more x y (x ++ y) p.taken q.taken refl b.taken; failures = b.failures; device = b.device }
+
+-- some bytes were put, and then others are put or printed
+pub puts_then : (x y : List ℕ) (p q r : Paper) (result : Result (Unit {0}) Refusal) → Grows x p q → Puts y q r result → Puts (x ++ y) p r result
+puts_then x y p q r (Ok _) g h = grows_more x y p q r g h
+puts_then x y p q r (Err e) g h = (h.0, breaks_more x y p q r g h.1)
+
+pub prints_then : (x y : List ℕ) (p q r : Paper) (result : Result (Unit {0}) Refusal) → Grows x p q → Prints y q r result → Prints (x ++ y) p r result
+prints_then x y p q r (Ok _) g h = (grows_more x y p q r g h.0, h.1)
+prints_then x y p q r (Err e) g h = (h.0, breaks_more x y p q r g h.1)
+
+-- bytes were put, and then the printer is flushed
+pub flushes : (x : List ℕ) (p q r : Paper) (result : Result (Unit {0}) Refusal) → Grows x p q → Prints [] q r result → Prints x p r result
+flushes x p q r result g h = subst (λ (bs : List ℕ). Prints bs p r result) (append-nil x) (prints_then x [] p q r result g h)
 
 -- of a result of printing, all bytes or a failure
 pub all_or_fails : (bytes : List ℕ) (p q : Paper) (result : Result (Unit {0}) Refusal) → Prints bytes p q result → PrintsOrFails bytes p q

@@ -14,11 +14,11 @@ use Rattle.ssim_held.specs.declared.fault.DeskFault.TheVariants as desk
 use Rattle.ssim_program.specs.Refusal.{refusal_text}
 use Rattle.ssim_program.specs.declared.refusal.Refusal.TheVariants as refused
 
-pub memory_line : line (refusal_text refused.Memory) ≡ codes "refused 90 Memory\n"
+memory_line : line (refusal_text refused.Memory) ≡ codes "refused 90 Memory\n"
 unfolding digits
 memory_line = refl
 
-pub write_fault_line : line (refusal_text refused.WriteFault) ≡ codes "refused 52 WriteFault\n"
+write_fault_line : line (refusal_text refused.WriteFault) ≡ codes "refused 52 WriteFault\n"
 unfolding digits
 write_fault_line = refl
 

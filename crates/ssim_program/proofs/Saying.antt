@@ -37,10 +37,6 @@ all_device : (bytes : List ℕ) (p q : Paper) → PrintsOrFails bytes p q → q.
 all_device bytes p q (inl g) = g.device
 all_device bytes p q (inr b) = b.device
 
-refusal_device : (refusal : Refusal) (p q : Paper) → PrintsRefusal refusal p q → q.device ≡ p.device
-refusal_device refusal p q (inl h) = all_device _ p q h
-refusal_device refusal p q (inr h) = all_device _ p q h.1
-
 refused_device : (line : Line) (before after : World) (refusal : Refusal) → IsRefused line before after refusal → after.out.device ≡ before.out.device
 refused_device line before after refusal (inl s) = s.grows.device
 refused_device line before after refusal (inr k) = k.breaks.device
@@ -73,7 +69,7 @@ obeyed words line before after err err' status names (inr (one, ends)) = record 
   help = λ _. inl (line, names);
   no_help = λ _. inl (line, names);
   usage = λ two. absurd (omega arith);
-  devices = (refused_device line before after ends.0 ends.1, refusal_device ends.0 err err' ends.2);
+  devices = (refused_device line before after ends.0 ends.1, all_device _ err err' ends.2);
 }
 
 -- ---- other words
@@ -92,7 +88,7 @@ module _ (words : List Text) (files : Option Files) (out out' err err' : Paper) 
     help = λ zero. absurd (omega arith);
     no_help = λ _. inr (refused.Memory, inl (refl, still), printed);
     usage = λ two. absurd (omega arith);
-    devices = (ap (λ (p : Paper). p.device) same, refusal_device refused.Memory err err' printed);
+    devices = (ap (λ (p : Paper). p.device) same, all_device _ err err' printed);
   }
     where
       still : Grows [] out out'
@@ -125,7 +121,7 @@ module _ (words : List Text) (files : Option Files) (out out' err err' : Paper) 
     help = λ zero. absurd (omega arith);
     no_help = λ _. inr refusal;
     usage = λ two. absurd (omega arith);
-    devices = (left refusal.1, refusal_device refusal.0 err err' refusal.2);
+    devices = (left refusal.1, all_device _ err err' refusal.2);
   }
     where
       left : ((refusal.0 ≡ refused.Memory) × Grows [] out out') ⊎ ((refusal.0 ≡ refused.WriteFault) × (text : List ℕ) × Breaks text out out') → out'.device ≡ out.device

@@ -8,7 +8,6 @@ use Rattle.ssim_program.specs.Files.{Files}
 use Rattle.ssim_program.specs.Help.{PrintsHelp, RefusesHelp, SaysWrong}
 use Rattle.ssim_command_line.specs.Line.{Line}
 use Rattle.ssim_program.specs.Paper.{Breaks, Grows, Paper, PrintsOrFails}
-use Rattle.ssim_program.specs.Reasons.{PrintsRefusal}
 use Rattle.ssim_program.specs.World.{EndsWithLine, IsDone, IsRefused, paper, world}
 use Rattle.ssim_program.specs.declared.refusal.Refusal.{Refusal}
 use Rattle.ssim_program.specs.declared.refusal.Refusal.TheVariants as refused
@@ -31,10 +30,6 @@ module _ (p q : Paper) (t u : Option (List ℕ)) (began : p.taken ≡ t) (none :
   pub printed_of : (bytes : List ℕ) → PrintsOrFails bytes p q → PrintsOrFails bytes (paper t 0) (paper u q.failures)
   printed_of bytes (inl g) = inl (grows_of bytes g)
   printed_of bytes (inr b) = inr (breaks_of bytes b)
-
-  pub refusal_of : (refusal : Refusal) → PrintsRefusal refusal p q → PrintsRefusal refusal (paper t 0) (paper u q.failures)
-  refusal_of refusal (inl h) = inl (printed_of _ h)
-  refusal_of refusal (inr h) = inr (h.0, printed_of _ h.1)
 
   -- the writer of a printer that stays as it was
   pub stays : q ≡ p → Keeps t u
@@ -69,7 +64,7 @@ module _ (o o' e e' : Paper) (t u v w : Option (List ℕ)) (o-began : o.taken �
   ends_of line old new h = (
     o'.failures,
     e'.failures,
-    (h.0, refused_of o o' t u o-began o-none o-ended line old new h.0 h.1, refusal_of e e' v w e-began e-none e-ended h.0 h.2),
+    (h.0, refused_of o o' t u o-began o-none o-ended line old new h.0 h.1, printed_of e e' v w e-began e-none e-ended _ h.2),
   )
 
   pub done_both : (line : Line) (old new : Option Files) → IsDone line (world old o) (world new o') × (e' ≡ e)
@@ -92,7 +87,7 @@ module _ (o o' e e' : Paper) (t u v w : Option (List ℕ)) (o-began : o.taken �
   pub no_help_of : {P : Type 0} → P ⊎ RefusesHelp o o' e e'
       → P ⊎ ((failed : ℕ) × (err_failed : ℕ) × RefusesHelp (paper t 0) (paper u failed) (paper v 0) (paper w err_failed))
   no_help_of (inl p) = inl p
-  no_help_of (inr h) = inr (o'.failures, e'.failures, (h.0, left_of h.0 h.1, refusal_of e e' v w e-began e-none e-ended h.0 h.2))
+  no_help_of (inr h) = inr (o'.failures, e'.failures, (h.0, left_of h.0 h.1, printed_of e e' v w e-began e-none e-ended _ h.2))
 
   pub wrong_of : SaysWrong o o' e e' → (err_failed : ℕ) × SaysWrong (paper t 0) (paper u 0) (paper v 0) (paper w err_failed)
   wrong_of h = (e'.failures, (all_of o o' t u o-began o-none o-ended [] h.0, h.1, printed_of e e' v w e-began e-none e-ended h.1 h.2))

@@ -30,6 +30,11 @@ abbrev pub Prints : List ℕ → Paper → Paper → Result (Unit {0}) Refusal �
 Prints bytes before after (Ok x) = Grows bytes before after × (after.flushed ≡ true)
 Prints bytes before after (Err refusal) = (refusal ≡ refused.WriteFault) × Breaks bytes before after
 
+-- the bytes are printed, and not yet flushed; or a call fails, and the refusal is 52
+abbrev pub Puts : List ℕ → Paper → Paper → Result (Unit {0}) Refusal → Type 0
+Puts bytes before after (Ok x) = Grows bytes before after
+Puts bytes before after (Err refusal) = (refusal ≡ refused.WriteFault) × Breaks bytes before after
+
 -- all of the bytes were taken, or a call failed
 abbrev pub PrintsOrFails : List ℕ → Paper → Paper → Type 0
 PrintsOrFails bytes before after = Grows bytes before after ⊎ Breaks bytes before after

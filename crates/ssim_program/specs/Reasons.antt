@@ -1,5 +1,5 @@
 -- Why a command is refused, and how its refusal is printed.
-use Rattle.std.specs.Prelude.{◌≡◌, ◌≢◌, ◌⊎◌, ℕ, List, [], ⊤, Option, Ok, Err}
+use Rattle.std.specs.Prelude.{◌≡◌, ◌⊎◌, ℕ, List, [], ⊤, Option, Ok, Err}
 use Rattle.ssim_records.specs.declared.record.Record.{Record}
 use Rattle.ssim_base.specs.Base.{airline_of}
 use Rattle.ssim_base.specs.Export as refusal
@@ -74,9 +74,6 @@ Refuses (Explain word) files printed refusal = (printed ≡ []) × RefusesLoad f
 
 -- ---- what `err` has
 
--- The printer took the whole line of the refusal, or a call failed and it took a prefix. If there
--- is no memory for the line of a refusal other than 52, the line of 90 is printed instead.
+-- the printer took the whole line of the refusal, or a call failed and it took a prefix
 abbrev pub PrintsRefusal : Refusal → Paper → Paper → Type 0
-PrintsRefusal refusal before after =
-    PrintsOrFails (line (refusal_text refusal)) before after
-    ⊎ ((refusal ≢ refused.WriteFault) × PrintsOrFails (line (refusal_text refused.Memory)) before after)
+PrintsRefusal refusal before after = PrintsOrFails (line (refusal_text refusal)) before after

@@ -1,6 +1,7 @@
 -- The line that a refusal prints, without its line end, and which refusal a fault becomes.
 use Rattle.std.specs.Prelude.{◌≡◌, ◌⊎◌, ℕ, List, [], ◌∷◌, ◌++◌, Option, Some, None, codes, string_bytes}
 use Rattle.std.specs.Fmt.{decimal}
+use Rattle.ssim_values.specs.Day.{day_text}
 use Rattle.ssim_values.specs.Designator.{designator_text}
 use Rattle.ssim_values.specs.Fault.{fault_name, fault_number, memory_name}
 use Rattle.ssim_values.specs.declared.fault.Fault.{Fault}
@@ -16,7 +17,10 @@ use Rattle.ssim_base.specs.declared.place.Place.{Place}
 use Rattle.ssim_base.specs.declared.place.Place.TheVariants.{Nowhere, Record, Column, Line, SubMessage, Offset, Flight, Message}
 use Rattle.ssim_base.specs.declared.stations.StationFault.{StationFault}
 use Rattle.ssim_base.specs.declared.stations.StationFault.TheVariants as stations
+use Rattle.ssim_text.specs.Canonical.{five_digits, three_digits}
+use Rattle.ssim_text.specs.Lines.{kind_text}
 use Rattle.ssim_text.specs.Reference.{printed_reference}
+use Rattle.ssim_text.specs.declared.reference.Reference.{Reference}
 use Rattle.ssim_held.specs.Fault.{desk_fault_name, desk_fault_number, desk_fault_place}
 use Rattle.ssim_held.specs.declared.fault.DeskFault.{DeskFault}
 use Rattle.ssim_held.specs.declared.fault.DeskFault.TheVariants as desk
@@ -65,6 +69,12 @@ abbrev pub refusal_file : Refusal → Option (List ℕ)
 refusal_file (refusal.File name) = Some (string_bytes name)
 refusal_file r = None
 
+-- a reference without its originator: the kind, the date and the serials, each after a blank
+abbrev pub without_originator : Reference → List ℕ
+without_originator r =
+    32 ∷ kind_text r.kind ++ 32 ∷ day_text r.date ++ 32 ∷ five_digits r.group
+    ++ 32 ∷ three_digits r.serial
+
 -- a place in a line, after what comes before it
 abbrev pub place_text : Place → List ℕ
 place_text Nowhere = []
@@ -81,11 +91,13 @@ abbrev pub named_text : Option (List ℕ) → Place → List ℕ
 named_text (Some file) place = 32 ∷ file
 named_text None place = place_text place
 
--- the text of a refusal: `refused`, the number, the name and what is named, as: refused 12
--- BadColumn record 3 column 37
+-- the beginning of a refusal: `refused`, the number and the name
+abbrev pub refusal_head : Refusal → List ℕ
+refusal_head r = codes "refused " ++ decimal (refusal_number r) ++ 32 ∷ refusal_name r
+
+-- the text of a refusal: its beginning and what is named, as: refused 11 BadType record 3
 abbrev pub refusal_text : Refusal → List ℕ
-refusal_text r =
-    codes "refused " ++ decimal (refusal_number r) ++ 32 ∷ refusal_name r ++ named_text (refusal_file r) (refusal_place r)
+refusal_text r = refusal_head r ++ named_text (refusal_file r) (refusal_place r)
 
 -- ---- the refusal of a fault; each fault out of memory is refused as 90
 

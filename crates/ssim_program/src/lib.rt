@@ -32,6 +32,7 @@ mod printed;
 mod printer;
 mod program;
 mod refusal;
+mod refusal_line;
 mod rehearse;
 mod show;
 mod start;

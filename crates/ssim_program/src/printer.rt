@@ -1,7 +1,8 @@
 //! Printers: writers of std whose failed calls are counted.
 
 ghost use Rattle.std.specs.Prelude.{◌≡◌, false, []};
-ghost use Rattle.ssim_program.specs.Paper.{Paper, Prints, PrintsOrFails};
+ghost use Rattle.std.specs.List.{flat_map};
+ghost use Rattle.ssim_program.specs.Paper.{Paper, Prints, PrintsOrFails, Puts};
 
 use crate::refusal::Refusal;
 use ssim_records::{DeviceFault, Sink};
@@ -88,10 +89,10 @@ impl<W: Write> Sink for Printer<'_, W> {
     }
 }
 
-/// Prints all of the bytes, however many the writer takes at a time, and flushes it. Returns 52 if
+/// Prints all of the bytes, however many the writer takes at a time, without a flush. Returns 52 if
 /// the writer failed, or took no byte of some.
-pub(crate) fn print_all<W: Write>(out: &mut Printer<'_, W>, bytes: &[u8]) -> Result<(), Refusal>
-    ensures { Prints bytes.now out.old out.new result }
+fn put_all<W: Write>(out: &mut Printer<'_, W>, bytes: &[u8]) -> Result<(), Refusal>
+    ensures { Puts bytes.now out.old out.new result }
 {
     let mut rest = bytes;
     while !rest.is_empty() {
@@ -100,6 +101,26 @@ pub(crate) fn print_all<W: Write>(out: &mut Printer<'_, W>, bytes: &[u8]) -> Res
             Ok(n) => rest = rest.split_at(n).1,
         }
     }
+    Ok(())
+}
+
+/// Prints the parts of a text one after another, without a flush. Returns 52 as [`print_all`] does,
+/// and then prints no further part.
+pub(crate) fn put_parts<W: Write>(out: &mut Printer<'_, W>, parts: &[&[u8]]) -> Result<(), Refusal>
+    ensures { Puts (flat_map (λ part. part.now) parts.now) out.old out.new result }
+{
+    for part in parts {
+        put_all(out, part)?;
+    }
+    Ok(())
+}
+
+/// Prints all of the bytes, however many the writer takes at a time, and flushes it. Returns 52 if
+/// the writer failed, or took no byte of some.
+pub(crate) fn print_all<W: Write>(out: &mut Printer<'_, W>, bytes: &[u8]) -> Result<(), Refusal>
+    ensures { Prints bytes.now out.old out.new result }
+{
+    put_all(out, bytes)?;
     out.flush()
 }
 

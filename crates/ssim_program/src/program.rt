@@ -1,6 +1,6 @@
 //! The program, from its words to its status.
 
-ghost use Rattle.std.specs.Prelude.{◌≡◌, ◌↔◌, ◌≤◌, ◌⊎◌, ℕ, Option, true, false, IsTrue, map};
+ghost use Rattle.std.specs.Prelude.{◌≡◌, ◌≤◌, ◌⊎◌, ℕ, Option, true, false, map};
 ghost use Rattle.std.specs.Io.KnownBytes.{Keeps};
 ghost use Rattle.ssim_program.specs.Files.{Files};
 ghost use Rattle.ssim_program.specs.Help.{Answers, PrintsHelp, RefusesHelp, SaysHelp, SaysWrong};
@@ -20,6 +20,7 @@ use crate::findings::findings;
 use crate::merge::merge;
 use crate::printer::{Printer, print_all, print_line};
 use crate::refusal::Refusal;
+use crate::refusal_line::print_refusal;
 use crate::rehearse::rehearse;
 use crate::show::show_flight;
 use crate::start::start;
@@ -184,7 +185,7 @@ fn obey<S: Store, O: Write, E: Write>(
 {
     match act(alloc, request, store, out) {
         Ok(()) => 0,
-        Err(refusal) => refuse(alloc, &refusal, err),
+        Err(refusal) => refuse(&refusal, err),
     }
 }
 
@@ -229,28 +230,13 @@ fn print<O: Write>(made: Result<Vec<u8>, Refusal>, out: &mut Printer<'_, O>) -> 
     }
 }
 
-/// Prints the line of a refusal. If there is no memory for the line, prints the line of 90; the
-/// line of 52 needs no memory.
-fn refuse<P: Write>(alloc: Global, refusal: &Refusal, err: &mut Printer<'_, P>) -> u8
+/// Prints the line of a refusal. It allocates nothing, so each refusal has its own line. Returns 1.
+fn refuse<P: Write>(refusal: &Refusal, err: &mut Printer<'_, P>) -> u8
     ensures status { result ≡ 1 }
     ensures printed { PrintsRefusal refusal.now err.old err.new }
 {
-    if is_write_fault(refusal) {
-        print_line(b"refused 52 WriteFault\n", err);
-        return 1;
-    }
-    match refusal.line(alloc) {
-        Ok(line) => print_line(&line, err),
-        Err(_) => print_line(b"refused 90 Memory\n", err),
-    }
+    let _ = print_refusal(refusal, err);
     1
-}
-
-/// Whether the refusal is 52.
-fn is_write_fault(refusal: &Refusal) -> bool
-    ensures { IsTrue result ↔ (refusal.now ≡ refused.WriteFault) }
-{
-    matches!(refusal, Refusal::WriteFault)
 }
 
 /// Prints help on `out`, with status 0, or what is wrong with the words on `err`, with 2.
@@ -263,7 +249,7 @@ fn answer<O: Write, E: Write>(
     ensures { Answers fault.now out.old out.new err.old err.new result }
 {
     match fault {
-        LineFault::Memory => refuse(alloc, &Refusal::Memory, err),
+        LineFault::Memory => refuse(&Refusal::Memory, err),
         LineFault::Shown(error) => show(alloc, error, out, err),
         LineFault::NoCommand => {
             print_line(b"error: the words name no command\n", err);
@@ -289,10 +275,10 @@ fn show<O: Write, E: Write>(
         return 2;
     }
     if shown.is_err() {
-        return refuse(alloc, &Refusal::Memory, err);
+        return refuse(&Refusal::Memory, err);
     }
     match print_all(out, &text) {
         Ok(()) => 0,
-        Err(refusal) => refuse(alloc, &refusal, err),
+        Err(refusal) => refuse(&refusal, err),
     }
 }

@@ -101,7 +101,7 @@ impl Refusal {
     }
 
     /// The name of the file of 91.
-    fn file(&self) -> Option<&str>
+    pub(crate) fn file(&self) -> Option<&str>
         ensures { option_map (λ name. name.now) result ≡ refusal_file self.now }
     {
         match self {
@@ -110,7 +110,7 @@ impl Refusal {
         }
     }
 
-    /// The line of the refusal, with its line end.
+    /// The line of the refusal, with its line end, as the beginning of a text.
     pub(crate) fn line(&self, alloc: Global) -> Result<Vec<u8>, Memory>
         ensures { IfOk result (λ bytes. bytes.items ≡ line (refusal_text self.now)) }
     {

@@ -1,7 +1,7 @@
 -- The printer has taken the bytes up to the rest, and no call failed.
 use Rattle.std.proofs.Common.{◌≡◌, length}
 use Rattle.ssim_base.specs.Sinks.{TakesUpTo}
-use Rattle.ssim_program.proofs.printer.print_all.Given as goal
+use Rattle.ssim_program.proofs.printer.put_all.Given as goal
 
 abbrev pub invariant-loop-rest : goal.invariant-loop-rest
 invariant-loop-rest g l = record {
