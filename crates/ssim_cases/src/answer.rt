@@ -1,6 +1,6 @@
 //! Runs of the program on devices that may fail.
 
-use crate::devices::{BrokenStore, NoStore};
+use crate::devices::{BrokenStore, FullStore, NoStore};
 use crate::fault::Fault;
 use crate::memory_store::MemoryStore;
 use crate::shown::{number, parts, push_line, push_named, show};
@@ -13,6 +13,8 @@ use std::alloc::Global;
 pub struct Devices {
     /// The fault of the store, if it fails.
     store: Option<StoreFault>,
+    /// The fault of the store if a file is kept, if that fails.
+    keep: Option<StoreFault>,
     /// How many bytes a file gives before it fails, if it fails.
     file: Option<usize>,
     /// What the standard output takes, and whether it can be flushed.
@@ -27,6 +29,7 @@ impl Devices {
     pub fn new() -> Devices {
         Devices {
             store: None,
+            keep: None,
             file: None,
             out: Extent::whole(),
             flushes: true,
@@ -42,8 +45,8 @@ impl Devices {
             "err" => self.err.room = number(how)?,
             "flush" => self.flushes = false,
             "file" => self.file = Some(number(how)?),
-            "store" if how == "memory" => self.store = Some(StoreFault::Memory),
-            "store" => self.store = Some(StoreFault::Fault),
+            "store" => self.store = Some(fault_of(how)),
+            "keep" => self.keep = Some(fault_of(how)),
             _ => return Err(Fault::Line),
         }
         Ok(())
@@ -62,12 +65,23 @@ impl Devices {
 
     /// Runs the program on these words.
     pub fn answer(&self, alloc: Global, words: &[&str], store: &mut MemoryStore) -> Answer {
-        match (self.store, self.file) {
-            (Some(fault), _) => self.answer_with(alloc, words, &mut NoStore { fault }),
-            (None, Some(room)) => {
+        let failures = 0;
+        match (self.store, self.keep, self.file) {
+            (Some(fault), _, _) => {
+                self.answer_with(alloc, words, &mut NoStore { fault, failures })
+            }
+            (None, Some(fault), _) => {
+                let mut full = FullStore {
+                    store,
+                    fault,
+                    failures,
+                };
+                self.answer_with(alloc, words, &mut full)
+            }
+            (None, None, Some(room)) => {
                 self.answer_with(alloc, words, &mut BrokenStore { store, room })
             }
-            (None, None) => self.answer_with(alloc, words, store),
+            (None, None, None) => self.answer_with(alloc, words, store),
         }
     }
 
@@ -80,6 +94,15 @@ impl Devices {
             out: out.taken,
             err: err.taken,
         }
+    }
+}
+
+/// The fault of a store that is out of memory, or fails always.
+fn fault_of(how: &str) -> StoreFault {
+    if how == "memory" {
+        StoreFault::Memory
+    } else {
+        StoreFault::Fault
     }
 }
 

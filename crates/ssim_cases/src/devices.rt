@@ -1,6 +1,7 @@
 //! Devices and stores that fail.
 
 ghost use Rattle.std.specs.Prelude.{None};
+ghost use Rattle.ssim_program.specs.Files.{CountsKeep};
 
 use crate::memory_store::MemoryStore;
 use ssim_program::{Content, Store, StoreFault};
@@ -11,10 +12,13 @@ use std::alloc::Global;
 #[derive(Clone, Copy)]
 pub struct NoStore {
     pub fault: StoreFault,
+    pub failures: u64,
 }
 
 impl Store for NoStore {
     type File = Parts;
+
+    ghost failures = { λ s. s.failures };
 
     fn open(&mut self, _alloc: Global, _name: &str) -> Result<Parts, StoreFault> {
         Err(self.fault)
@@ -25,7 +29,48 @@ impl Store for NoStore {
     }
 
     fn keep<C: Content>(&mut self, _name: &str, _content: &C) -> Result<(), StoreFault> {
-        Err(self.fault)
+        not_kept(self.fault, &mut self.failures)
+    }
+
+    ghost unfailing = { λ s. tt };
+}
+
+/// The result of a call of `keep` that fails with this fault. 91 is counted.
+fn not_kept(fault: StoreFault, failures: &mut u64) -> Result<(), StoreFault>
+    ensures { CountsKeep failures.old failures.new result }
+{
+    match fault {
+        StoreFault::Memory => Err(StoreFault::Memory),
+        StoreFault::Fault => {
+            *failures = failures.wrapping_add(1);
+            Err(StoreFault::Fault)
+        }
+    }
+}
+
+/// A store whose files are read, but which keeps none: each call of `keep` fails with its fault.
+#[derive(Drop)]
+pub struct FullStore<'a> {
+    pub store: &'a mut MemoryStore,
+    pub fault: StoreFault,
+    pub failures: u64,
+}
+
+impl Store for FullStore<'_> {
+    type File = Parts;
+
+    ghost failures = { λ s. s.failures };
+
+    fn open(&mut self, alloc: Global, name: &str) -> Result<Parts, StoreFault> {
+        self.store.open(alloc, name)
+    }
+
+    fn load(&mut self, alloc: Global, name: &str, limit: u64) -> Result<Vec<u8>, StoreFault> {
+        self.store.load(alloc, name, limit)
+    }
+
+    fn keep<C: Content>(&mut self, _name: &str, _content: &C) -> Result<(), StoreFault> {
+        not_kept(self.fault, &mut self.failures)
     }
 
     ghost unfailing = { λ s. tt };
@@ -40,6 +85,8 @@ pub struct BrokenStore<'a> {
 
 impl Store for BrokenStore<'_> {
     type File = BrokenFile;
+
+    ghost failures = { λ _. 0 };
 
     fn open(&mut self, alloc: Global, name: &str) -> Result<BrokenFile, StoreFault> {
         let bytes = self.store.open(alloc, name)?;

@@ -14,7 +14,8 @@
 //!   `fails err COUNT`: so does the standard error; `fails flush always`: no flush of the standard
 //!   output works; `stops out COUNT`: the standard output takes this many bytes and then none of
 //!   each call; `fails store memory`, `fails store always`: the store is out of memory, or gives
-//!   no file.
+//!   no file; `fails keep memory`, `fails keep always`: so it is only if a file is to be kept;
+//!   `fails file COUNT`: a file gives this many bytes and then fails.
 //! - `desks COUNT DATASET STATIONS`: new desks over the base of two files, numbered from 1; `more`
 //!   adds desks over another base; `copy DESK` adds one over a copy of the base of a desk.
 //! - `take DESK FILE`, `merge DESK DESK`: what it returns is printed. `same`: whether all desks

@@ -1,12 +1,12 @@
 -- What a command does to the world, from what it makes and what is printed of it.
-use Rattle.std.proofs.Common.{◌≡◌, ◌∙◌, inl, inr, ℕ, Vec, List, [], Option, None, Some, Result, Ok, Err, IfErr, IfOk, refl, sym, ap, subst}
+use Rattle.std.proofs.Common.{◌≡◌, inl, inr, ℕ, Vec, List, [], Option, None, Result, Ok, Err, IfErr, IfOk, refl}
 use Rattle.ssim_program.specs.Again.{PrintsItself}
 use Rattle.ssim_program.specs.Effects.{Begins, Makes}
 use Rattle.ssim_program.specs.Files.{Files, Kept, with_kept}
 use Rattle.ssim_command_line.specs.Line.{Line, Check, Tidy, Start, Take, Merge, Show, Findings, Export, Rehearse, Explain}
-use Rattle.ssim_program.specs.Paper.{Breaks, Grows, Paper, Prints}
+use Rattle.ssim_program.specs.Paper.{Paper, Prints}
 use Rattle.ssim_program.specs.Reasons.{Refuses}
-use Rattle.ssim_program.specs.World.{Does, Prepares, PrintsAtOnce, world}
+use Rattle.ssim_program.specs.World.{Does, Prepares, PrintsAtOnce, Stops, world}
 use Rattle.ssim_program.specs.declared.refusal.Refusal.{Refusal}
 use Rattle.ssim_program.specs.declared.refusal.Refusal.TheVariants as refused
 use Rattle.ssim_program.proofs.Printers.{nothing}
@@ -38,30 +38,45 @@ begins (Rehearse dataset stations script) files text kept at_once made = made
 begins (Explain word) files text kept at_once made = made
 
 -- what is printed of what was made
-pub prints_made : (line : Line) (old new : Option Files) (text : List ℕ) (before after : Paper) (r : Result (Unit {0}) Refusal) → PrintsAtOnce line
-    → ((kept : Kept) × Makes line old text kept × (new ≡ with_kept kept old)) → Prints text before after r → Does line (world old before) (world new after) r
-prints_made line old new text before after (Ok x) at_once made printed =
-    record { printed = text; kept = made.0; makes = made.1; again = itself line before.taken after.taken at_once; files = made.2; grows = printed.0; flushed = printed.1 }
-prints_made line old new text before after (Err refusal) at_once made printed =
-    inr (record { is = printed.0; printed = text; kept = made.0; begins = begins line old text made.0 at_once made.1; files = made.2; breaks = printed.1 })
+pub prints_made : (line : Line) (old : Option Files) (n : ℕ) (new : Option Files) (m : ℕ) (text : List ℕ) (before after : Paper) (r : Result (Unit {0}) Refusal) → PrintsAtOnce line
+    → ((kept : Kept) × Makes line old text kept × (new ≡ with_kept kept old) × (m ≡ n)) → Prints text before after r → Does line (world old n before) (world new m after) r
+prints_made line old n new m text before after (Ok x) at_once made printed = record {
+  printed = text;
+  kept = made.0;
+  makes = made.1;
+  again = itself line before.taken after.taken at_once;
+  files = made.2;
+  failures = made.3;
+  grows = printed.0;
+  flushed = printed.1;
+}
+prints_made line old n new m text before after (Err refusal) at_once made printed = inr (record {
+  is = printed.0;
+  printed = text;
+  kept = made.0;
+  begins = begins line old text made.0 at_once made.1;
+  files = made.2;
+  failures = made.3;
+  breaks = printed.1;
+})
 
--- nothing is printed of what is refused
-pub stops_at_once : (line : Line) (old new : Option Files) (out : Paper) (refusal : Refusal) → Refuses line old [] refusal → new ≡ old
-    → Does line (world old out) (world new out) (Err refusal)
-stops_at_once line old new out refusal why same = inl (record { printed = []; why = why; files = same; grows = nothing out })
+-- nothing is printed of what stops
+pub stops_at_once : (line : Line) (old : Option Files) (n : ℕ) (new : Option Files) (m : ℕ) (out : Paper) (refusal : Refusal) → Stops line old n m [] refusal → new ≡ old
+    → Does line (world old n out) (world new m out) (Err refusal)
+stops_at_once line old n new m out refusal why same = inl (record { printed = []; why = why; files = same; grows = nothing out })
 
 -- a command that keeps no file, from what its last call makes
-pub prepared : {A : Type 0} (line : Line) (old new : Option Files) (P : List ℕ → Type 0) (Q : Refusal → Type 0) (r : Result (Vec ℕ A) Refusal)
-    → ((text : List ℕ) → P text → Makes line old text None) → ((refusal : Refusal) → Q refusal → Refuses line old [] refusal) → new ≡ old
-    → IfOk r (λ v. P v.items) → IfErr r Q → Prepares line old new r
-prepared line old new P Q (Ok v) made why same ok err = (None, made v.items ok, same)
-prepared line old new P Q (Err refusal) made why same ok err = (why refusal err, same)
+pub prepared : {A : Type 0} (line : Line) (old : Option Files) (n : ℕ) (new : Option Files) (m : ℕ) (P : List ℕ → Type 0) (Q : Refusal → Type 0) (r : Result (Vec ℕ A) Refusal)
+    → ((text : List ℕ) → P text → Makes line old text None) → ((refusal : Refusal) → Q refusal → Refuses line old [] refusal) → new ≡ old → m ≡ n
+    → IfOk r (λ v. P v.items) → IfErr r Q → Prepares line old n new m r
+prepared line old n new m P Q (Ok v) made why same counted ok err = (None, made v.items ok, same, counted)
+prepared line old n new m P Q (Err refusal) made why same counted ok err = (inl (why refusal err, counted), same)
 
 -- memory ran out before anything was done
 pub memory_refuses : (line : Line) (files : Option Files) → Refuses line files [] refused.Memory
 memory_refuses (Check name) files = (refl, inl (inl refl))
 memory_refuses (Tidy name) files = (refl, inl (inl (inl refl)))
-memory_refuses (Start dataset stations out) files = (refl, inl (inl (inl refl)))
+memory_refuses (Start dataset stations out) files = (refl, inl (inl refl))
 memory_refuses (Take file out names) files = inl (refl, inl (inl refl))
 memory_refuses (Merge file other out) files = (refl, inl (inl (inl refl)))
 memory_refuses (Show file flight date) files = (refl, inl (inl (inl refl)))

@@ -18,11 +18,10 @@ use Rattle.ssim_program.specs.Exported.{IsWritten, PrintsExport, failures_of, ta
 use Rattle.ssim_program.specs.Files.{Files}
 use Rattle.ssim_command_line.specs.Line.{Text, Tidy, Export}
 use Rattle.ssim_program.specs.Made.{ReadsFile}
-use Rattle.ssim_program.specs.Paper.{Breaks, Grows, Paper, Prints}
+use Rattle.ssim_program.specs.Paper.{Grows, Paper, Prints}
 use Rattle.ssim_program.specs.Refusal.{refusal_of_export}
 use Rattle.ssim_program.specs.World.{Does, world}
 use Rattle.ssim_program.specs.declared.refusal.Refusal.{Refusal}
-use Rattle.ssim_program.specs.declared.refusal.Refusal.TheVariants as refused
 use Rattle.ssim_program.proofs.Again.{grows_by_itself}
 use Rattle.ssim_program.proofs.Printers.{breaks_after, flushed_after, nothing}
 
@@ -53,30 +52,30 @@ module _ (base : List Record) (days : FlightNumber → Days) (before mid : Paper
   not_written airline WriteFault is device h = inr (refl, h.2.0, (h.0, h.1, h.2.1), record { taken = h.2.2; failures = h.2.3; device = device })
 
 -- what `tidy` does
-module _ (files new : Option Files) (name : Text) (same : new ≡ files) (p q : Paper) where
+module _ (files : Option Files) (n : ℕ) (new : Option Files) (m : ℕ) (name : Text) (same : new ≡ files) (counted : m ≡ n) (p q : Paper) where
   pub tidy_does : (base : List Record) (notes : List Note) (r : Result (Unit {0}) Refusal) → ReadsFile files name (Ok (base, notes)) → PrintsExport base (days_of base) p q r
-      → Does (Tidy name) (world files p) (world new q) r
+      → Does (Tidy name) (world files n p) (world new m q) r
   tidy_does base notes (Ok x) read h =
-      record { printed = h.0.0; kept = None; makes = (base, notes, read, h.0.1, refl); again = h.1; files = same; grows = h.0.2; flushed = h.2 }
+      record { printed = h.0.0; kept = None; makes = (base, notes, read, h.0.1, refl); again = h.1; files = same; failures = counted; grows = h.0.2; flushed = h.2 }
   tidy_does base notes (Err refusal) read (inl k) = inl (record {
     printed = [];
-    why = (refl, inr (base, notes, read, k.1));
+    why = inl ((refl, inr (base, notes, read, k.1)), counted);
     files = same;
     grows = subst (λ (x : Paper). Grows [] p x) (sym k.0) (nothing p);
   })
   tidy_does base notes (Err refusal) read (inr k) =
-      inr (record { is = k.0; printed = k.1; kept = None; begins = (base, notes, read, k.2, refl); files = same; breaks = k.3 })
+      inr (record { is = k.0; printed = k.1; kept = None; begins = (base, notes, read, k.2, refl); files = same; failures = counted; breaks = k.3 })
 
   -- what `export` does
   pub export_does : (desk : DeskSeen) (r : Result (Unit {0}) Refusal) → ReadsDesk files name desk → PrintsExport desk.base.records (days_of_desk desk) p q r
-      → Does (Export name) (world files p) (world new q) r
+      → Does (Export name) (world files n p) (world new m q) r
   export_does desk (Ok x) read h =
-      record { printed = h.0.0; kept = None; makes = (desk, read, h.0.1, refl); again = h.1; files = same; grows = h.0.2; flushed = h.2 }
+      record { printed = h.0.0; kept = None; makes = (desk, read, h.0.1, refl); again = h.1; files = same; failures = counted; grows = h.0.2; flushed = h.2 }
   export_does desk (Err refusal) read (inl k) = inl (record {
     printed = [];
-    why = (refl, inr (desk, read, k.1));
+    why = inl ((refl, inr (desk, read, k.1)), counted);
     files = same;
     grows = subst (λ (x : Paper). Grows [] p x) (sym k.0) (nothing p);
   })
   export_does desk (Err refusal) read (inr k) =
-      inr (record { is = k.0; printed = k.1; kept = None; begins = (desk, read, k.2, refl); files = same; breaks = k.3 })
+      inr (record { is = k.0; printed = k.1; kept = None; begins = (desk, read, k.2, refl); files = same; failures = counted; breaks = k.3 })

@@ -74,9 +74,9 @@ obeyed words line before after err err' status names (inr (one, ends)) = record 
 
 -- ---- other words
 
-module _ (words : List Text) (files : Option Files) (out out' err err' : Paper) (status : ℕ) where
+module _ (words : List Text) (files : Option Files) (failures : ℕ) (out out' err err' : Paper) (status : ℕ) where
   -- memory ran out
-  out_of_memory : Answers Memory out out' err err' status → Says words (world files out) (world files out') err err' status
+  out_of_memory : Answers Memory out out' err err' status → Says words (world files failures out) (world files failures out') err err' status
   out_of_memory (one, same, printed) = record {
     most = omega arith;
     known = λ line names. omega arith;
@@ -84,7 +84,7 @@ module _ (words : List Text) (files : Option Files) (out out' err err' : Paper) 
     memory = λ _. inr (inr printed);
     wrong = λ two. absurd (omega arith);
     done = λ line names zero. absurd (omega arith);
-    ends = λ line names _. (refused.Memory, inl (record { printed = []; why = memory_refuses line files; files = refl; grows = still }), printed);
+    ends = λ line names _. (refused.Memory, inl (record { printed = []; why = inl (memory_refuses line files, refl); files = refl; grows = still }), printed);
     help = λ zero. absurd (omega arith);
     no_help = λ _. inr (refused.Memory, inl (refl, still), printed);
     usage = λ two. absurd (omega arith);
@@ -96,7 +96,7 @@ module _ (words : List Text) (files : Option Files) (out out' err err' : Paper) 
 
   -- help is asked for
   helped : (error : Error) → IsFaultOf words (Shown error) → is_help (kind_of error) ≡ true → SaysHelp out out' err err' status
-      → Says words (world files out) (world files out') err err' status
+      → Says words (world files failures out) (world files failures out') err err' status
   helped error is asked (inl (zero, printed)) = record {
     most = omega arith;
     known = λ line names. absurd (names_faultless words line (kind_of error) names is);
@@ -130,7 +130,7 @@ module _ (words : List Text) (files : Option Files) (out out' err err' : Paper) 
 
   -- the words are wrong
   said_wrong : HasFault words false ⊎ IsNoCommand words → ((line : Line) → Names words line → ⊥) → status ≡ 2 → SaysWrong out out' err err'
-      → Says words (world files out) (world files out') err err' status
+      → Says words (world files failures out) (world files failures out') err err' status
   said_wrong why none two says = record {
     most = omega arith;
     known = λ line names. absurd (none line names);
@@ -145,7 +145,7 @@ module _ (words : List Text) (files : Option Files) (out out' err err' : Paper) 
     devices = (says.0.device, all_device says.1 err err' says.2);
   }
 
-  pub answered : (fault : LineFault) → IsFaultOf words fault → Answers fault out out' err err' status → Says words (world files out) (world files out') err err' status
+  pub answered : (fault : LineFault) → IsFaultOf words fault → Answers fault out out' err err' status → Says words (world files failures out) (world files failures out') err err' status
   answered Memory is said = out_of_memory said
   answered (Shown error) is (inl said) = helped error is said.0 said.1
   answered (Shown error) is (inr said) =

@@ -67,52 +67,68 @@ module _ (files : Option Files) (names : List Text) (i : ℕ) (name : Text) (is 
   )
 
 -- what `take` does, from what its calls do
-module _ (files : Option Files) (file out : Text) (names : List Text) where
+module _ (files : Option Files) (n : ℕ) (file out : Text) (names : List Text) where
   -- the desk file is refused
-  pub not_opened : (new : Option Files) (p : Paper) (refusal : Refusal) → RefusesDeskFile files file refusal → new ≡ files
-      → Does (Take file out names) (world files p) (world new p) (Err refusal)
-  not_opened new p refusal why same = inl (record { printed = []; why = inl (refl, why); files = same; grows = nothing p })
+  pub not_opened : (new : Option Files) (m : ℕ) (p : Paper) (refusal : Refusal) → RefusesDeskFile files file refusal → new ≡ files → m ≡ n
+      → Does (Take file out names) (world files n p) (world new m p) (Err refusal)
+  not_opened new m p refusal why same counted = inl (record { printed = []; why = inl (inl (refl, why), counted); files = same; grows = nothing p })
 
   module _ (desk : DeskSeen) (read : ReadsDesk files file desk) (last : DeskSeen) (p q : Paper) where
     -- a text is refused, or `out` fails
-    pub not_taken : (new : Option Files) (refusal : Refusal) → new ≡ files → PrintsTexts files names desk last p q (Err refusal)
-        → Does (Take file out names) (world files p) (world new q) (Err refusal)
-    not_taken new refusal same (inl k) = inl (record { printed = k.0; why = inr (desk, read, inl k.1); files = same; grows = k.2 })
-    not_taken new refusal same (inr k) =
-        inr (record { is = k.0; printed = k.3; kept = None; begins = (desk, k.1, k.2, read, k.4, refl); files = same; breaks = k.5 })
+    pub not_taken : (new : Option Files) (m : ℕ) (refusal : Refusal) → new ≡ files → m ≡ n → PrintsTexts files names desk last p q (Err refusal)
+        → Does (Take file out names) (world files n p) (world new m q) (Err refusal)
+    not_taken new m refusal same counted (inl k) = inl (record { printed = k.0; why = inl (inr (desk, read, k.1), counted); files = same; grows = k.2 })
+    not_taken new m refusal same counted (inr k) = inr (record {
+      is = k.0;
+      printed = k.3;
+      kept = None;
+      begins = (desk, k.1, k.2, read, k.4, refl);
+      files = same;
+      failures = counted;
+      breaks = k.5;
+    })
 
     module _ (printed : HavePrinted files names desk last p q) (r : Paper) where
       whole : TakesFirst files names (length names) desk last printed.0
       whole = subst (λ (ns : List Text). TakesTexts files ns desk last printed.0) (sym (take-length names)) printed.1
 
       -- all texts were taken, and the flush fails
-      pub not_flushed : (new : Option Files) (refusal : Refusal) → new ≡ files → refusal ≡ refused.WriteFault → Breaks [] q r
-          → Does (Take file out names) (world files p) (world new r) (Err refusal)
-      not_flushed new refusal same failed breaks = inr (record {
+      pub not_flushed : (new : Option Files) (m : ℕ) (refusal : Refusal) → new ≡ files → m ≡ n → refusal ≡ refused.WriteFault → Breaks [] q r
+          → Does (Take file out names) (world files n p) (world new m r) (Err refusal)
+      not_flushed new m refusal same counted failed breaks = inr (record {
         is = failed;
         printed = printed.0;
         kept = None;
         begins = (desk, length names, last, read, whole, refl);
         files = same;
+        failures = counted;
         breaks = breaks_after printed.0 p q r printed.2 breaks;
       })
 
       -- the desk file is kept or not
-      pub kept_or_not : (k : Result (Unit {0}) Refusal) (between new : Option Files) → AreRising last.held → between ≡ files → Grows [] q r → r.flushed ≡ true
-          → OnOk k (new ≡ with_kept (Some (out, desk_file last.base last.held)) between) → IfErr k (RefusesKeep out) → OnErr k (new ≡ between)
-          → Does (Take file out names) (world files p) (world new r) k
-      kept_or_not (Ok x) between new rising before grows flushed done why same = record {
+      pub kept_or_not : (k : Result (Unit {0}) Refusal) (between : Option Files) (l : ℕ) (new : Option Files) (m : ℕ) → AreRising last.held → between ≡ files → l ≡ n → Grows [] q r → r.flushed ≡ true
+          → OnOk k (new ≡ with_kept (Some (out, desk_file last.base last.held)) between) → OnErr k (new ≡ between) → OnOk k (m ≡ l) → IfErr k (RefusesKeep l m out)
+          → Does (Take file out names) (world files n p) (world new m r) k
+      kept_or_not (Ok x) between l new m rising before none grows flushed done same counted why = record {
         printed = printed.0;
         kept = Some (out, desk_file last.base last.held);
         makes = (desk, last, read, printed.1, rising, refl);
         again = tt;
         files = done ∙ ap (with_kept (Some (out, desk_file last.base last.held))) before;
+        failures = counted ∙ none;
         grows = flushed_after printed.0 p q r printed.2 grows;
         flushed = flushed;
       }
-      kept_or_not (Err refusal) between new rising before grows flushed done why same = inl (record {
+      kept_or_not (Err refusal) between l new m rising before none grows flushed done same counted why = inl (record {
         printed = printed.0;
-        why = inr (desk, read, inr ((last, printed.1), why));
+        why = inr (record {
+          made = printed.0;
+          name = out;
+          bytes = desk_file last.base last.held;
+          makes = (desk, last, read, printed.1, rising, refl);
+          printed_is = refl;
+          why = subst (λ (k : ℕ). RefusesKeep k m out refusal) none why;
+        });
         files = same ∙ before;
         grows = flushed_after printed.0 p q r printed.2 grows;
       })

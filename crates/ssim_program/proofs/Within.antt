@@ -1,10 +1,9 @@
 -- What a data set in a file is read as, if the file is opened and read to its end.
-use Rattle.std.proofs.Common.{◌≡◌, ◌≤◌, ◌<◌, ◌⊎◌, ℕ, List, [], length, Option, Some, None, Err, subst, sym, ap, inl, inr, refl, arith}
+use Rattle.std.proofs.Common.{◌≡◌, ◌≤◌, ◌<◌, ◌+◌, ◌⊎◌, ℕ, List, [], length, Option, Some, None, Err, subst, sym, ap, inl, inr, refl, arith}
 use Rattle.std.specs.Prelude.{IfSome}
-use Rattle.ssim_records.specs.declared.fault.RecordFault.{RecordFault}
 use Rattle.ssim_records.specs.declared.fault.RecordFault.TheVariants.{Short, BadType, BadColumn, ReadFault, ReaderNeverEnds}
 use Rattle.ssim_base.specs.Base.{Outcome}
-use Rattle.ssim_base.specs.Reading.{Came, FailsAs, IsReadAs, IsReadOf, IsWholeOf, NeverEnds, RefusesWhole}
+use Rattle.ssim_base.specs.Reading.{Came, FailsAs, IsReadAs, NeverEnds, RefusesWhole}
 use Rattle.ssim_base.specs.declared.fault.BaseFault.{BaseFault}
 use Rattle.ssim_base.specs.declared.fault.BaseFault.TheVariants as fault
 use Rattle.ssim_base.specs.declared.fault.BaseFault.TheVariants.{Read, Refused}

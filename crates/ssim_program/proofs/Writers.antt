@@ -39,37 +39,45 @@ module _ (p q : Paper) (t u : Option (List ℕ)) (began : p.taken ≡ t) (none :
   as_was same = ap (λ (x : Option (List ℕ)). paper x 0) (sym ended ∙ ap (λ (x : Paper). x.taken) same ∙ began)
 
   -- `out` is such a printer
-  pub done_of : (line : Line) (old new : Option Files) → IsDone line (world old p) (world new q) → IsDone line (world old (paper t 0)) (world new (paper u 0))
-  done_of line old new d = record {
+  pub done_of : (line : Line) (old : Option Files) (n : ℕ) (new : Option Files) (m : ℕ) → IsDone line (world old n p) (world new m q) → IsDone line (world old n (paper t 0)) (world new m (paper u 0))
+  done_of line old n new m d = record {
     printed = d.printed;
     kept = d.kept;
     makes = d.makes;
     again = at_ends (PrintsItself line) d.again;
     files = d.files;
+    failures = d.failures;
     grows = all_of d.printed d.grows;
     flushed = refl;
   }
 
-  pub refused_of : (line : Line) (old new : Option Files) (refusal : Refusal) → IsRefused line (world old p) (world new q) refusal
-      → IsRefused line (world old (paper t 0)) (world new (paper u q.failures)) refusal
-  refused_of line old new refusal (inl s) = inl (record { printed = s.printed; why = s.why; files = s.files; grows = grows_of s.printed s.grows })
-  refused_of line old new refusal (inr k) =
-      inr (record { is = k.is; printed = k.printed; kept = k.kept; begins = k.begins; files = k.files; breaks = breaks_of k.printed k.breaks })
+  pub refused_of : (line : Line) (old : Option Files) (n : ℕ) (new : Option Files) (m : ℕ) (refusal : Refusal) → IsRefused line (world old n p) (world new m q) refusal
+      → IsRefused line (world old n (paper t 0)) (world new m (paper u q.failures)) refusal
+  refused_of line old n new m refusal (inl s) = inl (record { printed = s.printed; why = s.why; files = s.files; grows = grows_of s.printed s.grows })
+  refused_of line old n new m refusal (inr k) = inr (record {
+    is = k.is;
+    printed = k.printed;
+    kept = k.kept;
+    begins = k.begins;
+    files = k.files;
+    failures = k.failures;
+    breaks = breaks_of k.printed k.breaks;
+  })
 
 -- two printers, `out` and `err`
 module _ (o o' e e' : Paper) (t u v w : Option (List ℕ)) (o-began : o.taken ≡ t) (o-none : o.failures ≡ 0) (o-ended : o'.taken ≡ u)
     (e-began : e.taken ≡ v) (e-none : e.failures ≡ 0) (e-ended : e'.taken ≡ w) where
-  pub ends_of : (line : Line) (old new : Option Files) → EndsWithLine line (world old o) (world new o') e e'
-      → (failed : ℕ) × (err_failed : ℕ) × EndsWithLine line (world old (paper t 0)) (world new (paper u failed)) (paper v 0) (paper w err_failed)
-  ends_of line old new h = (
+  pub ends_of : (line : Line) (old : Option Files) (n : ℕ) (new : Option Files) (m : ℕ) → EndsWithLine line (world old n o) (world new m o') e e'
+      → (failed : ℕ) × (err_failed : ℕ) × EndsWithLine line (world old n (paper t 0)) (world new m (paper u failed)) (paper v 0) (paper w err_failed)
+  ends_of line old n new m h = (
     o'.failures,
     e'.failures,
-    (h.0, refused_of o o' t u o-began o-none o-ended line old new h.0 h.1, printed_of e e' v w e-began e-none e-ended _ h.2),
+    (h.0, refused_of o o' t u o-began o-none o-ended line old n new m h.0 h.1, printed_of e e' v w e-began e-none e-ended _ h.2),
   )
 
-  pub done_both : (line : Line) (old new : Option Files) → IsDone line (world old o) (world new o') × (e' ≡ e)
-      → IsDone line (world old (paper t 0)) (world new (paper u 0)) × Keeps v w
-  done_both line old new h = (done_of o o' t u o-began o-none o-ended line old new h.0, stays e e' v w e-began e-none e-ended h.1)
+  pub done_both : (line : Line) (old : Option Files) (n : ℕ) (new : Option Files) (m : ℕ) → IsDone line (world old n o) (world new m o') × (e' ≡ e)
+      → IsDone line (world old n (paper t 0)) (world new m (paper u 0)) × Keeps v w
+  done_both line old n new m h = (done_of o o' t u o-began o-none o-ended line old n new m h.0, stays e e' v w e-began e-none e-ended h.1)
 
   helped : PrintsHelp o o' e e' → PrintsHelp (paper t 0) (paper u 0) (paper v 0) (paper w 0)
   helped h = ((h.0.0, all_of o o' t u o-began o-none o-ended h.0.0 h.0.1), refl, as_was e e' v w e-began e-none e-ended h.2)

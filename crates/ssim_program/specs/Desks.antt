@@ -1,5 +1,5 @@
 -- What the commands on desk files read, make and print, and why they are refused.
-use Rattle.std.specs.Prelude.{Vec, ◌≡◌, ◌≢◌, ◌⊎◌, ℕ, List, [], ◌∷◌, ◌++◌, take, slice_get, Option, Some, None, Result, Ok, Err}
+use Rattle.std.specs.Prelude.{Vec, ◌≡◌, ◌≢◌, ◌⊎◌, ℕ, ◌+◌, ◌%◌, ◌^◌, List, [], ◌∷◌, ◌++◌, take, slice_get, Option, Some, None, Result, Ok, Err}
 use Rattle.ssim_values.specs.Designator.{SpellsDesignator}
 use Rattle.ssim_values.specs.declared.designator.Designator.{Designator}
 use Rattle.ssim_values.specs.declared.fault.Fault.TheVariants as value_fault
@@ -49,9 +49,11 @@ RefusesDeskFile files name refusal =
     RefusesLoad files name refusal
     ⊎ ((bytes : List ℕ) × HasFile files name bytes × IsNoDeskFile bytes × (offset : ℕ) × (refusal ≡ refused.Desk (desk_fault.File offset)))
 
--- why a file is not kept: memory ran out, or the store did not keep it
-abbrev pub RefusesKeep : Text → Refusal → Type 0
-RefusesKeep name refusal = (refusal ≡ refused.Memory) ⊎ IsOfFile name refusal
+-- Why a file is not kept, by the count of the store's failures: memory ran out; or the store counted
+-- one failure more, and the refusal is 91 with the name.
+abbrev pub RefusesKeep : ℕ → ℕ → Text → Refusal → Type 0
+RefusesKeep old new name refusal =
+    ((refusal ≡ refused.Memory) × (new ≡ old)) ⊎ (IsOfFile name refusal × (new ≡ (old + 1) % 2 ^ 64))
 
 -- the line with the number of messages that a desk holds
 abbrev pub held_line : ℕ → List ℕ

@@ -1,5 +1,5 @@
 -- Named files.
-use Rattle.std.specs.Prelude.{Vec, ◌≡◌, ◌<◌, ℕ, IfSome, List, ◌∷◌, ⊤, Option, Some, None, Result, Ok, Err, find, length, option_map}
+use Rattle.std.specs.Prelude.{Vec, ◌≡◌, ◌<◌, ◌+◌, ◌%◌, ◌^◌, ℕ, IfSome, List, ◌∷◌, ⊤, Option, Some, None, Result, Ok, Err, find, length, option_map}
 use Rattle.std.specs.Str.{bytes_eq}
 use Rattle.ssim_program.specs.declared.store.StoreFault.{StoreFault}
 use Rattle.ssim_program.specs.declared.store.StoreFault.TheVariants as fault
@@ -39,6 +39,12 @@ LoadsFile all name limit (Err e) = LoadsBytes all name limit (Err e)
 abbrev pub KeepsFile : Option Files → Option Files → List ℕ → List ℕ → Result ⊤ StoreFault → Type 0
 KeepsFile old new name bytes (Ok x) = new ≡ option_map (λ all. (name, bytes) ∷ all) old
 KeepsFile old new name bytes (Err e) = new ≡ old
+
+-- the store counts a file that it failed to keep (91), and nothing else; the count wraps
+abbrev pub CountsKeep : ℕ → ℕ → Result ⊤ StoreFault → Type 0
+CountsKeep old new (Ok x) = new ≡ old
+CountsKeep old new (Err fault.Memory) = new ≡ old
+CountsKeep old new (Err fault.Fault) = new ≡ (old + 1) % 2 ^ 64
 
 -- the number of a store's fault: 90 if memory ran out; 91 if there is no such file within the
 -- limit, or it cannot be read or written

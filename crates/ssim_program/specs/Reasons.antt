@@ -12,7 +12,7 @@ use Rattle.ssim_base.specs.declared.note.Note.{Note}
 use Rattle.ssim_values.specs.Flight.{FlightNumber}
 use Rattle.ssim_held.specs.Entries.{DeskSeen}
 use Rattle.ssim_desk.specs.Desk.{days_of_desk}
-use Rattle.ssim_program.specs.Desks.{ReadsDesk, RefusesDeskFile, RefusesFlight, RefusesKeep, RefusesMerge, RefusesTexts, TakesTexts}
+use Rattle.ssim_program.specs.Desks.{ReadsDesk, RefusesDeskFile, RefusesFlight, RefusesMerge, RefusesTexts}
 use Rattle.ssim_program.specs.Files.{Files}
 use Rattle.ssim_command_line.specs.Line.{Line, Text, Check, Tidy, Start, Take, Merge, Show, Findings, Export, Rehearse, Explain}
 use Rattle.ssim_program.specs.Made.{ReadsFile, RefusesBase, RefusesFile, RefusesLoad}
@@ -37,31 +37,28 @@ abbrev pub RefusesExport : List Record → (FlightNumber → Days) → Refusal �
 RefusesExport base days refusal = (fault : ExportFault) × HasNoExport base days fault × (refusal ≡ refusal_of_export (airline_of base) fault)
 
 -- Why `take` is refused, and the lines that it has printed before: the desk file is refused, before
--- the first line; or a text is refused, after the lines of those before it; or the desk file is not
--- kept, after the lines of all texts.
-abbrev pub RefusesTake : Option Files → Text → Text → List Text → List ℕ → Refusal → Type 0
-RefusesTake files file out names printed refusal =
+-- the first line; or a text is refused, after the lines of those before it.
+abbrev pub RefusesTake : Option Files → Text → List Text → List ℕ → Refusal → Type 0
+RefusesTake files file names printed refusal =
     ((printed ≡ []) × RefusesDeskFile files file refusal)
-    ⊎ ((desk : DeskSeen) × ReadsDesk files file desk
-    × (RefusesTexts files names desk printed refusal ⊎ (((last : DeskSeen) × TakesTexts files names desk last printed) × RefusesKeep out refusal)))
+    ⊎ ((desk : DeskSeen) × ReadsDesk files file desk × RefusesTexts files names desk printed refusal)
 
--- Why a command is refused, other than that `out` failed, and what it has printed before, which is
--- nothing but for `take`. The reason is a file that it reads, what it makes of it, or the file that
--- it keeps.
+-- Why a command is refused, other than that `out` failed or that its file was not kept, and what it
+-- has printed before, which is nothing but for `take`. The reason is a file that it reads, or what
+-- it makes of it.
 abbrev pub Refuses : Line → Option Files → List ℕ → Refusal → Type 0
 Refuses (Check name) files printed refusal = (printed ≡ []) × RefusesFile files name refusal
 Refuses (Tidy name) files printed refusal =
     (printed ≡ [])
     × (RefusesFile files name refusal
     ⊎ ((base : List Record) × (notes : List Note) × ReadsFile files name (Ok (base, notes)) × RefusesExport base (days_of base) refusal))
-Refuses (Start dataset stations out) files printed refusal = (printed ≡ []) × (RefusesBase files dataset stations refusal ⊎ RefusesKeep out refusal)
-Refuses (Take file out names) files printed refusal = RefusesTake files file out names printed refusal
+Refuses (Start dataset stations out) files printed refusal = (printed ≡ []) × RefusesBase files dataset stations refusal
+Refuses (Take file out names) files printed refusal = RefusesTake files file names printed refusal
 Refuses (Merge file other out) files printed refusal =
     (printed ≡ [])
     × (RefusesDeskFile files file refusal
     ⊎ (((mine : DeskSeen) × ReadsDesk files file mine) × RefusesDeskFile files other refusal)
-    ⊎ ((mine : DeskSeen) × (theirs : DeskSeen) × ReadsDesk files file mine × ReadsDesk files other theirs × RefusesMerge mine theirs refusal)
-    ⊎ RefusesKeep out refusal)
+    ⊎ ((mine : DeskSeen) × (theirs : DeskSeen) × ReadsDesk files file mine × ReadsDesk files other theirs × RefusesMerge mine theirs refusal))
 Refuses (Show file flight date) files printed refusal =
     (printed ≡ []) × (RefusesDeskFile files file refusal ⊎ ((desk : DeskSeen) × ReadsDesk files file desk × RefusesFlight desk flight date refusal))
 Refuses (Findings file) files printed refusal = (printed ≡ []) × (RefusesDeskFile files file refusal ⊎ (refusal ≡ refused.Memory))

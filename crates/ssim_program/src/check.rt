@@ -16,7 +16,8 @@ use std::io::Write;
 
 /// The notes on the data set in the file of this name, and a summary.
 pub(crate) fn check<S: Store>(alloc: Global, name: &str, store: &mut S) -> Result<Vec<u8>, Refusal>
-    ensures { Prepares (Check name.now) (S.files store.old) (S.files store.new) result }
+    ensures { Prepares (Check name.now)
+        (S.files store.old) (S.failures store.old) (S.files store.new) (S.failures store.new) result }
 {
     let summary = load_summary(alloc, name, store)?;
     let lines = lines_on(alloc, &summary)?;

@@ -30,6 +30,7 @@ pub(crate) fn load_file<S: Store>(
     ensures within { IfOk result (λ v. length v.items ≤ file_limit) }
     ensures refused { IfErr result (RefusesLoad (S.files store.old) name.now) }
     ensures same { S.files store.new ≡ S.files store.old }
+    ensures counted { S.failures store.new ≡ S.failures store.old }
 {
     match store.load(alloc, name, LIMIT) {
         Ok(bytes) => Ok(bytes),
@@ -48,6 +49,7 @@ pub(crate) fn load_parts<S: Store>(
     ensures within { IfOk result (λ parts. length parts ≤ file_limit) }
     ensures refused { IfErr result (RefusesLoad (S.files store.old) name.now) }
     ensures same { S.files store.new ≡ S.files store.old }
+    ensures counted { S.failures store.new ≡ S.failures store.old }
 {
     match store.load_parts(alloc, name, LIMIT) {
         Ok(parts) => Ok(parts),
@@ -61,6 +63,7 @@ fn open_file<S: Store>(alloc: Global, name: &str, store: &mut S) -> Result<S::Fi
     ensures opened { IfOk result (λ file. IsOpened (S.files store.old) name.now (S.File.left file)) }
     ensures refused { IfErr result (RefusesLoad (S.files store.old) name.now) }
     ensures same { S.files store.new ≡ S.files store.old }
+    ensures counted { S.failures store.new ≡ S.failures store.old }
 {
     match store.open(alloc, name) {
         Ok(file) => Ok(file),
@@ -94,6 +97,7 @@ fn read_file<S: Store>(
     ensures within { IfOk result (λ _. (bytes : List ℕ) × HasFile (S.files store.old) name.now bytes) }
     ensures refused { IfErr result (RefusesLoad (S.files store.old) name.now) }
     ensures same { S.files store.new ≡ S.files store.old }
+    ensures counted { S.failures store.new ≡ S.failures store.old }
 {
     let mut file = open_file(alloc, name, store)?;
     match DataSet::read(alloc, &mut file, LIMIT) {
@@ -116,6 +120,7 @@ fn sum_file<S: Store>(
     ensures fault { IfOk result (λ read. IfErr read (λ e. IsOfBytes e × ReadsFile (S.files store.old) name.now (Err e))) }
     ensures refused { IfErr result (RefusesLoad (S.files store.old) name.now) }
     ensures same { S.files store.new ≡ S.files store.old }
+    ensures counted { S.failures store.new ≡ S.failures store.old }
 {
     let mut file = open_file(alloc, name, store)?;
     match Summary::read(alloc, &mut file, LIMIT) {
@@ -132,6 +137,7 @@ pub(crate) fn load<S: Store>(alloc: Global, name: &str, store: &mut S) -> Result
     ensures read { IfOk result (λ read. (notes : List Note) × ReadsFile (S.files store.old) name.now (Ok (read, notes))) }
     ensures refused { IfErr result (RefusesFile (S.files store.old) name.now) }
     ensures same { S.files store.new ≡ S.files store.old }
+    ensures counted { S.failures store.new ≡ S.failures store.old }
 {
     match read_file(alloc, name, store) {
         Ok(Ok(data_set)) => Ok(data_set),
@@ -149,6 +155,7 @@ pub(crate) fn load_summary<S: Store>(
     ensures sums { IfOk result (SumsFile (S.files store.old) name.now) }
     ensures refused { IfErr result (RefusesFile (S.files store.old) name.now) }
     ensures same { S.files store.new ≡ S.files store.old }
+    ensures counted { S.failures store.new ≡ S.failures store.old }
 {
     match sum_file(alloc, name, store) {
         Ok(Ok(summary)) => Ok(summary),
@@ -178,6 +185,7 @@ pub(crate) fn load_base<S: Store>(
     ensures read { IfOk result (λ read. (notes : List Note) × ReadsBase (S.files store.old) dataset.now stations.now (base_with read.0 read.1) notes) }
     ensures refused { IfErr result (RefusesBase (S.files store.old) dataset.now stations.now) }
     ensures same { S.files store.new ≡ S.files store.old }
+    ensures counted { S.failures store.new ≡ S.failures store.old }
 {
     let read = read_file(alloc, dataset, store)?;
     let table = load_file(alloc, stations, store)?;

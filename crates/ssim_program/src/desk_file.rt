@@ -20,6 +20,7 @@ pub(crate) fn open_holdings<S: Store>(
     ensures read { IfOk result (ReadsDesk (S.files store.old) name.now) }
     ensures refused { IfErr result (RefusesDeskFile (S.files store.old) name.now) }
     ensures same { S.files store.new ≡ S.files store.old }
+    ensures counted { S.failures store.new ≡ S.failures store.old }
 {
     let parts = load_parts(alloc, name, store)?;
     match Holdings::open(alloc, parts) {
@@ -36,8 +37,9 @@ pub(crate) fn keep<S: Store>(
     store: &mut S,
 ) -> Result<(), Refusal>
     ensures kept { OnOk result (S.files store.new ≡ with_kept (Some (name.now, desk_file holdings.now.base holdings.now.held)) (S.files store.old)) }
-    ensures why { IfErr result (RefusesKeep name.now) }
     ensures same { OnErr result (S.files store.new ≡ S.files store.old) }
+    ensures counted { OnOk result (S.failures store.new ≡ S.failures store.old) }
+    ensures why { IfErr result (RefusesKeep (S.failures store.old) (S.failures store.new) name.now) }
 {
     match store.keep(name, holdings) {
         Ok(()) => Ok(()),

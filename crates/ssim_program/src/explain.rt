@@ -29,7 +29,8 @@ pub(crate) fn explain<S: Store>(
     word: &str,
     store: &mut S,
 ) -> Result<Vec<u8>, Refusal>
-    ensures { Prepares (Explain word.now) (S.files store.old) (S.files store.new) result }
+    ensures { Prepares (Explain word.now)
+        (S.files store.old) (S.failures store.old) (S.files store.new) (S.failures store.new) result }
 {
     match number_in(word.as_bytes()) {
         Some(number) => Ok(on_number(alloc, number)?),
@@ -42,6 +43,7 @@ fn on_file<S: Store>(alloc: Global, name: &str, store: &mut S) -> Result<Vec<u8>
     ensures ok { IfOk result (λ text. ExplainsFile (S.files store.old) name.now text.items) }
     ensures err { IfErr result (RefusesLoad (S.files store.old) name.now) }
     ensures same { S.files store.new ≡ S.files store.old }
+    ensures counted { S.failures store.new ≡ S.failures store.old }
 {
     let bytes = load_file(alloc, name, store)?;
     Ok(on_bytes(alloc, &bytes)?)

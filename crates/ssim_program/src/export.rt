@@ -26,8 +26,8 @@ pub(crate) fn export<S: Store, W: Write>(
     store: &mut S,
     out: &mut Printer<'_, W>,
 ) -> Result<(), Refusal>
-    ensures { Does (Export name.now) (world (S.files store.old) out.old)
-        (world (S.files store.new) out.new) result }
+    ensures { Does (Export name.now) (world (S.files store.old) (S.failures store.old) out.old)
+        (world (S.files store.new) (S.failures store.new) out.new) result }
 {
     let holdings = open_holdings(alloc, name, store)?;
     let airline = holdings.data_set().airline();

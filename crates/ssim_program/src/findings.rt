@@ -23,7 +23,8 @@ pub(crate) fn findings<S: Store>(
     file: &str,
     store: &mut S,
 ) -> Result<Vec<u8>, Refusal>
-    ensures { Prepares (Findings file.now) (S.files store.old) (S.files store.new) result }
+    ensures { Prepares (Findings file.now)
+        (S.files store.old) (S.failures store.old) (S.files store.new) (S.failures store.new) result }
 {
     let desk = open_holdings(alloc, file, store)?;
     let lines = lines_of(alloc, &desk)?;

@@ -22,7 +22,7 @@ pub(crate) fn merge<S: Store>(
     store: &mut S,
 ) -> Result<Vec<u8>, Refusal>
     ensures { Prepares (Merge mine.now theirs.now name.now)
-        (S.files store.old) (S.files store.new) result }
+        (S.files store.old) (S.failures store.old) (S.files store.new) (S.failures store.new) result }
 {
     let mut desk = open_holdings(alloc, mine, store)?;
     let other = open_holdings(alloc, theirs, store)?;

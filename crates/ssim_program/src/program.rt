@@ -55,10 +55,10 @@ pub fn run<S: Store, O: Write, E: Write>(
         ⊎ IsNoCommand (map (λ w. w.now) words.now) }
 
     // A command that was done printed exactly what it makes of the files, and kept exactly its
-    // file. `err` holds the same bytes.
+    // file; the store counted no failure. `err` holds the same bytes.
     ensures done { (line : Line) → Names (map (λ w. w.now) words.now) line → result ≡ 0
-        → IsDone line (world (S.files store.old) (paper (O.contents out.old) 0))
-        (world (S.files store.new) (paper (O.contents out.new) 0))
+        → IsDone line (world (S.files store.old) (S.failures store.old) (paper (O.contents out.old) 0))
+        (world (S.files store.new) (S.failures store.new) (paper (O.contents out.new) 0))
         × Keeps (E.contents err.old) (E.contents err.new) }
 
     // With some number of failed calls of each writer: a refused command printed nothing but the
@@ -66,8 +66,8 @@ pub fn run<S: Store, O: Write, E: Write>(
     // `err` failed.
     ensures ends { (line : Line) → Names (map (λ w. w.now) words.now) line → result ≡ 1
         → (failed : ℕ) × (err_failed : ℕ)
-        × EndsWithLine line (world (S.files store.old) (paper (O.contents out.old) 0))
-        (world (S.files store.new) (paper (O.contents out.new) failed))
+        × EndsWithLine line (world (S.files store.old) (S.failures store.old) (paper (O.contents out.old) 0))
+        (world (S.files store.new) (S.failures store.new) (paper (O.contents out.new) failed))
         (paper (E.contents err.old) 0) (paper (E.contents err.new) err_failed) }
 
     // Whatever its status, a command has kept the file of what it makes, or no file changed.
@@ -138,17 +138,19 @@ pub fn run_on<S: Store, O: Write, E: Write>(
         ⊎ IsNoCommand (map (λ w. w.now) words.now) }
 
     // A command that was done printed exactly what it makes of the files, flushed it, and kept
-    // exactly its file. `err` is as it was.
+    // exactly its file; the store counted no failure. `err` is as it was.
     ensures done { (line : Line) → Names (map (λ w. w.now) words.now) line → result ≡ 0
-        → IsDone line (world (S.files store.old) out.old) (world (S.files store.new) out.new)
+        → IsDone line (world (S.files store.old) (S.failures store.old) out.old)
+        (world (S.files store.new) (S.failures store.new) out.new)
         × (err.new ≡ err.old) }
 
     // A command is refused for one reason, whose line is printed on `err`. Unless that is 52, no
     // file changed, and nothing was printed on `out` but the lines of `take`; if it is 52, a call
-    // of `out` failed, and it has taken a prefix of what the command prints.
+    // of `out` failed, and it has taken a prefix of what the command prints. The store counted a
+    // failure exactly if it failed to keep the command's file.
     ensures ends { (line : Line) → Names (map (λ w. w.now) words.now) line → result ≡ 1
-        → EndsWithLine line (world (S.files store.old) out.old) (world (S.files store.new) out.new)
-        err.old err.new }
+        → EndsWithLine line (world (S.files store.old) (S.failures store.old) out.old)
+        (world (S.files store.new) (S.failures store.new) out.new) err.old err.new }
 
     // Whatever its status, a command has kept the file of what it makes, or no file changed.
     ensures did { (line : Line) → Names (map (λ w. w.now) words.now) line
@@ -180,8 +182,8 @@ fn obey<S: Store, O: Write, E: Write>(
     out: &mut Printer<'_, O>,
     err: &mut Printer<'_, E>,
 ) -> u8
-    ensures { Obeys (line_of request.now) (world (S.files store.old) out.old)
-        (world (S.files store.new) out.new) err.old err.new result }
+    ensures { Obeys (line_of request.now) (world (S.files store.old) (S.failures store.old) out.old)
+        (world (S.files store.new) (S.failures store.new) out.new) err.old err.new result }
 {
     match act(alloc, request, store, out) {
         Ok(()) => 0,
@@ -196,8 +198,8 @@ fn act<S: Store, O: Write>(
     store: &mut S,
     out: &mut Printer<'_, O>,
 ) -> Result<(), Refusal>
-    ensures { Does (line_of request.now) (world (S.files store.old) out.old)
-        (world (S.files store.new) out.new) result }
+    ensures { Does (line_of request.now) (world (S.files store.old) (S.failures store.old) out.old)
+        (world (S.files store.new) (S.failures store.new) out.new) result }
 {
     match request {
         Request::Tidy(name) => tidy(alloc, name, store, out),
@@ -221,8 +223,9 @@ fn act<S: Store, O: Write>(
 
 /// Prints what a command has made, if it was not refused.
 fn print<O: Write>(made: Result<Vec<u8>, Refusal>, out: &mut Printer<'_, O>) -> Result<(), Refusal>
-    ensures { (line : Line) (old new : Option Files) → PrintsAtOnce line → Prepares line old new made
-        → Does line (world old out.old) (world new out.new) result }
+    ensures { (line : Line) (old : Option Files) (failed : ℕ) (new : Option Files) (failures : ℕ)
+        → PrintsAtOnce line → Prepares line old failed new failures made
+        → Does line (world old failed out.old) (world new failures out.new) result }
 {
     match made {
         Ok(text) => print_all(out, &text),

@@ -35,7 +35,7 @@ pub(crate) fn rehearse<S: Store>(
     store: &mut S,
 ) -> Result<Vec<u8>, Refusal>
     ensures { Prepares (Rehearse dataset.now stations.now script.now)
-        (S.files store.old) (S.files store.new) result }
+        (S.files store.old) (S.failures store.old) (S.files store.new) (S.failures store.new) result }
 {
     let (data_set, stations) = load_base(alloc, dataset, stations, store)?;
     let (count, steps) = load_steps(alloc, script, store)?;

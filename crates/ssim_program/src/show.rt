@@ -36,7 +36,7 @@ pub(crate) fn show_flight<S: Store>(
     store: &mut S,
 ) -> Result<Vec<u8>, Refusal>
     ensures { Prepares (Show file.now flight.now date.now)
-        (S.files store.old) (S.files store.new) result }
+        (S.files store.old) (S.failures store.old) (S.files store.new) (S.failures store.new) result }
 {
     let desk = open_holdings(alloc, file, store)?;
     shown(alloc, &desk, flight, date)

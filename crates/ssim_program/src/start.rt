@@ -23,7 +23,7 @@ pub(crate) fn start<S: Store>(
     store: &mut S,
 ) -> Result<Vec<u8>, Refusal>
     ensures { Prepares (Start dataset.now stations.now name.now)
-        (S.files store.old) (S.files store.new) result }
+        (S.files store.old) (S.failures store.old) (S.files store.new) (S.failures store.new) result }
 {
     let (data_set, stations) = load_base(alloc, dataset, stations, store)?;
     let desk = Holdings::start(alloc, data_set, stations);

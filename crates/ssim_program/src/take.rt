@@ -29,7 +29,8 @@ pub(crate) fn take<S: Store, W: Write>(
     out: &mut Printer<'_, W>,
 ) -> Result<(), Refusal>
     ensures { Does (Take file.now kept.now (map (λ t. t.now) names.now))
-        (world (S.files store.old) out.old) (world (S.files store.new) out.new) result }
+        (world (S.files store.old) (S.failures store.old) out.old)
+        (world (S.files store.new) (S.failures store.new) out.new) result }
 {
     let mut desk = open_holdings(alloc, file, store)?;
     take_texts(alloc, &mut desk, names, store, out)?;
@@ -50,6 +51,7 @@ fn take_texts<S: Store, W: Write>(
     ensures texts { PrintsTexts (S.files store.old) (map (λ t. t.now) names.now) desk.old desk.new
         out.old out.new result }
     ensures same { S.files store.new ≡ S.files store.old }
+    ensures counted { S.failures store.new ≡ S.failures store.old }
 {
     for name in names {
         let line = match take_text(alloc, desk, name, store) {
@@ -70,6 +72,7 @@ fn take_text<S: Store>(
 ) -> Result<Vec<u8>, Refusal>
     ensures text { TakesOrRefuses (S.files store.old) name.now desk.old desk.new result }
     ensures same { S.files store.new ≡ S.files store.old }
+    ensures counted { S.failures store.new ≡ S.failures store.old }
 {
     let text = load_file(alloc, name, store)?;
     let (took, reference) = take_one(desk, &text)?;

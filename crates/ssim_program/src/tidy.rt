@@ -19,8 +19,8 @@ pub(crate) fn tidy<S: Store, W: Write>(
     store: &mut S,
     out: &mut Printer<'_, W>,
 ) -> Result<(), Refusal>
-    ensures { Does (Tidy name.now) (world (S.files store.old) out.old)
-        (world (S.files store.new) out.new) result }
+    ensures { Does (Tidy name.now) (world (S.files store.old) (S.failures store.old) out.old)
+        (world (S.files store.new) (S.failures store.new) out.new) result }
 {
     let data_set = load(alloc, name, store)?;
     let airline = data_set.airline();

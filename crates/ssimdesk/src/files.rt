@@ -28,6 +28,8 @@ pub struct FileStore<'r, R> {
     /// blocks from the system, and gives each back when it is freed; but once it has freed one, it
     /// keeps those that are not larger. So the parts of each file are larger than those before.
     more: usize,
+    /// How many calls of `keep` failed with 91. It wraps at 2^64.
+    failures: u64,
 }
 
 impl<'r, R> FileStore<'r, R> {
@@ -38,12 +40,15 @@ impl<'r, R> FileStore<'r, R> {
             alloc,
             chunk,
             more: 0,
+            failures: 0,
         })
     }
 }
 
 impl<R: Files + Input> Store for FileStore<'_, R> {
     type File = OpenFile<R::File, R::Reader>;
+
+    ghost failures = { λ s. s.failures };
 
     fn open(&mut self, _alloc: Global, name: &str) -> Result<Self::File, StoreFault> {
         if name == "-" {
@@ -84,11 +89,28 @@ impl<R: Files + Input> Store for FileStore<'_, R> {
     }
 
     fn keep<C: Content>(&mut self, name: &str, content: &C) -> Result<(), StoreFault> {
-        if name == "-" {
-            return Err(StoreFault::Fault);
+        match write_file(self.rt, self.alloc, name, content) {
+            Ok(()) => Ok(()),
+            Err(StoreFault::Memory) => Err(StoreFault::Memory),
+            Err(StoreFault::Fault) => {
+                self.failures = self.failures.wrapping_add(1);
+                Err(StoreFault::Fault)
+            }
         }
-        write_whole(self.rt, self.alloc, name, content)
     }
 
     ghost unfailing = { λ s. tt };
+}
+
+/// Writes the content to the file of this name, whole or not at all.
+fn write_file<R: Files, C: Content>(
+    rt: &R,
+    alloc: Global,
+    name: &str,
+    content: &C,
+) -> Result<(), StoreFault> {
+    if name == "-" {
+        return Err(StoreFault::Fault);
+    }
+    write_whole(rt, alloc, name, content)
 }

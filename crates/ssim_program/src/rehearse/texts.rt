@@ -17,6 +17,7 @@ fn load_step<S: Store>(alloc: Global, written: &Written<'_>, store: &mut S) -> R
     ensures ok { IfOk result (IsLoaded (S.files store.old) (as_written written.now)) }
     ensures err { IfErr result (RefusesStep (S.files store.old) (as_written written.now)) }
     ensures same { S.files store.new ≡ S.files store.old }
+    ensures counted { S.failures store.new ≡ S.failures store.old }
 {
     match written {
         Written::Take(desk, name) => match load_file(alloc, name, store) {
@@ -36,6 +37,7 @@ fn load_texts<S: Store>(
     ensures ok { IfOk result (λ steps. AreLoaded (S.files store.old) (map as_written written.now) steps.items) }
     ensures err { IfErr result (RefusesTexts (S.files store.old) (map as_written written.now)) }
     ensures same { S.files store.new ≡ S.files store.old }
+    ensures counted { S.failures store.new ≡ S.failures store.old }
 {
     let mut steps = Vec::with_capacity(alloc, written.len())?;
     for next in written {
@@ -59,6 +61,7 @@ pub(crate) fn load_steps<S: Store>(
     ensures in_range { IfOk result (λ run. All (IsInRange run.0) run.1.items) }
     ensures err { IfErr result (RefusesSteps (S.files store.old) script.now) }
     ensures same { S.files store.new ≡ S.files store.old }
+    ensures counted { S.failures store.new ≡ S.failures store.old }
 {
     let bytes = load_file(alloc, script, store)?;
     let read = Script::read(alloc, &bytes)?;

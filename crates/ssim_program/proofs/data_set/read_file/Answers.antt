@@ -1,6 +1,6 @@
 -- The file was opened, and read to its end.
 use Rattle.std.proofs.Common.{Ok}
-use Rattle.ssim_program.proofs.Within.{has_file, reads_fault, refuses_unread}
+use Rattle.ssim_program.proofs.Within.{has_file}
 use Rattle.ssim_program.proofs.data_set.read_file.Goals as goal
 
 pub returns-in-Ok-clause-within : goal.returns-in-Ok-clause-within

@@ -9,6 +9,6 @@ use Rattle.ssim_program.proofs.explain.explain.Goals as goal
 pub returns-in-None : goal.returns-in-None
 returns-in-None g c =
     let files = g.S.Store.files c.args.store.now in
-    prepared (Explain c.args.word.now) files (g.S.Store.files c.on_file.new.store)
+    prepared (Explain c.args.word.now) files (g.S.Store.failures c.args.store.now) (g.S.Store.files c.on_file.new.store) (g.S.Store.failures c.on_file.new.store)
     (ExplainsFile files c.args.word.now) (RefusesLoad files c.args.word.now) c.on_file.result
-    (λ text explains. (inr (search rules, explains), refl)) (λ refusal why. (refl, why)) c.on_file.ensures.same c.on_file.ensures.ok c.on_file.ensures.err
+    (λ text explains. (inr (search rules, explains), refl)) (λ refusal why. (refl, why)) c.on_file.ensures.same c.on_file.ensures.counted c.on_file.ensures.ok c.on_file.ensures.err

@@ -1,5 +1,5 @@
 -- The export was written and is flushed, or it was not.
-use Rattle.std.proofs.Common.{◌≡◌, Result, Err, subst, sym}
+use Rattle.std.proofs.Common.{Result, Err, subst, sym}
 use Rattle.ssim_schedule.specs.declared.export.ExportFault.{ExportFault}
 use Rattle.ssim_program.specs.Exported.{IsWritten, PrintsExport}
 use Rattle.ssim_program.specs.declared.refusal.Refusal.{Refusal}

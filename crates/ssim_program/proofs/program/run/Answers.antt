@@ -9,14 +9,14 @@ returns-clause-done g c line names zero =
     done_both c.new-printed.result c.run_on-status.new.out c.new-reasons.result c.run_on-status.new.err (g.O.Write.contents c.args.out.now) _ (g.E.Write.contents c.args.err.now) _
     (ap (λ (p : Paper). p.taken) c.new-printed.ensures) (ap (λ (p : Paper). p.failures) c.new-printed.ensures) (search rules)
     (ap (λ (p : Paper). p.taken) c.new-reasons.ensures) (ap (λ (p : Paper). p.failures) c.new-reasons.ensures) (search rules)
-    line (g.S.Store.files c.args.store.now) (g.S.Store.files c.run_on-status.new.store) (c.run_on-status.ensures.done line names zero)
+    line (g.S.Store.files c.args.store.now) (g.S.Store.failures c.args.store.now) (g.S.Store.files c.run_on-status.new.store) (g.S.Store.failures c.run_on-status.new.store) (c.run_on-status.ensures.done line names zero)
 
 pub returns-clause-ends : goal.returns-clause-ends
 returns-clause-ends g c line names one =
     ends_of c.new-printed.result c.run_on-status.new.out c.new-reasons.result c.run_on-status.new.err (g.O.Write.contents c.args.out.now) _ (g.E.Write.contents c.args.err.now) _
     (ap (λ (p : Paper). p.taken) c.new-printed.ensures) (ap (λ (p : Paper). p.failures) c.new-printed.ensures) (search rules)
     (ap (λ (p : Paper). p.taken) c.new-reasons.ensures) (ap (λ (p : Paper). p.failures) c.new-reasons.ensures) (search rules)
-    line (g.S.Store.files c.args.store.now) (g.S.Store.files c.run_on-status.new.store) (c.run_on-status.ensures.ends line names one)
+    line (g.S.Store.files c.args.store.now) (g.S.Store.failures c.args.store.now) (g.S.Store.files c.run_on-status.new.store) (g.S.Store.failures c.run_on-status.new.store) (c.run_on-status.ensures.ends line names one)
 
 pub returns-clause-help : goal.returns-clause-help
 returns-clause-help g c zero =

@@ -13,6 +13,7 @@ loop-name-preserved g c =
       printed = prints_more (g.S.Store.files c.args.store.now) (map (λ t. t.now) names) i _ (slice_get-map (λ t. t.now) names i ∙ ap (option_map (λ t. t.now)) (slice_get-get_or names i _ c.loop-name-test.true)) c.args.desk.now c.loop-name.desk c.args.out.now c.loop-name.out
           c.loop-name.invariant.printed (g.S.Store.files c.loop-name.store) c.loop-name.invariant.files c.take_text.new.desk c.deref.result.now _ c.print_all.new.out c.deref.ensures.value c.in-Ok.ensures.text c.in_ok-print_all.ensures.0;
       files = c.take_text.ensures.same ∙ c.loop-name.invariant.files;
+      counted = c.take_text.ensures.counted ∙ c.loop-name.invariant.counted;
     }
 
 pub returns-in-Err-clause-texts : goal.returns-in-Err-clause-texts

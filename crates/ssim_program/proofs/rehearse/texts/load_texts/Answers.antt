@@ -11,6 +11,7 @@ loop-next-preserved g c =
       loaded = loaded_at as_written (g.S.Store.files c.loop-next.store) (g.S.Store.files c.args.store.now) c.args.written.now c.loop-next.next-index _ c.loop-next.steps.items _ c.in-Ok.step
           c.loop-next-test.true old.same old.loaded c.in-Ok.ensures.ok c.in_ok-push-in-Ok.ensures.items;
       same = c.load_step.ensures.same ∙ old.same;
+      counted = c.load_step.ensures.counted ∙ old.counted;
     }
 
 pub returns-in-Err-clause-err : goal.returns-in-Err-clause-err

@@ -1,4 +1,4 @@
--- The steps so far have their texts, and the files are as they were.
+-- The steps so far have their texts, and the store is as it was.
 use Rattle.std.proofs.Common.{◌≡◌, map, take}
 use Rattle.ssim_program.specs.Rehearsal.{AreLoaded, as_written}
 use Rattle.ssim_program.proofs.rehearse.texts.load_texts.Given as goal
@@ -7,4 +7,5 @@ abbrev pub invariant-loop-next : goal.invariant-loop-next
 invariant-loop-next g l = record {
   loaded : AreLoaded (g.S.Store.files l.fn.store) (map as_written (take l.next-index l.written)) l.steps.items;
   same : g.S.Store.files l.store ≡ g.S.Store.files l.fn.store;
+  counted : g.S.Store.failures l.store ≡ g.S.Store.failures l.fn.store;
 }
