@@ -76,6 +76,7 @@ class Case:
 
     def __init__(self, program, folder, named):
         self.program, self.folder, self.named = program, folder, named
+        self.vectors = vectors()
         self.standard_input = b""
         self.bytes, self.last_line, self.printed = bytearray(), 0, b""
 
@@ -121,12 +122,16 @@ class Case:
             first = last + 1
         return found
 
+    def lines_named(self, name):
+        """A named line, or the lines of a vector."""
+        return bytes_shown(self.named[name]) + b"\n" if name in self.named else self.vectors[name]
+
     def follow(self, line):
         """Does what a line asks, and gives the lines that it prints."""
         word, _, rest = line.partition(" ")
         if word in ("|", "="):
             self.last_line = len(self.bytes)
-            self.bytes += bytes_shown(rest if word == "|" else self.named[rest]) + b"\n"
+            self.bytes += bytes_shown(rest) + b"\n" if word == "|" else self.lines_named(rest)
         elif word in ("^", "at"):
             place, text = rest.split(" ", 1)
             self.write_over(int(place) if word == "at" else self.last_line + int(place) - 1, text)
