@@ -141,9 +141,9 @@ fn written(alloc: Global, done: bool, bytes: &Bytes) -> Result<Vec<u8>, Fault> {
 fn opened(alloc: Global, reader: FailingReader<'_>) -> Result<Vec<u8>, Fault> {
     let mut line = Vec::new(alloc);
     let mut source = Input::new(reader);
-    match Desk::open(alloc, &mut source, LIMIT) {
-        Ok(_) => push_line(&mut line, "opened")?,
-        Err(fault) => push_refused(&mut line, &Refusal::Desk(fault))?,
+    match Desk::open(alloc, &mut source, LIMIT).err() {
+        None => push_line(&mut line, "opened")?,
+        Some(fault) => push_refused(&mut line, &Refusal::Desk(fault))?,
     }
     Ok(line)
 }
@@ -155,9 +155,9 @@ fn read(alloc: Global, reader: FailingReader<'_>, table: &[u8]) -> Result<Vec<u8
         Ok(stations) => stations,
         Err(fault) => return Err(Fault::of(fault.number())),
     };
-    match Base::read(alloc, &mut source, stations, LIMIT) {
-        Ok(_) => push_line(&mut line, "read")?,
-        Err(fault) => push_refused(&mut line, &Refusal::DataSet(fault))?,
+    match Base::read(alloc, &mut source, stations, LIMIT).err() {
+        None => push_line(&mut line, "read")?,
+        Some(fault) => push_refused(&mut line, &Refusal::DataSet(fault))?,
     }
     Ok(line)
 }

@@ -10,6 +10,7 @@ mod fields;
 use crate::data::with;
 use crate::pieces::{in_pieces, without_end};
 use ssim_records::*;
+use ssim_vectors::{CARRIER, HEADER, LEG, TRAILER};
 
 // Data of the segment that begins with the leg of data set A.
 const SEGMENT: &[u8; 200] =

@@ -8,6 +8,7 @@ use crate::pieces::in_pieces;
 use ssim_base::{Base, BaseFault, Stations};
 use ssim_records::{DeviceFault, Sink, Source};
 use ssim_schedule::{ExportFault, Schedule};
+use ssim_vectors::HEADER;
 use std::alloc::Global;
 
 /// The base of a reader.
