@@ -1,1 +1,0 @@
--- Both files are loaded and the table is read, so a refusal of the data set is that of its bytes.

@@ -1,1 +1,0 @@
--- A file that is not opened is missing.

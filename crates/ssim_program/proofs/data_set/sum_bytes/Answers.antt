@@ -1,1 +1,0 @@
--- The slice is within the limit, and never fails.

@@ -1,1 +1,0 @@
--- The file was opened, and read to its end.
