@@ -3,7 +3,7 @@
 
 docs/FORMATS.md has a row for each refusal, whose name and reason `explain` prints. The README has the names again, and what
 to do. No other number has a refusal. A file is explained for each number that a file alone may be refused by: the first line has
-the place, the second the reason, and the last what to do. The last line is 'N passed, M failed'.
+the place, the second the reason, the third what is there, and the last what to do. The last line is 'N passed, M failed'.
 """
 import os
 import re
@@ -115,10 +115,18 @@ def refused_files():
     }
 
 
+def there(data, place):
+    """The line that shows the bytes at a place; none if the file ends before it."""
+    word, number = place.split()[:2]
+    found = data[int(number) :].split(b"\n")[0] if word == "offset" else data.split(b"\n")[int(number) - 1]
+    shown = "".join(chr(byte) if 32 <= byte <= 126 else "?" for byte in found)
+    return f"{'element' if word == 'offset' else word}: [{shown}]\n" if found else ""
+
+
 def ends_of(text):
-    """The first two lines and the last one."""
+    """The first three lines and the last one."""
     lines = text.splitlines(keepends=True)
-    return "".join([*lines[:2], *lines[-1:]])
+    return "".join([*lines[:-1][:3], *lines[-1:]])
 
 
 def main():
@@ -126,7 +134,8 @@ def main():
     reason, remedy = reasons(), remedies()
     answers = [(number, expected(number, reason, remedy), without_place(printed(program, str(number)))) for number in range(100)]
     for number, (data, place) in refused_files().items():
-        wanted = expected(number, reason, remedy).replace("\n", f" {place}\n", 1)
+        first, second, last = expected(number, reason, remedy).splitlines()
+        wanted = f"{first} {place}\n{second}\n{there(data, place)}{last}\n"
         answers.append((f"a file with {number}", wanted, ends_of(printed(program, "-", data))))
     passed = failed = 0
     for name, wanted, got in answers:
