@@ -17,6 +17,9 @@ use std::process::ExitCode;
 /// The size of the buffer of the standard output.
 const ROOM: usize = 32_768;
 
+/// The size of the buffer of the standard error, so that a line is written whole.
+const LINE_ROOM: usize = 1_024;
+
 /// The words as texts.
 fn texts_of(alloc: Global, words: &[String]) -> Result<Vec<&str>, AllocError> {
     let mut texts = Vec::with_capacity(alloc, words.len())?;
@@ -61,13 +64,17 @@ fn run_on(rt: &HostRuntime, words: &[&str]) -> Option<u8> {
     let Ok(mut out) = BufWriter::with_capacity(alloc, ROOM, rt.stdout()) else {
         return None;
     };
+    let Ok(mut err) = BufWriter::with_capacity(alloc, LINE_ROOM, rt.stderr()) else {
+        return None;
+    };
     let Ok(mut store) = FileStore::new(rt, alloc) else {
         return None;
     };
-    let status = run(alloc, words, &mut store, &mut out, &mut rt.stderr());
-    // What is printed was flushed. Only after a failure is there more in the buffer, and then
+    let status = run(alloc, words, &mut store, &mut out, &mut err);
+    // What is printed was flushed. Only after a failure is there more in a buffer, and then
     // nothing more is written.
     let _ = out.into_parts();
+    let _ = err.into_parts();
     Some(status)
 }
 
