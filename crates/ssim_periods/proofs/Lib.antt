@@ -15,6 +15,7 @@ pub mod GatherLemmas
 pub mod NumberLemmas
 pub mod WorkedLemmas
 pub mod ApartLemmas
+pub mod EqualLemmas
 pub mod TrimLemmas
 pub mod ListPieces
 pub mod MarkLemmas

@@ -1,7 +1,7 @@
 //! Lists of periods with values.
-ghost use Rattle.std.specs.Prelude.{◌≡◌, ◌≤◌, ◌++◌, ◌∷◌, ℕ, List, [], true, length, IfOk, IsTrue};
+ghost use Rattle.std.specs.Prelude.{◌≡◌, ◌≤◌, ◌++◌, ◌∷◌, ℕ, List, [], true, length, IfOk, IfSome, IsTrue};
 ghost use Rattle.std.specs.List.{Contains};
-ghost use Rattle.ssim_periods.specs.internal.Apart.{marked, value_in, AreDivided};
+ghost use Rattle.ssim_periods.specs.internal.Apart.{marked, value_in, AreDivided, IsIndexOf};
 ghost use Rattle.ssim_periods.specs.Calendar.{holds};
 ghost use Rattle.ssim_periods.specs.Days.{each_day};
 ghost use Rattle.ssim_periods.specs.Pieces.{held_on};
@@ -37,6 +37,18 @@ pub(crate) fn meets_none<V: Value>(entries: &[(Period, V)], period: &Period) -> 
         }
     }
     true
+}
+
+// The index of the period of a list that equals a given one.
+pub(crate) fn index_of<V: Value>(entries: &[(Period, V)], period: &Period) -> Option<usize>
+    ensures { IfSome result (IsIndexOf period.now entries.now) }
+{
+    for index in 0..entries.len() {
+        if entries[index].0 == *period {
+            return Some(index);
+        }
+    }
+    None
 }
 
 // Copies of periods with values.
