@@ -31,7 +31,8 @@ use Rattle.ssim_text.specs.Values.{EquipmentValue, no_originator}
 use Rattle.ssim_text.specs.Message.{MessageValue, begun, with_free}
 use Rattle.ssim_text.specs.Lines.{originator_of, kind_text, mode_text, reference_of, identifier_text, SpellsDatedFlight, period_of, equipment_of, variations_of, end_of, points_of, station_in, clock_in, digits_in, segment_text_of, leg_of, segment_of, begins_free}
 use Rattle.ssim_text.specs.Grammar.{Part, OriginatorPart, KindPart, ModePart, ReferencePart, ActionPart, FlightPart, DatedFlightPart, PeriodPart, EquipmentPart, LegPart, SegmentPart, Divider, FreePart, Spells}
-use Rattle.ssim_text.specs.Machine.{step, Takes, Refuses, fault_of, fits_if_segment, fits_segment, is_action, flight_wanted, body_wanted, after_equipment, takes_leg, takes_segment, is_none_yet, is_whole, with_leg, with_segment, with_body}
+use Rattle.ssim_text.specs.Machine.{step, fault_of, fits_if_segment, fits_segment, is_action, flight_wanted, body_wanted, after_equipment, takes_leg, takes_segment, is_none_yet, is_whole, with_leg, with_segment, with_body}
+use Rattle.ssim_text.specs.internal.DecoderState.{Takes, Refuses}
 
 none_some : {A : Type 0} (a : A) → None ≡ Some a → ⊥
 none_some a h = cc

@@ -25,7 +25,8 @@ use Rattle.ssim_text.specs.declared.decoder_state.State.TheVariants.{AtStart, At
 use Rattle.ssim_text.specs.Message.{MessageValue, begun, with_sub, with_free}
 use Rattle.ssim_text.specs.Lines.{begins_free}
 use Rattle.ssim_text.specs.Grammar.{Part, KindPart, ReferencePart, ActionPart, LegPart, SegmentPart, Divider, FreePart, flight_parts, identifier_of, body_parts, sub_parts, later_parts, subs_parts, free_parts, IsOriginatorPart, IsModePart, flies, IsNewLegs, IsBody, AreDates, IsSub, BeginsFree, IsShape, IsFront, HasParts}
-use Rattle.ssim_text.specs.Machine.{step, finish, sub_of, flight_wanted, body_wanted, has_segments, fits_segment, takes_segment, is_whole, with_body, run}
+use Rattle.ssim_text.specs.Machine.{step, sub_of, flight_wanted, body_wanted, has_segments, fits_segment, takes_segment, is_whole, with_body, run}
+use Rattle.ssim_text.specs.internal.DecoderState.{finish}
 
 append_none : {A : Type 0} (xs : List A) → xs ++ [] ≡ xs
 append_none xs = simp common_steps

@@ -10,7 +10,8 @@ use Rattle.ssim_text.specs.Grammar.{SpellsText, NamesPlace}
 use Rattle.ssim_text.specs.Left.{lines_left, texts, numbers, place_number, first_unprintable}
 use Rattle.ssim_text.specs.Canonical.{canonical}
 use Rattle.ssim_text.specs.Spelling.{SpellsMessage}
-use Rattle.ssim_text.specs.Decoder.{IsFaultAt, IsReadable, IsMisplaced, IsRefusal, IsTooManyAtOne, NoMessage}
+use Rattle.ssim_text.specs.Decoder.{IsFaultAt, IsReadable, IsMisplaced, IsRefusal, NoMessage}
+use Rattle.ssim_text.specs.internal.Decoder.{IsTooManyAtOne}
 
 pub ok_then : {T E : Type 0} (r : Result T E) (P Q : T → Type 0) → ((x : T) → P x → Q x) → IfOk r P → IfOk r Q
 ok_then (Ok x) P Q f h = f x h

@@ -30,7 +30,8 @@ use Rattle.ssim_text.specs.Values.{EquipmentValue, no_originator}
 use Rattle.ssim_text.specs.Message.{MessageValue, begun, with_sub, with_free}
 use Rattle.ssim_text.specs.Lines.{numbers_of, reference_of, SpellsDatedFlight, date_of, period_of, equipment_of, leg_of}
 use Rattle.ssim_text.specs.Grammar.{Part, KindPart, ModePart, ReferencePart, ActionPart, FlightPart, DatedFlightPart, PeriodPart, EquipmentPart, LegPart, FreePart, Spells, flies, SpellsText, needs, shortest, IsCompletion, Starts, NamesPlace, OneMessage}
-use Rattle.ssim_text.specs.Machine.{step, finish, Takes, Refuses, sub_of, flight_wanted, no_legs, body_wanted, with_leg, is_whole, with_body, run, Reads}
+use Rattle.ssim_text.specs.Machine.{step, sub_of, flight_wanted, no_legs, body_wanted, with_leg, is_whole, with_body, run, Reads}
+use Rattle.ssim_text.specs.internal.DecoderState.{finish, Takes, Refuses}
 use Rattle.std.proofs.Common.{get_or, add-one, drop-cons, drop_of_length-le}
 use Rattle.ssim_text.specs.declared.fault.Fault.{Fault}
 use Rattle.ssim_text.specs.Machine.{fault_at, fault_of, fault_before}

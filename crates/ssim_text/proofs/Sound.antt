@@ -28,7 +28,8 @@ use Rattle.ssim_text.specs.Values.{EquipmentValue, no_originator}
 use Rattle.ssim_text.specs.Message.{MessageValue, begun, with_sub, with_free}
 use Rattle.ssim_text.specs.Lines.{begins_free}
 use Rattle.ssim_text.specs.Grammar.{Part, OriginatorPart, KindPart, ModePart, ReferencePart, ActionPart, FlightPart, DatedFlightPart, PeriodPart, EquipmentPart, LegPart, SegmentPart, Divider, FreePart, flight_parts, sub_parts, later_parts, subs_parts, free_parts, IsOriginatorPart, flies, IsBody, AreDates, IsSub, BeginsFree, IsShape, IsFront, HasParts}
-use Rattle.ssim_text.specs.Machine.{step, finish, sub_of, flight_wanted, body_wanted, after_equipment, is_none_yet, with_leg, with_segment, takes_leg, has_segments, fits_segment, takes_segment, is_whole, action_of, with_body, run}
+use Rattle.ssim_text.specs.Machine.{step, sub_of, flight_wanted, body_wanted, after_equipment, is_none_yet, with_leg, with_segment, takes_leg, has_segments, fits_segment, takes_segment, is_whole, action_of, with_body, run}
+use Rattle.ssim_text.specs.internal.DecoderState.{finish}
 use Rattle.ssim_text.proofs.Runs.{bind_some, none_some, some_same, guarded, false_true}
 
 append_none : {A : Type 0} (xs : List A) → xs ++ [] ≡ xs

@@ -4,8 +4,6 @@ use Rattle.ssim_text.specs.declared.fault.Fault.{Fault}
 use Rattle.ssim_text.specs.declared.fault.Fault.TheVariants as fault
 use Rattle.ssim_text.specs.declared.fault.TextFault.{TextFault}
 use Rattle.ssim_text.specs.declared.fault.TextFault.TheVariants as answer
-use Rattle.ssim_text.specs.declared.decoder.Refusal.{Refusal}
-use Rattle.ssim_text.specs.declared.decoder.Refusal.TheVariants.{NoMemory, Misplaced}
 use Rattle.ssim_text.specs.declared.decoder_state.State.{State}
 use Rattle.ssim_text.specs.Message.{MessageValue}
 use Rattle.ssim_text.specs.Grammar.{SpellsText, NamesPlace}
@@ -20,11 +18,6 @@ pub record IsFaultAt (lines : List (List ℕ)) (index : ℕ) (f : Fault) : Type 
   pub state : State
   pub reads : Reads state (take index lines)
   pub fault : f ≡ fault_before state (drop index lines)
-
--- the refusal names the first line that is not valid; out of memory says nothing of the lines
-abbrev pub IsPlace : List (List ℕ) → Refusal → Type 0
-IsPlace lines NoMemory = Unit {0}
-IsPlace lines (Misplaced f index) = NamesPlace lines index × IsFaultAt lines index f
 
 -- check 1: the text is too long
 pub record IsTooLong (text : List ℕ) (f : Fault) (n : ℕ) : Type 0 where
@@ -73,9 +66,3 @@ OneRefusal = (text : List ℕ) (f g : Fault) (m n : ℕ) → IsRefusal text (ans
 abbrev pub NoMessage : List ℕ → TextFault → Type 0
 NoMessage text answer.Memory = Unit {0}
 NoMessage text (answer.Refused f n) = (m : MessageValue) → SpellsMessage m text → ⊥
-
--- the refusal, if it is not for memory, says that the canonical text of the message is too long:
--- TooMany at line 1
-abbrev pub IsTooManyAtOne : MessageValue → TextFault → Type 0
-IsTooManyAtOne m answer.Memory = Unit {0}
-IsTooManyAtOne m (answer.Refused f n) = (f ≡ fault.TooMany) × (n ≡ 1) × (65536 < length (canonical m))

@@ -23,8 +23,6 @@ use Rattle.ssim_text.specs.declared.decoder_state.Equipped.TheVariants as equipp
 use Rattle.ssim_text.specs.declared.decoder_state.Body.{Body}
 use Rattle.ssim_text.specs.declared.decoder_state.State.{State}
 use Rattle.ssim_text.specs.declared.decoder_state.State.TheVariants.{AtStart, AtKind, AtMode, AtReference, AtAction, AtFlight, AtDatedFlight, AtPeriod, AtEquipment, AtLegs, AtEnd, AtNext, AtFree}
-use Rattle.ssim_text.specs.declared.decoder_state.Stop.{Stop}
-use Rattle.ssim_text.specs.declared.decoder_state.Stop.TheVariants.{OutOfMemory, Refused}
 use Rattle.ssim_values.specs.declared.designator.Designator.{Designator}
 use Rattle.ssim_text.specs.Values.{EquipmentValue, no_originator}
 use Rattle.ssim_text.specs.Lines.{begins_free, identifier_text, leg_of, segment_of}
@@ -137,13 +135,6 @@ pub record Reads (s : State) (lines : List (List ℕ)) : Type 0 where
   pub spelled : AllZip Spells parts lines
   pub reached : run AtStart parts ≡ Some s
 
--- the message of a text that ends in this state, if it may end here
-abbrev pub finish : State → Option MessageValue
-finish (AtLegs m b) = if is_whole b then Some (with_body m b) else None
-finish (AtEnd m) = Some m
-finish (AtFree m) = Some m
-finish s = None
-
 -- The fault of a text that ends in this state. Its number says which part was expected.
 abbrev pub fault_at : State → Fault
 fault_at AtStart = fault.BadKind
@@ -181,28 +172,3 @@ fault_of s line = fault_at s
 abbrev pub fault_before : State → List (List ℕ) → Fault
 fault_before s [] = fault_at s
 fault_before s (line ∷ lines) = fault_of s line
-
--- a line leads from one state to the next
-pub record Takes (s : State) (line : List ℕ) (next : State) : Type 0 where
-  pub part : Part
-  pub spelled : Spells part line
-  pub step : step s part ≡ Some next
-
--- the line spells no part that is allowed in this state
-abbrev pub Refuses : State → List ℕ → Type 0
-Refuses s line = (part : Part) → Spells part line → step s part ≡ None
-
--- reading stops at this line: memory ran out, or the line spells no part that is allowed in this
--- state
-abbrev pub StopsAt : State → List ℕ → Stop → Type 0
-StopsAt s line OutOfMemory = Unit {0}
-StopsAt s line (Refused f) = Refuses s line × (f ≡ fault_of s line)
-
--- the text may end in this state, and spells this message
-abbrev pub Finishes : State → MessageValue → Type 0
-Finishes s m = finish s ≡ Some m
-
--- why a text that ends in this state has no message; out of memory says nothing of the text
-abbrev pub EndsShort : State → Stop → Type 0
-EndsShort s OutOfMemory = Unit {0}
-EndsShort s (Refused f) = (finish s ≡ None) × (f ≡ fault_at s)

@@ -12,10 +12,6 @@ pub record SpellsMessage (m : MessageValue) (text : List ℕ) : Type 0 where
   pub spelled : SpellsText m (texts (lines_left text))
   pub canonical_short : length (canonical m) ≤ 65536
 
--- the canonical text of the message spells it, if it is not too long
-abbrev pub IsSpelledWhereShort : MessageValue → Type 0
-IsSpelledWhereShort m = length (canonical m) ≤ 65536 → SpellsMessage m (canonical m)
-
 -- If some text spells a message, the canonical text of the message spells it.
 abbrev pub CanonicalReadsBack : Type 0
 CanonicalReadsBack = (m : MessageValue) (text : List ℕ) → SpellsMessage m text → SpellsMessage m (canonical m)

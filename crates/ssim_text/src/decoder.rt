@@ -2,8 +2,9 @@
 ghost use Rattle.std.specs.Prelude.{◌≡◌, ◌≤◌, ℕ, length, map, IfOk, IfErr};
 ghost use Rattle.ssim_text.specs.Message.{MessageValue};
 ghost use Rattle.ssim_text.specs.Grammar.{SpellsText};
-ghost use Rattle.ssim_text.specs.Decoder.{IsRefusal, IsPlace, IsTooManyAtOne, NoMessage};
-ghost use Rattle.ssim_text.specs.Spelling.{SpellsMessage, IsSpelledWhereShort};
+ghost use Rattle.ssim_text.specs.Decoder.{IsRefusal, NoMessage};
+ghost use Rattle.ssim_text.specs.internal.Decoder.{IsPlace, IsTooManyAtOne, IsSpelledWhereShort};
+ghost use Rattle.ssim_text.specs.Spelling.{SpellsMessage};
 ghost use Rattle.ssim_text.specs.Canonical.{canonical};
 
 use crate::decoder_state::{State, Stop};

@@ -1,7 +1,8 @@
 //! The part of a text that has been read, and the line that is expected next.
 ghost use Rattle.std.specs.Prelude.{◌≡◌, ◌↔◌, ◌<◌, length, codes, IsTrue, IfOk, IfErr};
 ghost use Rattle.ssim_text.specs.Lines.{begins_free, leg_of};
-ghost use Rattle.ssim_text.specs.Machine.{Takes, StopsAt, Finishes, EndsShort, flight_wanted, body_wanted, after_equipment, no_legs, action_of, sub_of, with_body, with_leg, with_segment, is_none_yet, is_whole, fits_segment, has_segments, takes_leg};
+ghost use Rattle.ssim_text.specs.Machine.{flight_wanted, body_wanted, after_equipment, no_legs, action_of, sub_of, with_body, with_leg, with_segment, is_none_yet, is_whole, fits_segment, has_segments, takes_leg};
+ghost use Rattle.ssim_text.specs.internal.DecoderState.{Takes, StopsAt, Finishes, EndsShort};
 
 use crate::action::{Action, NewLegs, Sub, dated_flight, flight};
 use crate::dates::{Dates, GivenPeriod};
