@@ -36,6 +36,7 @@ pub struct Reference {
 impl Reference {
     ghost use Rattle.std.specs.Ordering.{nat_cmp};
     ghost use Rattle.std.specs.Cmp.Lexicographic.{slice_cmp};
+    ghost use Rattle.ssim_text.specs.Canonical.{five_digits, three_digits};
     ghost use Rattle.ssim_text.specs.Reference.{reference_numbers};
 
     /// Which of two references comes first: by date, group serial, message serial, kind (SSM before
@@ -44,6 +45,20 @@ impl Reference {
         ensures { result ≡ slice_cmp nat_cmp (reference_numbers self.now) (reference_numbers other.now) }
     {
         self.cmp(other)
+    }
+
+    /// The message group serial in five digits, as a text writes it.
+    pub fn group_digits(&self) -> [u8; 5]
+        ensures { result ≡ five_digits self.now.group }
+    {
+        five_digits(self.group)
+    }
+
+    /// The message serial in three digits, as a text writes it.
+    pub fn serial_digits(&self) -> [u8; 3]
+        ensures { result ≡ three_digits self.now.serial }
+    {
+        three_digits(self.serial)
     }
 }
 
@@ -56,9 +71,9 @@ impl fmt::Display for Reference {
         let kind = self.kind;
         let date = self.date.write();
         let date = str::from_utf8(&date).map_err(|_| fmt::Error)?;
-        let group = five_digits(self.group);
+        let group = self.group_digits();
         let group = str::from_utf8(&group).map_err(|_| fmt::Error)?;
-        let serial = three_digits(self.serial);
+        let serial = self.serial_digits();
         let serial = str::from_utf8(&serial).map_err(|_| fmt::Error)?;
         let originator = self.originator;
         if originator.is_none() {
