@@ -18,4 +18,5 @@ CanonicalReadsBack = (m : MessageValue) (text : List ℕ) → SpellsMessage m te
 
 -- Two texts spell equal messages exactly if the canonical texts of the messages are equal.
 abbrev pub EqualWhereWrittenEqual : Type 0
-EqualWhereWrittenEqual = (a b : MessageValue) (s t : List ℕ) → SpellsMessage a s → SpellsMessage b t → (a ≡ b) ↔ (canonical a ≡ canonical b)
+EqualWhereWrittenEqual = (a b : MessageValue) (s t : List ℕ) → SpellsMessage a s → SpellsMessage b t
+    → (a ≡ b) ↔ (canonical a ≡ canonical b)

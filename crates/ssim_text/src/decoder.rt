@@ -23,7 +23,8 @@ pub(crate) enum Refusal {
 /// The message that the lines spell.
 fn read_lines(alloc: Global, lines: &[Line]) -> Result<Draft, Refusal>
     ensures found { IfOk result (λ m. SpellsText m (map (λ l. l.bytes.now) lines.now)) }
-    ensures only { IfOk result (λ m. (n : MessageValue) → SpellsText n (map (λ l. l.bytes.now) lines.now) → n ≡ m) }
+    ensures only { IfOk result
+        (λ m. (n : MessageValue) → SpellsText n (map (λ l. l.bytes.now) lines.now) → n ≡ m) }
     ensures place { IfErr result (λ refusal. IsPlace (map (λ l. l.bytes.now) lines.now) refusal) }
 {
     let mut state = State::AtStart;

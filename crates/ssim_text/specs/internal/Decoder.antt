@@ -2,7 +2,7 @@
 use Rattle.std.specs.Prelude.{◌≡◌, ℕ, ◌<◌, ◌≤◌, List, length}
 use Rattle.ssim_text.specs.declared.fault.Fault.TheVariants as fault
 use Rattle.ssim_text.specs.declared.fault.TextFault.{TextFault}
-use Rattle.ssim_text.specs.declared.fault.TextFault.TheVariants as answer
+use Rattle.ssim_text.specs.declared.fault.TextFault.TheVariants as refusal
 use Rattle.ssim_text.specs.declared.decoder.Refusal.{Refusal}
 use Rattle.ssim_text.specs.declared.decoder.Refusal.TheVariants.{NoMemory, Misplaced}
 use Rattle.ssim_text.specs.Message.{MessageValue}
@@ -19,8 +19,8 @@ IsPlace lines (Misplaced f index) = NamesPlace lines index × IsFaultAt lines in
 -- the refusal, if it is not for memory, says that the canonical text of the message is too long:
 -- TooMany at line 1
 abbrev pub IsTooManyAtOne : MessageValue → TextFault → Type 0
-IsTooManyAtOne m answer.Memory = Unit {0}
-IsTooManyAtOne m (answer.Refused f n) = (f ≡ fault.TooMany) × (n ≡ 1) × (65536 < length (canonical m))
+IsTooManyAtOne m refusal.Memory = Unit {0}
+IsTooManyAtOne m (refusal.Refused f n) = (f ≡ fault.TooMany) × (n ≡ 1) × (65536 < length (canonical m))
 
 -- the canonical text of the message spells it, if it is not too long
 abbrev pub IsSpelledWhereShort : MessageValue → Type 0
