@@ -1,11 +1,20 @@
 -- The desk file: the bytes as which a desk is saved. Its elements are lines, records and texts, one
 -- after another; each line and each record ends with LF, and a text with the LF of its own last
 -- line. Numbers are decimal without leading zeros.
-use Rattle.std.specs.{Prelude.{◌≡◌, ◌⊎◌, ℕ, ◌≤◌, ◌<◌, ◌^◌, List, [], ◌∷◌, ◌++◌, length, take, drop, codes, All, IsTrue}, Fmt.decimal, List.flat_map}
-use Rattle.ssim_records.specs.{Record.written, declared.record.Record.Record}
-use Rattle.ssim_base.specs.{BaseSeen.BaseSeen, SavedBase.{IsBaseRecords, saved}, Stations.Row}
-use Rattle.ssim_text.specs.{Canonical.canonical, Spelling.SpellsMessage, Values.no_originator}
-use Rattle.ssim_values.specs.{Calendar.day_limit, Day.day_text, Station.is_station, Variation.variation_text}
+use Rattle.std.specs.Prelude.{◌≡◌, ◌⊎◌, ℕ, ◌≤◌, ◌<◌, ◌^◌, List, [], ◌∷◌, ◌++◌, length, take, drop, codes, All, IsTrue}
+use Rattle.std.specs.Fmt.{decimal}
+use Rattle.std.specs.List.{flat_map}
+use Rattle.ssim_records.specs.declared.record.Record.{Record}
+use Rattle.ssim_base.specs.BaseSeen.{BaseSeen}
+use Rattle.ssim_base.specs.SavedBase.{IsBaseRecords, saved}
+use Rattle.ssim_base.specs.Stations.{Row}
+use Rattle.ssim_text.specs.Canonical.{canonical}
+use Rattle.ssim_text.specs.Spelling.{SpellsMessage}
+use Rattle.ssim_text.specs.Values.{no_originator}
+use Rattle.ssim_values.specs.Calendar.{day_limit}
+use Rattle.ssim_values.specs.Day.{day_text}
+use Rattle.ssim_values.specs.Station.{is_station}
+use Rattle.ssim_values.specs.Variation.{variation_text}
 use Rattle.ssim_held.specs.Entries.{AreEntries, Entry}
 
 -- ---- the elements
@@ -13,11 +22,6 @@ use Rattle.ssim_held.specs.Entries.{AreEntries, Entry}
 -- a word and a number, as `RECORDS 4`
 abbrev pub counted : List ℕ → ℕ → List ℕ
 counted word n = word ++ 32 ∷ (decimal n ++ 10 ∷ [])
-
--- a record as it is written, 201 bytes. The records of a base have serial and check reference 0,
--- and blank rates and overflows.
-abbrev pub record_line : Record → List ℕ
-record_line r = written r ++ 10 ∷ []
 
 -- a row of the station table with single blanks, without the LF, as `ZRH 30MAR25 25OCT25 +0200`
 abbrev pub row_text : Row → List ℕ

@@ -9,7 +9,7 @@ use Rattle.ssim_text.specs.Grammar.{NamesPlace, Part, Spells, Starts}
 use Rattle.ssim_text.specs.Left.{lines_left, numbers, place_number, texts}
 use Rattle.ssim_text.specs.Machine.{Reads, fault_before, run, step}
 use Rattle.ssim_text.specs.declared.fault.Fault.{Fault}
-use Rattle.ssim_text.specs.declared.fault.TextFault.TheVariants as answer
+use Rattle.ssim_text.specs.declared.fault.TextFault.TheVariants as refusal
 use Rattle.ssim_text.specs.declared.decoder_state.State.{State}
 use Rattle.ssim_text.specs.declared.decoder_state.State.TheVariants.{AtStart}
 use Rattle.ssim_text.proofs.Complete.{complete}
@@ -63,7 +63,7 @@ module _ (text : List ℕ) (f g : Fault) (m n : ℕ) where
       let same = one_place (texts (lines_left text)) a.index b.index a.names b.names in
       (one_fault_at (texts (lines_left text)) a.index b.index f g same a.fault b.fault, a.line ∙ ap (place_number (numbers (lines_left text))) same ∙ sym b.line)
 
-  two_of_one : IsRefusal text (answer.Refused f m) → IsRefusal text (answer.Refused g n) → (f ≡ g) × (m ≡ n)
+  two_of_one : IsRefusal text (refusal.Refused f m) → IsRefusal text (refusal.Refused g n) → (f ≡ g) × (m ≡ n)
   two_of_one (inl a) (inl b) = (a.fault ∙ sym b.fault, a.line ∙ sym b.line)
   two_of_one (inl a) (inr (inl b)) = absurd (omega (arith, a.long, b.short))
   two_of_one (inl a) (inr (inr (inl b))) = absurd (omega (arith, a.long, b.readable.short))

@@ -4,7 +4,7 @@ ghost use Rattle.std.specs.Prelude.{◌≡◌, ◌↔◌, ◌++◌, ◌∷◌, [
 ghost use Rattle.std.specs.Fmt.{decimal};
 ghost use Rattle.ssim_text.specs.Bytes.{before, from};
 ghost use Rattle.ssim_held.specs.File.{counted};
-ghost use Rattle.ssim_held.specs.Opening.{is_number};
+ghost use Rattle.ssim_held.specs.internal.DeskFileReader.{is_number};
 
 use ssim_values::are_digits;
 use std::str;

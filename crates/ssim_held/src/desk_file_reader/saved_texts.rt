@@ -8,7 +8,7 @@ ghost use Rattle.ssim_text.specs.Message.{MessageValue};
 ghost use Rattle.ssim_text.specs.Spelling.{SpellsMessage};
 ghost use Rattle.ssim_held.specs.File.{text_element, texts_part};
 ghost use Rattle.ssim_held.specs.Entries.{AreRising, Entry};
-ghost use Rattle.ssim_held.specs.Opening.{AreHeld, IsNextText, IsTextOf};
+ghost use Rattle.ssim_held.specs.internal.DeskFileReader.{AreHeld, IsNextText, IsTextOf};
 
 use crate::desk_file_reader::count_line::{count_line, elements};
 use crate::desk_file_reader::fault::PartFault;

@@ -2,7 +2,7 @@
 
 ghost use Rattle.std.specs.Prelude.{◌≡◌, ◌↔◌, ◌++◌, List, ℕ, IfNone, IfSome, IsTrue};
 ghost use Rattle.ssim_text.specs.Values.{no_originator};
-ghost use Rattle.ssim_held.specs.Opening.{IsOf, first_line};
+ghost use Rattle.ssim_held.specs.internal.DeskFileReader.{IsOf, first_line};
 ghost use Rattle.ssim_held.specs.declared.desk_file_reader.version.FileVersion.{FileVersion};
 
 use crate::desk_file_reader::count_line::after_prefix;
