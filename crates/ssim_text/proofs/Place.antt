@@ -29,7 +29,8 @@ use Rattle.ssim_text.specs.declared.decoder_state.State.TheVariants.{AtStart, At
 use Rattle.ssim_text.specs.Values.{EquipmentValue, no_originator}
 use Rattle.ssim_text.specs.Message.{MessageValue, begun, with_sub, with_free}
 use Rattle.ssim_text.specs.Lines.{numbers_of, reference_of, SpellsDatedFlight, date_of, period_of, equipment_of, leg_of}
-use Rattle.ssim_text.specs.Grammar.{Part, KindPart, ModePart, ReferencePart, ActionPart, FlightPart, DatedFlightPart, PeriodPart, EquipmentPart, LegPart, FreePart, Spells, flies, SpellsText, needs, shortest, IsCompletion, Starts, NamesPlace, OneMessage}
+use Rattle.ssim_text.specs.internal.Completions.{IsCompletion, IsCompletedShortly, needs, shortest}
+use Rattle.ssim_text.specs.Grammar.{Part, KindPart, ModePart, ReferencePart, ActionPart, FlightPart, DatedFlightPart, PeriodPart, EquipmentPart, LegPart, FreePart, Spells, flies, SpellsText, Starts, NamesPlace, OneMessage}
 use Rattle.ssim_text.specs.Machine.{step, sub_of, flight_expected, no_legs, body_expected, with_leg, is_whole, with_body, run, Reads}
 use Rattle.ssim_text.specs.internal.DecoderState.{finish, Takes, Refuses}
 use Rattle.std.proofs.Common.{get_or, add-one, drop-cons, drop_of_length-le}
@@ -270,8 +271,8 @@ spelled_both [] qs (l ∷ lines) more h k = absurd h
 spelled_both (p ∷ ps) qs [] more h k = absurd h
 spelled_both (p ∷ ps) qs (l ∷ lines) more h k = (h.0, spelled_both ps qs lines more h.1 k)
 
-pub starts : (s : State) (lines : List (List ℕ)) → Reads s lines → Starts lines
-starts s lines r =
+pub completed : (s : State) (lines : List (List ℕ)) → Reads s lines → IsCompletedShortly lines
+completed s lines r =
     let w = completes s r.parts (reached_holds s r.parts r.reached) in
     let h = sound w.tail.last w.tail.message (r.parts ++ w.tail.parts) (run_append AtStart s r.parts w.tail.parts r.reached ∙ w.tail.reached) w.tail.finished in
     record {
@@ -280,6 +281,11 @@ starts s lines r =
       message = w.tail.message;
       spelled = record { shape = h.shape; parts = r.parts ++ w.tail.parts; has_parts = h.has_parts; spelled = spelled_both r.parts w.tail.parts lines w.completion r.spelled w.tail.spelled };
     }
+
+pub starts : (s : State) (lines : List (List ℕ)) → Reads s lines → Starts lines
+starts s lines r =
+    let short = completed s lines r in
+    record { completion = short.completion; message = short.message; spelled = short.spelled }
 
 pub take_drop : (i : ℕ) (xs : List (List ℕ)) → take i xs ++ drop i xs ≡ xs
 take_drop i xs = simp common_steps

@@ -1,6 +1,6 @@
 -- The grammar: a message has parts in an order, and each line of its text spells its part.
 use Rattle.std.specs.Prelude.{◌≡◌, ℕ, ◌≤◌, ◌<◌, ◌+◌, ◌⊎◌, Bool, true, false, Option, Some, None, is_some}
-use Rattle.std.specs.Prelude.{List, [], ◌∷◌, ◌++◌, map, length, codes, drop, take, position}
+use Rattle.std.specs.Prelude.{List, [], ◌∷◌, ◌++◌, map, length, codes, take, position}
 use Rattle.std.specs.List.{AllByRecursion, AllZip}
 use Rattle.std.specs.Str.{bytes_eq}
 use Rattle.ssim_text.specs.declared.kind.Kind.{Kind}
@@ -199,31 +199,9 @@ pub record SpellsText (m : MessageValue) (lines : List (List ℕ)) : Type 0 wher
   pub has_parts : HasParts m parts
   pub spelled : AllZip Spells parts lines
 
--- the last lines of a shortest message with this action
-abbrev pub needs : ActionIdentifier → List (List ℕ)
-needs identifier.New = codes "J 320" ∷ codes "ZRH0000 LHR0000" ∷ []
-needs identifier.Cnl = []
-needs identifier.Rpl = codes "J 320" ∷ codes "ZRH0000 LHR0000" ∷ []
-needs identifier.Eqt = codes "J 320" ∷ []
-needs identifier.Tim = codes "ZRH0000 LHR0000" ∷ []
-
--- the shortest text of this kind with this action
-abbrev pub shortest : Kind → ActionIdentifier → List (List ℕ)
-shortest Ssm a = codes "SSM" ∷ codes "UTC" ∷ codes "01JAN00001E001" ∷ identifier_text a ∷ codes "LX1"
-    ∷ codes "01JAN25 01JAN25 1" ∷ needs a
-shortest Asm a =
-    codes "ASM" ∷ codes "UTC" ∷ codes "01JAN00001E001" ∷ identifier_text a ∷ codes "LX1/01JAN25" ∷ needs a
-
--- What valid lines may be completed with: a line of free text, or the last lines of a shortest
--- message. NamesPlace needs no other completions.
-abbrev pub IsCompletion : List (List ℕ) → Type 0
-IsCompletion c = (c ≡ codes "SI" ∷ [])
-    ⊎ ((n : ℕ) × (kind : Kind) × (a : ActionIdentifier) × (c ≡ drop n (shortest kind a)))
-
 -- The lines are the beginning of some message's text.
 pub record Starts (lines : List (List ℕ)) : Type 0 where
   pub completion : List (List ℕ)
-  pub is_completion : IsCompletion completion
   pub message : MessageValue
   pub spelled : SpellsText message (lines ++ completion)
 

@@ -2,3 +2,4 @@
 -- has to believe them.
 pub mod DecoderState
 pub mod Decoder
+pub mod Completions
