@@ -22,7 +22,8 @@ pub struct FindingLine {
     pub finding: Finding,
 }
 
-fn identifier(action: &Action) -> ActionIdentifier
+/// The identifier of an action.
+pub(crate) fn identifier(action: &Action) -> ActionIdentifier
     ensures { result ≡ identifier_of action.now }
 {
     match action {

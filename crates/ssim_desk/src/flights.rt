@@ -10,7 +10,7 @@ use crate::message_effect::act;
 use crate::replay::MessageFindings;
 use ssim_base::{Base, ResolvedSub, StationRow};
 use ssim_held::Held;
-use ssim_schedule::{PlacedLeg, Schedule};
+use ssim_schedule::{PlacedLeg, Schedule, copy_legs};
 use ssim_values::{Day, Flight, Memory};
 use std::alloc::Global;
 
@@ -31,7 +31,7 @@ pub(crate) fn legs_after(
     let _ = day.number();
     let mut schedule = Schedule::of_flights(base.data_set(), &[*flight])?;
     act_on(alloc, base.rows(), &mut schedule, *flight, messages)?;
-    copies(alloc, schedule.itinerary(flight, day))
+    copy_legs(alloc, schedule.itinerary(flight, day))
 }
 
 /// What each of these messages finds in this order. Of the base's timetable only the flights are made that the messages name.
@@ -106,14 +106,4 @@ fn names(held: &Held, flight: Flight) -> bool
     ensures { result ≡ list_any (is_sub_of flight) held.now.dates }
 {
     held.dates().iter().any(|sub| sub.flight == flight)
-}
-
-fn copies(alloc: Global, legs: &[PlacedLeg]) -> Result<Vec<PlacedLeg>, Memory>
-    ensures { IfOk result (λ copies. copies.items ≡ legs.now) }
-{
-    let mut copies = Vec::with_capacity(alloc, legs.len())?;
-    for leg in legs {
-        copies.push(leg.copy(alloc)?)?;
-    }
-    Ok(copies)
 }

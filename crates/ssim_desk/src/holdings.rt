@@ -12,11 +12,14 @@ ghost use Rattle.ssim_held.specs.Held.{Agree, Says};
 ghost use Rattle.ssim_held.specs.Entries.{AreEntries, AreRising, IsEntry, map_of, state_of};
 ghost use Rattle.ssim_held.specs.Opening.{RefusesBytes};
 ghost use Rattle.ssim_held.specs.Ordered.{Belongs};
+ghost use Rattle.ssim_base.specs.Timetable.{itinerary};
+ghost use Rattle.ssim_desk.specs.DateSteps.{legs_left, steps_on};
 ghost use Rattle.ssim_desk.specs.Desk.{WritesDesk, days_of_desk, finding_lines, merge_answer, timetable_of, took_answer};
 ghost use Rattle.ssim_desk.specs.Meaning.{Finds, Means, Timetable, found_by};
 ghost use Rattle.ssim_desk.specs.internal.Changes.{IsChange, IsOffer};
 ghost use Rattle.ssim_desk.specs.Steps.{Merges, RefusesDesk, RefusesText, Takes};
 
+use crate::date_step::{DateHistory, history_of};
 use crate::desk::Took;
 use crate::finding_line::{FindingLine, push_lines};
 use crate::flights::{found_by, legs_after};
@@ -176,6 +179,18 @@ impl Holdings {
         let mut lines = Vec::new(self.alloc);
         push_lines(&mut lines, &self.held, &found)?;
         Ok(lines)
+    }
+
+    /// What the data set has for a flight on a date of origin, and what each sub-message that is
+    /// held did with it. Reads all records of the base.
+    pub fn history(&self, flight: &Flight, day: Day) -> Result<DateHistory, Memory>
+        ensures first { IfOk result (λ history. history.first ≡ itinerary self.now.base.records flight.now day) }
+        ensures steps { IfOk result (λ history. history.steps.items ≡ steps_on self.now flight.now day) }
+
+        // The last legs are those of `itinerary`.
+        ensures last { IfOk result (λ history. legs_left history.first history.steps.items ≡ timetable_of self.now flight.now day) }
+    {
+        history_of(self.alloc, &self.base, &self.held, flight, day)
     }
 
     /// Writes the desk's timetable as a data set, as `Desk::export` does. The records are freed

@@ -6,7 +6,7 @@ use Rattle.std.specs.Prelude.{Vec, vec_capacity, vec_len}
 use Rattle.std.specs.List.{flat_map, list_any}
 use Rattle.ssim_periods.specs.Days.{each_day}
 use Rattle.ssim_base.specs.{BaseSeen.BaseSeen, Stations.Row}
-use Rattle.ssim_schedule.specs.{Schedule.{Table, cuts_in, days_in}, declared.finding.Finding.Finding}
+use Rattle.ssim_schedule.specs.{Schedule.{Table, cuts_in, days_in}}
 use Rattle.ssim_base.specs.declared.sub_message.ResolvedSub.{ResolvedSub}
 use Rattle.ssim_text.specs.Message.{MessageValue}
 use Rattle.ssim_values.specs.Flight.{FlightNumber, IsFlight}
