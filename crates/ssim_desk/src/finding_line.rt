@@ -44,7 +44,8 @@ fn push_subs(
     findings: &[Finding],
 ) -> Result<(), Memory>
     requires { number + length subs.now < 2 ^ 64 }
-    ensures { OnOk result (lines.new.items ≡ lines.old.items ++ sub_lines reference.now number subs.now findings.now) }
+    ensures { OnOk result (lines.new.items
+        ≡ lines.old.items ++ sub_lines reference.now number subs.now findings.now) }
 {
     match (subs.split_first(), findings.split_first()) {
         (Some((sub, subs)), Some((finding, findings))) => {

@@ -3,7 +3,8 @@
 ghost use Rattle.std.specs.Prelude.{◌≡◌, ◌++◌, map, IfOk, OnOk};
 ghost use Rattle.std.specs.List.{list_any};
 ghost use Rattle.ssim_desk.specs.Desk.{is_sub_of};
-ghost use Rattle.ssim_desk.specs.Meaning.{Timetable, after_entries, entries_findings, found_by, left_by};
+ghost use Rattle.ssim_desk.specs.Meaning.{Timetable, after_entries, entries_findings, found_by};
+ghost use Rattle.ssim_desk.specs.Meaning.{left_by};
 ghost use Rattle.ssim_desk.specs.internal.Changes.{Shows, flights_of};
 
 use crate::message_effect::act;
@@ -14,8 +15,9 @@ use ssim_schedule::{PlacedLeg, Schedule, copy_legs};
 use ssim_values::{Day, Flight, Memory};
 use std::alloc::Global;
 
-/// The legs of a flight on a date of origin that messages, in this order, leave of the timetable of a base. Of this timetable only the
-/// flight's is made, and only the messages that name the flight act.
+/// The legs of a flight on a date of origin that messages, in this order, leave of the timetable of
+/// a base. Of this timetable only the flight's is made, and only the messages that name the flight
+/// act.
 pub(crate) fn legs_after(
     alloc: Global,
     base: &Base,
@@ -34,7 +36,8 @@ pub(crate) fn legs_after(
     copy_legs(alloc, schedule.itinerary(flight, day))
 }
 
-/// What each of these messages finds in this order. Of the base's timetable only the flights are made that the messages name.
+/// What each of these messages finds in this order. Of the base's timetable only the flights are
+/// made that the messages name.
 pub(crate) fn found_by(
     alloc: Global,
     base: &Base,
@@ -59,7 +62,8 @@ fn flights_of(alloc: Global, messages: &[Held]) -> Result<Vec<Flight>, Memory>
 }
 
 fn push_flights(flights: &mut Vec<Flight>, subs: &[ResolvedSub]) -> Result<(), Memory>
-    ensures { OnOk result (flights.new.items ≡ flights.old.items ++ map (λ sub. sub.flight) subs.now) }
+    ensures { OnOk result (flights.new.items ≡ flights.old.items ++ map
+        (λ sub. sub.flight) subs.now) }
 {
     for sub in subs {
         flights.push(sub.flight)?;
@@ -74,7 +78,8 @@ fn act_all(
     schedule: &mut Schedule,
     messages: &[Held],
 ) -> Result<Vec<MessageFindings>, Memory>
-    ensures { IfOk result (λ found. (before : Timetable) → Shows schedule.old before → found.items ≡ entries_findings rows.now messages.now before) }
+    ensures { IfOk result (λ found. (before : Timetable) → Shows schedule.old before
+        → found.items ≡ entries_findings rows.now messages.now before) }
 {
     let mut found = Vec::new(alloc);
     for held in messages {
@@ -91,7 +96,9 @@ fn act_on(
     flight: Flight,
     messages: &[Held],
 ) -> Result<(), Memory>
-    ensures { OnOk result ((before : Timetable) → Shows schedule.old before → (after : Timetable) × Shows schedule.new after × (after flight ≡ after_entries rows.now messages.now before flight)) }
+    ensures { OnOk result ((before : Timetable) → Shows schedule.old before → (after : Timetable)
+        × Shows schedule.new after
+        × (after flight ≡ after_entries rows.now messages.now before flight)) }
 {
     for held in messages {
         if names(held, flight) {

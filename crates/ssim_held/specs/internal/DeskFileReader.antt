@@ -52,7 +52,8 @@ pub record AreHeld (version : FileVersion) (records : List Record) (entries : Li
   pub of_version : All (IsOf version) entries
 
 -- a message that a file of the version may hold after the earlier messages
-pub record IsNextText (version : FileVersion) (records : List Record) (held : List Entry) (e : Entry) : Type 0 where
+pub record IsNextText (version : FileVersion) (records : List Record) (held : List Entry)
+    (e : Entry) : Type 0 where
   pub entry : IsEntry records e
   pub spelled : IsSpelled e
   pub rising : AreRising (held ++ e ∷ [])
