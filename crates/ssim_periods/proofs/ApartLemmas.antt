@@ -1,6 +1,6 @@
 -- Values given to periods without a common day: what each day has, when one more period comes, and
 -- when the period is divided at a cut.
-use Rattle.std.proofs.Common.{◌≡◌, ◌≢◌, ℕ, zero, suc, ◌+◌, ◌<◌, ◌≤◌, ◌&&◌, max, min, Bool, true, false, if◌then◌else◌, nat_le, nat_eq, List, [], ◌∷◌, ◌++◌, length, take, drop, map, slice_get, slice_index_or, Some, refl, ap, subst, sym, ◌∙◌, arith, ◌⊎◌, inl, inr, IsTrue, ◌↔◌}
+use Rattle.std.proofs.Common.{◌≡◌, ◌≢◌, ℕ, zero, suc, ◌+◌, ◌<◌, ◌≤◌, ◌&&◌, Bool, true, false, if◌then◌else◌, nat_le, nat_eq, List, [], ◌∷◌, ◌++◌, length, take, drop, map, slice_get, slice_index_or, Some, refl, ap, subst, sym, ◌∙◌, arith, ◌⊎◌, inl, inr, IsTrue, ◌↔◌}
 use Rattle.std.specs.List.{All, Contains}
 use Rattle.std.proofs.Math.Path.{fun_ext}
 use Rattle.std.proofs.lemmas.Bool.Decides.{nat_tests}

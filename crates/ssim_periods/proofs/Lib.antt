@@ -12,6 +12,7 @@ pub mod PieceRows
 pub mod PieceOrder
 pub mod PiecesFound
 pub mod GatherLemmas
+pub mod JoinLemmas
 pub mod NumberLemmas
 pub mod WorkedLemmas
 pub mod ApartLemmas

@@ -199,8 +199,8 @@ impl<V: Value> ApartPeriods<V> {
     }
 
     /// The cover of the days of each value, each period with its value, sorted by first day. The
-    /// days of a value of one period are those of this period. For a value of several periods, rows
-    /// are made of these periods.
+    /// periods of a value are joined as far as that is simple. If one is left, the cover is found
+    /// from its days, else from rows that are made of the periods.
     pub(crate) fn pieces(&self) -> Result<Vec<(Period, V)>, Memory>
         ensures pieces { IfOk result (λ pieces. pieces.items ≡ pieces_of V.alike V.nothing self.now.days) }
         ensures each_day { OnOk result (length self.now.days ≡ day_count) }
