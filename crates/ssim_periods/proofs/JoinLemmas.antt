@@ -4,6 +4,8 @@ use Rattle.std.specs.List.{list_any}
 use Rattle.std.specs.Cmp.Lexicographic.{pointwise}
 use Rattle.std.proofs.Math.Bool.{beq}
 use Rattle.std.proofs.lemmas.List.{take_more}
+use Rattle.std.specs.List.Sorted.{IsPermutation}
+use Rattle.std.proofs.lemmas.List.Sorted.{list_any-IsPermutation}
 use Rattle.ssim_values.specs.Period.{DayRange}
 use Rattle.ssim_periods.specs.Calendar.{slot, holds}
 use Rattle.ssim_periods.specs.internal.Apart.{is_held, given_on, mark_on}
@@ -13,7 +15,7 @@ use Rattle.ssim_periods.proofs.ApplyLemmas.{outside-before, outside-after, insid
 use Rattle.ssim_periods.proofs.CoverLemmas.{le_or_lt}
 use Rattle.ssim_periods.proofs.DayLemmas.{each_day-same, changed_on-each_day}
 
-or-false : (b : Bool) → (b || false) ≡ b
+pub or-false : (b : Bool) → (b || false) ≡ b
 or-false true = refl
 or-false false = refl
 
@@ -63,6 +65,10 @@ held-set (x ∷ ps) (suc i) r p d n l is = ap (λ b. holds x n || b) (held-set p
 pub held-push : (ps : List DayRange) (p : DayRange) (n : ℕ) → is_held (ps ++ p ∷ []) n ≡ (holds p n || is_held ps n)
 held-push [] p n = refl
 held-push (x ∷ ps) p n = ap (λ b. holds x n || b) (held-push ps p n) ∙ or-second (holds x n) (holds p n) (is_held ps n)
+
+-- the periods in another order
+pub held-moved : (ps qs read : List DayRange) (n : ℕ) → IsPermutation ps qs → read ≡ qs → is_held read n ≡ is_held ps n
+held-moved ps qs read n moved is = ap (λ rs. is_held rs n) is ∙ sym (list_any-IsPermutation (λ p. holds p n) ps qs moved)
 
 -- marks on the days of one more period
 pub marks-more : (ps : List DayRange) (i : ℕ) (p : DayRange) (old new : List ℕ) → i < length ps → p ≡ slice_index_or ps i p → old ≡ each_day (mark_on (take i ps)) → new ≡ changed_on (holds p) (λ _. 1) 0 old → new ≡ each_day (mark_on (take (i + 1) ps))

@@ -18,5 +18,6 @@ pub mod WorkedLemmas
 pub mod ApartLemmas
 pub mod TrimLemmas
 pub mod ListPieces
+pub mod SeparateLemmas
 pub mod MarkLemmas
 pub mod CommonDayLemmas

@@ -6,6 +6,7 @@ ghost use Rattle.ssim_periods.specs.internal.Apart.{given_cover, held_cover, is_
 use crate::Value;
 use crate::entries::{rows_of_periods, take_days_of_value};
 use crate::numbers::ValueNumber;
+use crate::separate::are_separate;
 use crate::trim::trimmed;
 use ssim_values::{Memory, Period};
 use std::alloc::Global;
@@ -50,6 +51,7 @@ fn push_value<V: Value>(
     ensures { OnOk result (pieces.new.items ≡ pieces.old.items ++ given_cover V.alike (earlier.now ++ entry.now ∷ []) entry.now.1) }
 {
     take_days_of_value(periods, earlier, entry)?;
+    periods.sort_by_key(|period| period.first().number())?;
     push_days(alloc, pieces, periods, &entry.1)
 }
 
@@ -66,8 +68,26 @@ fn push_days<V: Value>(
     if periods.len() == 1 {
         return push_period(alloc, pieces, &periods[0], value);
     }
+    if are_separate(periods) {
+        return push_each(alloc, pieces, periods, value);
+    }
     let rows = rows_of_periods(alloc, periods)?;
     rows.push_cover(&ValueNumber { number: 1 }, value, pieces)
+}
+
+// Appends the cover of the days of each of some periods, with a value.
+fn push_each<V: Value>(
+    alloc: Global,
+    pieces: &mut Vec<(Period, V)>,
+    periods: &[Period],
+    value: &V,
+) -> Result<(), Memory>
+    ensures { OnOk result (pieces.new.items ≡ pieces.old.items ++ flat_map (λ period. held_cover (period ∷ []) value.now) periods.now) }
+{
+    for period in periods {
+        push_period(alloc, pieces, period, value)?;
+    }
+    Ok(())
 }
 
 // Appends the cover of a period's days, with a value.

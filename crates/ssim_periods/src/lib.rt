@@ -38,6 +38,7 @@ mod patches;
 mod periods;
 mod range_rows;
 mod rows;
+mod separate;
 mod shared;
 mod trim;
 mod value;
