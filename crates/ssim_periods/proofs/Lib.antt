@@ -19,5 +19,6 @@ pub mod ApartLemmas
 pub mod TrimLemmas
 pub mod ListPieces
 pub mod SeparateLemmas
+pub mod FrontLemmas
 pub mod MarkLemmas
 pub mod CommonDayLemmas

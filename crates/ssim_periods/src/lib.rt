@@ -31,6 +31,7 @@ mod count;
 mod cover;
 mod entries;
 mod entry_pieces;
+mod front_list;
 mod joined;
 mod marks;
 mod numbers;

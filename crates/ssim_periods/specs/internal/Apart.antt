@@ -7,6 +7,12 @@ use Rattle.ssim_periods.specs.Calendar.{day_count, holds, slot}
 use Rattle.ssim_periods.specs.Cover.{cover}
 use Rattle.ssim_periods.specs.Pieces.{held_on}
 
+-- what contracts see of a list of days that grows at its front: the days, and for how many more
+-- there is room before them
+pub record FrontDays : Type 0 where
+  pub days : List ℕ
+  pub room : ℕ
+
 -- the empty value on each weekday
 abbrev pub empty_week : {V : Type 0} → V → List V
 empty_week nothing = nothing ∷ nothing ∷ nothing ∷ nothing ∷ nothing ∷ nothing ∷ nothing ∷ []
