@@ -12,11 +12,14 @@ pub mod PieceRows
 pub mod PieceOrder
 pub mod PiecesFound
 pub mod GatherLemmas
+pub mod JoinLemmas
 pub mod NumberLemmas
 pub mod WorkedLemmas
 pub mod ApartLemmas
 pub mod EqualLemmas
 pub mod TrimLemmas
 pub mod ListPieces
+pub mod SeparateLemmas
+pub mod FrontLemmas
 pub mod MarkLemmas
 pub mod CommonDayLemmas

@@ -7,14 +7,14 @@ use Rattle.std.proofs.Math.Path.{fun_ext}
 use Rattle.std.proofs.lemmas.List.{drop_more, take_more, take-append-drop}
 use Rattle.std.proofs.lemmas.List.Folds.{list_any-append}
 use Rattle.ssim_values.specs.Period.{DayRange}
-use Rattle.ssim_periods.specs.internal.Apart.{value_in, own_cover, given_on, given_cover, marked, last_values, AreApart}
+use Rattle.ssim_periods.specs.internal.Apart.{value_in, given_on, given_cover, held_cover, is_held, mark_on, last_values, AreApart}
 use Rattle.ssim_periods.specs.Calendar.{day_count, holds}
 use Rattle.ssim_periods.specs.Cover.{cover}
-use Rattle.ssim_periods.specs.Days.{each_day, changed_on}
+use Rattle.ssim_periods.specs.Days.{each_day}
 use Rattle.ssim_periods.specs.Pieces.{has_value, pieces_with, pieces_of, held_on, alone}
 use Rattle.ssim_periods.proofs.ApartLemmas.{value_in-none}
 use Rattle.ssim_periods.proofs.CoverLemmas.{le_or_lt}
-use Rattle.ssim_periods.proofs.DayLemmas.{day_count-is, length-each_day, index-each_day, each_day-same, changed_on-each_day, holds-Holds}
+use Rattle.ssim_periods.proofs.DayLemmas.{day_count-is, length-each_day, index-each_day, holds-Holds}
 use Rattle.ssim_periods.proofs.PieceLaw.{alike-self, alike-turned, has_value-at, has_value-past, held_on-append}
 use Rattle.ssim_periods.proofs.PieceOrder.{In}
 use Rattle.ssim_periods.proofs.PiecesFound.{pieces-once}
@@ -195,37 +195,6 @@ on-append alike xs ys v n = ap (list_any (alike v)) (held_on-append xs ys n) ∙
 on-last : {V : Type 0} (alike : V → V → Bool) (xs : List (DayRange × V)) (x : DayRange × V) (v : V) (n : ℕ) (b : Bool) → holds x.0 n ≡ b → given_on alike (xs ++ x ∷ []) v n ≡ (given_on alike xs v n || list_any (alike v) (if b then x.1 ∷ [] else []))
 on-last alike xs x v n b e = on-append alike xs (x ∷ []) v n ∙ ap (λ c. given_on alike xs v n || list_any (alike v) (if c then x.1 ∷ [] else [])) e
 
--- the days of a value that only the last period has are the days of that period
-on-own : {V : Type 0} (alike : V → V → Bool) → ((x y : V) → IsTrue (alike x y) ↔ (x ≡ y)) → (xs : List (DayRange × V)) (x : DayRange × V) (n : ℕ) → list_any (λ (y : DayRange × V). alike x.1 y.1) xs ≡ false → holds x.0 n ≡ given_on alike (xs ++ x ∷ []) x.1 n
-on-own {V} alike exact xs x n none = by (holds x.0 n) refl
-  where
-    by : (b : Bool) → holds x.0 n ≡ b → b ≡ given_on alike (xs ++ x ∷ []) x.1 n
-    by true e = sym (on-last alike xs x x.1 n true e ∙ ap (λ c. c || (alike x.1 x.1 || false)) (none-later alike x.1 xs n none) ∙ or-false (alike x.1 x.1) ∙ alike-self alike exact x.1)
-    by false e = sym (on-last alike xs x x.1 n false e ∙ or-false (given_on alike xs x.1 n) ∙ none-later alike x.1 xs n none)
-
--- ---- marks in place of values
-
--- a mark for one more period with the value, put before the others
-marked-same : {V : Type 0} (alike : V → V → Bool) (x : DayRange × V) (xs : List (DayRange × V)) (v : V) (n : ℕ) → alike v x.1 ≡ true → (if holds x.0 n then 1 else marked alike xs v n) ≡ marked alike (x ∷ xs) v n
-marked-same {V} alike x xs v n same = by (holds x.0 n)
-  where
-    by : (b : Bool) → (if b then 1 else marked alike xs v n) ≡ (if list_any (alike v) (if b then x.1 ∷ held_on xs n else held_on xs n) then 1 else 0)
-    by true = sym (ap (λ c. if c || list_any (alike v) (held_on xs n) then 1 else 0) same)
-    by false = refl
-
-pub marks-same : {V : Type 0} (alike : V → V → Bool) (x : DayRange × V) (xs : List (DayRange × V)) (v : V) (old new : List ℕ) → alike v x.1 ≡ true → old ≡ each_day (marked alike xs v) → new ≡ changed_on (holds x.0) (λ _. 1) 0 old → new ≡ each_day (marked alike (x ∷ xs) v)
-marks-same alike x xs v old new same so put =
-    put ∙ ap (changed_on (holds x.0) (λ _. 1) 0) so ∙ changed_on-each_day (holds x.0) (λ _. 1) (marked alike xs v)
-    ∙ each_day-same (λ n. if holds x.0 n then 1 else marked alike xs v n) (marked alike (x ∷ xs) v) (λ n l. marked-same alike x xs v n same)
-
--- the marks of one more period without the value
-pub marks-other : {V : Type 0} (alike : V → V → Bool) (x : DayRange × V) (xs : List (DayRange × V)) (v : V) → alike v x.1 ≡ false → each_day (marked alike xs v) ≡ each_day (marked alike (x ∷ xs) v)
-marks-other {V} alike x xs v other = each_day-same (marked alike xs v) (marked alike (x ∷ xs) v) (λ n l. by n (holds x.0 n))
-  where
-    by : (n : ℕ) (b : Bool) → marked alike xs v n ≡ (if list_any (alike v) (if b then x.1 ∷ held_on xs n else held_on xs n) then 1 else 0)
-    by n true = sym (ap (λ c. if c || list_any (alike v) (held_on xs n) then 1 else 0) other)
-    by n false = refl
-
 -- the periods from one on
 pub rest-next : {V : Type 0} (xs : List V) (i j : ℕ) (x : V) (end : List V) → j + 1 ≡ i → j < length xs → x ≡ slice_index_or xs j x → drop j xs ++ end ≡ x ∷ drop i xs ++ end
 rest-next xs i j x end next lt is =
@@ -235,36 +204,44 @@ rest-next xs i j x end next lt is =
 pub upto-next : {X : Type 0} (xs : List X) (i : ℕ) (x : X) → i < length xs → x ≡ slice_index_or xs i x → take (i + 1) xs ≡ take i xs ++ x ∷ []
 upto-next xs i x lt is = take_more xs i x lt ∙ ap (λ y. take i xs ++ y ∷ []) (sym is)
 
--- the marked days are the days of the value
-has-mark : {V : Type 0} (alike : V → V → Bool) (xs : List (DayRange × V)) (v : V) (marks : List ℕ) (n : ℕ) → All (λ (given : DayRange × V). given.0.last < 36525) xs → marks ≡ each_day (marked alike xs v) → has_value nat_eq marks 1 n ≡ given_on alike xs v n
-has-mark {V} alike xs v marks n ends are =
-    let size : length marks ≡ 36525 = ap length are ∙ length-each_day (marked alike xs v) in
+-- ---- marks in place of values
+
+-- the marked days are the days of the periods
+has-mark : (periods : List DayRange) (marks : List ℕ) (n : ℕ) → ((m : ℕ) → 36525 ≤ m → is_held periods m ≡ false) → marks ≡ each_day (mark_on periods) → has_value nat_eq marks 1 n ≡ is_held periods n
+has-mark periods marks n past are =
+    let size : length marks ≡ 36525 = ap length are ∙ length-each_day (mark_on periods) in
     elim (le_or_lt (length marks) n) [
-      | inl past ↦ has_value-past nat_eq marks 1 n past ∙ sym (ap (list_any (alike v)) (held-past xs n ends (omega arith)))
-      | inr within ↦ has_value-at nat_eq 0 marks 1 n within ∙ ap (nat_eq 1) (ap (λ ms. slice_index_or ms n 0) are ∙ index-each_day (marked alike xs v) n 0 (omega arith)) ∙ one (given_on alike xs v n)
+      | inl after ↦ has_value-past nat_eq marks 1 n after ∙ sym (past n (omega arith))
+      | inr within ↦ has_value-at nat_eq 0 marks 1 n within ∙ ap (nat_eq 1) (ap (λ ms. slice_index_or ms n 0) are ∙ index-each_day (mark_on periods) n 0 (omega arith)) ∙ one (is_held periods n)
     ]
   where
     one : (b : Bool) → nat_eq 1 (if b then 1 else 0) ≡ b
     one true = refl
     one false = refl
 
-pub cover-marked : {V : Type 0} (alike : V → V → Bool) (xs : List (DayRange × V)) (v : V) (marks : List ℕ) → All (λ (given : DayRange × V). given.0.last < 36525) xs → marks ≡ each_day (marked alike xs v) → map (λ (period : DayRange). (period, v)) (cover (has_value nat_eq marks 1) (length marks)) ≡ given_cover alike xs v
-cover-marked alike xs v marks ends are =
-    ap (λ is_in. map (λ (period : DayRange). (period, v)) (cover is_in (length marks))) (fun_ext (λ n. has-mark alike xs v marks n ends are))
-    ∙ ap (λ end. map (λ (period : DayRange). (period, v)) (cover (given_on alike xs v) end)) (ap length are ∙ length-each_day (marked alike xs v) ∙ sym day_count-is)
+pub cover-marked : {V : Type 0} (periods : List DayRange) (v : V) (marks : List ℕ) → ((m : ℕ) → 36525 ≤ m → is_held periods m ≡ false) → marks ≡ each_day (mark_on periods) → map (λ (period : DayRange). (period, v)) (cover (has_value nat_eq marks 1) (length marks)) ≡ held_cover periods v
+cover-marked periods v marks past are =
+    ap (λ is_in. map (λ (period : DayRange). (period, v)) (cover is_in (length marks))) (fun_ext (λ n. has-mark periods marks n past are))
+    ∙ ap (λ end. map (λ (period : DayRange). (period, v)) (cover (is_held periods) end)) (ap length are ∙ length-each_day (mark_on periods) ∙ sym day_count-is)
+
+-- periods with the days of a value have none after the calendar, and the cover of its days
+pub none-past : {V : Type 0} (alike : V → V → Bool) (xs : List (DayRange × V)) (v : V) (periods : List DayRange) (n : ℕ) → All (λ (given : DayRange × V). given.0.last < 36525) xs → is_held periods n ≡ given_on alike xs v n → 36525 ≤ n → is_held periods n ≡ false
+none-past alike xs v periods n ends is past = is ∙ ap (list_any (alike v)) (held-past xs n ends past)
+
+pub cover-given : {V : Type 0} (alike : V → V → Bool) (xs : List (DayRange × V)) (v : V) (periods : List DayRange) → ((n : ℕ) → is_held periods n ≡ given_on alike xs v n) → held_cover periods v ≡ given_cover alike xs v
+cover-given alike xs v periods are = ap (λ is_in. map (λ (period : DayRange). (period, v)) (cover is_in day_count)) (fun_ext are)
 
 -- ---- the pieces
 
 -- what is pushed for a period that holds a day, and for one that holds none
-pub pushed_one : {V : Type 0} (pieces more : List (DayRange × V)) (x : DayRange × V) (q : DayRange) (v : V) → cover (holds x.0) day_count ≡ q ∷ [] → v ≡ x.1 → more ≡ pieces ++ (q, v) ∷ [] → more ≡ pieces ++ own_cover x
-pushed_one pieces more x q v one same is = is ∙ ap (λ w. pieces ++ (q, w) ∷ []) same ∙ ap (λ qs. pieces ++ map (λ (period : DayRange). (period, x.1)) qs) (sym one)
+alone-held : {V : Type 0} (p : DayRange) (v : V) (periods : List DayRange) → cover (holds p) day_count ≡ periods → held_cover (p ∷ []) v ≡ map (λ (period : DayRange). (period, v)) periods
+alone-held p v periods are = ap (map (λ (period : DayRange). (period, v))) (ap (λ is_in. cover is_in day_count) (fun_ext (λ n. or-false (holds p n))) ∙ are)
 
-pub pushed_none : {V : Type 0} (pieces : List (DayRange × V)) (x : DayRange × V) → cover (holds x.0) day_count ≡ [] → pieces ≡ pieces ++ own_cover x
-pushed_none pieces x none = sym (append-nil pieces) ∙ ap (λ qs. pieces ++ map (λ (period : DayRange). (period, x.1)) qs) (sym none)
+pub pushed_one : {V : Type 0} (pieces more : List (DayRange × V)) (p q : DayRange) (v w : V) → cover (holds p) day_count ≡ q ∷ [] → w ≡ v → more ≡ pieces ++ (q, w) ∷ [] → more ≡ pieces ++ held_cover (p ∷ []) v
+pushed_one pieces more p q v w one same is = is ∙ ap (λ u. pieces ++ (q, u) ∷ []) same ∙ ap (λ l. pieces ++ l) (sym (alone-held p v (q ∷ []) one))
 
--- if only the last period has a value, the value's cover is the cover of that period's days
-pub cover-own : {V : Type 0} (alike : V → V → Bool) → ((x y : V) → IsTrue (alike x y) ↔ (x ≡ y)) → (xs : List (DayRange × V)) (x : DayRange × V) → list_any (λ (y : DayRange × V). alike x.1 y.1) xs ≡ false → own_cover x ≡ given_cover alike (xs ++ x ∷ []) x.1
-cover-own alike exact xs x none = ap (λ is_in. map (λ (period : DayRange). (period, x.1)) (cover is_in day_count)) (fun_ext (λ n. on-own alike exact xs x n none))
+pub pushed_none : {V : Type 0} (pieces : List (DayRange × V)) (p : DayRange) (v : V) → cover (holds p) day_count ≡ [] → pieces ≡ pieces ++ held_cover (p ∷ []) v
+pushed_none pieces p v none = sym (append-nil pieces) ∙ ap (λ l. pieces ++ l) (sym (alone-held p v [] none))
 
 pub take-whole : {X : Type 0} (n : ℕ) (xs : List X) → length xs ≤ n → take n xs ≡ xs
 take-whole zero [] h = refl

@@ -16,7 +16,7 @@ use Rattle.ssim_periods.proofs.DayLemmas.{day_count-is}
 range : ℕ → ℕ → List Bool → DayRange
 range first last days = record { first = first; last = last; days = days }
 
-cover-none : (is_in : ℕ → Bool) (end : ℕ) → ((n : ℕ) → is_in n ≡ false) → cover is_in end ≡ []
+pub cover-none : (is_in : ℕ → Bool) (end : ℕ) → ((n : ℕ) → is_in n ≡ false) → cover is_in end ≡ []
 cover-none is_in end none =
     let at = first_where-none is_in 0 (end - 0) (λ m l h. none m) in
     cover_from-at end is_in 0 end (omega arith) ∙ cover_at-end is_in end (first_where is_in 0 (end - 0)) (omega arith)

@@ -1,5 +1,5 @@
 //! Values given to periods of which no two have a common day.
-ghost use Rattle.std.specs.Prelude.{◌≡◌, ◌≢◌, ℕ, ◌+◌, ◌<◌, ◌≤◌, List, [], true, length, slice_get, slice_index_or, vec_len, vec_capacity, Some, IfOk, IfSome, IfNone, OnOk, OnErr, OnSome, IsTrue};
+ghost use Rattle.std.specs.Prelude.{◌≡◌, ◌≢◌, ℕ, ◌+◌, ◌<◌, ◌≤◌, List, [], true, length, slice_get, slice_index_or, Some, IfOk, IfSome, IfNone, OnOk, OnErr, OnSome, IsTrue};
 ghost use Rattle.std.specs.List.{All, Contains};
 ghost use Rattle.std.specs.List.Sorted.{IsStrictlyIncreasing};
 ghost use Rattle.ssim_values.specs.Calendar.{weekday};
@@ -7,13 +7,13 @@ ghost use Rattle.ssim_periods.specs.internal.Apart.{empty_week, AreDivided};
 ghost use Rattle.ssim_periods.specs.Calendar.{day_count, holds};
 ghost use Rattle.ssim_periods.specs.Days.{each_day, changed_on, counts_on, AddsOnly};
 ghost use Rattle.ssim_periods.specs.Pieces.{pieces_of, held_on};
-ghost use Rattle.ssim_periods.specs.internal.Splits.{with_cut};
 
 use crate::count::counts_of;
 use crate::entries::{copy_entries, index_of, meets_none, rows_of, shared_entries, value_at};
 use crate::entry_pieces::covers;
+use crate::front_list::FrontList;
 use crate::range_rows::RangeRows;
-use crate::rows::{is_after_cuts, is_before_cuts, is_last, place_of};
+use crate::rows::{is_after_cuts, is_before_cuts};
 use crate::weekdays::weekday_of;
 use crate::{Change, Value};
 use ssim_values::{Day, Memory, Period};
@@ -35,7 +35,7 @@ pub(crate) struct ApartPeriods<V: Value> {
     /// not empty.
     entries: Vec<(Period, V)>,
     /// The first day of each period and the day after its last, rising.
-    cuts: Vec<u32>,
+    cuts: FrontList,
     alloc: Global,
 }
 
@@ -46,9 +46,9 @@ impl<V: Value> Model for ApartPeriods<V> {
 
     ghost Value = { Seen V };
 
-    ghost view = { λ p. record { days = each_day (value_in V.nothing p.entries.items); cuts = p.cuts.items } };
+    ghost view = { λ p. record { days = each_day (value_in V.nothing p.entries.items); cuts = p.cuts.days } };
 
-    ghost invariant = { λ p. (p.empty ≡ empty_week V.nothing) × AreApart V.nothing p.entries.items p.cuts.items };
+    ghost invariant = { λ p. (p.empty ≡ empty_week V.nothing) × AreApart V.nothing p.entries.items p.cuts.days };
 }
 
 impl<V: Value> ApartPeriods<V> {
@@ -60,7 +60,7 @@ impl<V: Value> ApartPeriods<V> {
         ApartPeriods {
             empty: empty_row(),
             entries: Vec::new(alloc),
-            cuts: Vec::new(alloc),
+            cuts: FrontList::new(alloc),
             alloc,
         }
     }
@@ -78,7 +78,7 @@ impl<V: Value> ApartPeriods<V> {
     pub(crate) fn has_room_for(&self, period: &Period) -> bool
         ensures { IsTrue result → (n : ℕ) → holds period.now n ≡ true → slice_index_or self.now.days n V.nothing ≡ V.nothing }
     {
-        self.entries.len() < MOST && is_free(&self.entries, &self.cuts, period)
+        self.entries.len() < MOST && is_free(&self.entries, self.cuts.days(), period)
     }
 
     /// Gives the days of the period, which have the empty value, the outcome of the change for it.
@@ -157,20 +157,19 @@ impl<V: Value> ApartPeriods<V> {
     {
         let first = period.first().number() as u32;
         let end = period.last().number() as u32 + 1;
-        self.cuts.reserve(2)?;
+        self.cuts.make_room(self.alloc)?;
         self.entries.push((*period, value))?;
-        add_day(&mut self.cuts, first);
-        add_day(&mut self.cuts, end);
+        self.cuts.add(first);
+        self.cuts.add(end);
         Ok(())
     }
 
-    // Makes room for the first periods at once, so that the lists grow less often.
+    // Makes room for the first periods at once, so that their list grows less often.
     fn make_first_room(&mut self) -> Result<(), Memory>
         ensures { self.new ≡ self.old }
     {
         if self.entries.is_empty() {
             self.entries.reserve(FIRST)?;
-            self.cuts.reserve(2 * FIRST)?;
         }
         Ok(())
     }
@@ -182,7 +181,7 @@ impl<V: Value> ApartPeriods<V> {
         let alloc = self.alloc;
         let empty = empty_row();
         let entries = copy_entries(alloc, &self.entries)?;
-        let cuts = Vec::from_slice(alloc, &self.cuts)?;
+        let cuts = self.cuts.copy(alloc)?;
         Ok(ApartPeriods {
             empty,
             entries,
@@ -199,7 +198,7 @@ impl<V: Value> ApartPeriods<V> {
         let alloc = self.alloc;
         let empty = empty_row();
         let entries = shared_entries(alloc, &self.entries)?;
-        let cuts = Vec::from_slice(alloc, &self.cuts)?;
+        let cuts = self.cuts.copy(alloc)?;
         Ok(ApartPeriods {
             empty,
             entries,
@@ -215,7 +214,7 @@ impl<V: Value> ApartPeriods<V> {
         ensures in_calendar { All (λ cut. cut ≤ 36525) result.now }
         ensures weekly { (m n : ℕ) → m ≤ n → n < 36525 → weekday m ≡ weekday n → ((cut : ℕ) → Contains result.now cut → m < cut → n < cut) → slice_get self.now.days m ≡ slice_get self.now.days n }
     {
-        &self.cuts
+        self.cuts.days()
     }
 
     /// The same values as rows. Their cuts are among those of the list.
@@ -227,8 +226,8 @@ impl<V: Value> ApartPeriods<V> {
     }
 
     /// The cover of the days of each value, each period with its value, sorted by first day. The
-    /// days of a value of one period are those of this period. For a value of several periods, rows
-    /// are made of these periods.
+    /// periods of a value are joined as far as that is simple. If one is left, the cover is found
+    /// from its days, else from rows that are made of the periods.
     pub(crate) fn pieces(&self) -> Result<Vec<(Period, V)>, Memory>
         ensures pieces { IfOk result (λ pieces. pieces.items ≡ pieces_of V.alike V.nothing self.now.days) }
         ensures each_day { OnOk result (length self.now.days ≡ day_count) }
@@ -270,20 +269,4 @@ fn is_free<V: Value>(entries: &[(Period, V)], cuts: &[u32], period: &Period) -> 
         return true;
     }
     meets_none(entries, period)
-}
-
-// Adds a cut, unless there is one.
-fn add_day(cuts: &mut Vec<u32>, day: u32)
-    requires rising { IsStrictlyIncreasing cuts.old.items }
-    requires room { vec_len cuts.old < vec_capacity cuts.old }
-    ensures cuts { cuts.new.items ≡ with_cut cuts.old.items day }
-    ensures capacity { vec_capacity cuts.old ≤ vec_capacity cuts.new }
-{
-    let place = place_of(cuts, day);
-    if is_last(cuts, place, day) {
-        return;
-    }
-    if let Err(_) = cuts.insert(place, day) {
-        unreachable!();
-    }
 }

@@ -1,12 +1,13 @@
 //! Lists of periods with values.
-ghost use Rattle.std.specs.Prelude.{◌≡◌, ◌≤◌, ◌++◌, ◌∷◌, ℕ, List, [], true, length, IfOk, IfSome, IsTrue};
+ghost use Rattle.std.specs.Prelude.{◌≡◌, ◌≤◌, ◌++◌, ◌∷◌, ℕ, List, [], true, length, IfOk, IfSome, IsTrue, OnOk};
 ghost use Rattle.std.specs.List.{Contains};
-ghost use Rattle.ssim_periods.specs.internal.Apart.{marked, value_in, AreDivided, IsIndexOf};
+ghost use Rattle.ssim_periods.specs.internal.Apart.{given_on, is_held, mark_on, value_in, AreDivided, IsIndexOf};
 ghost use Rattle.ssim_periods.specs.Calendar.{holds};
 ghost use Rattle.ssim_periods.specs.Days.{each_day};
 ghost use Rattle.ssim_periods.specs.Pieces.{held_on};
 
 use crate::common_days::meets;
+use crate::joined::join;
 use crate::numbers::ValueNumber;
 use crate::range_rows::RangeRows;
 use crate::{Change, Value};
@@ -136,25 +137,38 @@ pub(crate) fn rows_of<V: Value>(
     Ok(rows)
 }
 
-// The rows with 1 on each day of the value of a period and of the earlier ones that have it, and 0
-// on each other day. The periods are marked from the end of the list, so that most lie after those
-// before them.
-pub(crate) fn rows_of_value<V: Value>(
-    alloc: Global,
+// Makes a list of periods with the days of a value, given the last entry that has it and the earlier
+// ones. The entries are taken from the end, so that most periods lie after those before them.
+pub(crate) fn take_days_of_value<V: Value>(
+    periods: &mut Vec<Period>,
     earlier: &[(Period, V)],
     entry: &(Period, V),
-) -> Result<RangeRows<ValueNumber>, Memory>
-    ensures { IfOk result (λ rows. rows.days ≡ each_day (marked V.alike (earlier.now ++ entry.now ∷ []) entry.now.1)) }
+) -> Result<(), Memory>
+    ensures { OnOk result ((n : ℕ) → is_held periods.new.items n ≡ given_on V.alike (earlier.now ++ entry.now ∷ []) entry.now.1 n) }
 {
-    let mut rows = RangeRows::new(alloc);
-    rows.mark(&entry.0)?;
+    periods.clear();
+    join(periods, &entry.0)?;
     let mut place = earlier.len();
     while place > 0 {
         place -= 1;
         let other = &earlier[place];
         if entry.1.same(&other.1) {
-            rows.mark(&other.0)?;
+            join(periods, &other.0)?;
         }
+    }
+    Ok(())
+}
+
+// The rows with 1 on each day of some periods, and 0 on each other day.
+pub(crate) fn rows_of_periods(
+    alloc: Global,
+    periods: &[Period],
+) -> Result<RangeRows<ValueNumber>, Memory>
+    ensures { IfOk result (λ rows. rows.days ≡ each_day (mark_on periods.now)) }
+{
+    let mut rows = RangeRows::new(alloc);
+    for period in periods {
+        rows.mark(period)?;
     }
     Ok(rows)
 }

@@ -1,11 +1,12 @@
 //! The pieces of a list of periods with values.
-ghost use Rattle.std.specs.Prelude.{◌≡◌, ◌<◌, ◌++◌, ◌∷◌, [], IfOk, OnOk};
+ghost use Rattle.std.specs.Prelude.{◌≡◌, ℕ, ◌<◌, ◌≤◌, ◌++◌, ◌∷◌, [], false, IfOk, OnOk};
 ghost use Rattle.std.specs.List.{All, flat_map, list_any};
-ghost use Rattle.ssim_periods.specs.internal.Apart.{given_cover, last_values, own_cover};
+ghost use Rattle.ssim_periods.specs.internal.Apart.{given_cover, held_cover, is_held, last_values};
 
 use crate::Value;
-use crate::entries::rows_of_value;
+use crate::entries::{rows_of_periods, take_days_of_value};
 use crate::numbers::ValueNumber;
+use crate::separate::are_separate;
 use crate::trim::trimmed;
 use ssim_values::{Memory, Period};
 use std::alloc::Global;
@@ -26,20 +27,22 @@ pub(crate) fn covers<V: Value>(
     ensures { IfOk result (λ pieces. pieces.items ≡ flat_map (given_cover V.alike entries.now) (last_values V.alike entries.now)) }
 {
     let mut pieces = Vec::new(alloc);
-    pieces.reserve(entries.len())?;
+    let mut periods = Vec::new(alloc);
     for place in 0..entries.len() {
         let entry = &entries[place];
         if !has_value(&entries[place + 1..], &entry.1) {
-            push_value(alloc, &mut pieces, &entries[..place], entry)?;
+            push_value(alloc, &mut pieces, &mut periods, &entries[..place], entry)?;
         }
     }
     Ok(pieces)
 }
 
-// Appends the cover of the days of a value, given the last period that has it and the earlier ones.
+// Appends the cover of the days of a value, given the last entry that has it and the earlier ones.
+// The list of periods is only there to be used again.
 fn push_value<V: Value>(
     alloc: Global,
     pieces: &mut Vec<(Period, V)>,
+    periods: &mut Vec<Period>,
     earlier: &[(Period, V)],
     entry: &(Period, V),
 ) -> Result<(), Memory>
@@ -47,25 +50,59 @@ fn push_value<V: Value>(
     requires own { entry.now.0.last < 36525 }
     ensures { OnOk result (pieces.new.items ≡ pieces.old.items ++ given_cover V.alike (earlier.now ++ entry.now ∷ []) entry.now.1) }
 {
-    if !has_value(earlier, &entry.1) {
-        return push_cover(alloc, pieces, entry);
-    }
-    let rows = rows_of_value(alloc, earlier, entry)?;
-    rows.push_cover(&ValueNumber { number: 1 }, &entry.1, pieces)
+    take_days_of_value(periods, earlier, entry)?;
+    periods.sort_by_key(|period| period.first().number())?;
+    push_days(alloc, pieces, periods, &entry.1)
 }
 
-// Appends the cover of a period's days, with its value.
-#[tactic(auto, using(crate::proofs::ListPieces::pushed_one, crate::proofs::ListPieces::pushed_none))]
-fn push_cover<V: Value>(
+// Appends the cover of the days of some periods, with a value.
+fn push_days<V: Value>(
     alloc: Global,
     pieces: &mut Vec<(Period, V)>,
-    entry: &(Period, V),
+    periods: &[Period],
+    value: &V,
 ) -> Result<(), Memory>
-    ensures { OnOk result (pieces.new.items ≡ pieces.old.items ++ own_cover entry.now) }
+    requires in_calendar { (n : ℕ) → 36525 ≤ n → is_held periods.now n ≡ false }
+    ensures { OnOk result (pieces.new.items ≡ pieces.old.items ++ held_cover periods.now value.now) }
 {
-    if let Some(period) = trimmed(&entry.0) {
-        let value = entry.1.copy(alloc)?;
-        pieces.push((period, value))?;
+    if periods.len() == 1 {
+        return push_period(alloc, pieces, &periods[0], value);
+    }
+    if are_separate(periods) {
+        return push_each(alloc, pieces, periods, value);
+    }
+    let rows = rows_of_periods(alloc, periods)?;
+    rows.push_cover(&ValueNumber { number: 1 }, value, pieces)
+}
+
+// Appends the cover of the days of each of some periods, with a value.
+fn push_each<V: Value>(
+    alloc: Global,
+    pieces: &mut Vec<(Period, V)>,
+    periods: &[Period],
+    value: &V,
+) -> Result<(), Memory>
+    ensures { OnOk result (pieces.new.items ≡ pieces.old.items ++ flat_map (λ period. held_cover (period ∷ []) value.now) periods.now) }
+{
+    for period in periods {
+        push_period(alloc, pieces, period, value)?;
+    }
+    Ok(())
+}
+
+// Appends the cover of a period's days, with a value.
+#[tactic(auto, using(crate::proofs::ListPieces::pushed_one, crate::proofs::ListPieces::pushed_none))]
+fn push_period<V: Value>(
+    alloc: Global,
+    pieces: &mut Vec<(Period, V)>,
+    period: &Period,
+    value: &V,
+) -> Result<(), Memory>
+    ensures { OnOk result (pieces.new.items ≡ pieces.old.items ++ held_cover (period.now ∷ []) value.now) }
+{
+    if let Some(own) = trimmed(period) {
+        let value = value.copy(alloc)?;
+        pieces.push((own, value))?;
         return Ok(());
     }
     Ok(())

@@ -27,7 +27,7 @@ pub(crate) fn trimmed(period: &Period) -> Option<Period>
 }
 
 // The first day of a range whose weekday is one of `days`. The end of the range if there is none.
-fn first_in(days: &[bool; 7], from: u32, to: u32) -> u32
+pub(crate) fn first_in(days: &[bool; 7], from: u32, to: u32) -> u32
     requires ordered { from ≤ to }
     requires in_calendar { to ≤ 36525 }
     ensures { result ≡ first_where (λ n. slice_index_or days.now (slot n) false) from (to - from) }

@@ -7,6 +7,12 @@ use Rattle.ssim_periods.specs.Calendar.{day_count, holds, slot}
 use Rattle.ssim_periods.specs.Cover.{cover}
 use Rattle.ssim_periods.specs.Pieces.{held_on}
 
+-- what contracts see of a list of days that grows at its front: the days, and for how many more
+-- there is room before them
+pub record FrontDays : Type 0 where
+  pub days : List ℕ
+  pub room : ℕ
+
 -- the empty value on each weekday
 abbrev pub empty_week : {V : Type 0} → V → List V
 empty_week nothing = nothing ∷ nothing ∷ nothing ∷ nothing ∷ nothing ∷ nothing ∷ nothing ∷ []
@@ -35,10 +41,6 @@ pub record IsIndexOf {V : Type 0} (period : DayRange) (periods : List (DayRange 
   pub in_range : index < length periods
   pub its : (value : V) → (slice_index_or periods index (period, value)).0 ≡ period
 
--- the cover of a period's own days, with its value
-abbrev pub own_cover : {V : Type 0} → DayRange × V → List (DayRange × V)
-own_cover given = map (λ period. (period, given.1)) (cover (holds given.0) day_count)
-
 -- whether a period with the value holds the day
 abbrev pub given_on : {V : Type 0} → (V → V → Bool) → List (DayRange × V) → V → ℕ → Bool
 given_on alike periods v n = list_any (alike v) (held_on periods n)
@@ -47,9 +49,17 @@ given_on alike periods v n = list_any (alike v) (held_on periods n)
 abbrev pub given_cover : {V : Type 0} → (V → V → Bool) → List (DayRange × V) → V → List (DayRange × V)
 given_cover alike periods v = map (λ period. (period, v)) (cover (given_on alike periods v) day_count)
 
--- 1 on a day of the value, else 0
-abbrev pub marked : {V : Type 0} → (V → V → Bool) → List (DayRange × V) → V → ℕ → ℕ
-marked alike periods v n = if given_on alike periods v n then 1 else 0
+-- whether one of the periods holds the day
+abbrev pub is_held : List DayRange → ℕ → Bool
+is_held periods n = list_any (λ period. holds period n) periods
+
+-- the cover of the days of some periods, each period with a value
+abbrev pub held_cover : {V : Type 0} → List DayRange → V → List (DayRange × V)
+held_cover periods v = map (λ period. (period, v)) (cover (is_held periods) day_count)
+
+-- 1 on a day of one of the periods, else 0
+abbrev pub mark_on : List DayRange → ℕ → ℕ
+mark_on periods n = if is_held periods n then 1 else 0
 
 -- each value once, at the last period that has it
 abbrev pub last_values : {V : Type 0} → (V → V → Bool) → List (DayRange × V) → List V

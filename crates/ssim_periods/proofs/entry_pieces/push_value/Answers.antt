@@ -1,18 +1,23 @@
--- If no earlier period has the value, its days are those of the period, else they are the marked
--- days of the rows.
-use Rattle.std.proofs.Common.{◌<◌, ◌++◌, ◌∷◌, [], ap, sym, ◌∙◌}
+-- The days of the list's periods, in whatever order, are those of the value.
+use Rattle.std.proofs.Common.{◌<◌, ◌++◌, ◌∷◌, [], ap, ◌∙◌}
 use Rattle.std.proofs.lemmas.Result.{on_ok_weaker}
-use Rattle.ssim_periods.proofs.ListPieces.{cover-marked, cover-own}
+use Rattle.ssim_periods.proofs.JoinLemmas.{held-moved}
+use Rattle.ssim_periods.proofs.ListPieces.{none-past, cover-given}
 use Rattle.ssim_periods.proofs.SplitLemmas.{All-push}
 use Rattle.ssim_periods.proofs.entry_pieces.push_value.Goals as goal
 
-pub returns-then-not-has_value : goal.returns-then-not-has_value
-returns-then-not-has_value g c =
-    let pieces = c.args.pieces.now.items in
-    on_ok_weaker c.push_cover.result (λ d. d ∙ ap (λ l. pieces ++ l) (cover-own g.V.Value.alike g.met.V.Value.exact c.args.earlier.now c.args.entry.now (sym c.has_value.ensures ∙ c.if-not-has_value.true))) c.push_cover.ensures
+pub push_days-requires : goal.push_days-requires
+push_days-requires g c =
+    let xs = c.args.earlier.now ++ c.args.entry.now ∷ [] in let v = c.args.entry.now.1 in
+    let ends = All-push (λ given. given.0.last < 36525) c.args.earlier.now c.args.entry.now c.requires.earlier c.requires.own in
+    record {
+      in_calendar = λ n past.
+          let is = held-moved c.take_days_of_value.new.periods.items c.sort_by_key.new.self.items c.deref.result.now n c.sort_by_key.ensures.permutation c.deref.ensures.value ∙ c.in_ok-take_days_of_value.ensures n in
+          none-past g.V.Value.alike xs v c.deref.result.now n ends is past;
+    }
 
 pub returns : goal.returns
 returns g c =
-    let pieces = c.args.pieces.now.items in let xs = c.args.earlier.now ++ c.args.entry.now ∷ [] in
-    let ends = All-push (λ given. given.0.last < 36525) c.args.earlier.now c.args.entry.now c.requires.earlier c.requires.own in
-    on_ok_weaker c.push_cover-2.result (λ d. d ∙ ap (λ l. pieces ++ l) (cover-marked g.V.Value.alike xs c.args.entry.now.1 c.in_ok-rows.rows.days ends c.in_ok-rows.ensures)) c.push_cover-2.ensures
+    let pieces = c.args.pieces.now.items in let xs = c.args.earlier.now ++ c.args.entry.now ∷ [] in let v = c.args.entry.now.1 in
+    on_ok_weaker c.push_days.result (λ d. d ∙ ap (λ l. pieces ++ l) (cover-given g.V.Value.alike xs v c.deref.result.now (λ n.
+    held-moved c.take_days_of_value.new.periods.items c.sort_by_key.new.self.items c.deref.result.now n c.sort_by_key.ensures.permutation c.deref.ensures.value ∙ c.in_ok-take_days_of_value.ensures n))) c.push_days.ensures

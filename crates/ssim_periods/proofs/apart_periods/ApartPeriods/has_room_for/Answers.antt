@@ -7,8 +7,8 @@ use Rattle.ssim_periods.proofs.apart_periods.ApartPeriods.has_room_for.Goals as 
 
 pub is_free-requires-clause-divided : goal.is_free-requires-clause-divided
 is_free-requires-clause-divided g c =
-    subst (λ cs. AreDivided cs c.deref.result.now) (sym c.deref-then-len-lt-MOST.ensures.value)
-    (subst (λ es. AreDivided c.self.inside.cuts.items es) (sym c.deref.ensures.value) c.self.invariant.1.divided)
+    subst (λ cs. AreDivided cs c.deref.result.now) (sym c.days.ensures)
+    (subst (λ es. AreDivided c.self.inside.cuts.days es) (sym c.deref.ensures.value) c.self.invariant.1.divided)
 
 pub returns-then-len-lt-MOST : goal.returns-then-len-lt-MOST
 returns-then-len-lt-MOST g c met =

@@ -1,40 +1,33 @@
 -- The list with one more period, whose days no other one holds.
-use Rattle.std.proofs.Common.{◌≡◌, ◌+◌, length, ap, subst, sym, ◌∙◌, arith}
+use Rattle.std.proofs.Common.{◌≡◌, ◌+◌, ap, subst, sym, ◌∙◌, arith}
 use Rattle.std.specs.List.Sorted.{IsStrictlyIncreasing}
 use Rattle.ssim_periods.specs.Days.{AddsOnly}
 use Rattle.ssim_periods.specs.internal.Splits.{with_cut}
 use Rattle.ssim_periods.proofs.ApartLemmas.{put-days, put-apart}
 use Rattle.ssim_periods.proofs.ApplyLemmas.{adds_only}
-use Rattle.ssim_periods.proofs.CutLemmas.{length-with_cut, rising-with_cut}
+use Rattle.ssim_periods.proofs.CutLemmas.{rising-with_cut}
 use Rattle.ssim_periods.proofs.apart_periods.ApartPeriods.put.Goals as goal
 
-pub add_day-requires-2-clause-rising : goal.add_day-requires-2-clause-rising
-add_day-requires-2-clause-rising g c =
-    let first = c.number-first.result in
-    subst IsStrictlyIncreasing (sym (c.add_day.ensures.cuts ∙ ap (λ cs. with_cut cs first) c.reserve.ensures.items)) (rising-with_cut c.self.inside.cuts.items first c.self.invariant.1.rising)
+pub add-requires-clause-rising : goal.add-requires-clause-rising
+add-requires-clause-rising g c = subst IsStrictlyIncreasing (sym c.in_ok-make_room.ensures.days) c.self.invariant.1.rising
 
-pub add_day-requires-2-clause-room : goal.add_day-requires-2-clause-room
-add_day-requires-2-clause-room g c =
+pub add-requires-2-clause-rising : goal.add-requires-2-clause-rising
+add-requires-2-clause-rising g c =
     let first = c.number-first.result in
-    let n = length-with_cut c.reserve.new.self.items first in
-    let is = ap length c.add_day.ensures.cuts in
-    let room = c.in_ok-reserve.ensures.ok in let kept = c.add_day.ensures.capacity in
-    let a = c.reserve.new.self.ok in let b = c.add_day.new.cuts.ok in
-    let same = ap length c.reserve.ensures.items in let d = c.self.inside.cuts.ok in
-    omega arith
+    subst IsStrictlyIncreasing (sym (c.add.ensures.days ∙ ap (λ cs. with_cut cs first) c.make_room.ensures.days)) (rising-with_cut c.self.inside.cuts.days first c.self.invariant.1.rising)
 
 pub invariant_of-self-2 : goal.invariant_of-self-2
 invariant_of-self-2 g c =
     let p = c.args.period.now in let first = c.number-first.result in let last = c.number.result in
     let l = c.number.ensures.value in let l' = c.last.ensures.value in
-    let cuts = c.self.inside.cuts.items in
+    let cuts = c.self.inside.cuts.days in
     let in_calendar = c.number.ensures.bound in
     let end : last + 1 ≡ p.last + 1 = omega arith in (
       c.self.invariant.0,
-      put-apart g.V.Value.nothing c.self.inside.entries.items c.push.new.self.items cuts c.add_day-2.new.cuts.items p c.args.value c.args.self.now.days first (last + 1)
+      put-apart g.V.Value.nothing c.self.inside.entries.items c.push.new.self.items cuts c.add-2.new.self.days p c.args.value c.args.self.now.days first (last + 1)
           c.self.invariant.1 (ap (λ s. s.days) c.self.view_is) c.requires.free c.requires.given (c.number-first.ensures.value ∙ c.first.ensures.value) end c.first.ensures.period.ordered (omega arith)
           c.in_ok-push.ensures.items
-          (c.add_day-2.ensures.cuts ∙ ap (λ cs. with_cut cs (last + 1)) (c.add_day.ensures.cuts ∙ ap (λ cs. with_cut cs first) c.reserve.ensures.items)),
+          (c.add-2.ensures.days ∙ ap (λ cs. with_cut cs (last + 1)) (c.add.ensures.days ∙ ap (λ cs. with_cut cs first) c.make_room.ensures.days)),
     )
 
 pub returns-clause-days : goal.returns-clause-days
@@ -45,9 +38,9 @@ pub returns-clause-cuts : goal.returns-clause-cuts
 returns-clause-cuts g c =
     let p = c.args.period.now in let first = c.number-first.result in let last = c.number.result in
     let l = c.number.ensures.value in let l' = c.last.ensures.value in
-    let cuts = c.self.inside.cuts.items in let new = c.add_day-2.new.cuts.items in
+    let cuts = c.self.inside.cuts.days in let new = c.add-2.new.self.days in
     let end : last + 1 ≡ p.last + 1 = omega arith in
-    let is : new ≡ with_cut (with_cut cuts first) (last + 1) = c.add_day-2.ensures.cuts ∙ ap (λ cs. with_cut cs (last + 1)) (c.add_day.ensures.cuts ∙ ap (λ cs. with_cut cs first) c.reserve.ensures.items) in
+    let is : new ≡ with_cut (with_cut cuts first) (last + 1) = c.add-2.ensures.days ∙ ap (λ cs. with_cut cs (last + 1)) (c.add.ensures.days ∙ ap (λ cs. with_cut cs first) c.make_room.ensures.days) in
     subst (λ a. AddsOnly c.args.self.now.cuts new a (p.last + 1)) (c.number-first.ensures.value ∙ c.first.ensures.value)
     (subst (λ b. AddsOnly c.args.self.now.cuts new first b) end
     (subst (λ cs. AddsOnly cs new first (last + 1)) (ap (λ s. s.cuts) c.self.view_is)

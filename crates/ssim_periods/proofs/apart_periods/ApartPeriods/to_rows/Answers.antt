@@ -11,6 +11,6 @@ rows_of-requires g c = (search rules, λ n. subst (λ xs. length (held_on xs n) 
 
 pub returns-clause-cuts : goal.returns-clause-cuts
 returns-clause-cuts g c =
-    let cuts = c.self.inside.cuts.items in
+    let cuts = c.self.inside.cuts.days in
     IfOk-weaker c.rows_of.result _ _ (λ rows h cut k.
     subst (λ cs. Contains cs cut) (ap (λ s. s.cuts) c.self.view_is) (h cuts (subst (AreDivided cuts) (sym c.deref.ensures.value) c.self.invariant.1.divided) cut k)) c.rows_of.ensures.cuts

@@ -1,0 +1,132 @@
+//! Periods with the days of several periods.
+ghost use Rattle.std.specs.Prelude.{◌≡◌, ℕ, ◌+◌, ◌<◌, ◌≤◌, ◌||◌, false, length, max, slice_index_or, IfSome, IsTrue, OnOk};
+ghost use Rattle.ssim_periods.specs.internal.Apart.{is_held};
+ghost use Rattle.ssim_periods.specs.Calendar.{holds, slot};
+
+use crate::weekdays::weekday_of;
+use ssim_values::{DayMask, Memory, Period};
+
+const NO_DAYS: [bool; 7] = [false; 7];
+
+/// How many of the last periods of a list are tried, at most.
+const TRIED: usize = 4;
+
+/// Adds the days of a period to those of a list: to one of the last periods of the list, if one
+/// period has the days of both, else as a new last period.
+pub(crate) fn join(periods: &mut Vec<Period>, period: &Period) -> Result<(), Memory>
+    ensures { OnOk result ((n : ℕ) → is_held periods.new.items n ≡ (holds period.now n || is_held periods.old.items n)) }
+{
+    if let Some(found) = joined_with_last(periods, period) {
+        periods[found.0] = found.1;
+        return Ok(());
+    }
+    periods.push(*period)?;
+    Ok(())
+}
+
+// The place of one of the last periods of a list, and the period with exactly its days and those of
+// another period.
+fn joined_with_last(periods: &[Period], period: &Period) -> Option<(usize, Period)>
+    ensures place { IfSome result (λ found. found.0 < length periods.now) }
+    ensures days { IfSome result (λ found. (n : ℕ) → holds found.1 n ≡ (holds (slice_index_or periods.now found.0 found.1) n || holds period.now n)) }
+{
+    let mut place = periods.len();
+    let least = place.saturating_sub(TRIED);
+    while place > least {
+        place -= 1;
+        if let Some(both) = joined(&periods[place], period) {
+            return Some((place, both));
+        }
+    }
+    None
+}
+
+// The period with exactly the days of two periods. May be none although there is one.
+fn joined(one: &Period, other: &Period) -> Option<Period>
+    ensures { IfSome result (λ both. (n : ℕ) → holds both n ≡ (holds one.now n || holds other.now n)) }
+{
+    if one.first().number() <= other.first().number() {
+        joined_in_order(one, other)
+    } else {
+        joined_in_order(other, one)
+    }
+}
+
+// The same if the first period begins no later than the other.
+fn joined_in_order(one: &Period, other: &Period) -> Option<Period>
+    requires { one.now.first ≤ other.now.first }
+    ensures { IfSome result (λ both. (n : ℕ) → holds both n ≡ (holds one.now n || holds other.now n)) }
+{
+    let days = one.mask().days();
+    let all = of_either(&days, &other.mask().days());
+    if !have_days(&all, one, other) {
+        return None;
+    }
+    let mask = if all == days {
+        one.mask()
+    } else {
+        DayMask::of(all)?
+    };
+    let last = if one.last().number() < other.last().number() {
+        other.last()
+    } else {
+        one.last()
+    };
+    match Period::new(one.first(), last, mask) {
+        Ok(period) => Some(period),
+        Err(_) => None,
+    }
+}
+
+// The weekdays of either of two masks.
+#[inline(always)]
+fn of_either(days: &[bool; 7], others: &[bool; 7]) -> [bool; 7]
+    ensures len { length result ≡ 7 }
+    ensures days { (w : ℕ) → slice_index_or result w false ≡ (slice_index_or days.now w false || slice_index_or others.now w false) }
+{
+    [
+        days[0] | others[0],
+        days[1] | others[1],
+        days[2] | others[2],
+        days[3] | others[3],
+        days[4] | others[4],
+        days[5] | others[5],
+        days[6] | others[6],
+    ]
+}
+
+// Whether the weekdays of either of two periods, from the first day of the one to the last day of
+// both, have no other days than the periods.
+fn have_days(all: &[bool; 7], one: &Period, other: &Period) -> bool
+    requires ordered { one.now.first ≤ other.now.first }
+    requires all { (w : ℕ) → slice_index_or all.now w false ≡ (slice_index_or one.now.days w false || slice_index_or other.now.days w false) }
+    ensures { IsTrue result → (n : ℕ) → one.now.first ≤ n → n ≤ max one.now.last other.now.last → slice_index_or all.now (slot n) false ≡ (holds one.now n || holds other.now n) }
+{
+    let days = one.mask().days();
+    let others = other.mask().days();
+    let first = one.first().number() as u32;
+    let next = other.first().number() as u32;
+    let end = one.last().number() as u32 + 1;
+    let other_end = other.last().number() as u32 + 1;
+    agree(all, &days, first, next.min(end))
+        && agree(all, &NO_DAYS, end, next)
+        && agree(all, &days, other_end, end)
+        && agree(all, &others, next.max(end), other_end)
+}
+
+// Whether the weekday of each day of a range is in both of two masks or in none. Masks that are not
+// equal differ on one of any seven days, so that no more days are looked at.
+fn agree(days: &[bool; 7], others: &[bool; 7], from: u32, to: u32) -> bool
+    ensures { IsTrue result → (n : ℕ) → from ≤ n → n < to → slice_index_or days.now (slot n) false ≡ slice_index_or others.now (slot n) false }
+{
+    if *days == *others {
+        return true;
+    }
+    for day in from..to {
+        let weekday = weekday_of(day);
+        if days[weekday] != others[weekday] {
+            return false;
+        }
+    }
+    true
+}
