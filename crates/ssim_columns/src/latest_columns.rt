@@ -1,7 +1,8 @@
 //! What the latest records had in columns that are parsed. Mostly the next record has the same, and
 //! it is not parsed again.
 
-ghost use Rattle.std.specs.Prelude.{◌≡◌, ◌<◌, IfSome, Some};
+ghost use Rattle.std.specs.Prelude.{◌≡◌, ◌<◌, IfSome, Some, length};
+ghost use Rattle.ssim_values.specs.Day.{day_of};
 ghost use Rattle.ssim_values.specs.DayMask.{days_of};
 ghost use Rattle.ssim_columns.specs.Columns.{columns};
 ghost use Rattle.ssim_columns.specs.Leg.{IsName, SpellsName};
@@ -13,8 +14,8 @@ use crate::leg::leg_fields::{DAYS, FIRST_DAY, LAST_DAY};
 use crate::leg::leg_name::{
     AirlineFlight, FlightLeg, LegName, name_with, read_flight, read_flight_leg,
 };
-use crate::text::array::bytes_of;
-use crate::text::equality::{are_same, are_same_four};
+use crate::text::array::{bytes_of, seven};
+use crate::text::equality::{are_same, are_same_four, are_same_seven};
 use crate::text::number::digits_of;
 use ssim_values::{Day, DayMask};
 use std::marker::Model;
@@ -209,11 +210,27 @@ impl EndsRead {
     }
 }
 
+// The day that a text spells, if another text spells `first`. A leg of one day has the same text
+// twice, and the day is read once.
+fn day_after(first: Day, first_text: &[u8], text: &[u8]) -> Option<Day>
+    requires first_len { length first_text.now ≡ 7 }
+    requires first { day_of first_text.now ≡ Some first }
+    requires len { length text.now ≡ 7 }
+    ensures { result ≡ day_of text.now }
+{
+    if are_same_seven(seven(text), seven(first_text)) {
+        return Some(first);
+    }
+    day_of(text)
+}
+
 fn read_ends(bytes: &[u8; 200]) -> Option<LegEnds>
     ensures { IfSome result (λ ends. SpellsEnds ends bytes.now) }
 {
-    let first = day_of(FIRST_DAY.text(bytes))?;
-    let last = end_from(first, LAST_DAY.text(bytes))?;
+    let first_text = FIRST_DAY.text(bytes);
+    let first = day_of(first_text)?;
+    let last_text = LAST_DAY.text(bytes);
+    let last = end_from(first, last_text, day_after(first, first_text, last_text))?;
     Some(LegEnds { first, last })
 }
 
