@@ -9,7 +9,8 @@ ghost use Rattle.ssim_columns.specs.Leg.{IsName, SpellsName};
 ghost use Rattle.ssim_columns.specs.internal.LatestColumns.{SpellsDates, SpellsEnds, SpellsFlight, SpellsFlightLeg};
 ghost use Rattle.ssim_columns.specs.Numbers.{digits_of};
 
-use crate::field::{Field, Kind, day_of, days_of, end_from};
+use crate::field::{Field, Kind, days_of, end_from};
+use crate::latest_months::LatestMonths;
 use crate::leg::leg_fields::{DAYS, FIRST_DAY, LAST_DAY};
 use crate::leg::leg_name::{
     AirlineFlight, FlightLeg, LegName, name_with, read_flight, read_flight_leg,
@@ -212,7 +213,7 @@ impl EndsRead {
 
 // The day that a text spells, if another text spells `first`. A leg of one day has the same text
 // twice, and the day is read once.
-fn day_after(first: Day, first_text: &[u8], text: &[u8]) -> Option<Day>
+fn day_after(months: &mut LatestMonths, first: Day, first_text: &[u8], text: &[u8]) -> Option<Day>
     requires first_len { length first_text.now ≡ 7 }
     requires first { day_of first_text.now ≡ Some first }
     requires len { length text.now ≡ 7 }
@@ -221,16 +222,17 @@ fn day_after(first: Day, first_text: &[u8], text: &[u8]) -> Option<Day>
     if are_same_seven(seven(text), seven(first_text)) {
         return Some(first);
     }
-    day_of(text)
+    months.day_of(text)
 }
 
-fn read_ends(bytes: &[u8; 200]) -> Option<LegEnds>
+fn read_ends(bytes: &[u8; 200], months: &mut LatestMonths) -> Option<LegEnds>
     ensures { IfSome result (λ ends. SpellsEnds ends bytes.now) }
 {
     let first_text = FIRST_DAY.text(bytes);
-    let first = day_of(first_text)?;
+    let first = months.day_of(first_text)?;
     let last_text = LAST_DAY.text(bytes);
-    let last = end_from(first, last_text, day_after(first, first_text, last_text))?;
+    let day = day_after(months, first, first_text, last_text);
+    let last = end_from(first, last_text, day)?;
     Some(LegEnds { first, last })
 }
 
@@ -286,7 +288,7 @@ impl SerialRead {
 }
 
 /// The latest flight, its latest leg, the latest ends of a period, the latest days of operation and
-/// the first digits of the latest serial of the records so far.
+/// the first digits of the latest serial of the records so far, and the months of the latest dates.
 #[derive(Drop)]
 pub struct LatestColumns {
     flight: Option<FlightRead>,
@@ -294,6 +296,7 @@ pub struct LatestColumns {
     ends: Option<EndsRead>,
     days: Option<DaysRead>,
     serial: SerialRead,
+    months: LatestMonths,
 }
 
 impl LatestColumns {
@@ -304,6 +307,7 @@ impl LatestColumns {
             ends: None,
             days: None,
             serial: SerialRead::new(),
+            months: LatestMonths::new(),
         }
     }
 
@@ -367,7 +371,7 @@ impl LatestColumns {
                 return Some(ends);
             }
         }
-        let ends = read_ends(bytes)?;
+        let ends = read_ends(bytes, &mut self.months)?;
         self.ends = Some(EndsRead::new(bytes, &ends));
         Some(ends)
     }

@@ -1,6 +1,5 @@
 -- A valid end is open or a day not before its start.
-use Rattle.std.proofs.Common.{sym, ap, ◌∙◌, Some}
-use Rattle.ssim_columns.specs.Columns.{end_from}
+use Rattle.std.proofs.Common.{sym, ◌∙◌}
 use Rattle.ssim_columns.proofs.lemmas.Places.{is_last_day}
 use Rattle.ssim_columns.proofs.lemmas.Days.{is_end}
 use Rattle.ssim_columns.proofs.field.columns.last_day_at.Goals as goal
