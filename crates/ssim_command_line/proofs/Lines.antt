@@ -20,7 +20,7 @@ use Rattle.clap.specs.declared.parser.matches.SubCommand.{SubCommand}
 use Rattle.std.specs.Box.{box_value}
 use Rattle.clap.proofs.OnLiterals.{clap_on_literals}
 use Rattle.clap.proofs.WalkLemmas.{both}
-use Rattle.ssim_command_line.specs.Line.{Line, Spells, Text, is_plain, is_whole, name_of, values_of, Check, Tidy, Start, Take, Merge, Show, Findings, Export, Rehearse, Explain}
+use Rattle.ssim_command_line.specs.Line.{Line, Spells, Text, is_plain, is_whole, name_of, values_of, Check, Tidy, Start, Take, Merge, Show, History, Findings, Export, Rehearse, Explain}
 use Rattle.ssim_command_line.specs.Commands.{whole_program, leaf, one_value, three_values, two_values_and_texts}
 use Rattle.ssim_command_line.specs.Request.{line_at, with_one, with_three}
 use Rattle.ssim_command_line.specs.Usage.{IsNoCommand, Names}
@@ -66,6 +66,10 @@ merge_is = record { met = refl; fits = refl; right = refl; found = refl }
 show_is : IsNamed (codes "show") (ready (leaf (codes "show") three_values))
 unfolding clap_on_literals
 show_is = record { met = refl; fits = refl; right = refl; found = refl }
+
+history_is : IsNamed (codes "history") (ready (leaf (codes "history") three_values))
+unfolding clap_on_literals
+history_is = record { met = refl; fits = refl; right = refl; found = refl }
 
 findings_is : IsNamed (codes "findings") (ready (leaf (codes "findings") one_value))
 unfolding clap_on_literals
@@ -150,6 +154,9 @@ from_line program (Merge a b d) w e =
 from_line program (Show a b d) w e =
     let p = both _ _ e in let q = both _ _ p.1 in
     three_answers (Show a b d) (codes "show") a b d Show refl refl show_is (looks a p.0) (looks b q.0) (one_plain d q.1) (λ rows. refl) program
+from_line program (History a b d) w e =
+    let p = both _ _ e in let q = both _ _ p.1 in
+    three_answers (History a b d) (codes "history") a b d History refl refl history_is (looks a p.0) (looks b q.0) (one_plain d q.1) (λ rows. refl) program
 from_line program (Rehearse a b d) w e =
     let p = both _ _ e in let q = both _ _ p.1 in
     three_answers (Rehearse a b d) (codes "rehearse") a b d Rehearse refl refl rehearse_is (looks a p.0) (looks b q.0) (one_plain d q.1) (λ rows. refl) program

@@ -49,10 +49,13 @@ on_data_sets =
 abbrev pub on_desks : List Shape
 on_desks = leaf (codes "take") two_values_and_texts ∷ leaf (codes "merge") three_values ∷ []
 
+-- the commands that print a flight of a desk on a date
+abbrev pub on_dates : List Shape
+on_dates = leaf (codes "show") three_values ∷ leaf (codes "history") three_values ∷ []
+
 -- the commands that print what a desk has
 abbrev pub of_desks : List Shape
-of_desks = leaf (codes "show") three_values ∷ leaf (codes "findings") one_value
-    ∷ leaf (codes "export") one_value ∷ []
+of_desks = leaf (codes "findings") one_value ∷ leaf (codes "export") one_value ∷ []
 
 -- the command that runs a script
 abbrev pub rehearsals : List Shape
@@ -64,5 +67,5 @@ explanations = leaf (codes "explain") one_value ∷ []
 
 -- the program with all its commands
 abbrev pub whole_program : App
-whole_program = add_all (add_all (add_all (add_all (add_all bare_program on_data_sets)
-    on_desks) of_desks) rehearsals) explanations
+whole_program = add_all (add_all (add_all (add_all (add_all (add_all bare_program on_data_sets)
+    on_desks) on_dates) of_desks) rehearsals) explanations

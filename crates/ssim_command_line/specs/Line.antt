@@ -14,6 +14,7 @@ pub data Line : Type 0 where
   Take : Text → Text → List Text → Line
   Merge : Text → Text → Text → Line
   Show : Text → Text → Text → Line
+  History : Text → Text → Text → Line
   Findings : Text → Line
   Export : Text → Line
   Rehearse : Text → Text → Text → Line
@@ -27,6 +28,7 @@ name_of (Start dataset stations out) = codes "start"
 name_of (Take desk out texts) = codes "take"
 name_of (Merge desk other out) = codes "merge"
 name_of (Show desk flight date) = codes "show"
+name_of (History desk flight date) = codes "history"
 name_of (Findings desk) = codes "findings"
 name_of (Export desk) = codes "export"
 name_of (Rehearse dataset stations script) = codes "rehearse"
@@ -40,6 +42,7 @@ values_of (Start dataset stations out) = dataset ∷ stations ∷ out ∷ []
 values_of (Take desk out texts) = desk ∷ out ∷ texts
 values_of (Merge desk other out) = desk ∷ other ∷ out ∷ []
 values_of (Show desk flight date) = desk ∷ flight ∷ date ∷ []
+values_of (History desk flight date) = desk ∷ flight ∷ date ∷ []
 values_of (Findings desk) = desk ∷ []
 values_of (Export desk) = desk ∷ []
 values_of (Rehearse dataset stations script) = dataset ∷ stations ∷ script ∷ []

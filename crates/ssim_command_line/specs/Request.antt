@@ -2,7 +2,7 @@
 use Rattle.std.specs.Prelude.{List, Option, None, map, option_and_then, option_map, if◌then◌else◌, codes}
 use Rattle.std.specs.Str.{bytes_eq}
 use Rattle.clap.specs.Words.{Row, all_of, first_of}
-use Rattle.ssim_command_line.specs.Line.{Line, Text, Check, Tidy, Start, Take, Merge, Show, Findings, Export}
+use Rattle.ssim_command_line.specs.Line.{Line, Text, Check, Tidy, Start, Take, Merge, Show, History, Findings, Export}
 use Rattle.ssim_command_line.specs.Line.{Rehearse, Explain}
 use Rattle.ssim_command_line.specs.declared.command_line.Request.{Request}
 use Rattle.ssim_command_line.specs.declared.command_line.Request.TheVariants as request
@@ -15,6 +15,7 @@ line_of (request.Start dataset stations out) = Start dataset.now stations.now ou
 line_of (request.Take desk out texts) = Take desk.now out.now (map (λ t. t.now) texts.items)
 line_of (request.Merge desk other out) = Merge desk.now other.now out.now
 line_of (request.Show desk flight date) = Show desk.now flight.now date.now
+line_of (request.History desk flight date) = History desk.now flight.now date.now
 line_of (request.Findings desk) = Findings desk.now
 line_of (request.Export desk) = Export desk.now
 line_of (request.Rehearse dataset stations script) = Rehearse dataset.now stations.now script.now
@@ -53,8 +54,9 @@ line_at name rows =
     else (if bytes_eq name (codes "take") then with_texts rows
     else (if bytes_eq name (codes "merge") then with_three Merge rows
     else (if bytes_eq name (codes "show") then with_three Show rows
+    else (if bytes_eq name (codes "history") then with_three History rows
     else (if bytes_eq name (codes "findings") then with_one Findings rows
     else (if bytes_eq name (codes "export") then with_one Export rows
     else (if bytes_eq name (codes "rehearse") then with_three Rehearse rows
     else (if bytes_eq name (codes "explain") then with_one Explain rows
-    else None)))))))))
+    else None))))))))))

@@ -11,8 +11,8 @@ use clap::error::ErrorKind;
 use clap::{ArgMatches, Error};
 use std::alloc::{AllocError, Global};
 
-/// A command with its values: names of files, but for the flight and the date of `Show` and the
-/// word of `Explain`.
+/// A command with its values: names of files, but for the flight and the date of `Show` and
+/// of `History`, and the word of `Explain`.
 #[derive(Debug, Drop)]
 pub enum Request<'a> {
     /// Print the notes on a data set and a summary.
@@ -27,6 +27,8 @@ pub enum Request<'a> {
     Merge(&'a str, &'a str, &'a str),
     /// Print a flight of a desk on a date.
     Show(&'a str, &'a str, &'a str),
+    /// Print what the messages of a desk did with a flight on a date.
+    History(&'a str, &'a str, &'a str),
     /// Print what the sub-messages of a desk found.
     Findings(&'a str),
     /// Export a desk.
@@ -127,6 +129,9 @@ fn read<'a>(
     }
     if name == "show" {
         return Ok(three(inner).map(|(a, b, c)| Request::Show(a, b, c)));
+    }
+    if name == "history" {
+        return Ok(three(inner).map(|(a, b, c)| Request::History(a, b, c)));
     }
     if name == "findings" {
         return Ok(one(inner).map(Request::Findings));

@@ -1,7 +1,7 @@
 //! The commands as `clap` sees them.
 ghost use Rattle.std.specs.Prelude.{◌≡◌, IfOk, codes, false};
 ghost use Rattle.clap.specs.Words.{app_of, rule_of};
-ghost use Rattle.ssim_command_line.specs.Commands.{add_all, explanations, leaf, needed, of_desks};
+ghost use Rattle.ssim_command_line.specs.Commands.{add_all, explanations, leaf, needed, of_desks, on_dates};
 ghost use Rattle.ssim_command_line.specs.Commands.{on_data_sets, on_desks, one_value, rehearsals};
 ghost use Rattle.ssim_command_line.specs.Commands.{several_texts, three_values};
 ghost use Rattle.ssim_command_line.specs.Commands.{two_values_and_texts, whole_program};
@@ -104,12 +104,21 @@ fn with_desks<'a>(alloc: Global, program: Command<'a>) -> Result<Command<'a>, Al
     program.subcommand(take)?.subcommand(merge)
 }
 
+/// The commands that print a flight of a desk on a date.
+fn with_dates<'a>(alloc: Global, program: Command<'a>) -> Result<Command<'a>, AllocError>
+    ensures { IfOk result (λ c. app_of c ≡ add_all (app_of program.entry) on_dates) }
+{
+    let shown = ["DESK", "FLIGHT", "DATE"];
+    let show = with_three(alloc, "show", help::SHOW, help::SHOW_EXAMPLE, shown)?;
+    let about = help::HISTORY;
+    let history = with_three(alloc, "history", about, help::HISTORY_EXAMPLE, shown)?;
+    program.subcommand(show)?.subcommand(history)
+}
+
 /// The commands that print what a desk has.
 fn with_prints<'a>(alloc: Global, program: Command<'a>) -> Result<Command<'a>, AllocError>
     ensures { IfOk result (λ c. app_of c ≡ add_all (app_of program.entry) of_desks) }
 {
-    let shown = ["DESK", "FLIGHT", "DATE"];
-    let show = with_three(alloc, "show", help::SHOW, help::SHOW_EXAMPLE, shown)?;
     let findings = with_one(
         alloc,
         "findings",
@@ -118,10 +127,7 @@ fn with_prints<'a>(alloc: Global, program: Command<'a>) -> Result<Command<'a>, A
         "DESK",
     )?;
     let export = with_one(alloc, "export", help::EXPORT, help::EXPORT_EXAMPLE, "DESK")?;
-    program
-        .subcommand(show)?
-        .subcommand(findings)?
-        .subcommand(export)
+    program.subcommand(findings)?.subcommand(export)
 }
 
 /// The rehearsal.
@@ -154,6 +160,7 @@ pub fn command<'a>(alloc: Global) -> Result<Command<'a>, AllocError>
         .subcommand_required(true);
     let program = with_data_sets(alloc, program)?;
     let program = with_desks(alloc, program)?;
+    let program = with_dates(alloc, program)?;
     let program = with_prints(alloc, program)?;
     let program = with_rehearsal(alloc, program)?;
     with_explanations(alloc, program)

@@ -91,6 +91,26 @@ the aircraft type, with . for each blank:
 Exit status: 0, also if there is no flight; 1 if the desk file is refused, FLIGHT is no
 designator (6), DATE is no date (1), or the airline is another one (41).";
 
+pub(crate) const HISTORY: &str = "\
+Read a desk file, and print what the data set has for a flight on a date of origin, and
+what each message did with it";
+
+pub(crate) const HISTORY_EXAMPLE: &str = "\
+Example:
+  ssimdesk history fdh.desk Z7103 24MAY27
+prints the flight and the date, the legs in the data set, and a line for each sub-message
+that names the flight and whose period holds the date: its reference, its number, its
+action, and what it found (a word of 'findings'). After each that acted are the legs that
+it left, or 'no flight'; the last are those of 'show'. A leg that was changed ends in ' *'
+if its line is that of one before:
+  Z7103 24MAY27
+  data set
+    01 FDH 1730 1730 +0200 HAM 1920 1920 +0200 00 J AT7
+  SSM 15MAR27 00001 001 1 CNL acted
+    no flight
+Exit status: 0; 1 if the desk file is refused, FLIGHT is no designator (6), DATE is no
+date (1), or the airline is another one (41).";
+
 pub(crate) const FINDINGS: &str = "\
 Read a desk file, and print for each sub-message that it holds on how many dates it acted,
 and why not on the others";
