@@ -1,8 +1,7 @@
 //! The line of a refusal, printed piece by piece. Nothing here allocates.
 
-ghost use Rattle.std.specs.Prelude.{◌≡◌, ◌++◌, ◌∷◌, ◌+◌, ◌%◌, codes, decimal};
+ghost use Rattle.std.specs.Prelude.{◌++◌, ◌∷◌, codes, decimal};
 ghost use Rattle.ssim_values.specs.Designator.{designator_text};
-ghost use Rattle.ssim_text.specs.Canonical.{five_digits, three_digits};
 ghost use Rattle.ssim_text.specs.Reference.{printed_originator, printed_reference};
 ghost use Rattle.ssim_base.specs.Export.{line};
 ghost use Rattle.ssim_program.specs.Paper.{Prints, Puts};
@@ -109,8 +108,8 @@ fn put_serials<W: Write>(reference: &Reference, err: &mut Printer<'_, W>) -> Res
 {
     let kind = reference.kind.name().as_bytes();
     let date = reference.date.write();
-    let group = five_digits(reference.group);
-    let serial = three_digits(reference.serial);
+    let group = reference.group_digits();
+    let serial = reference.serial_digits();
     put_parts(err, &[b" ", kind, b" ", &date, b" ", &group, b" ", &serial])
 }
 
@@ -122,36 +121,4 @@ fn put_originator<W: Write>(originator: Originator, err: &mut Printer<'_, W>) ->
         return Ok(());
     }
     put_parts(err, &[b" ", &originator.bytes()])
-}
-
-/// The last digit of a number.
-fn last_digit(number: u32) -> u8
-    ensures { result ≡ 48 + number % 10 }
-{
-    b'0' + (number % 10) as u8
-}
-
-/// A number in three digits.
-fn three_digits(number: u16) -> [u8; 3]
-    ensures { result ≡ three_digits number }
-{
-    let number = number as u32;
-    [
-        last_digit(number / 100),
-        last_digit(number / 10),
-        last_digit(number),
-    ]
-}
-
-/// A number in five digits.
-fn five_digits(number: u32) -> [u8; 5]
-    ensures { result ≡ five_digits number }
-{
-    [
-        last_digit(number / 10_000),
-        last_digit(number / 1000),
-        last_digit(number / 100),
-        last_digit(number / 10),
-        last_digit(number),
-    ]
 }

@@ -14,6 +14,6 @@ parts_of r kind date group serial k d g s = rw (k, d, g, s) (simp (append_assoc,
 
 pub returns : goal.returns
 returns g c =
-    let is = parts_of c.args.reference.now c.as_bytes-kind.result.now c.write-date.result c.five_digits-group.result c.three_digits-serial.result
-    (c.as_bytes-kind.ensures.value ∙ c.name.ensures) c.write-date.ensures.value c.five_digits-group.ensures c.three_digits-serial.ensures in
+    let is = parts_of c.args.reference.now c.as_bytes-kind.result.now c.write-date.result c.group_digits-group.result c.serial_digits-serial.result
+    (c.as_bytes-kind.ensures.value ∙ c.name.ensures) c.write-date.ensures.value c.group_digits-group.ensures c.serial_digits-serial.ensures in
     subst (λ (bs : List ℕ). Puts bs c.args.err.now c.put_parts.new.out c.put_parts.result) is c.put_parts.ensures
