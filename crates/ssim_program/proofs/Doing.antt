@@ -4,9 +4,11 @@ use Rattle.ssim_program.specs.Again.{PrintsItself}
 use Rattle.ssim_program.specs.Effects.{Begins, Makes}
 use Rattle.ssim_program.specs.Files.{Files, Kept, with_kept}
 use Rattle.ssim_command_line.specs.Line.{Line, Check, Tidy, Start, Take, Merge, Show, Findings, Export, Rehearse, Explain}
-use Rattle.ssim_program.specs.Paper.{Paper, Prints}
-use Rattle.ssim_program.specs.Reasons.{Refuses}
-use Rattle.ssim_program.specs.World.{Does, Prepares, PrintsAtOnce, Stops, world}
+use Rattle.ssim_program.specs.print.Paper.{Paper}
+use Rattle.ssim_program.specs.internal.Print.{Prints}
+use Rattle.ssim_program.specs.print.Reasons.{Refuses}
+use Rattle.ssim_program.specs.World.{Stops, world}
+use Rattle.ssim_program.specs.internal.Program.{Does, Prepares, PrintsAtOnce}
 use Rattle.ssim_program.specs.declared.refusal.Refusal.{Refusal}
 use Rattle.ssim_program.specs.declared.refusal.Refusal.TheVariants as refused
 use Rattle.ssim_program.proofs.Printers.{nothing}

@@ -2,12 +2,13 @@
 use Rattle.std.proofs.Common.{◌≡◌, ◌⊎◌, inl, inr, ℕ, ◌≤◌, true, false, List, [], Option, refl, sym, ap, subst, arith}
 use Rattle.clap.specs.Values.{kind_of}
 use Rattle.clap.specs.declared.error.Error.{Error}
-use Rattle.ssim_program.specs.Help.{Answers, PrintsHelp, RefusesHelp, SaysHelp, SaysWrong}
+use Rattle.ssim_program.specs.Help.{PrintsHelp, RefusesHelp, SaysWrong}
+use Rattle.ssim_program.specs.internal.Program.{Answers, SaysHelp, Obeys}
 use Rattle.ssim_command_line.specs.Line.{Line, Text}
-use Rattle.ssim_program.specs.Paper.{Breaks, Grows, Paper, PrintsOrFails}
-use Rattle.ssim_program.specs.Reasons.{PrintsRefusal}
+use Rattle.ssim_program.specs.print.Paper.{Breaks, Grows, Paper, PrintsOrFails}
+use Rattle.ssim_program.specs.print.Reasons.{PrintsRefusal}
 use Rattle.ssim_command_line.specs.Usage.{HasFault, IsCommand, IsFaultOf, IsNoCommand, Names, is_help}
-use Rattle.ssim_program.specs.World.{EndsWithLine, IsDone, IsRefused, Obeys, World, world}
+use Rattle.ssim_program.specs.World.{EndsWithLine, IsDone, IsRefused, World, world}
 use Rattle.ssim_program.specs.Files.{Files}
 use Rattle.ssim_command_line.specs.declared.command_line.LineFault.{LineFault}
 use Rattle.ssim_command_line.specs.declared.command_line.LineFault.TheVariants.{Memory, Shown, NoCommand}

@@ -1,5 +1,5 @@
 -- What the commands on desk files read, make and print, and why they are refused.
-use Rattle.std.specs.Prelude.{Vec, ◌≡◌, ◌≢◌, ◌⊎◌, ℕ, ◌+◌, ◌%◌, ◌^◌, List, [], ◌∷◌, ◌++◌, take, slice_get, Option, Some, None, Result, Ok, Err}
+use Rattle.std.specs.Prelude.{◌≡◌, ◌≢◌, ◌⊎◌, ℕ, ◌+◌, ◌%◌, ◌^◌, List, [], ◌∷◌, ◌++◌, take, slice_get, Option, Some, None, Ok}
 use Rattle.ssim_values.specs.Designator.{SpellsDesignator}
 use Rattle.ssim_values.specs.declared.designator.Designator.{Designator}
 use Rattle.ssim_values.specs.declared.fault.Fault.TheVariants as value_fault
@@ -23,10 +23,9 @@ use Rattle.ssim_desk.specs.declared.steps.Answer.TheVariants.{Merged}
 use Rattle.ssim_program.specs.Files.{Files}
 use Rattle.ssim_command_line.specs.Line.{Text}
 use Rattle.ssim_program.specs.Made.{HasFile, IsExport, RefusesLoad}
-use Rattle.ssim_program.specs.Paper.{Breaks, Grows, Paper}
-use Rattle.ssim_program.specs.Printed.{printed_text}
-use Rattle.ssim_program.specs.Refusal.{IsOfFile, refusal_of_desk}
-use Rattle.ssim_program.specs.Shown.{shown_flight}
+use Rattle.ssim_program.specs.print.Printed.{printed_text}
+use Rattle.ssim_program.specs.print.Refusal.{IsOfFile, refusal_of_desk}
+use Rattle.ssim_program.specs.print.Shown.{shown_flight}
 use Rattle.ssim_program.specs.declared.printed.Printed.{Printed}
 use Rattle.ssim_program.specs.declared.printed.Printed.TheVariants as printed
 use Rattle.ssim_program.specs.declared.refusal.Refusal.{Refusal}
@@ -97,11 +96,6 @@ RefusesFileText files name desk refusal =
     RefusesLoad files name refusal
     ⊎ ((text : List ℕ) × HasFile files name text × (fault : DeskFault) × RefusesText (state_of desk) text fault × (refusal ≡ refusal_of_desk fault))
 
--- a text is taken, and its line is made; or it is refused
-abbrev pub TakesOrRefuses : {A : Type 0} → Option Files → Text → DeskSeen → DeskSeen → Result (Vec ℕ A) Refusal → Type 0
-TakesOrRefuses files name before after (Ok line) = TakesText files name before after line.items
-TakesOrRefuses files name before after (Err refusal) = RefusesFileText files name before refusal
-
 -- the lines of the first n texts, all of which are taken
 abbrev pub TakesFirst : Option Files → List Text → ℕ → DeskSeen → DeskSeen → List ℕ → Type 0
 TakesFirst files names n before after printed = TakesTexts files (take n names) before after printed
@@ -114,15 +108,6 @@ pub record RefusesTexts (files : Option Files) (names : List Text) (before : Des
   pub name : Text
   pub next : slice_get names n ≡ Some name
   pub why : RefusesFileText files name between refusal
-
--- Texts are taken one after another, and `out` has taken the line of each. Or one is refused, and
--- `out` has taken the lines of those before it. Or `out` fails, and has taken a prefix of the lines
--- of the first n.
-abbrev pub PrintsTexts : Option Files → List Text → DeskSeen → DeskSeen → Paper → Paper → Result (Unit {0}) Refusal → Type 0
-PrintsTexts files names before after out out' (Ok x) = (printed : List ℕ) × TakesTexts files names before after printed × Grows printed out out'
-PrintsTexts files names before after out out' (Err refusal) =
-    ((printed : List ℕ) × RefusesTexts files names before printed refusal × Grows printed out out')
-    ⊎ ((refusal ≡ refused.WriteFault) × (n : ℕ) × (last : DeskSeen) × (printed : List ℕ) × TakesFirst files names n before last printed × Breaks printed out out')
 
 -- ---- two desks
 

@@ -12,8 +12,8 @@ use Rattle.ssim_program.specs.Explained.{Explains}
 use Rattle.ssim_program.specs.Files.{Files, Kept}
 use Rattle.ssim_command_line.specs.Line.{Line, Check, Tidy, Start, Take, Merge, Show, Findings, Export, Rehearse, Explain}
 use Rattle.ssim_program.specs.Made.{AreLinesOn, IsExportOf, ReadsBase, ReadsFile}
-use Rattle.ssim_program.specs.Rehearsal.{RehearsesFiles}
-use Rattle.ssim_program.specs.Shown.{findings_lines}
+use Rattle.ssim_program.specs.rehearse.Rehearsal.{RehearsesFiles}
+use Rattle.ssim_program.specs.print.Shown.{findings_lines}
 
 -- What each command makes of the files: the bytes that it prints, and the file that it keeps. The
 -- records of a new desk's base can be written, and the messages of a desk that is kept are in order

@@ -26,8 +26,8 @@ use Rattle.ssim_program.specs.Desks.{IsNoDeskFile}
 use Rattle.ssim_program.specs.Files.{Files}
 use Rattle.ssim_command_line.specs.Line.{Text}
 use Rattle.ssim_program.specs.Made.{HasFile, IsOfBytes, file_limit}
-use Rattle.ssim_program.specs.Refusal.{refusal_number, refusal_of_base, refusal_of_stations, refusal_text}
-use Rattle.ssim_program.specs.Script.{RefusesScript, Script, SpellsScript}
+use Rattle.ssim_program.specs.print.Refusal.{refusal_number, refusal_of_base, refusal_of_stations, refusal_text}
+use Rattle.ssim_program.specs.rehearse.Script.{RefusesScript, Script, SpellsScript}
 use Rattle.ssim_program.specs.declared.explain.file_kind.FileKind.{FileKind}
 use Rattle.ssim_program.specs.declared.explain.file_kind.FileKind.TheVariants as kind
 use Rattle.ssim_program.specs.declared.refusal.Refusal.{Refusal}
@@ -98,11 +98,6 @@ IsValid kind.Desk bytes = (desk : DeskSeen) × IsDeskFile bytes desk.base desk.h
 IsValid kind.Script bytes = (script : Script) × SpellsScript script bytes
 IsValid kind.Message bytes = (message : MessageValue) × SpellsMessage message bytes
 IsValid kind.Stations bytes = (rows : List Row) × SpellsTable rows bytes
-
--- the refusal of a file, or that it is valid
-abbrev pub Judges : FileKind → List ℕ → Option Refusal → Type 0
-Judges k bytes (Some refusal) = IsInvalid k bytes refusal
-Judges k bytes None = IsValid k bytes
 
 -- the text begins with the line of the refusal, or says that the file is valid
 abbrev pub ExplainsBytes : List ℕ → List ℕ → Type 0

@@ -10,7 +10,6 @@ use Rattle.ssim_base.specs.Export.{Frame, chapter7, line}
 use Rattle.ssim_base.specs.ReadBack.{HasFrame}
 use Rattle.ssim_base.specs.Reading.{IsWholeOf}
 use Rattle.ssim_base.specs.Stations.{NamesLine, Row, SpellsTable}
-use Rattle.ssim_base.specs.Summary.{IsSummary}
 use Rattle.ssim_base.specs.Timetable.{Days, days_of}
 use Rattle.ssim_base.specs.declared.fault.BaseFault.{BaseFault}
 use Rattle.ssim_base.specs.declared.fault.BaseFault.TheVariants as base
@@ -21,8 +20,8 @@ use Rattle.ssim_base.specs.declared.stations.StationFault.{StationFault}
 use Rattle.ssim_text.specs.Left.{lines_left}
 use Rattle.ssim_program.specs.Files.{Files, IsOpened, file_of}
 use Rattle.ssim_command_line.specs.Line.{Text}
-use Rattle.ssim_program.specs.Printed.{printed_text}
-use Rattle.ssim_program.specs.Refusal.{IsOfFile, refusal_of_base, refusal_of_stations}
+use Rattle.ssim_program.specs.print.Printed.{printed_text}
+use Rattle.ssim_program.specs.print.Refusal.{IsOfFile, refusal_of_base, refusal_of_stations}
 use Rattle.ssim_program.specs.declared.refusal.Refusal.{Refusal}
 use Rattle.ssim_program.specs.declared.refusal.Refusal.TheVariants as refused
 use Rattle.ssim_program.specs.declared.printed.Printed.{Printed}
@@ -71,10 +70,6 @@ HasFile files name bytes = (length bytes ≤ file_limit) × IfSome files (λ all
 -- cannot see the files, some data set is.
 abbrev pub ReadsFile : Option Files → Text → Outcome → Type 0
 ReadsFile files name outcome = (left : Option (List ℕ)) × IsOpened files name left × IsWholeOf file_limit left outcome
-
--- the data set in the file of this name has what the summary says
-abbrev pub SumsFile : Option Files → Text → Summary → Type 0
-SumsFile files name summary = (left : Option (List ℕ)) × IsOpened files name left × IsSummary file_limit left summary
 
 -- the fault is of the bytes: neither that the reader failed (13), nor that more came than the limit
 -- (14)

@@ -3,7 +3,7 @@
 ghost use Rattle.std.specs.Prelude.{◌≡◌, IfOk};
 ghost use Rattle.ssim_command_line.specs.Line.{Check};
 ghost use Rattle.ssim_program.specs.Made.{as_printed, summary_lines};
-ghost use Rattle.ssim_program.specs.World.{Prepares};
+ghost use Rattle.ssim_program.specs.internal.Program.{Prepares};
 
 use crate::data_set::load_summary;
 use crate::printed::{Printed, add_line};

@@ -8,8 +8,8 @@ ghost use Rattle.ssim_base.specs.Reading.{IsReadAs};
 ghost use Rattle.ssim_base.specs.declared.fault.BaseFault.TheVariants as base_fault;
 ghost use Rattle.ssim_base.specs.declared.note.Note.{Note};
 ghost use Rattle.ssim_program.specs.Files.{IsOpened};
-ghost use Rattle.ssim_program.specs.Made.{HasFile, IsOfBytes, ReadsBase, ReadsFile, RefusesBase, RefusesFile, RefusesLoad, SumsFile, file_limit};
-ghost use Rattle.ssim_program.specs.Unread.{IsUnread};
+ghost use Rattle.ssim_program.specs.Made.{HasFile, IsOfBytes, ReadsBase, ReadsFile, RefusesBase, RefusesFile, RefusesLoad, file_limit};
+ghost use Rattle.ssim_program.specs.internal.DataSet.{SumsFile, IsUnread};
 
 use crate::refusal::Refusal;
 use crate::store::{Store, StoreFault};

@@ -7,7 +7,7 @@ ghost use Rattle.ssim_values.specs.Characters.{two_digits_of};
 ghost use Rattle.ssim_program.specs.Explained.{BeginsWith, ExplainsFile, ExplainsNumber, number_in};
 ghost use Rattle.ssim_command_line.specs.Line.{Explain};
 ghost use Rattle.ssim_program.specs.Made.{RefusesLoad};
-ghost use Rattle.ssim_program.specs.World.{Prepares};
+ghost use Rattle.ssim_program.specs.internal.Program.{Prepares};
 
 mod example;
 mod file;

@@ -5,10 +5,11 @@ ghost use Rattle.ssim_values.specs.Flight.{FlightNumber};
 ghost use Rattle.ssim_records.specs.declared.record.Record.{Record};
 ghost use Rattle.ssim_base.specs.Base.{airline_of};
 ghost use Rattle.ssim_base.specs.Timetable.{Days};
-ghost use Rattle.ssim_program.specs.Exported.{IsWritten, PrintsExport};
+ghost use Rattle.ssim_program.specs.internal.Export.{IsWritten, PrintsExport};
 ghost use Rattle.ssim_command_line.specs.Line.{Export};
-ghost use Rattle.ssim_program.specs.Paper.{Paper};
-ghost use Rattle.ssim_program.specs.World.{Does, world};
+ghost use Rattle.ssim_program.specs.print.Paper.{Paper};
+ghost use Rattle.ssim_program.specs.World.{world};
+ghost use Rattle.ssim_program.specs.internal.Program.{Does};
 
 use crate::desk_file::open_holdings;
 use crate::printer::Printer;

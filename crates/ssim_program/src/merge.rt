@@ -3,7 +3,7 @@
 ghost use Rattle.std.specs.Prelude.{IfErr, OnOk};
 ghost use Rattle.ssim_program.specs.Desks.{IsMergeOf, RefusesMerge};
 ghost use Rattle.ssim_command_line.specs.Line.{Merge};
-ghost use Rattle.ssim_program.specs.World.{Prepares};
+ghost use Rattle.ssim_program.specs.internal.Program.{Prepares};
 
 use crate::desk_file::{keep, open_holdings};
 use crate::refusal::Refusal;

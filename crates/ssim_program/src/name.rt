@@ -1,7 +1,7 @@
 //! Names of files, as they are printed.
 
 ghost use Rattle.std.specs.Prelude.{◌≡◌, ◌<◌, ◌++◌, IfOk, OnOk, string_bytes};
-ghost use Rattle.ssim_program.specs.Names.{digit_16, printed_byte, printed_name};
+ghost use Rattle.ssim_program.specs.print.Names.{digit_16, printed_byte, printed_name};
 
 use ssim_values::Memory;
 use std::alloc::Global;

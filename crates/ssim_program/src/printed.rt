@@ -1,7 +1,7 @@
 //! The lines that commands print.
 ghost use Rattle.std.specs.Prelude.{◌≡◌, ◌++◌, IfOk, IfSome, OnOk, Some};
 ghost use Rattle.ssim_base.specs.Export.{line};
-ghost use Rattle.ssim_program.specs.Printed.{printed_text};
+ghost use Rattle.ssim_program.specs.print.Printed.{printed_text};
 
 use ssim_text::Reference;
 use ssim_values::Memory;

@@ -2,7 +2,8 @@
 
 ghost use Rattle.std.specs.Prelude.{◌≡◌, false, []};
 ghost use Rattle.std.specs.List.{flat_map};
-ghost use Rattle.ssim_program.specs.Paper.{Paper, Prints, PrintsOrFails, Puts};
+ghost use Rattle.ssim_program.specs.print.Paper.{Paper, PrintsOrFails};
+ghost use Rattle.ssim_program.specs.internal.Print.{Prints, Puts};
 
 use crate::refusal::Refusal;
 use ssim_records::{DeviceFault, Sink};

@@ -3,13 +3,14 @@
 ghost use Rattle.std.specs.Prelude.{◌≡◌, ◌≤◌, ◌⊎◌, ℕ, Option, true, false, map};
 ghost use Rattle.std.specs.Io.KnownBytes.{Keeps};
 ghost use Rattle.ssim_program.specs.Files.{Files};
-ghost use Rattle.ssim_program.specs.Help.{Answers, PrintsHelp, RefusesHelp, SaysHelp, SaysWrong};
+ghost use Rattle.ssim_program.specs.Help.{PrintsHelp, RefusesHelp, SaysWrong};
+ghost use Rattle.ssim_program.specs.internal.Program.{Answers, SaysHelp, Does, Obeys, Prepares, PrintsAtOnce};
 ghost use Rattle.ssim_command_line.specs.Line.{Line, Spells};
 ghost use Rattle.ssim_program.specs.Offices.{Did};
-ghost use Rattle.ssim_program.specs.Reasons.{PrintsRefusal};
+ghost use Rattle.ssim_program.specs.print.Reasons.{PrintsRefusal};
 ghost use Rattle.ssim_command_line.specs.Request.{line_of};
 ghost use Rattle.ssim_command_line.specs.Usage.{HasFault, IsCommand, IsNoCommand, Names, is_help};
-ghost use Rattle.ssim_program.specs.World.{Does, EndsWithLine, IsDone, Obeys, Prepares, PrintsAtOnce, paper, world};
+ghost use Rattle.ssim_program.specs.World.{EndsWithLine, IsDone, paper, world};
 ghost use Rattle.ssim_program.specs.declared.refusal.Refusal.TheVariants as refused;
 ghost use Rattle.clap.specs.Words.{kind_of};
 

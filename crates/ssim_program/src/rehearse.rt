@@ -8,7 +8,7 @@ pub(crate) mod script;
 mod texts;
 
 ghost use Rattle.ssim_command_line.specs.Line.{Rehearse};
-ghost use Rattle.ssim_program.specs.World.{Prepares};
+ghost use Rattle.ssim_program.specs.internal.Program.{Prepares};
 
 use crate::data_set::load_base;
 use crate::refusal::Refusal;

@@ -9,8 +9,8 @@ ghost use Rattle.ssim_values.specs.Day.{day_text};
 ghost use Rattle.ssim_values.specs.Designator.{designator_text};
 ghost use Rattle.ssim_program.specs.Desks.{RefusesFlight, Shows};
 ghost use Rattle.ssim_command_line.specs.Line.{Show};
-ghost use Rattle.ssim_program.specs.World.{Prepares};
-ghost use Rattle.ssim_program.specs.Shown.{columns_text, dotted, leg_line, shown, shown_flight};
+ghost use Rattle.ssim_program.specs.internal.Program.{Prepares};
+ghost use Rattle.ssim_program.specs.print.Shown.{columns_text, dotted, leg_line, shown, shown_flight};
 
 use crate::desk_file::open_holdings;
 use crate::refusal::Refusal;

@@ -3,7 +3,7 @@
 ghost use Rattle.std.specs.Prelude.{◌≡◌, IfOk};
 ghost use Rattle.ssim_program.specs.Desks.{held_line};
 ghost use Rattle.ssim_command_line.specs.Line.{Start};
-ghost use Rattle.ssim_program.specs.World.{Prepares};
+ghost use Rattle.ssim_program.specs.internal.Program.{Prepares};
 
 use crate::data_set::load_base;
 use crate::desk_file::keep;

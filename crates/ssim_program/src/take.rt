@@ -3,9 +3,11 @@
 ghost use Rattle.std.specs.Prelude.{◌≡◌, IfErr, IfOk, map};
 ghost use Rattle.ssim_held.specs.Entries.{state_of};
 ghost use Rattle.ssim_desk.specs.Steps.{RefusesText};
-ghost use Rattle.ssim_program.specs.Desks.{IsTaken, PrintsTexts, TakesOrRefuses, took_printed};
+ghost use Rattle.ssim_program.specs.Desks.{IsTaken, took_printed};
+ghost use Rattle.ssim_program.specs.internal.Take.{PrintsTexts, TakesOrRefuses};
 ghost use Rattle.ssim_command_line.specs.Line.{Take};
-ghost use Rattle.ssim_program.specs.World.{Does, world};
+ghost use Rattle.ssim_program.specs.World.{world};
+ghost use Rattle.ssim_program.specs.internal.Program.{Does};
 
 use crate::data_set::load_file;
 use crate::desk_file::{keep, open_holdings};

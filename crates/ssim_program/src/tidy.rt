@@ -1,7 +1,8 @@
 //! The command `tidy`: the canonical export of a data set.
 
 ghost use Rattle.ssim_command_line.specs.Line.{Tidy};
-ghost use Rattle.ssim_program.specs.World.{Does, world};
+ghost use Rattle.ssim_program.specs.World.{world};
+ghost use Rattle.ssim_program.specs.internal.Program.{Does};
 
 use crate::data_set::load;
 use crate::export::end_export;

@@ -5,7 +5,8 @@ ghost use Rattle.ssim_text.specs.declared.reference.Reference.{Reference};
 ghost use Rattle.ssim_held.specs.Held.{Says};
 ghost use Rattle.ssim_held.specs.Entries.{state_of};
 ghost use Rattle.ssim_desk.specs.Steps.{IsInRange};
-ghost use Rattle.ssim_program.specs.Rehearsal.{AreStepLines, HasLine, HasMergeLine, HasTakeLine, HaveLines, IsMergeLine, IsStepLine, IsTakeLine, Rehearses, desk_of, fresh};
+ghost use Rattle.ssim_program.specs.rehearse.Rehearsal.{AreStepLines, IsMergeLine, IsStepLine, IsTakeLine, Rehearses, fresh};
+ghost use Rattle.ssim_program.specs.internal.Rehearse.{HasLine, HasMergeLine, HasTakeLine, HaveLines, desk_of};
 
 use crate::rehearse::line::RehearsalLine;
 use crate::rehearse::outcome::ends_of;

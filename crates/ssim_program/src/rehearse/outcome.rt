@@ -1,7 +1,8 @@
 //! The exports of desks, and whether they are equal.
 ghost use Rattle.std.specs.Prelude.{◌≡◌, ◌↔◌, ◌<◌, ◌+◌, ◌%◌, ◌^◌, ◌≤◌, ◌++◌, [], IfOk, IsTrue, OnErr, OnOk, length, map};
 ghost use Rattle.ssim_held.specs.Entries.{state_of};
-ghost use Rattle.ssim_program.specs.Rehearsal.{AreEqualTo, AreExports, AreSame, HasEnds, IsOutcome, IsVerdict, desk_line, desk_lines, outcome_of, outcome_with};
+ghost use Rattle.ssim_program.specs.rehearse.Rehearsal.{AreEqualTo, AreExports, AreSame, HasEnds, IsOutcome, IsVerdict, desk_line, desk_lines};
+ghost use Rattle.ssim_program.specs.internal.Rehearse.{outcome_of, outcome_with};
 
 use crate::rehearse::line::RehearsalLine;
 use ssim_desk::{DeskFault, Holdings};

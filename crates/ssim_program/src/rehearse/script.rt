@@ -1,8 +1,8 @@
 //! Desk scripts: how many desks there are, and the steps that they try.
 
 ghost use Rattle.std.specs.Prelude.{◌≡◌, ◌<◌, ◌≤◌, All, IfErr, IfOk, IfSome, Some, map, option_map};
-ghost use Rattle.ssim_program.specs.Script.{IsOtherLine, IsStepOf, RefusesScript, SpellsScript, count_in, desk_in, merge_in, name_in, step_in, take_in};
-ghost use Rattle.ssim_program.specs.Rehearsal.{as_written, script_of};
+ghost use Rattle.ssim_program.specs.rehearse.Script.{RefusesScript, SpellsScript, count_in, desk_in, merge_in, name_in, step_in, take_in};
+ghost use Rattle.ssim_program.specs.internal.Rehearse.{IsOtherLine, IsStepOf, as_written, script_of};
 
 use crate::refusal::Refusal;
 use crate::word::is_word;

@@ -2,8 +2,8 @@
 
 ghost use Rattle.std.specs.Prelude.{◌≡◌, ◌<◌, ◌≤◌, All, IfErr, IfOk, map};
 ghost use Rattle.ssim_desk.specs.Steps.{IsInRange};
-ghost use Rattle.ssim_program.specs.Rehearsal.{AreLoaded, HasSteps, IsLoaded, RefusesStep, RefusesSteps, RefusesTexts, as_written};
-ghost use Rattle.ssim_program.specs.Script.{IsStepOf};
+ghost use Rattle.ssim_program.specs.rehearse.Rehearsal.{AreLoaded, HasSteps, IsLoaded, RefusesStep, RefusesSteps, RefusesTexts};
+ghost use Rattle.ssim_program.specs.internal.Rehearse.{as_written, IsStepOf};
 
 use crate::data_set::load_file;
 use crate::refusal::Refusal;

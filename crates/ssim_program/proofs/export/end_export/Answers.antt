@@ -1,7 +1,7 @@
 -- The export was written and is flushed, or it was not.
 use Rattle.std.proofs.Common.{Result, Err, subst, sym}
 use Rattle.ssim_schedule.specs.declared.export.ExportFault.{ExportFault}
-use Rattle.ssim_program.specs.Exported.{IsWritten, PrintsExport}
+use Rattle.ssim_program.specs.internal.Export.{IsWritten, PrintsExport}
 use Rattle.ssim_program.specs.declared.refusal.Refusal.{Refusal}
 use Rattle.ssim_program.proofs.Exporting.{flushed, not_written}
 use Rattle.ssim_program.proofs.export.end_export.Goals as goal

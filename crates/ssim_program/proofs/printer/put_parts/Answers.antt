@@ -2,7 +2,8 @@
 use Rattle.std.proofs.Common.{◌≡◌, Bor, Ok, ◌<◌, ◌+◌, ◌++◌, ℕ, List, [], length, drop, get_or, ap, subst, sym, arith, rules}
 use Rattle.std.specs.List.{flat_map}
 use Rattle.std.proofs.lemmas.List.{drop_all, drop_more}
-use Rattle.ssim_program.specs.Paper.{Breaks, Grows, Puts}
+use Rattle.ssim_program.specs.print.Paper.{Breaks, Grows}
+use Rattle.ssim_program.specs.internal.Print.{Puts}
 use Rattle.ssim_program.proofs.Printers.{breaks_first, nothing, puts_then}
 use Rattle.ssim_program.proofs.printer.put_parts.Goals as goal
 

@@ -1,7 +1,8 @@
 -- What is put of the parts that are left is put of them all.
 use Rattle.std.proofs.Common.{drop, Result}
 use Rattle.std.specs.List.{flat_map}
-use Rattle.ssim_program.specs.Paper.{Paper, Puts}
+use Rattle.ssim_program.specs.print.Paper.{Paper}
+use Rattle.ssim_program.specs.internal.Print.{Puts}
 use Rattle.ssim_program.specs.declared.refusal.Refusal.{Refusal}
 use Rattle.ssim_program.proofs.printer.put_parts.Given as goal
 

@@ -2,7 +2,8 @@
 use Rattle.std.proofs.Common.{sym, subst}
 use Rattle.ssim_command_line.specs.Line.{Check, Start, Merge, Show, Findings, Rehearse, Explain}
 use Rattle.ssim_command_line.specs.Request.{line_of}
-use Rattle.ssim_program.specs.World.{Does, world}
+use Rattle.ssim_program.specs.World.{world}
+use Rattle.ssim_program.specs.internal.Program.{Does}
 use Rattle.ssim_command_line.specs.declared.command_line.Request.{Request}
 use Rattle.ssim_program.proofs.program.act.Goals as goal
 

@@ -1,6 +1,6 @@
 -- The line is its head, what is named and its end.
 use Rattle.std.proofs.Common.{◌∷◌, [], rules}
-use Rattle.ssim_program.specs.Refusal.{named_text, refusal_file, refusal_head, refusal_place, refusal_text}
+use Rattle.ssim_program.specs.print.Refusal.{named_text, refusal_file, refusal_head, refusal_place, refusal_text}
 use Rattle.ssim_program.proofs.Printers.{breaks_first, breaks_more, grows_more, prints_then}
 use Rattle.ssim_program.proofs.refusal_line.print_refusal.Goals as goal
 

@@ -1,6 +1,6 @@
 -- The parts are the two numbers, each after its label.
 use Rattle.std.proofs.Common.{◌≡◌, ◌∙◌, ◌++◌, ℕ, List, [], append-nil, append_assoc, codes, decimal, subst}
-use Rattle.ssim_program.specs.Paper.{Puts}
+use Rattle.ssim_program.specs.internal.Print.{Puts}
 use Rattle.ssim_program.proofs.refusal_line.put_column.Goals as goal
 
 parts_of : (number column : ℕ) (first second : List ℕ) → first ≡ decimal number → second ≡ decimal column

@@ -1,7 +1,7 @@
 -- The reference is its first parts and its originator.
 use Rattle.std.proofs.Common.{rules}
 use Rattle.ssim_text.specs.Reference.{printed_originator}
-use Rattle.ssim_program.specs.Refusal.{without_originator}
+use Rattle.ssim_program.specs.internal.Print.{without_originator}
 use Rattle.ssim_program.proofs.Printers.{breaks_first, puts_then}
 use Rattle.ssim_program.proofs.refusal_line.put_message.Goals as goal
 

@@ -4,8 +4,7 @@ use Rattle.ssim_text.specs.Canonical.{five_digits, three_digits}
 use Rattle.ssim_text.specs.Lines.{kind_text}
 use Rattle.ssim_text.specs.declared.reference.Reference.{Reference}
 use Rattle.ssim_values.specs.Day.{day_text}
-use Rattle.ssim_program.specs.Paper.{Puts}
-use Rattle.ssim_program.specs.Refusal.{without_originator}
+use Rattle.ssim_program.specs.internal.Print.{Puts, without_originator}
 use Rattle.ssim_program.proofs.refusal_line.put_serials.Goals as goal
 
 parts_of : (r : Reference) (kind date group serial : List ℕ) → kind ≡ kind_text r.kind → date ≡ day_text r.date → group ≡ five_digits r.group → serial ≡ three_digits r.serial

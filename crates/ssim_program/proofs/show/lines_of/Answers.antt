@@ -1,7 +1,7 @@
 -- The line of one more leg.
 use Rattle.std.proofs.Common.{◌≡◌, ◌+◌, ◌++◌, ◌∷◌, [], take, arith}
 use Rattle.std.proofs.lemmas.Grind.{common_steps}
-use Rattle.ssim_program.specs.Shown.{leg_line}
+use Rattle.ssim_program.specs.print.Shown.{leg_line}
 use Rattle.ssim_program.proofs.Joining.{one_more}
 use Rattle.ssim_program.proofs.show.lines_of.Goals as goal
 

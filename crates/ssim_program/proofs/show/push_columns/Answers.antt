@@ -1,7 +1,7 @@
 -- The columns, one after another.
 use Rattle.std.proofs.Common.{◌++◌}
 use Rattle.ssim_base.proofs.SinkLemmas.{if_ok}
-use Rattle.ssim_program.specs.Shown.{shown}
+use Rattle.ssim_program.specs.print.Shown.{shown}
 use Rattle.ssim_program.proofs.Joining.{joined}
 use Rattle.ssim_program.proofs.show.push_columns.Goals as goal
 

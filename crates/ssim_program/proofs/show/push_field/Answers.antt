@@ -1,6 +1,6 @@
 -- The columns of the field, as the leg has them.
 use Rattle.std.proofs.Common.{◌≡◌, ℕ, List, ◌++◌, ◌∷◌, OnOk, subst}
-use Rattle.ssim_program.specs.Shown.{dotted}
+use Rattle.ssim_program.specs.print.Shown.{dotted}
 use Rattle.ssim_program.proofs.show.push_field.Goals as goal
 
 pub returns : goal.returns

@@ -1,7 +1,7 @@
 -- The sequence, the columns and the line end, one after another.
 use Rattle.std.proofs.Common.{◌∙◌, ◌++◌, ◌∷◌, [], ℕ, List, ap₂}
 use Rattle.ssim_values.specs.Characters.{two_digits}
-use Rattle.ssim_program.specs.Shown.{columns_text}
+use Rattle.ssim_program.specs.print.Shown.{columns_text}
 use Rattle.ssim_program.proofs.Joining.{joined}
 use Rattle.ssim_program.proofs.show.push_leg.Goals as goal
 

@@ -1,6 +1,6 @@
 -- The columns so far were added.
 use Rattle.std.proofs.Common.{◌≡◌, ◌++◌, take}
-use Rattle.ssim_program.specs.Shown.{dotted}
+use Rattle.ssim_program.specs.print.Shown.{dotted}
 use Rattle.ssim_program.proofs.show.push_shown.Given as goal
 
 abbrev pub invariant-loop-byte : goal.invariant-loop-byte

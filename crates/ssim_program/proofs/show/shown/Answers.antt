@@ -1,7 +1,7 @@
 -- The flight and the date that the words spell, and the desk's legs.
 use Rattle.std.proofs.Common.{◌∙◌, ap, rules}
 use Rattle.ssim_base.specs.Timetable.{Legs}
-use Rattle.ssim_program.specs.Shown.{shown_flight}
+use Rattle.ssim_program.specs.print.Shown.{shown_flight}
 use Rattle.ssim_program.proofs.show.shown.Goals as goal
 
 pub returns-clause-ok : goal.returns-clause-ok

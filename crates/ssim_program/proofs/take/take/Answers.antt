@@ -1,7 +1,7 @@
 -- The desk is opened, the texts are taken, and the desk is kept.
 use Rattle.std.proofs.Common.{◌≡◌, ◌∙◌, Option, map, subst, rules, Err}
 use Rattle.ssim_held.specs.Entries.{AreRising}
-use Rattle.ssim_program.specs.Desks.{PrintsTexts}
+use Rattle.ssim_program.specs.internal.Take.{PrintsTexts}
 use Rattle.ssim_program.specs.Files.{Files}
 use Rattle.ssim_program.proofs.Texts.{HavePrinted, kept_or_not, not_flushed, not_opened, not_taken}
 use Rattle.ssim_program.proofs.take.take.Goals as goal

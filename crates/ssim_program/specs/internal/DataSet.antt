@@ -1,12 +1,20 @@
--- Faults of a data set that are not of its bytes.
-use Rattle.std.specs.Prelude.{◌≡◌, Option, Some, None}
+-- The summary of a data set, and errors of a data set that are not of its bytes.
+use Rattle.std.specs.Prelude.{◌≡◌, ℕ, List, Option, Some, None}
 use Rattle.ssim_records.specs.declared.fault.RecordFault.TheVariants as record_fault
+use Rattle.ssim_base.specs.Summary.{IsSummary}
 use Rattle.ssim_base.specs.declared.fault.BaseFault.{BaseFault}
 use Rattle.ssim_base.specs.declared.fault.BaseFault.TheVariants as base
+use Rattle.ssim_base.specs.declared.summary.Summary.{Summary}
+use Rattle.ssim_program.specs.Files.{Files, IsOpened}
 use Rattle.ssim_command_line.specs.Line.{Text}
-use Rattle.ssim_program.specs.Refusal.{IsOfFile}
+use Rattle.ssim_program.specs.print.Refusal.{IsOfFile}
 use Rattle.ssim_program.specs.declared.refusal.Refusal.{Refusal}
 use Rattle.ssim_program.specs.declared.refusal.Refusal.TheVariants as refused
+use Rattle.ssim_program.specs.Made.{file_limit}
+
+-- the data set in the file of this name has what the summary says
+abbrev pub SumsFile : Option Files → Text → Summary → Type 0
+SumsFile files name summary = (left : Option (List ℕ)) × IsOpened files name left × IsSummary file_limit left summary
 
 -- a refusal with the name of a file
 abbrev pub IsNamed : Text → Option Refusal → Type 0

@@ -9,7 +9,7 @@ use Rattle.ssim_records.specs.Leg.{leg_columns}
 use Rattle.ssim_base.specs.Export.{line}
 use Rattle.ssim_base.specs.Timetable.{LegValue, Legs}
 use Rattle.ssim_desk.specs.declared.finding_line.FindingLine.{FindingLine}
-use Rattle.ssim_program.specs.Printed.{finding_text}
+use Rattle.ssim_program.specs.print.Printed.{finding_text}
 
 -- columns with a full stop in place of each blank
 abbrev pub dotted : List ℕ → List ℕ

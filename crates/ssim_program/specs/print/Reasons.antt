@@ -16,9 +16,9 @@ use Rattle.ssim_program.specs.Desks.{ReadsDesk, RefusesDeskFile, RefusesFlight, 
 use Rattle.ssim_program.specs.Files.{Files}
 use Rattle.ssim_command_line.specs.Line.{Line, Text, Check, Tidy, Start, Take, Merge, Show, Findings, Export, Rehearse, Explain}
 use Rattle.ssim_program.specs.Made.{ReadsFile, RefusesBase, RefusesFile, RefusesLoad}
-use Rattle.ssim_program.specs.Paper.{Paper, PrintsOrFails}
-use Rattle.ssim_program.specs.Refusal.{refusal_of_export, refusal_text}
-use Rattle.ssim_program.specs.Rehearsal.{RefusesLines}
+use Rattle.ssim_program.specs.print.Paper.{Paper, PrintsOrFails}
+use Rattle.ssim_program.specs.print.Refusal.{refusal_of_export, refusal_text}
+use Rattle.ssim_program.specs.rehearse.Rehearsal.{RefusesLines}
 use Rattle.ssim_program.specs.declared.refusal.Refusal.{Refusal}
 use Rattle.ssim_program.specs.declared.refusal.Refusal.TheVariants as refused
 

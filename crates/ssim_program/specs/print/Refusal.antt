@@ -1,7 +1,6 @@
 -- The line that a refusal prints, without its line end, and which refusal a fault becomes.
 use Rattle.std.specs.Prelude.{◌≡◌, ◌⊎◌, ℕ, List, [], ◌∷◌, ◌++◌, Option, Some, None, codes, string_bytes}
 use Rattle.std.specs.Fmt.{decimal}
-use Rattle.ssim_values.specs.Day.{day_text}
 use Rattle.ssim_values.specs.Designator.{designator_text}
 use Rattle.ssim_values.specs.Fault.{fault_name, fault_number, memory_name}
 use Rattle.ssim_values.specs.declared.fault.Fault.{Fault}
@@ -17,14 +16,11 @@ use Rattle.ssim_base.specs.declared.place.Place.{Place}
 use Rattle.ssim_base.specs.declared.place.Place.TheVariants.{Nowhere, Record, Column, Line, SubMessage, Offset, Flight, Message}
 use Rattle.ssim_base.specs.declared.stations.StationFault.{StationFault}
 use Rattle.ssim_base.specs.declared.stations.StationFault.TheVariants as stations
-use Rattle.ssim_text.specs.Canonical.{five_digits, three_digits}
-use Rattle.ssim_text.specs.Lines.{kind_text}
 use Rattle.ssim_text.specs.Reference.{printed_reference}
-use Rattle.ssim_text.specs.declared.reference.Reference.{Reference}
 use Rattle.ssim_held.specs.Fault.{desk_fault_name, desk_fault_number, desk_fault_place}
 use Rattle.ssim_held.specs.declared.fault.DeskFault.{DeskFault}
 use Rattle.ssim_held.specs.declared.fault.DeskFault.TheVariants as desk
-use Rattle.ssim_program.specs.Names.{printed_name}
+use Rattle.ssim_program.specs.print.Names.{printed_name}
 use Rattle.ssim_program.specs.declared.refusal.Refusal.{Refusal}
 use Rattle.ssim_program.specs.declared.refusal.Refusal.TheVariants as refusal
 
@@ -68,12 +64,6 @@ refusal_place (refusal.File name) = Nowhere
 abbrev pub refusal_file : Refusal → Option (List ℕ)
 refusal_file (refusal.File name) = Some (string_bytes name)
 refusal_file r = None
-
--- a reference without its originator: the kind, the date and the serials, each after a blank
-abbrev pub without_originator : Reference → List ℕ
-without_originator r =
-    32 ∷ kind_text r.kind ++ 32 ∷ day_text r.date ++ 32 ∷ five_digits r.group
-    ++ 32 ∷ three_digits r.serial
 
 -- a place in a line, after what comes before it
 abbrev pub place_text : Place → List ℕ

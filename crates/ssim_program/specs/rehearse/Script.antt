@@ -1,5 +1,5 @@
 -- Desk scripts: which bytes are a script, and its steps.
-use Rattle.std.specs.Prelude.{◌≡◌, ◌⊎◌, ℕ, ◌+◌, ◌-◌, ◌<◌, ◌&&◌, ◌==◌, not, nat_le, nat_lt, if◌then◌else◌, List, [], ◌∷◌, ◌++◌, length, map, Option, Some, None, option_map, codes}
+use Rattle.std.specs.Prelude.{◌≡◌, ◌⊎◌, ℕ, ◌+◌, ◌-◌, ◌&&◌, ◌==◌, not, nat_le, nat_lt, if◌then◌else◌, List, [], ◌∷◌, ◌++◌, length, map, Option, Some, None, option_map, codes}
 use Rattle.std.specs.List.{list_any}
 use Rattle.std.specs.Str.{bytes_eq, is_utf8}
 use Rattle.ssim_text.specs.Bytes.{◌>>=◌, word, behind}
@@ -76,10 +76,6 @@ pub record IsFirstOther (count : ℕ) (lines : List (ℕ × List ℕ)) (number :
   pub no_step : step_in count line.1 ≡ None
   pub is : number ≡ line.0
 
--- the refusal names the first line that spells no step, or memory ran out
-abbrev pub IsOtherLine : ℕ → List (ℕ × List ℕ) → Refusal → Type 0
-IsOtherLine count lines refusal = (refusal ≡ refused.Memory) ⊎ ((number : ℕ) × (refusal ≡ refused.Script number) × IsFirstOther count lines number)
-
 -- the number of the line that makes a text no script: 1 if there are no lines; the first line if it
 -- is not DESKS n; else the first line that spells no step
 abbrev pub IsNoScriptAt : List ℕ → ℕ → Type 0
@@ -91,8 +87,3 @@ IsNoScriptAt text number =
 -- the bytes are no script, and the refusal names the line; or memory ran out
 abbrev pub RefusesScript : List ℕ → Refusal → Type 0
 RefusesScript text refusal = (refusal ≡ refused.Memory) ⊎ ((number : ℕ) × (refusal ≡ refused.Script number) × IsNoScriptAt text number)
-
--- the desks of a step are below this number
-abbrev pub IsStepOf : ℕ → Written → Type 0
-IsStepOf count (Takes desk name) = desk < count
-IsStepOf count (Merges into from) = (into < count) × (from < count)

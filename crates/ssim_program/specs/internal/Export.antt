@@ -7,8 +7,8 @@ use Rattle.ssim_base.specs.Timetable.{Days}
 use Rattle.ssim_schedule.specs.declared.export.ExportFault.{ExportFault}
 use Rattle.ssim_program.specs.Again.{GrowsByItself}
 use Rattle.ssim_program.specs.Made.{IsExport}
-use Rattle.ssim_program.specs.Paper.{Breaks, Grows, Paper}
-use Rattle.ssim_program.specs.Reasons.{RefusesExport}
+use Rattle.ssim_program.specs.print.Paper.{Breaks, Grows, Paper}
+use Rattle.ssim_program.specs.print.Reasons.{RefusesExport}
 use Rattle.ssim_program.specs.declared.refusal.Refusal.{Refusal}
 use Rattle.ssim_program.specs.declared.refusal.Refusal.TheVariants as refused
 

@@ -1,9 +1,7 @@
 -- What a printer has printed, and what a call of it leaves.
-use Rattle.std.specs.Prelude.{◌≡◌, ◌⊎◌, ℕ, ◌+◌, ◌%◌, ◌^◌, Bool, true, List, Option, Result, Ok, Err}
+use Rattle.std.specs.Prelude.{◌≡◌, ◌⊎◌, ℕ, ◌+◌, ◌%◌, ◌^◌, Bool, List, Option}
 use Rattle.std.specs.Io.KnownBytes.{Appends}
 use Rattle.ssim_base.specs.Sinks.{TakesFront}
-use Rattle.ssim_program.specs.declared.refusal.Refusal.{Refusal}
-use Rattle.ssim_program.specs.declared.refusal.Refusal.TheVariants as refused
 
 -- The bytes that were taken, if the contract knows them; how many calls failed, a count that wraps;
 -- whether the latest call was a flush that did not fail; and the writer that the bytes go to.
@@ -24,16 +22,6 @@ pub record Breaks (bytes : List ℕ) (before after : Paper) : Type 0 where
   pub taken : TakesFront bytes before.taken after.taken
   pub failures : after.failures ≡ (before.failures + 1) % 2 ^ 64
   pub device : after.device ≡ before.device
-
--- the bytes are printed and flushed; or a call fails, and the refusal is 52
-abbrev pub Prints : List ℕ → Paper → Paper → Result (Unit {0}) Refusal → Type 0
-Prints bytes before after (Ok x) = Grows bytes before after × (after.flushed ≡ true)
-Prints bytes before after (Err refusal) = (refusal ≡ refused.WriteFault) × Breaks bytes before after
-
--- the bytes are printed, and not yet flushed; or a call fails, and the refusal is 52
-abbrev pub Puts : List ℕ → Paper → Paper → Result (Unit {0}) Refusal → Type 0
-Puts bytes before after (Ok x) = Grows bytes before after
-Puts bytes before after (Err refusal) = (refusal ≡ refused.WriteFault) × Breaks bytes before after
 
 -- all of the bytes were taken, or a call failed
 abbrev pub PrintsOrFails : List ℕ → Paper → Paper → Type 0

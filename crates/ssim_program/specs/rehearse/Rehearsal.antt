@@ -1,6 +1,6 @@
 -- What a rehearsal prints: a line for each step, a line for each desk, and whether all exports are
 -- equal.
-use Rattle.std.specs.Prelude.{◌≡◌, ◌⊎◌, ℕ, ◌+◌, List, [], ◌∷◌, ◌++◌, All, codes, length, map, Option, Some, None, Result, Ok, Err}
+use Rattle.std.specs.Prelude.{◌≡◌, ◌⊎◌, ℕ, ◌+◌, List, [], ◌∷◌, ◌++◌, All, codes, length, Option, Result, Ok, Err}
 use Rattle.std.specs.Fmt.{decimal}
 use Rattle.std.specs.FinMap.{entries}
 use Rattle.std.specs.List.{flat_map}
@@ -18,7 +18,6 @@ use Rattle.ssim_text.specs.declared.reference.Reference.{Reference}
 use Rattle.ssim_held.specs.Held.{DeskState, Says}
 use Rattle.ssim_held.specs.Entries.{DeskSeen, state_of}
 use Rattle.ssim_desk.specs.Meaning.{Exports}
-use Rattle.ssim_desk.specs.Reach.{IsStep}
 use Rattle.ssim_desk.specs.Steps.{Runs}
 use Rattle.ssim_desk.specs.declared.steps.Answer.{Answer}
 use Rattle.ssim_desk.specs.declared.steps.Answer.TheVariants.{Taken, Repeated, Merged, Refused}
@@ -27,17 +26,12 @@ use Rattle.ssim_desk.specs.declared.steps.Step.TheVariants.{Take, Merge}
 use Rattle.ssim_program.specs.Files.{Files}
 use Rattle.ssim_command_line.specs.Line.{Text}
 use Rattle.ssim_program.specs.Made.{HasFile, ReadsBase, RefusesBase, RefusesLoad}
-use Rattle.ssim_program.specs.Refusal.{refusal_of_desk, refusal_of_export, refusal_text}
-use Rattle.ssim_program.specs.Script.{RefusesScript, Script, SpellsScript, Written, Takes, Merges}
+use Rattle.ssim_program.specs.print.Refusal.{refusal_of_desk, refusal_of_export, refusal_text}
+use Rattle.ssim_program.specs.rehearse.Script.{RefusesScript, Script, SpellsScript, Written, Takes, Merges}
 use Rattle.ssim_program.specs.declared.refusal.Refusal.{Refusal}
 use Rattle.ssim_program.specs.declared.refusal.Refusal.TheVariants as refused
 use Rattle.ssim_program.specs.declared.rehearse.line.RehearsalLine.{RehearsalLine}
 use Rattle.ssim_program.specs.declared.rehearse.line.RehearsalLine.TheVariants as printed
-use Rattle.ssim_program.specs.declared.rehearse.outcome.Outcome as kept
-use Rattle.ssim_program.specs.declared.rehearse.outcome.Outcome.TheVariants as kept_as
-use Rattle.ssim_program.specs.declared.rehearse.script.Script as read
-use Rattle.ssim_program.specs.declared.rehearse.script.Written as spelt
-use Rattle.ssim_program.specs.declared.rehearse.script.Written.TheVariants as spelt_as
 
 -- ---- the lines, without their ends
 
@@ -59,11 +53,6 @@ abbrev pub printed_line : RehearsalLine → List ℕ
 printed_line l = line (rehearsal_text l)
 
 -- ---- the steps
-
--- the desk that a step changes
-abbrev pub desk_of : Step → ℕ
-desk_of (Take desk text) = desk
-desk_of (Merge into from) = into
 
 -- the line for taking a text; it names the reference of a message that the text spells over the
 -- base
@@ -91,37 +80,11 @@ AreStepLines base [] [] [] = Unit {0}
 AreStepLines base (step ∷ steps) (answer ∷ answers) (l ∷ lines) = IsStepLine base step answer l × AreStepLines base steps answers lines
 AreStepLines base steps answers lines = ⊥
 
--- the result of taking a text has a line
-abbrev pub HasTakeLine : BaseSeen → ℕ → List ℕ → Answer → Type 0
-HasTakeLine base desk text answer = (l : RehearsalLine) × IsTakeLine base desk text answer l
-
--- the result of a merge has a line
-abbrev pub HasMergeLine : ℕ → Answer → Type 0
-HasMergeLine desk answer = (l : RehearsalLine) × IsMergeLine desk answer l
-
--- the result of a step has a line
-abbrev pub HasLine : BaseSeen → Step → Answer → Type 0
-HasLine base step answer = (l : RehearsalLine) × IsStepLine base step answer l
-
--- the result of each step has a line
-abbrev pub HaveLines : BaseSeen → List Step → List Answer → Type 0
-HaveLines base steps answers = (k : ℕ) (step : Step) (answer : Answer) → IsStep steps answers k step answer → HasLine base step answer
-
 -- ---- the desks
 
 -- the export of a desk: its bytes, or why there are none
 abbrev pub Outcome : Type 0
 Outcome = Result (List ℕ) ExportFault
-
--- the export of a desk as the specification sees it
-abbrev pub outcome_of : kept.Outcome → Outcome
-outcome_of (kept_as.Exported buffer) = Ok buffer.bytes
-outcome_of (kept_as.Refused fault) = Err fault
-
--- the export that a buffer has, unless there was a fault
-abbrev pub outcome_with : List ℕ → Option ExportFault → Outcome
-outcome_with bytes None = Ok bytes
-outcome_with bytes (Some fault) = Err fault
 
 -- The desk has this export: the bytes of its meaning, or 50 or 51 if its meaning has none. Or
 -- memory ran out, and the refusal is 90.
@@ -194,15 +157,6 @@ pub record Rehearses (base : BaseSeen) (count : ℕ) (steps : List Step) (lines 
   pub all : lines ≡ step_lines ++ end_lines
 
 -- ---- from files
-
--- a step of a script as the specification sees it
-abbrev pub as_written : spelt.Written → Written
-as_written (spelt_as.Take desk name) = Takes desk name.now
-as_written (spelt_as.Merge into from) = Merges into from
-
--- a script as the specification sees it
-abbrev pub script_of : read.Script → Script
-script_of script = record { count = script.count; steps = map as_written script.steps.items }
 
 -- the step of a script with its text from the file
 abbrev pub IsLoaded : Option Files → Written → Step → Type 0
