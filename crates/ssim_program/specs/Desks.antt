@@ -26,8 +26,8 @@ use Rattle.ssim_program.specs.Made.{HasFile, IsExport, RefusesLoad}
 use Rattle.ssim_program.specs.print.Printed.{printed_text}
 use Rattle.ssim_program.specs.print.Refusal.{IsOfFile, refusal_of_desk}
 use Rattle.ssim_program.specs.print.Shown.{shown_flight}
-use Rattle.ssim_program.specs.declared.printed.Printed.{Printed}
-use Rattle.ssim_program.specs.declared.printed.Printed.TheVariants as printed
+use Rattle.ssim_program.specs.declared.print.printed.Printed.{Printed}
+use Rattle.ssim_program.specs.declared.print.printed.Printed.TheVariants as printed
 use Rattle.ssim_program.specs.declared.refusal.Refusal.{Refusal}
 use Rattle.ssim_program.specs.declared.refusal.Refusal.TheVariants as refused
 

@@ -24,8 +24,8 @@ use Rattle.ssim_program.specs.print.Printed.{printed_text}
 use Rattle.ssim_program.specs.print.Refusal.{IsOfFile, refusal_of_base, refusal_of_stations}
 use Rattle.ssim_program.specs.declared.refusal.Refusal.{Refusal}
 use Rattle.ssim_program.specs.declared.refusal.Refusal.TheVariants as refused
-use Rattle.ssim_program.specs.declared.printed.Printed.{Printed}
-use Rattle.ssim_program.specs.declared.printed.Printed.TheVariants as printed
+use Rattle.ssim_program.specs.declared.print.printed.Printed.{Printed}
+use Rattle.ssim_program.specs.declared.print.printed.Printed.TheVariants as printed
 
 -- ---- from a base
 

@@ -6,8 +6,8 @@ ghost use Rattle.ssim_program.specs.print.Refusal.{refusal_of_base, refusal_of_d
 ghost use Rattle.ssim_program.specs.print.Refusal.{refusal_of_stations, refusal_of_value};
 ghost use Rattle.ssim_program.specs.print.Refusal.{refusal_place, refusal_text};
 
-use crate::name::printed_name;
-use crate::printed::line_of;
+use crate::print::name::printed_name;
+use crate::print::printed::line_of;
 use ssim_base::{BaseFault, Place, StationFault};
 use ssim_desk::DeskFault;
 use ssim_schedule::ExportFault;

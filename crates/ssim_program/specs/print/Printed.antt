@@ -6,8 +6,8 @@ use Rattle.ssim_text.specs.Lines.{identifier_text}
 use Rattle.ssim_text.specs.Reference.{printed_reference}
 use Rattle.ssim_values.specs.Designator.{designator_text}
 use Rattle.ssim_desk.specs.declared.finding_line.FindingLine.{FindingLine}
-use Rattle.ssim_program.specs.declared.printed.Printed.{Printed}
-use Rattle.ssim_program.specs.declared.printed.Printed.TheVariants as printed
+use Rattle.ssim_program.specs.declared.print.printed.Printed.{Printed}
+use Rattle.ssim_program.specs.declared.print.printed.Printed.TheVariants as printed
 
 -- the text of a line: a note on a record's serial or check reference; the summary of records,
 -- flights and notes; what became of a text; how many messages a desk holds
