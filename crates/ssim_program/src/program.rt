@@ -1,16 +1,15 @@
 //! The program, from its words to its status.
 
-ghost use Rattle.std.specs.Prelude.{◌≡◌, ◌≤◌, ◌⊎◌, ℕ, Option, true, false, map};
+ghost use Rattle.std.specs.Prelude.{◌≡◌, ◌≤◌, ◌⊎◌, ℕ, true, false, map};
 ghost use Rattle.std.specs.Io.KnownBytes.{Keeps};
-ghost use Rattle.ssim_program.specs.Files.{Files};
 ghost use Rattle.ssim_program.specs.Help.{PrintsHelp, RefusesHelp, SaysWrong};
-ghost use Rattle.ssim_program.specs.internal.Program.{Answers, SaysHelp, Does, Obeys, Prepares, PrintsAtOnce};
+ghost use Rattle.ssim_program.specs.internal.Program.{Answers, SaysHelp, Does, Obeys, Prepares, PrintsAtOnce, printing};
 ghost use Rattle.ssim_command_line.specs.Line.{Line, Spells};
 ghost use Rattle.ssim_program.specs.Offices.{Did};
 ghost use Rattle.ssim_program.specs.print.Reasons.{PrintsRefusal};
 ghost use Rattle.ssim_command_line.specs.Request.{line_of};
 ghost use Rattle.ssim_command_line.specs.Usage.{HasFault, IsCommand, IsNoCommand, Names, is_help};
-ghost use Rattle.ssim_program.specs.World.{EndsWithLine, IsDone, paper, world};
+ghost use Rattle.ssim_program.specs.World.{EndsWithLine, IsDone, World, paper, world};
 ghost use Rattle.ssim_program.specs.declared.refusal.Refusal.TheVariants as refused;
 ghost use Rattle.clap.specs.Words.{kind_of};
 
@@ -224,9 +223,9 @@ fn act<S: Store, O: Write>(
 
 /// Prints what a command has made, if it was not refused.
 fn print<O: Write>(made: Result<Vec<u8>, Refusal>, out: &mut Printer<'_, O>) -> Result<(), Refusal>
-    ensures { (line : Line) (old : Option Files) (failed : ℕ) (new : Option Files) (failures : ℕ)
-        → PrintsAtOnce line → Prepares line old failed new failures made
-        → Does line (world old failed out.old) (world new failures out.new) result }
+    ensures { (line : Line) (before after : World) → PrintsAtOnce line
+        → Prepares line before after made
+        → Does line (printing before out.old) (printing after out.new) result }
 {
     match made {
         Ok(text) => print_all(out, &text),

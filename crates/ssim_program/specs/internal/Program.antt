@@ -1,5 +1,5 @@
 -- What a command has made before it is printed, and what the program does with it.
-use Rattle.std.specs.Prelude.{Vec, ◌≡◌, ◌⊎◌, ℕ, true, [], ⊤, Option, Result, Ok, Err, false}
+use Rattle.std.specs.Prelude.{Vec, ◌≡◌, ◌⊎◌, ℕ, true, [], ⊤, Option, None, Result, Ok, Err, false}
 use Rattle.ssim_program.specs.Effects.{Makes}
 use Rattle.ssim_program.specs.Files.{Files, Kept, with_kept}
 use Rattle.ssim_command_line.specs.Line.{Line, Tidy, Take, Export}
@@ -11,7 +11,7 @@ use Rattle.clap.specs.Values.{kind_of}
 use Rattle.ssim_command_line.specs.Usage.{is_help}
 use Rattle.ssim_command_line.specs.declared.command_line.LineFault.{LineFault}
 use Rattle.ssim_command_line.specs.declared.command_line.LineFault.TheVariants as fault
-use Rattle.ssim_program.specs.World.{World, IsDone, Stops, IsRefused, EndsWithLine}
+use Rattle.ssim_program.specs.World.{World, world, paper, IsDone, Stops, IsRefused, EndsWithLine}
 use Rattle.ssim_program.specs.Help.{PrintsHelp, RefusesHelp, SaysWrong}
 
 -- the commands that print all at once, after they have made it and kept their file
@@ -21,11 +21,22 @@ PrintsAtOnce (Export file) = ⊥
 PrintsAtOnce (Take file out names) = ⊥
 PrintsAtOnce _ = ⊤
 
+-- the files and the failures of a store, while no printer is used
+abbrev pub stored : Option Files → ℕ → World
+stored files failures = world files failures (paper None 0)
+
+-- the store of a world, and this printer
+abbrev pub printing : World → Paper → World
+printing w out = world w.files w.failures out
+
 -- A command that prints all at once makes its lines and keeps its file, or it stops and no file
--- changes. The files and the failures of the store are those before and those after.
-abbrev pub Prepares : {A : Type 0} → Line → Option Files → ℕ → Option Files → ℕ → Result (Vec ℕ A) Refusal → Type 0
-Prepares line old failures new failures' (Ok text) = (kept : Kept) × Makes line old text.items kept × (new ≡ with_kept kept old) × (failures' ≡ failures)
-Prepares line old failures new failures' (Err refusal) = Stops line old failures failures' [] refusal × (new ≡ old)
+-- changes.
+abbrev pub Prepares : {A : Type 0} → Line → World → World → Result (Vec ℕ A) Refusal → Type 0
+Prepares line before after (Ok text) =
+    (kept : Kept) × Makes line before.files text.items kept × (after.files ≡ with_kept kept before.files)
+    × (after.failures ≡ before.failures)
+Prepares line before after (Err refusal) =
+    Stops line before.files before.failures after.failures [] refusal × (after.files ≡ before.files)
 
 -- a command is done, or refused
 abbrev pub Does : Line → World → World → Result (Unit {0}) Refusal → Type 0

@@ -3,7 +3,7 @@
 ghost use Rattle.std.specs.Prelude.{◌≡◌, IfOk};
 ghost use Rattle.ssim_command_line.specs.Line.{Check};
 ghost use Rattle.ssim_program.specs.Made.{as_printed, summary_lines};
-ghost use Rattle.ssim_program.specs.internal.Program.{Prepares};
+ghost use Rattle.ssim_program.specs.internal.Program.{Prepares, stored};
 
 use crate::data_set::load_summary;
 use crate::print::printed::{Printed, add_line};
@@ -17,7 +17,8 @@ use std::io::Write;
 /// The notes on the data set in the file of this name, and a summary.
 pub(crate) fn check<S: Store>(alloc: Global, name: &str, store: &mut S) -> Result<Vec<u8>, Refusal>
     ensures { Prepares (Check name.now)
-        (S.files store.old) (S.failures store.old) (S.files store.new) (S.failures store.new) result }
+        (stored (S.files store.old) (S.failures store.old))
+        (stored (S.files store.new) (S.failures store.new)) result }
 {
     let summary = load_summary(alloc, name, store)?;
     let lines = lines_on(alloc, &summary)?;

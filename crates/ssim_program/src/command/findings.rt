@@ -5,7 +5,7 @@ ghost use Rattle.ssim_base.specs.Export.{line};
 ghost use Rattle.ssim_desk.specs.Desk.{finding_lines};
 ghost use Rattle.ssim_command_line.specs.Line.{Findings};
 ghost use Rattle.ssim_program.specs.print.Printed.{counts_text, finding_text, sub_text};
-ghost use Rattle.ssim_program.specs.internal.Program.{Prepares};
+ghost use Rattle.ssim_program.specs.internal.Program.{Prepares, stored};
 ghost use Rattle.ssim_program.specs.print.Shown.{findings_lines};
 
 use crate::desk_file::open_holdings;
@@ -24,7 +24,8 @@ pub(crate) fn findings<S: Store>(
     store: &mut S,
 ) -> Result<Vec<u8>, Refusal>
     ensures { Prepares (Findings file.now)
-        (S.files store.old) (S.failures store.old) (S.files store.new) (S.failures store.new) result }
+        (stored (S.files store.old) (S.failures store.old))
+        (stored (S.files store.new) (S.failures store.new)) result }
 {
     let desk = open_holdings(alloc, file, store)?;
     let lines = lines_of(alloc, &desk)?;

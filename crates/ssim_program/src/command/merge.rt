@@ -3,7 +3,7 @@
 ghost use Rattle.std.specs.Prelude.{IfErr, OnOk};
 ghost use Rattle.ssim_program.specs.Desks.{IsMergeOf, RefusesMerge};
 ghost use Rattle.ssim_command_line.specs.Line.{Merge};
-ghost use Rattle.ssim_program.specs.internal.Program.{Prepares};
+ghost use Rattle.ssim_program.specs.internal.Program.{Prepares, stored};
 
 use crate::command::start::held_line;
 use crate::desk_file::{keep, open_holdings};
@@ -22,7 +22,8 @@ pub(crate) fn merge<S: Store>(
     store: &mut S,
 ) -> Result<Vec<u8>, Refusal>
     ensures { Prepares (Merge mine.now theirs.now name.now)
-        (S.files store.old) (S.failures store.old) (S.files store.new) (S.failures store.new) result }
+        (stored (S.files store.old) (S.failures store.old))
+        (stored (S.files store.new) (S.failures store.new)) result }
 {
     let mut desk = open_holdings(alloc, mine, store)?;
     let other = open_holdings(alloc, theirs, store)?;

@@ -9,7 +9,7 @@ ghost use Rattle.ssim_values.specs.Day.{day_text};
 ghost use Rattle.ssim_values.specs.Designator.{designator_text};
 ghost use Rattle.ssim_program.specs.Desks.{RefusesFlight, Shows};
 ghost use Rattle.ssim_command_line.specs.Line.{Show};
-ghost use Rattle.ssim_program.specs.internal.Program.{Prepares};
+ghost use Rattle.ssim_program.specs.internal.Program.{Prepares, stored};
 ghost use Rattle.ssim_program.specs.print.Shown.{columns_text, dotted, leg_line, shown, shown_flight};
 
 use crate::desk_file::open_holdings;
@@ -36,7 +36,8 @@ pub(crate) fn show_flight<S: Store>(
     store: &mut S,
 ) -> Result<Vec<u8>, Refusal>
     ensures { Prepares (Show file.now flight.now date.now)
-        (S.files store.old) (S.failures store.old) (S.files store.new) (S.failures store.new) result }
+        (stored (S.files store.old) (S.failures store.old))
+        (stored (S.files store.new) (S.failures store.new)) result }
 {
     let desk = open_holdings(alloc, file, store)?;
     shown(alloc, &desk, flight, date)

@@ -3,7 +3,7 @@
 ghost use Rattle.std.specs.Prelude.{◌≡◌, IfOk};
 ghost use Rattle.ssim_program.specs.Desks.{held_line};
 ghost use Rattle.ssim_command_line.specs.Line.{Start};
-ghost use Rattle.ssim_program.specs.internal.Program.{Prepares};
+ghost use Rattle.ssim_program.specs.internal.Program.{Prepares, stored};
 
 use crate::data_set::load_base;
 use crate::desk_file::keep;
@@ -23,7 +23,8 @@ pub(crate) fn start<S: Store>(
     store: &mut S,
 ) -> Result<Vec<u8>, Refusal>
     ensures { Prepares (Start dataset.now stations.now name.now)
-        (S.files store.old) (S.failures store.old) (S.files store.new) (S.failures store.new) result }
+        (stored (S.files store.old) (S.failures store.old))
+        (stored (S.files store.new) (S.failures store.new)) result }
 {
     let (data_set, stations) = load_base(alloc, dataset, stations, store)?;
     let desk = Holdings::start(alloc, data_set, stations);
