@@ -15,7 +15,8 @@ PrintsHelp out out' err err' = ((text : List ℕ) × Grows text out out') × (ou
 abbrev pub RefusesHelp : Paper → Paper → Paper → Paper → Type 0
 RefusesHelp out out' err err' =
     (refusal : Refusal)
-    × (((refusal ≡ refused.Memory) × Grows [] out out') ⊎ ((refusal ≡ refused.WriteFault) × (text : List ℕ) × Breaks text out out'))
+    × (((refusal ≡ refused.Memory) × Grows [] out out')
+    ⊎ ((refusal ≡ refused.WriteFault) × (text : List ℕ) × Breaks text out out'))
     × PrintsRefusal refusal err err'
 
 -- the words are wrong: `out` is as it was, and `err` has taken a text that says so, or a call of it

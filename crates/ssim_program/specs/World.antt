@@ -40,7 +40,8 @@ IsPrintedBefore (Take file out names) made printed = printed ≡ made
 IsPrintedBefore line made printed = printed ≡ []
 
 -- a command has made all that it makes, but the store has not kept its file
-pub record IsNotKept (line : Line) (files : Option Files) (failures failures' : ℕ) (printed : List ℕ) (refusal : Refusal) : Type 0 where
+pub record IsNotKept (line : Line) (files : Option Files) (failures failures' : ℕ) (printed : List ℕ)
+    (refusal : Refusal) : Type 0 where
   pub made : List ℕ
   pub name : Text
   pub bytes : List ℕ
@@ -52,7 +53,8 @@ pub record IsNotKept (line : Line) (files : Option Files) (failures failures' : 
 -- what it makes of it, and the store counted no failure; or its file was not kept.
 abbrev pub Stops : Line → Option Files → ℕ → ℕ → List ℕ → Refusal → Type 0
 Stops line files failures failures' printed refusal =
-    (Refuses line files printed refusal × (failures' ≡ failures)) ⊎ IsNotKept line files failures failures' printed refusal
+    (Refuses line files printed refusal × (failures' ≡ failures))
+    ⊎ IsNotKept line files failures failures' printed refusal
 
 -- A command stops for a reason. No file changed, and `out` has taken only what the command printed
 -- before, which is nothing but for `take`.
@@ -79,7 +81,8 @@ IsRefused line before after refusal = IsStopped line before after refusal ⊎ Is
 
 -- a command was refused, and `err` has taken the line of the refusal
 abbrev pub EndsWithLine : Line → World → World → Paper → Paper → Type 0
-EndsWithLine line before after err err' = (refusal : Refusal) × IsRefused line before after refusal × PrintsRefusal refusal err err'
+EndsWithLine line before after err err' =
+    (refusal : Refusal) × IsRefused line before after refusal × PrintsRefusal refusal err err'
 
 -- What a writer of std holds, as a printer, with the number of its calls that failed. It was
 -- flushed last, and nothing is said of the writer.

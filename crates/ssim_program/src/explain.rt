@@ -93,7 +93,8 @@ fn on_refusal(alloc: Global, refusal: &Refusal, place: &[u8]) -> Result<Vec<u8>,
 }
 
 fn no_refusal(alloc: Global, number: u8) -> Result<Vec<u8>, Memory>
-    ensures { IfOk result (λ text. text.items ≡ line (codes "no refusal has the number " ++ decimal number)) }
+    ensures { IfOk result
+        (λ text. text.items ≡ line (codes "no refusal has the number " ++ decimal number)) }
 {
     let mut text = Vec::new(alloc);
     match writeln!(text, "no refusal has the number {number}") {

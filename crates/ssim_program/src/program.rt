@@ -3,7 +3,8 @@
 ghost use Rattle.std.specs.Prelude.{◌≡◌, ◌≤◌, ◌⊎◌, ℕ, true, false, map};
 ghost use Rattle.std.specs.Io.KnownBytes.{Keeps};
 ghost use Rattle.ssim_program.specs.Help.{PrintsHelp, RefusesHelp, SaysWrong};
-ghost use Rattle.ssim_program.specs.internal.Program.{Answers, SaysHelp, Does, Obeys, Prepares, PrintsAtOnce, printing};
+ghost use Rattle.ssim_program.specs.internal.Program.{EndsWithoutRequest, SaysHelp, Does, Obeys};
+ghost use Rattle.ssim_program.specs.internal.Program.{Prepares, PrintsAtOnce, printing};
 ghost use Rattle.ssim_command_line.specs.Line.{Line, Spells};
 ghost use Rattle.ssim_program.specs.Offices.{Did};
 ghost use Rattle.ssim_program.specs.print.Reasons.{PrintsRefusal};
@@ -57,7 +58,8 @@ pub fn run<S: Store, O: Write, E: Write>(
     // A command that was done printed exactly what it makes of the files, and kept exactly its
     // file; the store counted no failure. `err` holds the same bytes.
     ensures done { (line : Line) → Names (map (λ w. w.now) words.now) line → result ≡ 0
-        → IsDone line (world (S.files store.old) (S.failures store.old) (paper (O.contents out.old) 0))
+        → IsDone line
+        (world (S.files store.old) (S.failures store.old) (paper (O.contents out.old) 0))
         (world (S.files store.new) (S.failures store.new) (paper (O.contents out.new) 0))
         × Keeps (E.contents err.old) (E.contents err.new) }
 
@@ -66,7 +68,8 @@ pub fn run<S: Store, O: Write, E: Write>(
     // `err` failed.
     ensures ends { (line : Line) → Names (map (λ w. w.now) words.now) line → result ≡ 1
         → (failed : ℕ) × (err_failed : ℕ)
-        × EndsWithLine line (world (S.files store.old) (S.failures store.old) (paper (O.contents out.old) 0))
+        × EndsWithLine line
+        (world (S.files store.old) (S.failures store.old) (paper (O.contents out.old) 0))
         (world (S.files store.new) (S.failures store.new) (paper (O.contents out.new) failed))
         (paper (E.contents err.old) 0) (paper (E.contents err.new) err_failed) }
 
@@ -86,7 +89,8 @@ pub fn run<S: Store, O: Write, E: Write>(
     ensures usage { result ≡ 2 → (err_failed : ℕ)
         × SaysWrong (paper (O.contents out.old) 0) (paper (O.contents out.new) 0)
         (paper (E.contents err.old) 0) (paper (E.contents err.new) err_failed) }
-    ensures files { (S.files store.new ≡ S.files store.old) ⊎ IsCommand (map (λ w. w.now) words.now) }
+    ensures files { (S.files store.new ≡ S.files store.old)
+        ⊎ IsCommand (map (λ w. w.now) words.now) }
 {
     let mut printed = Printer::new(out);
     let mut reasons = Printer::new(err);
@@ -163,14 +167,15 @@ pub fn run_on<S: Store, O: Write, E: Write>(
     ensures no_help { result ≡ 1 → IsCommand (map (λ w. w.now) words.now)
         ⊎ RefusesHelp out.old out.new err.old err.new }
     ensures usage { result ≡ 2 → SaysWrong out.old out.new err.old err.new }
-    ensures files { (S.files store.new ≡ S.files store.old) ⊎ IsCommand (map (λ w. w.now) words.now) }
+    ensures files { (S.files store.new ≡ S.files store.old)
+        ⊎ IsCommand (map (λ w. w.now) words.now) }
 
     // Both printers still write to the same writers.
     ensures devices { (out.new.device ≡ out.old.device) × (err.new.device ≡ err.old.device) }
 {
     match parse(alloc, words) {
         Ok(request) => obey(alloc, &request, store, out, err),
-        Err(fault) => answer(alloc, &fault, out, err),
+        Err(fault) => without_request(alloc, &fault, out, err),
     }
 }
 
@@ -243,13 +248,13 @@ fn refuse<P: Write>(refusal: &Refusal, err: &mut Printer<'_, P>) -> u8
 }
 
 /// Prints help on `out`, with status 0, or what is wrong with the words on `err`, with 2.
-fn answer<O: Write, E: Write>(
+fn without_request<O: Write, E: Write>(
     alloc: Global,
     fault: &LineFault,
     out: &mut Printer<'_, O>,
     err: &mut Printer<'_, E>,
 ) -> u8
-    ensures { Answers fault.now out.old out.new err.old err.new result }
+    ensures { EndsWithoutRequest fault.now out.old out.new err.old err.new result }
 {
     match fault {
         LineFault::Memory => refuse(&Refusal::Memory, err),
@@ -268,8 +273,10 @@ fn show<O: Write, E: Write>(
     out: &mut Printer<'_, O>,
     err: &mut Printer<'_, E>,
 ) -> u8
-    ensures help { is_help (kind_of error.now) ≡ true → SaysHelp out.old out.new err.old err.new result }
-    ensures wrong { is_help (kind_of error.now) ≡ false → (result ≡ 2) × SaysWrong out.old out.new err.old err.new }
+    ensures help { is_help (kind_of error.now) ≡ true
+        → SaysHelp out.old out.new err.old err.new result }
+    ensures wrong { is_help (kind_of error.now) ≡ false
+        → (result ≡ 2) × SaysWrong out.old out.new err.old err.new }
 {
     let mut text = Vec::new(alloc);
     let shown = write!(text, "{error}");

@@ -1,8 +1,10 @@
 //! Why a command was refused, as it is printed.
 ghost use Rattle.std.specs.Prelude.{◌≡◌, IfOk, Some, option_map};
 ghost use Rattle.ssim_base.specs.Export.{line};
-ghost use Rattle.ssim_program.specs.print.Refusal.{IsOfFile, refusal_file, refusal_name, refusal_number};
-ghost use Rattle.ssim_program.specs.print.Refusal.{refusal_of_base, refusal_of_desk, refusal_of_export};
+ghost use Rattle.ssim_program.specs.print.Refusal.{IsOfFile, refusal_file, refusal_name};
+ghost use Rattle.ssim_program.specs.print.Refusal.{refusal_number};
+ghost use Rattle.ssim_program.specs.print.Refusal.{refusal_of_base, refusal_of_desk};
+ghost use Rattle.ssim_program.specs.print.Refusal.{refusal_of_export};
 ghost use Rattle.ssim_program.specs.print.Refusal.{refusal_of_stations, refusal_of_value};
 ghost use Rattle.ssim_program.specs.print.Refusal.{refusal_place, refusal_text};
 

@@ -25,16 +25,19 @@ three_commands before started taken merged =
 -- beginning.
 brought_to_zurich : (before started taken merged : Files) (reference : Reference) (message : MessageValue)
     → Brought (three_commands before started taken merged) zurich reference message
-    ≡ ((⊥ ⊎ IsSaidTo started zurich (codes "holiday.ssm" ∷ []) reference message) ⊎ Brought (Began before) london reference message)
+    ≡ ((⊥ ⊎ IsSaidTo started zurich (codes "holiday.ssm" ∷ []) reference message)
+    ⊎ Brought (Began before) london reference message)
 brought_to_zurich before started taken merged reference message = refl
 
 -- to London's desk file nothing was brought
 brought_to_london : (before started taken merged : Files) (reference : Reference) (message : MessageValue)
-    → Brought (three_commands before started taken merged) london reference message ≡ Brought (Began before) london reference message
+    → Brought (three_commands before started taken merged) london reference message
+    ≡ Brought (Began before) london reference message
 brought_to_london before started taken merged reference message = refl
 
 -- Zurich's desk began from the bytes of the data set and the station table
 zurich_began : (before started taken merged : Files) (dataset stations : List ℕ)
     → BeganFrom (three_commands before started taken merged) zurich dataset stations
-    ≡ ((file_of before (codes "season.ssim") ≡ Some dataset) × (file_of before (codes "stations.txt") ≡ Some stations))
+    ≡ ((file_of before (codes "season.ssim") ≡ Some dataset)
+    × (file_of before (codes "stations.txt") ≡ Some stations))
 zurich_began before started taken merged dataset stations = refl

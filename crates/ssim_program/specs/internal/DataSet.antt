@@ -14,7 +14,8 @@ use Rattle.ssim_program.specs.Made.{file_limit}
 
 -- the data set in the file of this name has what the summary says
 abbrev pub SumsFile : Option Files → Text → Summary → Type 0
-SumsFile files name summary = (left : Option (List ℕ)) × IsOpened files name left × IsSummary file_limit left summary
+SumsFile files name summary =
+    (left : Option (List ℕ)) × IsOpened files name left × IsSummary file_limit left summary
 
 -- a refusal with the name of a file
 abbrev pub IsNamed : Text → Option Refusal → Type 0

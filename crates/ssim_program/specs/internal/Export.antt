@@ -21,7 +21,8 @@ abbrev pub failures_of : Paper → ℕ
 failures_of p = p.failures
 
 -- an export of a timetable of these days was written, or was refused
-pub record IsWritten (base : List Record) (days : FlightNumber → Days) (before after : Paper) (written : Result (Unit {0}) ExportFault) : Type 0 where
+pub record IsWritten (base : List Record) (days : FlightNumber → Days) (before after : Paper)
+    (written : Result (Unit {0}) ExportFault) : Type 0 where
   pub ok : OnOk written (WritesBase taken_of failures_of base days before after)
   pub err : IfErr written (RefusesBase taken_of failures_of base days before after)
   pub device : after.device ≡ before.device
@@ -29,9 +30,12 @@ pub record IsWritten (base : List Record) (days : FlightNumber → Days) (before
 
 -- The export is printed, and reads back as itself. Or there is no export, and the printer is
 -- unchanged. Or a call of the printer fails, and the printer has taken a prefix of the export.
-abbrev pub PrintsExport : List Record → (FlightNumber → Days) → Paper → Paper → Result (Unit {0}) Refusal → Type 0
+abbrev pub PrintsExport : List Record → (FlightNumber → Days) → Paper → Paper → Result (Unit {0}) Refusal
+    → Type 0
 PrintsExport base days before after (Ok x) =
-    ((bytes : List ℕ) × IsExport base days bytes × Grows bytes before after) × GrowsByItself before.taken after.taken × (after.flushed ≡ true)
+    ((bytes : List ℕ) × IsExport base days bytes × Grows bytes before after)
+    × GrowsByItself before.taken after.taken × (after.flushed ≡ true)
 PrintsExport base days before after (Err refusal) =
     ((after ≡ before) × RefusesExport base days refusal)
-    ⊎ ((refusal ≡ refused.WriteFault) × (bytes : List ℕ) × IsExport base days bytes × Breaks bytes before after)
+    ⊎ ((refusal ≡ refused.WriteFault) × (bytes : List ℕ) × IsExport base days bytes
+    × Breaks bytes before after)

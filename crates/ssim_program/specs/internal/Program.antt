@@ -51,12 +51,14 @@ Obeys line before after err err' status =
 
 -- help is printed, with status 0, or refused, with status 1
 abbrev pub SaysHelp : Paper → Paper → Paper → Paper → ℕ → Type 0
-SaysHelp out out' err err' status = ((status ≡ 0) × PrintsHelp out out' err err') ⊎ ((status ≡ 1) × RefusesHelp out out' err err')
+SaysHelp out out' err err' status =
+    ((status ≡ 0) × PrintsHelp out out' err err') ⊎ ((status ≡ 1) × RefusesHelp out out' err err')
 
 -- the printers and the status after words that make no request
-abbrev pub Answers : LineFault → Paper → Paper → Paper → Paper → ℕ → Type 0
-Answers fault.Memory out out' err err' status = (status ≡ 1) × (out' ≡ out) × PrintsRefusal refused.Memory err err'
-Answers (fault.Shown error) out out' err err' status =
+abbrev pub EndsWithoutRequest : LineFault → Paper → Paper → Paper → Paper → ℕ → Type 0
+EndsWithoutRequest fault.Memory out out' err err' status =
+    (status ≡ 1) × (out' ≡ out) × PrintsRefusal refused.Memory err err'
+EndsWithoutRequest (fault.Shown error) out out' err err' status =
     ((is_help (kind_of error) ≡ true) × SaysHelp out out' err err' status)
     ⊎ ((is_help (kind_of error) ≡ false) × (status ≡ 2) × SaysWrong out out' err err')
-Answers fault.NoCommand out out' err err' status = (status ≡ 2) × SaysWrong out out' err err'
+EndsWithoutRequest fault.NoCommand out out' err err' status = (status ≡ 2) × SaysWrong out out' err err'

@@ -20,7 +20,8 @@ use Rattle.ssim_program.specs.rehearse.Rehearsal.{IsTakeLine, IsMergeLine, IsSte
 
 -- the refusal names the first line that spells no step, or memory ran out
 abbrev pub IsOtherLine : ℕ → List (ℕ × List ℕ) → Refusal → Type 0
-IsOtherLine count lines refusal = (refusal ≡ refused.Memory) ⊎ ((number : ℕ) × (refusal ≡ refused.Script number) × IsFirstOther count lines number)
+IsOtherLine count lines refusal = (refusal ≡ refused.Memory)
+    ⊎ ((number : ℕ) × (refusal ≡ refused.Script number) × IsFirstOther count lines number)
 
 -- the desks of a step are below this number
 abbrev pub IsStepOf : ℕ → Written → Type 0
@@ -55,7 +56,8 @@ HasLine base step answer = (l : RehearsalLine) × IsStepLine base step answer l
 
 -- the result of each step has a line
 abbrev pub HaveLines : BaseSeen → List Step → List Answer → Type 0
-HaveLines base steps answers = (k : ℕ) (step : Step) (answer : Answer) → IsStep steps answers k step answer → HasLine base step answer
+HaveLines base steps answers =
+    (k : ℕ) (step : Step) (answer : Answer) → IsStep steps answers k step answer → HasLine base step answer
 
 -- the export of a desk as the specification sees it
 abbrev pub outcome_of : kept.Outcome → Outcome

@@ -9,7 +9,8 @@ digit_16 n = if nat_lt n 10 then 48 + n else 87 + n
 -- The text of a byte of a name. A control character and a backslash are \x and two digits of base
 -- 16, so that a name stays on its line; each other byte is itself.
 abbrev pub printed_byte : ℕ → List ℕ
-printed_byte b = if nat_lt b 32 || (b == 92 || b == 127) then 92 ∷ 120 ∷ digit_16 (b / 16) ∷ digit_16 (b % 16) ∷ [] else b ∷ []
+printed_byte b = if nat_lt b 32 || (b == 92 || b == 127)
+    then 92 ∷ 120 ∷ digit_16 (b / 16) ∷ digit_16 (b % 16) ∷ [] else b ∷ []
 
 -- a file name as it is printed
 abbrev pub printed_name : List ℕ → List ℕ

@@ -15,7 +15,8 @@ abbrev pub printed_text : Printed → List ℕ
 printed_text (printed.SerialNote n) = codes "note Serial record " ++ decimal n
 printed_text (printed.CheckReferenceNote n) = codes "note CheckReference record " ++ decimal n
 printed_text (printed.Summary records flights notes) =
-    codes "ok records " ++ decimal records ++ codes " flights " ++ decimal flights ++ codes " notes " ++ decimal notes
+    codes "ok records " ++ decimal records ++ codes " flights " ++ decimal flights ++ codes " notes "
+    ++ decimal notes
 printed_text (printed.Taken reference) = codes "taken " ++ printed_reference reference
 printed_text (printed.Repeated reference) = codes "repeated " ++ printed_reference reference
 printed_text (printed.Held n) = codes "held " ++ decimal n
@@ -23,13 +24,15 @@ printed_text (printed.Held n) = codes "held " ++ decimal n
 -- on how many dates a sub-message acted, and on how many each reason kept it from acting
 abbrev pub counts_text : Finding → List ℕ
 counts_text f =
-    codes " acted " ++ decimal f.acted ++ codes " absent " ++ decimal f.absent ++ codes " present " ++ decimal f.present
+    codes " acted " ++ decimal f.acted ++ codes " absent " ++ decimal f.absent ++ codes " present "
+    ++ decimal f.present
     ++ codes " leg " ++ decimal f.leg ++ codes " station " ++ decimal f.station
 
 -- a sub-message: the reference, its number, its action and its flight
 abbrev pub sub_text : FindingLine → List ℕ
 sub_text found =
-    printed_reference found.reference ++ 32 ∷ decimal found.sub ++ 32 ∷ identifier_text found.action ++ 32 ∷ designator_text found.designator
+    printed_reference found.reference ++ 32 ∷ decimal found.sub ++ 32 ∷ identifier_text found.action
+    ++ 32 ∷ designator_text found.designator
 
 -- what a sub-message found
 abbrev pub finding_text : FindingLine → List ℕ

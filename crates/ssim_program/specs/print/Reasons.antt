@@ -14,7 +14,8 @@ use Rattle.ssim_held.specs.Entries.{DeskSeen}
 use Rattle.ssim_desk.specs.Desk.{days_of_desk}
 use Rattle.ssim_program.specs.Desks.{ReadsDesk, RefusesDeskFile, RefusesFlight, RefusesMerge, RefusesTexts}
 use Rattle.ssim_program.specs.Files.{Files}
-use Rattle.ssim_command_line.specs.Line.{Line, Text, Check, Tidy, Start, Take, Merge, Show, Findings, Export, Rehearse, Explain}
+use Rattle.ssim_command_line.specs.Line.{Line, Text, Check, Tidy, Start, Take, Merge, Show, Findings, Export}
+use Rattle.ssim_command_line.specs.Line.{Rehearse, Explain}
 use Rattle.ssim_program.specs.Made.{ReadsFile, RefusesBase, RefusesFile, RefusesLoad}
 use Rattle.ssim_program.specs.print.Paper.{Paper, PrintsOrFails}
 use Rattle.ssim_program.specs.print.Refusal.{refusal_of_export, refusal_text}
@@ -27,14 +28,17 @@ use Rattle.ssim_program.specs.declared.refusal.Refusal.TheVariants as refused
 -- a timetable of these days, over these records, has no export, for a flight or for the number of
 -- records; or memory ran out
 abbrev pub HasNoExport : List Record → (FlightNumber → Days) → ExportFault → Type 0
-HasNoExport base days (export.Variations flight) = (frame : Frame) × HasFrame frame base × (chapter7 frame days ≡ Err (refusal.Variations flight))
-HasNoExport base days export.Records = (frame : Frame) × HasFrame frame base × (chapter7 frame days ≡ Err refusal.Records)
+HasNoExport base days (export.Variations flight) =
+    (frame : Frame) × HasFrame frame base × (chapter7 frame days ≡ Err (refusal.Variations flight))
+HasNoExport base days export.Records =
+    (frame : Frame) × HasFrame frame base × (chapter7 frame days ≡ Err refusal.Records)
 HasNoExport base days export.WriteFault = ⊥
 HasNoExport base days export.Memory = ⊤
 
 -- the export of these days, over these records, is refused with this refusal
 abbrev pub RefusesExport : List Record → (FlightNumber → Days) → Refusal → Type 0
-RefusesExport base days refusal = (fault : ExportFault) × HasNoExport base days fault × (refusal ≡ refusal_of_export (airline_of base) fault)
+RefusesExport base days refusal = (fault : ExportFault) × HasNoExport base days fault
+    × (refusal ≡ refusal_of_export (airline_of base) fault)
 
 -- Why `take` is refused, and the lines that it has printed before: the desk file is refused, before
 -- the first line; or a text is refused, after the lines of those before it.
@@ -51,22 +55,29 @@ Refuses (Check name) files printed refusal = (printed ≡ []) × RefusesFile fil
 Refuses (Tidy name) files printed refusal =
     (printed ≡ [])
     × (RefusesFile files name refusal
-    ⊎ ((base : List Record) × (notes : List Note) × ReadsFile files name (Ok (base, notes)) × RefusesExport base (days_of base) refusal))
-Refuses (Start dataset stations out) files printed refusal = (printed ≡ []) × RefusesBase files dataset stations refusal
+    ⊎ ((base : List Record) × (notes : List Note) × ReadsFile files name (Ok (base, notes))
+    × RefusesExport base (days_of base) refusal))
+Refuses (Start dataset stations out) files printed refusal =
+    (printed ≡ []) × RefusesBase files dataset stations refusal
 Refuses (Take file out names) files printed refusal = RefusesTake files file names printed refusal
 Refuses (Merge file other out) files printed refusal =
     (printed ≡ [])
     × (RefusesDeskFile files file refusal
     ⊎ (((mine : DeskSeen) × ReadsDesk files file mine) × RefusesDeskFile files other refusal)
-    ⊎ ((mine : DeskSeen) × (theirs : DeskSeen) × ReadsDesk files file mine × ReadsDesk files other theirs × RefusesMerge mine theirs refusal))
+    ⊎ ((mine : DeskSeen) × (theirs : DeskSeen) × ReadsDesk files file mine × ReadsDesk files other theirs
+    × RefusesMerge mine theirs refusal))
 Refuses (Show file flight date) files printed refusal =
-    (printed ≡ []) × (RefusesDeskFile files file refusal ⊎ ((desk : DeskSeen) × ReadsDesk files file desk × RefusesFlight desk flight date refusal))
-Refuses (Findings file) files printed refusal = (printed ≡ []) × (RefusesDeskFile files file refusal ⊎ (refusal ≡ refused.Memory))
+    (printed ≡ []) × (RefusesDeskFile files file refusal
+    ⊎ ((desk : DeskSeen) × ReadsDesk files file desk × RefusesFlight desk flight date refusal))
+Refuses (Findings file) files printed refusal =
+    (printed ≡ []) × (RefusesDeskFile files file refusal ⊎ (refusal ≡ refused.Memory))
 Refuses (Export file) files printed refusal =
     (printed ≡ [])
     × (RefusesDeskFile files file refusal
-    ⊎ ((desk : DeskSeen) × ReadsDesk files file desk × RefusesExport desk.base.records (days_of_desk desk) refusal))
-Refuses (Rehearse dataset stations script) files printed refusal = (printed ≡ []) × RefusesLines files dataset stations script refusal
+    ⊎ ((desk : DeskSeen) × ReadsDesk files file desk
+    × RefusesExport desk.base.records (days_of_desk desk) refusal))
+Refuses (Rehearse dataset stations script) files printed refusal =
+    (printed ≡ []) × RefusesLines files dataset stations script refusal
 Refuses (Explain word) files printed refusal = (printed ≡ []) × RefusesLoad files word refusal
 
 -- ---- what `err` has

@@ -13,7 +13,8 @@ use Rattle.ssim_schedule.specs.declared.export.ExportFault.TheVariants as export
 use Rattle.ssim_base.specs.declared.fault.BaseFault.{BaseFault}
 use Rattle.ssim_base.specs.declared.fault.BaseFault.TheVariants as base
 use Rattle.ssim_base.specs.declared.place.Place.{Place}
-use Rattle.ssim_base.specs.declared.place.Place.TheVariants.{Nowhere, Record, Column, Line, SubMessage, Offset, Flight, Message}
+use Rattle.ssim_base.specs.declared.place.Place.TheVariants.{Nowhere, Record, Column, Line, SubMessage}
+use Rattle.ssim_base.specs.declared.place.Place.TheVariants.{Offset, Flight, Message}
 use Rattle.ssim_base.specs.declared.stations.StationFault.{StationFault}
 use Rattle.ssim_base.specs.declared.stations.StationFault.TheVariants as stations
 use Rattle.ssim_text.specs.Reference.{printed_reference}

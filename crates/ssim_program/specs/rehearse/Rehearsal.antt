@@ -1,6 +1,7 @@
 -- What a rehearsal prints: a line for each step, a line for each desk, and whether all exports are
 -- equal.
-use Rattle.std.specs.Prelude.{◌≡◌, ◌⊎◌, ℕ, ◌+◌, List, [], ◌∷◌, ◌++◌, All, codes, length, Option, Result, Ok, Err}
+use Rattle.std.specs.Prelude.{◌≡◌, ◌⊎◌, ℕ, ◌+◌, List, [], ◌∷◌, ◌++◌, All, codes, length, Option, Result, Ok}
+use Rattle.std.specs.Prelude.{Err}
 use Rattle.std.specs.Fmt.{decimal}
 use Rattle.std.specs.FinMap.{entries}
 use Rattle.std.specs.List.{flat_map}
@@ -39,12 +40,14 @@ use Rattle.ssim_program.specs.declared.rehearse.line.RehearsalLine.TheVariants a
 -- the last line whether all exports are equal
 abbrev pub rehearsal_text : RehearsalLine → List ℕ
 rehearsal_text (printed.Taken desk reference) = decimal desk ++ codes " taken " ++ printed_reference reference
-rehearsal_text (printed.Repeated desk reference) = decimal desk ++ codes " repeated " ++ printed_reference reference
+rehearsal_text (printed.Repeated desk reference) =
+    decimal desk ++ codes " repeated " ++ printed_reference reference
 rehearsal_text (printed.Merged desk) = decimal desk ++ codes " merged"
 rehearsal_text (printed.Refused desk fault) = decimal desk ++ 32 ∷ refusal_text (refusal_of_desk fault)
 rehearsal_text (printed.Exported desk messages bytes) =
     codes "desk " ++ decimal desk ++ codes " held " ++ decimal messages ++ codes " bytes " ++ decimal bytes
-rehearsal_text (printed.NotExported desk airline fault) = codes "desk " ++ decimal desk ++ 32 ∷ refusal_text (refusal_of_export airline fault)
+rehearsal_text (printed.NotExported desk airline fault) =
+    codes "desk " ++ decimal desk ++ 32 ∷ refusal_text (refusal_of_export airline fault)
 rehearsal_text printed.Same = codes "same"
 rehearsal_text printed.Different = codes "different"
 
@@ -57,8 +60,10 @@ printed_line l = line (rehearsal_text l)
 -- the line for taking a text; it names the reference of a message that the text spells over the
 -- base
 abbrev pub IsTakeLine : BaseSeen → ℕ → List ℕ → Answer → RehearsalLine → Type 0
-IsTakeLine base desk text Taken l = (reference : Reference) × (message : MessageValue) × Says base text reference message × (l ≡ printed.Taken desk reference)
-IsTakeLine base desk text Repeated l = (reference : Reference) × (message : MessageValue) × Says base text reference message × (l ≡ printed.Repeated desk reference)
+IsTakeLine base desk text Taken l = (reference : Reference) × (message : MessageValue)
+    × Says base text reference message × (l ≡ printed.Taken desk reference)
+IsTakeLine base desk text Repeated l = (reference : Reference) × (message : MessageValue)
+    × Says base text reference message × (l ≡ printed.Repeated desk reference)
 IsTakeLine base desk text Merged l = ⊥
 IsTakeLine base desk text (Refused fault) l = l ≡ printed.Refused desk fault
 
@@ -77,7 +82,8 @@ IsStepLine base (Merge into from) answer l = IsMergeLine (into + 1) answer l
 -- the lines of steps, in order
 abbrev pub AreStepLines : BaseSeen → List Step → List Answer → List RehearsalLine → Type 0
 AreStepLines base [] [] [] = Unit {0}
-AreStepLines base (step ∷ steps) (answer ∷ answers) (l ∷ lines) = IsStepLine base step answer l × AreStepLines base steps answers lines
+AreStepLines base (step ∷ steps) (answer ∷ answers) (l ∷ lines) =
+    IsStepLine base step answer l × AreStepLines base steps answers lines
 AreStepLines base steps answers lines = ⊥
 
 -- ---- the desks
@@ -104,7 +110,8 @@ desk_line n desk (Err fault) = printed.NotExported n (airline_of desk.base.recor
 abbrev pub desk_lines : ℕ → List DeskState → List Outcome → List RehearsalLine
 desk_lines n [] outcomes = []
 desk_lines n (desk ∷ desks) [] = []
-desk_lines n (desk ∷ desks) (outcome ∷ outcomes) = desk_line n desk outcome ∷ desk_lines (n + 1) desks outcomes
+desk_lines n (desk ∷ desks) (outcome ∷ outcomes) =
+    desk_line n desk outcome ∷ desk_lines (n + 1) desks outcomes
 
 -- each desk has this export
 abbrev pub AreExports : List DeskState → List Outcome → Type 0
@@ -124,7 +131,8 @@ AreSame (outcome ∷ outcomes) = AreEqualTo outcome outcomes
 
 -- the last line says `same` exactly if all exports are equal
 abbrev pub IsVerdict : List Outcome → RehearsalLine → Type 0
-IsVerdict outcomes l = (AreSame outcomes × (l ≡ printed.Same)) ⊎ ((AreSame outcomes → ⊥) × (l ≡ printed.Different))
+IsVerdict outcomes l =
+    (AreSame outcomes × (l ≡ printed.Same)) ⊎ ((AreSame outcomes → ⊥) × (l ≡ printed.Different))
 
 -- ---- the rehearsal
 
@@ -143,7 +151,8 @@ pub record HasEnds (after : List DeskState) (lines : List RehearsalLine) : Type 
 
 -- The lines of a run of steps on desks over one base, which hold nothing at the start: one line for
 -- the result of each step, and then the lines of the desks after the run.
-pub record Rehearses (base : BaseSeen) (count : ℕ) (steps : List Step) (lines : List RehearsalLine) : Type 0 where
+pub record Rehearses (base : BaseSeen) (count : ℕ) (steps : List Step)
+    (lines : List RehearsalLine) : Type 0 where
   pub start : List DeskState
   pub number : length start ≡ count
   pub each : All (λ desk. desk ≡ state_of (fresh base)) start
@@ -185,7 +194,8 @@ pub record HasSteps (files : Option Files) (name : Text) (count : ℕ) (steps : 
   pub loaded : AreLoaded files script.steps steps
 
 -- what `rehearse` prints of three files and of the texts that the script names
-pub record RehearsesFiles (files : Option Files) (dataset stations script : Text) (bytes : List ℕ) : Type 0 where
+pub record RehearsesFiles (files : Option Files) (dataset stations script : Text)
+    (bytes : List ℕ) : Type 0 where
   pub base : BaseSeen
   pub notes : List Note
   pub read : ReadsBase files dataset stations base notes
@@ -223,4 +233,5 @@ abbrev pub RefusesLines : Option Files → Text → Text → Text → Refusal �
 RefusesLines files dataset stations script refusal =
     (refusal ≡ refused.Memory)
     ⊎ RefusesBase files dataset stations refusal
-    ⊎ (((base : BaseSeen) × (notes : List Note) × ReadsBase files dataset stations base notes) × RefusesSteps files script refusal)
+    ⊎ (((base : BaseSeen) × (notes : List Note) × ReadsBase files dataset stations base notes)
+    × RefusesSteps files script refusal)

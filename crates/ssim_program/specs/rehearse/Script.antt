@@ -1,5 +1,6 @@
 -- Desk scripts: which bytes are a script, and its steps.
-use Rattle.std.specs.Prelude.{◌≡◌, ◌⊎◌, ℕ, ◌+◌, ◌-◌, ◌&&◌, ◌==◌, not, nat_le, nat_lt, if◌then◌else◌, List, [], ◌∷◌, ◌++◌, length, map, Option, Some, None, option_map, codes}
+use Rattle.std.specs.Prelude.{◌≡◌, ◌⊎◌, ℕ, ◌+◌, ◌-◌, ◌&&◌, ◌==◌, not, nat_le, nat_lt, if◌then◌else◌, List, []}
+use Rattle.std.specs.Prelude.{◌∷◌, ◌++◌, length, map, Option, Some, None, option_map, codes}
 use Rattle.std.specs.List.{list_any}
 use Rattle.std.specs.Str.{bytes_eq, is_utf8}
 use Rattle.ssim_text.specs.Bytes.{◌>>=◌, word, behind}
@@ -20,11 +21,13 @@ desk_in count (digit ∷ other ∷ rest) = None
 
 -- the number of desks in a line DESKS n, with n from 1 to 9
 abbrev pub count_in : List ℕ → Option ℕ
-count_in line = if bytes_eq (word line) (codes "DESKS") then option_map (λ n. n + 1) (desk_in 9 (behind line)) else None
+count_in line =
+    if bytes_eq (word line) (codes "DESKS") then option_map (λ n. n + 1) (desk_in 9 (behind line)) else None
 
 -- the name of a file in a word: at least one byte, no blank, valid UTF-8
 abbrev pub name_in : List ℕ → Option (List ℕ)
-name_in text = if nat_lt 0 (length text) && (not (list_any (λ b. b == 32) text) && is_utf8 text) then Some text else None
+name_in text =
+    if nat_lt 0 (length text) && (not (list_any (λ b. b == 32) text) && is_utf8 text) then Some text else None
 
 -- the step of a line TAKE d NAME
 abbrev pub take_in : ℕ → List ℕ → Option Written
@@ -82,8 +85,10 @@ abbrev pub IsNoScriptAt : List ℕ → ℕ → Type 0
 IsNoScriptAt text number =
     ((lines_left text ≡ []) × (number ≡ 1))
     ⊎ ((first : ℕ × List ℕ) × (others : List (ℕ × List ℕ)) × (lines_left text ≡ first ∷ others)
-    × (((count_in first.1 ≡ None) × (number ≡ first.0)) ⊎ ((count : ℕ) × (count_in first.1 ≡ Some count) × IsFirstOther count others number)))
+    × (((count_in first.1 ≡ None) × (number ≡ first.0))
+    ⊎ ((count : ℕ) × (count_in first.1 ≡ Some count) × IsFirstOther count others number)))
 
 -- the bytes are no script, and the refusal names the line; or memory ran out
 abbrev pub RefusesScript : List ℕ → Refusal → Type 0
-RefusesScript text refusal = (refusal ≡ refused.Memory) ⊎ ((number : ℕ) × (refusal ≡ refused.Script number) × IsNoScriptAt text number)
+RefusesScript text refusal =
+    (refusal ≡ refused.Memory) ⊎ ((number : ℕ) × (refusal ≡ refused.Script number) × IsNoScriptAt text number)

@@ -29,6 +29,7 @@ ReachedAll start steps answers =
 -- `same`, unless a line of a desk says that there was no memory for its export.
 abbrev pub EndsWithSame : Type 0
 EndsWithSame =
-    (files : Option Files) (dataset stations script : Text) (bytes : List ℕ) (r : RehearsesFiles files dataset stations script bytes)
+    (files : Option Files) (dataset stations script : Text) (bytes : List ℕ)
+    (r : RehearsesFiles files dataset stations script bytes)
     → ReachedAll r.rehearsed.start r.steps r.rehearsed.answers → All (λ l. IsWithoutMemory l → ⊥) r.lines
     → (before : List ℕ) × (bytes ≡ before ++ line (codes "same"))

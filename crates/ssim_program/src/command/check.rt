@@ -27,7 +27,8 @@ pub(crate) fn check<S: Store>(alloc: Global, name: &str, store: &mut S) -> Resul
 
 /// A line for each note, in order, and the summary.
 fn lines_on(alloc: Global, summary: &Summary) -> Result<Vec<u8>, Memory>
-    ensures { IfOk result (λ lines. lines.items ≡ summary_lines summary.now.records summary.now.flights summary.now.notes.items) }
+    ensures { IfOk result (λ lines. lines.items
+        ≡ summary_lines summary.now.records summary.now.flights summary.now.notes.items) }
 {
     let mut lines = Vec::new(alloc);
     for note in &summary.notes {

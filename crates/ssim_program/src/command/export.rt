@@ -44,8 +44,9 @@ pub(crate) fn end_export<W: Write>(
     out: &mut Printer<'_, W>,
 ) -> Result<(), Refusal>
     // The export is one of these days over this base, and the printer was `before` when it began.
-    ensures { (base : List Record) (days : FlightNumber → Days) (before : Paper) → airline ≡ airline_of base
-        → IsWritten base days before out.old written → PrintsExport base days before out.new result }
+    ensures { (base : List Record) (days : FlightNumber → Days) (before : Paper)
+        → airline ≡ airline_of base → IsWritten base days before out.old written
+        → PrintsExport base days before out.new result }
 {
     match written {
         Ok(()) => out.flush(),

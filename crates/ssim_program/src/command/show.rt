@@ -10,7 +10,8 @@ ghost use Rattle.ssim_values.specs.Designator.{designator_text};
 ghost use Rattle.ssim_program.specs.Desks.{RefusesFlight, Shows};
 ghost use Rattle.ssim_command_line.specs.Line.{Show};
 ghost use Rattle.ssim_program.specs.internal.Program.{Prepares, stored};
-ghost use Rattle.ssim_program.specs.print.Shown.{columns_text, dotted, leg_line, shown, shown_flight};
+ghost use Rattle.ssim_program.specs.print.Shown.{columns_text, dotted, leg_line, shown};
+ghost use Rattle.ssim_program.specs.print.Shown.{shown_flight};
 
 use crate::desk_file::open_holdings;
 use crate::refusal::Refusal;
@@ -91,7 +92,8 @@ fn lines_of(
 
 /// Adds the line of the flight and the date.
 fn push_heading(lines: &mut Vec<u8>, designator: Designator, day: Day) -> Result<(), Memory>
-    ensures { OnOk result (lines.new.items ≡ lines.old.items ++ line (designator_text designator ++ 32 ∷ day_text day)) }
+    ensures { OnOk result (lines.new.items
+        ≡ lines.old.items ++ line (designator_text designator ++ 32 ∷ day_text day)) }
 {
     lines.extend_from_slice(designator.write().as_slice())?;
     lines.push(b' ')?;
@@ -139,7 +141,8 @@ fn push_columns(lines: &mut Vec<u8>, leg: &LegColumns) -> Result<(), Memory>
 /// Adds a blank and a field of a leg, with a full stop for each blank.
 fn push_field(lines: &mut Vec<u8>, leg: &LegColumns, field: Field) -> Result<(), Memory>
     requires { IsTrue (is_own field) }
-    ensures { OnOk result (lines.new.items ≡ lines.old.items ++ shown field.first field.last leg.now) }
+    ensures { OnOk result
+        (lines.new.items ≡ lines.old.items ++ shown field.first field.last leg.now) }
 {
     push_shown(lines, leg.text(field))
 }

@@ -63,7 +63,8 @@ impl fmt::Display for Printed {
 
 /// Adds the line of what is displayed, with its end.
 pub(crate) fn add_line<D: fmt::Display>(lines: &mut Vec<u8>, shown: &D) -> Result<(), Memory>
-    ensures { OnOk result (IfSome (D.output shown.now) (λ text. lines.new.items ≡ lines.old.items ++ line text)) }
+    ensures { OnOk result
+        (IfSome (D.output shown.now) (λ text. lines.new.items ≡ lines.old.items ++ line text)) }
 {
     match writeln!(lines, "{shown}") {
         Ok(()) => Ok(()),

@@ -5,7 +5,8 @@ ghost use Rattle.ssim_values.specs.Designator.{designator_text};
 ghost use Rattle.ssim_text.specs.Reference.{printed_originator, printed_reference};
 ghost use Rattle.ssim_base.specs.Export.{line};
 ghost use Rattle.ssim_program.specs.internal.Print.{Prints, Puts, without_originator};
-ghost use Rattle.ssim_program.specs.print.Refusal.{named_text, place_text, refusal_file, refusal_head};
+ghost use Rattle.ssim_program.specs.print.Refusal.{named_text, place_text, refusal_file};
+ghost use Rattle.ssim_program.specs.print.Refusal.{refusal_head};
 ghost use Rattle.ssim_program.specs.print.Refusal.{refusal_place, refusal_text};
 
 use crate::print::printer::{Printer, print_all, put_parts};
