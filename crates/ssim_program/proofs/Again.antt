@@ -77,7 +77,7 @@ tidied_once law all name bytes again kept own is fits made =
     let opened = made.2.1 in
     let left : made.2.0 ≡ Some bytes = opened.2 ∙ sym opened.1 ∙ is in
     let read : IsReadAs file_limit bytes (Ok (base, notes)) = subst (λ (o : Option (List ℕ)). IsReadOf file_limit o (Ok (base, notes))) left made.2.2.0 in
-    as_itself base notes again bytes own made.3 (law bytes own.count own.records own.base [] file_limit (read_as base notes) own.read own.stands fits read)
+    as_itself base notes again bytes own made.3 (law bytes own.count own.records own.base [] file_limit (read_as base notes) own.read own.is_base fits read)
 
 -- ---- what was exported
 
@@ -87,7 +87,7 @@ reads_itself frame days bytes r = record {
   records = r.records;
   base = r.base;
   read = r.read;
-  stands = r.stands;
+  is_base = r.stands;
   export = (kept_frame frame, r.frame_is, r.again);
 }
 

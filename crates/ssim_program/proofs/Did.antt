@@ -5,7 +5,7 @@ use Rattle.ssim_command_line.specs.Usage.{Names}
 use Rattle.ssim_program.specs.Effects.{Begins}
 use Rattle.ssim_program.specs.Files.{Files, Kept, with_kept}
 use Rattle.ssim_program.specs.Offices.{Did}
-use Rattle.ssim_program.specs.Paper.{Paper}
+use Rattle.ssim_program.specs.print.Paper.{Paper}
 use Rattle.ssim_program.specs.World.{IsDone, IsRefused, World}
 use Rattle.ssim_program.specs.declared.refusal.Refusal.{Refusal}
 use Rattle.ssim_program.proofs.Saying.{Says}

@@ -4,9 +4,11 @@ use Rattle.ssim_program.specs.Again.{PrintsItself}
 use Rattle.ssim_program.specs.Effects.{Begins, Makes}
 use Rattle.ssim_program.specs.Files.{Files, Kept, with_kept}
 use Rattle.ssim_command_line.specs.Line.{Line, Check, Tidy, Start, Take, Merge, Show, Findings, Export, Rehearse, Explain}
-use Rattle.ssim_program.specs.Paper.{Paper, Prints}
-use Rattle.ssim_program.specs.Reasons.{Refuses}
-use Rattle.ssim_program.specs.World.{Does, Prepares, PrintsAtOnce, Stops, world}
+use Rattle.ssim_program.specs.print.Paper.{Paper}
+use Rattle.ssim_program.specs.internal.Print.{Prints}
+use Rattle.ssim_program.specs.print.Reasons.{Refuses}
+use Rattle.ssim_program.specs.World.{Stops, world}
+use Rattle.ssim_program.specs.internal.Program.{Does, Prepares, PrintsAtOnce, stored}
 use Rattle.ssim_program.specs.declared.refusal.Refusal.{Refusal}
 use Rattle.ssim_program.specs.declared.refusal.Refusal.TheVariants as refused
 use Rattle.ssim_program.proofs.Printers.{nothing}
@@ -68,7 +70,7 @@ stops_at_once line old n new m out refusal why same = inl (record { printed = []
 -- a command that keeps no file, from what its last call makes
 pub prepared : {A : Type 0} (line : Line) (old : Option Files) (n : ℕ) (new : Option Files) (m : ℕ) (P : List ℕ → Type 0) (Q : Refusal → Type 0) (r : Result (Vec ℕ A) Refusal)
     → ((text : List ℕ) → P text → Makes line old text None) → ((refusal : Refusal) → Q refusal → Refuses line old [] refusal) → new ≡ old → m ≡ n
-    → IfOk r (λ v. P v.items) → IfErr r Q → Prepares line old n new m r
+    → IfOk r (λ v. P v.items) → IfErr r Q → Prepares line (stored old n) (stored new m) r
 prepared line old n new m P Q (Ok v) made why same counted ok err = (None, made v.items ok, same, counted)
 prepared line old n new m P Q (Err refusal) made why same counted ok err = (inl (why refusal err, counted), same)
 

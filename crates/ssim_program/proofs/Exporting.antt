@@ -14,13 +14,15 @@ use Rattle.ssim_held.specs.Entries.{DeskSeen}
 use Rattle.ssim_desk.specs.Desk.{days_of_desk}
 use Rattle.ssim_program.specs.Again.{GrowsByItself}
 use Rattle.ssim_program.specs.Desks.{ReadsDesk}
-use Rattle.ssim_program.specs.Exported.{IsWritten, PrintsExport, failures_of, taken_of}
+use Rattle.ssim_program.specs.internal.Export.{IsWritten, PrintsExport, failures_of, taken_of}
 use Rattle.ssim_program.specs.Files.{Files}
 use Rattle.ssim_command_line.specs.Line.{Text, Tidy, Export}
 use Rattle.ssim_program.specs.Made.{ReadsFile}
-use Rattle.ssim_program.specs.Paper.{Grows, Paper, Prints}
-use Rattle.ssim_program.specs.Refusal.{refusal_of_export}
-use Rattle.ssim_program.specs.World.{Does, world}
+use Rattle.ssim_program.specs.print.Paper.{Grows, Paper}
+use Rattle.ssim_program.specs.internal.Print.{Prints}
+use Rattle.ssim_program.specs.print.Refusal.{refusal_of_export}
+use Rattle.ssim_program.specs.World.{world}
+use Rattle.ssim_program.specs.internal.Program.{Does}
 use Rattle.ssim_program.specs.declared.refusal.Refusal.{Refusal}
 use Rattle.ssim_program.proofs.Again.{grows_by_itself}
 use Rattle.ssim_program.proofs.Printers.{breaks_after, flushed_after, nothing}

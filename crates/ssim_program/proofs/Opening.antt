@@ -6,7 +6,7 @@ use Rattle.ssim_held.specs.declared.fault.DeskFault.TheVariants.{Memory, Text, R
 use Rattle.ssim_program.specs.Desks.{RefusesDeskFile}
 use Rattle.ssim_program.specs.Files.{Files}
 use Rattle.ssim_program.specs.Made.{HasFile}
-use Rattle.ssim_program.specs.Refusal.{refusal_of_desk}
+use Rattle.ssim_program.specs.print.Refusal.{refusal_of_desk}
 use Rattle.ssim_program.specs.declared.refusal.Refusal.{Refusal}
 
 pub refuses_file : (files : Option Files) (name bytes : List ℕ) (fault : DeskFault) (refusal : Refusal) → HasFile files name bytes → RefusesBytes bytes fault → refusal ≡ refusal_of_desk fault → RefusesDeskFile files name refusal

@@ -6,7 +6,7 @@ use Rattle.ssim_schedule.specs.declared.export.ExportFault.TheVariants as export
 use Rattle.ssim_held.specs.Held.{DeskState}
 use Rattle.ssim_desk.specs.Desk.{WritesDesk}
 use Rattle.ssim_desk.specs.Meaning.{Exports}
-use Rattle.ssim_program.specs.Rehearsal.{IsOutcome}
+use Rattle.ssim_program.specs.rehearse.Rehearsal.{IsOutcome}
 
 abbrev taken : Buffer → Option (List ℕ)
 taken s = Some s.bytes

@@ -2,7 +2,8 @@
 use Rattle.std.proofs.Common.{◌∙◌, inl, inr, ℕ, ◌+◌, ◌%◌, ◌^◌, List, [], ◌++◌, Result, Ok, Err, refl, ap, subst, append-nil}
 use Rattle.std.proofs.KnownBytes.{Appends-nil, Appends-trans}
 use Rattle.ssim_base.proofs.SinkLemmas.{front_more, then_front}
-use Rattle.ssim_program.specs.Paper.{Breaks, Grows, Paper, Prints, PrintsOrFails, Puts}
+use Rattle.ssim_program.specs.print.Paper.{Breaks, Grows, Paper, PrintsOrFails}
+use Rattle.ssim_program.specs.internal.Print.{Prints, Puts}
 use Rattle.ssim_program.specs.declared.refusal.Refusal.{Refusal}
 
 -- no call

@@ -11,7 +11,7 @@ use Rattle.ssim_program.specs.Desks.{ReadsDesk}
 use Rattle.ssim_program.specs.Files.{Files}
 use Rattle.ssim_program.specs.Made.{IsExport}
 use Rattle.ssim_program.specs.Offices.{IsSameFile, PrintsTheSame}
-use Rattle.ssim_program.specs.Shown.{findings_lines, shown_flight}
+use Rattle.ssim_program.specs.print.Shown.{findings_lines, shown_flight}
 use Rattle.ssim_program.proofs.Again.{one_export}
 use Rattle.ssim_program.proofs.Origins.{same_some}
 

@@ -11,7 +11,7 @@ use Rattle.ssim_text.specs.declared.kind.Kind.TheVariants.{Ssm}
 use Rattle.ssim_base.specs.Export.{line}
 use Rattle.ssim_base.specs.declared.fault.BaseFault.TheVariants.{Read}
 use Rattle.ssim_held.specs.declared.fault.DeskFault.TheVariants as desk
-use Rattle.ssim_program.specs.Refusal.{refusal_text}
+use Rattle.ssim_program.specs.print.Refusal.{refusal_text}
 use Rattle.ssim_program.specs.declared.refusal.Refusal.TheVariants as refused
 
 memory_line : line (refusal_text refused.Memory) ≡ codes "refused 90 Memory\n"

@@ -13,8 +13,9 @@ use Rattle.ssim_desk.specs.declared.steps.Step.{Step}
 use Rattle.ssim_desk.specs.declared.steps.Step.TheVariants.{Take, Merge}
 use Rattle.ssim_desk.proofs.Moments.{Moment, at_step}
 use Rattle.ssim_program.specs.Files.{Files}
-use Rattle.ssim_program.specs.Rehearsal.{AreExports, AreLoaded, AreStepLines, HasLine, HasMergeLine, HasTakeLine, HaveLines, IsLoaded, IsOutcome, IsStepLine, Outcome, RefusesStep, RefusesTexts, desk_of}
-use Rattle.ssim_program.specs.Script.{IsFirstOther, Written, step_in}
+use Rattle.ssim_program.specs.rehearse.Rehearsal.{AreExports, AreLoaded, AreStepLines, IsLoaded, IsOutcome, IsStepLine, Outcome, RefusesStep, RefusesTexts}
+use Rattle.ssim_program.specs.internal.Rehearse.{HasLine, HasMergeLine, HasTakeLine, HaveLines, desk_of}
+use Rattle.ssim_program.specs.rehearse.Script.{IsFirstOther, Written, step_in}
 use Rattle.ssim_program.specs.declared.refusal.Refusal.{Refusal}
 use Rattle.ssim_program.specs.declared.rehearse.line.RehearsalLine.{RehearsalLine}
 use Rattle.ssim_program.specs.declared.rehearse.line.RehearsalLine.TheVariants as printed

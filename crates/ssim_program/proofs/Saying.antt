@@ -2,12 +2,13 @@
 use Rattle.std.proofs.Common.{◌≡◌, ◌⊎◌, inl, inr, ℕ, ◌≤◌, true, false, List, [], Option, refl, sym, ap, subst, arith}
 use Rattle.clap.specs.Values.{kind_of}
 use Rattle.clap.specs.declared.error.Error.{Error}
-use Rattle.ssim_program.specs.Help.{Answers, PrintsHelp, RefusesHelp, SaysHelp, SaysWrong}
+use Rattle.ssim_program.specs.Help.{PrintsHelp, RefusesHelp, SaysWrong}
+use Rattle.ssim_program.specs.internal.Program.{EndsWithoutRequest, SaysHelp, Obeys}
 use Rattle.ssim_command_line.specs.Line.{Line, Text}
-use Rattle.ssim_program.specs.Paper.{Breaks, Grows, Paper, PrintsOrFails}
-use Rattle.ssim_program.specs.Reasons.{PrintsRefusal}
+use Rattle.ssim_program.specs.print.Paper.{Breaks, Grows, Paper, PrintsOrFails}
+use Rattle.ssim_program.specs.print.Reasons.{PrintsRefusal}
 use Rattle.ssim_command_line.specs.Usage.{HasFault, IsCommand, IsFaultOf, IsNoCommand, Names, is_help}
-use Rattle.ssim_program.specs.World.{EndsWithLine, IsDone, IsRefused, Obeys, World, world}
+use Rattle.ssim_program.specs.World.{EndsWithLine, IsDone, IsRefused, World, world}
 use Rattle.ssim_program.specs.Files.{Files}
 use Rattle.ssim_command_line.specs.declared.command_line.LineFault.{LineFault}
 use Rattle.ssim_command_line.specs.declared.command_line.LineFault.TheVariants.{Memory, Shown, NoCommand}
@@ -76,7 +77,7 @@ obeyed words line before after err err' status names (inr (one, ends)) = record 
 
 module _ (words : List Text) (files : Option Files) (failures : ℕ) (out out' err err' : Paper) (status : ℕ) where
   -- memory ran out
-  out_of_memory : Answers Memory out out' err err' status → Says words (world files failures out) (world files failures out') err err' status
+  out_of_memory : EndsWithoutRequest Memory out out' err err' status → Says words (world files failures out) (world files failures out') err err' status
   out_of_memory (one, same, printed) = record {
     most = omega arith;
     known = λ line names. omega arith;
@@ -145,7 +146,7 @@ module _ (words : List Text) (files : Option Files) (failures : ℕ) (out out' e
     devices = (says.0.device, all_device says.1 err err' says.2);
   }
 
-  pub answered : (fault : LineFault) → IsFaultOf words fault → Answers fault out out' err err' status → Says words (world files failures out) (world files failures out') err err' status
+  pub answered : (fault : LineFault) → IsFaultOf words fault → EndsWithoutRequest fault out out' err err' status → Says words (world files failures out) (world files failures out') err err' status
   answered Memory is said = out_of_memory said
   answered (Shown error) is (inl said) = helped error is said.0 said.1
   answered (Shown error) is (inr said) =

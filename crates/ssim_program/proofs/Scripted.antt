@@ -7,8 +7,9 @@ use Rattle.ssim_desk.specs.Steps.{IsInRange}
 use Rattle.ssim_desk.specs.declared.steps.Step.{Step}
 use Rattle.ssim_desk.specs.declared.steps.Step.TheVariants.{Take, Merge}
 use Rattle.ssim_program.specs.Files.{Files}
-use Rattle.ssim_program.specs.Rehearsal.{AreLoaded, IsLoaded, RefusesStep, RefusesTexts}
-use Rattle.ssim_program.specs.Script.{IsOtherLine, IsStepOf, RefusesScript, Written, Takes, Merges, count_in}
+use Rattle.ssim_program.specs.rehearse.Rehearsal.{AreLoaded, IsLoaded, RefusesStep, RefusesTexts}
+use Rattle.ssim_program.specs.rehearse.Script.{RefusesScript, Written, Takes, Merges, count_in}
+use Rattle.ssim_program.specs.internal.Rehearse.{IsOtherLine, IsStepOf}
 use Rattle.ssim_program.specs.declared.refusal.Refusal.{Refusal}
 use Rattle.ssim_program.proofs.Rehearsing.{loaded_next, refuses_next}
 

@@ -4,11 +4,13 @@ use Rattle.std.specs.List.{slice_get}
 use Rattle.std.proofs.Math.Seq.{take-length}
 use Rattle.ssim_held.specs.File.{desk_file}
 use Rattle.ssim_held.specs.Entries.{AreRising, DeskSeen}
-use Rattle.ssim_program.specs.Desks.{PrintsTexts, ReadsDesk, RefusesDeskFile, RefusesFileText, RefusesKeep, TakesFirst, TakesText, TakesTexts}
+use Rattle.ssim_program.specs.Desks.{ReadsDesk, RefusesDeskFile, RefusesFileText, RefusesKeep, TakesFirst, TakesText, TakesTexts}
+use Rattle.ssim_program.specs.internal.Take.{PrintsTexts}
 use Rattle.ssim_program.specs.Files.{Files, with_kept}
 use Rattle.ssim_command_line.specs.Line.{Text, Take}
-use Rattle.ssim_program.specs.Paper.{Breaks, Grows, Paper}
-use Rattle.ssim_program.specs.World.{Does, world}
+use Rattle.ssim_program.specs.print.Paper.{Breaks, Grows, Paper}
+use Rattle.ssim_program.specs.World.{world}
+use Rattle.ssim_program.specs.internal.Program.{Does}
 use Rattle.ssim_program.specs.declared.refusal.Refusal.{Refusal}
 use Rattle.ssim_program.specs.declared.refusal.Refusal.TheVariants as refused
 use Rattle.ssim_program.proofs.Printers.{breaks_after, breaks_more, flushed_after, grows_more, nothing}

@@ -20,9 +20,10 @@ use Rattle.ssim_desk.specs.Steps.{IsInRange, desk_at}
 use Rattle.ssim_desk.specs.declared.steps.Step.{Step}
 use Rattle.ssim_program.proofs.Scripted.{loaded_in_range}
 use Rattle.ssim_program.specs.Files.{Files}
-use Rattle.ssim_program.specs.Rehearsal.{AreEqualTo, AreExports, AreLoaded, AreSame, HasSteps, IsOutcome, IsVerdict, Outcome, desk_line, desk_lines, fresh, printed_line}
-use Rattle.ssim_program.specs.Script.{AreSteps, IsStepOf, Merges, Takes, Written, desk_in, merge_in, name_in, step_in, take_in}
-use Rattle.ssim_program.specs.Verdict.{EndsWithSame, IsWithoutMemory}
+use Rattle.ssim_program.specs.rehearse.Rehearsal.{AreEqualTo, AreExports, AreLoaded, AreSame, HasSteps, IsOutcome, IsVerdict, Outcome, desk_line, desk_lines, fresh, printed_line}
+use Rattle.ssim_program.specs.rehearse.Script.{AreSteps, Merges, Takes, Written, desk_in, merge_in, name_in, step_in, take_in}
+use Rattle.ssim_program.specs.internal.Rehearse.{IsStepOf}
+use Rattle.ssim_program.specs.rehearse.Verdict.{EndsWithSame, IsWithoutMemory}
 use Rattle.ssim_program.specs.declared.rehearse.line.RehearsalLine.{RehearsalLine}
 use Rattle.ssim_program.specs.declared.rehearse.line.RehearsalLine.TheVariants as printed
 

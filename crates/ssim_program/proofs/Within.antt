@@ -10,8 +10,8 @@ use Rattle.ssim_base.specs.declared.fault.BaseFault.TheVariants.{Read, Refused}
 use Rattle.ssim_program.specs.Files.{Files, IsOpened, file_of}
 use Rattle.ssim_program.specs.Made.{HasFile, IsMissing, IsOfBytes, ReadsFile, RefusesLoad, file_limit}
 use Rattle.ssim_command_line.specs.Line.{Text}
-use Rattle.ssim_program.specs.Refusal.{IsOfFile}
-use Rattle.ssim_program.specs.Unread.{IsUnread}
+use Rattle.ssim_program.specs.print.Refusal.{IsOfFile}
+use Rattle.ssim_program.specs.internal.DataSet.{IsUnread}
 use Rattle.ssim_program.specs.declared.refusal.Refusal.{Refusal}
 use Rattle.ssim_program.specs.declared.refusal.Refusal.TheVariants as refused
 

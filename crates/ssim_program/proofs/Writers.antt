@@ -7,7 +7,7 @@ use Rattle.ssim_program.specs.Again.{PrintsItself}
 use Rattle.ssim_program.specs.Files.{Files}
 use Rattle.ssim_program.specs.Help.{PrintsHelp, RefusesHelp, SaysWrong}
 use Rattle.ssim_command_line.specs.Line.{Line}
-use Rattle.ssim_program.specs.Paper.{Breaks, Grows, Paper, PrintsOrFails}
+use Rattle.ssim_program.specs.print.Paper.{Breaks, Grows, Paper, PrintsOrFails}
 use Rattle.ssim_program.specs.World.{EndsWithLine, IsDone, IsRefused, paper, world}
 use Rattle.ssim_program.specs.declared.refusal.Refusal.{Refusal}
 use Rattle.ssim_program.specs.declared.refusal.Refusal.TheVariants as refused

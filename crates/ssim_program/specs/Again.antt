@@ -16,7 +16,7 @@ pub record ReadsAsItself (bytes : List ℕ) : Type 0 where
   pub records : List (ℕ × Record)
   pub base : List Record
   pub read : AreRead bytes count records
-  pub stands : data_set (Done (count + 1)) records ≡ Ok (base, [])
+  pub is_base : data_set (Done (count + 1)) records ≡ Ok (base, [])
   pub export : IsExportOf base bytes
 
 -- what was taken has grown by bytes that are read as themselves
@@ -32,4 +32,5 @@ PrintsItself _ before after = ⊤
 -- From a file of bytes that are read as themselves `tidy` makes the same bytes.
 abbrev pub TidiesOnce : Type 0
 TidiesOnce = (all : Files) (name : Text) (bytes again : List ℕ) (kept : Kept) → ReadsAsItself bytes
-    → file_of all name ≡ Some bytes → length bytes ≤ file_limit → Makes (Tidy name) (Some all) again kept → again ≡ bytes
+    → file_of all name ≡ Some bytes → length bytes ≤ file_limit → Makes (Tidy name) (Some all) again kept
+    → again ≡ bytes

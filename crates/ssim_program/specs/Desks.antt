@@ -1,5 +1,6 @@
 -- What the commands on desk files read, make and print, and why they are refused.
-use Rattle.std.specs.Prelude.{Vec, ◌≡◌, ◌≢◌, ◌⊎◌, ℕ, ◌+◌, ◌%◌, ◌^◌, List, [], ◌∷◌, ◌++◌, take, slice_get, Option, Some, None, Result, Ok, Err}
+use Rattle.std.specs.Prelude.{◌≡◌, ◌≢◌, ◌⊎◌, ℕ, ◌+◌, ◌%◌, ◌^◌, List, [], ◌∷◌, ◌++◌, take, slice_get, Option}
+use Rattle.std.specs.Prelude.{Some, None, Ok}
 use Rattle.ssim_values.specs.Designator.{SpellsDesignator}
 use Rattle.ssim_values.specs.declared.designator.Designator.{Designator}
 use Rattle.ssim_values.specs.declared.fault.Fault.TheVariants as value_fault
@@ -23,12 +24,11 @@ use Rattle.ssim_desk.specs.declared.steps.Answer.TheVariants.{Merged}
 use Rattle.ssim_program.specs.Files.{Files}
 use Rattle.ssim_command_line.specs.Line.{Text}
 use Rattle.ssim_program.specs.Made.{HasFile, IsExport, RefusesLoad}
-use Rattle.ssim_program.specs.Paper.{Breaks, Grows, Paper}
-use Rattle.ssim_program.specs.Printed.{printed_text}
-use Rattle.ssim_program.specs.Refusal.{IsOfFile, refusal_of_desk}
-use Rattle.ssim_program.specs.Shown.{shown_flight}
-use Rattle.ssim_program.specs.declared.printed.Printed.{Printed}
-use Rattle.ssim_program.specs.declared.printed.Printed.TheVariants as printed
+use Rattle.ssim_program.specs.print.Printed.{printed_text}
+use Rattle.ssim_program.specs.print.Refusal.{IsOfFile, refusal_of_desk}
+use Rattle.ssim_program.specs.print.Shown.{shown_flight}
+use Rattle.ssim_program.specs.declared.print.printed.Printed.{Printed}
+use Rattle.ssim_program.specs.declared.print.printed.Printed.TheVariants as printed
 use Rattle.ssim_program.specs.declared.refusal.Refusal.{Refusal}
 use Rattle.ssim_program.specs.declared.refusal.Refusal.TheVariants as refused
 
@@ -47,7 +47,8 @@ IsNoDeskFile bytes = (base : BaseSeen) (entries : List Entry) → IsDeskFile byt
 abbrev pub RefusesDeskFile : Option Files → Text → Refusal → Type 0
 RefusesDeskFile files name refusal =
     RefusesLoad files name refusal
-    ⊎ ((bytes : List ℕ) × HasFile files name bytes × IsNoDeskFile bytes × (offset : ℕ) × (refusal ≡ refused.Desk (desk_fault.File offset)))
+    ⊎ ((bytes : List ℕ) × HasFile files name bytes × IsNoDeskFile bytes × (offset : ℕ)
+    × (refusal ≡ refused.Desk (desk_fault.File offset)))
 
 -- Why a file is not kept, by the count of the store's failures: memory ran out; or the store counted
 -- one failure more, and the refusal is 91 with the name.
@@ -71,7 +72,8 @@ abbrev pub took_line : Took → Reference → List ℕ
 took_line answer reference = line (printed_text (took_printed answer reference))
 
 -- a desk takes a text: what became of it, the reference that it says, and the desk afterwards
-pub record IsTaken (before : DeskSeen) (text : List ℕ) (answer : Took) (reference : Reference) (after : DeskSeen) : Type 0 where
+pub record IsTaken (before : DeskSeen) (text : List ℕ) (answer : Took) (reference : Reference)
+    (after : DeskSeen) : Type 0 where
   pub message : MessageValue
   pub says : Says before.base text reference message
   pub takes : Takes (state_of before) text (take_answer (Ok answer)) (map_of after.held)
@@ -80,7 +82,8 @@ pub record IsTaken (before : DeskSeen) (text : List ℕ) (answer : Took) (refere
 -- the text in the file of this name is taken, and its line is printed
 abbrev pub TakesText : Option Files → Text → DeskSeen → DeskSeen → List ℕ → Type 0
 TakesText files name before after printed =
-    (text : List ℕ) × HasFile files name text × (answer : Took) × (reference : Reference) × IsTaken before text answer reference after
+    (text : List ℕ) × HasFile files name text × (answer : Took) × (reference : Reference)
+    × IsTaken before text answer reference after
     × (printed ≡ took_line answer reference)
 
 -- the texts in the files of these names are taken one after another, and their lines are printed
@@ -88,41 +91,30 @@ abbrev pub TakesTexts : Option Files → List Text → DeskSeen → DeskSeen →
 TakesTexts files [] before after printed = (after ≡ before) × (printed ≡ [])
 TakesTexts files (name ∷ names) before after printed =
     (between : DeskSeen) × (first : List ℕ) × (later : List ℕ)
-    × TakesText files name before between first × TakesTexts files names between after later × (printed ≡ first ++ later)
+    × TakesText files name before between first × TakesTexts files names between after later
+    × (printed ≡ first ++ later)
 
 -- why the text in the file of this name is refused: the file is not loaded; or the desk refuses the
 -- text
 abbrev pub RefusesFileText : Option Files → Text → DeskSeen → Refusal → Type 0
 RefusesFileText files name desk refusal =
     RefusesLoad files name refusal
-    ⊎ ((text : List ℕ) × HasFile files name text × (fault : DeskFault) × RefusesText (state_of desk) text fault × (refusal ≡ refusal_of_desk fault))
-
--- a text is taken, and its line is made; or it is refused
-abbrev pub TakesOrRefuses : {A : Type 0} → Option Files → Text → DeskSeen → DeskSeen → Result (Vec ℕ A) Refusal → Type 0
-TakesOrRefuses files name before after (Ok line) = TakesText files name before after line.items
-TakesOrRefuses files name before after (Err refusal) = RefusesFileText files name before refusal
+    ⊎ ((text : List ℕ) × HasFile files name text × (fault : DeskFault)
+    × RefusesText (state_of desk) text fault × (refusal ≡ refusal_of_desk fault))
 
 -- the lines of the first n texts, all of which are taken
 abbrev pub TakesFirst : Option Files → List Text → ℕ → DeskSeen → DeskSeen → List ℕ → Type 0
 TakesFirst files names n before after printed = TakesTexts files (take n names) before after printed
 
 -- text n + 1 is refused, after the first n were taken and their lines printed
-pub record RefusesTexts (files : Option Files) (names : List Text) (before : DeskSeen) (printed : List ℕ) (refusal : Refusal) : Type 0 where
+pub record RefusesTexts (files : Option Files) (names : List Text) (before : DeskSeen) (printed : List ℕ)
+    (refusal : Refusal) : Type 0 where
   pub n : ℕ
   pub between : DeskSeen
   pub taken : TakesFirst files names n before between printed
   pub name : Text
   pub next : slice_get names n ≡ Some name
   pub why : RefusesFileText files name between refusal
-
--- Texts are taken one after another, and `out` has taken the line of each. Or one is refused, and
--- `out` has taken the lines of those before it. Or `out` fails, and has taken a prefix of the lines
--- of the first n.
-abbrev pub PrintsTexts : Option Files → List Text → DeskSeen → DeskSeen → Paper → Paper → Result (Unit {0}) Refusal → Type 0
-PrintsTexts files names before after out out' (Ok x) = (printed : List ℕ) × TakesTexts files names before after printed × Grows printed out out'
-PrintsTexts files names before after out out' (Err refusal) =
-    ((printed : List ℕ) × RefusesTexts files names before printed refusal × Grows printed out out')
-    ⊎ ((refusal ≡ refused.WriteFault) × (n : ℕ) × (last : DeskSeen) × (printed : List ℕ) × TakesFirst files names n before last printed × Breaks printed out out')
 
 -- ---- two desks
 
@@ -133,7 +125,8 @@ pub record IsMergeOf (mine theirs after : DeskSeen) : Type 0 where
 
 -- why two desks are not merged
 abbrev pub RefusesMerge : DeskSeen → DeskSeen → Refusal → Type 0
-RefusesMerge mine theirs refusal = (fault : DeskFault) × RefusesDesk (state_of mine) (state_of theirs) fault × (refusal ≡ refusal_of_desk fault)
+RefusesMerge mine theirs refusal = (fault : DeskFault) × RefusesDesk (state_of mine) (state_of theirs) fault
+    × (refusal ≡ refusal_of_desk fault)
 
 -- ---- what a desk shows
 
@@ -153,9 +146,12 @@ pub record Shows (desk : DeskSeen) (flight date : Text) (printed : List ℕ) : T
 abbrev pub RefusesFlight : DeskSeen → Text → Text → Refusal → Type 0
 RefusesFlight desk flight date refusal =
     (refusal ≡ refused.Memory)
-    ⊎ ((refusal ≡ refused.Value value_fault.BadDesignator) × ((d : Designator) → SpellsDesignator d flight → ⊥))
-    ⊎ ((refusal ≡ refused.Value value_fault.BadDate) × (day_in date ≡ None) × (d : Designator) × SpellsDesignator d flight)
-    ⊎ ((refusal ≡ refused.Desk (desk_fault.Resolve (resolve_fault.Airline 0))) × (d : Designator) × SpellsDesignator d flight × (d.airline ≢ airline_of desk.base.records)
+    ⊎ ((refusal ≡ refused.Value value_fault.BadDesignator)
+    × ((d : Designator) → SpellsDesignator d flight → ⊥))
+    ⊎ ((refusal ≡ refused.Value value_fault.BadDate) × (day_in date ≡ None) × (d : Designator)
+    × SpellsDesignator d flight)
+    ⊎ ((refusal ≡ refused.Desk (desk_fault.Resolve (resolve_fault.Airline 0))) × (d : Designator)
+    × SpellsDesignator d flight × (d.airline ≢ airline_of desk.base.records)
     × (day : ℕ) × (day_in date ≡ Some day))
 
 -- the bytes are the canonical export of what the desk has

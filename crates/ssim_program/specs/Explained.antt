@@ -1,6 +1,7 @@
 -- What `explain` prints: for a number the line of a refusal that has it, for a file the line of its
 -- refusal, and then an explanation.
-use Rattle.std.specs.Prelude.{◌≡◌, ◌⊎◌, ℕ, ◌==◌, Bool, true, List, [], ◌∷◌, ◌++◌, drop, Option, Some, None, Ok, Err, if◌then◌else◌, codes}
+use Rattle.std.specs.Prelude.{◌≡◌, ◌⊎◌, ℕ, ◌==◌, Bool, true, List, [], ◌∷◌, ◌++◌, drop, Option, Some, None}
+use Rattle.std.specs.Prelude.{Ok, Err, if◌then◌else◌, codes}
 use Rattle.std.specs.Char.{is_ascii_whitespace}
 use Rattle.std.specs.Fmt.{decimal}
 use Rattle.std.specs.List.{prefix_len}
@@ -26,8 +27,9 @@ use Rattle.ssim_program.specs.Desks.{IsNoDeskFile}
 use Rattle.ssim_program.specs.Files.{Files}
 use Rattle.ssim_command_line.specs.Line.{Text}
 use Rattle.ssim_program.specs.Made.{HasFile, IsOfBytes, file_limit}
-use Rattle.ssim_program.specs.Refusal.{refusal_number, refusal_of_base, refusal_of_stations, refusal_text}
-use Rattle.ssim_program.specs.Script.{RefusesScript, Script, SpellsScript}
+use Rattle.ssim_program.specs.print.Refusal.{refusal_number, refusal_of_base, refusal_of_stations}
+use Rattle.ssim_program.specs.print.Refusal.{refusal_text}
+use Rattle.ssim_program.specs.rehearse.Script.{RefusesScript, Script, SpellsScript}
 use Rattle.ssim_program.specs.declared.explain.file_kind.FileKind.{FileKind}
 use Rattle.ssim_program.specs.declared.explain.file_kind.FileKind.TheVariants as kind
 use Rattle.ssim_program.specs.declared.refusal.Refusal.{Refusal}
@@ -73,7 +75,8 @@ kind_of_line first =
 
 -- the kind of a file, by its first line
 abbrev pub kind_of_text : List ℕ → FileKind
-kind_of_text bytes = if begins_data_set bytes then kind.DataSet else kind_of_line (without_end (before 10 bytes))
+kind_of_text bytes =
+    if begins_data_set bytes then kind.DataSet else kind_of_line (without_end (before 10 bytes))
 
 -- the kind of a file; empty lines at the beginning are passed over
 abbrev pub kind_of : List ℕ → FileKind
@@ -84,25 +87,25 @@ kind_of bytes = kind_of_text (drop (prefix_len is_ascii_whitespace bytes) bytes)
 -- a file of this kind has the refusal that the commands which read it print
 abbrev pub IsInvalid : FileKind → List ℕ → Refusal → Type 0
 IsInvalid kind.DataSet bytes refusal =
-    (fault : BaseFault) × (refusal ≡ refusal_of_base fault) × IsOfBytes fault × IsReadAs file_limit bytes (Err fault)
-IsInvalid kind.Desk bytes refusal = IsNoDeskFile bytes × (offset : ℕ) × (refusal ≡ refused.Desk (desk_fault.File offset))
+    (fault : BaseFault) × (refusal ≡ refusal_of_base fault) × IsOfBytes fault
+    × IsReadAs file_limit bytes (Err fault)
+IsInvalid kind.Desk bytes refusal =
+    IsNoDeskFile bytes × (offset : ℕ) × (refusal ≡ refused.Desk (desk_fault.File offset))
 IsInvalid kind.Script bytes refusal = RefusesScript bytes refusal
 IsInvalid kind.Message bytes refusal =
-    (fault : TextFault) × (refusal ≡ refused.Desk (desk_fault.Text fault)) × NoMessage bytes fault × IsRefusal bytes fault
-IsInvalid kind.Stations bytes refusal = (fault : StationFault) × (refusal ≡ refusal_of_stations fault) × NamesLine (lines_left bytes) fault
+    (fault : TextFault) × (refusal ≡ refused.Desk (desk_fault.Text fault)) × NoMessage bytes fault
+    × IsRefusal bytes fault
+IsInvalid kind.Stations bytes refusal =
+    (fault : StationFault) × (refusal ≡ refusal_of_stations fault) × NamesLine (lines_left bytes) fault
 
 -- the bytes are a valid file of this kind
 abbrev pub IsValid : FileKind → List ℕ → Type 0
-IsValid kind.DataSet bytes = (base : List Record) × (notes : List Note) × IsReadAs file_limit bytes (Ok (base, notes))
+IsValid kind.DataSet bytes =
+    (base : List Record) × (notes : List Note) × IsReadAs file_limit bytes (Ok (base, notes))
 IsValid kind.Desk bytes = (desk : DeskSeen) × IsDeskFile bytes desk.base desk.held
 IsValid kind.Script bytes = (script : Script) × SpellsScript script bytes
 IsValid kind.Message bytes = (message : MessageValue) × SpellsMessage message bytes
 IsValid kind.Stations bytes = (rows : List Row) × SpellsTable rows bytes
-
--- the refusal of a file, or that it is valid
-abbrev pub Judges : FileKind → List ℕ → Option Refusal → Type 0
-Judges k bytes (Some refusal) = IsInvalid k bytes refusal
-Judges k bytes None = IsValid k bytes
 
 -- the text begins with the line of the refusal, or says that the file is valid
 abbrev pub ExplainsBytes : List ℕ → List ℕ → Type 0

@@ -10,7 +10,6 @@ use Rattle.ssim_base.specs.Export.{Frame, chapter7, line}
 use Rattle.ssim_base.specs.ReadBack.{HasFrame}
 use Rattle.ssim_base.specs.Reading.{IsWholeOf}
 use Rattle.ssim_base.specs.Stations.{NamesLine, Row, SpellsTable}
-use Rattle.ssim_base.specs.Summary.{IsSummary}
 use Rattle.ssim_base.specs.Timetable.{Days, days_of}
 use Rattle.ssim_base.specs.declared.fault.BaseFault.{BaseFault}
 use Rattle.ssim_base.specs.declared.fault.BaseFault.TheVariants as base
@@ -21,12 +20,12 @@ use Rattle.ssim_base.specs.declared.stations.StationFault.{StationFault}
 use Rattle.ssim_text.specs.Left.{lines_left}
 use Rattle.ssim_program.specs.Files.{Files, IsOpened, file_of}
 use Rattle.ssim_command_line.specs.Line.{Text}
-use Rattle.ssim_program.specs.Printed.{printed_text}
-use Rattle.ssim_program.specs.Refusal.{IsOfFile, refusal_of_base, refusal_of_stations}
+use Rattle.ssim_program.specs.print.Printed.{printed_text}
+use Rattle.ssim_program.specs.print.Refusal.{IsOfFile, refusal_of_base, refusal_of_stations}
 use Rattle.ssim_program.specs.declared.refusal.Refusal.{Refusal}
 use Rattle.ssim_program.specs.declared.refusal.Refusal.TheVariants as refused
-use Rattle.ssim_program.specs.declared.printed.Printed.{Printed}
-use Rattle.ssim_program.specs.declared.printed.Printed.TheVariants as printed
+use Rattle.ssim_program.specs.declared.print.printed.Printed.{Printed}
+use Rattle.ssim_program.specs.declared.print.printed.Printed.TheVariants as printed
 
 -- ---- from a base
 
@@ -50,11 +49,13 @@ note_line n = line (printed_text (as_printed n))
 
 -- a line for each note, in order, and the summary: records other than fill, distinct flights, notes
 abbrev pub summary_lines : ℕ → ℕ → List Note → List ℕ
-summary_lines records flights notes = flat_map note_line notes ++ line (printed_text (printed.Summary records flights (length notes)))
+summary_lines records flights notes =
+    flat_map note_line notes ++ line (printed_text (printed.Summary records flights (length notes)))
 
 -- the bytes are the lines of notes and summary of these records
 abbrev pub AreLinesOn : List Record → List Note → List ℕ → Type 0
-AreLinesOn base notes bytes = (flights : List FlightNumber) × AreFlights base flights × (bytes ≡ summary_lines (length base) (length flights) notes)
+AreLinesOn base notes bytes = (flights : List FlightNumber) × AreFlights base flights
+    × (bytes ≡ summary_lines (length base) (length flights) notes)
 
 -- ---- from a file
 
@@ -70,11 +71,8 @@ HasFile files name bytes = (length bytes ≤ file_limit) × IfSome files (λ all
 -- The data set in the file of this name is within the limit, and is read as this. If the contract
 -- cannot see the files, some data set is.
 abbrev pub ReadsFile : Option Files → Text → Outcome → Type 0
-ReadsFile files name outcome = (left : Option (List ℕ)) × IsOpened files name left × IsWholeOf file_limit left outcome
-
--- the data set in the file of this name has what the summary says
-abbrev pub SumsFile : Option Files → Text → Summary → Type 0
-SumsFile files name summary = (left : Option (List ℕ)) × IsOpened files name left × IsSummary file_limit left summary
+ReadsFile files name outcome =
+    (left : Option (List ℕ)) × IsOpened files name left × IsWholeOf file_limit left outcome
 
 -- the fault is of the bytes: neither that the reader failed (13), nor that more came than the limit
 -- (14)
@@ -95,7 +93,8 @@ RefusesLoad files name refusal = (refusal ≡ refused.Memory) ⊎ (IsOfFile name
 abbrev pub RefusesFile : Option Files → Text → Refusal → Type 0
 RefusesFile files name refusal =
     RefusesLoad files name refusal
-    ⊎ ((fault : BaseFault) × (refusal ≡ refusal_of_base fault) × IsOfBytes fault × ReadsFile files name (Err fault))
+    ⊎ ((fault : BaseFault) × (refusal ≡ refusal_of_base fault) × IsOfBytes fault
+    × ReadsFile files name (Err fault))
 
 -- the file of this name is a station table of these rows
 abbrev pub ReadsTable : Option Files → Text → List Row → Type 0
@@ -103,7 +102,8 @@ ReadsTable files name rows = (bytes : List ℕ) × HasFile files name bytes × S
 
 -- a base: the data set in one file, the station table in another
 abbrev pub ReadsBase : Option Files → Text → Text → BaseSeen → List Note → Type 0
-ReadsBase files dataset stations base notes = ReadsFile files dataset (Ok (base.records, notes)) × ReadsTable files stations base.rows
+ReadsBase files dataset stations base notes =
+    ReadsFile files dataset (Ok (base.records, notes)) × ReadsTable files stations base.rows
 
 -- Why no base is read from two files: the data set is not loaded; or the station table is not
 -- loaded; or its lines are refused; or the data set is refused.
@@ -114,4 +114,5 @@ RefusesBase files dataset stations refusal =
     ⊎ (((bytes : List ℕ) × HasFile files dataset bytes) × (table : List ℕ) × HasFile files stations table
     × (fault : StationFault) × (refusal ≡ refusal_of_stations fault) × NamesLine (lines_left table) fault)
     ⊎ (((rows : List Row) × ReadsTable files stations rows)
-    × (fault : BaseFault) × (refusal ≡ refusal_of_base fault) × IsOfBytes fault × ReadsFile files dataset (Err fault))
+    × (fault : BaseFault) × (refusal ≡ refusal_of_base fault) × IsOfBytes fault
+    × ReadsFile files dataset (Err fault))

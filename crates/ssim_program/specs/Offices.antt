@@ -19,7 +19,8 @@ use Rattle.ssim_program.specs.Made.{HasFile, file_limit}
 -- the command has made what it makes of the old files, and the new files are these with the file
 -- that it keeps
 abbrev pub IsMade : Line → Option Files → Option Files → Type 0
-IsMade line old new = (printed : List ℕ) × (kept : Kept) × Makes line old printed kept × (new ≡ with_kept kept old)
+IsMade line old new =
+    (printed : List ℕ) × (kept : Kept) × Makes line old printed kept × (new ≡ with_kept kept old)
 
 -- The command has made it, or the files are as they were. So a call of the program on the words of a
 -- command is an event of a history: `Done` or `Refused`.
@@ -50,7 +51,8 @@ files_of (Then history event files) = files
 abbrev pub Leaves : Event → Files → Files → Type 0
 Leaves (Done line) old new = IsMade line (Some old) (Some new)
 Leaves (Refused line) old new = new ≡ old
-Leaves (Copied from to) old new = (bytes : List ℕ) × (file_of old from ≡ Some bytes) × (new ≡ (to, bytes) ∷ old)
+Leaves (Copied from to) old new =
+    (bytes : List ℕ) × (file_of old from ≡ Some bytes) × (new ≡ (to, bytes) ∷ old)
 Leaves (Came name bytes) old new = new ≡ (name, bytes) ∷ old
 
 -- each event of the history leaves the files after it
@@ -72,7 +74,8 @@ pub data Origin : Type 0 where
 
 -- where the file of this name comes from
 abbrev pub origin_of : Event → Text → Origin
-origin_of (Done (Start dataset stations out)) name = if bytes_eq out name then Started dataset stations else Was name
+origin_of (Done (Start dataset stations out)) name =
+    if bytes_eq out name then Started dataset stations else Was name
 origin_of (Done (Take desk out texts)) name = if bytes_eq out name then Took desk texts else Was name
 origin_of (Done (Merge mine theirs out)) name = if bytes_eq out name then Merged mine theirs else Was name
 origin_of (Copied from to) name = if bytes_eq to name then Was from else Was name
@@ -91,11 +94,13 @@ IsIn bytes reference message =
 abbrev pub IsSaid : Files → BaseSeen → List Text → Reference → MessageValue → Type 0
 IsSaid files base [] reference message = ⊥
 IsSaid files base (name ∷ names) reference message =
-    ((text : List ℕ) × HasFile (Some files) name text × Says base text reference message) ⊎ IsSaid files base names reference message
+    ((text : List ℕ) × HasFile (Some files) name text × Says base text reference message)
+    ⊎ IsSaid files base names reference message
 
 -- one of the texts says the message to the desk in the file of this name
 abbrev pub IsSaidTo : Files → Text → List Text → Reference → MessageValue → Type 0
-IsSaidTo files name texts reference message = (desk : DeskSeen) × ReadsDesk (Some files) name desk × IsSaid files desk.base texts reference message
+IsSaidTo files name texts reference message =
+    (desk : DeskSeen) × ReadsDesk (Some files) name desk × IsSaid files desk.base texts reference message
 
 -- which messages, each under its reference, were brought to the files of which names
 abbrev pub Bringing : Type 1
@@ -107,23 +112,28 @@ Bringing = Text → Reference → MessageValue → Type 0
 abbrev pub BroughtBy : Origin → Files → Bringing → Reference → MessageValue → Type 0
 BroughtBy (Was name) files before reference message = before name reference message
 BroughtBy (Started dataset stations) files before reference message = ⊥
-BroughtBy (Took desk texts) files before reference message = before desk reference message ⊎ IsSaidTo files desk texts reference message
-BroughtBy (Merged mine theirs) files before reference message = before mine reference message ⊎ before theirs reference message
+BroughtBy (Took desk texts) files before reference message =
+    before desk reference message ⊎ IsSaidTo files desk texts reference message
+BroughtBy (Merged mine theirs) files before reference message =
+    before mine reference message ⊎ before theirs reference message
 BroughtBy (Given bytes) files before reference message = IsIn bytes reference message
 
 -- The message was brought to the file of this name: by a text that a `take` took, by a desk file to
 -- which it had been brought, or in a desk file that came from elsewhere or was there at the
 -- beginning.
 abbrev pub Brought : History → Bringing
-Brought (Began files) name reference message = (bytes : List ℕ) × (file_of files name ≡ Some bytes) × IsIn bytes reference message
-Brought (Then history event files) name reference message = BroughtBy (origin_of event name) (files_of history) (Brought history) reference message
+Brought (Began files) name reference message =
+    (bytes : List ℕ) × (file_of files name ≡ Some bytes) × IsIn bytes reference message
+Brought (Then history event files) name reference message =
+    BroughtBy (origin_of event name) (files_of history) (Brought history) reference message
 
 -- ---- where a desk began
 
 -- the desk began by `start` from these bytes of a data set and of a station table
 abbrev pub BeganBy : Origin → Files → (Text → List ℕ → List ℕ → Type 0) → List ℕ → List ℕ → Type 0
 BeganBy (Was name) files before dataset stations = before name dataset stations
-BeganBy (Started data_file table_file) files before dataset stations = (file_of files data_file ≡ Some dataset) × (file_of files table_file ≡ Some stations)
+BeganBy (Started data_file table_file) files before dataset stations =
+    (file_of files data_file ≡ Some dataset) × (file_of files table_file ≡ Some stations)
 BeganBy (Took desk texts) files before dataset stations = before desk dataset stations
 BeganBy (Merged mine theirs) files before dataset stations = before mine dataset stations
 BeganBy (Given bytes) files before dataset stations = ⊥
@@ -131,15 +141,18 @@ BeganBy (Given bytes) files before dataset stations = ⊥
 -- the desk in the file of this name began so
 abbrev pub BeganFrom : History → Text → List ℕ → List ℕ → Type 0
 BeganFrom (Began files) name dataset stations = ⊥
-BeganFrom (Then history event files) name dataset stations = BeganBy (origin_of event name) (files_of history) (BeganFrom history) dataset stations
+BeganFrom (Then history event files) name dataset stations =
+    BeganBy (origin_of event name) (files_of history) (BeganFrom history) dataset stations
 
 -- ---- the laws
 
 -- A desk file that can be read holds the messages that were brought to it, and no others.
 abbrev pub HoldsWhatWasBrought : Type 0
 HoldsWhatWasBrought =
-    (history : History) (name : Text) (desk : DeskSeen) → Happened history → ReadsDesk (Some (files_of history)) name desk
-    → (reference : Reference) (message : MessageValue) → Holds (state_of desk) reference message ↔ Brought history name reference message
+    (history : History) (name : Text) (desk : DeskSeen) → Happened history
+    → ReadsDesk (Some (files_of history)) name desk
+    → (reference : Reference) (message : MessageValue)
+    → Holds (state_of desk) reference message ↔ Brought history name reference message
 
 -- two desks began from the same bytes, and the same messages were brought to both
 pub record BroughtTheSame (one other : History) (name another : Text) : Type 0 where
@@ -147,22 +160,27 @@ pub record BroughtTheSame (one other : History) (name another : Text) : Type 0 w
   pub stations : List ℕ
   pub began_one : BeganFrom one name dataset stations
   pub began_other : BeganFrom other another dataset stations
-  pub same : (reference : Reference) (message : MessageValue) → Brought one name reference message ↔ Brought other another reference message
+  pub same : (reference : Reference) (message : MessageValue)
+      → Brought one name reference message ↔ Brought other another reference message
 
 -- the files of two names have the same bytes
 abbrev pub IsSameFile : Files → Text → Files → Text → Type 0
-IsSameFile files name others another = (bytes : List ℕ) × (file_of files name ≡ Some bytes) × (file_of others another ≡ Some bytes)
+IsSameFile files name others another =
+    (bytes : List ℕ) × (file_of files name ≡ Some bytes) × (file_of others another ≡ Some bytes)
 
 -- Two offices have the same desk file, byte for byte, if their desks began by `start` from the same
 -- data set and station table and the same messages were brought to both: whatever commands each
 -- office typed, in whatever order, and however often.
 abbrev pub OfficesAgree : Type 0
 OfficesAgree =
-    (one other : History) (name another : Text) → Happened one → Happened other → BroughtTheSame one other name another
+    (one other : History) (name another : Text) → Happened one → Happened other
+    → BroughtTheSame one other name another
     → IsSameFile (files_of one) name (files_of other) another
 
 -- of equal files the command prints equal bytes
 abbrev pub PrintsTheSame : (Text → Line) → Type 0
 PrintsTheSame command =
-    (files others : Files) (name another : Text) (printed again : List ℕ) (kept none : Kept) → IsSameFile files name others another
-    → Makes (command name) (Some files) printed kept → Makes (command another) (Some others) again none → printed ≡ again
+    (files others : Files) (name another : Text) (printed again : List ℕ) (kept none : Kept)
+    → IsSameFile files name others another
+    → Makes (command name) (Some files) printed kept → Makes (command another) (Some others) again none
+    → printed ≡ again

@@ -1,12 +1,12 @@
 -- What a command does to the world: to the store, and to the printer that it prints on.
-use Rattle.std.specs.Prelude.{Vec, ◌≡◌, ◌⊎◌, ℕ, true, List, [], ⊤, Option, Some, Result, Ok, Err}
+use Rattle.std.specs.Prelude.{◌≡◌, ◌⊎◌, ℕ, true, List, [], Option, Some}
 use Rattle.ssim_program.specs.Again.{PrintsItself}
 use Rattle.ssim_program.specs.Desks.{RefusesKeep}
 use Rattle.ssim_program.specs.Effects.{Begins, Makes}
 use Rattle.ssim_program.specs.Files.{Files, Kept, with_kept}
-use Rattle.ssim_command_line.specs.Line.{Line, Text, Tidy, Take, Export}
-use Rattle.ssim_program.specs.Paper.{Breaks, Grows, Paper}
-use Rattle.ssim_program.specs.Reasons.{PrintsRefusal, Refuses}
+use Rattle.ssim_command_line.specs.Line.{Line, Text, Take}
+use Rattle.ssim_program.specs.print.Paper.{Breaks, Grows, Paper}
+use Rattle.ssim_program.specs.print.Reasons.{PrintsRefusal, Refuses}
 use Rattle.ssim_program.specs.declared.refusal.Refusal.{Refusal}
 use Rattle.ssim_program.specs.declared.refusal.Refusal.TheVariants as refused
 
@@ -40,7 +40,8 @@ IsPrintedBefore (Take file out names) made printed = printed ≡ made
 IsPrintedBefore line made printed = printed ≡ []
 
 -- a command has made all that it makes, but the store has not kept its file
-pub record IsNotKept (line : Line) (files : Option Files) (failures failures' : ℕ) (printed : List ℕ) (refusal : Refusal) : Type 0 where
+pub record IsNotKept (line : Line) (files : Option Files) (failures failures' : ℕ) (printed : List ℕ)
+    (refusal : Refusal) : Type 0 where
   pub made : List ℕ
   pub name : Text
   pub bytes : List ℕ
@@ -52,7 +53,8 @@ pub record IsNotKept (line : Line) (files : Option Files) (failures failures' : 
 -- what it makes of it, and the store counted no failure; or its file was not kept.
 abbrev pub Stops : Line → Option Files → ℕ → ℕ → List ℕ → Refusal → Type 0
 Stops line files failures failures' printed refusal =
-    (Refuses line files printed refusal × (failures' ≡ failures)) ⊎ IsNotKept line files failures failures' printed refusal
+    (Refuses line files printed refusal × (failures' ≡ failures))
+    ⊎ IsNotKept line files failures failures' printed refusal
 
 -- A command stops for a reason. No file changed, and `out` has taken only what the command printed
 -- before, which is nothing but for `take`.
@@ -77,37 +79,12 @@ pub record IsCutOff (line : Line) (before after : World) (refusal : Refusal) : T
 abbrev pub IsRefused : Line → World → World → Refusal → Type 0
 IsRefused line before after refusal = IsStopped line before after refusal ⊎ IsCutOff line before after refusal
 
--- a command is done, or refused
-abbrev pub Does : Line → World → World → Result (Unit {0}) Refusal → Type 0
-Does line before after (Ok x) = IsDone line before after
-Does line before after (Err refusal) = IsRefused line before after refusal
-
 -- a command was refused, and `err` has taken the line of the refusal
 abbrev pub EndsWithLine : Line → World → World → Paper → Paper → Type 0
-EndsWithLine line before after err err' = (refusal : Refusal) × IsRefused line before after refusal × PrintsRefusal refusal err err'
-
--- the status is 0 if a command is done, and `err` is as it was; it is 1 if the command is refused
-abbrev pub Obeys : Line → World → World → Paper → Paper → ℕ → Type 0
-Obeys line before after err err' status =
-    ((status ≡ 0) × IsDone line before after × (err' ≡ err))
-    ⊎ ((status ≡ 1) × EndsWithLine line before after err err')
+EndsWithLine line before after err err' =
+    (refusal : Refusal) × IsRefused line before after refusal × PrintsRefusal refusal err err'
 
 -- What a writer of std holds, as a printer, with the number of its calls that failed. It was
 -- flushed last, and nothing is said of the writer.
 abbrev pub paper : Option (List ℕ) → ℕ → Paper
 paper contents failures = record { taken = contents; failures = failures; flushed = true; device = 0 }
-
--- ---- within the crate
-
--- the commands that print all at once, after they have made it and kept their file
-abbrev pub PrintsAtOnce : Line → Type 0
-PrintsAtOnce (Tidy name) = ⊥
-PrintsAtOnce (Export file) = ⊥
-PrintsAtOnce (Take file out names) = ⊥
-PrintsAtOnce _ = ⊤
-
--- A command that prints all at once makes its lines and keeps its file, or it stops and no file
--- changes. The files and the failures of the store are those before and those after.
-abbrev pub Prepares : {A : Type 0} → Line → Option Files → ℕ → Option Files → ℕ → Result (Vec ℕ A) Refusal → Type 0
-Prepares line old failures new failures' (Ok text) = (kept : Kept) × Makes line old text.items kept × (new ≡ with_kept kept old) × (failures' ≡ failures)
-Prepares line old failures new failures' (Err refusal) = Stops line old failures failures' [] refusal × (new ≡ old)

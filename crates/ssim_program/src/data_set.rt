@@ -8,8 +8,9 @@ ghost use Rattle.ssim_base.specs.Reading.{IsReadAs};
 ghost use Rattle.ssim_base.specs.declared.fault.BaseFault.TheVariants as base_fault;
 ghost use Rattle.ssim_base.specs.declared.note.Note.{Note};
 ghost use Rattle.ssim_program.specs.Files.{IsOpened};
-ghost use Rattle.ssim_program.specs.Made.{HasFile, IsOfBytes, ReadsBase, ReadsFile, RefusesBase, RefusesFile, RefusesLoad, SumsFile, file_limit};
-ghost use Rattle.ssim_program.specs.Unread.{IsUnread};
+ghost use Rattle.ssim_program.specs.Made.{HasFile, IsOfBytes, ReadsBase, ReadsFile, RefusesBase};
+ghost use Rattle.ssim_program.specs.Made.{RefusesFile, RefusesLoad, file_limit};
+ghost use Rattle.ssim_program.specs.internal.DataSet.{SumsFile, IsUnread};
 
 use crate::refusal::Refusal;
 use crate::store::{Store, StoreFault};
@@ -60,7 +61,8 @@ pub(crate) fn load_parts<S: Store>(
 
 /// Opens the file of this name. Returns 91 if there is no such file.
 fn open_file<S: Store>(alloc: Global, name: &str, store: &mut S) -> Result<S::File, Refusal>
-    ensures opened { IfOk result (λ file. IsOpened (S.files store.old) name.now (S.File.left file)) }
+    ensures opened { IfOk result
+        (λ file. IsOpened (S.files store.old) name.now (S.File.left file)) }
     ensures refused { IfErr result (RefusesLoad (S.files store.old) name.now) }
     ensures same { S.files store.new ≡ S.files store.old }
     ensures counted { S.failures store.new ≡ S.failures store.old }
@@ -92,9 +94,12 @@ fn read_file<S: Store>(
     name: &str,
     store: &mut S,
 ) -> Result<Result<DataSet, BaseFault>, Refusal>
-    ensures read { IfOk result (λ read. IfOk read (λ set. (notes : List Note) × ReadsFile (S.files store.old) name.now (Ok (set, notes)))) }
-    ensures fault { IfOk result (λ read. IfErr read (λ e. IsOfBytes e × ReadsFile (S.files store.old) name.now (Err e))) }
-    ensures within { IfOk result (λ _. (bytes : List ℕ) × HasFile (S.files store.old) name.now bytes) }
+    ensures read { IfOk result (λ read. IfOk read
+        (λ set. (notes : List Note) × ReadsFile (S.files store.old) name.now (Ok (set, notes)))) }
+    ensures fault { IfOk result
+        (λ read. IfErr read (λ e. IsOfBytes e × ReadsFile (S.files store.old) name.now (Err e))) }
+    ensures within { IfOk result
+        (λ _. (bytes : List ℕ) × HasFile (S.files store.old) name.now bytes) }
     ensures refused { IfErr result (RefusesLoad (S.files store.old) name.now) }
     ensures same { S.files store.new ≡ S.files store.old }
     ensures counted { S.failures store.new ≡ S.failures store.old }
@@ -117,7 +122,8 @@ fn sum_file<S: Store>(
     store: &mut S,
 ) -> Result<Result<Summary, BaseFault>, Refusal>
     ensures sums { IfOk result (λ read. IfOk read (SumsFile (S.files store.old) name.now)) }
-    ensures fault { IfOk result (λ read. IfErr read (λ e. IsOfBytes e × ReadsFile (S.files store.old) name.now (Err e))) }
+    ensures fault { IfOk result
+        (λ read. IfErr read (λ e. IsOfBytes e × ReadsFile (S.files store.old) name.now (Err e))) }
     ensures refused { IfErr result (RefusesLoad (S.files store.old) name.now) }
     ensures same { S.files store.new ≡ S.files store.old }
     ensures counted { S.failures store.new ≡ S.failures store.old }
@@ -134,7 +140,8 @@ fn sum_file<S: Store>(
 
 /// Reads the data set in the file of this name, to be exported.
 pub(crate) fn load<S: Store>(alloc: Global, name: &str, store: &mut S) -> Result<DataSet, Refusal>
-    ensures read { IfOk result (λ read. (notes : List Note) × ReadsFile (S.files store.old) name.now (Ok (read, notes))) }
+    ensures read { IfOk result
+        (λ read. (notes : List Note) × ReadsFile (S.files store.old) name.now (Ok (read, notes))) }
     ensures refused { IfErr result (RefusesFile (S.files store.old) name.now) }
     ensures same { S.files store.new ≡ S.files store.old }
     ensures counted { S.failures store.new ≡ S.failures store.old }
@@ -167,8 +174,10 @@ pub(crate) fn load_summary<S: Store>(
 /// Reads what the bytes of a data set have.
 pub(crate) fn sum_bytes(alloc: Global, bytes: &[u8]) -> Result<Summary, BaseFault>
     requires { length bytes.now ≤ file_limit }
-    ensures valid { IfOk result (λ summary. (base : List Record) × (notes : List Note) × IsReadAs file_limit bytes.now (Ok (base, notes))) }
-    ensures invalid { IfErr result (λ e. (e ≡ base_fault.Memory) ⊎ (IsOfBytes e × IsReadAs file_limit bytes.now (Err e))) }
+    ensures valid { IfOk result (λ summary. (base : List Record) × (notes : List Note)
+        × IsReadAs file_limit bytes.now (Ok (base, notes))) }
+    ensures invalid { IfErr result
+        (λ e. (e ≡ base_fault.Memory) ⊎ (IsOfBytes e × IsReadAs file_limit bytes.now (Err e))) }
 {
     let mut left = bytes;
     Summary::read(alloc, &mut left, LIMIT)
@@ -182,7 +191,8 @@ pub(crate) fn load_base<S: Store>(
     stations: &str,
     store: &mut S,
 ) -> Result<(DataSet, Stations), Refusal>
-    ensures read { IfOk result (λ read. (notes : List Note) × ReadsBase (S.files store.old) dataset.now stations.now (base_with read.0 read.1) notes) }
+    ensures read { IfOk result (λ read. (notes : List Note)
+        × ReadsBase (S.files store.old) dataset.now stations.now (base_with read.0 read.1) notes) }
     ensures refused { IfErr result (RefusesBase (S.files store.old) dataset.now stations.now) }
     ensures same { S.files store.new ≡ S.files store.old }
     ensures counted { S.failures store.new ≡ S.failures store.old }

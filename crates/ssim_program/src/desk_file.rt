@@ -36,10 +36,12 @@ pub(crate) fn keep<S: Store>(
     name: &str,
     store: &mut S,
 ) -> Result<(), Refusal>
-    ensures kept { OnOk result (S.files store.new ≡ with_kept (Some (name.now, desk_file holdings.now.base holdings.now.held)) (S.files store.old)) }
+    ensures kept { OnOk result (S.files store.new ≡ with_kept
+        (Some (name.now, desk_file holdings.now.base holdings.now.held)) (S.files store.old)) }
     ensures same { OnErr result (S.files store.new ≡ S.files store.old) }
     ensures counted { OnOk result (S.failures store.new ≡ S.failures store.old) }
-    ensures why { IfErr result (RefusesKeep (S.failures store.old) (S.failures store.new) name.now) }
+    ensures why { IfErr result
+        (RefusesKeep (S.failures store.old) (S.failures store.new) name.now) }
 {
     match store.keep(name, holdings) {
         Ok(()) => Ok(()),

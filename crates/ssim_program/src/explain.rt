@@ -7,7 +7,7 @@ ghost use Rattle.ssim_values.specs.Characters.{two_digits_of};
 ghost use Rattle.ssim_program.specs.Explained.{BeginsWith, ExplainsFile, ExplainsNumber, number_in};
 ghost use Rattle.ssim_command_line.specs.Line.{Explain};
 ghost use Rattle.ssim_program.specs.Made.{RefusesLoad};
-ghost use Rattle.ssim_program.specs.World.{Prepares};
+ghost use Rattle.ssim_program.specs.internal.Program.{Prepares, stored};
 
 mod example;
 mod file;
@@ -30,7 +30,8 @@ pub(crate) fn explain<S: Store>(
     store: &mut S,
 ) -> Result<Vec<u8>, Refusal>
     ensures { Prepares (Explain word.now)
-        (S.files store.old) (S.failures store.old) (S.files store.new) (S.failures store.new) result }
+        (stored (S.files store.old) (S.failures store.old))
+        (stored (S.files store.new) (S.failures store.new)) result }
 {
     match number_in(word.as_bytes()) {
         Some(number) => Ok(on_number(alloc, number)?),
@@ -92,7 +93,8 @@ fn on_refusal(alloc: Global, refusal: &Refusal, place: &[u8]) -> Result<Vec<u8>,
 }
 
 fn no_refusal(alloc: Global, number: u8) -> Result<Vec<u8>, Memory>
-    ensures { IfOk result (λ text. text.items ≡ line (codes "no refusal has the number " ++ decimal number)) }
+    ensures { IfOk result
+        (λ text. text.items ≡ line (codes "no refusal has the number " ++ decimal number)) }
 {
     let mut text = Vec::new(alloc);
     match writeln!(text, "no refusal has the number {number}") {

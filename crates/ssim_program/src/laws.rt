@@ -3,7 +3,10 @@
 ghost use Rattle.ssim_command_line.specs.Line.{Export, Findings, Show, Text};
 ghost use Rattle.ssim_program.specs.Again.{TidiesOnce};
 ghost use Rattle.ssim_program.specs.Offices.{HoldsWhatWasBrought, OfficesAgree, PrintsTheSame};
-ghost use Rattle.ssim_program.specs.Verdict.{EndsWithSame};
+ghost use Rattle.ssim_program.specs.rehearse.Verdict.{EndsWithSame};
+// The worked examples, which are computed: a false one is an error in this file.
+ghost use Rattle.ssim_program.specs.examples.Histories;
+ghost use Rattle.ssim_program.specs.examples.Scripts;
 
 use ssim_base::laws::{same_bytes_same_base, same_bytes_same_rows, written_bases_are_read};
 use ssim_desk::laws::{any_two_desks_agree, no_two_desks_have_one_file};

@@ -18,32 +18,22 @@
 //! and what is wrong with the words to `err`.
 #![tactic(auto)]
 
-mod check;
+mod command;
 mod content;
 mod data_set;
 mod desk_file;
 mod explain;
-mod export;
-mod findings;
 pub mod laws;
-mod merge;
-mod name;
-mod printed;
-mod printer;
+mod print;
 mod program;
 mod refusal;
-mod refusal_line;
 mod rehearse;
-mod show;
-mod start;
 mod store;
-mod take;
-mod tidy;
 mod word;
 
 pub use content::Content;
-pub use printed::Printed;
-pub use printer::Printer;
+pub use print::printed::Printed;
+pub use print::printer::Printer;
 pub use program::{run, run_on};
 pub use refusal::Refusal;
 pub use ssim_command_line::{LineFault, Request, parse};

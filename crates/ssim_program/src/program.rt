@@ -1,32 +1,33 @@
 //! The program, from its words to its status.
 
-ghost use Rattle.std.specs.Prelude.{◌≡◌, ◌≤◌, ◌⊎◌, ℕ, Option, true, false, map};
+ghost use Rattle.std.specs.Prelude.{◌≡◌, ◌≤◌, ◌⊎◌, ℕ, true, false, map};
 ghost use Rattle.std.specs.Io.KnownBytes.{Keeps};
-ghost use Rattle.ssim_program.specs.Files.{Files};
-ghost use Rattle.ssim_program.specs.Help.{Answers, PrintsHelp, RefusesHelp, SaysHelp, SaysWrong};
+ghost use Rattle.ssim_program.specs.Help.{PrintsHelp, RefusesHelp, SaysWrong};
+ghost use Rattle.ssim_program.specs.internal.Program.{EndsWithoutRequest, SaysHelp, Does, Obeys};
+ghost use Rattle.ssim_program.specs.internal.Program.{Prepares, PrintsAtOnce, printing};
 ghost use Rattle.ssim_command_line.specs.Line.{Line, Spells};
 ghost use Rattle.ssim_program.specs.Offices.{Did};
-ghost use Rattle.ssim_program.specs.Reasons.{PrintsRefusal};
+ghost use Rattle.ssim_program.specs.print.Reasons.{PrintsRefusal};
 ghost use Rattle.ssim_command_line.specs.Request.{line_of};
 ghost use Rattle.ssim_command_line.specs.Usage.{HasFault, IsCommand, IsNoCommand, Names, is_help};
-ghost use Rattle.ssim_program.specs.World.{Does, EndsWithLine, IsDone, Obeys, Prepares, PrintsAtOnce, paper, world};
+ghost use Rattle.ssim_program.specs.World.{EndsWithLine, IsDone, World, paper, world};
 ghost use Rattle.ssim_program.specs.declared.refusal.Refusal.TheVariants as refused;
 ghost use Rattle.clap.specs.Words.{kind_of};
 
-use crate::check::check;
+use crate::command::check::check;
+use crate::command::export::export;
+use crate::command::findings::findings;
+use crate::command::merge::merge;
+use crate::command::show::show_flight;
+use crate::command::start::start;
+use crate::command::take::take;
+use crate::command::tidy::tidy;
 use crate::explain::explain;
-use crate::export::export;
-use crate::findings::findings;
-use crate::merge::merge;
-use crate::printer::{Printer, print_all, print_line};
+use crate::print::printer::{Printer, print_all, print_line};
+use crate::print::refusal_line::print_refusal;
 use crate::refusal::Refusal;
-use crate::refusal_line::print_refusal;
 use crate::rehearse::rehearse;
-use crate::show::show_flight;
-use crate::start::start;
 use crate::store::Store;
-use crate::take::take;
-use crate::tidy::tidy;
 use ssim_command_line::{LineFault, Request, parse};
 use std::alloc::Global;
 use std::io::Write;
@@ -57,7 +58,8 @@ pub fn run<S: Store, O: Write, E: Write>(
     // A command that was done printed exactly what it makes of the files, and kept exactly its
     // file; the store counted no failure. `err` holds the same bytes.
     ensures done { (line : Line) → Names (map (λ w. w.now) words.now) line → result ≡ 0
-        → IsDone line (world (S.files store.old) (S.failures store.old) (paper (O.contents out.old) 0))
+        → IsDone line
+        (world (S.files store.old) (S.failures store.old) (paper (O.contents out.old) 0))
         (world (S.files store.new) (S.failures store.new) (paper (O.contents out.new) 0))
         × Keeps (E.contents err.old) (E.contents err.new) }
 
@@ -66,7 +68,8 @@ pub fn run<S: Store, O: Write, E: Write>(
     // `err` failed.
     ensures ends { (line : Line) → Names (map (λ w. w.now) words.now) line → result ≡ 1
         → (failed : ℕ) × (err_failed : ℕ)
-        × EndsWithLine line (world (S.files store.old) (S.failures store.old) (paper (O.contents out.old) 0))
+        × EndsWithLine line
+        (world (S.files store.old) (S.failures store.old) (paper (O.contents out.old) 0))
         (world (S.files store.new) (S.failures store.new) (paper (O.contents out.new) failed))
         (paper (E.contents err.old) 0) (paper (E.contents err.new) err_failed) }
 
@@ -86,7 +89,8 @@ pub fn run<S: Store, O: Write, E: Write>(
     ensures usage { result ≡ 2 → (err_failed : ℕ)
         × SaysWrong (paper (O.contents out.old) 0) (paper (O.contents out.new) 0)
         (paper (E.contents err.old) 0) (paper (E.contents err.new) err_failed) }
-    ensures files { (S.files store.new ≡ S.files store.old) ⊎ IsCommand (map (λ w. w.now) words.now) }
+    ensures files { (S.files store.new ≡ S.files store.old)
+        ⊎ IsCommand (map (λ w. w.now) words.now) }
 {
     let mut printed = Printer::new(out);
     let mut reasons = Printer::new(err);
@@ -163,14 +167,15 @@ pub fn run_on<S: Store, O: Write, E: Write>(
     ensures no_help { result ≡ 1 → IsCommand (map (λ w. w.now) words.now)
         ⊎ RefusesHelp out.old out.new err.old err.new }
     ensures usage { result ≡ 2 → SaysWrong out.old out.new err.old err.new }
-    ensures files { (S.files store.new ≡ S.files store.old) ⊎ IsCommand (map (λ w. w.now) words.now) }
+    ensures files { (S.files store.new ≡ S.files store.old)
+        ⊎ IsCommand (map (λ w. w.now) words.now) }
 
     // Both printers still write to the same writers.
     ensures devices { (out.new.device ≡ out.old.device) × (err.new.device ≡ err.old.device) }
 {
     match parse(alloc, words) {
         Ok(request) => obey(alloc, &request, store, out, err),
-        Err(fault) => answer(alloc, &fault, out, err),
+        Err(fault) => without_request(alloc, &fault, out, err),
     }
 }
 
@@ -223,9 +228,9 @@ fn act<S: Store, O: Write>(
 
 /// Prints what a command has made, if it was not refused.
 fn print<O: Write>(made: Result<Vec<u8>, Refusal>, out: &mut Printer<'_, O>) -> Result<(), Refusal>
-    ensures { (line : Line) (old : Option Files) (failed : ℕ) (new : Option Files) (failures : ℕ)
-        → PrintsAtOnce line → Prepares line old failed new failures made
-        → Does line (world old failed out.old) (world new failures out.new) result }
+    ensures { (line : Line) (before after : World) → PrintsAtOnce line
+        → Prepares line before after made
+        → Does line (printing before out.old) (printing after out.new) result }
 {
     match made {
         Ok(text) => print_all(out, &text),
@@ -243,13 +248,13 @@ fn refuse<P: Write>(refusal: &Refusal, err: &mut Printer<'_, P>) -> u8
 }
 
 /// Prints help on `out`, with status 0, or what is wrong with the words on `err`, with 2.
-fn answer<O: Write, E: Write>(
+fn without_request<O: Write, E: Write>(
     alloc: Global,
     fault: &LineFault,
     out: &mut Printer<'_, O>,
     err: &mut Printer<'_, E>,
 ) -> u8
-    ensures { Answers fault.now out.old out.new err.old err.new result }
+    ensures { EndsWithoutRequest fault.now out.old out.new err.old err.new result }
 {
     match fault {
         LineFault::Memory => refuse(&Refusal::Memory, err),
@@ -268,8 +273,10 @@ fn show<O: Write, E: Write>(
     out: &mut Printer<'_, O>,
     err: &mut Printer<'_, E>,
 ) -> u8
-    ensures help { is_help (kind_of error.now) ≡ true → SaysHelp out.old out.new err.old err.new result }
-    ensures wrong { is_help (kind_of error.now) ≡ false → (result ≡ 2) × SaysWrong out.old out.new err.old err.new }
+    ensures help { is_help (kind_of error.now) ≡ true
+        → SaysHelp out.old out.new err.old err.new result }
+    ensures wrong { is_help (kind_of error.now) ≡ false
+        → (result ≡ 2) × SaysWrong out.old out.new err.old err.new }
 {
     let mut text = Vec::new(alloc);
     let shown = write!(text, "{error}");

@@ -1,13 +1,15 @@
 //! Why a command was refused, as it is printed.
 ghost use Rattle.std.specs.Prelude.{◌≡◌, IfOk, Some, option_map};
 ghost use Rattle.ssim_base.specs.Export.{line};
-ghost use Rattle.ssim_program.specs.Refusal.{IsOfFile, refusal_file, refusal_name, refusal_number};
-ghost use Rattle.ssim_program.specs.Refusal.{refusal_of_base, refusal_of_desk, refusal_of_export};
-ghost use Rattle.ssim_program.specs.Refusal.{refusal_of_stations, refusal_of_value};
-ghost use Rattle.ssim_program.specs.Refusal.{refusal_place, refusal_text};
+ghost use Rattle.ssim_program.specs.print.Refusal.{IsOfFile, refusal_file, refusal_name};
+ghost use Rattle.ssim_program.specs.print.Refusal.{refusal_number};
+ghost use Rattle.ssim_program.specs.print.Refusal.{refusal_of_base, refusal_of_desk};
+ghost use Rattle.ssim_program.specs.print.Refusal.{refusal_of_export};
+ghost use Rattle.ssim_program.specs.print.Refusal.{refusal_of_stations, refusal_of_value};
+ghost use Rattle.ssim_program.specs.print.Refusal.{refusal_place, refusal_text};
 
-use crate::name::printed_name;
-use crate::printed::line_of;
+use crate::print::name::printed_name;
+use crate::print::printed::line_of;
 use ssim_base::{BaseFault, Place, StationFault};
 use ssim_desk::DeskFault;
 use ssim_schedule::ExportFault;

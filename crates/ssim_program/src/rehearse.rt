@@ -8,7 +8,7 @@ pub(crate) mod script;
 mod texts;
 
 ghost use Rattle.ssim_command_line.specs.Line.{Rehearse};
-ghost use Rattle.ssim_program.specs.World.{Prepares};
+ghost use Rattle.ssim_program.specs.internal.Program.{Prepares, stored};
 
 use crate::data_set::load_base;
 use crate::refusal::Refusal;
@@ -35,7 +35,8 @@ pub(crate) fn rehearse<S: Store>(
     store: &mut S,
 ) -> Result<Vec<u8>, Refusal>
     ensures { Prepares (Rehearse dataset.now stations.now script.now)
-        (S.files store.old) (S.failures store.old) (S.files store.new) (S.failures store.new) result }
+        (stored (S.files store.old) (S.failures store.old))
+        (stored (S.files store.new) (S.failures store.new)) result }
 {
     let (data_set, stations) = load_base(alloc, dataset, stations, store)?;
     let (count, steps) = load_steps(alloc, script, store)?;

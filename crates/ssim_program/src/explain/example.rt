@@ -1,7 +1,7 @@
 //! An example of the refusals of each number.
 
 ghost use Rattle.std.specs.Prelude.{◌≡◌, IfOk, IfSome};
-ghost use Rattle.ssim_program.specs.Refusal.{refusal_number};
+ghost use Rattle.ssim_program.specs.print.Refusal.{refusal_number};
 
 use crate::refusal::Refusal;
 use ssim_base::{BaseFault, BaseRefusal, ResolveFault, StationFault};

@@ -1,7 +1,8 @@
 //! What is printed on a file: the refusal of its first invalid place, or that it is valid.
 
 ghost use Rattle.std.specs.Prelude.{◌≡◌, ◌≤◌, ◌++◌, ℕ, List, codes, length, IfOk};
-ghost use Rattle.ssim_program.specs.Explained.{BeginsWith, ExplainsBytes, Judges};
+ghost use Rattle.ssim_program.specs.Explained.{BeginsWith, ExplainsBytes};
+ghost use Rattle.ssim_program.specs.internal.Explain.{Judges};
 ghost use Rattle.ssim_program.specs.Made.{file_limit};
 ghost use Rattle.ssim_program.specs.declared.explain.file_kind.FileKind.TheVariants as kind;
 

@@ -1,7 +1,8 @@
 //! Which kind of file the bytes are, by their beginning.
 
 ghost use Rattle.std.specs.Prelude.{◌≡◌};
-ghost use Rattle.ssim_program.specs.Explained.{begins_data_set, begins_message, kind_of, kind_of_line, kind_of_text};
+ghost use Rattle.ssim_program.specs.Explained.{begins_data_set, begins_message, kind_of};
+ghost use Rattle.ssim_program.specs.Explained.{kind_of_line, kind_of_text};
 
 use crate::word::is_word;
 use ssim_text::{cut, first_word, without_end};

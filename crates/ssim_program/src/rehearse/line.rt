@@ -1,9 +1,9 @@
 //! The lines that a rehearsal prints.
 ghost use Rattle.std.specs.Prelude.{◌≡◌, IfOk, Some};
 ghost use Rattle.std.specs.List.{flat_map};
-ghost use Rattle.ssim_program.specs.Rehearsal.{printed_line, rehearsal_text};
+ghost use Rattle.ssim_program.specs.rehearse.Rehearsal.{printed_line, rehearsal_text};
 
-use crate::printed::add_line;
+use crate::print::printed::add_line;
 use crate::refusal::Refusal;
 use ssim_desk::DeskFault;
 use ssim_schedule::ExportFault;

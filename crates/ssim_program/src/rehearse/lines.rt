@@ -5,7 +5,10 @@ ghost use Rattle.ssim_text.specs.declared.reference.Reference.{Reference};
 ghost use Rattle.ssim_held.specs.Held.{Says};
 ghost use Rattle.ssim_held.specs.Entries.{state_of};
 ghost use Rattle.ssim_desk.specs.Steps.{IsInRange};
-ghost use Rattle.ssim_program.specs.Rehearsal.{AreStepLines, HasLine, HasMergeLine, HasTakeLine, HaveLines, IsMergeLine, IsStepLine, IsTakeLine, Rehearses, desk_of, fresh};
+ghost use Rattle.ssim_program.specs.rehearse.Rehearsal.{AreStepLines, IsMergeLine, IsStepLine};
+ghost use Rattle.ssim_program.specs.rehearse.Rehearsal.{IsTakeLine, Rehearses, fresh};
+ghost use Rattle.ssim_program.specs.internal.Rehearse.{HasLine, HasMergeLine, HasTakeLine};
+ghost use Rattle.ssim_program.specs.internal.Rehearse.{HaveLines, desk_of};
 
 use crate::rehearse::line::RehearsalLine;
 use crate::rehearse::outcome::ends_of;
@@ -18,8 +21,10 @@ use std::alloc::Global;
 
 /// The reference of the message that a text says to a desk. Only memory can be missing.
 fn reference_of(alloc: Global, desk: &Holdings, text: &[u8]) -> Result<Reference, Memory>
-    requires { (reference : Reference) × (message : MessageValue) × Says desk.now.base text.now reference message }
-    ensures { IfOk result (λ reference. (message : MessageValue) × Says desk.now.base text.now reference message) }
+    requires { (reference : Reference) × (message : MessageValue)
+        × Says desk.now.base text.now reference message }
+    ensures { IfOk result
+        (λ reference. (message : MessageValue) × Says desk.now.base text.now reference message) }
 {
     match decode(alloc, text) {
         Ok(message) => match desk.data_set().frame().resolve(&message) {

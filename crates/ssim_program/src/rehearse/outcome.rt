@@ -1,7 +1,11 @@
 //! The exports of desks, and whether they are equal.
-ghost use Rattle.std.specs.Prelude.{◌≡◌, ◌↔◌, ◌<◌, ◌+◌, ◌%◌, ◌^◌, ◌≤◌, ◌++◌, [], IfOk, IsTrue, OnErr, OnOk, length, map};
+ghost use Rattle.std.specs.Prelude.{◌≡◌, ◌↔◌, ◌<◌, ◌+◌, ◌%◌, ◌^◌, ◌≤◌, ◌++◌, [], IfOk, IsTrue};
+ghost use Rattle.std.specs.Prelude.{OnErr, OnOk, length, map};
 ghost use Rattle.ssim_held.specs.Entries.{state_of};
-ghost use Rattle.ssim_program.specs.Rehearsal.{AreEqualTo, AreExports, AreSame, HasEnds, IsOutcome, IsVerdict, desk_line, desk_lines, outcome_of, outcome_with};
+ghost use Rattle.ssim_program.specs.rehearse.Rehearsal.{AreEqualTo, AreExports, AreSame, HasEnds};
+ghost use Rattle.ssim_program.specs.rehearse.Rehearsal.{IsOutcome, IsVerdict, desk_line};
+ghost use Rattle.ssim_program.specs.rehearse.Rehearsal.{desk_lines};
+ghost use Rattle.ssim_program.specs.internal.Rehearse.{outcome_of, outcome_with};
 
 use crate::rehearse::line::RehearsalLine;
 use ssim_desk::{DeskFault, Holdings};
@@ -24,7 +28,8 @@ pub(crate) enum Outcome {
 /// bytes in the buffer.
 fn export_into(desk: &Holdings, out: &mut Bytes) -> Result<Option<ExportFault>, Memory>
     requires empty { out.now.bytes ≡ [] }
-    ensures ok { IfOk result (λ fault. IsOutcome (state_of desk.now) (outcome_with out.new.bytes fault)) }
+    ensures ok { IfOk result
+        (λ fault. IsOutcome (state_of desk.now) (outcome_with out.new.bytes fault)) }
     ensures err { OnErr result (out.new.failures ≡ (out.old.failures + 1) % 2 ^ 64) }
 {
     match desk.copy() {
@@ -53,7 +58,8 @@ fn export_of(alloc: Global, desk: &Holdings) -> Result<Outcome, Memory>
 
 /// The exports of desks, in their order.
 fn exports_of(alloc: Global, desks: &[Holdings]) -> Result<Vec<Outcome>, Memory>
-    ensures are { IfOk result (λ outcomes. AreExports (map state_of desks.now) (map outcome_of outcomes.items)) }
+    ensures are { IfOk result
+        (λ outcomes. AreExports (map state_of desks.now) (map outcome_of outcomes.items)) }
     ensures count { IfOk result (λ outcomes. length outcomes.items ≡ length desks.now) }
 {
     let mut outcomes = Vec::with_capacity(alloc, desks.len())?;
@@ -89,7 +95,8 @@ fn add_lines(
     outcomes: &[Outcome],
 ) -> Result<(), Memory>
     requires { number + length desks.now < 2 ^ 64 }
-    ensures { OnOk result (lines.new.items ≡ lines.old.items ++ desk_lines number (map state_of desks.now) (map outcome_of outcomes.now)) }
+    ensures { OnOk result (lines.new.items ≡ lines.old.items
+        ++ desk_lines number (map state_of desks.now) (map outcome_of outcomes.now)) }
 {
     // No effect at run time. The borrow checker learns from these uses which types a line contains.
     let _fault: Option<DeskFault> = None;

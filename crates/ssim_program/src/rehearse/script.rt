@@ -1,8 +1,10 @@
 //! Desk scripts: how many desks there are, and the steps that they try.
 
 ghost use Rattle.std.specs.Prelude.{◌≡◌, ◌<◌, ◌≤◌, All, IfErr, IfOk, IfSome, Some, map, option_map};
-ghost use Rattle.ssim_program.specs.Script.{IsOtherLine, IsStepOf, RefusesScript, SpellsScript, count_in, desk_in, merge_in, name_in, step_in, take_in};
-ghost use Rattle.ssim_program.specs.Rehearsal.{as_written, script_of};
+ghost use Rattle.ssim_program.specs.rehearse.Script.{RefusesScript, SpellsScript, count_in};
+ghost use Rattle.ssim_program.specs.rehearse.Script.{desk_in, merge_in, name_in, step_in, take_in};
+ghost use Rattle.ssim_program.specs.internal.Rehearse.{IsOtherLine, IsStepOf, as_written};
+ghost use Rattle.ssim_program.specs.internal.Rehearse.{script_of};
 
 use crate::refusal::Refusal;
 use crate::word::is_word;
@@ -124,8 +126,10 @@ fn read_steps<'s>(
     lines: &[Line<'s>],
 ) -> Result<Vec<Written<'s>>, Refusal>
     requires { count ≤ 9 }
-    ensures ok { IfOk result (λ steps. map (λ l. step_in count l.bytes.now) lines.now ≡ map (λ step. Some (as_written step)) steps.items) }
-    ensures below { IfOk result (λ steps. All (λ step. IsStepOf count (as_written step)) steps.items) }
+    ensures ok { IfOk result (λ steps. map (λ l. step_in count l.bytes.now) lines.now
+        ≡ map (λ step. Some (as_written step)) steps.items) }
+    ensures below { IfOk result
+        (λ steps. All (λ step. IsStepOf count (as_written step)) steps.items) }
     ensures err { IfErr result (IsOtherLine count (map (λ l. (l.number, l.bytes.now)) lines.now)) }
 {
     let mut steps = Vec::new(alloc);
@@ -153,7 +157,8 @@ impl<'s> Script<'s> {
         ensures ok { IfOk result (λ script. SpellsScript (script_of script) text.now) }
         ensures least { IfOk result (λ script. 0 < script.count) }
         ensures most { IfOk result (λ script. script.count ≤ 9) }
-        ensures below { IfOk result (λ script. All (λ step. IsStepOf script.count (as_written step)) script.steps.items) }
+        ensures below { IfOk result
+            (λ script. All (λ step. IsStepOf script.count (as_written step)) script.steps.items) }
         ensures err { IfErr result (RefusesScript text.now) }
     {
         let lines = lines_left(alloc, text)?;

@@ -2,8 +2,9 @@
 
 ghost use Rattle.std.specs.Prelude.{◌≡◌, ◌<◌, ◌≤◌, All, IfErr, IfOk, map};
 ghost use Rattle.ssim_desk.specs.Steps.{IsInRange};
-ghost use Rattle.ssim_program.specs.Rehearsal.{AreLoaded, HasSteps, IsLoaded, RefusesStep, RefusesSteps, RefusesTexts, as_written};
-ghost use Rattle.ssim_program.specs.Script.{IsStepOf};
+ghost use Rattle.ssim_program.specs.rehearse.Rehearsal.{AreLoaded, HasSteps, IsLoaded, RefusesStep};
+ghost use Rattle.ssim_program.specs.rehearse.Rehearsal.{RefusesSteps, RefusesTexts};
+ghost use Rattle.ssim_program.specs.internal.Rehearse.{as_written, IsStepOf};
 
 use crate::data_set::load_file;
 use crate::refusal::Refusal;
@@ -34,7 +35,8 @@ fn load_texts<S: Store>(
     written: &[Written<'_>],
     store: &mut S,
 ) -> Result<Vec<Step>, Refusal>
-    ensures ok { IfOk result (λ steps. AreLoaded (S.files store.old) (map as_written written.now) steps.items) }
+    ensures ok { IfOk result
+        (λ steps. AreLoaded (S.files store.old) (map as_written written.now) steps.items) }
     ensures err { IfErr result (RefusesTexts (S.files store.old) (map as_written written.now)) }
     ensures same { S.files store.new ≡ S.files store.old }
     ensures counted { S.failures store.new ≡ S.failures store.old }

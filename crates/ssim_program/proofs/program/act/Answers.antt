@@ -2,41 +2,56 @@
 use Rattle.std.proofs.Common.{sym, subst}
 use Rattle.ssim_command_line.specs.Line.{Check, Start, Merge, Show, Findings, Rehearse, Explain}
 use Rattle.ssim_command_line.specs.Request.{line_of}
-use Rattle.ssim_program.specs.World.{Does, world}
+use Rattle.ssim_program.specs.World.{world}
+use Rattle.ssim_program.specs.internal.Program.{Does, stored}
 use Rattle.ssim_command_line.specs.declared.command_line.Request.{Request}
 use Rattle.ssim_program.proofs.program.act.Goals as goal
 
 pub returns-in-Check : goal.returns-in-Check
 returns-in-Check g c =
     subst (λ (r : Request). Does (line_of r) (world (g.S.Store.files c.args.store.now) (g.S.Store.failures c.args.store.now) c.args.out.now) (world (g.S.Store.files c.check.new.store) (g.S.Store.failures c.check.new.store) c.print.new.out) c.print.result)
-    (sym c.in-Check.is) (c.print.ensures (Check c.in-Check.name.now) _ _ _ _ tt c.check.ensures)
+    (sym c.in-Check.is) (c.print.ensures (Check c.in-Check.name.now)
+    (stored (g.S.Store.files c.args.store.now) (g.S.Store.failures c.args.store.now))
+    (stored (g.S.Store.files c.check.new.store) (g.S.Store.failures c.check.new.store)) tt c.check.ensures)
 
 pub returns-in-Start : goal.returns-in-Start
 returns-in-Start g c =
     subst (λ (r : Request). Does (line_of r) (world (g.S.Store.files c.args.store.now) (g.S.Store.failures c.args.store.now) c.args.out.now) (world (g.S.Store.files c.start.new.store) (g.S.Store.failures c.start.new.store) c.print-in-Start.new.out) c.print-in-Start.result)
-    (sym c.in-Start.is) (c.print-in-Start.ensures (Start c.in-Start.dataset.now c.in-Start.stations.now c.in-Start.name.now) _ _ _ _ tt c.start.ensures)
+    (sym c.in-Start.is) (c.print-in-Start.ensures (Start c.in-Start.dataset.now c.in-Start.stations.now c.in-Start.name.now)
+    (stored (g.S.Store.files c.args.store.now) (g.S.Store.failures c.args.store.now))
+    (stored (g.S.Store.files c.start.new.store) (g.S.Store.failures c.start.new.store)) tt c.start.ensures)
 
 pub returns-in-Merge : goal.returns-in-Merge
 returns-in-Merge g c =
     subst (λ (r : Request). Does (line_of r) (world (g.S.Store.files c.args.store.now) (g.S.Store.failures c.args.store.now) c.args.out.now) (world (g.S.Store.files c.merge.new.store) (g.S.Store.failures c.merge.new.store) c.print-in-Merge.new.out) c.print-in-Merge.result)
-    (sym c.in-Merge.is) (c.print-in-Merge.ensures (Merge c.in-Merge.desk.now c.in-Merge.other.now c.in-Merge.name.now) _ _ _ _ tt c.merge.ensures)
+    (sym c.in-Merge.is) (c.print-in-Merge.ensures (Merge c.in-Merge.desk.now c.in-Merge.other.now c.in-Merge.name.now)
+    (stored (g.S.Store.files c.args.store.now) (g.S.Store.failures c.args.store.now))
+    (stored (g.S.Store.files c.merge.new.store) (g.S.Store.failures c.merge.new.store)) tt c.merge.ensures)
 
 pub returns-in-Show : goal.returns-in-Show
 returns-in-Show g c =
     subst (λ (r : Request). Does (line_of r) (world (g.S.Store.files c.args.store.now) (g.S.Store.failures c.args.store.now) c.args.out.now) (world (g.S.Store.files c.show_flight.new.store) (g.S.Store.failures c.show_flight.new.store) c.print-in-Show.new.out) c.print-in-Show.result)
-    (sym c.in-Show.is) (c.print-in-Show.ensures (Show c.in-Show.desk.now c.in-Show.flight.now c.in-Show.date.now) _ _ _ _ tt c.show_flight.ensures)
+    (sym c.in-Show.is) (c.print-in-Show.ensures (Show c.in-Show.desk.now c.in-Show.flight.now c.in-Show.date.now)
+    (stored (g.S.Store.files c.args.store.now) (g.S.Store.failures c.args.store.now))
+    (stored (g.S.Store.files c.show_flight.new.store) (g.S.Store.failures c.show_flight.new.store)) tt c.show_flight.ensures)
 
 pub returns-in-Findings : goal.returns-in-Findings
 returns-in-Findings g c =
     subst (λ (r : Request). Does (line_of r) (world (g.S.Store.files c.args.store.now) (g.S.Store.failures c.args.store.now) c.args.out.now) (world (g.S.Store.files c.findings.new.store) (g.S.Store.failures c.findings.new.store) c.print-in-Findings.new.out) c.print-in-Findings.result)
-    (sym c.in-Findings.is) (c.print-in-Findings.ensures (Findings c.in-Findings.desk.now) _ _ _ _ tt c.findings.ensures)
+    (sym c.in-Findings.is) (c.print-in-Findings.ensures (Findings c.in-Findings.desk.now)
+    (stored (g.S.Store.files c.args.store.now) (g.S.Store.failures c.args.store.now))
+    (stored (g.S.Store.files c.findings.new.store) (g.S.Store.failures c.findings.new.store)) tt c.findings.ensures)
 
 pub returns-in-Rehearse : goal.returns-in-Rehearse
 returns-in-Rehearse g c =
     subst (λ (r : Request). Does (line_of r) (world (g.S.Store.files c.args.store.now) (g.S.Store.failures c.args.store.now) c.args.out.now) (world (g.S.Store.files c.rehearse.new.store) (g.S.Store.failures c.rehearse.new.store) c.print-in-Rehearse.new.out) c.print-in-Rehearse.result)
-    (sym c.in-Rehearse.is) (c.print-in-Rehearse.ensures (Rehearse c.in-Rehearse.dataset.now c.in-Rehearse.stations.now c.in-Rehearse.script.now) _ _ _ _ tt c.rehearse.ensures)
+    (sym c.in-Rehearse.is) (c.print-in-Rehearse.ensures (Rehearse c.in-Rehearse.dataset.now c.in-Rehearse.stations.now c.in-Rehearse.script.now)
+    (stored (g.S.Store.files c.args.store.now) (g.S.Store.failures c.args.store.now))
+    (stored (g.S.Store.files c.rehearse.new.store) (g.S.Store.failures c.rehearse.new.store)) tt c.rehearse.ensures)
 
 pub returns-in-Explain : goal.returns-in-Explain
 returns-in-Explain g c =
     subst (λ (r : Request). Does (line_of r) (world (g.S.Store.files c.args.store.now) (g.S.Store.failures c.args.store.now) c.args.out.now) (world (g.S.Store.files c.explain.new.store) (g.S.Store.failures c.explain.new.store) c.print-in-Explain.new.out) c.print-in-Explain.result)
-    (sym c.in-Explain.is) (c.print-in-Explain.ensures (Explain c.in-Explain.word.now) _ _ _ _ tt c.explain.ensures)
+    (sym c.in-Explain.is) (c.print-in-Explain.ensures (Explain c.in-Explain.word.now)
+    (stored (g.S.Store.files c.args.store.now) (g.S.Store.failures c.args.store.now))
+    (stored (g.S.Store.files c.explain.new.store) (g.S.Store.failures c.explain.new.store)) tt c.explain.ensures)

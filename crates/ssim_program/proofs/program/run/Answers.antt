@@ -1,6 +1,6 @@
 -- What the printers have is what their writers hold.
 use Rattle.std.proofs.Common.{ap, rules}
-use Rattle.ssim_program.specs.Paper.{Paper}
+use Rattle.ssim_program.specs.print.Paper.{Paper}
 use Rattle.ssim_program.proofs.Writers.{done_both, ends_of, help_of, no_help_of, wrong_of}
 use Rattle.ssim_program.proofs.program.run.Goals as goal
 

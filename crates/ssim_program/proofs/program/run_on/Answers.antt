@@ -46,37 +46,37 @@ pub returns-in-Err-clause-plain : goal.returns-in-Err-clause-plain
 returns-in-Err-clause-plain g c line spells = spells_names _ line spells
 
 pub returns-in-Err-clause-status : goal.returns-in-Err-clause-status
-returns-in-Err-clause-status g c = (answered (map (λ w. w.now) c.args.words.now) (g.S.Store.files c.args.store.now) (g.S.Store.failures c.args.store.now) c.args.out.now c.answer.new.out c.args.err.now c.answer.new.err c.answer.result c.in-Err.fault c.in-Err.ensures.fault c.answer.ensures).most
+returns-in-Err-clause-status g c = (answered (map (λ w. w.now) c.args.words.now) (g.S.Store.files c.args.store.now) (g.S.Store.failures c.args.store.now) c.args.out.now c.without_request.new.out c.args.err.now c.without_request.new.err c.without_request.result c.in-Err.fault c.in-Err.ensures.fault c.without_request.ensures).most
 
 pub returns-in-Err-clause-known : goal.returns-in-Err-clause-known
-returns-in-Err-clause-known g c line names = (answered (map (λ w. w.now) c.args.words.now) (g.S.Store.files c.args.store.now) (g.S.Store.failures c.args.store.now) c.args.out.now c.answer.new.out c.args.err.now c.answer.new.err c.answer.result c.in-Err.fault c.in-Err.ensures.fault c.answer.ensures).known line names
+returns-in-Err-clause-known g c line names = (answered (map (λ w. w.now) c.args.words.now) (g.S.Store.files c.args.store.now) (g.S.Store.failures c.args.store.now) c.args.out.now c.without_request.new.out c.args.err.now c.without_request.new.err c.without_request.result c.in-Err.fault c.in-Err.ensures.fault c.without_request.ensures).known line names
 
 pub returns-in-Err-clause-named : goal.returns-in-Err-clause-named
-returns-in-Err-clause-named g c zero = (answered (map (λ w. w.now) c.args.words.now) (g.S.Store.files c.args.store.now) (g.S.Store.failures c.args.store.now) c.args.out.now c.answer.new.out c.args.err.now c.answer.new.err c.answer.result c.in-Err.fault c.in-Err.ensures.fault c.answer.ensures).named zero
+returns-in-Err-clause-named g c zero = (answered (map (λ w. w.now) c.args.words.now) (g.S.Store.files c.args.store.now) (g.S.Store.failures c.args.store.now) c.args.out.now c.without_request.new.out c.args.err.now c.without_request.new.err c.without_request.result c.in-Err.fault c.in-Err.ensures.fault c.without_request.ensures).named zero
 
 pub returns-in-Err-clause-memory : goal.returns-in-Err-clause-memory
-returns-in-Err-clause-memory g c one = (answered (map (λ w. w.now) c.args.words.now) (g.S.Store.files c.args.store.now) (g.S.Store.failures c.args.store.now) c.args.out.now c.answer.new.out c.args.err.now c.answer.new.err c.answer.result c.in-Err.fault c.in-Err.ensures.fault c.answer.ensures).memory one
+returns-in-Err-clause-memory g c one = (answered (map (λ w. w.now) c.args.words.now) (g.S.Store.files c.args.store.now) (g.S.Store.failures c.args.store.now) c.args.out.now c.without_request.new.out c.args.err.now c.without_request.new.err c.without_request.result c.in-Err.fault c.in-Err.ensures.fault c.without_request.ensures).memory one
 
 pub returns-in-Err-clause-wrong : goal.returns-in-Err-clause-wrong
-returns-in-Err-clause-wrong g c two = (answered (map (λ w. w.now) c.args.words.now) (g.S.Store.files c.args.store.now) (g.S.Store.failures c.args.store.now) c.args.out.now c.answer.new.out c.args.err.now c.answer.new.err c.answer.result c.in-Err.fault c.in-Err.ensures.fault c.answer.ensures).wrong two
+returns-in-Err-clause-wrong g c two = (answered (map (λ w. w.now) c.args.words.now) (g.S.Store.files c.args.store.now) (g.S.Store.failures c.args.store.now) c.args.out.now c.without_request.new.out c.args.err.now c.without_request.new.err c.without_request.result c.in-Err.fault c.in-Err.ensures.fault c.without_request.ensures).wrong two
 
 pub returns-in-Err-clause-done : goal.returns-in-Err-clause-done
-returns-in-Err-clause-done g c line names zero = (answered (map (λ w. w.now) c.args.words.now) (g.S.Store.files c.args.store.now) (g.S.Store.failures c.args.store.now) c.args.out.now c.answer.new.out c.args.err.now c.answer.new.err c.answer.result c.in-Err.fault c.in-Err.ensures.fault c.answer.ensures).done line names zero
+returns-in-Err-clause-done g c line names zero = (answered (map (λ w. w.now) c.args.words.now) (g.S.Store.files c.args.store.now) (g.S.Store.failures c.args.store.now) c.args.out.now c.without_request.new.out c.args.err.now c.without_request.new.err c.without_request.result c.in-Err.fault c.in-Err.ensures.fault c.without_request.ensures).done line names zero
 
 pub returns-in-Err-clause-ends : goal.returns-in-Err-clause-ends
-returns-in-Err-clause-ends g c line names one = (answered (map (λ w. w.now) c.args.words.now) (g.S.Store.files c.args.store.now) (g.S.Store.failures c.args.store.now) c.args.out.now c.answer.new.out c.args.err.now c.answer.new.err c.answer.result c.in-Err.fault c.in-Err.ensures.fault c.answer.ensures).ends line names one
+returns-in-Err-clause-ends g c line names one = (answered (map (λ w. w.now) c.args.words.now) (g.S.Store.files c.args.store.now) (g.S.Store.failures c.args.store.now) c.args.out.now c.without_request.new.out c.args.err.now c.without_request.new.err c.without_request.result c.in-Err.fault c.in-Err.ensures.fault c.without_request.ensures).ends line names one
 
 pub returns-in-Err-clause-help : goal.returns-in-Err-clause-help
-returns-in-Err-clause-help g c zero = (answered (map (λ w. w.now) c.args.words.now) (g.S.Store.files c.args.store.now) (g.S.Store.failures c.args.store.now) c.args.out.now c.answer.new.out c.args.err.now c.answer.new.err c.answer.result c.in-Err.fault c.in-Err.ensures.fault c.answer.ensures).help zero
+returns-in-Err-clause-help g c zero = (answered (map (λ w. w.now) c.args.words.now) (g.S.Store.files c.args.store.now) (g.S.Store.failures c.args.store.now) c.args.out.now c.without_request.new.out c.args.err.now c.without_request.new.err c.without_request.result c.in-Err.fault c.in-Err.ensures.fault c.without_request.ensures).help zero
 
 pub returns-in-Err-clause-no_help : goal.returns-in-Err-clause-no_help
-returns-in-Err-clause-no_help g c one = (answered (map (λ w. w.now) c.args.words.now) (g.S.Store.files c.args.store.now) (g.S.Store.failures c.args.store.now) c.args.out.now c.answer.new.out c.args.err.now c.answer.new.err c.answer.result c.in-Err.fault c.in-Err.ensures.fault c.answer.ensures).no_help one
+returns-in-Err-clause-no_help g c one = (answered (map (λ w. w.now) c.args.words.now) (g.S.Store.files c.args.store.now) (g.S.Store.failures c.args.store.now) c.args.out.now c.without_request.new.out c.args.err.now c.without_request.new.err c.without_request.result c.in-Err.fault c.in-Err.ensures.fault c.without_request.ensures).no_help one
 
 pub returns-in-Err-clause-usage : goal.returns-in-Err-clause-usage
-returns-in-Err-clause-usage g c two = (answered (map (λ w. w.now) c.args.words.now) (g.S.Store.files c.args.store.now) (g.S.Store.failures c.args.store.now) c.args.out.now c.answer.new.out c.args.err.now c.answer.new.err c.answer.result c.in-Err.fault c.in-Err.ensures.fault c.answer.ensures).usage two
+returns-in-Err-clause-usage g c two = (answered (map (λ w. w.now) c.args.words.now) (g.S.Store.files c.args.store.now) (g.S.Store.failures c.args.store.now) c.args.out.now c.without_request.new.out c.args.err.now c.without_request.new.err c.without_request.result c.in-Err.fault c.in-Err.ensures.fault c.without_request.ensures).usage two
 
 pub returns-in-Err-clause-devices : goal.returns-in-Err-clause-devices
-returns-in-Err-clause-devices g c = (answered (map (λ w. w.now) c.args.words.now) (g.S.Store.files c.args.store.now) (g.S.Store.failures c.args.store.now) c.args.out.now c.answer.new.out c.args.err.now c.answer.new.err c.answer.result c.in-Err.fault c.in-Err.ensures.fault c.answer.ensures).devices
+returns-in-Err-clause-devices g c = (answered (map (λ w. w.now) c.args.words.now) (g.S.Store.files c.args.store.now) (g.S.Store.failures c.args.store.now) c.args.out.now c.without_request.new.out c.args.err.now c.without_request.new.err c.without_request.result c.in-Err.fault c.in-Err.ensures.fault c.without_request.ensures).devices
 
 pub returns-in-Ok-clause-files : goal.returns-in-Ok-clause-files
 returns-in-Ok-clause-files g c = inr (_, c.in-Ok.ensures.named)
@@ -85,4 +85,4 @@ pub returns-in-Ok-clause-did : goal.returns-in-Ok-clause-did
 returns-in-Ok-clause-did g c line names = did _ _ _ _ _ _ (obeyed (map (λ w. w.now) c.args.words.now) _ (world (g.S.Store.files c.args.store.now) (g.S.Store.failures c.args.store.now) c.args.out.now) (world (g.S.Store.files c.obey.new.store) (g.S.Store.failures c.obey.new.store) c.obey.new.out) c.args.err.now c.obey.new.err c.obey.result c.in-Ok.ensures.named c.obey.ensures) line names
 
 pub returns-in-Err-clause-did : goal.returns-in-Err-clause-did
-returns-in-Err-clause-did g c line names = did _ _ _ _ _ _ (answered (map (λ w. w.now) c.args.words.now) (g.S.Store.files c.args.store.now) (g.S.Store.failures c.args.store.now) c.args.out.now c.answer.new.out c.args.err.now c.answer.new.err c.answer.result c.in-Err.fault c.in-Err.ensures.fault c.answer.ensures) line names
+returns-in-Err-clause-did g c line names = did _ _ _ _ _ _ (answered (map (λ w. w.now) c.args.words.now) (g.S.Store.files c.args.store.now) (g.S.Store.failures c.args.store.now) c.args.out.now c.without_request.new.out c.args.err.now c.without_request.new.err c.without_request.result c.in-Err.fault c.in-Err.ensures.fault c.without_request.ensures) line names

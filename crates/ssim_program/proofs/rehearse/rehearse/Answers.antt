@@ -6,7 +6,7 @@ use Rattle.ssim_base.specs.SavedBase.{IsBaseRecords}
 use Rattle.ssim_held.specs.Entries.{DeskSeen}
 use Rattle.ssim_desk.specs.declared.steps.Step.{Step}
 use Rattle.ssim_program.specs.Files.{Files}
-use Rattle.ssim_program.specs.Rehearsal.{HasSteps, RefusesSteps, Rehearses, RehearsesFiles, printed_line}
+use Rattle.ssim_program.specs.rehearse.Rehearsal.{HasSteps, RefusesSteps, Rehearses, RehearsesFiles, printed_line}
 use Rattle.ssim_program.proofs.rehearse.rehearse.Goals as goal
 
 pub returns-in_err-data_set : goal.returns-in_err-data_set

@@ -1,6 +1,6 @@
 -- The name is the file's, as it is printed.
 use Rattle.std.proofs.Common.{inr}
-use Rattle.ssim_program.specs.Names.{printed_name}
+use Rattle.ssim_program.specs.print.Names.{printed_name}
 use Rattle.ssim_program.proofs.RefusalTexts.{file_text}
 use Rattle.ssim_program.proofs.refusal.Refusal.of_file.Goals as goal
 

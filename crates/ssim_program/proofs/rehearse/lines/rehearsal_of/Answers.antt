@@ -3,7 +3,7 @@ use Rattle.std.proofs.Common.{rules, ◌≡◌, ◌∙◌, ◌++◌, List, All, 
 use Rattle.std.proofs.Math.Seq.{take-append_seam}
 use Rattle.ssim_held.specs.Entries.{DeskSeen, state_of}
 use Rattle.ssim_desk.specs.Steps.{IsInRange, Runs}
-use Rattle.ssim_program.specs.Rehearsal.{HasEnds, fresh}
+use Rattle.ssim_program.specs.rehearse.Rehearsal.{HasEnds, fresh}
 use Rattle.ssim_program.proofs.Rehearsing.{have_lines}
 use Rattle.ssim_program.proofs.Scripted.{length-map-one, one_state}
 use Rattle.ssim_program.proofs.rehearse.lines.rehearsal_of.Goals as goal

@@ -2,7 +2,7 @@
 use Rattle.std.proofs.Common.{◌≡◌, ◌∙◌, ◌<◌, Some, slice_get, sym, ap, subst}
 use Rattle.ssim_held.proofs.Searching.{at_index}
 use Rattle.ssim_desk.specs.declared.steps.Step.{Step}
-use Rattle.ssim_program.specs.Rehearsal.{desk_of}
+use Rattle.ssim_program.specs.internal.Rehearse.{desk_of}
 use Rattle.ssim_program.proofs.Rehearsing.{lines_next}
 use Rattle.ssim_program.proofs.rehearse.lines.step_lines.Goals as goal
 

@@ -1,6 +1,6 @@
 -- The lines so far are those of the steps so far.
 use Rattle.std.proofs.Common.{take}
-use Rattle.ssim_program.specs.Rehearsal.{AreStepLines}
+use Rattle.ssim_program.specs.rehearse.Rehearsal.{AreStepLines}
 use Rattle.ssim_program.proofs.rehearse.lines.step_lines.Given as goal
 
 abbrev pub invariant-loop-place : goal.invariant-loop-place

@@ -2,7 +2,7 @@
 use Rattle.std.proofs.Common.{Ok, Err, subst}
 use Rattle.ssim_held.specs.Entries.{DeskSeen, state_of}
 use Rattle.ssim_desk.specs.Meaning.{Exports}
-use Rattle.ssim_program.specs.Rehearsal.{IsOutcome}
+use Rattle.ssim_program.specs.rehearse.Rehearsal.{IsOutcome}
 use Rattle.ssim_program.proofs.Outcomes.{exports_err, exports_ok}
 use Rattle.ssim_program.proofs.rehearse.outcome.export_into.Goals as goal
 

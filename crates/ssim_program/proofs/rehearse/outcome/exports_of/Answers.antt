@@ -3,7 +3,7 @@ use Rattle.std.proofs.Common.{◌∙◌, [], ◌∷◌, map, ap, arith}
 use Rattle.std.proofs.lemmas.Grind.{common_steps}
 use Rattle.std.proofs.lemmas.List.{map-append}
 use Rattle.ssim_held.specs.Entries.{state_of}
-use Rattle.ssim_program.specs.Rehearsal.{outcome_of}
+use Rattle.ssim_program.specs.internal.Rehearse.{outcome_of}
 use Rattle.ssim_program.proofs.Rehearsing.{exports_next}
 use Rattle.ssim_program.proofs.rehearse.outcome.exports_of.Goals as goal
 

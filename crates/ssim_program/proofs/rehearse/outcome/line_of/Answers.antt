@@ -4,7 +4,8 @@ use Rattle.std.specs.FinMap.{entries}
 use Rattle.ssim_held.specs.Entries.{AreRising, Entry, map_of, state_of}
 use Rattle.ssim_held.proofs.Entries.{entries-map_of}
 use Rattle.ssim_program.proofs.SavedDesks.{length-keyed}
-use Rattle.ssim_program.specs.Rehearsal.{desk_line, outcome_of}
+use Rattle.ssim_program.specs.rehearse.Rehearsal.{desk_line}
+use Rattle.ssim_program.specs.internal.Rehearse.{outcome_of}
 use Rattle.ssim_program.specs.declared.rehearse.line.RehearsalLine.TheVariants as printed
 use Rattle.ssim_program.specs.declared.rehearse.outcome.Outcome.{Outcome}
 use Rattle.ssim_program.proofs.rehearse.outcome.line_of.Goals as goal

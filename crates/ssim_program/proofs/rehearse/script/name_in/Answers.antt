@@ -5,7 +5,7 @@ use Rattle.std.specs.List.{list_any}
 use Rattle.std.specs.Str.{IsUtf8, is_utf8}
 use Rattle.std.proofs.lemmas.Bool.Decides.{nat_tests}
 use Rattle.std.proofs.lemmas.Str.{is_utf8-from_IsUtf8, IsUtf8-from_is_utf8}
-use Rattle.ssim_program.specs.Script.{name_in}
+use Rattle.ssim_program.specs.rehearse.Script.{name_in}
 use Rattle.ssim_program.proofs.rehearse.script.name_in.Goals as goal
 
 long : (n : ℕ) → (n == 0) ≡ false → nat_lt 0 n ≡ true

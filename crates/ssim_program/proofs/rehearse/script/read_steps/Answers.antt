@@ -1,6 +1,6 @@
 -- The current line spells no step.
 use Rattle.std.proofs.Common.{ℕ, List, [], get_or, inr, refl, sym}
-use Rattle.ssim_program.specs.Rehearsal.{as_written}
+use Rattle.ssim_program.specs.internal.Rehearse.{as_written}
 use Rattle.ssim_text.specs.declared.lines.Line.{Line}
 use Rattle.ssim_program.proofs.Rehearsing.{first_other}
 use Rattle.ssim_program.proofs.Scripted.{any_default}

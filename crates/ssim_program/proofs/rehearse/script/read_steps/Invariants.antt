@@ -1,7 +1,7 @@
 -- The steps so far are those of the lines so far.
 use Rattle.std.proofs.Common.{◌≡◌, All, Some, map, take}
-use Rattle.ssim_program.specs.Rehearsal.{as_written}
-use Rattle.ssim_program.specs.Script.{IsStepOf, step_in}
+use Rattle.ssim_program.specs.internal.Rehearse.{as_written, IsStepOf}
+use Rattle.ssim_program.specs.rehearse.Script.{step_in}
 use Rattle.ssim_program.proofs.rehearse.script.read_steps.Given as goal
 
 abbrev pub invariant-loop-line : goal.invariant-loop-line

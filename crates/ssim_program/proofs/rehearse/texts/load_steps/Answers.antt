@@ -1,7 +1,6 @@
 -- The desks of the steps are those of the script.
 use Rattle.std.proofs.Common.{rules, ◌≡◌, All, sym, subst}
-use Rattle.ssim_program.specs.Rehearsal.{as_written}
-use Rattle.ssim_program.specs.Script.{IsStepOf}
+use Rattle.ssim_program.specs.internal.Rehearse.{as_written, IsStepOf}
 use Rattle.ssim_program.proofs.Scripted.{loaded_in_range}
 use Rattle.ssim_program.proofs.rehearse.texts.load_steps.Goals as goal
 

@@ -1,6 +1,6 @@
 -- One more step has its text, or the first that has none is refused.
 use Rattle.std.proofs.Common.{◌∙◌}
-use Rattle.ssim_program.specs.Rehearsal.{as_written}
+use Rattle.ssim_program.specs.internal.Rehearse.{as_written}
 use Rattle.ssim_program.proofs.Scripted.{loaded_at, refuses_at}
 use Rattle.ssim_program.proofs.rehearse.texts.load_texts.Goals as goal
 

@@ -1,6 +1,7 @@
 -- The steps so far have their texts, and the store is as it was.
 use Rattle.std.proofs.Common.{◌≡◌, map, take}
-use Rattle.ssim_program.specs.Rehearsal.{AreLoaded, as_written}
+use Rattle.ssim_program.specs.rehearse.Rehearsal.{AreLoaded}
+use Rattle.ssim_program.specs.internal.Rehearse.{as_written}
 use Rattle.ssim_program.proofs.rehearse.texts.load_texts.Given as goal
 
 abbrev pub invariant-loop-next : goal.invariant-loop-next

@@ -1,8 +1,8 @@
 -- The first line that is left is the count, and the others are the steps.
 use Rattle.std.proofs.Common.{rules, ◌≡◌, ℕ, List, ◌∷◌, map, Err, sym}
 use Rattle.ssim_text.specs.Left.{lines_left}
-use Rattle.ssim_program.specs.Rehearsal.{as_written}
-use Rattle.ssim_program.specs.Script.{RefusesScript}
+use Rattle.ssim_program.specs.internal.Rehearse.{as_written}
+use Rattle.ssim_program.specs.rehearse.Script.{RefusesScript}
 use Rattle.ssim_text.specs.declared.lines.Line.{Line}
 use Rattle.ssim_program.proofs.Rehearsing.{are_steps}
 use Rattle.ssim_program.proofs.Scripted.{refuses_script}

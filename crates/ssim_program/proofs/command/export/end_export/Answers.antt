@@ -1,0 +1,16 @@
+-- The export was written and is flushed, or it was not.
+use Rattle.std.proofs.Common.{Result, Err, subst, sym}
+use Rattle.ssim_schedule.specs.declared.export.ExportFault.{ExportFault}
+use Rattle.ssim_program.specs.internal.Export.{IsWritten, PrintsExport}
+use Rattle.ssim_program.specs.declared.refusal.Refusal.{Refusal}
+use Rattle.ssim_program.proofs.Exporting.{flushed, not_written}
+use Rattle.ssim_program.proofs.command.export.end_export.Goals as goal
+
+pub returns-in-Ok : goal.returns-in-Ok
+returns-in-Ok g c base days before airline written =
+    flushed base days before c.args.out.now c.flush.new.self c.flush.result (subst (λ (w : Result (Unit {0}) ExportFault). IsWritten base days before c.args.out.now w) c.in-Ok.is written) c.flush.ensures
+
+pub returns-in-Err : goal.returns-in-Err
+returns-in-Err g c base days before airline written =
+    let w = subst (λ (w : Result (Unit {0}) ExportFault). IsWritten base days before c.args.out.now w) c.in-Err.is written in
+    subst (λ (r : Refusal). PrintsExport base days before c.args.out.now (Err r)) (sym c.of_export.ensures) (not_written base days before c.args.out.now c.args.airline c.in-Err.fault airline w.device w.err)

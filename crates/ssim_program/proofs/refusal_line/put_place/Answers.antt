@@ -1,8 +1,0 @@
--- The place is that of the arm.
-use Rattle.ssim_program.proofs.refusal_line.put_place.Goals as goal
-
-pub returns-in-Flight : goal.returns-in-Flight
-returns-in-Flight g c = rw c.in-Flight.is c.put_flight.ensures
-
-pub returns-in-Message : goal.returns-in-Message
-returns-in-Message g c = rw c.in-Message.is c.put_message.ensures

@@ -1,0 +1,3 @@
+-- Computed examples.
+pub mod Scripts
+pub mod Histories

@@ -1,0 +1,43 @@
+-- What three commands at one office bring to a desk file, computed.
+use Rattle.std.specs.Prelude.{◌≡◌, ◌⊎◌, ℕ, List, [], ◌∷◌, codes, Some, refl}
+use Rattle.ssim_text.specs.Message.{MessageValue}
+use Rattle.ssim_text.specs.declared.reference.Reference.{Reference}
+use Rattle.ssim_command_line.specs.Line.{Text, Start, Take, Merge}
+use Rattle.ssim_program.specs.Files.{Files, file_of}
+use Rattle.ssim_program.specs.Offices.{BeganFrom, Began, Brought, Done, History, IsSaidTo, Then}
+
+abbrev zurich : Text
+zurich = codes "zurich.desk"
+
+abbrev london : Text
+london = codes "london.desk"
+
+-- `start season.ssim stations.txt zurich.desk`, `take zurich.desk zurich.desk holiday.ssm` and
+-- `merge zurich.desk london.desk zurich.desk`, with the files before and after each
+abbrev three_commands : Files → Files → Files → Files → History
+three_commands before started taken merged =
+    Then (Then (Then (Began before)
+    (Done (Start (codes "season.ssim") (codes "stations.txt") zurich)) started)
+    (Done (Take zurich zurich (codes "holiday.ssm" ∷ []))) taken)
+    (Done (Merge zurich london zurich)) merged
+
+-- To Zurich's desk was brought what the text says to it, and what London's desk file held at the
+-- beginning.
+brought_to_zurich : (before started taken merged : Files) (reference : Reference) (message : MessageValue)
+    → Brought (three_commands before started taken merged) zurich reference message
+    ≡ ((⊥ ⊎ IsSaidTo started zurich (codes "holiday.ssm" ∷ []) reference message)
+    ⊎ Brought (Began before) london reference message)
+brought_to_zurich before started taken merged reference message = refl
+
+-- to London's desk file nothing was brought
+brought_to_london : (before started taken merged : Files) (reference : Reference) (message : MessageValue)
+    → Brought (three_commands before started taken merged) london reference message
+    ≡ Brought (Began before) london reference message
+brought_to_london before started taken merged reference message = refl
+
+-- Zurich's desk began from the bytes of the data set and the station table
+zurich_began : (before started taken merged : Files) (dataset stations : List ℕ)
+    → BeganFrom (three_commands before started taken merged) zurich dataset stations
+    ≡ ((file_of before (codes "season.ssim") ≡ Some dataset)
+    × (file_of before (codes "stations.txt") ≡ Some stations))
+zurich_began before started taken merged dataset stations = refl

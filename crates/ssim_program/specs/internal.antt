@@ -1,0 +1,9 @@
+-- Definitions that only private functions cite. No law and no public contract cites them, so nobody
+-- has to believe them.
+pub mod Program
+pub mod Take
+pub mod Export
+pub mod Explain
+pub mod DataSet
+pub mod Rehearse
+pub mod Print

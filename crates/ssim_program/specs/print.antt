@@ -1,0 +1,7 @@
+-- What is printed.
+pub mod Names
+pub mod Refusal
+pub mod Printed
+pub mod Shown
+pub mod Paper
+pub mod Reasons

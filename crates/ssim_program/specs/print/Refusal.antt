@@ -1,0 +1,129 @@
+-- The line that a refusal prints, without its line end, and which refusal a fault becomes.
+use Rattle.std.specs.Prelude.{◌≡◌, ◌⊎◌, ℕ, List, [], ◌∷◌, ◌++◌, Option, Some, None, codes, string_bytes}
+use Rattle.std.specs.Fmt.{decimal}
+use Rattle.ssim_values.specs.Designator.{designator_text}
+use Rattle.ssim_values.specs.Fault.{fault_name, fault_number, memory_name}
+use Rattle.ssim_values.specs.declared.fault.Fault.{Fault}
+use Rattle.ssim_base.specs.Base.{base_fault_number}
+use Rattle.ssim_base.specs.Fault.{base_fault_name, base_fault_place, station_fault_name, station_fault_place}
+use Rattle.ssim_schedule.specs.Plan.{export_fault_name, export_fault_number, export_fault_place}
+use Rattle.ssim_base.specs.Stations.{station_fault_number}
+use Rattle.ssim_schedule.specs.declared.export.ExportFault.{ExportFault}
+use Rattle.ssim_schedule.specs.declared.export.ExportFault.TheVariants as export
+use Rattle.ssim_base.specs.declared.fault.BaseFault.{BaseFault}
+use Rattle.ssim_base.specs.declared.fault.BaseFault.TheVariants as base
+use Rattle.ssim_base.specs.declared.place.Place.{Place}
+use Rattle.ssim_base.specs.declared.place.Place.TheVariants.{Nowhere, Record, Column, Line, SubMessage}
+use Rattle.ssim_base.specs.declared.place.Place.TheVariants.{Offset, Flight, Message}
+use Rattle.ssim_base.specs.declared.stations.StationFault.{StationFault}
+use Rattle.ssim_base.specs.declared.stations.StationFault.TheVariants as stations
+use Rattle.ssim_text.specs.Reference.{printed_reference}
+use Rattle.ssim_held.specs.Fault.{desk_fault_name, desk_fault_number, desk_fault_place}
+use Rattle.ssim_held.specs.declared.fault.DeskFault.{DeskFault}
+use Rattle.ssim_held.specs.declared.fault.DeskFault.TheVariants as desk
+use Rattle.ssim_program.specs.print.Names.{printed_name}
+use Rattle.ssim_program.specs.declared.refusal.Refusal.{Refusal}
+use Rattle.ssim_program.specs.declared.refusal.Refusal.TheVariants as refusal
+
+-- the number of a refusal, which is its fault's number
+abbrev pub refusal_number : Refusal → ℕ
+refusal_number (refusal.Value fault) = fault_number fault
+refusal_number (refusal.DataSet fault) = base_fault_number fault
+refusal_number (refusal.Stations fault) = station_fault_number fault
+refusal_number (refusal.Desk fault) = desk_fault_number fault
+refusal_number (refusal.Export airline fault) = export_fault_number fault
+refusal_number refusal.WriteFault = export_fault_number export.WriteFault
+refusal_number (refusal.Script line) = 63
+refusal_number refusal.Memory = 90
+refusal_number (refusal.File name) = 91
+
+-- the name of a refusal, which is its fault's name
+abbrev pub refusal_name : Refusal → List ℕ
+refusal_name (refusal.Value fault) = fault_name fault
+refusal_name (refusal.DataSet fault) = base_fault_name fault
+refusal_name (refusal.Stations fault) = station_fault_name fault
+refusal_name (refusal.Desk fault) = desk_fault_name fault
+refusal_name (refusal.Export airline fault) = export_fault_name fault
+refusal_name refusal.WriteFault = export_fault_name export.WriteFault
+refusal_name (refusal.Script line) = codes "Script"
+refusal_name refusal.Memory = memory_name
+refusal_name (refusal.File name) = codes "File"
+
+-- what a refusal names: what its fault names, or the line of a script; the file of 91 is no place
+abbrev pub refusal_place : Refusal → Place
+refusal_place (refusal.Value fault) = Nowhere
+refusal_place (refusal.DataSet fault) = base_fault_place fault
+refusal_place (refusal.Stations fault) = station_fault_place fault
+refusal_place (refusal.Desk fault) = desk_fault_place fault
+refusal_place (refusal.Export airline fault) = export_fault_place airline fault
+refusal_place refusal.WriteFault = Nowhere
+refusal_place (refusal.Script line) = Line line
+refusal_place refusal.Memory = Nowhere
+refusal_place (refusal.File name) = Nowhere
+
+-- the file of 91
+abbrev pub refusal_file : Refusal → Option (List ℕ)
+refusal_file (refusal.File name) = Some (string_bytes name)
+refusal_file r = None
+
+-- a place in a line, after what comes before it
+abbrev pub place_text : Place → List ℕ
+place_text Nowhere = []
+place_text (Record n) = codes " record " ++ decimal n
+place_text (Column n column) = codes " record " ++ decimal n ++ codes " column " ++ decimal column
+place_text (Line n) = codes " line " ++ decimal n
+place_text (SubMessage n) = codes " sub " ++ decimal n
+place_text (Offset n) = codes " offset " ++ decimal n
+place_text (Flight flight) = codes " flight " ++ designator_text flight
+place_text (Message reference) = 32 ∷ printed_reference reference
+
+-- the file or the place that is named
+abbrev pub named_text : Option (List ℕ) → Place → List ℕ
+named_text (Some file) place = 32 ∷ file
+named_text None place = place_text place
+
+-- the beginning of a refusal: `refused`, the number and the name
+abbrev pub refusal_head : Refusal → List ℕ
+refusal_head r = codes "refused " ++ decimal (refusal_number r) ++ 32 ∷ refusal_name r
+
+-- the text of a refusal: its beginning and what is named, as: refused 11 BadType record 3
+abbrev pub refusal_text : Refusal → List ℕ
+refusal_text r = refusal_head r ++ named_text (refusal_file r) (refusal_place r)
+
+-- ---- the refusal of a fault; each fault out of memory is refused as 90
+
+-- the refusal for a fault of a value
+abbrev pub refusal_of_value : Fault → Refusal
+refusal_of_value fault = refusal.Value fault
+
+-- the refusal for a fault of a data set
+abbrev pub refusal_of_base : BaseFault → Refusal
+refusal_of_base base.Memory = refusal.Memory
+refusal_of_base (base.Read fault) = refusal.DataSet (base.Read fault)
+refusal_of_base (base.Refused number why) = refusal.DataSet (base.Refused number why)
+
+-- the refusal for a fault of a station table
+abbrev pub refusal_of_stations : StationFault → Refusal
+refusal_of_stations stations.Memory = refusal.Memory
+refusal_of_stations (stations.Stations line) = refusal.Stations (stations.Stations line)
+
+-- the refusal for a fault of a desk
+abbrev pub refusal_of_desk : DeskFault → Refusal
+refusal_of_desk desk.Memory = refusal.Memory
+refusal_of_desk (desk.Text fault) = refusal.Desk (desk.Text fault)
+refusal_of_desk (desk.Resolve fault) = refusal.Desk (desk.Resolve fault)
+refusal_of_desk (desk.Conflict reference) = refusal.Desk (desk.Conflict reference)
+refusal_of_desk desk.OtherBase = refusal.Desk desk.OtherBase
+refusal_of_desk (desk.Read fault) = refusal.Desk (desk.Read fault)
+refusal_of_desk (desk.File offset) = refusal.Desk (desk.File offset)
+
+-- the refusal for a fault of an export; a flight is named by its designator
+abbrev pub refusal_of_export : List ℕ → ExportFault → Refusal
+refusal_of_export airline (export.Variations flight) = refusal.Export airline (export.Variations flight)
+refusal_of_export airline export.Records = refusal.Export airline export.Records
+refusal_of_export airline export.WriteFault = refusal.WriteFault
+refusal_of_export airline export.Memory = refusal.Memory
+
+-- the refusal is 91 with this name as it is printed, or memory ran out
+abbrev pub IsOfFile : List ℕ → Refusal → Type 0
+IsOfFile name r = (r ≡ refusal.Memory) ⊎ (refusal_text r ≡ codes "refused 91 File " ++ printed_name name)

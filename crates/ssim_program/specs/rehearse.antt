@@ -1,0 +1,4 @@
+-- Desk scripts, and what a rehearsal of one prints.
+pub mod Script
+pub mod Rehearsal
+pub mod Verdict

@@ -1,0 +1,11 @@
+//! The commands, each in a module of its own: what it prints, and the file that it keeps. `explain`
+//! and `rehearse` have their own folders.
+
+pub(crate) mod check;
+pub(crate) mod export;
+pub(crate) mod findings;
+pub(crate) mod merge;
+pub(crate) mod show;
+pub(crate) mod start;
+pub(crate) mod take;
+pub(crate) mod tidy;

@@ -1,0 +1,101 @@
+//! The command `take`: a desk takes texts, one after another.
+
+ghost use Rattle.std.specs.Prelude.{◌≡◌, IfErr, IfOk, map};
+ghost use Rattle.ssim_held.specs.Entries.{state_of};
+ghost use Rattle.ssim_desk.specs.Steps.{RefusesText};
+ghost use Rattle.ssim_program.specs.Desks.{IsTaken, took_printed};
+ghost use Rattle.ssim_program.specs.internal.Take.{PrintsTexts, TakesOrRefuses};
+ghost use Rattle.ssim_command_line.specs.Line.{Take};
+ghost use Rattle.ssim_program.specs.World.{world};
+ghost use Rattle.ssim_program.specs.internal.Program.{Does};
+
+use crate::data_set::load_file;
+use crate::desk_file::{keep, open_holdings};
+use crate::print::printed::{Printed, line_of};
+use crate::print::printer::{Printer, print_all};
+use crate::refusal::Refusal;
+use crate::store::Store;
+use ssim_desk::{DeskFault, Holdings, Took};
+use ssim_text::Reference;
+use std::alloc::Global;
+use std::io::Write;
+
+/// Takes the texts in these files at the desk in a file, prints what became of each, and at last
+/// keeps the desk file. At the first refusal it stops, and keeps nothing.
+pub(crate) fn take<S: Store, W: Write>(
+    alloc: Global,
+    file: &str,
+    kept: &str,
+    names: &[&str],
+    store: &mut S,
+    out: &mut Printer<'_, W>,
+) -> Result<(), Refusal>
+    ensures { Does (Take file.now kept.now (map (λ t. t.now) names.now))
+        (world (S.files store.old) (S.failures store.old) out.old)
+        (world (S.files store.new) (S.failures store.new) out.new) result }
+{
+    let mut desk = open_holdings(alloc, file, store)?;
+    take_texts(alloc, &mut desk, names, store, out)?;
+    out.flush()?;
+    // No effect at run time. The proof reads from this use that the messages are in order.
+    let _ = desk.held();
+    keep(alloc, &desk, kept, store)
+}
+
+/// Takes the texts in these files, and prints what became of each.
+fn take_texts<S: Store, W: Write>(
+    alloc: Global,
+    desk: &mut Holdings,
+    names: &[&str],
+    store: &mut S,
+    out: &mut Printer<'_, W>,
+) -> Result<(), Refusal>
+    ensures texts { PrintsTexts (S.files store.old) (map (λ t. t.now) names.now) desk.old desk.new
+        out.old out.new result }
+    ensures same { S.files store.new ≡ S.files store.old }
+    ensures counted { S.failures store.new ≡ S.failures store.old }
+{
+    for name in names {
+        let line = match take_text(alloc, desk, name, store) {
+            Ok(line) => line,
+            Err(refusal) => return Err(refusal),
+        };
+        print_all(out, &line)?;
+    }
+    Ok(())
+}
+
+/// Takes the text in this file. Returns the line that says what became of it.
+fn take_text<S: Store>(
+    alloc: Global,
+    desk: &mut Holdings,
+    name: &str,
+    store: &mut S,
+) -> Result<Vec<u8>, Refusal>
+    ensures text { TakesOrRefuses (S.files store.old) name.now desk.old desk.new result }
+    ensures same { S.files store.new ≡ S.files store.old }
+    ensures counted { S.failures store.new ≡ S.failures store.old }
+{
+    let text = load_file(alloc, name, store)?;
+    let (took, reference) = take_one(desk, &text)?;
+    let line = line_of(alloc, &printed(took, reference))?;
+    Ok(line)
+}
+
+/// Takes a text. Returns what became of it, with the reference of its message.
+fn take_one(desk: &mut Holdings, text: &[u8]) -> Result<(Took, Reference), DeskFault>
+    ensures done { IfOk result (λ r. IsTaken desk.old text.now r.0 r.1 desk.new) }
+    ensures refused { IfErr result (RefusesText (state_of desk.old) text.now) }
+{
+    desk.take(text)
+}
+
+/// What became of a text, as it is printed.
+fn printed(took: Took, reference: Reference) -> Printed
+    ensures { result ≡ took_printed took reference }
+{
+    match took {
+        Took::Taken => Printed::Taken { reference },
+        Took::Repeated => Printed::Repeated { reference },
+    }
+}

@@ -1,0 +1,82 @@
+//! The lines that commands print.
+ghost use Rattle.std.specs.Prelude.{◌≡◌, ◌++◌, IfOk, IfSome, OnOk, Some};
+ghost use Rattle.ssim_base.specs.Export.{line};
+ghost use Rattle.ssim_program.specs.print.Printed.{printed_text};
+
+use ssim_text::Reference;
+use ssim_values::Memory;
+use std::alloc::Global;
+use std::fmt;
+use std::io::Write;
+
+/// A line that a command prints. It is displayed without its line end.
+#[derive(Clone, Copy, Debug, PartialEq, Eq)]
+pub enum Printed {
+    /// The record's serial does not follow the serial before it.
+    SerialNote {
+        record: u64,
+    },
+    /// The trailer's check reference is not the serial of the record before.
+    CheckReferenceNote {
+        record: u64,
+    },
+    /// How many records other than fill there are, distinct flights, and notes.
+    Summary {
+        records: usize,
+        flights: usize,
+        notes: usize,
+    },
+    /// The message of a text was new, and is held.
+    Taken {
+        reference: Reference,
+    },
+    /// The message of a text was held already.
+    Repeated {
+        reference: Reference,
+    },
+    /// How many messages a desk holds.
+    Held {
+        messages: usize,
+    },
+}
+
+impl fmt::Display for Printed {
+    ghost output = { λ p. Some (printed_text p) };
+
+    fn fmt<W: fmt::Write>(&self, f: &mut fmt::Formatter<W>) -> fmt::Result {
+        match self {
+            Printed::SerialNote { record } => write!(f, "note Serial record {record}"),
+            Printed::CheckReferenceNote { record } => {
+                write!(f, "note CheckReference record {record}")
+            }
+            Printed::Summary {
+                records,
+                flights,
+                notes,
+            } => write!(f, "ok records {records} flights {flights} notes {notes}"),
+            Printed::Taken { reference } => write!(f, "taken {reference}"),
+            Printed::Repeated { reference } => write!(f, "repeated {reference}"),
+            Printed::Held { messages } => write!(f, "held {messages}"),
+        }
+    }
+}
+
+/// Adds the line of what is displayed, with its end.
+pub(crate) fn add_line<D: fmt::Display>(lines: &mut Vec<u8>, shown: &D) -> Result<(), Memory>
+    ensures { OnOk result
+        (IfSome (D.output shown.now) (λ text. lines.new.items ≡ lines.old.items ++ line text)) }
+{
+    match writeln!(lines, "{shown}") {
+        Ok(()) => Ok(()),
+        Err(_) => Err(Memory),
+    }
+}
+
+/// The line of what is displayed, with its end.
+pub(crate) fn line_of<D: fmt::Display>(alloc: Global, shown: &D) -> Result<Vec<u8>, Memory>
+    ensures { IfOk result (λ bytes. IfSome (D.output shown.now) (λ text. bytes.items ≡ line text)) }
+{
+    let mut bytes = Vec::new(alloc);
+    add_line(&mut bytes, shown)?;
+    Ok(bytes)
+}

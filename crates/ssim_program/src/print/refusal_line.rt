@@ -1,0 +1,125 @@
+//! The line of a refusal, printed piece by piece. Nothing here allocates.
+
+ghost use Rattle.std.specs.Prelude.{◌++◌, ◌∷◌, codes, decimal};
+ghost use Rattle.ssim_values.specs.Designator.{designator_text};
+ghost use Rattle.ssim_text.specs.Reference.{printed_originator, printed_reference};
+ghost use Rattle.ssim_base.specs.Export.{line};
+ghost use Rattle.ssim_program.specs.internal.Print.{Prints, Puts, without_originator};
+ghost use Rattle.ssim_program.specs.print.Refusal.{named_text, place_text, refusal_file};
+ghost use Rattle.ssim_program.specs.print.Refusal.{refusal_head};
+ghost use Rattle.ssim_program.specs.print.Refusal.{refusal_place, refusal_text};
+
+use crate::print::printer::{Printer, print_all, put_parts};
+use crate::refusal::Refusal;
+use itoa::Buffer;
+use ssim_base::Place;
+use ssim_text::{Originator, Reference};
+use ssim_values::Designator;
+use std::io::Write;
+
+/// Prints the line of a refusal, and flushes it. Returns 52 if the writer failed, or took no byte
+/// of some.
+pub(crate) fn print_refusal<W: Write>(
+    refusal: &Refusal,
+    err: &mut Printer<'_, W>,
+) -> Result<(), Refusal>
+    ensures { Prints (line (refusal_text refusal.now)) err.old err.new result }
+{
+    put_head(refusal, err)?;
+    put_named(refusal, err)?;
+    print_all(err, b"\n")
+}
+
+/// Prints `refused`, the number and the name.
+fn put_head<W: Write>(refusal: &Refusal, err: &mut Printer<'_, W>) -> Result<(), Refusal>
+    ensures { Puts (refusal_head refusal.now) err.old err.new result }
+{
+    let mut digits = Buffer::new();
+    let number = digits.format(refusal.number()).as_bytes();
+    let name = refusal.name().as_bytes();
+    put_parts(err, &[b"refused ", number, b" ", name])
+}
+
+/// Prints what a refusal names: the file of 91, or its place.
+fn put_named<W: Write>(refusal: &Refusal, err: &mut Printer<'_, W>) -> Result<(), Refusal>
+    ensures { Puts (named_text (refusal_file refusal.now) (refusal_place refusal.now))
+        err.old err.new result }
+{
+    match refusal.file() {
+        Some(file) => put_parts(err, &[b" ", file.as_bytes()]),
+        None => put_place(refusal.place(), err),
+    }
+}
+
+/// Prints a place, after a blank.
+fn put_place<W: Write>(place: Place, err: &mut Printer<'_, W>) -> Result<(), Refusal>
+    ensures { Puts (place_text place) err.old err.new result }
+{
+    match place {
+        Place::Nowhere => Ok(()),
+        Place::Record(record) => put_number(b" record ", record, err),
+        Place::Column { record, column } => put_column(record, column, err),
+        Place::Line(line) => put_number(b" line ", line, err),
+        Place::SubMessage(sub) => put_number(b" sub ", sub as u64, err),
+        Place::Offset(offset) => put_number(b" offset ", offset, err),
+        Place::Flight(flight) => put_flight(flight, err),
+        Place::Message(reference) => put_message(&reference, err),
+    }
+}
+
+/// Prints a number after its label.
+fn put_number<W: Write>(label: &[u8], number: u64, err: &mut Printer<'_, W>) -> Result<(), Refusal>
+    ensures { Puts (label.now ++ decimal number) err.old err.new result }
+{
+    let mut digits = Buffer::new();
+    put_parts(err, &[label, digits.format(number).as_bytes()])
+}
+
+/// Prints the number of a record and a column of it.
+fn put_column<W: Write>(number: u64, column: usize, err: &mut Printer<'_, W>) -> Result<(), Refusal>
+    ensures { Puts (codes " record " ++ decimal number ++ codes " column " ++ decimal column)
+        err.old err.new result }
+{
+    let mut of_record = Buffer::new();
+    let mut of_column = Buffer::new();
+    let number = of_record.format(number).as_bytes();
+    let column = of_column.format(column).as_bytes();
+    put_parts(err, &[b" record ", number, b" column ", column])
+}
+
+/// Prints a flight.
+fn put_flight<W: Write>(flight: Designator, err: &mut Printer<'_, W>) -> Result<(), Refusal>
+    ensures { Puts (codes " flight " ++ designator_text flight) err.old err.new result }
+{
+    let designator = flight.write();
+    put_parts(err, &[b" flight ", designator.as_slice()])
+}
+
+/// Prints the reference of a message, after a blank.
+fn put_message<W: Write>(reference: &Reference, err: &mut Printer<'_, W>) -> Result<(), Refusal>
+    ensures { Puts (32 ∷ printed_reference reference.now) err.old err.new result }
+{
+    put_serials(reference, err)?;
+    put_originator(reference.originator, err)
+}
+
+/// Prints the kind, the date and the serials of a reference, each after a blank.
+fn put_serials<W: Write>(reference: &Reference, err: &mut Printer<'_, W>) -> Result<(), Refusal>
+    ensures { Puts (without_originator reference.now) err.old err.new result }
+{
+    let kind = reference.kind.name().as_bytes();
+    let date = reference.date.write();
+    let group = reference.group_digits();
+    let serial = reference.serial_digits();
+    put_parts(err, &[b" ", kind, b" ", &date, b" ", &group, b" ", &serial])
+}
+
+/// Prints an originator after a blank, or nothing if it is blank.
+fn put_originator<W: Write>(originator: Originator, err: &mut Printer<'_, W>) -> Result<(), Refusal>
+    ensures { Puts (printed_originator originator) err.old err.new result }
+{
+    if originator.is_none() {
+        return Ok(());
+    }
+    put_parts(err, &[b" ", &originator.bytes()])
+}
