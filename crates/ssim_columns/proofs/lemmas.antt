@@ -5,6 +5,7 @@ pub mod Days
 pub mod Eights
 pub mod LegChanges
 pub mod Legs
+pub mod Months
 pub mod Names
 pub mod NewTails
 pub mod Numbers

@@ -227,16 +227,18 @@ pub(crate) fn utc_variation_of(text: &[u8]) -> Option<Option<Variation>>
     }
 }
 
-/// The day of an end that is not before the start, or the open end.
+/// The day of an end that is not before the start, or the open end. `day` is the day that the text
+/// spells.
 #[tactic(auto, unfolding(crate::specs::Columns::end_from))]
-pub(crate) fn end_from(start: Day, text: &[u8]) -> Option<Option<Day>>
-    requires { length text.now ≡ 7 }
+pub(crate) fn end_from(start: Day, text: &[u8], day: Option<Day>) -> Option<Option<Day>>
+    requires len { length text.now ≡ 7 }
+    requires day { day ≡ day_of text.now }
     ensures { result ≡ end_from (Some start) text.now }
 {
     if are_same_seven(seven(text), *b"00XXX00") {
         return Some(None);
     }
-    match day_of(text) {
+    match day {
         Some(end) if end.number() >= start.number() => Some(Some(end)),
         _ => None,
     }
@@ -267,7 +269,7 @@ fn dates_fault(text: &[u8]) -> Option<usize>
     let Some(start) = day_of(first) else {
         return Some(0);
     };
-    match end_from(start, last) {
+    match end_from(start, last, day_of(last)) {
         Some(_) => None,
         None => Some(7),
     }

@@ -1,20 +1,22 @@
 //! What the latest records had in columns that are parsed. Mostly the next record has the same, and
 //! it is not parsed again.
 
-ghost use Rattle.std.specs.Prelude.{◌≡◌, ◌<◌, IfSome, Some};
+ghost use Rattle.std.specs.Prelude.{◌≡◌, ◌<◌, IfSome, Some, length};
+ghost use Rattle.ssim_values.specs.Day.{day_of};
 ghost use Rattle.ssim_values.specs.DayMask.{days_of};
 ghost use Rattle.ssim_columns.specs.Columns.{columns};
 ghost use Rattle.ssim_columns.specs.Leg.{IsName, SpellsName};
 ghost use Rattle.ssim_columns.specs.internal.LatestColumns.{SpellsDates, SpellsEnds, SpellsFlight, SpellsFlightLeg};
 ghost use Rattle.ssim_columns.specs.Numbers.{digits_of};
 
-use crate::field::{Field, Kind, day_of, days_of, end_from};
+use crate::field::{Field, Kind, days_of, end_from};
+use crate::latest_months::LatestMonths;
 use crate::leg::leg_fields::{DAYS, FIRST_DAY, LAST_DAY};
 use crate::leg::leg_name::{
     AirlineFlight, FlightLeg, LegName, name_with, read_flight, read_flight_leg,
 };
-use crate::text::array::bytes_of;
-use crate::text::equality::{are_same, are_same_four};
+use crate::text::array::{bytes_of, seven};
+use crate::text::equality::{are_same, are_same_four, are_same_seven};
 use crate::text::number::digits_of;
 use ssim_values::{Day, DayMask};
 use std::marker::Model;
@@ -209,11 +211,28 @@ impl EndsRead {
     }
 }
 
-fn read_ends(bytes: &[u8; 200]) -> Option<LegEnds>
+// The day that a text spells, if another text spells `first`. A leg of one day has the same text
+// twice, and the day is read once.
+fn day_after(months: &mut LatestMonths, first: Day, first_text: &[u8], text: &[u8]) -> Option<Day>
+    requires first_len { length first_text.now ≡ 7 }
+    requires first { day_of first_text.now ≡ Some first }
+    requires len { length text.now ≡ 7 }
+    ensures { result ≡ day_of text.now }
+{
+    if are_same_seven(seven(text), seven(first_text)) {
+        return Some(first);
+    }
+    months.day_of(text)
+}
+
+fn read_ends(bytes: &[u8; 200], months: &mut LatestMonths) -> Option<LegEnds>
     ensures { IfSome result (λ ends. SpellsEnds ends bytes.now) }
 {
-    let first = day_of(FIRST_DAY.text(bytes))?;
-    let last = end_from(first, LAST_DAY.text(bytes))?;
+    let first_text = FIRST_DAY.text(bytes);
+    let first = months.day_of(first_text)?;
+    let last_text = LAST_DAY.text(bytes);
+    let day = day_after(months, first, first_text, last_text);
+    let last = end_from(first, last_text, day)?;
     Some(LegEnds { first, last })
 }
 
@@ -269,7 +288,7 @@ impl SerialRead {
 }
 
 /// The latest flight, its latest leg, the latest ends of a period, the latest days of operation and
-/// the first digits of the latest serial of the records so far.
+/// the first digits of the latest serial of the records so far, and the months of the latest dates.
 #[derive(Drop)]
 pub struct LatestColumns {
     flight: Option<FlightRead>,
@@ -277,6 +296,7 @@ pub struct LatestColumns {
     ends: Option<EndsRead>,
     days: Option<DaysRead>,
     serial: SerialRead,
+    months: LatestMonths,
 }
 
 impl LatestColumns {
@@ -287,6 +307,7 @@ impl LatestColumns {
             ends: None,
             days: None,
             serial: SerialRead::new(),
+            months: LatestMonths::new(),
         }
     }
 
@@ -350,7 +371,7 @@ impl LatestColumns {
                 return Some(ends);
             }
         }
-        let ends = read_ends(bytes)?;
+        let ends = read_ends(bytes, &mut self.months)?;
         self.ends = Some(EndsRead::new(bytes, &ends));
         Some(ends)
     }

@@ -34,6 +34,7 @@ macro_rules! field {
 
 mod field;
 mod latest_columns;
+mod latest_months;
 mod leg;
 mod record_writers;
 mod segment;

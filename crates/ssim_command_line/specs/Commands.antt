@@ -1,10 +1,8 @@
 -- What `clap` reads of the program's commands.
-use Rattle.std.specs.Prelude.{◌≡◌, ℕ, true, false, List, [], ◌∷◌, Some, codes}
-use Rattle.clap.specs.Words.{App, Rule, Shape, new_rule, shape_of, with_subcommand}
+use Rattle.std.specs.Prelude.{ℕ, true, List, [], ◌∷◌, Some, codes}
+use Rattle.clap.specs.Words.{App, Rule, Shape, new_rule, with_subcommand}
 use Rattle.clap.specs.Simple.{new_shape}
 use Rattle.clap.specs.declared.builder.action.ArgAction.TheVariants.{Append}
-use Rattle.clap.specs.declared.builder.command.Command.{Command}
-use Rattle.clap.specs.declared.builder.command.Command.TheViews.{out-Command}
 
 -- a value that has to be there
 abbrev pub needed : List ℕ → Rule
@@ -30,10 +28,6 @@ two_values_and_texts = needed (codes "first") ∷ needed (codes "second") ∷ se
 abbrev pub leaf : List ℕ → List Rule → Shape
 leaf name rules = record (new_shape name) { rules = rules }
 
--- the command has this shape, and no argument that its subcommands take too
-abbrev pub IsLeaf : Shape → Command → Type 0
-IsLeaf s c = (shape_of c ≡ s) × ((out-Command c).has_globals ≡ false)
-
 -- the program without its commands
 abbrev pub bare_program : App
 bare_program = record {
@@ -48,7 +42,8 @@ add_all a (s ∷ rest) = add_all (with_subcommand a s) rest
 
 -- the commands on a data set
 abbrev pub on_data_sets : List Shape
-on_data_sets = leaf (codes "check") one_value ∷ leaf (codes "tidy") one_value ∷ leaf (codes "start") three_values ∷ []
+on_data_sets =
+    leaf (codes "check") one_value ∷ leaf (codes "tidy") one_value ∷ leaf (codes "start") three_values ∷ []
 
 -- the commands that change a desk
 abbrev pub on_desks : List Shape
@@ -56,7 +51,8 @@ on_desks = leaf (codes "take") two_values_and_texts ∷ leaf (codes "merge") thr
 
 -- the commands that print what a desk has
 abbrev pub of_desks : List Shape
-of_desks = leaf (codes "show") three_values ∷ leaf (codes "findings") one_value ∷ leaf (codes "export") one_value ∷ []
+of_desks = leaf (codes "show") three_values ∷ leaf (codes "findings") one_value
+    ∷ leaf (codes "export") one_value ∷ []
 
 -- the command that runs a script
 abbrev pub rehearsals : List Shape
@@ -68,4 +64,5 @@ explanations = leaf (codes "explain") one_value ∷ []
 
 -- the program with all its commands
 abbrev pub whole_program : App
-whole_program = add_all (add_all (add_all (add_all (add_all bare_program on_data_sets) on_desks) of_desks) rehearsals) explanations
+whole_program = add_all (add_all (add_all (add_all (add_all bare_program on_data_sets)
+    on_desks) of_desks) rehearsals) explanations

@@ -2,7 +2,8 @@
 use Rattle.std.specs.Prelude.{List, Option, None, map, option_and_then, option_map, if◌then◌else◌, codes}
 use Rattle.std.specs.Str.{bytes_eq}
 use Rattle.clap.specs.Words.{Row, all_of, first_of}
-use Rattle.ssim_command_line.specs.Line.{Line, Text, Check, Tidy, Start, Take, Merge, Show, Findings, Export, Rehearse, Explain}
+use Rattle.ssim_command_line.specs.Line.{Line, Text, Check, Tidy, Start, Take, Merge, Show, Findings, Export}
+use Rattle.ssim_command_line.specs.Line.{Rehearse, Explain}
 use Rattle.ssim_command_line.specs.declared.command_line.Request.{Request}
 use Rattle.ssim_command_line.specs.declared.command_line.Request.TheVariants as request
 
@@ -23,11 +24,13 @@ line_of (request.Explain word) = Explain word.now
 
 -- the first value and the second, if both are given
 abbrev pub two_of : List Row → Option (Text × Text)
-two_of rows = option_and_then (λ a. option_map (λ b. (a, b)) (first_of (codes "second") rows)) (first_of (codes "first") rows)
+two_of rows = option_and_then (λ a. option_map (λ b. (a, b)) (first_of (codes "second") rows))
+    (first_of (codes "first") rows)
 
 -- the first value, the second and the third, if all are given
 abbrev pub three_of : List Row → Option (Text × Text × Text)
-three_of rows = option_and_then (λ p. option_map (λ c. (p.0, p.1, c)) (first_of (codes "third") rows)) (two_of rows)
+three_of rows =
+    option_and_then (λ p. option_map (λ c. (p.0, p.1, c)) (first_of (codes "third") rows)) (two_of rows)
 
 -- the line of a command with one value, if it is given
 abbrev pub with_one : (Text → Line) → List Row → Option Line

@@ -58,13 +58,15 @@ fn value_at<'a>(inner: &ArgMatches<'a>, id: &str) -> Option<&'a str>
 
 #[tactic(auto, using(crate::proofs::Rows::all_rows))]
 fn texts_at<'m, 'a>(inner: &'m ArgMatches<'a>) -> Option<&'m [&'a str]>
-    ensures { option_map (λ s. map (λ v. v.now) s.now) result ≡ all_of (codes "texts") (rows_of (found_of inner.now)) }
+    ensures { option_map (λ s. map (λ v. v.now) s.now) result
+        ≡ all_of (codes "texts") (rows_of (found_of inner.now)) }
 {
     inner.get_raw("texts")
 }
 
 fn one<'a>(inner: &ArgMatches<'a>) -> Option<&'a str>
-    ensures { option_map (λ s. s.now) result ≡ first_of (codes "first") (rows_of (found_of inner.now)) }
+    ensures { option_map (λ s. s.now) result
+        ≡ first_of (codes "first") (rows_of (found_of inner.now)) }
 {
     value_at(inner, "first")
 }
@@ -78,7 +80,8 @@ fn two<'a>(inner: &ArgMatches<'a>) -> Option<(&'a str, &'a str)>
 }
 
 fn three<'a>(inner: &ArgMatches<'a>) -> Option<(&'a str, &'a str, &'a str)>
-    ensures { option_map (λ p. (p.0.now, p.1.now, p.2.now)) result ≡ three_of (rows_of (found_of inner.now)) }
+    ensures { option_map (λ p. (p.0.now, p.1.now, p.2.now)) result
+        ≡ three_of (rows_of (found_of inner.now)) }
 {
     let (first, second) = two(inner)?;
     let third = value_at(inner, "third")?;
@@ -104,7 +107,8 @@ fn read<'a>(
     name: &str,
     inner: &ArgMatches<'a>,
 ) -> Result<Option<Request<'a>>, AllocError>
-    ensures { IfOk result (λ r. option_map line_of r ≡ line_at name.now (rows_of (found_of inner.now))) }
+    ensures { IfOk result
+        (λ r. option_map line_of r ≡ line_at name.now (rows_of (found_of inner.now))) }
 {
     if name == "check" {
         return Ok(one(inner).map(Request::Check));

@@ -1,7 +1,11 @@
 //! The commands as `clap` sees them.
 ghost use Rattle.std.specs.Prelude.{◌≡◌, IfOk, codes, false};
 ghost use Rattle.clap.specs.Words.{app_of, rule_of};
-ghost use Rattle.ssim_command_line.specs.Commands.{IsLeaf, add_all, explanations, leaf, needed, of_desks, on_data_sets, on_desks, one_value, rehearsals, several_texts, three_values, two_values_and_texts, whole_program};
+ghost use Rattle.ssim_command_line.specs.Commands.{add_all, explanations, leaf, needed, of_desks};
+ghost use Rattle.ssim_command_line.specs.Commands.{on_data_sets, on_desks, one_value, rehearsals};
+ghost use Rattle.ssim_command_line.specs.Commands.{several_texts, three_values};
+ghost use Rattle.ssim_command_line.specs.Commands.{two_values_and_texts, whole_program};
+ghost use Rattle.ssim_command_line.specs.internal.Commands.{IsLeaf};
 
 use crate::help;
 use clap::{Arg, ArgAction, Command};

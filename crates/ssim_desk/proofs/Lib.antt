@@ -19,3 +19,4 @@ pub mod Exports
 pub mod Brought
 pub mod DeskFiles
 pub mod Lines
+pub mod DateStepLemmas

@@ -1,18 +1,30 @@
 -- What the calls of a desk do and return.
-use Rattle.std.specs.Prelude.{◌≡◌, ℕ, ◌+◌, ◌*◌, ◌≤◌, Bool, ◌&&◌, ◌||◌, nat_eq, IsTrue, List, [], ◌∷◌, ◌++◌, length, take, slice_get, Contains, None}
+use Rattle.std.specs.Prelude.{◌≡◌, ℕ, ◌+◌, ◌*◌, ◌≤◌, Bool, ◌&&◌, ◌||◌, nat_eq, IsTrue, List, [], ◌∷◌, ◌++◌}
+use Rattle.std.specs.Prelude.{length, take, slice_get, Contains, None}
 use Rattle.std.specs.Prelude.{Option, Some, Result, Ok, Err}
 use Rattle.std.specs.{FinMap.get, Io.KnownBytes.Appends, List.{count_by, flat_map, list_any}}
 use Rattle.ssim_periods.specs.Days.{each_day}
-use Rattle.ssim_base.specs.{BaseSeen.{BaseSeen, is_leg_of}, Sinks.TakesFront, Stations.Row, Timetable.{Days, Legs, same_flight}}
+use Rattle.ssim_base.specs.BaseSeen.{BaseSeen, is_leg_of}
+use Rattle.ssim_base.specs.Sinks.{TakesFront}
+use Rattle.ssim_base.specs.Stations.{Row}
+use Rattle.ssim_base.specs.Timetable.{Days, Legs, same_flight}
 use Rattle.ssim_base.specs.Export as exported
-use Rattle.ssim_schedule.specs.{DivisionPoints.is_point, Schedule.Table, declared.export.ExportFault.ExportFault}
+use Rattle.ssim_schedule.specs.DivisionPoints.{is_point}
+use Rattle.ssim_schedule.specs.Schedule.{Table}
+use Rattle.ssim_schedule.specs.declared.export.ExportFault.{ExportFault}
 use Rattle.ssim_schedule.specs.declared.export.ExportFault.TheVariants as export
 use Rattle.ssim_base.specs.{declared.sub_message.ResolvedSub.ResolvedSub}
 use Rattle.ssim_schedule.specs.{declared.finding.Finding.Finding}
-use Rattle.ssim_text.specs.{Grammar.identifier_of, declared.action.Sub.Sub, declared.reference.Reference.Reference}
+use Rattle.ssim_text.specs.Grammar.{identifier_of}
+use Rattle.ssim_text.specs.declared.action.Sub.{Sub}
+use Rattle.ssim_text.specs.declared.reference.Reference.{Reference}
 use Rattle.ssim_values.specs.Flight.{FlightNumber}
-use Rattle.ssim_held.specs.{Entries.{DeskSeen, Entry, map_of}, Held.DeskState, declared.fault.DeskFault.DeskFault}
-use Rattle.ssim_desk.specs.{Meaning.{Exports, found_by, left_by}, declared.desk.Took.Took, declared.finding_line.FindingLine.FindingLine}
+use Rattle.ssim_held.specs.Entries.{DeskSeen, Entry, map_of}
+use Rattle.ssim_held.specs.Held.{DeskState}
+use Rattle.ssim_held.specs.declared.fault.DeskFault.{DeskFault}
+use Rattle.ssim_desk.specs.Meaning.{Exports, found_by, left_by}
+use Rattle.ssim_desk.specs.declared.desk.Took.{Took}
+use Rattle.ssim_desk.specs.declared.finding_line.FindingLine.{FindingLine}
 use Rattle.ssim_desk.specs.declared.steps.Answer.{Answer}
 use Rattle.ssim_desk.specs.declared.steps.Answer.TheVariants.{Taken, Repeated, Merged, Refused}
 use Rattle.ssim_desk.specs.declared.desk.Took.TheVariants as took
@@ -69,14 +81,15 @@ days_of_desk desk flight = each_day (timetable_of desk flight)
 
 -- the finding lines of the sub-messages of one message, from number n on
 abbrev pub sub_lines : Reference → ℕ → List Sub → List Finding → List FindingLine
-sub_lines reference n (sub ∷ subs) (finding ∷ findings) =
-    record { reference = reference; sub = n; action = identifier_of sub.action; designator = sub.designator; finding = finding }
-    ∷ sub_lines reference (n + 1) subs findings
+sub_lines r n (s ∷ subs) (f ∷ findings) =
+    record { reference = r; sub = n; action = identifier_of s.action; designator = s.designator; finding = f }
+    ∷ sub_lines r (n + 1) subs findings
 sub_lines _ _ _ _ = []
 
 -- the finding lines of messages, in their order
 abbrev pub entry_lines : List Entry → List (List Finding) → List FindingLine
-entry_lines (e ∷ entries) (findings ∷ found) = sub_lines e.reference 1 e.message.subs findings ++ entry_lines entries found
+entry_lines (e ∷ entries) (findings ∷ found) =
+    sub_lines e.reference 1 e.message.subs findings ++ entry_lines entries found
 entry_lines _ _ = []
 
 -- a line for each sub-message: what it found on the dates of its period when it was applied in
@@ -87,11 +100,15 @@ finding_lines desk = entry_lines desk.held (found_by desk.base desk.held)
 -- What an export of a desk leaves. The sink has taken the bytes of the desk's export; or the desk's
 -- export is this refusal, 50 or 51; or the sink failed, and has taken a prefix of the bytes of the
 -- desk's export; or memory ran out.
-abbrev pub WritesDesk : {W : Type 0} → (W → Option (List ℕ)) → DeskState → W → W → Result (Unit {0}) ExportFault → Type 0
-WritesDesk taken desk old new (Ok x) = (bytes : List ℕ) × Exports desk (Ok bytes) × Appends (taken old) (taken new) bytes
-WritesDesk taken desk old new (Err (export.Variations flight)) = Exports desk (Err (exported.Variations flight))
+abbrev pub WritesDesk : {W : Type 0} → (W → Option (List ℕ)) → DeskState → W → W
+    → Result (Unit {0}) ExportFault → Type 0
+WritesDesk taken desk old new (Ok x) =
+    (bytes : List ℕ) × Exports desk (Ok bytes) × Appends (taken old) (taken new) bytes
+WritesDesk taken desk old new (Err (export.Variations flight)) =
+    Exports desk (Err (exported.Variations flight))
 WritesDesk taken desk old new (Err export.Records) = Exports desk (Err exported.Records)
-WritesDesk taken desk old new (Err export.WriteFault) = (bytes : List ℕ) × Exports desk (Ok bytes) × TakesFront bytes (taken old) (taken new)
+WritesDesk taken desk old new (Err export.WriteFault) =
+    (bytes : List ℕ) × Exports desk (Ok bytes) × TakesFront bytes (taken old) (taken new)
 WritesDesk taken desk old new (Err export.Memory) = Unit {0}
 
 -- ---- cuts: the days at which the dates of a flight are divided
@@ -112,23 +129,27 @@ is_row_point day row = nat_eq day row.first || nat_eq day (row.last + 1)
 -- row, or the day after the last of one of these
 abbrev pub is_sub_point : List Row → FlightNumber → ℕ → ResolvedSub → Bool
 is_sub_point rows flight day sub =
-    is_sub_of flight sub && ((nat_eq day sub.period.first || nat_eq day (sub.period.last + 1)) || list_any (is_row_point day) rows)
+    is_sub_of flight sub
+    && ((nat_eq day sub.period.first || nat_eq day (sub.period.last + 1)) || list_any (is_row_point day) rows)
 
 -- whether the day is a division point of the flight: of a leg record, or of a sub-message that
 -- names it
 abbrev pub is_desk_point : BaseSeen → List Entry → FlightNumber → ℕ → Bool
 is_desk_point base entries flight day =
-    list_any (is_point flight day) base.records || list_any (is_sub_point base.rows flight day) (subs_of entries)
+    list_any (is_point flight day) base.records
+    || list_any (is_sub_point base.rows flight day) (subs_of entries)
 
 -- each cut is a division point of the flight
 abbrev pub AreDeskPoints : BaseSeen → List Entry → FlightNumber → List ℕ → Type 0
-AreDeskPoints base entries flight cuts = (cut : ℕ) → Contains cuts cut → IsTrue (is_desk_point base entries flight cut)
+AreDeskPoints base entries flight cuts =
+    (cut : ℕ) → Contains cuts cut → IsTrue (is_desk_point base entries flight cut)
 
 -- the most division points: two for each leg record of the flight, each sub-message that names it,
 -- and each station row
 abbrev pub point_bound : BaseSeen → List Entry → FlightNumber → ℕ
 point_bound base entries flight =
-    2 * (count_by (is_leg_of flight) base.records + count_by (is_sub_of flight) (subs_of entries) + length base.rows)
+    2 * (count_by (is_leg_of flight) base.records + count_by (is_sub_of flight) (subs_of entries)
+    + length base.rows)
 
 -- whether a leg record of the base, or a sub-message that is held, names the flight
 abbrev pub is_flight_named : DeskSeen → FlightNumber → Bool

@@ -6,3 +6,4 @@ pub mod Agreement
 pub mod Desk
 pub mod internal
 pub mod examples
+pub mod DateSteps

@@ -6,7 +6,8 @@ use Rattle.ssim_base.specs.{BaseSeen.BaseSeen, Export.{ExportRefusal, Frame, cha
 use Rattle.ssim_schedule.specs.{Acts.{after_on, finding_of}}
 use Rattle.ssim_base.specs.{Resolve.ResolvesIn, Stations.Row, Timetable.{Legs, itinerary, same_flight}}
 use Rattle.ssim_schedule.specs.{declared.finding.Finding.Finding}
-use Rattle.ssim_base.specs.{declared.sub_message.ResolvedSub.ResolvedSub, declared.resolution.ResolvedText.ResolvedText}
+use Rattle.ssim_base.specs.declared.sub_message.ResolvedSub.{ResolvedSub}
+use Rattle.ssim_base.specs.declared.resolution.ResolvedText.{ResolvedText}
 use Rattle.ssim_text.specs.declared.action.{Action.Action, Sub.Sub}
 use Rattle.ssim_values.specs.Flight.{FlightNumber}
 use Rattle.ssim_held.specs.{Held.{DeskState, IsDesk}, Entries.{Entry, keyed}}
@@ -19,11 +20,13 @@ Timetable = FlightNumber → ℕ → Legs
 -- by itself
 abbrev pub after_one : List Row → Action → ResolvedSub → Timetable → Timetable
 after_one rows action sub before flight day =
-    if same_flight sub.flight flight && holds sub.period day then after_on rows action day (before flight day) else before flight day
+    if same_flight sub.flight flight && holds sub.period day then after_on rows action day (before flight day)
+    else before flight day
 
 -- the timetable after the sub-messages of a text, in order, each with its full dates
 abbrev pub after_subs : List Row → List Sub → List ResolvedSub → Timetable → Timetable
-after_subs rows (sub ∷ subs) (dated ∷ dates) before = after_subs rows subs dates (after_one rows sub.action dated before)
+after_subs rows (sub ∷ subs) (dated ∷ dates) before =
+    after_subs rows subs dates (after_one rows sub.action dated before)
 after_subs _ _ _ before = before
 
 -- the timetable after the sub-messages of an entry
@@ -46,7 +49,8 @@ subs_findings _ _ _ _ = []
 abbrev pub entries_findings : List Row → List Entry → Timetable → List (List Finding)
 entries_findings rows [] before = []
 entries_findings rows (e ∷ entries) before =
-    subs_findings rows e.message.subs e.dates before ∷ entries_findings rows entries (after_entry rows e before)
+    subs_findings rows e.message.subs e.dates before
+    ∷ entries_findings rows entries (after_entry rows e before)
 
 -- the timetable that these messages, in this order, leave of a base
 abbrev pub left_by : BaseSeen → List Entry → Timetable
@@ -97,4 +101,5 @@ HasExport = (desk : DeskState) → IsDesk desk → (answer : Result (List ℕ) E
 
 -- A desk has at most one export result.
 abbrev pub HasOneExport : Type 0
-HasOneExport = (desk : DeskState) (one other : Result (List ℕ) ExportRefusal) → Exports desk one → Exports desk other → one ≡ other
+HasOneExport = (desk : DeskState) (one other : Result (List ℕ) ExportRefusal) → Exports desk one
+    → Exports desk other → one ≡ other

@@ -1,7 +1,10 @@
 -- Laws of merging, and what determines the result of a step.
 use Rattle.std.specs.Prelude.{◌≡◌, ◌≢◌, List, ℕ}
-use Rattle.ssim_held.specs.{Held.{Agree, DeskState, HeldMessages, union}, declared.fault.DeskFault.TheVariants.Memory}
-use Rattle.ssim_desk.specs.{Steps.{Merges, Takes}, declared.steps.Answer.Answer, declared.steps.Answer.TheVariants.{Merged, Refused}}
+use Rattle.ssim_held.specs.Held.{Agree, DeskState, HeldMessages, union}
+use Rattle.ssim_held.specs.declared.fault.DeskFault.TheVariants.{Memory}
+use Rattle.ssim_desk.specs.Steps.{Merges, Takes}
+use Rattle.ssim_desk.specs.declared.steps.Answer.{Answer}
+use Rattle.ssim_desk.specs.declared.steps.Answer.TheVariants.{Merged, Refused}
 
 -- (a with b) with c holds what a with (b with c) holds
 abbrev pub MergesAssociate : Type 0
@@ -22,7 +25,8 @@ merged mine theirs = record mine { held = union mine.held theirs.held }
 -- unless memory is refused, the merge returns Merged and leaves this desk
 abbrev pub IsMergedTo : DeskState → DeskState → DeskState → Type 0
 IsMergedTo mine theirs after =
-    (answer : Answer) (held : HeldMessages) → Merges mine theirs answer held → answer ≢ Refused Memory → (answer ≡ Merged) × (record mine { held = held } ≡ after)
+    (answer : Answer) (held : HeldMessages) → Merges mine theirs answer held → answer ≢ Refused Memory
+    → (answer ≡ Merged) × (record mine { held = held } ≡ after)
 
 -- three desks over one base, of which no two hold different messages under one reference
 pub record AreMergeable (a b c : DeskState) : Type 0 where
@@ -50,12 +54,14 @@ ThreeDesksMerge = (a b c : DeskState) → AreMergeable a b c → MergeFreely a b
 -- held afterwards.
 abbrev pub TakesAreDetermined : Type 0
 TakesAreDetermined =
-    (desk : DeskState) (text : List ℕ) (answer other : Answer) (held others : HeldMessages) → Takes desk text answer held → Takes desk text other others
+    (desk : DeskState) (text : List ℕ) (answer other : Answer) (held others : HeldMessages)
+    → Takes desk text answer held → Takes desk text other others
     → answer ≢ Refused Memory → other ≢ Refused Memory → (answer ≡ other) × (held ≡ others)
 
 -- Unless memory is refused, two desks determine the result of merging them and the messages held
 -- afterwards.
 abbrev pub MergesAreDetermined : Type 0
 MergesAreDetermined =
-    (mine theirs : DeskState) (answer other : Answer) (held others : HeldMessages) → Merges mine theirs answer held → Merges mine theirs other others
+    (mine theirs : DeskState) (answer other : Answer) (held others : HeldMessages)
+    → Merges mine theirs answer held → Merges mine theirs other others
     → answer ≢ Refused Memory → other ≢ Refused Memory → (answer ≡ other) × (held ≡ others)

@@ -1,14 +1,19 @@
 -- What texts and merges do to desks, and what they return. Each of them may run out of memory,
 -- which changes nothing.
-use Rattle.std.specs.Prelude.{◌≡◌, ◌≢◌, ℕ, ◌<◌, ◌==◌, ◌&&◌, not, Bool, true, false, List, [], ◌∷◌, None, slice_get, slice_index_or, slice_set}
+use Rattle.std.specs.Prelude.{◌≡◌, ◌≢◌, ℕ, ◌<◌, ◌==◌, ◌&&◌, not, Bool, true, false, List, [], ◌∷◌, None}
+use Rattle.std.specs.Prelude.{slice_get, slice_index_or, slice_set}
 use Rattle.std.specs.FinMap.{get, insert}
 use Rattle.ssim_base.specs.{Resolve.IsRefusedIn, declared.resolution.ResolveFault.ResolveFault}
-use Rattle.ssim_text.specs.{Decoder.{IsRefusal, NoMessage}, Message.MessageValue, Spelling.SpellsMessage, declared.fault.TextFault.TextFault}
+use Rattle.ssim_text.specs.Decoder.{IsRefusal, NoMessage}
+use Rattle.ssim_text.specs.Message.{MessageValue}
+use Rattle.ssim_text.specs.Spelling.{SpellsMessage}
+use Rattle.ssim_text.specs.declared.fault.TextFault.{TextFault}
 use Rattle.ssim_text.specs.declared.reference.Reference.{Reference}
-use Rattle.ssim_held.specs.{Held.{Agree, DeskState, HeldMessages, Holds, IsLeastConflict, Says, no_desk, union}}
+use Rattle.ssim_held.specs.Held.{Agree, DeskState, HeldMessages, Holds, IsLeastConflict, Says, no_desk, union}
 use Rattle.ssim_held.specs.declared.fault.DeskFault.{DeskFault}
 use Rattle.ssim_held.specs.declared.fault.DeskFault.TheVariants.{Memory, Text, Resolve, Conflict, OtherBase}
-use Rattle.ssim_desk.specs.{declared.steps.Answer.Answer, declared.steps.Answer.TheVariants.{Taken, Repeated, Merged, Refused}}
+use Rattle.ssim_desk.specs.declared.steps.Answer.{Answer}
+use Rattle.ssim_desk.specs.declared.steps.Answer.TheVariants.{Taken, Repeated, Merged, Refused}
 use Rattle.ssim_desk.specs.{declared.steps.Step.Step, declared.steps.Step.TheVariants.{Take, Merge}}
 use Rattle.ssim_base.specs.declared.resolution.ResolveFault.TheVariants as resolve_fault
 use Rattle.ssim_text.specs.declared.fault.TextFault.TheVariants as text_fault
@@ -18,7 +23,8 @@ use Rattle.ssim_text.specs.declared.fault.TextFault.TheVariants as text_fault
 -- the text spells no message, for the reason that the fault names
 abbrev pub IsUnspelt : List ℕ → TextFault → Type 0
 IsUnspelt text text_fault.Memory = ⊥
-IsUnspelt text (text_fault.Refused fault line) = NoMessage text (text_fault.Refused fault line) × IsRefusal text (text_fault.Refused fault line)
+IsUnspelt text (text_fault.Refused fault line) =
+    NoMessage text (text_fault.Refused fault line) × IsRefusal text (text_fault.Refused fault line)
 
 -- the message of the text does not resolve, for the reason that the fault names
 pub record IsUnresolved (desk : DeskState) (text : List ℕ) (fault : ResolveFault) : Type 0 where
@@ -71,7 +77,8 @@ Takes _ _ Merged _ = ⊥
 abbrev pub RefusesDesk : DeskState → DeskState → DeskFault → Type 0
 RefusesDesk mine theirs Memory = Unit {0}
 RefusesDesk mine theirs OtherBase = mine.base ≢ theirs.base
-RefusesDesk mine theirs (Conflict reference) = (mine.base ≡ theirs.base) × IsLeastConflict mine.held theirs.held reference
+RefusesDesk mine theirs (Conflict reference) =
+    (mine.base ≡ theirs.base) × IsLeastConflict mine.held theirs.held reference
 RefusesDesk _ _ _ = ⊥
 
 -- both desks have one base and no reference has two messages, and the messages of both are held
@@ -108,13 +115,15 @@ IsOwnMerge (Take i text) = ⊥
 IsOwnMerge (Merge into from) = into ≡ from
 
 -- a step takes a text to a desk
-pub record TakesAt (desks : List DeskState) (i : ℕ) (text : List ℕ) (answer : Answer) (after : List DeskState) : Type 0 where
+pub record TakesAt (desks : List DeskState) (i : ℕ) (text : List ℕ) (answer : Answer)
+    (after : List DeskState) : Type 0 where
   pub held : HeldMessages
   pub takes : Takes (desk_at desks i) text answer held
   pub put : after ≡ with_held desks i held
 
 -- a step merges one desk into another
-pub record MergesAt (desks : List DeskState) (into from : ℕ) (answer : Answer) (after : List DeskState) : Type 0 where
+pub record MergesAt (desks : List DeskState) (into from : ℕ) (answer : Answer)
+    (after : List DeskState) : Type 0 where
   pub held : HeldMessages
   pub merges : Merges (desk_at desks into) (desk_at desks from) answer held
   pub put : after ≡ with_held desks into held

@@ -1,6 +1,7 @@
 //! A desk: a base and messages by reference.
 
-ghost use Rattle.std.specs.Prelude.{◌≡◌, ◌⊎◌, ◌++◌, ◌<◌, ◌≤◌, ℕ, All, Contains, [], ◌∷◌, false, length, take, drop, Ok, IfOk, IfErr, OnErr, OnOk};
+ghost use Rattle.std.specs.Prelude.{◌≡◌, ◌⊎◌, ◌++◌, ◌<◌, ◌≤◌, ℕ, All, Contains, [], ◌∷◌, false};
+ghost use Rattle.std.specs.Prelude.{length, take, drop, Ok, IfOk, IfErr, OnErr, OnOk};
 ghost use Rattle.std.specs.Io.KnownBytes.{Appends};
 ghost use Rattle.std.specs.List.Sorted.{IsStrictlyIncreasing};
 ghost use Rattle.ssim_values.specs.Calendar.{weekday};
@@ -12,7 +13,9 @@ ghost use Rattle.ssim_held.specs.File.{CanBeSaved, desk_file};
 ghost use Rattle.ssim_held.specs.Opening.{FailsAs, NeverEnds, Opens, RefusesFile};
 ghost use Rattle.ssim_held.specs.Entries.{AreEntries, AreRising, IsEntry, map_of, state_of};
 ghost use Rattle.ssim_held.specs.Ordered.{Belongs};
-ghost use Rattle.ssim_desk.specs.Desk.{AreDeskPoints, IsReplayed, WritesDesk, at_rest, days_of_desk, finding_lines, is_flight_named, merge_answer, point_bound, take_answer, timetable_of};
+ghost use Rattle.ssim_desk.specs.Desk.{AreDeskPoints, IsReplayed, WritesDesk, at_rest};
+ghost use Rattle.ssim_desk.specs.Desk.{days_of_desk, finding_lines, is_flight_named, merge_answer};
+ghost use Rattle.ssim_desk.specs.Desk.{point_bound, take_answer, timetable_of};
 ghost use Rattle.ssim_desk.specs.internal.Changes.{IsReplaced};
 ghost use Rattle.ssim_desk.specs.Meaning.{Finds, Means, Timetable, found_by};
 ghost use Rattle.ssim_desk.specs.Steps.{Merges, Takes};
@@ -80,12 +83,15 @@ impl Desk {
     /// came than the limit, both with record number 0, and 62 if the bytes are no desk file, with
     /// the number of bytes before the first invalid element.
     pub fn open<R: Source>(alloc: Global, reader: &mut R, limit: u64) -> Result<Desk, DeskFault>
-        ensures ok { IfOk result (λ desk. Opens limit (R.left reader.old) desk.seen.base desk.seen.held) }
+        ensures ok { IfOk result
+            (λ desk. Opens limit (R.left reader.old) desk.seen.base desk.seen.held) }
         ensures applied { IfOk result (λ desk. desk.seen.applied ≡ length desk.seen.held) }
         ensures err { IfErr result (RefusesFile limit (R.left reader.old)) }
         ensures no_failure { IfOk result (λ _. R.failures reader.new ≡ R.failures reader.old) }
-        ensures failure { IfErr result (λ e. FailsAs (R.failures reader.old) (R.failures reader.new) e) }
-        ensures never_ends { IfErr result (λ e. NeverEnds limit (Came (R.left reader.old) (R.left reader.new) (R.came reader.old) (R.came reader.new)) e) }
+        ensures failure { IfErr result
+            (λ e. FailsAs (R.failures reader.old) (R.failures reader.new) e) }
+        ensures never_ends { IfErr result (λ e. NeverEnds limit (Came (R.left reader.old)
+            (R.left reader.new) (R.came reader.old) (R.came reader.new)) e) }
     {
         let opened = read_desk(alloc, reader, limit)?;
         let desk = Desk::over(Holdings::of(alloc, opened))?;
@@ -122,7 +128,8 @@ impl Desk {
     /// resolve, 60 if another message is held under its reference. The desk changes only if the
     /// message was new.
     pub fn take(&mut self, text: &[u8]) -> Result<Took, DeskFault>
-        ensures takes { Takes (state_of self.old.seen) text.now (take_answer result) (map_of self.new.seen.held) }
+        ensures takes { Takes (state_of self.old.seen) text.now (take_answer result)
+            (map_of self.new.seen.held) }
         ensures base { self.new.seen.base ≡ self.old.seen.base }
         ensures taken { result ≡ Ok Took.Taken → IsReplayed self.old.seen self.new.seen }
         ensures repeated { result ≡ Ok Took.Repeated → self.new ≡ self.old }
@@ -143,7 +150,8 @@ impl Desk {
     /// Returns 61 if it has another base, else 60 with the first reference under which the two hold
     /// different messages. The desk changes only if the other holds a message that is new.
     pub fn merge(&mut self, other: &Desk) -> Result<(), DeskFault>
-        ensures merges { Merges (state_of self.old.seen) (state_of other.now.seen) (merge_answer result) (map_of self.new.seen.held) }
+        ensures merges { Merges (state_of self.old.seen) (state_of other.now.seen)
+            (merge_answer result) (map_of self.new.seen.held) }
         ensures base { self.new.seen.base ≡ self.old.seen.base }
         ensures replayed { OnOk result (IsReplayed self.old.seen self.new.seen
             ⊎ (self.new ≡ record self.old { seen = at_rest self.old.seen })) }
@@ -166,7 +174,8 @@ impl Desk {
     pub fn itinerary(&self, flight: &Flight, day: Day) -> &[PlacedLeg]
         ensures value { result.now ≡ timetable_of self.now.seen flight.now day }
         ensures means { Means (state_of self.now.seen) (timetable_of self.now.seen) }
-        ensures only { (timetable : Timetable) → Means (state_of self.now.seen) timetable → result.now ≡ timetable flight.now day }
+        ensures only { (timetable : Timetable) → Means (state_of self.now.seen) timetable
+            → result.now ≡ timetable flight.now day }
     {
         // No effect at run time. The proof reads from these uses that the flight and the day
         // exist, and that the messages are those of a desk.
@@ -187,12 +196,15 @@ impl Desk {
         // Each is the first day or the day after the last of a leg record of the flight, or of a
         // sub-message that names it; or, if there is such a sub-message, of a station row.
         ensures points { AreDeskPoints self.now.seen.base self.now.seen.held flight.now result.now }
-        ensures bound { length result.now ≤ point_bound self.now.seen.base self.now.seen.held flight.now }
+        ensures bound { length result.now
+            ≤ point_bound self.now.seen.base self.now.seen.held flight.now }
         ensures unnamed { is_flight_named self.now.seen flight.now ≡ false → result.now ≡ [] }
 
         // Two days of one weekday have the same itinerary if no cut is after the earlier and not
         // after the later.
-        ensures weekly { (m n : ℕ) → m ≤ n → n < 36525 → weekday m ≡ weekday n → ((cut : ℕ) → Contains result.now cut → m < cut → n < cut) → timetable_of self.now.seen flight.now m ≡ timetable_of self.now.seen flight.now n }
+        ensures weekly { (m n : ℕ) → m ≤ n → n < 36525 → weekday m ≡ weekday n
+            → ((cut : ℕ) → Contains result.now cut → m < cut → n < cut)
+            → timetable_of self.now.seen flight.now m ≡ timetable_of self.now.seen flight.now n }
     {
         // No effect at run time. The proof reads from these uses that the flight exists.
         let _ = flight.number();
@@ -204,7 +216,8 @@ impl Desk {
     /// period.
     pub fn findings(&self) -> Result<Vec<FindingLine>, Memory>
         ensures lines { IfOk result (λ lines. lines.items ≡ finding_lines self.now.seen) }
-        ensures finds { IfOk result (λ lines. Finds (state_of self.now.seen) (found_by self.now.seen.base self.now.seen.held)) }
+        ensures finds { IfOk result (λ lines. Finds (state_of self.now.seen)
+            (found_by self.now.seen.base self.now.seen.held)) }
     {
         let mut lines = Vec::new(self.holdings.allocator());
         push_lines(&mut lines, self.holdings.held(), &self.history.found)?;
@@ -219,10 +232,13 @@ impl Desk {
     /// and 90 if there is no memory. None of them writes a byte. 52: the sink failed; it has taken
     /// a prefix of the export.
     pub fn export<W: Sink>(&self, out: &mut W) -> Result<(), ExportFault>
-        ensures ok { OnOk result (WritesBase W.taken W.failures self.now.seen.base.records (days_of_desk self.now.seen) out.old out.new) }
-        ensures err { IfErr result (λ fault. RefusesBase W.taken W.failures self.now.seen.base.records (days_of_desk self.now.seen) out.old out.new fault) }
+        ensures ok { OnOk result (WritesBase W.taken W.failures self.now.seen.base.records
+            (days_of_desk self.now.seen) out.old out.new) }
+        ensures err { IfErr result (λ fault. RefusesBase W.taken W.failures
+            self.now.seen.base.records (days_of_desk self.now.seen) out.old out.new fault) }
         ensures device { W.device out.new ≡ W.device out.old }
-        ensures reads_back { OnOk result (ReadsBackBase W.taken self.now.seen.base.records (days_of_desk self.now.seen) out.old out.new) }
+        ensures reads_back { OnOk result (ReadsBackBase W.taken self.now.seen.base.records
+            (days_of_desk self.now.seen) out.old out.new) }
         ensures exports { WritesDesk W.taken (state_of self.now.seen) out.old out.new result }
     {
         // No effect at run time. The proof reads from this use that the messages are those of a
@@ -236,9 +252,11 @@ impl Desk {
     ///
     /// Fails only if the sink fails, with 52. The sink has then taken a prefix of the file.
     pub fn save<W: Sink>(&self, out: &mut W) -> Result<(), WriteFault>
-        ensures ok { OnOk result (Appends (W.taken out.old) (W.taken out.new) (desk_file self.now.seen.base self.now.seen.held)) }
+        ensures ok { OnOk result (Appends (W.taken out.old) (W.taken out.new)
+            (desk_file self.now.seen.base self.now.seen.held)) }
         ensures can_be_saved { OnOk result (CanBeSaved self.now.seen.base self.now.seen.held) }
-        ensures err { OnErr result (TakesFront (desk_file self.now.seen.base self.now.seen.held) (W.taken out.old) (W.taken out.new)) }
+        ensures err { OnErr result (TakesFront (desk_file self.now.seen.base self.now.seen.held)
+            (W.taken out.old) (W.taken out.new)) }
         ensures failures { CountsFault (W.failures out.old) (W.failures out.new) result }
         ensures device { W.device out.new ≡ W.device out.old }
     {
@@ -247,7 +265,11 @@ impl Desk {
 
     // The desk that holds this. All its messages are applied.
     fn over(holdings: Holdings) -> Result<Desk, Memory>
-        ensures { IfOk result (λ desk. desk.seen ≡ record { base = holdings.base; held = holdings.held; applied = length holdings.held }) }
+        ensures { IfOk result (λ desk. desk.seen ≡ record {
+          base = holdings.base;
+          held = holdings.held;
+          applied = length holdings.held;
+        }) }
     {
         let alloc = holdings.allocator();
         let history = History::of(alloc, holdings.base(), holdings.held())?;
@@ -258,7 +280,8 @@ impl Desk {
     fn insert(&mut self, at: usize, new: Held) -> Result<(), Memory>
         requires gap { Belongs self.old.seen.held new.reference at at }
         requires entry { IsEntry self.old.seen.base.records new }
-        ensures ok { OnOk result (IsReplaced self.old.seen at (new ∷ drop at self.old.seen.held) self.new.seen) }
+        ensures ok { OnOk result
+            (IsReplaced self.old.seen at (new ∷ drop at self.old.seen.held) self.new.seen) }
         ensures err { OnErr result (self.new ≡ self.old) }
     {
         let alloc = self.holdings.allocator();
@@ -276,7 +299,8 @@ impl Desk {
     // Replaces the messages from position `at` on.
     fn replace_from(&mut self, at: usize, rest: Vec<Held>) -> Result<(), Memory>
         requires within { at ≤ length self.old.seen.held }
-        requires entries { AreEntries self.old.seen.base.records (take at self.old.seen.held ++ rest.items) }
+        requires entries { AreEntries self.old.seen.base.records
+            (take at self.old.seen.held ++ rest.items) }
         ensures ok { OnOk result (IsReplaced self.old.seen at rest.items self.new.seen) }
         ensures err { OnErr result (self.new ≡ self.old) }
     {

@@ -22,7 +22,8 @@ pub struct FindingLine {
     pub finding: Finding,
 }
 
-fn identifier(action: &Action) -> ActionIdentifier
+/// The identifier of an action.
+pub(crate) fn identifier(action: &Action) -> ActionIdentifier
     ensures { result ≡ identifier_of action.now }
 {
     match action {
@@ -43,7 +44,8 @@ fn push_subs(
     findings: &[Finding],
 ) -> Result<(), Memory>
     requires { number + length subs.now < 2 ^ 64 }
-    ensures { OnOk result (lines.new.items ≡ lines.old.items ++ sub_lines reference.now number subs.now findings.now) }
+    ensures { OnOk result (lines.new.items
+        ≡ lines.old.items ++ sub_lines reference.now number subs.now findings.now) }
 {
     match (subs.split_first(), findings.split_first()) {
         (Some((sub, subs)), Some((finding, findings))) => {

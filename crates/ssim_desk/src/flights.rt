@@ -3,19 +3,21 @@
 ghost use Rattle.std.specs.Prelude.{◌≡◌, ◌++◌, map, IfOk, OnOk};
 ghost use Rattle.std.specs.List.{list_any};
 ghost use Rattle.ssim_desk.specs.Desk.{is_sub_of};
-ghost use Rattle.ssim_desk.specs.Meaning.{Timetable, after_entries, entries_findings, found_by, left_by};
+ghost use Rattle.ssim_desk.specs.Meaning.{Timetable, after_entries, entries_findings, found_by};
+ghost use Rattle.ssim_desk.specs.Meaning.{left_by};
 ghost use Rattle.ssim_desk.specs.internal.Changes.{Shows, flights_of};
 
 use crate::message_effect::act;
 use crate::replay::MessageFindings;
 use ssim_base::{Base, ResolvedSub, StationRow};
 use ssim_held::Held;
-use ssim_schedule::{PlacedLeg, Schedule};
+use ssim_schedule::{PlacedLeg, Schedule, copy_legs};
 use ssim_values::{Day, Flight, Memory};
 use std::alloc::Global;
 
-/// The legs of a flight on a date of origin that messages, in this order, leave of the timetable of a base. Of this timetable only the
-/// flight's is made, and only the messages that name the flight act.
+/// The legs of a flight on a date of origin that messages, in this order, leave of the timetable of
+/// a base. Of this timetable only the flight's is made, and only the messages that name the flight
+/// act.
 pub(crate) fn legs_after(
     alloc: Global,
     base: &Base,
@@ -31,10 +33,11 @@ pub(crate) fn legs_after(
     let _ = day.number();
     let mut schedule = Schedule::of_flights(base.data_set(), &[*flight])?;
     act_on(alloc, base.rows(), &mut schedule, *flight, messages)?;
-    copies(alloc, schedule.itinerary(flight, day))
+    copy_legs(alloc, schedule.itinerary(flight, day))
 }
 
-/// What each of these messages finds in this order. Of the base's timetable only the flights are made that the messages name.
+/// What each of these messages finds in this order. Of the base's timetable only the flights are
+/// made that the messages name.
 pub(crate) fn found_by(
     alloc: Global,
     base: &Base,
@@ -59,7 +62,8 @@ fn flights_of(alloc: Global, messages: &[Held]) -> Result<Vec<Flight>, Memory>
 }
 
 fn push_flights(flights: &mut Vec<Flight>, subs: &[ResolvedSub]) -> Result<(), Memory>
-    ensures { OnOk result (flights.new.items ≡ flights.old.items ++ map (λ sub. sub.flight) subs.now) }
+    ensures { OnOk result (flights.new.items ≡ flights.old.items ++ map
+        (λ sub. sub.flight) subs.now) }
 {
     for sub in subs {
         flights.push(sub.flight)?;
@@ -74,7 +78,8 @@ fn act_all(
     schedule: &mut Schedule,
     messages: &[Held],
 ) -> Result<Vec<MessageFindings>, Memory>
-    ensures { IfOk result (λ found. (before : Timetable) → Shows schedule.old before → found.items ≡ entries_findings rows.now messages.now before) }
+    ensures { IfOk result (λ found. (before : Timetable) → Shows schedule.old before
+        → found.items ≡ entries_findings rows.now messages.now before) }
 {
     let mut found = Vec::new(alloc);
     for held in messages {
@@ -91,7 +96,9 @@ fn act_on(
     flight: Flight,
     messages: &[Held],
 ) -> Result<(), Memory>
-    ensures { OnOk result ((before : Timetable) → Shows schedule.old before → (after : Timetable) × Shows schedule.new after × (after flight ≡ after_entries rows.now messages.now before flight)) }
+    ensures { OnOk result ((before : Timetable) → Shows schedule.old before → (after : Timetable)
+        × Shows schedule.new after
+        × (after flight ≡ after_entries rows.now messages.now before flight)) }
 {
     for held in messages {
         if names(held, flight) {
@@ -106,14 +113,4 @@ fn names(held: &Held, flight: Flight) -> bool
     ensures { result ≡ list_any (is_sub_of flight) held.now.dates }
 {
     held.dates().iter().any(|sub| sub.flight == flight)
-}
-
-fn copies(alloc: Global, legs: &[PlacedLeg]) -> Result<Vec<PlacedLeg>, Memory>
-    ensures { IfOk result (λ copies. copies.items ≡ legs.now) }
-{
-    let mut copies = Vec::with_capacity(alloc, legs.len())?;
-    for leg in legs {
-        copies.push(leg.copy(alloc)?)?;
-    }
-    Ok(copies)
 }

@@ -1,9 +1,11 @@
 //! The schedules that messages leave, from which a late message is applied.
 
-ghost use Rattle.std.specs.Prelude.{◌≡◌, ◌⊎◌, ◌≤◌, ◌+◌, ◌*◌, ◌/◌, ◌++◌, ℕ, List, length, take, IfOk, OnOk};
+ghost use Rattle.std.specs.Prelude.{◌≡◌, ◌⊎◌, ◌≤◌, ◌+◌, ◌*◌, ◌/◌, ◌++◌, ℕ, List, length, take};
+ghost use Rattle.std.specs.Prelude.{IfOk, OnOk};
 ghost use Rattle.ssim_base.specs.BaseSeen.{BaseSeen};
 ghost use Rattle.ssim_held.specs.Entries.{Entry};
-ghost use Rattle.ssim_desk.specs.internal.Changes.{HasRoom, IsAfter, IsCounted, IsHistory, IsReplay};
+ghost use Rattle.ssim_desk.specs.internal.Changes.{HasRoom, IsAfter, IsCounted, IsHistory};
+ghost use Rattle.ssim_desk.specs.internal.Changes.{IsReplay};
 
 use crate::replay::{MessageFindings, Replay, STEP, apply_all};
 use ssim_base::Base;
@@ -72,8 +74,10 @@ impl History {
     fn schedule(&self, count: usize, from: usize) -> &Schedule
         requires within { from ≤ count }
         requires kept { (from ≡ count) ⊎ (from ≡ 32 * (from / 32)) }
-        requires history { (base : BaseSeen) × (held : List Entry) × IsHistory base held self.now × (count ≡ length held) }
-        ensures { (base : BaseSeen) (held : List Entry) → count ≡ length held → IsHistory base held self.now → IsAfter base (take from held) result.now }
+        requires history { (base : BaseSeen) × (held : List Entry) × IsHistory base held self.now
+            × (count ≡ length held) }
+        ensures { (base : BaseSeen) (held : List Entry) → count ≡ length held
+            → IsHistory base held self.now → IsAfter base (take from held) result.now }
     {
         if from == count {
             &self.latest
@@ -85,7 +89,8 @@ impl History {
     /// Makes room for what follows. Nothing else changes.
     pub(crate) fn reserve(&mut self, replay: &Replay) -> Result<(), Memory>
         ensures room { OnOk result (HasRoom self.new replay.now) }
-        ensures same { (base : BaseSeen) (held : List Entry) → IsHistory base held self.old → IsHistory base held self.new }
+        ensures same { (base : BaseSeen) (held : List Entry) → IsHistory base held self.old
+            → IsHistory base held self.new }
         ensures latest { self.new.latest ≡ self.old.latest }
         ensures applied { self.new.applied ≡ self.old.applied }
     {
@@ -97,7 +102,10 @@ impl History {
     /// Puts what follows in place of the old.
     pub(crate) fn put(&mut self, mut replay: Replay)
         requires { HasRoom self.old replay }
-        ensures is { (base : BaseSeen) (held rest : List Entry) (at : ℕ) → at ≤ length held → replay.from ≤ at → IsHistory base held self.old → IsReplay base (take at held ++ rest) replay → IsHistory base (take at held ++ rest) self.new }
+        ensures is { (base : BaseSeen) (held rest : List Entry) (at : ℕ) → at ≤ length held
+            → replay.from ≤ at → IsHistory base held self.old
+            → IsReplay base (take at held ++ rest) replay
+            → IsHistory base (take at held ++ rest) self.new }
         ensures applied { self.new.applied ≡ replay.applied }
     {
         self.found.truncate(replay.from);

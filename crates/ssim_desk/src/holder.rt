@@ -17,14 +17,16 @@ pub trait Holder {
 
     /// Takes a text, as `Desk::take` does.
     fn take(&mut self, text: &[u8]) -> Result<Took, DeskFault>
-        ensures takes { Takes (state_of (seen self.old)) text.now (take_answer result) (map_of (seen self.new).held) }
+        ensures takes { Takes (state_of (seen self.old)) text.now (take_answer result)
+            (map_of (seen self.new).held) }
         ensures base { (seen self.new).base ≡ (seen self.old).base }
         ensures repeated { result ≡ Ok Took.Repeated → self.new ≡ self.old }
         ensures err { OnErr result (self.new ≡ self.old) };
 
     /// Holds what the other holds, too, as `Desk::merge` does.
     fn merge(&mut self, other: &Self) -> Result<(), DeskFault>
-        ensures merges { Merges (state_of (seen self.old)) (state_of (seen other.now)) (merge_answer result) (map_of (seen self.new).held) }
+        ensures merges { Merges (state_of (seen self.old)) (state_of (seen other.now))
+            (merge_answer result) (map_of (seen self.new).held) }
         ensures base { (seen self.new).base ≡ (seen self.old).base }
         ensures err { OnErr result (self.new ≡ self.old) };
 

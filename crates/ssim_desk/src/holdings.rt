@@ -1,6 +1,7 @@
 //! What a desk holds, without the timetable that it leaves.
 
-ghost use Rattle.std.specs.Prelude.{◌≡◌, ◌≤◌, ◌++◌, [], ◌∷◌, length, take, drop, Ok, IfErr, IfOk, OnErr, OnOk};
+ghost use Rattle.std.specs.Prelude.{◌≡◌, ◌≤◌, ◌++◌, [], ◌∷◌, length, take, drop, Ok, IfErr, IfOk};
+ghost use Rattle.std.specs.Prelude.{OnErr, OnOk};
 ghost use Rattle.std.specs.Io.KnownBytes.{Appends};
 ghost use Rattle.ssim_base.specs.BaseSeen.{base_with};
 ghost use Rattle.ssim_schedule.specs.Plan.{ReadsBackBase, RefusesBase, WritesBase};
@@ -12,11 +13,15 @@ ghost use Rattle.ssim_held.specs.Held.{Agree, Says};
 ghost use Rattle.ssim_held.specs.Entries.{AreEntries, AreRising, IsEntry, map_of, state_of};
 ghost use Rattle.ssim_held.specs.Opening.{RefusesBytes};
 ghost use Rattle.ssim_held.specs.Ordered.{Belongs};
-ghost use Rattle.ssim_desk.specs.Desk.{WritesDesk, days_of_desk, finding_lines, merge_answer, timetable_of, took_answer};
+ghost use Rattle.ssim_base.specs.Timetable.{itinerary};
+ghost use Rattle.ssim_desk.specs.DateSteps.{legs_left, steps_on};
+ghost use Rattle.ssim_desk.specs.Desk.{WritesDesk, days_of_desk, finding_lines, merge_answer};
+ghost use Rattle.ssim_desk.specs.Desk.{timetable_of, took_answer};
 ghost use Rattle.ssim_desk.specs.Meaning.{Finds, Means, Timetable, found_by};
 ghost use Rattle.ssim_desk.specs.internal.Changes.{IsChange, IsOffer};
 ghost use Rattle.ssim_desk.specs.Steps.{Merges, RefusesDesk, RefusesText, Takes};
 
+use crate::date_step::{DateHistory, history_of};
 use crate::desk::Took;
 use crate::finding_line::{FindingLine, push_lines};
 use crate::flights::{found_by, legs_after};
@@ -114,10 +119,13 @@ impl Holdings {
     /// Takes a text: holds its message if it is new. Returns the message's reference, too. The
     /// errors are those of `Desk::take`.
     pub fn take(&mut self, text: &[u8]) -> Result<(Took, Reference), DeskFault>
-        ensures takes { Takes (state_of self.old) text.now (took_answer result) (map_of self.new.held) }
-        ensures says { IfOk result (λ taken. (message : MessageValue) × Says self.old.base text.now taken.1 message) }
+        ensures takes { Takes (state_of self.old) text.now (took_answer result)
+            (map_of self.new.held) }
+        ensures says { IfOk result
+            (λ taken. (message : MessageValue) × Says self.old.base text.now taken.1 message) }
         ensures base { self.new.base ≡ self.old.base }
-        ensures repeated { (reference : Reference) → result ≡ Ok (Took.Repeated, reference) → self.new ≡ self.old }
+        ensures repeated { (reference : Reference) → result ≡ Ok (Took.Repeated, reference)
+            → self.new ≡ self.old }
         ensures err { OnErr result (self.new ≡ self.old) }
     {
         let offered = self.offer(text)?;
@@ -133,7 +141,8 @@ impl Holdings {
 
     /// Holds what the other holds, too. The errors are those of `Desk::merge`.
     pub fn merge(&mut self, other: &Holdings) -> Result<(), DeskFault>
-        ensures merges { Merges (state_of self.old) (state_of other.now) (merge_answer result) (map_of self.new.held) }
+        ensures merges { Merges (state_of self.old) (state_of other.now) (merge_answer result)
+            (map_of self.new.held) }
         ensures base { self.new.base ≡ self.old.base }
         ensures err { OnErr result (self.new ≡ self.old) }
     {
@@ -147,9 +156,11 @@ impl Holdings {
     ///
     /// Fails only if the sink fails, with 52. The sink has then taken a prefix of the file.
     pub fn save<W: Sink>(&self, out: &mut W) -> Result<(), WriteFault>
-        ensures ok { OnOk result (Appends (W.taken out.old) (W.taken out.new) (desk_file self.now.base self.now.held)) }
+        ensures ok { OnOk result
+            (Appends (W.taken out.old) (W.taken out.new) (desk_file self.now.base self.now.held)) }
         ensures can_be_saved { OnOk result (CanBeSaved self.now.base self.now.held) }
-        ensures err { OnErr result (TakesFront (desk_file self.now.base self.now.held) (W.taken out.old) (W.taken out.new)) }
+        ensures err { OnErr result (TakesFront (desk_file self.now.base self.now.held)
+            (W.taken out.old) (W.taken out.new)) }
         ensures failures { CountsFault (W.failures out.old) (W.failures out.new) result }
         ensures device { W.device out.new ≡ W.device out.old }
     {
@@ -161,7 +172,8 @@ impl Holdings {
     pub fn itinerary(&self, flight: &Flight, day: Day) -> Result<Vec<PlacedLeg>, Memory>
         ensures value { IfOk result (λ legs. legs.items ≡ timetable_of self.now flight.now day) }
         ensures means { Means (state_of self.now) (timetable_of self.now) }
-        ensures only { IfOk result (λ legs. (timetable : Timetable) → Means (state_of self.now) timetable → legs.items ≡ timetable flight.now day) }
+        ensures only { IfOk result (λ legs. (timetable : Timetable)
+            → Means (state_of self.now) timetable → legs.items ≡ timetable flight.now day) }
     {
         legs_after(self.alloc, &self.base, &self.held, flight, day)
     }
@@ -170,7 +182,8 @@ impl Holdings {
     /// period. Reads all records of the base.
     pub fn findings(&self) -> Result<Vec<FindingLine>, Memory>
         ensures lines { IfOk result (λ lines. lines.items ≡ finding_lines self.now) }
-        ensures finds { IfOk result (λ lines. Finds (state_of self.now) (found_by self.now.base self.now.held)) }
+        ensures finds { IfOk result
+            (λ lines. Finds (state_of self.now) (found_by self.now.base self.now.held)) }
     {
         let found = found_by(self.alloc, &self.base, &self.held)?;
         let mut lines = Vec::new(self.alloc);
@@ -178,14 +191,29 @@ impl Holdings {
         Ok(lines)
     }
 
+    /// What the data set has for a flight on a date of origin, and what each sub-message that is
+    /// held did with it. Reads all records of the base.
+    pub fn history(&self, flight: &Flight, day: Day) -> Result<DateHistory, Memory>
+        ensures first { IfOk result (λ history. history.first ≡ itinerary self.now.base.records flight.now day) }
+        ensures steps { IfOk result (λ history. history.steps.items ≡ steps_on self.now flight.now day) }
+
+        // The last legs are those of `itinerary`.
+        ensures last { IfOk result (λ history. legs_left history.first history.steps.items ≡ timetable_of self.now flight.now day) }
+    {
+        history_of(self.alloc, &self.base, &self.held, flight, day)
+    }
+
     /// Writes the desk's timetable as a data set, as `Desk::export` does. The records are freed
     /// while the timetable is made, so it takes the memory of one of the two. Nothing is kept for
     /// later messages. 90 can also mean that there is no memory for the timetable.
     pub fn export<W: Sink>(self, out: &mut W) -> Result<(), ExportFault>
-        ensures ok { OnOk result (WritesBase W.taken W.failures self.base.records (days_of_desk self) out.old out.new) }
-        ensures err { IfErr result (λ fault. RefusesBase W.taken W.failures self.base.records (days_of_desk self) out.old out.new fault) }
+        ensures ok { OnOk result
+            (WritesBase W.taken W.failures self.base.records (days_of_desk self) out.old out.new) }
+        ensures err { IfErr result (λ fault. RefusesBase W.taken W.failures self.base.records
+            (days_of_desk self) out.old out.new fault) }
         ensures device { W.device out.new ≡ W.device out.old }
-        ensures reads_back { OnOk result (ReadsBackBase W.taken self.base.records (days_of_desk self) out.old out.new) }
+        ensures reads_back { OnOk result
+            (ReadsBackBase W.taken self.base.records (days_of_desk self) out.old out.new) }
         ensures exports { WritesDesk W.taken (state_of self) out.old out.new result }
     {
         let Holdings { base, held, alloc } = self;
@@ -209,7 +237,11 @@ impl Holdings {
     /// What a desk file has.
     pub(crate) fn of(alloc: Global, opened: Opened) -> Holdings
         requires { AreEntries opened.data_set opened.held.items }
-        ensures { result ≡ record { base = base_with opened.data_set opened.stations; held = opened.held.items; applied = 0 } }
+        ensures { result ≡ record {
+          base = base_with opened.data_set opened.stations;
+          held = opened.held.items;
+          applied = 0;
+        } }
     {
         let Opened {
             data_set,
@@ -241,7 +273,8 @@ impl Holdings {
     pub(crate) fn insert(&mut self, at: usize, new: Held) -> Result<(), Memory>
         requires gap { Belongs self.old.held new.reference at at }
         requires entry { IsEntry self.old.base.records new }
-        ensures ok { OnOk result (self.new.held ≡ take at self.old.held ++ (new ∷ drop at self.old.held)) }
+        ensures ok { OnOk result
+            (self.new.held ≡ take at self.old.held ++ (new ∷ drop at self.old.held)) }
         ensures base { self.new.base ≡ self.old.base }
         ensures err { OnErr result (self.new ≡ self.old) }
     {

@@ -1,8 +1,10 @@
 //! What holds of any desks, over the definitions of what texts and merges do.
 
-ghost use Rattle.ssim_desk.specs.Agreement.{AnyTwoDesksAgree, NoConflict, OfferedIsReached, SameMessagesSameDesk};
+ghost use Rattle.ssim_desk.specs.Agreement.{AnyTwoDesksAgree, NoConflict, OfferedIsReached};
+ghost use Rattle.ssim_desk.specs.Agreement.{SameMessagesSameDesk};
 ghost use Rattle.ssim_desk.specs.Meaning.{HasExport, HasMeaning, HasOneExport, HasOneMeaning};
-ghost use Rattle.ssim_desk.specs.Merging.{MergesAreDetermined, MergesAssociate, MergesCommute, MergesRepeat, TakesAreDetermined, ThreeDesksMerge};
+ghost use Rattle.ssim_desk.specs.Merging.{MergesAreDetermined, MergesAssociate, MergesCommute};
+ghost use Rattle.ssim_desk.specs.Merging.{MergesRepeat, TakesAreDetermined, ThreeDesksMerge};
 ghost use Rattle.ssim_desk.specs.Reach.{HoldsWhatReached};
 // The worked examples, which are computed: a false one is an error in this file.
 ghost use Rattle.ssim_desk.specs.examples.Desks;

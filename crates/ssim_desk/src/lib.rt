@@ -7,6 +7,7 @@
 //!   for none, or once for few flights or for the export.
 //! - [`Held`]: a message that a desk holds, with its reference and its canonical text.
 //! - [`FindingLine`]: what a sub-message found on the dates of its period.
+//! - [`DateHistory`]: what each sub-message did with a flight on one date, one [`DateStep`] each.
 //! - [`run_steps`]: tries [`Step`]s on several desks, each a text or a merge, and returns an
 //!   [`Answer`] for each. A [`Holder`] is what it runs on: desks, or holdings.
 //! - `Desk::save`: writes the desk file, which has the base and the messages that are held; or
@@ -23,6 +24,7 @@
 //! Computed examples are in `specs/examples/`.
 #![tactic(auto)]
 
+mod date_step;
 mod desk;
 mod finding_line;
 mod flights;
@@ -35,6 +37,7 @@ mod offer;
 mod replay;
 mod steps;
 
+pub use date_step::{DateHistory, DateStep};
 pub use desk::{Desk, Took};
 pub use finding_line::FindingLine;
 pub use holder::Holder;

@@ -6,7 +6,8 @@ ghost use Rattle.ssim_schedule.specs.Acts.{finding_of};
 ghost use Rattle.ssim_schedule.specs.Schedule.{cuts_in};
 ghost use Rattle.ssim_values.specs.Flight.{FlightNumber, IsFlight};
 ghost use Rattle.ssim_desk.specs.internal.Changes.{AddsSubPoints, Shows};
-ghost use Rattle.ssim_desk.specs.Meaning.{Timetable, after_entries, after_entry, after_one, subs_findings};
+ghost use Rattle.ssim_desk.specs.Meaning.{Timetable, after_entries, after_entry, after_one};
+ghost use Rattle.ssim_desk.specs.Meaning.{subs_findings};
 
 use ssim_base::{ResolvedSub, StationRow};
 use ssim_held::Held;
@@ -22,9 +23,12 @@ fn act_one(
     sub: &Sub,
     dated: ResolvedSub,
 ) -> Result<Finding, Memory>
-    ensures shows { OnOk result ((before : Timetable) → Shows schedule.old before → Shows schedule.new (after_one rows.now sub.now.action dated before)) }
-    ensures found { IfOk result (λ found. (before : Timetable) → Shows schedule.old before → found ≡ finding_of rows.now sub.now.action dated.period (each_day (before dated.flight))) }
-    ensures cuts { OnOk result ((g : FlightNumber) → IsFlight g → AddsSubPoints rows.now (dated ∷ []) g (cuts_in schedule.old g) (cuts_in schedule.new g)) }
+    ensures shows { OnOk result ((before : Timetable) → Shows schedule.old before
+        → Shows schedule.new (after_one rows.now sub.now.action dated before)) }
+    ensures found { IfOk result (λ found. (before : Timetable) → Shows schedule.old before → found
+        ≡ finding_of rows.now sub.now.action dated.period (each_day (before dated.flight))) }
+    ensures cuts { OnOk result ((g : FlightNumber) → IsFlight g
+        → AddsSubPoints rows.now (dated ∷ []) g (cuts_in schedule.old g) (cuts_in schedule.new g)) }
 {
     // No effect at run time. The proof reads from these uses that the flight is one.
     let _ = dated.flight.number();
@@ -39,9 +43,13 @@ pub(crate) fn act(
     schedule: &mut Schedule,
     held: &Held,
 ) -> Result<Vec<Finding>, Memory>
-    ensures shows { OnOk result ((before : Timetable) → Shows schedule.old before → Shows schedule.new (after_entry rows.now held.now before)) }
-    ensures found { IfOk result (λ found. (before : Timetable) → Shows schedule.old before → found.items ≡ subs_findings rows.now held.now.message.subs held.now.dates before) }
-    ensures cuts { OnOk result ((g : FlightNumber) → IsFlight g → AddsSubPoints rows.now held.now.dates g (cuts_in schedule.old g) (cuts_in schedule.new g)) }
+    ensures shows { OnOk result ((before : Timetable) → Shows schedule.old before
+        → Shows schedule.new (after_entry rows.now held.now before)) }
+    ensures found { IfOk result (λ found. (before : Timetable) → Shows schedule.old before
+        → found.items ≡ subs_findings rows.now held.now.message.subs held.now.dates before) }
+    ensures cuts { OnOk result ((g : FlightNumber) → IsFlight g
+        → AddsSubPoints rows.now held.now.dates g (cuts_in schedule.old g)
+        (cuts_in schedule.new g)) }
 {
     let mut found = Vec::new(alloc);
     for (place, sub) in held.message().subs().iter().enumerate() {
@@ -57,7 +65,8 @@ pub(crate) fn act_in_order(
     schedule: &mut Schedule,
     messages: &[Held],
 ) -> Result<(), Memory>
-    ensures { OnOk result ((before : Timetable) → Shows schedule.old before → Shows schedule.new (after_entries rows.now messages.now before)) }
+    ensures { OnOk result ((before : Timetable) → Shows schedule.old before
+        → Shows schedule.new (after_entries rows.now messages.now before)) }
 {
     for held in messages {
         act(alloc, rows, schedule, held)?;

@@ -35,8 +35,10 @@ pub(crate) fn offer_over(
     text: &[u8],
 ) -> Result<Offer, DeskFault>
     requires { (records : List Record) × HasFrame frame.now records × AreEntries records held.now }
-    ensures ok { (base : BaseSeen) → HasFrame frame.now base.records → IfOk result (IsOffer (record { base = base; held = map_of held.now }) held.now text.now) }
-    ensures err { (base : BaseSeen) → HasFrame frame.now base.records → IfErr result (RefusesText (record { base = base; held = map_of held.now }) text.now) }
+    ensures ok { (base : BaseSeen) → HasFrame frame.now base.records
+        → IfOk result (IsOffer (record { base = base; held = map_of held.now }) held.now text.now) }
+    ensures err { (base : BaseSeen) → HasFrame frame.now base.records
+        → IfErr result (RefusesText (record { base = base; held = map_of held.now }) text.now) }
 {
     let message = decode(alloc, text)?;
     let resolved = frame.resolve(&message)?;
@@ -52,8 +54,12 @@ fn offer_resolved(
 ) -> Result<Offer, DeskFault>
     requires rising { AreRising held.now }
     requires dated { length resolved.subs.items ≡ length message.subs }
-    ensures ok { (base : BaseSeen) (text : List ℕ) → SpellsMessage message text → ResolvesIn base.records message resolved → IfOk result (IsOffer (record { base = base; held = map_of held.now }) held.now text) }
-    ensures err { (base : BaseSeen) (text : List ℕ) → SpellsMessage message text → ResolvesIn base.records message resolved → IfErr result (RefusesText (record { base = base; held = map_of held.now }) text) }
+    ensures ok { (base : BaseSeen) (text : List ℕ) → SpellsMessage message text
+        → ResolvesIn base.records message resolved
+        → IfOk result (IsOffer (record { base = base; held = map_of held.now }) held.now text) }
+    ensures err { (base : BaseSeen) (text : List ℕ) → SpellsMessage message text
+        → ResolvesIn base.records message resolved
+        → IfErr result (RefusesText (record { base = base; held = map_of held.now }) text) }
 {
     match look(held, &resolved.reference, &message) {
         LookUp::Same => Ok(Offer::Known(resolved.reference)),

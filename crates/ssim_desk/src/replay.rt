@@ -69,7 +69,9 @@ impl Replay {
     pub(crate) fn after(alloc: Global, schedule: &Schedule, from: usize) -> Result<Replay, Memory>
         ensures counted { IfOk result IsCounted }
         ensures from { IfOk result (λ replay. replay.from ≡ from) }
-        ensures nothing { IfOk result (λ replay. (base : BaseSeen) (entries : List Entry) → from ≡ length entries → IsAfter base entries schedule.now → IsReplay base entries replay) }
+        ensures nothing { IfOk result (λ replay. (base : BaseSeen) (entries : List Entry)
+            → from ≡ length entries → IsAfter base entries schedule.now
+            → IsReplay base entries replay) }
     {
         Ok(Replay {
             latest: schedule.copy()?,
@@ -86,7 +88,8 @@ impl Replay {
         requires { IsCounted self.old }
         ensures counted { IsCounted self.new }
         ensures from { self.new.from ≡ self.old.from }
-        ensures applied { OnOk result ((before : List Entry) → IsReplay base.now before self.old → IsReplay base.now (before ++ held.now ∷ []) self.new) }
+        ensures applied { OnOk result ((before : List Entry) → IsReplay base.now before self.old
+            → IsReplay base.now (before ++ held.now ∷ []) self.new) }
     {
         let findings = act(alloc, base.rows(), &mut self.latest, held)?;
         self.found.push(MessageFindings { findings })?;
@@ -109,7 +112,8 @@ pub(crate) fn apply_all(
     requires { IsCounted replay.old }
     ensures counted { IsCounted replay.new }
     ensures from { replay.new.from ≡ replay.old.from }
-    ensures applied { OnOk result ((before : List Entry) → IsReplay base.now before replay.old → IsReplay base.now (before ++ messages.now) replay.new) }
+    ensures applied { OnOk result ((before : List Entry) → IsReplay base.now before replay.old
+        → IsReplay base.now (before ++ messages.now) replay.new) }
 {
     for held in messages {
         replay.apply(alloc, base, held)?;

@@ -1,10 +1,12 @@
 //! Steps over several desks, which are numbered from 0.
 
-ghost use Rattle.std.specs.Prelude.{◌≡◌, ◌≢◌, ◌<◌, ℕ, false, length, map, slice_get, All, IfOk, OnErr};
+ghost use Rattle.std.specs.Prelude.{◌≡◌, ◌≢◌, ◌<◌, ℕ, false, length, map, slice_get, All, IfOk};
+ghost use Rattle.std.specs.Prelude.{OnErr};
 ghost use Rattle.ssim_held.specs.Held.{IsDesk};
 ghost use Rattle.ssim_held.specs.Entries.{map_of, state_of};
 ghost use Rattle.ssim_desk.specs.Agreement.{DesksAgree};
-ghost use Rattle.ssim_desk.specs.Steps.{Acts, IsInRange, IsOwnMerge, LeavesIdle, Merges, MergesAt, Runs, Takes, is_change};
+ghost use Rattle.ssim_desk.specs.Steps.{Acts, IsInRange, IsOwnMerge, LeavesIdle, Merges, MergesAt};
+ghost use Rattle.ssim_desk.specs.Steps.{Runs, Takes, is_change};
 
 use crate::desk::Took;
 use crate::holder::Holder;
@@ -37,7 +39,8 @@ pub enum Answer {
 
 // The desk takes the text.
 fn take_step<D: Holder>(desk: &mut D, text: &[u8]) -> Answer
-    ensures takes { Takes (state_of (D.seen desk.old)) text.now result (map_of (D.seen desk.new).held) }
+    ensures takes { Takes (state_of (D.seen desk.old)) text.now result
+        (map_of (D.seen desk.new).held) }
     ensures base { (D.seen desk.new).base ≡ (D.seen desk.old).base }
     ensures same { result ≢ Answer.Taken → desk.new ≡ desk.old }
 {
@@ -50,7 +53,8 @@ fn take_step<D: Holder>(desk: &mut D, text: &[u8]) -> Answer
 
 // The desk takes over what the other holds.
 fn merge_step<D: Holder>(desk: &mut D, other: &D) -> Answer
-    ensures merges { Merges (state_of (D.seen desk.old)) (state_of (D.seen other.now)) result (map_of (D.seen desk.new).held) }
+    ensures merges { Merges (state_of (D.seen desk.old)) (state_of (D.seen other.now)) result
+        (map_of (D.seen desk.new).held) }
     ensures base { (D.seen desk.new).base ≡ (D.seen desk.old).base }
     ensures same { result ≢ Answer.Merged → desk.new ≡ desk.old }
 {
@@ -67,7 +71,8 @@ fn merge_at<D: Holder>(desks: &mut [D], into: usize, from: usize) -> Answer
     requires two { into ≢ from }
     ensures others { (d : ℕ) → d ≢ into → slice_get desks.new d ≡ slice_get desks.old d }
     ensures same { result ≢ Answer.Merged → desks.new ≡ desks.old }
-    ensures merges { MergesAt (map (λ d. state_of (D.seen d)) desks.old) into from result (map (λ d. state_of (D.seen d)) desks.new) }
+    ensures merges { MergesAt (map (λ d. state_of (D.seen d)) desks.old) into from result
+        (map (λ d. state_of (D.seen d)) desks.new) }
 {
     if into < from {
         let (front, back) = desks.split_at_mut(from);
@@ -80,9 +85,11 @@ fn merge_at<D: Holder>(desks: &mut [D], into: usize, from: usize) -> Answer
 
 fn run_step<D: Holder>(desks: &mut [D], step: &Step) -> Answer
     requires { IsInRange (length desks.old) step.now }
-    ensures acts { Acts (map (λ d. state_of (D.seen d)) desks.old) step.now result (map (λ d. state_of (D.seen d)) desks.new) }
+    ensures acts { Acts (map (λ d. state_of (D.seen d)) desks.old) step.now result
+        (map (λ d. state_of (D.seen d)) desks.new) }
     ensures own { IsOwnMerge step.now → desks.new ≡ desks.old }
-    ensures idle { (d : ℕ) → is_change d step.now result ≡ false → slice_get desks.new d ≡ slice_get desks.old d }
+    ensures idle { (d : ℕ) → is_change d step.now result ≡ false
+        → slice_get desks.new d ≡ slice_get desks.old d }
 {
     match step {
         Step::Take(desk, text) => take_step(&mut desks[*desk], text),
@@ -117,7 +124,9 @@ pub fn run_steps<D: Holder>(
 ) -> Result<Vec<Answer>, Memory>
     requires { All (IsInRange (length desks.old)) steps.now }
     ensures count { IfOk result (λ answers. length answers.items ≡ length steps.now) }
-    ensures runs { IfOk result (λ answers. Runs (map (λ d. state_of (D.seen d)) desks.old) steps.now answers.items (map (λ d. state_of (D.seen d)) desks.new)) }
+    ensures runs { IfOk result (λ answers. Runs
+        (map (λ d. state_of (D.seen d)) desks.old) steps.now answers.items
+        (map (λ d. state_of (D.seen d)) desks.new)) }
     ensures own { All IsOwnMerge steps.now → desks.new ≡ desks.old }
 
     // A desk is unchanged, `applied` included, if none of its steps returned `Taken` or `Merged`.
@@ -125,7 +134,9 @@ pub fn run_steps<D: Holder>(
 
     // Any two of these desks that began alike, and that the same messages reached, have afterwards
     // the same base, messages, itineraries and export.
-    ensures agree { IfOk result (λ answers. DesksAgree (map (λ d. state_of (D.seen d)) desks.old) steps.now answers.items (map (λ d. state_of (D.seen d)) desks.new)) }
+    ensures agree { IfOk result (λ answers. DesksAgree
+        (map (λ d. state_of (D.seen d)) desks.old) steps.now answers.items
+        (map (λ d. state_of (D.seen d)) desks.new)) }
 
     // With `runs` this makes a run, so `any_two_desks_agree` speaks of the desks of two calls.
     ensures desks { All IsDesk (map (λ d. state_of (D.seen d)) desks.old) }

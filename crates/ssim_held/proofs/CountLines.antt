@@ -16,7 +16,7 @@ use Rattle.std.proofs.lemmas.Str.Parse.{IsDigitsTest, IsNumeralModel, numerals_b
 use Rattle.ssim_values.specs.Characters.{is_digit}
 use Rattle.ssim_text.specs.Bytes.{before, from}
 use Rattle.ssim_held.specs.File.{counted}
-use Rattle.ssim_held.specs.Opening.{is_empty, is_number}
+use Rattle.ssim_held.specs.internal.DeskFileReader.{is_empty, is_number}
 
 -- ---- prefixes
 

@@ -14,7 +14,8 @@ use Rattle.ssim_values.specs.Calendar.{day_of_month, month_of, year_of}
 use Rattle.ssim_values.specs.Day.{day_text}
 use Rattle.ssim_held.specs.File.{after_first_line, counted, row_line, rows_part, texts_part}
 use Rattle.ssim_held.specs.Held.{reference_cmp}
-use Rattle.ssim_held.specs.Opening.{FailsAs, NeverEnds, first_line, is_number}
+use Rattle.ssim_held.specs.Opening.{FailsAs, NeverEnds}
+use Rattle.ssim_held.specs.internal.DeskFileReader.{first_line, is_number}
 use Rattle.ssim_held.specs.declared.fault.DeskFault.TheVariants.{Text, Read}
 use Rattle.ssim_held.specs.declared.desk_file_reader.version.FileVersion.TheVariants.{One, Two}
 

@@ -31,7 +31,8 @@ use Rattle.ssim_text.specs.Bytes.{before}
 use Rattle.ssim_text.specs.Canonical.{canonical}
 use Rattle.ssim_text.specs.Spelling.{EqualWhereWrittenEqual}
 use Rattle.ssim_text.proofs.Words.{before_mark, lacks}
-use Rattle.ssim_held.specs.File.{CanBeSaved, IsFileOf, IsRow, IsSavedAgain, IsSpelled, NoTwoDesks, OpensAsSaved, SavesAsOpened, after_first_line, counted, end_line, record_line, records_part, row_line, row_text, rows_part, text_element, texts_part}
+use Rattle.ssim_held.specs.File.{CanBeSaved, IsFileOf, IsRow, IsSavedAgain, IsSpelled, NoTwoDesks, OpensAsSaved, SavesAsOpened, after_first_line, counted, end_line, records_part, row_line, row_text, rows_part, text_element, texts_part}
+use Rattle.ssim_held.specs.internal.DeskFileReader.{record_line}
 use Rattle.ssim_held.specs.Entries.{Entry, IsEntry}
 use Rattle.ssim_held.proofs.Resolving.{one_reference, one_subs}
 

@@ -10,7 +10,7 @@ use Rattle.ssim_base.specs.Stations.{Row}
 use Rattle.ssim_text.specs.Spelling.{EqualWhereWrittenEqual}
 use Rattle.ssim_held.specs.File.{CanBeSaved, IsDeskFile, IsFileOf, IsRow, IsSpelled, after_first_line, counted, end_line, records_part, row_line, rows_part, text_element, texts_part}
 use Rattle.ssim_held.specs.Entries.{Entry, IsEntry}
-use Rattle.ssim_held.specs.Opening.{AreHeld, IsOf, first_line, version_number}
+use Rattle.ssim_held.specs.internal.DeskFileReader.{AreHeld, IsOf, first_line, version_number}
 use Rattle.ssim_held.specs.declared.desk_file_reader.version.FileVersion.{FileVersion}
 use Rattle.ssim_held.specs.declared.desk_file_reader.version.FileVersion.TheVariants.{One, Two}
 use Rattle.ssim_held.proofs.Files.{counted_apart, both_each, few, records_first, rows_next, text_some, texts_last, within}

@@ -13,9 +13,9 @@ use Rattle.ssim_base.specs.BaseSeen.{BaseSeen}
 use Rattle.ssim_base.specs.SavedBase.{IsBaseRecords, saved}
 use Rattle.ssim_base.specs.Stations.{Row}
 use Rattle.ssim_text.specs.Spelling.{EqualWhereWrittenEqual}
-use Rattle.ssim_held.specs.File.{IsRow, IsSpelled, counted, record_line, records_part, row_line, rows_part, text_element, texts_part}
+use Rattle.ssim_held.specs.File.{IsRow, IsSpelled, counted, records_part, row_line, rows_part, text_element, texts_part}
+use Rattle.ssim_held.specs.internal.DeskFileReader.{record_line, AreHeld, IsNextText, IsOf}
 use Rattle.ssim_held.specs.Entries.{AreRising, Entry, IsEntry}
-use Rattle.ssim_held.specs.Opening.{AreHeld, IsNextText, IsOf}
 use Rattle.ssim_held.specs.declared.desk_file_reader.version.FileVersion.{FileVersion}
 use Rattle.ssim_held.proofs.Files.{IsText, elements_apart, record_length, texts_apart}
 use Rattle.ssim_held.proofs.SavedElements.{each_front, each_push, flat_map-append, length_all, part_is}

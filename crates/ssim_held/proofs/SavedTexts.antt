@@ -18,7 +18,7 @@ use Rattle.ssim_text.specs.declared.reference.Reference.{Reference}
 use Rattle.ssim_held.specs.File.{IsSpelled, counted, text_element}
 use Rattle.ssim_held.specs.Held.{reference_cmp}
 use Rattle.ssim_held.specs.Entries.{AreRising, Entry, keyed}
-use Rattle.ssim_held.specs.Opening.{IsTextOf}
+use Rattle.ssim_held.specs.internal.DeskFileReader.{IsTextOf}
 use Rattle.ssim_held.proofs.Files.{one_entry}
 use Rattle.ssim_held.proofs.Entries.{T-from_true, and_left, and_right, below_later, both, less-from_T, less-to_T, true-from_T}
 use Rattle.ssim_held.proofs.References.{reference_total}

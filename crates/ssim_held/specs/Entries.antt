@@ -1,7 +1,9 @@
 -- What a desk keeps of the messages that it holds, and what contracts see of a desk.
 use Rattle.std.specs.{Prelude.{◌≡◌, ℕ, List, [], ◌∷◌, All, IsTrue}, FinMap.{from_sorted, is_sorted}}
 use Rattle.ssim_records.specs.declared.record.Record.{Record}
-use Rattle.ssim_base.specs.{BaseSeen.BaseSeen, Resolve.ResolvesIn, declared.sub_message.ResolvedSub.ResolvedSub}
+use Rattle.ssim_base.specs.BaseSeen.{BaseSeen}
+use Rattle.ssim_base.specs.Resolve.{ResolvesIn}
+use Rattle.ssim_base.specs.declared.sub_message.ResolvedSub.{ResolvedSub}
 use Rattle.ssim_base.specs.declared.resolution.ResolvedText.{ResolvedText}
 use Rattle.ssim_text.specs.{Message.MessageValue, declared.reference.Reference.Reference}
 use Rattle.ssim_held.specs.Held.{DeskState, HeldMessages, reference_cmp}

@@ -2,7 +2,8 @@
 -- becomes.
 use Rattle.std.specs.Prelude.{ℕ, List, codes}
 use Rattle.ssim_records.specs.Record.{fault_name, fault_number}
-use Rattle.ssim_base.specs.Fault.{record_fault_place, resolve_fault_name, resolve_fault_place, text_fault_place}
+use Rattle.ssim_base.specs.Fault.{record_fault_place, resolve_fault_name, resolve_fault_place}
+use Rattle.ssim_base.specs.Fault.{text_fault_place}
 use Rattle.ssim_base.specs.Resolve.{resolve_fault_number}
 use Rattle.ssim_base.specs.declared.place.Place.{Place}
 use Rattle.ssim_base.specs.declared.place.Place.TheVariants.{Nowhere, Message, Offset}
@@ -10,7 +11,8 @@ use Rattle.ssim_base.specs.declared.resolution.ResolveFault.{ResolveFault}
 use Rattle.ssim_text.specs.Fault.{text_fault_name, text_fault_number}
 use Rattle.ssim_text.specs.declared.fault.TextFault.{TextFault}
 use Rattle.ssim_held.specs.declared.fault.DeskFault.{DeskFault}
-use Rattle.ssim_held.specs.declared.fault.DeskFault.TheVariants.{Memory, Text, Resolve, Conflict, OtherBase, Read, File}
+use Rattle.ssim_held.specs.declared.fault.DeskFault.TheVariants.{Memory, Text, Resolve, Conflict, OtherBase}
+use Rattle.ssim_held.specs.declared.fault.DeskFault.TheVariants.{Read, File}
 use Rattle.ssim_base.specs.declared.resolution.ResolveFault.TheVariants as resolve_fault
 use Rattle.ssim_text.specs.declared.fault.TextFault.TheVariants as text_fault
 

@@ -1,11 +1,21 @@
 -- The desk file: the bytes as which a desk is saved. Its elements are lines, records and texts, one
 -- after another; each line and each record ends with LF, and a text with the LF of its own last
 -- line. Numbers are decimal without leading zeros.
-use Rattle.std.specs.{Prelude.{◌≡◌, ◌⊎◌, ℕ, ◌≤◌, ◌<◌, ◌^◌, List, [], ◌∷◌, ◌++◌, length, take, drop, codes, All, IsTrue}, Fmt.decimal, List.flat_map}
-use Rattle.ssim_records.specs.{Record.written, declared.record.Record.Record}
-use Rattle.ssim_base.specs.{BaseSeen.BaseSeen, SavedBase.{IsBaseRecords, saved}, Stations.Row}
-use Rattle.ssim_text.specs.{Canonical.canonical, Spelling.SpellsMessage, Values.no_originator}
-use Rattle.ssim_values.specs.{Calendar.day_limit, Day.day_text, Station.is_station, Variation.variation_text}
+use Rattle.std.specs.Prelude.{◌≡◌, ◌⊎◌, ℕ, ◌≤◌, ◌<◌, ◌^◌, List, [], ◌∷◌, ◌++◌, length, take, drop, codes, All}
+use Rattle.std.specs.Prelude.{IsTrue}
+use Rattle.std.specs.Fmt.{decimal}
+use Rattle.std.specs.List.{flat_map}
+use Rattle.ssim_records.specs.declared.record.Record.{Record}
+use Rattle.ssim_base.specs.BaseSeen.{BaseSeen}
+use Rattle.ssim_base.specs.SavedBase.{IsBaseRecords, saved}
+use Rattle.ssim_base.specs.Stations.{Row}
+use Rattle.ssim_text.specs.Canonical.{canonical}
+use Rattle.ssim_text.specs.Spelling.{SpellsMessage}
+use Rattle.ssim_text.specs.Values.{no_originator}
+use Rattle.ssim_values.specs.Calendar.{day_limit}
+use Rattle.ssim_values.specs.Day.{day_text}
+use Rattle.ssim_values.specs.Station.{is_station}
+use Rattle.ssim_values.specs.Variation.{variation_text}
 use Rattle.ssim_held.specs.Entries.{AreEntries, Entry}
 
 -- ---- the elements
@@ -14,14 +24,10 @@ use Rattle.ssim_held.specs.Entries.{AreEntries, Entry}
 abbrev pub counted : List ℕ → ℕ → List ℕ
 counted word n = word ++ 32 ∷ (decimal n ++ 10 ∷ [])
 
--- a record as it is written, 201 bytes. The records of a base have serial and check reference 0,
--- and blank rates and overflows.
-abbrev pub record_line : Record → List ℕ
-record_line r = written r ++ 10 ∷ []
-
 -- a row of the station table with single blanks, without the LF, as `ZRH 30MAR25 25OCT25 +0200`
 abbrev pub row_text : Row → List ℕ
-row_text row = row.station ++ 32 ∷ (day_text row.first ++ 32 ∷ (day_text row.last ++ 32 ∷ variation_text row.variation))
+row_text row =
+    row.station ++ 32 ∷ (day_text row.first ++ 32 ∷ (day_text row.last ++ 32 ∷ variation_text row.variation))
 
 -- the text of a row with its LF: 26 bytes
 abbrev pub row_line : Row → List ℕ
@@ -51,7 +57,8 @@ end_line = codes "END" ++ 10 ∷ []
 
 -- what follows the first line
 abbrev pub after_first_line : BaseSeen → List Entry → List ℕ
-after_first_line base entries = records_part base.records ++ (rows_part base.rows ++ (texts_part entries ++ end_line))
+after_first_line base entries =
+    records_part base.records ++ (rows_part base.rows ++ (texts_part entries ++ end_line))
 
 -- ---- the file
 
@@ -85,7 +92,8 @@ pub record CanBeSaved (base : BaseSeen) (entries : List Entry) : Type 0 where
 -- originators
 abbrev pub IsFileOf : List ℕ → BaseSeen → List Entry → Type 0
 IsFileOf bytes base entries =
-    (bytes ≡ desk_file base entries) ⊎ ((bytes ≡ counted (codes "SSIMDESK") 1 ++ after_first_line base entries) × All HasNoOriginator entries)
+    (bytes ≡ desk_file base entries)
+    ⊎ ((bytes ≡ counted (codes "SSIMDESK") 1 ++ after_first_line base entries) × All HasNoOriginator entries)
 
 -- the bytes are the desk file of a base and of the messages that are held
 pub record IsDeskFile (bytes : List ℕ) (base : BaseSeen) (entries : List Entry) : Type 0 where
@@ -100,7 +108,8 @@ NoTwoDesks = (bytes : List ℕ) (base other : BaseSeen) (entries others : List E
 -- A desk opened from a saved file is the desk that was saved.
 abbrev pub OpensAsSaved : Type 0
 OpensAsSaved = (bytes : List ℕ) (base other : BaseSeen) (entries others : List Entry) → length bytes < 2 ^ 64
-    → CanBeSaved base entries → bytes ≡ desk_file base entries → IsDeskFile bytes other others → (other ≡ base) × (others ≡ entries)
+    → CanBeSaved base entries → bytes ≡ desk_file base entries → IsDeskFile bytes other others
+    → (other ≡ base) × (others ≡ entries)
 
 -- the file that was opened is saved as the same bytes, except for a first line of version 1
 pub record IsSavedAgain (bytes : List ℕ) (base : BaseSeen) (entries : List Entry) : Type 0 where
@@ -110,4 +119,5 @@ pub record IsSavedAgain (bytes : List ℕ) (base : BaseSeen) (entries : List Ent
 -- A desk opened from any valid file is saved as that file's bytes, but for the version in the first
 -- line.
 abbrev pub SavesAsOpened : Type 0
-SavesAsOpened = (bytes : List ℕ) (base : BaseSeen) (entries : List Entry) → IsDeskFile bytes base entries → IsSavedAgain bytes base entries
+SavesAsOpened = (bytes : List ℕ) (base : BaseSeen) (entries : List Entry) → IsDeskFile bytes base entries
+    → IsSavedAgain bytes base entries

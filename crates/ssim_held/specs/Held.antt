@@ -1,10 +1,17 @@
 -- What a desk is: a base, and messages by reference. The union of two maps of messages, and the
 -- keys under which they differ.
-use Rattle.std.specs.{Prelude.{◌≡◌, ◌≢◌, ◌++◌, ℕ, List, [], Some}, Cmp.Lexicographic.slice_cmp, FinMap.{FinMap, empty, entries, from_entries, get}}
+use Rattle.std.specs.Prelude.{◌≡◌, ◌≢◌, ◌++◌, ℕ, List, [], Some}
+use Rattle.std.specs.Cmp.Lexicographic.{slice_cmp}
+use Rattle.std.specs.FinMap.{FinMap, empty, entries, from_entries, get}
 use Rattle.std.specs.{Ordering.nat_cmp, declared.cmp.Ordering.Ordering}
 use Rattle.std.specs.declared.cmp.Ordering.TheVariants.{Less}
-use Rattle.ssim_base.specs.{BaseSeen.{BaseSeen, WasRead}, Resolve.ResolvesIn, declared.resolution.ResolvedText.ResolvedText}
-use Rattle.ssim_text.specs.{Message.MessageValue, Reference.reference_numbers, Spelling.SpellsMessage, declared.reference.Reference.Reference}
+use Rattle.ssim_base.specs.BaseSeen.{BaseSeen, WasRead}
+use Rattle.ssim_base.specs.Resolve.{ResolvesIn}
+use Rattle.ssim_base.specs.declared.resolution.ResolvedText.{ResolvedText}
+use Rattle.ssim_text.specs.Message.{MessageValue}
+use Rattle.ssim_text.specs.Reference.{reference_numbers}
+use Rattle.ssim_text.specs.Spelling.{SpellsMessage}
+use Rattle.ssim_text.specs.declared.reference.Reference.{Reference}
 
 -- references are compared by date, group serial, message serial, kind and originator
 abbrev pub reference_cmp : Reference → Reference → Ordering
@@ -24,7 +31,8 @@ abbrev pub Holds : DeskState → Reference → MessageValue → Type 0
 Holds desk reference message = get desk.held reference ≡ Some message
 
 -- the text spells the message, and the base gives it this reference
-pub record Says (base : BaseSeen) (text : List ℕ) (reference : Reference) (message : MessageValue) : Type 0 where
+pub record Says (base : BaseSeen) (text : List ℕ) (reference : Reference)
+    (message : MessageValue) : Type 0 where
   pub spelt : SpellsMessage message text
   pub resolved : ResolvedText
   pub resolves : ResolvesIn base.records message resolved
@@ -40,7 +48,8 @@ pub record HasReference (base : BaseSeen) (reference : Reference) (message : Mes
 -- which it is held
 pub record IsDesk (desk : DeskState) : Type 0 where
   pub base : WasRead desk.base.records
-  pub each : (reference : Reference) (message : MessageValue) → Holds desk reference message → HasReference desk.base reference message
+  pub each : (reference : Reference) (message : MessageValue) → Holds desk reference message
+      → HasReference desk.base reference message
 
 -- the value of a look-up of a desk by a number that no desk has
 abbrev pub no_desk : DeskState

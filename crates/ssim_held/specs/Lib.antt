@@ -4,3 +4,4 @@ pub mod Entries
 pub mod Ordered
 pub mod File
 pub mod Opening
+pub mod internal

@@ -66,8 +66,10 @@ fn rest_of(alloc: Global, parts: &mut Parts) -> Result<Vec<u8>, PartFault>
 ///
 /// The error names the first element that is invalid, by the number of the bytes from it on.
 fn read_file(alloc: Global, mut parts: Parts) -> Result<Opened, PartFault>
-    ensures ok { IfOk result (λ desk. IsDeskFile parts (base_with desk.data_set desk.stations) desk.held.items) }
-    ensures err { IfErr result (λ e. e ≢ PartFault.Memory → (base : BaseSeen) (entries : List Entry) → IsDeskFile parts base entries → ⊥) }
+    ensures ok { IfOk result
+        (λ desk. IsDeskFile parts (base_with desk.data_set desk.stations) desk.held.items) }
+    ensures err { IfErr result (λ e. e ≢ PartFault.Memory → (base : BaseSeen) (entries : List Entry)
+        → IsDeskFile parts base entries → ⊥) }
 {
     saved_records_are_read();
     equal_where_written_equal();
@@ -90,7 +92,8 @@ fn read_file(alloc: Global, mut parts: Parts) -> Result<Opened, PartFault>
 /// The base and the messages whose desk file the bytes are, which are freed as they are read. The
 /// errors are 90, and 62 with the number of the bytes before the first element that is invalid.
 pub fn read_parts(alloc: Global, parts: Parts) -> Result<Opened, DeskFault>
-    ensures ok { IfOk result (λ desk. IsDeskFile parts (base_with desk.data_set desk.stations) desk.held.items) }
+    ensures ok { IfOk result
+        (λ desk. IsDeskFile parts (base_with desk.data_set desk.stations) desk.held.items) }
     ensures err { IfErr result (RefusesBytes parts) }
 {
     let all = parts.len();
@@ -103,7 +106,8 @@ pub fn read_parts(alloc: Global, parts: Parts) -> Result<Opened, DeskFault>
 
 /// Does what `read_parts` does for bytes in one list.
 fn read_one(alloc: Global, bytes: Vec<u8>) -> Result<Opened, DeskFault>
-    ensures ok { IfOk result (λ desk. IsDeskFile bytes.items (base_with desk.data_set desk.stations) desk.held.items) }
+    ensures ok { IfOk result
+        (λ desk. IsDeskFile bytes.items (base_with desk.data_set desk.stations) desk.held.items) }
     ensures err { IfErr result (RefusesBytes bytes.items) }
 {
     let mut parts = Parts::new(alloc);
@@ -115,11 +119,14 @@ fn read_one(alloc: Global, bytes: Vec<u8>) -> Result<Opened, DeskFault>
 
 /// Reads all bytes of a reader, and then the base and the messages whose desk file they are.
 pub fn read_desk<R: Source>(alloc: Global, reader: &mut R, limit: u64) -> Result<Opened, DeskFault>
-    ensures ok { IfOk result (λ desk. Opens limit (R.left reader.old) (base_with desk.data_set desk.stations) desk.held.items) }
+    ensures ok { IfOk result (λ desk. Opens limit (R.left reader.old)
+        (base_with desk.data_set desk.stations) desk.held.items) }
     ensures err { IfErr result (RefusesFile limit (R.left reader.old)) }
     ensures no_failure { IfOk result (λ _. R.failures reader.new ≡ R.failures reader.old) }
-    ensures failure { IfErr result (λ e. FailsAs (R.failures reader.old) (R.failures reader.new) e) }
-    ensures never_ends { IfErr result (λ e. NeverEnds limit (Came (R.left reader.old) (R.left reader.new) (R.came reader.old) (R.came reader.new)) e) }
+    ensures failure { IfErr result
+        (λ e. FailsAs (R.failures reader.old) (R.failures reader.new) e) }
+    ensures never_ends { IfErr result (λ e. NeverEnds limit
+        (Came (R.left reader.old) (R.left reader.new) (R.came reader.old) (R.came reader.new)) e) }
 {
     let bytes = read_whole(alloc, reader, limit)?;
     read_one(alloc, bytes)

@@ -5,7 +5,8 @@ ghost use Rattle.std.specs.Io.KnownBytes.{Appends};
 ghost use Rattle.std.specs.List.{All};
 ghost use Rattle.ssim_base.specs.BaseSeen.{base_with};
 ghost use Rattle.ssim_base.specs.Sinks.{CountsFault, TakesFront, TakesUpTo};
-ghost use Rattle.ssim_held.specs.File.{IsRow, IsSpelled, desk_file, records_part, rows_part, text_element, texts_part};
+ghost use Rattle.ssim_held.specs.File.{IsRow, IsSpelled, desk_file, records_part, rows_part};
+ghost use Rattle.ssim_held.specs.File.{text_element, texts_part};
 
 use crate::held::Held;
 use crate::row_line::write_row;
@@ -13,17 +14,20 @@ use itoa::Buffer;
 use ssim_base::{OutputBuffer, StationRow, WriteFault, flush, put_bytes, put_record};
 use ssim_records::{Record, Sink};
 
-/// Puts the desk file of the base with these records and these rows, and of the messages that are held.
+/// Puts the desk file of the base with these records and these rows, and of the messages that are
+/// held.
 pub fn put_desk<W: Sink>(
     out: &mut W,
     records: &[Record],
     rows: &[StationRow],
     held: &[Held],
 ) -> Result<(), WriteFault>
-    ensures ok { OnOk result (Appends (W.taken out.old) (W.taken out.new) (desk_file (base_with records.now rows.now) held.now)) }
+    ensures ok { OnOk result (Appends (W.taken out.old) (W.taken out.new)
+        (desk_file (base_with records.now rows.now) held.now)) }
     ensures rows { OnOk result (All IsRow rows.now) }
     ensures spelled { OnOk result (All IsSpelled held.now) }
-    ensures err { OnErr result (TakesFront (desk_file (base_with records.now rows.now) held.now) (W.taken out.old) (W.taken out.new)) }
+    ensures err { OnErr result (TakesFront (desk_file (base_with records.now rows.now) held.now)
+        (W.taken out.old) (W.taken out.new)) }
     ensures failures { CountsFault (W.failures out.old) (W.failures out.new) result }
     ensures device { W.device out.new ≡ W.device out.old }
 {
@@ -43,8 +47,11 @@ fn put_counted<W: Sink>(
     word: &[u8],
     number: usize,
 ) -> Result<(), WriteFault>
-    ensures ok { OnOk result (TakesUpTo (block.old ++ (word.now ++ (decimal number ++ 10 ∷ []))) block.new (W.taken out.old) (W.taken out.new)) }
-    ensures err { OnErr result (TakesFront (block.old ++ (word.now ++ (decimal number ++ 10 ∷ []))) (W.taken out.old) (W.taken out.new)) }
+    ensures ok { OnOk result (TakesUpTo
+        (block.old ++ (word.now ++ (decimal number ++ 10 ∷ []))) block.new (W.taken out.old)
+        (W.taken out.new)) }
+    ensures err { OnErr result (TakesFront (block.old ++ (word.now ++ (decimal number ++ 10 ∷ [])))
+        (W.taken out.old) (W.taken out.new)) }
     ensures failures { CountsFault (W.failures out.old) (W.failures out.new) result }
     ensures device { W.device out.new ≡ W.device out.old }
 {
@@ -60,8 +67,10 @@ fn put_records<W: Sink>(
     block: &mut OutputBuffer,
     records: &[Record],
 ) -> Result<(), WriteFault>
-    ensures ok { OnOk result (TakesUpTo (block.old ++ records_part records.now) block.new (W.taken out.old) (W.taken out.new)) }
-    ensures err { OnErr result (TakesFront (block.old ++ records_part records.now) (W.taken out.old) (W.taken out.new)) }
+    ensures ok { OnOk result (TakesUpTo (block.old ++ records_part records.now) block.new
+        (W.taken out.old) (W.taken out.new)) }
+    ensures err { OnErr result
+        (TakesFront (block.old ++ records_part records.now) (W.taken out.old) (W.taken out.new)) }
     ensures failures { CountsFault (W.failures out.old) (W.failures out.new) result }
     ensures device { W.device out.new ≡ W.device out.old }
 {
@@ -78,9 +87,11 @@ fn put_rows<W: Sink>(
     block: &mut OutputBuffer,
     rows: &[StationRow],
 ) -> Result<(), WriteFault>
-    ensures ok { OnOk result (TakesUpTo (block.old ++ rows_part rows.now) block.new (W.taken out.old) (W.taken out.new)) }
+    ensures ok { OnOk result (TakesUpTo (block.old ++ rows_part rows.now) block.new
+        (W.taken out.old) (W.taken out.new)) }
     ensures rows { OnOk result (All IsRow rows.now) }
-    ensures err { OnErr result (TakesFront (block.old ++ rows_part rows.now) (W.taken out.old) (W.taken out.new)) }
+    ensures err { OnErr result
+        (TakesFront (block.old ++ rows_part rows.now) (W.taken out.old) (W.taken out.new)) }
     ensures failures { CountsFault (W.failures out.old) (W.failures out.new) result }
     ensures device { W.device out.new ≡ W.device out.old }
 {
@@ -97,9 +108,11 @@ fn put_texts<W: Sink>(
     block: &mut OutputBuffer,
     held: &[Held],
 ) -> Result<(), WriteFault>
-    ensures ok { OnOk result (TakesUpTo (block.old ++ texts_part held.now) block.new (W.taken out.old) (W.taken out.new)) }
+    ensures ok { OnOk result (TakesUpTo (block.old ++ texts_part held.now) block.new
+        (W.taken out.old) (W.taken out.new)) }
     ensures spelled { OnOk result (All IsSpelled held.now) }
-    ensures err { OnErr result (TakesFront (block.old ++ texts_part held.now) (W.taken out.old) (W.taken out.new)) }
+    ensures err { OnErr result
+        (TakesFront (block.old ++ texts_part held.now) (W.taken out.old) (W.taken out.new)) }
     ensures failures { CountsFault (W.failures out.old) (W.failures out.new) result }
     ensures device { W.device out.new ≡ W.device out.old }
 {
@@ -112,9 +125,11 @@ fn put_texts<W: Sink>(
 
 // Puts the canonical text of a message and its length.
 fn put_text<W: Sink>(out: &mut W, block: &mut OutputBuffer, held: &Held) -> Result<(), WriteFault>
-    ensures ok { OnOk result (TakesUpTo (block.old ++ text_element held.now) block.new (W.taken out.old) (W.taken out.new)) }
+    ensures ok { OnOk result (TakesUpTo (block.old ++ text_element held.now) block.new
+        (W.taken out.old) (W.taken out.new)) }
     ensures spelled { IsSpelled held.now }
-    ensures err { OnErr result (TakesFront (block.old ++ text_element held.now) (W.taken out.old) (W.taken out.new)) }
+    ensures err { OnErr result
+        (TakesFront (block.old ++ text_element held.now) (W.taken out.old) (W.taken out.new)) }
     ensures failures { CountsFault (W.failures out.old) (W.failures out.new) result }
     ensures device { W.device out.new ≡ W.device out.old }
 {

@@ -39,7 +39,11 @@ impl Model for Contents {
 
     ghost Value = { Entry };
 
-    ghost view = { λ h. record { reference = h.reference; message = h.message; dates = h.dates.items } };
+    ghost view = { λ h. record {
+      reference = h.reference;
+      message = h.message;
+      dates = h.dates.items;
+    } };
 
     ghost invariant = { λ h. length h.dates.items ≡ length h.message.subs };
 }
@@ -80,7 +84,8 @@ impl Held {
         dates: Vec<ResolvedSub>,
     ) -> Result<Held, Memory>
         requires { length dates.items ≡ length message.subs }
-        ensures { IfOk result (λ held. held ≡ record { reference = reference; message = message; dates = dates.items }) }
+        ensures { IfOk result (λ held. held
+            ≡ record { reference = reference; message = message; dates = dates.items }) }
     {
         let contents = Contents {
             reference,

@@ -48,7 +48,8 @@ pub(crate) fn look_up(held: &[Held], one: &Held) -> LookUp
 // The position of a reference, or the position where it belongs.
 fn search(held: &[Held], reference: &Reference) -> Result<usize, usize>
     requires { AreRising held.now }
-    ensures found { IfOk result (λ at. (e : Entry) × (slice_get held.now at ≡ Some e) × (e.reference ≡ reference.now)) }
+    ensures found { IfOk result
+        (λ at. (e : Entry) × (slice_get held.now at ≡ Some e) × (e.reference ≡ reference.now)) }
     ensures absent { IfErr result (λ at. Belongs held.now reference.now at at) }
 {
     let mut low = 0;
@@ -75,7 +76,8 @@ fn halve(
     requires rising { AreRising held.now }
     requires some { low < high }
     requires belongs { Belongs held.now reference.now low high }
-    ensures found { IfErr result (λ at. (e : Entry) × (slice_get held.now at ≡ Some e) × (e.reference ≡ reference.now)) }
+    ensures found { IfErr result
+        (λ at. (e : Entry) × (slice_get held.now at ≡ Some e) × (e.reference ≡ reference.now)) }
     ensures belongs { IfOk result (λ half. Belongs held.now reference.now half.0 half.1) }
     ensures smaller { IfOk result (λ half. half.1 - half.0 < high - low) }
 {

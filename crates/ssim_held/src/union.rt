@@ -33,7 +33,8 @@ pub fn first_conflict(mine: &[Held], theirs: &[Held]) -> Option<Reference>
 pub fn first_new(mine: &[Held], theirs: &[Held]) -> Option<(usize, usize)>
     requires { AreRising mine.now }
     ensures some { IfSome result (λ new. IsFirstNew mine.now theirs.now new.0 new.1) }
-    ensures none { IfNone result (All (λ e. IsSome (get (map_of mine.now) e.reference)) theirs.now) }
+    ensures none { IfNone result
+        (All (λ e. IsSome (get (map_of mine.now) e.reference)) theirs.now) }
 {
     for (place, held) in theirs.iter().enumerate() {
         if let LookUp::Absent(at) = look_up(mine, held) {
@@ -60,7 +61,8 @@ pub fn merged(alloc: Global, mine: &[Held], theirs: &[Held]) -> Result<Vec<Held>
 
 // The next message of two lists, and what is left of them after it.
 fn next<'a>(mine: &'a [Held], theirs: &'a [Held]) -> Option<(&'a Held, &'a [Held], &'a [Held])>
-    ensures some { IfSome result (λ next. IsNext mine.now theirs.now next.0.now next.1.now next.2.now) }
+    ensures some { IfSome result
+        (λ next. IsNext mine.now theirs.now next.0.now next.1.now next.2.now) }
     ensures none { IfNone result ((mine.now ≡ []) × (theirs.now ≡ [])) }
 {
     match (mine.split_first(), theirs.split_first()) {

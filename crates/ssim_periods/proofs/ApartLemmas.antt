@@ -1,8 +1,7 @@
 -- Values given to periods without a common day: what each day has, when one more period comes, and
 -- when the period is divided at a cut.
-use Rattle.std.proofs.Common.{◌≡◌, ◌≢◌, ℕ, zero, suc, ◌+◌, ◌<◌, ◌≤◌, ◌&&◌, Bool, true, false, if◌then◌else◌, nat_le, nat_eq, List, [], ◌∷◌, ◌++◌, length, take, drop, map, slice_get, slice_index_or, Some, refl, ap, subst, sym, ◌∙◌, arith, ◌⊎◌, inl, inr, IsTrue, ◌↔◌}
+use Rattle.std.proofs.Common.{◌≡◌, ◌≢◌, ℕ, zero, suc, ◌+◌, ◌<◌, ◌≤◌, ◌&&◌, Bool, true, false, if◌then◌else◌, nat_le, List, [], ◌∷◌, ◌++◌, length, take, drop, slice_get, slice_index_or, Some, refl, ap, subst, sym, ◌∙◌, arith, ◌⊎◌, inl, inr, IsTrue, ◌↔◌}
 use Rattle.std.specs.List.{All, Contains}
-use Rattle.std.proofs.Math.Path.{fun_ext}
 use Rattle.std.proofs.lemmas.Bool.Decides.{nat_tests}
 use Rattle.std.proofs.lemmas.List.{take_more, drop_more}
 use Rattle.std.proofs.lemmas.List.Elements.{All-contains}
@@ -10,7 +9,7 @@ use Rattle.ssim_values.specs.Calendar.{weekday}
 use Rattle.ssim_values.specs.Period.{DayRange, Holds}
 use Rattle.ssim_periods.specs.internal.Apart.{empty_week, value_in, AreDivided, AreApart}
 use Rattle.ssim_periods.specs.Calendar.{holds, slot}
-use Rattle.ssim_periods.specs.Days.{AddsOnly, each_day, changed_on, count_on, counts_on}
+use Rattle.ssim_periods.specs.Days.{AddsOnly, each_day, changed_on}
 use Rattle.ssim_periods.specs.Pieces.{held_on}
 use Rattle.ssim_periods.specs.internal.Rows.{value_on, AreRows}
 use Rattle.ssim_periods.specs.internal.Splits.{with_cut}
@@ -218,30 +217,6 @@ free-changed s f g e days free same = changed-free s f g e 0 days (λ n h. free 
 
 pub free-kept : {V : Type 0} (s : ℕ → Bool) (f : V → V) (e : V) (days : List V) → ((n : ℕ) → s n ≡ true → slice_index_or days n e ≡ e) → f e ≡ e → changed_on s f 0 days ≡ days
 free-kept s f e days free same = free-changed s f (λ v. v) e days free same ∙ unchanged s 0 days
-
-abbrev one_if : Bool → ℕ
-one_if b = if b then 1 else 0
-
-count-free : {V : Type 0} (s : ℕ → Bool) (class : V → ℕ) (k : ℕ) (e : V) (a : ℕ) (xs ys : List V) → length xs ≡ length ys → ((n : ℕ) → n < length xs → s (a + n) ≡ true → slice_index_or xs n e ≡ slice_index_or ys n e) → count_on s class k a xs ≡ count_on s class k a ys
-count-free s class k e a [] [] l h = refl
-count-free s class k e a [] (y ∷ ys) l h = absurd (omega arith)
-count-free s class k e a (x ∷ xs) [] l h = absurd (omega arith)
-count-free {V} s class k e a (x ∷ xs) (y ∷ ys) l h =
-    let start : a ≡ a + 0 = omega arith in
-    let rest = count-free s class k e (a + 1) xs ys (omega arith) (λ n lt t. let at : a + 1 + n ≡ a + suc n = omega arith in h (suc n) (omega arith) (sym (ap s at) ∙ t)) in
-    let here : one_if (s a && nat_eq (class x) k) ≡ one_if (s a && nat_eq (class y) k) = elim (s a) as (λ b. s a ≡ b → one_if (b && nat_eq (class x) k) ≡ one_if (b && nat_eq (class y) k)) [
-      | true ↦ λ t. ap (λ v. one_if (nat_eq (class v) k)) (h 0 (omega arith) (sym (ap s start) ∙ t))
-      | false ↦ λ t. refl
-    ] refl in
-    ap (λ c. c + count_on s class k (a + 1) xs) here ∙ ap (λ c. one_if (s a && nat_eq (class y) k) + c) rest
-
--- days with the empty value count as if each day had it
-pub counts-free : {V : Type 0} (s : ℕ → Bool) (class : V → ℕ) (e : V) (f : ℕ → V) (days : List V) → each_day f ≡ days → ((n : ℕ) → s n ≡ true → slice_index_or days n e ≡ e) → counts_on s class (each_day (λ _. e)) ≡ counts_on s class days
-counts-free s class e f days view free =
-    let empty = each_day (λ (n : ℕ). e) in
-    let len : length empty ≡ 36525 = length-each_day (λ (n : ℕ). e) in
-    let size : length days ≡ 36525 = sym (ap length view) ∙ length-each_day f in
-    ap (λ count. map count (0 ∷ 1 ∷ 2 ∷ 3 ∷ 4 ∷ [])) (fun_ext (λ k. count-free s class k e 0 empty days (len ∙ sym size) (λ n l t. index-each_day (λ _. e) n e (omega arith) ∙ sym (free n (sym (at-zero s n) ∙ t)))))
 
 pub index-seven : {V : Type 0} (e : V) (row : List V) (s : ℕ) → row ≡ e ∷ e ∷ e ∷ e ∷ e ∷ e ∷ e ∷ [] → slice_index_or row s e ≡ e
 index-seven {V} e row s is = ap (λ r. slice_index_or r s e) is ∙ at s

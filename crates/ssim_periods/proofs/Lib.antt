@@ -16,6 +16,7 @@ pub mod JoinLemmas
 pub mod NumberLemmas
 pub mod WorkedLemmas
 pub mod ApartLemmas
+pub mod EqualLemmas
 pub mod TrimLemmas
 pub mod ListPieces
 pub mod SeparateLemmas

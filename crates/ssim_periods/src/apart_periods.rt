@@ -1,5 +1,5 @@
 //! Values given to periods of which no two have a common day.
-ghost use Rattle.std.specs.Prelude.{◌≡◌, ◌≢◌, ℕ, ◌+◌, ◌<◌, ◌≤◌, List, [], true, length, slice_get, slice_index_or, Some, IfOk, OnOk, OnErr, IsTrue};
+ghost use Rattle.std.specs.Prelude.{◌≡◌, ◌≢◌, ℕ, ◌+◌, ◌<◌, ◌≤◌, List, [], true, length, slice_get, slice_index_or, Some, IfOk, IfSome, IfNone, OnOk, OnErr, OnSome, IsTrue};
 ghost use Rattle.std.specs.List.{All, Contains};
 ghost use Rattle.std.specs.List.Sorted.{IsStrictlyIncreasing};
 ghost use Rattle.ssim_values.specs.Calendar.{weekday};
@@ -8,8 +8,8 @@ ghost use Rattle.ssim_periods.specs.Calendar.{day_count, holds};
 ghost use Rattle.ssim_periods.specs.Days.{each_day, changed_on, counts_on, AddsOnly};
 ghost use Rattle.ssim_periods.specs.Pieces.{pieces_of, held_on};
 
-use crate::count::class_counts;
-use crate::entries::{copy_entries, meets_none, rows_of, shared_entries, value_at};
+use crate::count::counts_of;
+use crate::entries::{copy_entries, index_of, meets_none, rows_of, shared_entries, value_at};
 use crate::entry_pieces::covers;
 use crate::front_list::FrontList;
 use crate::range_rows::RangeRows;
@@ -94,7 +94,7 @@ impl<V: Value> ApartPeriods<V> {
         ensures cuts { OnOk result (AddsOnly self.old.cuts self.new.cuts period.now.first (period.now.last + 1)) }
         ensures err { OnErr result (self.new ≡ self.old) }
     {
-        let counts = empty_counts(&self.empty, period, change);
+        let counts = counts_of(period, change, &self.empty[0]);
         self.replace(period, change)?;
         Ok(counts)
     }
@@ -117,6 +117,34 @@ impl<V: Value> ApartPeriods<V> {
         self.make_first_room()?;
         self.put(period, value)?;
         Ok(())
+    }
+
+    /// Replaces the value of the period in the list that equals a given one by the outcome of the
+    /// change, and returns the number of its days under the class of the old value. No other value
+    /// is copied. Returns None and changes nothing if no period of the list equals the given one,
+    /// or the outcome is empty.
+    pub(crate) fn apply_to_equal<C: Change<V>>(
+        &mut self,
+        period: &Period,
+        change: &C,
+    ) -> Result<Option<[u32; 5]>, Memory>
+        ensures days { IfOk result (λ done. OnSome done (self.new.days ≡ changed_on (holds period.now) (C.outcome change.now) 0 self.old.days)) }
+        ensures counts { IfOk result (λ done. IfSome done (λ counts. counts ≡ counts_on (holds period.now) (C.class_of change.now) self.old.days)) }
+        ensures none { IfOk result (λ done. IfNone done (self.new ≡ self.old)) }
+        ensures cuts { self.new.cuts ≡ self.old.cuts }
+        ensures err { OnErr result (self.new ≡ self.old) }
+    {
+        let Some(index) = index_of(&self.entries, period) else {
+            return Ok(None);
+        };
+        let old = &self.entries[index].1;
+        let value = change.after(self.alloc, old)?;
+        if value.is_empty() {
+            return Ok(None);
+        }
+        let counts = counts_of(period, change, old);
+        self.entries[index] = (*period, value);
+        Ok(Some(counts))
     }
 
     // Gives the days of the period, which have the empty value, a value that is not empty.
@@ -223,17 +251,6 @@ fn empty_row<V: Value>() -> [V; 7]
         V::empty(),
         V::empty(),
     ]
-}
-
-// The number of a period's days, under the class of the empty value.
-fn empty_counts<V: Value, C: Change<V>>(empty: &[V; 7], period: &Period, change: &C) -> [u32; 5]
-    requires { empty.now ≡ empty_week V.nothing }
-    ensures { result ≡ counts_on (holds period.now) (C.class_of change.now) (each_day (λ _. V.nothing)) }
-{
-    let first = period.first().number() as u32;
-    let last = period.last().number() as u32;
-    let mask = period.mask().days();
-    class_counts(empty, &[], &[], first, last, &mask, change)
 }
 
 // Whether a period has no day in common with any of a list. One before all of them or after all of

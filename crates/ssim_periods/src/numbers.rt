@@ -53,7 +53,8 @@ impl Value for ValueNumber {
     ghost exact = { λ x y. (eqb-true x y, eq-eqb x y) };
 }
 
-const NONE: ValueNumber = ValueNumber { number: 0 };
+/// The number of the empty value.
+pub(crate) const NONE: ValueNumber = ValueNumber { number: 0 };
 
 // Whether a number refers to a value that is not empty.
 fn is_number_of<V: Value>(values: &[&V], number: ValueNumber, value: &V) -> bool

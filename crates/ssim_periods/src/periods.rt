@@ -65,11 +65,12 @@ impl<V: Value> Periods<V> {
     /// value is of that class.
     ///
     /// All new values are computed, and all memory is reserved, before the first value is replaced:
-    /// after an error nothing has changed. If no day of a period had a value before, applying a
-    /// change costs one new value and the comparison of the period with the earlier ones. Otherwise
-    /// the cost grows with the ranges that the period touches and with the later ranges, which are
-    /// moved. The first change that meets a day of the list, or finds the list full, also copies
-    /// the values of the list into rows.
+    /// after an error nothing has changed. While no two periods that were applied have a common day,
+    /// or they are equal, a change costs one new value and the comparison of its period with the
+    /// earlier ones, and copies no value. The first change of only some days of an earlier period,
+    /// and the 513th period, also copy the values so far into rows, one value for each range and
+    /// weekday. From then on the cost grows with the ranges that the period touches and with the
+    /// later ranges, which are moved.
     pub fn apply<C: Change<V>>(&mut self, period: &Period, change: &C) -> Result<[u32; 5], Memory>
         ensures days { OnOk result (self.new.days ≡ changed_on (holds period.now) (C.outcome change.now) 0 self.old.days) }
         ensures counts { IfOk result (λ counts. counts ≡ counts_on (holds period.now) (C.class_of change.now) self.old.days) }
@@ -80,6 +81,9 @@ impl<V: Value> Periods<V> {
             Form::Apart(periods) => {
                 if periods.has_room_for(period) {
                     return periods.apply(period, change);
+                }
+                if let Some(counted) = periods.apply_to_equal(period, change)? {
+                    return Ok(counted);
                 }
                 let mut rows = periods.to_rows()?;
                 let counts = rows.apply(period, change)?;
@@ -100,6 +104,9 @@ impl<V: Value> Periods<V> {
             Form::Apart(periods) => {
                 if periods.has_room_for(period) {
                     return periods.replace(period, change);
+                }
+                if let Some(_) = periods.apply_to_equal(period, change)? {
+                    return Ok(());
                 }
                 let mut rows = periods.to_rows()?;
                 rows.replace(period, change)?;

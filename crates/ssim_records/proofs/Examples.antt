@@ -15,7 +15,7 @@ use Rattle.ssim_columns.specs.LegParts.{new_leg, station_columns, with_equipment
 use Rattle.ssim_columns.specs.Numbers.{digits_of, number_of, sequence_of, drop_blanks_at_end}
 use Rattle.ssim_records.specs.Record.{table_of}
 use Rattle.ssim_records.specs.Trailer.{SpellsTrailer, written_trailer}
-use Rattle.ssim_records.specs.Worked.{WorkedRecords, carrier_bytes, data_set, header_bytes, leg_bytes, the_carrier, the_header, the_leg, the_trailer, trailer_bytes}
+use Rattle.ssim_records.specs.examples.DataSet.{WorkedRecords, carrier_bytes, data_set, header_bytes, leg_bytes, the_carrier, the_header, the_leg, the_trailer, trailer_bytes}
 
 header_spelt : SpellsHeader the_header header_bytes
 unfolding is_title digits_of

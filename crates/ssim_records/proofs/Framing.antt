@@ -11,7 +11,8 @@ use Rattle.ssim_records.specs.declared.blocks.Stop.TheVariants.{Short, ReadFault
 use Rattle.ssim_records.specs.declared.device.DeviceFault.{DeviceFault}
 use Rattle.ssim_records.specs.Device.{CountsBytes}
 use Rattle.ssim_records.specs.Frames.{trim, Frames, others, is_fill}
-use Rattle.ssim_records.specs.Blocks.{CameOn, SameAhead, NextBlock, GivesBlock, GivesOther, Ahead, CountsOn, Fetches, Takes}
+use Rattle.ssim_records.specs.Blocks.{CameOn, SameAhead, CountsOn, Fetches, Takes}
+use Rattle.ssim_records.specs.internal.Blocks.{NextBlock, GivesBlock, GivesOther, Ahead}
 use Rattle.ssim_records.proofs.LineEnds.{trim_front, trim_pass, trim_twice, trim_less}
 use Rattle.ssim_columns.proofs.lemmas.Slices.{same_front, same_back}
 

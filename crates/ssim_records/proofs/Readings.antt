@@ -8,7 +8,7 @@ use Rattle.ssim_records.specs.declared.fault.RecordFault.TheVariants.{Short, Bad
 use Rattle.ssim_columns.specs.declared.field.Field.{Field}
 use Rattle.ssim_records.specs.declared.record.Record.{Record}
 use Rattle.ssim_columns.specs.Columns.{first_fault}
-use Rattle.ssim_records.specs.Blocks.{GivesOther}
+use Rattle.ssim_records.specs.internal.Blocks.{GivesOther}
 use Rattle.ssim_records.specs.Record.{Spells, HasSpelt, fault_of, fault_by, column_fault, table_of}
 use Rattle.ssim_records.specs.Reading.{Reading, IsAhead, Answers, Counts, GivesNext, given, IsRefused, HasNumber, FailsAs, NeverEnds, HoldsFew}
 

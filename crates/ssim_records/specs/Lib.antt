@@ -6,7 +6,8 @@ pub mod Carrier
 pub mod Trailer
 pub mod Record
 pub mod Reading
-pub mod Worked
+pub mod examples
+pub mod internal
 pub use Rattle.ssim_columns.specs.Numbers
 pub use Rattle.ssim_columns.specs.Columns
 pub use Rattle.ssim_columns.specs.Leg

@@ -4,7 +4,8 @@ ghost use Rattle.std.specs.Prelude.{◌≡◌, ◌<◌, ◌≤◌, ◌+◌, ◌*
 ghost use Rattle.std.specs.Io.KnownBytes.{IsAtEnd};
 ghost use Rattle.ssim_records.specs.declared.blocks.Stop.TheVariants.{ReaderNeverEnds};
 ghost use Rattle.ssim_records.specs.Frames.{is_fill};
-ghost use Rattle.ssim_records.specs.Blocks.{behind_front, with_front, CameOn, FailsAtRest, GivesBlock, GivesOther, FailsOnce, CountsOn, Fetches, HoldsFew, block_count};
+ghost use Rattle.ssim_records.specs.Blocks.{CameOn, CountsOn, Fetches};
+ghost use Rattle.ssim_records.specs.internal.Blocks.{behind_front, with_front, FailsAtRest, GivesBlock, GivesOther, FailsOnce, HoldsFew, block_count};
 
 use crate::device::Source;
 use crate::window::{ROOM, Window};

@@ -2,7 +2,7 @@
 
 ghost use Rattle.ssim_records.specs.Frames.{FramesAreOne, FramesExist};
 ghost use Rattle.ssim_records.specs.Record.{WrittenIsFramed, WrittenSpells};
-ghost use Rattle.ssim_records.specs.Worked.{WorkedRecords};
+ghost use Rattle.ssim_records.specs.examples.DataSet.{WorkedRecords};
 
 /// Any bytes have frames, with only one list of blocks and one rest. So what `Records::next`
 /// promises of the frames of the bytes ahead is a promise of blocks that exist.

@@ -15,3 +15,4 @@ pub mod Effect
 pub mod Acts
 pub mod EffectExamples
 pub mod BlockExamples
+pub mod FlightDate

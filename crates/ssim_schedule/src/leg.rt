@@ -125,3 +125,14 @@ fn same_tails(mine: &[SegmentTail], theirs: &[SegmentTail]) -> bool
     }
     true
 }
+
+/// Equal legs.
+pub fn copy_legs(alloc: Global, legs: &[PlacedLeg]) -> Result<Vec<PlacedLeg>, Memory>
+    ensures { IfOk result (λ copies. copies.items ≡ legs.now) }
+{
+    let mut copies = Vec::with_capacity(alloc, legs.len())?;
+    for leg in legs {
+        copies.push(leg.copy(alloc)?)?;
+    }
+    Ok(copies)
+}

@@ -5,7 +5,7 @@ ghost use Rattle.ssim_schedule.specs.Effect.{equip, equipped, fits, has_leg, hav
 
 use crate::finding::Reason;
 use crate::itinerary::Itinerary;
-use crate::leg::PlacedLeg;
+use crate::leg::{PlacedLeg, copy_legs};
 use crate::message_columns::{with_equipment, with_times};
 use crate::new_legs::legs_on;
 use ssim_base::StationRow;
@@ -82,16 +82,6 @@ fn have_all(legs: &[PlacedLeg], lines: &[LegLine]) -> bool
         None => true,
         Some((line, rest)) => is_there(legs, line) && have_all(legs, rest),
     }
-}
-
-fn copy_legs(alloc: Global, legs: &[PlacedLeg]) -> Result<Vec<PlacedLeg>, Memory>
-    ensures { IfOk result (λ copies. copies.items ≡ legs.now) }
-{
-    let mut copies = Vec::with_capacity(alloc, legs.len())?;
-    for leg in legs {
-        copies.push(leg.copy(alloc)?)?;
-    }
-    Ok(copies)
 }
 
 fn equipped_leg(alloc: Global, equipment: &Equipment, leg: &PlacedLeg) -> Result<PlacedLeg, Memory>
@@ -220,7 +210,7 @@ impl<'a> SubMessageChange<'a> {
     }
 
     // Why the sub-message acts or not.
-    fn reason(&self, old: &Itinerary) -> Reason
+    pub(crate) fn reason(&self, old: &Itinerary) -> Reason
         ensures { result ≡ (effect self.now.rows.now self.now.action.now self.now.day old.now).1 }
     {
         if old.is_empty() {

@@ -182,6 +182,11 @@ fn copy_that_refuses(rt: HostRuntime) {
     assert_eq!(rt; divided, None);
     assert_eq!(rt; periods.cuts(), [9132, 9146, 9313, 9344].as_slice());
     assert!(rt; has_two_periods(&periods));
+    // only the Tuesdays of July change, so no other value is copied
+    let tuesdays = counts(&mut periods, b"01JUL25", b"31JUL25", b"2", &change_to(8, 0));
+    assert_eq!(rt; tuesdays, Some([5, 0, 0, 0, 0]));
+    assert_eq!(rt; value_on(&periods, 9313), 8);
+    assert_eq!(rt; value_on(&periods, 9132), 9);
 }
 
 // A list of days would ask the change for each of 36,525.

@@ -31,7 +31,8 @@ use Rattle.ssim_text.specs.Values.{EquipmentValue, no_originator}
 use Rattle.ssim_text.specs.Message.{MessageValue, begun, with_free}
 use Rattle.ssim_text.specs.Lines.{originator_of, kind_text, mode_text, reference_of, identifier_text, SpellsDatedFlight, period_of, equipment_of, variations_of, end_of, points_of, station_in, clock_in, digits_in, segment_text_of, leg_of, segment_of, begins_free}
 use Rattle.ssim_text.specs.Grammar.{Part, OriginatorPart, KindPart, ModePart, ReferencePart, ActionPart, FlightPart, DatedFlightPart, PeriodPart, EquipmentPart, LegPart, SegmentPart, Divider, FreePart, Spells}
-use Rattle.ssim_text.specs.Machine.{step, Takes, Refuses, fault_of, fits_if_segment, fits_segment, is_action, flight_wanted, body_wanted, after_equipment, takes_leg, takes_segment, is_none_yet, is_whole, with_leg, with_segment, with_body}
+use Rattle.ssim_text.specs.Machine.{step, fault_of, fits_if_segment, fits_segment, is_action, flight_expected, body_expected, after_equipment, takes_leg, takes_segment, is_none_yet, is_whole, with_leg, with_segment, with_body}
+use Rattle.ssim_text.specs.internal.DecoderState.{Takes, Refuses}
 
 none_some : {A : Type 0} (a : A) → None ≡ Some a → ⊥
 none_some a h = cc
@@ -82,7 +83,7 @@ no_reference originator kind mode line none_so part h = refl
 
 -- ---- action, flight, dates, equipment
 
-pub take_action : (m : MessageValue) (a : ActionIdentifier) (line : List ℕ) → line ≡ identifier_text a → Takes (AtAction m) line (flight_wanted m.kind m a)
+pub take_action : (m : MessageValue) (a : ActionIdentifier) (line : List ℕ) → line ≡ identifier_text a → Takes (AtAction m) line (flight_expected m.kind m a)
 take_action m a line h = record { part = ActionPart a; spelled = h; step = refl }
 
 pub no_action : (m : MessageValue) (line : List ℕ) → ((a : ActionIdentifier) → line ≡ identifier_text a → ⊥) → (part : Part) → Spells part line → step (AtAction m) part ≡ None
@@ -96,14 +97,14 @@ pub no_flight : (m : MessageValue) (a : ActionIdentifier) (line : List ℕ) → 
 no_flight m a line none_so (FlightPart d) h = absurd (none_so d h)
 no_flight m a line none_so part h = refl
 
-pub take_dated_flight : (m : MessageValue) (a : ActionIdentifier) (d : Designator) (date : GivenDate) (line : List ℕ) → SpellsDatedFlight d date line → Takes (AtDatedFlight m a) line (body_wanted a m d (Date date))
+pub take_dated_flight : (m : MessageValue) (a : ActionIdentifier) (d : Designator) (date : GivenDate) (line : List ℕ) → SpellsDatedFlight d date line → Takes (AtDatedFlight m a) line (body_expected a m d (Date date))
 take_dated_flight m a d date line h = record { part = DatedFlightPart d date; spelled = h; step = refl }
 
 pub no_dated_flight : (m : MessageValue) (a : ActionIdentifier) (line : List ℕ) → ((d : Designator) (date : GivenDate) → SpellsDatedFlight d date line → ⊥) → (part : Part) → Spells part line → step (AtDatedFlight m a) part ≡ None
 no_dated_flight m a line none_so (DatedFlightPart d date) h = absurd (none_so d date h)
 no_dated_flight m a line none_so part h = refl
 
-pub take_period : (m : MessageValue) (a : ActionIdentifier) (d : Designator) (p : GivenPeriod) (line : List ℕ) → period_of line ≡ Some p → Takes (AtPeriod m a d) line (body_wanted a m d (Period p))
+pub take_period : (m : MessageValue) (a : ActionIdentifier) (d : Designator) (p : GivenPeriod) (line : List ℕ) → period_of line ≡ Some p → Takes (AtPeriod m a d) line (body_expected a m d (Period p))
 take_period m a d p line h = record { part = PeriodPart p; spelled = h; step = refl }
 
 pub no_period : (m : MessageValue) (a : ActionIdentifier) (d : Designator) (line : List ℕ) → period_of line ≡ None → (part : Part) → Spells part line → step (AtPeriod m a d) part ≡ None
@@ -304,8 +305,8 @@ pub no_end : (m : MessageValue) (line : List ℕ) → (line ≡ codes "//" → �
 no_end m line none_so Divider h = absurd (none_so h)
 no_end m line none_so part h = refl
 
-pub take_next : (m : MessageValue) (a : ActionIdentifier) (line : List ℕ) → line ≡ identifier_text a → length m.subs < 250 → Takes (AtNext m) line (flight_wanted m.kind m a)
-take_next m a line h room = record { part = ActionPart a; spelled = h; step = choose_some (nat_lt (length m.subs) 250) (flight_wanted m.kind m a) (less (length m.subs) 250 room) }
+pub take_next : (m : MessageValue) (a : ActionIdentifier) (line : List ℕ) → line ≡ identifier_text a → length m.subs < 250 → Takes (AtNext m) line (flight_expected m.kind m a)
+take_next m a line h room = record { part = ActionPart a; spelled = h; step = choose_some (nat_lt (length m.subs) 250) (flight_expected m.kind m a) (less (length m.subs) 250 room) }
 
 pub take_first_free : (m : MessageValue) (line : List ℕ) → begins_free line ≡ true → Takes (AtNext m) line (AtFree (with_free m line))
 take_first_free m line h = record { part = FreePart line; spelled = refl; step = choose_some (begins_free line) (AtFree (with_free m line)) h }
@@ -342,7 +343,7 @@ next_fault : (m : MessageValue) (line : List ℕ) (b : Bool) → is_action line 
 next_fault m line b h = ap (λ (x : Bool). if x then fault.TooMany else fault.BadAction) h
 
 refuses_next : (m : MessageValue) (line : List ℕ) → ((a : ActionIdentifier) → line ≡ identifier_text a → nat_lt (length m.subs) 250 ≡ false) → begins_free line ≡ false → Refuses (AtNext m) line
-refuses_next m line full other (ActionPart a) h = choose_none (nat_lt (length m.subs) 250) (flight_wanted m.kind m a) (full a h)
+refuses_next m line full other (ActionPart a) h = choose_none (nat_lt (length m.subs) 250) (flight_expected m.kind m a) (full a h)
 refuses_next m line full other (FreePart free) h = choose_none (begins_free free) (AtFree (with_free m free)) (ap (λ (x : List ℕ). begins_free x) (sym h) ∙ other)
 refuses_next m line full other part h = refl
 

@@ -22,7 +22,7 @@ use Rattle.ssim_text.specs.Bounds.{IsLegBounded, IsSegmentBounded, IsEquipmentBo
 use Rattle.ssim_text.proofs.Runs.{none_some, some_same}
 use Rattle.ssim_text.proofs.LinesKept.{IsLine, all_drop, line_from, left_lines}
 use Rattle.ssim_text.proofs.Words.{carried, only_if, line_after, below_three, digits_sound}
-use Rattle.ssim_text.proofs.FrontAgain.{reference_sound}
+use Rattle.ssim_text.proofs.HeadingAgain.{reference_sound}
 use Rattle.ssim_text.proofs.EquipmentAgain.{service_sound, aircraft_sound, equipment_sound}
 use Rattle.ssim_text.proofs.LegsAgain.{leg_sound, end_sound, segment_sound}
 use Rattle.ssim_text.proofs.ReadsBack.{all_left, all_right}
@@ -216,7 +216,7 @@ spelled_subs_bounded m text h =
     let p = h.spelled.has_parts in
     let rest = subs_parts m.subs ++ free_parts m.free in
     let whole = subst (AllByRecursion IsPartBounded) p.whole (all_bounded m text h) in
-    subs_bounded m.subs (all_left IsPartBounded (subs_parts m.subs) (free_parts m.free) (all_right IsPartBounded p.front rest whole))
+    subs_bounded m.subs (all_left IsPartBounded (subs_parts m.subs) (free_parts m.free) (all_right IsPartBounded p.heading rest whole))
 
 -- the lines of free text
 pub spelled_free_bounded : (m : MessageValue) (text : List ℕ) → SpellsMessage m text → AreFreeLinesBounded m.free
@@ -224,14 +224,14 @@ spelled_free_bounded m text h =
     let p = h.spelled.has_parts in
     let rest = subs_parts m.subs ++ free_parts m.free in
     let whole = subst (AllByRecursion IsPartBounded) p.whole (all_bounded m text h) in
-    free_bounded m.free (all_right IsPartBounded (subs_parts m.subs) (free_parts m.free) (all_right IsPartBounded p.front rest whole))
+    free_bounded m.free (all_right IsPartBounded (subs_parts m.subs) (free_parts m.free) (all_right IsPartBounded p.heading rest whole))
 
 -- the numbers of the reference
 pub spelled_reference_bounded : (m : MessageValue) (text : List ℕ) → SpellsMessage m text → IsReferenceBounded m.reference
 spelled_reference_bounded m text h =
     let p = h.spelled.has_parts in
-    let f = p.is_front in
+    let f = p.is_heading in
     let whole = subst (AllByRecursion IsPartBounded) p.whole (all_bounded m text h) in
-    let front = subst (AllByRecursion IsPartBounded) f.whole (all_left IsPartBounded p.front (subs_parts m.subs ++ free_parts m.free) whole) in
-    let middle = all_right IsPartBounded f.originator_parts (KindPart m.kind ∷ (f.mode_parts ++ ReferencePart m.reference ∷ [])) front in
+    let heading = subst (AllByRecursion IsPartBounded) f.whole (all_left IsPartBounded p.heading (subs_parts m.subs ++ free_parts m.free) whole) in
+    let middle = all_right IsPartBounded f.originator_parts (KindPart m.kind ∷ (f.mode_parts ++ ReferencePart m.reference ∷ [])) heading in
     (all_right IsPartBounded f.mode_parts (ReferencePart m.reference ∷ []) middle.1).0

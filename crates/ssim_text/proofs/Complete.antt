@@ -24,8 +24,9 @@ use Rattle.ssim_text.specs.declared.decoder_state.State.{State}
 use Rattle.ssim_text.specs.declared.decoder_state.State.TheVariants.{AtStart, AtMode, AtAction, AtLegs, AtEnd, AtNext, AtFree}
 use Rattle.ssim_text.specs.Message.{MessageValue, begun, with_sub, with_free}
 use Rattle.ssim_text.specs.Lines.{begins_free}
-use Rattle.ssim_text.specs.Grammar.{Part, KindPart, ReferencePart, ActionPart, LegPart, SegmentPart, Divider, FreePart, flight_parts, identifier_of, body_parts, sub_parts, later_parts, subs_parts, free_parts, IsOriginatorPart, IsModePart, flies, IsNewLegs, IsBody, AreDates, IsSub, BeginsFree, IsShape, IsFront, HasParts}
-use Rattle.ssim_text.specs.Machine.{step, finish, sub_of, flight_wanted, body_wanted, has_segments, fits_segment, takes_segment, is_whole, with_body, run}
+use Rattle.ssim_text.specs.Grammar.{Part, KindPart, ReferencePart, ActionPart, LegPart, SegmentPart, Divider, FreePart, flight_parts, identifier_of, body_parts, sub_parts, later_parts, subs_parts, free_parts, IsOriginatorPart, IsModePart, flies, IsNewLegs, IsBody, AreDates, IsSub, BeginsFree, IsShape, IsHeading, HasParts}
+use Rattle.ssim_text.specs.Machine.{step, sub_of, flight_expected, body_expected, has_segments, fits_segment, takes_segment, is_whole, with_body, run}
+use Rattle.ssim_text.specs.internal.DecoderState.{finish}
 
 append_none : {A : Type 0} (xs : List A) → xs ++ [] ≡ xs
 append_none xs = simp common_steps
@@ -86,22 +87,22 @@ run_new m d dates c new qs has h =
     ∙ run_legs m d dates c new.legs [] (map SegmentPart new.segments ++ qs) (omega (arith, h.legs))
     ∙ run_segments m d dates c new.legs new.segments [] qs has (omega (arith, h.segments)) h.flown
 
-run_body : (m : MessageValue) (d : Designator) (dates : Dates) (a : Action) (qs : List Part) → IsBody a → run (body_wanted (identifier_of a) m d dates) (body_parts a ++ qs) ≡ run (ended m d dates a) qs
+run_body : (m : MessageValue) (d : Designator) (dates : Dates) (a : Action) (qs : List Part) → IsBody a → run (body_expected (identifier_of a) m d dates) (body_parts a ++ qs) ≡ run (ended m d dates a) qs
 run_body m d dates (action.New new) qs h = run_new m d dates (change.New new.equipment) new qs refl h
 run_body m d dates action.Cnl qs h = refl
 run_body m d dates (action.Rpl new) qs h = run_new m d dates (change.Rpl new.equipment) new qs refl h
 run_body m d dates (action.Eqt e) qs h = refl
 run_body m d dates (action.Tim legs) qs h = run_legs m d dates change.Tim legs [] qs (omega (arith, h.1))
 
-run_flight : (kind : Kind) (m : MessageValue) (a : ActionIdentifier) (d : Designator) (dates : Dates) (qs : List Part) → AreDates kind dates → run (flight_wanted kind m a) (flight_parts d dates ++ qs) ≡ run (body_wanted a m d dates) qs
+run_flight : (kind : Kind) (m : MessageValue) (a : ActionIdentifier) (d : Designator) (dates : Dates) (qs : List Part) → AreDates kind dates → run (flight_expected kind m a) (flight_parts d dates ++ qs) ≡ run (body_expected a m d dates) qs
 run_flight Ssm m a d (Period p) qs h = refl
 run_flight Asm m a d (Date x) qs h = refl
 run_flight Ssm m a d (Date x) qs h = absurd h
 run_flight Asm m a d (Period p) qs h = absurd h
 
-run_rest : (m : MessageValue) (sub : Sub) (qs : List Part) → IsSub m.kind sub → run (flight_wanted m.kind m (identifier_of sub.action)) ((flight_parts sub.designator sub.dates ++ body_parts sub.action) ++ qs) ≡ run (ended m sub.designator sub.dates sub.action) qs
+run_rest : (m : MessageValue) (sub : Sub) (qs : List Part) → IsSub m.kind sub → run (flight_expected m.kind m (identifier_of sub.action)) ((flight_parts sub.designator sub.dates ++ body_parts sub.action) ++ qs) ≡ run (ended m sub.designator sub.dates sub.action) qs
 run_rest m sub qs h =
-    ap (λ (x : List Part). run (flight_wanted m.kind m (identifier_of sub.action)) x) (append_assoc (flight_parts sub.designator sub.dates) (body_parts sub.action) qs)
+    ap (λ (x : List Part). run (flight_expected m.kind m (identifier_of sub.action)) x) (append_assoc (flight_parts sub.designator sub.dates) (body_parts sub.action) qs)
     ∙ run_flight m.kind m (identifier_of sub.action) sub.designator sub.dates (body_parts sub.action ++ qs) h.dates
     ∙ run_body m sub.designator sub.dates sub.action qs h.body
 
@@ -110,7 +111,7 @@ run_first m sub qs h = run_rest m sub qs h
 
 run_next : (m : MessageValue) (sub : Sub) (qs : List Part) → IsSub m.kind sub → length m.subs < 250 → run (AtNext m) (sub_parts sub ++ qs) ≡ run (ended m sub.designator sub.dates sub.action) qs
 run_next m sub qs h room =
-    step_on (AtNext m) (flight_wanted m.kind m (identifier_of sub.action)) (ActionPart (identifier_of sub.action)) ((flight_parts sub.designator sub.dates ++ body_parts sub.action) ++ qs) (choose_some (nat_lt (length m.subs) 250) (flight_wanted m.kind m (identifier_of sub.action)) (less (length m.subs) 250 room))
+    step_on (AtNext m) (flight_expected m.kind m (identifier_of sub.action)) (ActionPart (identifier_of sub.action)) ((flight_parts sub.designator sub.dates ++ body_parts sub.action) ++ qs) (choose_some (nat_lt (length m.subs) 250) (flight_expected m.kind m (identifier_of sub.action)) (less (length m.subs) 250 room))
     ∙ run_rest m sub qs h
 
 whole : (m : MessageValue) (b : Body) (n : MessageValue) → 1 ≤ length b.legs → with_body m b ≡ n → finish (AtLegs m b) ≡ Some n
@@ -200,8 +201,8 @@ run_originator o kind os qs (inr e) = ap (λ (x : List Part). run AtStart ((x ++
 regrouped : (os ms qs : List Part) (k r : Part) → (os ++ (k ∷ (ms ++ r ∷ []))) ++ qs ≡ (os ++ k ∷ []) ++ ((ms ++ r ∷ []) ++ qs)
 regrouped os ms qs k r = append_assoc os (k ∷ (ms ++ r ∷ [])) qs ∙ sym (append_assoc os (k ∷ []) ((ms ++ r ∷ []) ++ qs))
 
-run_front : (o : List ℕ) (kind : Kind) (mode : TimeMode) (r : GivenReference) (front qs : List Part) → IsFront o kind mode r front → run AtStart (front ++ qs) ≡ run (AtAction (begun o kind mode r)) qs
-run_front o kind mode r front qs h =
+run_heading : (o : List ℕ) (kind : Kind) (mode : TimeMode) (r : GivenReference) (heading qs : List Part) → IsHeading o kind mode r heading → run AtStart (heading ++ qs) ≡ run (AtAction (begun o kind mode r)) qs
+run_heading o kind mode r heading qs h =
     ap (λ (x : List Part). run AtStart (x ++ qs)) h.whole
     ∙ ap (λ (x : List Part). run AtStart x) (regrouped h.originator_parts h.mode_parts qs (KindPart kind) (ReferencePart r))
     ∙ run_originator o kind h.originator_parts ((h.mode_parts ++ ReferencePart r ∷ []) ++ qs) h.is_originator
@@ -212,6 +213,6 @@ complete m ps t h =
     let ends = ends_subs m m.subs m.free t.some t.few t.subs t.free in
     record {
       last = ends.last;
-      reached = ap (λ (x : List Part). run AtStart x) h.whole ∙ run_front m.originator m.kind m.mode m.reference h.front (subs_parts m.subs ++ free_parts m.free) h.is_front ∙ ends.reached;
+      reached = ap (λ (x : List Part). run AtStart x) h.whole ∙ run_heading m.originator m.kind m.mode m.reference h.heading (subs_parts m.subs ++ free_parts m.free) h.is_heading ∙ ends.reached;
       finished = ends.finished;
     }

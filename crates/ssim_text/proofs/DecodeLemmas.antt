@@ -3,14 +3,15 @@ use Rattle.std.proofs.Common.{◌≡◌, ◌≤◌, ℕ, List, [], ◌∷◌, le
 use Rattle.std.specs.Prelude.{Result, IfOk, IfErr}
 use Rattle.ssim_text.specs.declared.fault.Fault.{Fault}
 use Rattle.ssim_text.specs.declared.fault.TextFault.{TextFault}
-use Rattle.ssim_text.specs.declared.fault.TextFault.TheVariants as answer
+use Rattle.ssim_text.specs.declared.fault.TextFault.TheVariants as refusal
 use Rattle.ssim_text.specs.declared.lines.Line.{Line}
 use Rattle.ssim_text.specs.Message.{MessageValue}
 use Rattle.ssim_text.specs.Grammar.{SpellsText, NamesPlace}
 use Rattle.ssim_text.specs.Left.{lines_left, texts, numbers, place_number, first_unprintable}
 use Rattle.ssim_text.specs.Canonical.{canonical}
 use Rattle.ssim_text.specs.Spelling.{SpellsMessage}
-use Rattle.ssim_text.specs.Decoder.{IsFaultAt, IsReadable, IsMisplaced, IsRefusal, IsTooManyAtOne, NoMessage}
+use Rattle.ssim_text.specs.Decoder.{IsFaultAt, IsReadable, IsMisplaced, IsRefusal, NoMessage}
+use Rattle.ssim_text.specs.internal.Decoder.{IsTooManyAtOne}
 
 pub ok_then : {T E : Type 0} (r : Result T E) (P Q : T → Type 0) → ((x : T) → P x → Q x) → IfOk r P → IfOk r Q
 ok_then (Ok x) P Q f h = f x h
@@ -40,15 +41,15 @@ pub message_only : (text : List ℕ) (lines : List (List ℕ)) (m d n : MessageV
 message_only text lines m d n e only same h = only n (subst (λ (x : List (List ℕ)). SpellsText n x) (sym e) h.spelled) ∙ sym same
 
 pub too_long_none : (text : List ℕ) (lines : List (List ℕ)) (d : MessageValue) (f : TextFault) → lines ≡ texts (lines_left text) → ((x : MessageValue) → SpellsText x lines → x ≡ d) → IsTooManyAtOne d f → NoMessage text f
-too_long_none text lines d answer.Memory e only h = tt
-too_long_none text lines d (answer.Refused f n) e only h = λ m s.
+too_long_none text lines d refusal.Memory e only h = tt
+too_long_none text lines d (refusal.Refused f n) e only h = λ m s.
     let same : m ≡ d = only m (subst (λ (x : List (List ℕ)). SpellsText m x) (sym e) s.spelled) in
     let short : length (canonical d) ≤ 65536 = subst (λ (x : MessageValue). length (canonical x) ≤ 65536) same s.canonical_short in
     omega (arith, short, h.2)
 
 pub too_long_place : (text : List ℕ) (lines : List (List ℕ)) (d : MessageValue) (f : TextFault) → IsReadable text → lines ≡ texts (lines_left text) → SpellsText d lines → IsTooManyAtOne d f → IsRefusal text f
-too_long_place text lines d answer.Memory r e s h = tt
-too_long_place text lines d (answer.Refused f n) r e s h =
+too_long_place text lines d refusal.Memory r e s h = tt
+too_long_place text lines d (refusal.Refused f n) r e s h =
     inr (inr (inr (record { readable = r; message = d; spelled = subst (λ (x : List (List ℕ)). SpellsText d x) e s; long = h.2; fault = h.0; line = h.1 })))
 
 pub misplaced_none : (text : List ℕ) (lines : List (List ℕ)) (index : ℕ) → lines ≡ texts (lines_left text) → NamesPlace lines index → (m : MessageValue) → SpellsMessage m text → ⊥

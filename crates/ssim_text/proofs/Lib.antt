@@ -10,7 +10,7 @@ pub mod DecodeLemmas
 pub mod LinesKept
 pub mod Words
 pub mod ReadsBack
-pub mod FrontAgain
+pub mod HeadingAgain
 pub mod DatesAgain
 pub mod EquipmentAgain
 pub mod LegsAgain

@@ -1,19 +1,20 @@
 -- A text has one refusal: the four kinds exclude each other, and the place is the first line after
 -- which no text is possible.
-use Rattle.std.proofs.Common.{◌≡◌, ◌<◌, ◌≤◌, ◌+◌, ◌⊎◌, inl, inr, ℕ, List, [], ◌∷◌, ◌++◌, Some, None, length, drop, take, refl, sym, ap, subst, ◌∙◌, append_assoc, arith}
+use Rattle.std.proofs.Common.{◌≡◌, ◌<◌, ◌≤◌, ◌+◌, inl, inr, ℕ, List, [], ◌∷◌, ◌++◌, Some, drop, take, refl, sym, ap, subst, ◌∙◌, append_assoc, arith}
 use Rattle.std.specs.List.{AllZip}
 use Rattle.std.proofs.lemmas.List.{take-take}
 use Rattle.std.specs.Prelude.{option_and_then}
-use Rattle.ssim_text.specs.Decoder.{IsFaultAt, IsMisplaced, IsNotAscii, IsRefusal, IsTooLong, IsWrittenTooLong, OneRefusal}
+use Rattle.ssim_text.specs.Decoder.{IsFaultAt, IsMisplaced, IsRefusal, OneRefusal}
+use Rattle.ssim_text.specs.internal.Completions.{IsCompletedShortly}
 use Rattle.ssim_text.specs.Grammar.{NamesPlace, Part, Spells, Starts}
 use Rattle.ssim_text.specs.Left.{lines_left, numbers, place_number, texts}
 use Rattle.ssim_text.specs.Machine.{Reads, fault_before, run, step}
 use Rattle.ssim_text.specs.declared.fault.Fault.{Fault}
-use Rattle.ssim_text.specs.declared.fault.TextFault.TheVariants as answer
+use Rattle.ssim_text.specs.declared.fault.TextFault.TheVariants as refusal
 use Rattle.ssim_text.specs.declared.decoder_state.State.{State}
 use Rattle.ssim_text.specs.declared.decoder_state.State.TheVariants.{AtStart}
 use Rattle.ssim_text.proofs.Complete.{complete}
-use Rattle.ssim_text.proofs.Place.{at_end, lines_none, starts, take_drop}
+use Rattle.ssim_text.proofs.Place.{at_end, completed, lines_none, take_drop}
 use Rattle.ssim_text.proofs.Runs.{GoesOn, bind_some, follow, none_some, some_same}
 
 -- lines lead to only one state
@@ -31,13 +32,22 @@ begins s last (p ∷ ps) (x ∷ xs) ys h r =
     let rest = begins w.0 last ps xs ys h.1 w.2 in
     (rest.0, record { parts = p ∷ rest.1.parts; spelled = (h.0, rest.1.spelled); reached = ap (λ o. option_and_then (λ (t : State). run t rest.1.parts) o) w.1 ∙ rest.1.reached })
 
--- if a text begins with some lines and then more lines, a text begins with the first of them
-starts_before : (xs ys : List (List ℕ)) → Starts (xs ++ ys) → Starts xs
-starts_before xs ys h =
+-- if a text begins with some lines and then more lines, the first of them have a short completion
+completed_before : (xs ys : List (List ℕ)) → Starts (xs ++ ys) → IsCompletedShortly xs
+completed_before xs ys h =
     let text = h.spelled in
     let ends = complete h.message text.parts text.shape text.has_parts in
     let b = begins AtStart ends.last text.parts xs (ys ++ h.completion) (subst (λ (x : List (List ℕ)). AllZip Spells text.parts x) (append_assoc xs ys h.completion) text.spelled) ends.reached in
-    starts b.0 xs (record { parts = b.1.parts; spelled = b.1.spelled; reached = b.1.reached })
+    completed b.0 xs (record { parts = b.1.parts; spelled = b.1.spelled; reached = b.1.reached })
+
+-- lines that some message's text begins with have a short completion
+pub starts_shortly : (lines : List (List ℕ)) → Starts lines → IsCompletedShortly lines
+starts_shortly lines h = completed_before lines [] (subst Starts (sym (lines_none lines)) h)
+
+starts_before : (xs ys : List (List ℕ)) → Starts (xs ++ ys) → Starts xs
+starts_before xs ys h =
+    let short = completed_before xs ys h in
+    record { completion = short.completion; message = short.message; spelled = short.spelled }
 
 not_before : (lines : List (List ℕ)) (i j : ℕ) → NamesPlace lines i → NamesPlace lines j → i < j → ⊥
 not_before lines i j a b lt =
@@ -63,7 +73,7 @@ module _ (text : List ℕ) (f g : Fault) (m n : ℕ) where
       let same = one_place (texts (lines_left text)) a.index b.index a.names b.names in
       (one_fault_at (texts (lines_left text)) a.index b.index f g same a.fault b.fault, a.line ∙ ap (place_number (numbers (lines_left text))) same ∙ sym b.line)
 
-  two_of_one : IsRefusal text (answer.Refused f m) → IsRefusal text (answer.Refused g n) → (f ≡ g) × (m ≡ n)
+  two_of_one : IsRefusal text (refusal.Refused f m) → IsRefusal text (refusal.Refused g n) → (f ≡ g) × (m ≡ n)
   two_of_one (inl a) (inl b) = (a.fault ∙ sym b.fault, a.line ∙ sym b.line)
   two_of_one (inl a) (inr (inl b)) = absurd (omega (arith, a.long, b.short))
   two_of_one (inl a) (inr (inr (inl b))) = absurd (omega (arith, a.long, b.readable.short))

@@ -29,8 +29,10 @@ use Rattle.ssim_text.specs.declared.decoder_state.State.TheVariants.{AtStart, At
 use Rattle.ssim_text.specs.Values.{EquipmentValue, no_originator}
 use Rattle.ssim_text.specs.Message.{MessageValue, begun, with_sub, with_free}
 use Rattle.ssim_text.specs.Lines.{numbers_of, reference_of, SpellsDatedFlight, date_of, period_of, equipment_of, leg_of}
-use Rattle.ssim_text.specs.Grammar.{Part, KindPart, ModePart, ReferencePart, ActionPart, FlightPart, DatedFlightPart, PeriodPart, EquipmentPart, LegPart, FreePart, Spells, flies, SpellsText, needs, shortest, IsCompletion, Starts, NamesPlace, OneMessage}
-use Rattle.ssim_text.specs.Machine.{step, finish, Takes, Refuses, sub_of, flight_wanted, no_legs, body_wanted, with_leg, is_whole, with_body, run, Reads}
+use Rattle.ssim_text.specs.internal.Completions.{IsCompletion, IsCompletedShortly, needs, shortest}
+use Rattle.ssim_text.specs.Grammar.{Part, KindPart, ModePart, ReferencePart, ActionPart, FlightPart, DatedFlightPart, PeriodPart, EquipmentPart, LegPart, FreePart, Spells, flies, SpellsText, Starts, NamesPlace, OneMessage}
+use Rattle.ssim_text.specs.Machine.{step, sub_of, flight_expected, no_legs, body_expected, with_leg, is_whole, with_body, run, Reads}
+use Rattle.ssim_text.specs.internal.DecoderState.{finish, Takes, Refuses}
 use Rattle.std.proofs.Common.{get_or, add-one, drop-cons, drop_of_length-le}
 use Rattle.ssim_text.specs.declared.fault.Fault.{Fault}
 use Rattle.ssim_text.specs.Machine.{fault_at, fault_of, fault_before}
@@ -192,7 +194,7 @@ equipment_tail equipped.New m d dates = one_more (AtEquipment m equipped.New d d
 equipment_tail equipped.Rpl m d dates = one_more (AtEquipment m equipped.Rpl d dates) (AtLegs m (no_legs d dates (change.Rpl an_equipment))) (EquipmentPart an_equipment) (codes "J 320") (codes "ZRH0000 LHR0000" ∷ []) refl equipment_line (no_legs_tail m d dates (change.Rpl an_equipment))
 equipment_tail equipped.Eqt m d dates = one_more (AtEquipment m equipped.Eqt d dates) (AtEnd (with_sub m (sub_of d dates (action.Eqt an_equipment)))) (EquipmentPart an_equipment) (codes "J 320") [] refl equipment_line (done (AtEnd (with_sub m (sub_of d dates (action.Eqt an_equipment)))) (with_sub m (sub_of d dates (action.Eqt an_equipment))) refl)
 
-body_tail : (a : ActionIdentifier) (m : MessageValue) (d : Designator) (dates : Dates) → Tail (body_wanted a m d dates) (needs a)
+body_tail : (a : ActionIdentifier) (m : MessageValue) (d : Designator) (dates : Dates) → Tail (body_expected a m d dates) (needs a)
 body_tail identifier.New m d dates = equipment_tail equipped.New m d dates
 body_tail identifier.Cnl m d dates = done (AtEnd (with_sub m (sub_of d dates action.Cnl))) (with_sub m (sub_of d dates action.Cnl)) refl
 body_tail identifier.Rpl m d dates = equipment_tail equipped.Rpl m d dates
@@ -200,21 +202,21 @@ body_tail identifier.Eqt m d dates = equipment_tail equipped.Eqt m d dates
 body_tail identifier.Tim m d dates = no_legs_tail m d dates change.Tim
 
 period_tail : (a : ActionIdentifier) (m : MessageValue) (d : Designator) → Tail (AtPeriod m a d) (codes "01JAN25 01JAN25 1" ∷ needs a)
-period_tail a m d = one_more (AtPeriod m a d) (body_wanted a m d (Period a_period)) (PeriodPart a_period) (codes "01JAN25 01JAN25 1") (needs a) refl period_line (body_tail a m d (Period a_period))
+period_tail a m d = one_more (AtPeriod m a d) (body_expected a m d (Period a_period)) (PeriodPart a_period) (codes "01JAN25 01JAN25 1") (needs a) refl period_line (body_tail a m d (Period a_period))
 
 flight_tail : (a : ActionIdentifier) (m : MessageValue) → Tail (AtFlight m a) (codes "LX1" ∷ codes "01JAN25 01JAN25 1" ∷ needs a)
 flight_tail a m = one_more (AtFlight m a) (AtPeriod m a a_flight) (FlightPart a_flight) (codes "LX1") (codes "01JAN25 01JAN25 1" ∷ needs a) refl flight_line (period_tail a m a_flight)
 
 dated_tail : (a : ActionIdentifier) (m : MessageValue) → Tail (AtDatedFlight m a) (codes "LX1/01JAN25" ∷ needs a)
-dated_tail a m = one_more (AtDatedFlight m a) (body_wanted a m a_flight (Date a_date)) (DatedFlightPart a_flight a_date) (codes "LX1/01JAN25") (needs a) refl dated_line (body_tail a m a_flight (Date a_date))
+dated_tail a m = one_more (AtDatedFlight m a) (body_expected a m a_flight (Date a_date)) (DatedFlightPart a_flight a_date) (codes "LX1/01JAN25") (needs a) refl dated_line (body_tail a m a_flight (Date a_date))
 
-wanted_tail : (kind : Kind) (m : MessageValue) → Tail (flight_wanted kind m identifier.Cnl) (drop 4 (shortest kind identifier.Cnl))
-wanted_tail Ssm m = flight_tail identifier.Cnl m
-wanted_tail Asm m = dated_tail identifier.Cnl m
+flight_line_tail : (kind : Kind) (m : MessageValue) → Tail (flight_expected kind m identifier.Cnl) (drop 4 (shortest kind identifier.Cnl))
+flight_line_tail Ssm m = flight_tail identifier.Cnl m
+flight_line_tail Asm m = dated_tail identifier.Cnl m
 
 action_tail : (kind : Kind) (m : MessageValue) → m.kind ≡ kind → Tail (AtAction m) (drop 3 (shortest kind identifier.Cnl))
-action_tail Ssm m e = one_more (AtAction m) (flight_wanted Ssm m identifier.Cnl) (ActionPart identifier.Cnl) (codes "CNL") (drop 4 (shortest Ssm identifier.Cnl)) (ap (λ (k : Kind). Some (flight_wanted k m identifier.Cnl)) e) refl (wanted_tail Ssm m)
-action_tail Asm m e = one_more (AtAction m) (flight_wanted Asm m identifier.Cnl) (ActionPart identifier.Cnl) (codes "CNL") (drop 4 (shortest Asm identifier.Cnl)) (ap (λ (k : Kind). Some (flight_wanted k m identifier.Cnl)) e) refl (wanted_tail Asm m)
+action_tail Ssm m e = one_more (AtAction m) (flight_expected Ssm m identifier.Cnl) (ActionPart identifier.Cnl) (codes "CNL") (drop 4 (shortest Ssm identifier.Cnl)) (ap (λ (k : Kind). Some (flight_expected k m identifier.Cnl)) e) refl (flight_line_tail Ssm m)
+action_tail Asm m e = one_more (AtAction m) (flight_expected Asm m identifier.Cnl) (ActionPart identifier.Cnl) (codes "CNL") (drop 4 (shortest Asm identifier.Cnl)) (ap (λ (k : Kind). Some (flight_expected k m identifier.Cnl)) e) refl (flight_line_tail Asm m)
 
 reference_tail : (o : List ℕ) (kind : Kind) (mode : TimeMode) → Tail (AtReference o kind mode) (codes "01JAN00001E001" ∷ drop 3 (shortest kind identifier.Cnl))
 reference_tail o kind mode = one_more (AtReference o kind mode) (AtAction (begun o kind mode a_reference)) (ReferencePart a_reference) (codes "01JAN00001E001") (drop 3 (shortest kind identifier.Cnl)) refl reference_line (action_tail kind (begun o kind mode a_reference) refl)
@@ -269,8 +271,8 @@ spelled_both [] qs (l ∷ lines) more h k = absurd h
 spelled_both (p ∷ ps) qs [] more h k = absurd h
 spelled_both (p ∷ ps) qs (l ∷ lines) more h k = (h.0, spelled_both ps qs lines more h.1 k)
 
-pub starts : (s : State) (lines : List (List ℕ)) → Reads s lines → Starts lines
-starts s lines r =
+pub completed : (s : State) (lines : List (List ℕ)) → Reads s lines → IsCompletedShortly lines
+completed s lines r =
     let w = completes s r.parts (reached_holds s r.parts r.reached) in
     let h = sound w.tail.last w.tail.message (r.parts ++ w.tail.parts) (run_append AtStart s r.parts w.tail.parts r.reached ∙ w.tail.reached) w.tail.finished in
     record {
@@ -279,6 +281,11 @@ starts s lines r =
       message = w.tail.message;
       spelled = record { shape = h.shape; parts = r.parts ++ w.tail.parts; has_parts = h.has_parts; spelled = spelled_both r.parts w.tail.parts lines w.completion r.spelled w.tail.spelled };
     }
+
+pub starts : (s : State) (lines : List (List ℕ)) → Reads s lines → Starts lines
+starts s lines r =
+    let short = completed s lines r in
+    record { completion = short.completion; message = short.message; spelled = short.spelled }
 
 pub take_drop : (i : ℕ) (xs : List (List ℕ)) → take i xs ++ drop i xs ≡ xs
 take_drop i xs = simp common_steps

@@ -18,7 +18,7 @@ use Rattle.ssim_text.specs.Left.{lines_left, pieces, texts}
 use Rattle.ssim_text.specs.Canonical.{part_text, originator_parts, canonical_parts, canonical}
 use Rattle.ssim_text.specs.Spelling.{CanonicalReadsBack, EqualWhereWrittenEqual}
 use Rattle.ssim_text.proofs.LinesKept.{IsLine, ReadsAgain, left_lines, written_left, written_printable}
-use Rattle.ssim_text.proofs.FrontAgain.{originator_again, reference_again}
+use Rattle.ssim_text.proofs.HeadingAgain.{originator_again, reference_again}
 use Rattle.ssim_text.proofs.DatesAgain.{flight_again, dated_flight_again, period_again}
 use Rattle.ssim_text.proofs.EquipmentAgain.{equipment_again}
 use Rattle.ssim_text.proofs.LegsAgain.{leg_again, segment_again}
@@ -105,24 +105,24 @@ choice_again false originator parts e (inr w) k = subst (AllByRecursion ReadsAga
 
 canonical_again : (m : MessageValue) (parts : List Part) → HasParts m parts → AllByRecursion ReadsAgain parts → AllByRecursion ReadsAgain (canonical_parts m)
 canonical_again m parts h k =
-    let f = h.is_front in
+    let f = h.is_heading in
     let rest = subs_parts m.subs ++ free_parts m.free in
     let whole = subst (AllByRecursion ReadsAgain) h.whole k in
-    let front = subst (AllByRecursion ReadsAgain) f.whole (all_left ReadsAgain h.front rest whole) in
-    let middle = all_right ReadsAgain f.originator_parts (KindPart m.kind ∷ (f.mode_parts ++ ReferencePart m.reference ∷ [])) front in
-    let own = all_left ReadsAgain f.originator_parts (KindPart m.kind ∷ (f.mode_parts ++ ReferencePart m.reference ∷ [])) front in
+    let heading = subst (AllByRecursion ReadsAgain) f.whole (all_left ReadsAgain h.heading rest whole) in
+    let middle = all_right ReadsAgain f.originator_parts (KindPart m.kind ∷ (f.mode_parts ++ ReferencePart m.reference ∷ [])) heading in
+    let own = all_left ReadsAgain f.originator_parts (KindPart m.kind ∷ (f.mode_parts ++ ReferencePart m.reference ∷ [])) heading in
     let reference = all_right ReadsAgain f.mode_parts (ReferencePart m.reference ∷ []) middle.1 in
     all_both (originator_parts m.originator) (KindPart m.kind ∷ ModePart m.mode ∷ ReferencePart m.reference ∷ rest)
     (choice_again (bytes_eq m.originator no_originator) m.originator f.originator_parts refl f.is_originator own)
-    (kind_again m.kind, (mode_again m.mode, (reference.0, all_right ReadsAgain h.front rest whole)))
+    (kind_again m.kind, (mode_again m.mode, (reference.0, all_right ReadsAgain h.heading rest whole)))
 
 pub canonical_has : (m : MessageValue) → HasParts m (canonical_parts m)
 canonical_has m =
     let own = originator_parts m.originator in
     let middle = KindPart m.kind ∷ ModePart m.mode ∷ ReferencePart m.reference ∷ [] in
     record {
-      front = own ++ middle;
-      is_front = record { originator_parts = own; is_originator = is_written m.originator; mode_parts = ModePart m.mode ∷ []; is_mode = inl refl; whole = refl };
+      heading = own ++ middle;
+      is_heading = record { originator_parts = own; is_originator = is_written m.originator; mode_parts = ModePart m.mode ∷ []; is_mode = inl refl; whole = refl };
       whole = sym (append_assoc own middle (subs_parts m.subs ++ free_parts m.free));
     }
 

@@ -19,7 +19,8 @@ use Rattle.ssim_text.specs.declared.decoder_state.State.TheVariants.{AtStart, At
 use Rattle.ssim_text.specs.Message.{MessageValue, with_free}
 use Rattle.ssim_text.specs.Lines.{originator_of, kind_text, mode_text, numbers_of, reference_of, identifier_text, SpellsDatedFlight, period_of, equipment_of, leg_of, segment_of, begins_free}
 use Rattle.ssim_text.specs.Grammar.{Part, OriginatorPart, KindPart, ModePart, ReferencePart, ActionPart, FlightPart, DatedFlightPart, PeriodPart, EquipmentPart, LegPart, SegmentPart, Divider, FreePart, Spells}
-use Rattle.ssim_text.specs.Machine.{step, Takes, Refuses, run, Reads}
+use Rattle.ssim_text.specs.Machine.{step, run, Reads}
+use Rattle.ssim_text.specs.internal.DecoderState.{Takes, Refuses}
 use Rattle.ssim_text.proofs.Arms.{leg_or_segment, leg_or_divider, segment_or_divider, no_action_free}
 
 pub none_some : {A : Type 0} (a : A) → None ≡ Some a → ⊥

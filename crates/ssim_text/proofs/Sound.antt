@@ -27,8 +27,9 @@ use Rattle.ssim_text.specs.declared.decoder_state.State.TheVariants.{AtStart, At
 use Rattle.ssim_text.specs.Values.{EquipmentValue, no_originator}
 use Rattle.ssim_text.specs.Message.{MessageValue, begun, with_sub, with_free}
 use Rattle.ssim_text.specs.Lines.{begins_free}
-use Rattle.ssim_text.specs.Grammar.{Part, OriginatorPart, KindPart, ModePart, ReferencePart, ActionPart, FlightPart, DatedFlightPart, PeriodPart, EquipmentPart, LegPart, SegmentPart, Divider, FreePart, flight_parts, sub_parts, later_parts, subs_parts, free_parts, IsOriginatorPart, flies, IsBody, AreDates, IsSub, BeginsFree, IsShape, IsFront, HasParts}
-use Rattle.ssim_text.specs.Machine.{step, finish, sub_of, flight_wanted, body_wanted, after_equipment, is_none_yet, with_leg, with_segment, takes_leg, has_segments, fits_segment, takes_segment, is_whole, action_of, with_body, run}
+use Rattle.ssim_text.specs.Grammar.{Part, OriginatorPart, KindPart, ModePart, ReferencePart, ActionPart, FlightPart, DatedFlightPart, PeriodPart, EquipmentPart, LegPart, SegmentPart, Divider, FreePart, flight_parts, sub_parts, later_parts, subs_parts, free_parts, IsOriginatorPart, flies, IsBody, AreDates, IsSub, BeginsFree, IsShape, IsHeading, HasParts}
+use Rattle.ssim_text.specs.Machine.{step, sub_of, flight_expected, body_expected, after_equipment, is_none_yet, with_leg, with_segment, takes_leg, has_segments, fits_segment, takes_segment, is_whole, action_of, with_body, run}
+use Rattle.ssim_text.specs.internal.DecoderState.{finish}
 use Rattle.ssim_text.proofs.Runs.{bind_some, none_some, some_same, guarded, false_true}
 
 append_none : {A : Type 0} (xs : List A) → xs ++ [] ≡ xs
@@ -36,9 +37,9 @@ append_none xs = simp common_steps
 
 -- the message so far has these parts
 pub record Base (m : MessageValue) (ps : List Part) : Type 0 where
-  pub front : List Part
-  pub is_front : IsFront m.originator m.kind m.mode m.reference front
-  pub whole : ps ≡ front ++ subs_parts m.subs
+  pub heading : List Part
+  pub is_heading : IsHeading m.originator m.kind m.mode m.reference heading
+  pub whole : ps ≡ heading ++ subs_parts m.subs
   pub few : length m.subs ≤ 250
   pub subs : AllByRecursion (IsSub m.kind) m.subs
   pub no_free : m.free ≡ []
@@ -115,9 +116,9 @@ some_more xs x = omega (arith, length-one_more xs x)
 
 push_base : (m : MessageValue) (sub : Sub) (ps : List Part) → After m (sub_parts sub) ps → IsSub m.kind sub → Base (with_sub m sub) ps
 push_base m sub ps a h = record {
-  front = a.base.front;
-  is_front = a.base.is_front;
-  whole = a.whole ∙ ap (λ (x : List Part). x ++ (opened m.subs ++ sub_parts sub)) a.base.whole ∙ append_assoc a.base.front (subs_parts m.subs) (opened m.subs ++ sub_parts sub) ∙ ap (λ (x : List Part). a.base.front ++ x) (sym (subs-push m.subs sub));
+  heading = a.base.heading;
+  is_heading = a.base.is_heading;
+  whole = a.whole ∙ ap (λ (x : List Part). x ++ (opened m.subs ++ sub_parts sub)) a.base.whole ∙ append_assoc a.base.heading (subs_parts m.subs) (opened m.subs ++ sub_parts sub) ∙ ap (λ (x : List Part). a.base.heading ++ x) (sym (subs-push m.subs sub));
   few = omega (arith, a.room, length-one_more m.subs sub);
   subs = all-push (IsSub m.kind) m.subs sub a.base.subs h;
   no_free = a.base.no_free;
@@ -149,7 +150,7 @@ next_action m a ps qs b h e room = record {
   room = room;
 }
 
-flight_on : (kind : Kind) (m : MessageValue) (a : ActionIdentifier) (ps : List Part) → After m (ActionPart a ∷ []) ps → m.kind ≡ kind → Holds (flight_wanted kind m a) ps
+flight_on : (kind : Kind) (m : MessageValue) (a : ActionIdentifier) (ps : List Part) → After m (ActionPart a ∷ []) ps → m.kind ≡ kind → Holds (flight_expected kind m a) ps
 flight_on Ssm m a ps h e = (h, e)
 flight_on Asm m a ps h e = (h, e)
 
@@ -158,7 +159,7 @@ below a b h = grind (arith, common_steps)
 
 -- ---- flight, dates, equipment
 
-body_on : (a : ActionIdentifier) (m : MessageValue) (d : Designator) (dates : Dates) (ps : List Part) → After m (ActionPart a ∷ flight_parts d dates) ps → AreDates m.kind dates → Holds (body_wanted a m d dates) ps
+body_on : (a : ActionIdentifier) (m : MessageValue) (d : Designator) (dates : Dates) (ps : List Part) → After m (ActionPart a ∷ flight_parts d dates) ps → AreDates m.kind dates → Holds (body_expected a m d dates) ps
 body_on identifier.New m d dates ps h k = (h, k)
 body_on identifier.Rpl m d dates ps h k = (h, k)
 body_on identifier.Eqt m d dates ps h k = (h, k)
@@ -251,9 +252,9 @@ shape_of_base m ps b some = record { some = some; few = b.few; subs = b.subs; fr
 
 parts_of_base : (m : MessageValue) (ps : List Part) → Base m ps → HasParts m ps
 parts_of_base m ps b = record {
-  front = b.front;
-  is_front = b.is_front;
-  whole = b.whole ∙ ap (λ (x : List Part). b.front ++ x) (sym (append_none (subs_parts m.subs)) ∙ ap (λ (x : List (List ℕ)). subs_parts m.subs ++ free_parts x) (sym b.no_free));
+  heading = b.heading;
+  is_heading = b.is_heading;
+  whole = b.whole ∙ ap (λ (x : List Part). b.heading ++ x) (sym (append_none (subs_parts m.subs)) ∙ ap (λ (x : List (List ℕ)). subs_parts m.subs ++ free_parts x) (sym b.no_free));
 }
 
 first_free_on : (m : MessageValue) (line : List ℕ) (ps : List Part) → Holds (AtNext m) ps → begins_free line ≡ true → Holds (AtFree (with_free m line)) (ps ++ FreePart line ∷ [])
@@ -262,10 +263,10 @@ first_free_on m line ps (qs, b, some, e) h =
     let own : List Part = Divider ∷ FreePart line ∷ [] in (
       record { some = some; few = b.few; subs = b.subs; free = subst BeginsFree (sym g) h },
       record {
-        front = b.front;
-        is_front = b.is_front;
-        whole = ap (λ (x : List Part). x ++ FreePart line ∷ []) e ∙ append_assoc qs (Divider ∷ []) (FreePart line ∷ []) ∙ ap (λ (x : List Part). x ++ own) b.whole ∙ append_assoc b.front (subs_parts m.subs) own
-            ∙ ap (λ (x : List (List ℕ)). b.front ++ (subs_parts m.subs ++ free_parts x)) (sym g);
+        heading = b.heading;
+        is_heading = b.is_heading;
+        whole = ap (λ (x : List Part). x ++ FreePart line ∷ []) e ∙ append_assoc qs (Divider ∷ []) (FreePart line ∷ []) ∙ ap (λ (x : List Part). x ++ own) b.whole ∙ append_assoc b.heading (subs_parts m.subs) own
+            ∙ ap (λ (x : List (List ℕ)). b.heading ++ (subs_parts m.subs ++ free_parts x)) (sym g);
       },
       some_more m.free line,
     )
@@ -282,17 +283,17 @@ free_on : (m : MessageValue) (line : List ℕ) (ps : List Part) → Holds (AtFre
 free_on m line ps (t, h, some) = (
   record { some = t.some; few = t.few; subs = t.subs; free = BeginsFree-push m.free line some t.free },
   record {
-    front = h.front;
-    is_front = h.is_front;
-    whole = ap (λ (x : List Part). x ++ FreePart line ∷ []) h.whole ∙ append_assoc h.front (subs_parts m.subs ++ free_parts m.free) (FreePart line ∷ []) ∙ ap (λ (x : List Part). h.front ++ x) (append_assoc (subs_parts m.subs) (free_parts m.free) (FreePart line ∷ []) ∙ ap (λ (x : List Part). subs_parts m.subs ++ x) (sym (free_parts-push m.free line some)));
+    heading = h.heading;
+    is_heading = h.is_heading;
+    whole = ap (λ (x : List Part). x ++ FreePart line ∷ []) h.whole ∙ append_assoc h.heading (subs_parts m.subs ++ free_parts m.free) (FreePart line ∷ []) ∙ ap (λ (x : List Part). h.heading ++ x) (append_assoc (subs_parts m.subs) (free_parts m.free) (FreePart line ∷ []) ∙ ap (λ (x : List Part). subs_parts m.subs ++ x) (sym (free_parts-push m.free line some)));
   },
   some_more m.free line,
 )
 
 -- ---- the lines before the sub-messages
 
-first_base : (o : List ℕ) (kind : Kind) (mode : TimeMode) (r : GivenReference) (front : List Part) → IsFront o kind mode r front → Base (begun o kind mode r) front
-first_base o kind mode r front h = record { front = front; is_front = h; whole = sym (append_none front); few = omega arith; subs = tt; no_free = refl }
+first_base : (o : List ℕ) (kind : Kind) (mode : TimeMode) (r : GivenReference) (heading : List Part) → IsHeading o kind mode r heading → Base (begun o kind mode r) heading
+first_base o kind mode r heading h = record { heading = heading; is_heading = h; whole = sym (append_none heading); few = omega arith; subs = tt; no_free = refl }
 
 reference_on : (o : List ℕ) (kind : Kind) (mode : TimeMode) (r : GivenReference) (ps : List Part) → Holds (AtReference o kind mode) ps → Base (begun o kind mode r) (ps ++ ReferencePart r ∷ [])
 reference_on o kind mode r ps (os, is, e) = first_base o kind mode r (ps ++ ReferencePart r ∷ []) (record {
@@ -334,13 +335,13 @@ holds_on (AtMode o kind) t ps (ReferencePart r) h d = moved (AtAction (begun o k
 holds_on (AtMode o kind) t ps p h d = absurd (none_some t d)
 holds_on (AtReference o kind mode) t ps (ReferencePart r) h d = moved (AtAction (begun o kind mode r)) t (ps ++ ReferencePart r ∷ []) d (reference_on o kind mode r ps h, refl)
 holds_on (AtReference o kind mode) t ps p h d = absurd (none_some t d)
-holds_on (AtAction m) t ps (ActionPart a) h d = moved (flight_wanted m.kind m a) t (ps ++ ActionPart a ∷ []) d (flight_on m.kind m a (ps ++ ActionPart a ∷ []) (first_action m a ps h.0 h.1) refl)
+holds_on (AtAction m) t ps (ActionPart a) h d = moved (flight_expected m.kind m a) t (ps ++ ActionPart a ∷ []) d (flight_on m.kind m a (ps ++ ActionPart a ∷ []) (first_action m a ps h.0 h.1) refl)
 holds_on (AtAction m) t ps p h d = absurd (none_some t d)
 holds_on (AtFlight m a) t ps (FlightPart f) h d = moved (AtPeriod m a f) t (ps ++ FlightPart f ∷ []) d (after_on m (ActionPart a ∷ []) ps (FlightPart f) h.0, h.1)
 holds_on (AtFlight m a) t ps p h d = absurd (none_some t d)
-holds_on (AtDatedFlight m a) t ps (DatedFlightPart f date) h d = moved (body_wanted a m f (Date date)) t (ps ++ DatedFlightPart f date ∷ []) d (body_on a m f (Date date) (ps ++ DatedFlightPart f date ∷ []) (after_on m (ActionPart a ∷ []) ps (DatedFlightPart f date) h.0) (are_dates m Asm (Date date) h.1 tt))
+holds_on (AtDatedFlight m a) t ps (DatedFlightPart f date) h d = moved (body_expected a m f (Date date)) t (ps ++ DatedFlightPart f date ∷ []) d (body_on a m f (Date date) (ps ++ DatedFlightPart f date ∷ []) (after_on m (ActionPart a ∷ []) ps (DatedFlightPart f date) h.0) (are_dates m Asm (Date date) h.1 tt))
 holds_on (AtDatedFlight m a) t ps p h d = absurd (none_some t d)
-holds_on (AtPeriod m a f) t ps (PeriodPart n) h d = moved (body_wanted a m f (Period n)) t (ps ++ PeriodPart n ∷ []) d (body_on a m f (Period n) (ps ++ PeriodPart n ∷ []) (after_on m (ActionPart a ∷ FlightPart f ∷ []) ps (PeriodPart n) h.0) (are_dates m Ssm (Period n) h.1 tt))
+holds_on (AtPeriod m a f) t ps (PeriodPart n) h d = moved (body_expected a m f (Period n)) t (ps ++ PeriodPart n ∷ []) d (body_on a m f (Period n) (ps ++ PeriodPart n ∷ []) (after_on m (ActionPart a ∷ FlightPart f ∷ []) ps (PeriodPart n) h.0) (are_dates m Ssm (Period n) h.1 tt))
 holds_on (AtPeriod m a f) t ps p h d = absurd (none_some t d)
 holds_on (AtEquipment m e f dates) t ps (EquipmentPart n) h d = moved (after_equipment e m f dates n) t (ps ++ EquipmentPart n ∷ []) d (equipment_on e m f dates n (ps ++ EquipmentPart n ∷ []) (after_on m (ActionPart (identifier_of_equipped e) ∷ flight_parts f dates) ps (EquipmentPart n) h.0) h.1)
 holds_on (AtEquipment m e f dates) t ps p h d = absurd (none_some t d)
@@ -357,7 +358,7 @@ holds_on (AtLegs m b) t ps p h d = absurd (none_some t d)
 holds_on (AtEnd m) t ps Divider h d = moved (AtNext m) t (ps ++ Divider ∷ []) d (ps, h.0, h.1, refl)
 holds_on (AtEnd m) t ps p h d = absurd (none_some t d)
 holds_on (AtNext m) t ps (ActionPart a) h d =
-    let w = guarded (nat_lt (length m.subs) 250) (flight_wanted m.kind m a) t d in
+    let w = guarded (nat_lt (length m.subs) 250) (flight_expected m.kind m a) t d in
     subst (λ (x : State). Holds x (ps ++ ActionPart a ∷ [])) w.1 (flight_on m.kind m a (ps ++ ActionPart a ∷ []) (next_action m a ps h.0 h.1 h.2 h.3 (below (length m.subs) 250 w.0)) refl)
 holds_on (AtNext m) t ps (FreePart line) h d =
     let w = guarded (begins_free line) (AtFree (with_free m line)) t d in
@@ -366,11 +367,11 @@ holds_on (AtNext m) t ps p h d = absurd (none_some t d)
 holds_on (AtFree m) t ps (FreePart line) h d = moved (AtFree (with_free m line)) t (ps ++ FreePart line ∷ []) d (free_on m line ps h)
 holds_on (AtFree m) t ps p h d = absurd (none_some t d)
 
-holds_run : (s t : State) (front ps : List Part) → Holds s front → run s ps ≡ Some t → Holds t (front ++ ps)
-holds_run s t front [] h d = subst (λ (x : List Part). Holds t x) (sym (append_none front)) (moved s t front d h)
-holds_run s t front (p ∷ ps) h d =
+holds_run : (s t : State) (earlier ps : List Part) → Holds s earlier → run s ps ≡ Some t → Holds t (earlier ++ ps)
+holds_run s t earlier [] h d = subst (λ (x : List Part). Holds t x) (sym (append_none earlier)) (moved s t earlier d h)
+holds_run s t earlier (p ∷ ps) h d =
     let w = bind_some (λ (x : State). run x ps) (step s p) t d in
-    subst (λ (x : List Part). Holds t x) (append_assoc front (p ∷ []) ps) (holds_run w.0 t (front ++ p ∷ []) ps (holds_on s w.0 front p h w.1) w.2)
+    subst (λ (x : List Part). Holds t x) (append_assoc earlier (p ∷ []) ps) (holds_run w.0 t (earlier ++ p ∷ []) ps (holds_on s w.0 earlier p h w.1) w.2)
 
 -- what a state that was reached says
 pub reached_holds : (s : State) (ps : List Part) → run AtStart ps ≡ Some s → Holds s ps

@@ -12,7 +12,7 @@ use Rattle.ssim_text.specs.Lines.{originator_of, numbers_of, reference_of, perio
 use Rattle.ssim_text.specs.Grammar.{Spells, IsShape}
 use Rattle.ssim_text.specs.Left.{lines_left, texts, first_unprintable}
 use Rattle.ssim_text.specs.Canonical.{canonical_parts, canonical}
-use Rattle.ssim_text.specs.Worked.{text_of, IsWorked, WorkedTexts, swiss, week_cancelled, week_cancelled_lines, season_cancelled, season_cancelled_lines, retimed, retimed_lines, put_back, put_back_lines, other_equipment, other_equipment_lines, leap_day_cancelled, leap_day_cancelled_lines, one_date, one_date_lines, every_part, every_part_lines, originated, originated_lines, with_segments, with_segments_lines}
+use Rattle.ssim_text.specs.examples.Texts.{text_of, IsWorked, WorkedTexts, swiss, week_cancelled, week_cancelled_lines, season_cancelled, season_cancelled_lines, retimed, retimed_lines, put_back, put_back_lines, other_equipment, other_equipment_lines, leap_day_cancelled, leap_day_cancelled_lines, one_date, one_date_lines, every_part, every_part_lines, originated, originated_lines, with_segments, with_segments_lines}
 use Rattle.ssim_text.proofs.ReadsBack.{canonical_has}
 
 by_lines : (m : MessageValue) (lines : List (List ℕ)) → texts (lines_left (text_of lines)) ≡ lines → first_unprintable (lines_left (text_of lines)) ≡ None → length (text_of lines) ≤ 65536 → IsShape m → AllZip Spells (canonical_parts m) lines → canonical m ≡ text_of lines → IsWorked m lines

@@ -1,5 +1,6 @@
 -- The one written form of a message.
-use Rattle.std.specs.Prelude.{ℕ, ◌+◌, ◌/◌, ◌%◌, ◌==◌, nat_lt, if◌then◌else◌, Option, Some, None, List, [], ◌∷◌, ◌++◌, codes}
+use Rattle.std.specs.Prelude.{ℕ, ◌+◌, ◌/◌, ◌%◌, ◌==◌, nat_lt, if◌then◌else◌, Option, Some, None, List, []}
+use Rattle.std.specs.Prelude.{◌∷◌, ◌++◌, codes}
 use Rattle.std.specs.List.{flat_map}
 use Rattle.std.specs.Str.{bytes_eq}
 use Rattle.ssim_values.specs.Designator.{designator_text}
@@ -21,7 +22,9 @@ use Rattle.ssim_text.specs.declared.segment.SegmentLine.{SegmentLine}
 use Rattle.ssim_text.specs.Values.{EquipmentValue, no_originator}
 use Rattle.ssim_text.specs.Lines.{kind_text, mode_text, identifier_text}
 use Rattle.ssim_text.specs.Message.{MessageValue}
-use Rattle.ssim_text.specs.Grammar.{Part, OriginatorPart, KindPart, ModePart, ReferencePart, ActionPart, FlightPart, DatedFlightPart, PeriodPart, EquipmentPart, LegPart, SegmentPart, Divider, FreePart, subs_parts, free_parts}
+use Rattle.ssim_text.specs.Grammar.{Part, OriginatorPart, KindPart, ModePart, ReferencePart, ActionPart}
+use Rattle.ssim_text.specs.Grammar.{FlightPart, DatedFlightPart, PeriodPart, EquipmentPart, LegPart}
+use Rattle.ssim_text.specs.Grammar.{SegmentPart, Divider, FreePart, subs_parts, free_parts}
 
 -- a number in three digits
 abbrev pub three_digits : ℕ → List ℕ
@@ -29,7 +32,8 @@ three_digits n = (48 + n / 100 % 10) ∷ (48 + n / 10 % 10) ∷ (48 + n % 10) �
 
 -- a number in five digits
 abbrev pub five_digits : ℕ → List ℕ
-five_digits n = (48 + n / 10000 % 10) ∷ (48 + n / 1000 % 10) ∷ (48 + n / 100 % 10) ∷ (48 + n / 10 % 10) ∷ (48 + n % 10) ∷ []
+five_digits n = (48 + n / 10000 % 10) ∷ (48 + n / 1000 % 10) ∷ (48 + n / 100 % 10) ∷ (48 + n / 10 % 10)
+    ∷ (48 + n % 10) ∷ []
 
 -- a number in one to three digits, without leading zeros
 abbrev pub short_digits : ℕ → List ℕ
@@ -49,7 +53,8 @@ creator_text (Some creator) = 47 ∷ creator
 
 -- the canonical reference line
 abbrev pub reference_text : GivenReference → List ℕ
-reference_text r = month_day_text r.date ++ five_digits r.group ++ group_code_text r.code ++ three_digits r.serial ++ creator_text r.creator
+reference_text r = month_day_text r.date ++ five_digits r.group ++ group_code_text r.code
+    ++ three_digits r.serial ++ creator_text r.creator
 
 -- the canonical text of a date, with its year or without
 abbrev pub given_date_text : GivenDate → List ℕ
@@ -88,7 +93,8 @@ passenger_text time passenger = if passenger == time then [] else 47 ∷ clock_t
 
 -- the canonical text of the departure or the arrival of a leg
 abbrev pub leg_end_text : LegEnd → List ℕ
-leg_end_text e = e.station ++ clock_text e.time ++ variation_text e.variation ++ passenger_text e.time e.passenger
+leg_end_text e =
+    e.station ++ clock_text e.time ++ variation_text e.variation ++ passenger_text e.time e.passenger
 
 -- the canonical leg line
 abbrev pub leg_text : LegLine → List ℕ
@@ -126,7 +132,8 @@ originator_parts originator = if bytes_eq originator no_originator then [] else 
 abbrev pub canonical_parts : MessageValue → List Part
 canonical_parts m =
     originator_parts m.originator
-    ++ (KindPart m.kind ∷ ModePart m.mode ∷ ReferencePart m.reference ∷ (subs_parts m.subs ++ free_parts m.free))
+    ++ (KindPart m.kind ∷ ModePart m.mode ∷ ReferencePart m.reference
+    ∷ (subs_parts m.subs ++ free_parts m.free))
 
 -- the canonical text of a message
 abbrev pub canonical : MessageValue → List ℕ

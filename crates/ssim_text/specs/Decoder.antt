@@ -3,9 +3,7 @@ use Rattle.std.specs.Prelude.{◌≡◌, ℕ, ◌<◌, ◌≤◌, ◌⊎◌, Som
 use Rattle.ssim_text.specs.declared.fault.Fault.{Fault}
 use Rattle.ssim_text.specs.declared.fault.Fault.TheVariants as fault
 use Rattle.ssim_text.specs.declared.fault.TextFault.{TextFault}
-use Rattle.ssim_text.specs.declared.fault.TextFault.TheVariants as answer
-use Rattle.ssim_text.specs.declared.decoder.Refusal.{Refusal}
-use Rattle.ssim_text.specs.declared.decoder.Refusal.TheVariants.{NoMemory, Misplaced}
+use Rattle.ssim_text.specs.declared.fault.TextFault.TheVariants as refusal
 use Rattle.ssim_text.specs.declared.decoder_state.State.{State}
 use Rattle.ssim_text.specs.Message.{MessageValue}
 use Rattle.ssim_text.specs.Grammar.{SpellsText, NamesPlace}
@@ -20,11 +18,6 @@ pub record IsFaultAt (lines : List (List ℕ)) (index : ℕ) (f : Fault) : Type 
   pub state : State
   pub reads : Reads state (take index lines)
   pub fault : f ≡ fault_before state (drop index lines)
-
--- the refusal names the first line that is not valid; out of memory says nothing of the lines
-abbrev pub IsPlace : List (List ℕ) → Refusal → Type 0
-IsPlace lines NoMemory = Unit {0}
-IsPlace lines (Misplaced f index) = NamesPlace lines index × IsFaultAt lines index f
 
 -- check 1: the text is too long
 pub record IsTooLong (text : List ℕ) (f : Fault) (n : ℕ) : Type 0 where
@@ -62,20 +55,16 @@ pub record IsWrittenTooLong (text : List ℕ) (f : Fault) (n : ℕ) : Type 0 whe
 
 -- the fault of a text and its line: that of the first check that fails
 abbrev pub IsRefusal : List ℕ → TextFault → Type 0
-IsRefusal text answer.Memory = Unit {0}
-IsRefusal text (answer.Refused f n) = IsTooLong text f n ⊎ IsNotAscii text f n ⊎ IsMisplaced text f n ⊎ IsWrittenTooLong text f n
+IsRefusal text refusal.Memory = Unit {0}
+IsRefusal text (refusal.Refused f n) =
+    IsTooLong text f n ⊎ IsNotAscii text f n ⊎ IsMisplaced text f n ⊎ IsWrittenTooLong text f n
 
 -- A text has at most one fault, at one line.
 abbrev pub OneRefusal : Type 0
-OneRefusal = (text : List ℕ) (f g : Fault) (m n : ℕ) → IsRefusal text (answer.Refused f m) → IsRefusal text (answer.Refused g n) → (f ≡ g) × (m ≡ n)
+OneRefusal = (text : List ℕ) (f g : Fault) (m n : ℕ) → IsRefusal text (refusal.Refused f m)
+    → IsRefusal text (refusal.Refused g n) → (f ≡ g) × (m ≡ n)
 
 -- a text that is refused for another reason than memory spells no message
 abbrev pub NoMessage : List ℕ → TextFault → Type 0
-NoMessage text answer.Memory = Unit {0}
-NoMessage text (answer.Refused f n) = (m : MessageValue) → SpellsMessage m text → ⊥
-
--- the refusal, if it is not for memory, says that the canonical text of the message is too long:
--- TooMany at line 1
-abbrev pub IsTooManyAtOne : MessageValue → TextFault → Type 0
-IsTooManyAtOne m answer.Memory = Unit {0}
-IsTooManyAtOne m (answer.Refused f n) = (f ≡ fault.TooMany) × (n ≡ 1) × (65536 < length (canonical m))
+NoMessage text refusal.Memory = Unit {0}
+NoMessage text (refusal.Refused f n) = (m : MessageValue) → SpellsMessage m text → ⊥

@@ -1,7 +1,9 @@
 -- The numbers, names and lines of faults.
 use Rattle.std.specs.Prelude.{ℕ, Option, Some, None, List, codes}
 use Rattle.ssim_text.specs.declared.fault.Fault.{Fault}
-use Rattle.ssim_text.specs.declared.fault.Fault.TheVariants.{BadKind, BadReference, BadAction, BadFlight, BadPeriod, BadEquipment, BadLeg, Extra, TooMany, NotAscii}
+use Rattle.ssim_text.specs.declared.fault.Fault.TheVariants.{BadKind, BadReference, BadAction, BadFlight}
+use Rattle.ssim_text.specs.declared.fault.Fault.TheVariants.{BadPeriod, BadEquipment, BadLeg, Extra, TooMany}
+use Rattle.ssim_text.specs.declared.fault.Fault.TheVariants.{NotAscii}
 use Rattle.ssim_text.specs.declared.fault.TextFault.{TextFault}
 use Rattle.ssim_text.specs.declared.fault.TextFault.TheVariants.{Memory, Refused}
 

@@ -1,5 +1,6 @@
 -- The grammar: a message has parts in an order, and each line of its text spells its part.
-use Rattle.std.specs.Prelude.{◌≡◌, ℕ, ◌≤◌, ◌<◌, ◌+◌, ◌⊎◌, Bool, true, false, Option, Some, None, is_some, List, [], ◌∷◌, ◌++◌, map, length, codes, drop, take, position}
+use Rattle.std.specs.Prelude.{◌≡◌, ℕ, ◌≤◌, ◌<◌, ◌+◌, ◌⊎◌, Bool, true, false, Option, Some, None, is_some}
+use Rattle.std.specs.Prelude.{List, [], ◌∷◌, ◌++◌, map, length, codes, take, position}
 use Rattle.std.specs.List.{AllByRecursion, AllZip}
 use Rattle.std.specs.Str.{bytes_eq}
 use Rattle.ssim_text.specs.declared.kind.Kind.{Kind}
@@ -22,7 +23,8 @@ use Rattle.ssim_text.specs.declared.action.Sub.{Sub}
 use Rattle.ssim_values.specs.declared.designator.Designator.{Designator}
 use Rattle.ssim_values.specs.Designator.{SpellsDesignator}
 use Rattle.ssim_text.specs.Values.{EquipmentValue, no_originator}
-use Rattle.ssim_text.specs.Lines.{originator_of, kind_text, mode_text, reference_of, identifier_text, SpellsDatedFlight, period_of, equipment_of, leg_of, segment_of, begins_free}
+use Rattle.ssim_text.specs.Lines.{originator_of, kind_text, mode_text, reference_of, identifier_text}
+use Rattle.ssim_text.specs.Lines.{SpellsDatedFlight, period_of, equipment_of, leg_of, segment_of, begins_free}
 use Rattle.ssim_text.specs.Message.{MessageValue}
 
 -- what one line of a message says
@@ -87,7 +89,8 @@ body_parts (action.Tim legs) = map LegPart legs
 
 -- the parts of a sub-message: the action, the flight with its period or date, and the rest
 abbrev pub sub_parts : Sub → List Part
-sub_parts sub = ActionPart (identifier_of sub.action) ∷ (flight_parts sub.designator sub.dates ++ body_parts sub.action)
+sub_parts sub =
+    ActionPart (identifier_of sub.action) ∷ (flight_parts sub.designator sub.dates ++ body_parts sub.action)
 
 -- the parts of the sub-messages after the first
 abbrev pub later_parts : List Sub → List Part
@@ -106,7 +109,7 @@ free_parts (line ∷ lines) = Divider ∷ map FreePart (line ∷ lines)
 
 -- the parts of an originator: one line, or none if there is no originator
 abbrev pub IsOriginatorPart : List ℕ → List Part → Type 0
-IsOriginatorPart originator parts = ((originator ≡ no_originator) × (parts ≡ [])) ⊎ (parts ≡ OriginatorPart originator ∷ [])
+IsOriginatorPart o parts = ((o ≡ no_originator) × (parts ≡ [])) ⊎ (parts ≡ OriginatorPart o ∷ [])
 
 -- the parts of a time mode: one line, which may be left out for UTC
 abbrev pub IsModePart : TimeMode → List Part → Type 0
@@ -127,7 +130,8 @@ pair_at false arrival n later = later
 abbrev pub leg_pair : List ℕ → List ℕ → ℕ → List LegLine → Option (ℕ × ℕ)
 leg_pair board off n [] = None
 leg_pair board off n (leg ∷ legs) =
-    pair_at (bytes_eq leg.departure.station board) (position (λ l. bytes_eq l.arrival.station off) (leg ∷ legs)) n (leg_pair board off (n + 1) legs)
+    pair_at (bytes_eq leg.departure.station board)
+    (position (λ l. bytes_eq l.arrival.station off) (leg ∷ legs)) n (leg_pair board off (n + 1) legs)
 
 -- the legs fly the segment's pair of points
 abbrev pub flies : List LegLine → SegmentLine → Bool
@@ -174,18 +178,19 @@ pub record IsShape (m : MessageValue) : Type 0 where
 -- ---- texts
 
 -- the parts before the sub-messages
-pub record IsFront (originator : List ℕ) (kind : Kind) (mode : TimeMode) (reference : GivenReference) (front : List Part) : Type 0 where
+pub record IsHeading (originator : List ℕ) (kind : Kind) (mode : TimeMode) (reference : GivenReference)
+    (heading : List Part) : Type 0 where
   pub originator_parts : List Part
   pub is_originator : IsOriginatorPart originator originator_parts
   pub mode_parts : List Part
   pub is_mode : IsModePart mode mode_parts
-  pub whole : front ≡ originator_parts ++ (KindPart kind ∷ (mode_parts ++ ReferencePart reference ∷ []))
+  pub whole : heading ≡ originator_parts ++ (KindPart kind ∷ (mode_parts ++ ReferencePart reference ∷ []))
 
 -- the message's parts are these, in order
 pub record HasParts (m : MessageValue) (parts : List Part) : Type 0 where
-  pub front : List Part
-  pub is_front : IsFront m.originator m.kind m.mode m.reference front
-  pub whole : parts ≡ front ++ (subs_parts m.subs ++ free_parts m.free)
+  pub heading : List Part
+  pub is_heading : IsHeading m.originator m.kind m.mode m.reference heading
+  pub whole : parts ≡ heading ++ (subs_parts m.subs ++ free_parts m.free)
 
 -- the lines spell the message
 pub record SpellsText (m : MessageValue) (lines : List (List ℕ)) : Type 0 where
@@ -194,28 +199,9 @@ pub record SpellsText (m : MessageValue) (lines : List (List ℕ)) : Type 0 wher
   pub has_parts : HasParts m parts
   pub spelled : AllZip Spells parts lines
 
--- the last lines of a shortest message with this action
-abbrev pub needs : ActionIdentifier → List (List ℕ)
-needs identifier.New = codes "J 320" ∷ codes "ZRH0000 LHR0000" ∷ []
-needs identifier.Cnl = []
-needs identifier.Rpl = codes "J 320" ∷ codes "ZRH0000 LHR0000" ∷ []
-needs identifier.Eqt = codes "J 320" ∷ []
-needs identifier.Tim = codes "ZRH0000 LHR0000" ∷ []
-
--- the shortest text of this kind with this action
-abbrev pub shortest : Kind → ActionIdentifier → List (List ℕ)
-shortest Ssm a = codes "SSM" ∷ codes "UTC" ∷ codes "01JAN00001E001" ∷ identifier_text a ∷ codes "LX1" ∷ codes "01JAN25 01JAN25 1" ∷ needs a
-shortest Asm a = codes "ASM" ∷ codes "UTC" ∷ codes "01JAN00001E001" ∷ identifier_text a ∷ codes "LX1/01JAN25" ∷ needs a
-
--- What valid lines may be completed with: a line of free text, or the last lines of a shortest
--- message. NamesPlace needs no other completions.
-abbrev pub IsCompletion : List (List ℕ) → Type 0
-IsCompletion c = (c ≡ codes "SI" ∷ []) ⊎ ((n : ℕ) × (kind : Kind) × (a : ActionIdentifier) × (c ≡ drop n (shortest kind a)))
-
 -- The lines are the beginning of some message's text.
 pub record Starts (lines : List (List ℕ)) : Type 0 where
   pub completion : List (List ℕ)
-  pub is_completion : IsCompletion completion
   pub message : MessageValue
   pub spelled : SpellsText message (lines ++ completion)
 

@@ -9,6 +9,7 @@ pub mod Left
 pub mod Bounds
 pub mod Canonical
 pub mod Spelling
-pub mod Worked
+pub mod examples
 pub mod Decoder
 pub mod Reference
+pub mod internal

@@ -1,5 +1,6 @@
 -- How each line of a text is read.
-use Rattle.std.specs.Prelude.{◌≡◌, ℕ, ◌-◌, Bool, false, ◌&&◌, ◌||◌, ◌==◌, nat_le, if◌then◌else◌, Option, Some, None, List, [], ◌∷◌, length, take, drop, codes, option_map}
+use Rattle.std.specs.Prelude.{◌≡◌, ℕ, ◌-◌, Bool, false, ◌&&◌, ◌||◌, ◌==◌, nat_le, if◌then◌else◌, Option, Some}
+use Rattle.std.specs.Prelude.{None, List, [], ◌∷◌, length, take, drop, codes, option_map}
 use Rattle.std.specs.List.{list_all}
 use Rattle.std.specs.Str.{bytes_eq}
 use Rattle.ssim_text.specs.declared.kind.Kind.{Kind}
@@ -39,7 +40,8 @@ month_day_in text = if length text == 5 then month_day_of text else None
 
 -- an address: seven letters or digits
 abbrev pub address_of : List ℕ → Option (List ℕ)
-address_of text = if length text == 7 then (if list_all is_alphanumeric text then Some text else None) else None
+address_of text =
+    if length text == 7 then (if list_all is_alphanumeric text then Some text else None) else None
 
 -- whether a text is empty or a blank
 abbrev pub is_blank_or_none : List ℕ → Bool
@@ -47,9 +49,10 @@ is_blank_or_none text = bytes_eq text [] || bytes_eq text (codes " ")
 
 -- the originator of a line: a dot and seven letters or digits; text after a blank is dropped
 unfoldable pub originator_of : List ℕ → Option (List ℕ)
-originator_of line =
-    if bytes_eq (take 1 line) (codes ".")
-    then (if is_blank_or_none (take 1 (drop 7 (drop 1 line))) then address_of (take 7 (drop 1 line)) else None) else None
+originator_of l =
+    if bytes_eq (take 1 l) (codes ".")
+    then (if is_blank_or_none (take 1 (drop 7 (drop 1 l))) then address_of (take 7 (drop 1 l)) else None)
+    else None
 
 -- the line of a message kind
 abbrev pub kind_text : Kind → List ℕ
@@ -73,7 +76,8 @@ group_code_of text = None
 -- the creator reference: nothing, or a solidus and 1 to 35 bytes
 abbrev pub creator_of : List ℕ → Option (Option (List ℕ))
 creator_of [] = Some None
-creator_of (b ∷ text) = if (b == 47) && nat_le 1 (length text) && nat_le (length text) 35 then Some (Some text) else None
+creator_of (b ∷ text) =
+    if (b == 47) && nat_le 1 (length text) && nat_le (length text) 35 then Some (Some text) else None
 
 -- the reference without its creator: day and month, five digits, the group code, three digits
 unfoldable pub numbers_of : List ℕ → Option (MonthDay × ℕ × GroupCode × ℕ)
@@ -87,9 +91,9 @@ numbers_of text = do
 -- the reference of a line: fourteen bytes, and the creator reference
 unfoldable pub reference_of : List ℕ → Option GivenReference
 reference_of line = do
-  numbers ← numbers_of (take 14 line)
+  n ← numbers_of (take 14 line)
   creator ← creator_of (drop 14 line)
-  Some (record { date = numbers.0; group = numbers.1; code = numbers.2; serial = numbers.3; creator = creator })
+  Some (record { date = n.0; group = n.1; code = n.2; serial = n.3; creator = creator })
 
 -- ---- the flight and its dates
 
@@ -99,7 +103,8 @@ day_in text = if length text == 7 then day_of text else None
 
 -- the date of a text, with a year or without
 abbrev pub date_of : List ℕ → Option GivenDate
-date_of text = if length text == 7 then option_map Full (day_of text) else option_map Yearless (month_day_in text)
+date_of text =
+    if length text == 7 then option_map Full (day_of text) else option_map Yearless (month_day_in text)
 
 -- the last date of a text, or the open end
 abbrev pub last_date_of : List ℕ → Option GivenEnd
@@ -147,9 +152,9 @@ unfoldable pub equipment_of : List ℕ → Option EquipmentValue
 equipment_of line = do
   service ← service_of (word line)
   aircraft ← aircraft_of (word (behind line))
-  designators ← designators_of (before 46 (behind (behind line)))
-  configuration ← configuration_of (from 46 (behind (behind line)))
-  Some (record { service = service; aircraft = aircraft; designators = designators; configuration = configuration })
+  letters ← designators_of (before 46 (behind (behind line)))
+  layout ← configuration_of (from 46 (behind (behind line)))
+  Some (record { service = service; aircraft = aircraft; designators = letters; configuration = layout })
 
 -- ---- the leg lines
 
@@ -199,7 +204,8 @@ leg_of line = do
 -- the text of a segment line: a solidus and 1 to 155 bytes
 abbrev pub segment_text_of : List ℕ → Option (List ℕ)
 segment_text_of [] = None
-segment_text_of (b ∷ text) = if (b == 47) && nat_le 1 (length text) && nat_le (length text) 155 then Some text else None
+segment_text_of (b ∷ text) =
+    if (b == 47) && nat_le 1 (length text) && nat_le (length text) 155 then Some text else None
 
 -- the board and off point: two stations in one word, which is not the word for all points
 abbrev pub points_of : List ℕ → Option (List ℕ × List ℕ)

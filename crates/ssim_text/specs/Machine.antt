@@ -1,5 +1,6 @@
 -- The states of reading a message part by part, and the fault of each state.
-use Rattle.std.specs.Prelude.{option_and_then, ◌≡◌, ℕ, nat_lt, if◌then◌else◌, Bool, true, false, ◌&&◌, Option, Some, None, List, [], ◌∷◌, ◌++◌, length, ◌||◌, is_some}
+use Rattle.std.specs.Prelude.{option_and_then, ◌≡◌, ℕ, nat_lt, if◌then◌else◌, Bool, true, false, ◌&&◌, Option}
+use Rattle.std.specs.Prelude.{Some, None, List, [], ◌∷◌, ◌++◌, length, ◌||◌, is_some}
 use Rattle.std.specs.List.{list_any, AllZip}
 use Rattle.std.specs.Str.{bytes_eq}
 use Rattle.ssim_text.specs.declared.kind.Kind.{Kind}
@@ -22,41 +23,44 @@ use Rattle.ssim_text.specs.declared.decoder_state.Equipped.{Equipped}
 use Rattle.ssim_text.specs.declared.decoder_state.Equipped.TheVariants as equipped
 use Rattle.ssim_text.specs.declared.decoder_state.Body.{Body}
 use Rattle.ssim_text.specs.declared.decoder_state.State.{State}
-use Rattle.ssim_text.specs.declared.decoder_state.State.TheVariants.{AtStart, AtKind, AtMode, AtReference, AtAction, AtFlight, AtDatedFlight, AtPeriod, AtEquipment, AtLegs, AtEnd, AtNext, AtFree}
-use Rattle.ssim_text.specs.declared.decoder_state.Stop.{Stop}
-use Rattle.ssim_text.specs.declared.decoder_state.Stop.TheVariants.{OutOfMemory, Refused}
+use Rattle.ssim_text.specs.declared.decoder_state.State.TheVariants.{AtStart, AtKind, AtMode, AtReference}
+use Rattle.ssim_text.specs.declared.decoder_state.State.TheVariants.{AtAction, AtFlight, AtDatedFlight}
+use Rattle.ssim_text.specs.declared.decoder_state.State.TheVariants.{AtPeriod, AtEquipment, AtLegs, AtEnd}
+use Rattle.ssim_text.specs.declared.decoder_state.State.TheVariants.{AtNext, AtFree}
 use Rattle.ssim_values.specs.declared.designator.Designator.{Designator}
 use Rattle.ssim_text.specs.Values.{EquipmentValue, no_originator}
 use Rattle.ssim_text.specs.Lines.{begins_free, identifier_text, leg_of, segment_of}
 use Rattle.ssim_text.specs.Message.{MessageValue, begun, with_sub, with_free}
-use Rattle.ssim_text.specs.Grammar.{Part, OriginatorPart, KindPart, ModePart, ReferencePart, ActionPart, FlightPart, DatedFlightPart, PeriodPart, EquipmentPart, LegPart, SegmentPart, Divider, FreePart, Spells, flies}
+use Rattle.ssim_text.specs.Grammar.{Part, OriginatorPart, KindPart, ModePart, ReferencePart, ActionPart}
+use Rattle.ssim_text.specs.Grammar.{FlightPart, DatedFlightPart, PeriodPart, EquipmentPart, LegPart}
+use Rattle.ssim_text.specs.Grammar.{SegmentPart, Divider, FreePart, Spells, flies}
 
 -- the sub-message with this flight, these dates and this action
 abbrev pub sub_of : Designator → Dates → Action → Sub
 sub_of designator dates action = record { designator = designator; dates = dates; action = action }
 
 -- the state after the action line: an SSM has a flight line next, an ASM a flight line with a date
-abbrev pub flight_wanted : Kind → MessageValue → ActionIdentifier → State
-flight_wanted Ssm m a = AtFlight m a
-flight_wanted Asm m a = AtDatedFlight m a
+abbrev pub flight_expected : Kind → MessageValue → ActionIdentifier → State
+flight_expected Ssm m a = AtFlight m a
+flight_expected Asm m a = AtDatedFlight m a
 
 -- a sub-message that has no leg line yet
 abbrev pub no_legs : Designator → Dates → Change → Body
-no_legs designator dates change = record { designator = designator; dates = dates; change = change; legs = []; segments = [] }
+no_legs d dates change = record { designator = d; dates = dates; change = change; legs = []; segments = [] }
 
 -- the state after the flight with its period or date: expects the lines that the action needs
-abbrev pub body_wanted : ActionIdentifier → MessageValue → Designator → Dates → State
-body_wanted identifier.New m designator dates = AtEquipment m equipped.New designator dates
-body_wanted identifier.Cnl m designator dates = AtEnd (with_sub m (sub_of designator dates action.Cnl))
-body_wanted identifier.Rpl m designator dates = AtEquipment m equipped.Rpl designator dates
-body_wanted identifier.Eqt m designator dates = AtEquipment m equipped.Eqt designator dates
-body_wanted identifier.Tim m designator dates = AtLegs m (no_legs designator dates change.Tim)
+abbrev pub body_expected : ActionIdentifier → MessageValue → Designator → Dates → State
+body_expected identifier.New m d dates = AtEquipment m equipped.New d dates
+body_expected identifier.Cnl m d dates = AtEnd (with_sub m (sub_of d dates action.Cnl))
+body_expected identifier.Rpl m d dates = AtEquipment m equipped.Rpl d dates
+body_expected identifier.Eqt m d dates = AtEquipment m equipped.Eqt d dates
+body_expected identifier.Tim m d dates = AtLegs m (no_legs d dates change.Tim)
 
 -- the state after the equipment line: expects leg lines for NEW and RPL, nothing more for EQT
 abbrev pub after_equipment : Equipped → MessageValue → Designator → Dates → EquipmentValue → State
-after_equipment equipped.New m designator dates equipment = AtLegs m (no_legs designator dates (change.New equipment))
-after_equipment equipped.Rpl m designator dates equipment = AtLegs m (no_legs designator dates (change.Rpl equipment))
-after_equipment equipped.Eqt m designator dates equipment = AtEnd (with_sub m (sub_of designator dates (action.Eqt equipment)))
+after_equipment equipped.New m d dates e = AtLegs m (no_legs d dates (change.New e))
+after_equipment equipped.Rpl m d dates e = AtLegs m (no_legs d dates (change.Rpl e))
+after_equipment equipped.Eqt m d dates e = AtEnd (with_sub m (sub_of d dates (action.Eqt e)))
 
 -- whether a list is empty
 abbrev pub is_none_yet : {A : Type 0} → List A → Bool
@@ -95,9 +99,9 @@ is_whole b = nat_lt 0 (length b.legs)
 
 -- the action with these legs and segments
 abbrev pub action_of : Change → List LegLine → List SegmentLine → Action
-action_of change.Tim legs segments = action.Tim legs
-action_of (change.New equipment) legs segments = action.New (record { equipment = equipment; legs = legs; segments = segments })
-action_of (change.Rpl equipment) legs segments = action.Rpl (record { equipment = equipment; legs = legs; segments = segments })
+action_of change.Tim legs s = action.Tim legs
+action_of (change.New e) legs s = action.New (record { equipment = e; legs = legs; segments = s })
+action_of (change.Rpl e) legs s = action.Rpl (record { equipment = e; legs = legs; segments = s })
 
 -- the message with the sub-message that has been read
 abbrev pub with_body : MessageValue → Body → MessageValue
@@ -106,22 +110,23 @@ with_body m b = with_sub m (sub_of b.designator b.dates (action_of b.change b.le
 -- The state after this part, or None if the part is not allowed in this state. A state says which
 -- parts may come next.
 abbrev pub step : State → Part → Option State
-step AtStart (OriginatorPart originator) = Some (AtKind originator)
+step AtStart (OriginatorPart o) = Some (AtKind o)
 step AtStart (KindPart kind) = Some (AtMode no_originator kind)
-step (AtKind originator) (KindPart kind) = Some (AtMode originator kind)
-step (AtMode originator kind) (ModePart mode) = Some (AtReference originator kind mode)
-step (AtMode originator kind) (ReferencePart reference) = Some (AtAction (begun originator kind Utc reference))
-step (AtReference originator kind mode) (ReferencePart reference) = Some (AtAction (begun originator kind mode reference))
-step (AtAction m) (ActionPart a) = Some (flight_wanted m.kind m a)
-step (AtFlight m a) (FlightPart designator) = Some (AtPeriod m a designator)
-step (AtDatedFlight m a) (DatedFlightPart designator date) = Some (body_wanted a m designator (Date date))
-step (AtPeriod m a designator) (PeriodPart period) = Some (body_wanted a m designator (Period period))
-step (AtEquipment m e designator dates) (EquipmentPart equipment) = Some (after_equipment e m designator dates equipment)
+step (AtKind o) (KindPart kind) = Some (AtMode o kind)
+step (AtMode o kind) (ModePart mode) = Some (AtReference o kind mode)
+step (AtMode o kind) (ReferencePart r) = Some (AtAction (begun o kind Utc r))
+step (AtReference o kind mode) (ReferencePart r) = Some (AtAction (begun o kind mode r))
+step (AtAction m) (ActionPart a) = Some (flight_expected m.kind m a)
+step (AtFlight m a) (FlightPart d) = Some (AtPeriod m a d)
+step (AtDatedFlight m a) (DatedFlightPart d date) = Some (body_expected a m d (Date date))
+step (AtPeriod m a d) (PeriodPart period) = Some (body_expected a m d (Period period))
+step (AtEquipment m e d dates) (EquipmentPart new) = Some (after_equipment e m d dates new)
 step (AtLegs m b) (LegPart leg) = if takes_leg b then Some (AtLegs m (with_leg b leg)) else None
-step (AtLegs m b) (SegmentPart segment) = if takes_segment b segment then Some (AtLegs m (with_segment b segment)) else None
+step (AtLegs m b) (SegmentPart s) = if takes_segment b s then Some (AtLegs m (with_segment b s)) else None
 step (AtLegs m b) Divider = if is_whole b then Some (AtNext (with_body m b)) else None
 step (AtEnd m) Divider = Some (AtNext m)
-step (AtNext m) (ActionPart a) = if nat_lt (length m.subs) 250 then Some (flight_wanted m.kind m a) else None
+step (AtNext m) (ActionPart a) =
+    if nat_lt (length m.subs) 250 then Some (flight_expected m.kind m a) else None
 step (AtNext m) (FreePart line) = if begins_free line then Some (AtFree (with_free m line)) else None
 step (AtFree m) (FreePart line) = Some (AtFree (with_free m line))
 step s p = None
@@ -137,24 +142,17 @@ pub record Reads (s : State) (lines : List (List ℕ)) : Type 0 where
   pub spelled : AllZip Spells parts lines
   pub reached : run AtStart parts ≡ Some s
 
--- the message of a text that ends in this state, if it may end here
-abbrev pub finish : State → Option MessageValue
-finish (AtLegs m b) = if is_whole b then Some (with_body m b) else None
-finish (AtEnd m) = Some m
-finish (AtFree m) = Some m
-finish s = None
-
 -- The fault of a text that ends in this state. Its number says which part was expected.
 abbrev pub fault_at : State → Fault
 fault_at AtStart = fault.BadKind
-fault_at (AtKind originator) = fault.BadKind
-fault_at (AtMode originator kind) = fault.BadReference
-fault_at (AtReference originator kind mode) = fault.BadReference
+fault_at (AtKind o) = fault.BadKind
+fault_at (AtMode o kind) = fault.BadReference
+fault_at (AtReference o kind mode) = fault.BadReference
 fault_at (AtAction m) = fault.BadAction
 fault_at (AtFlight m a) = fault.BadFlight
 fault_at (AtDatedFlight m a) = fault.BadFlight
-fault_at (AtPeriod m a designator) = fault.BadPeriod
-fault_at (AtEquipment m e designator dates) = fault.BadEquipment
+fault_at (AtPeriod m a d) = fault.BadPeriod
+fault_at (AtEquipment m e d dates) = fault.BadEquipment
 fault_at (AtLegs m b) = fault.BadLeg
 fault_at (AtEnd m) = fault.Extra
 fault_at (AtNext m) = fault.BadAction
@@ -162,7 +160,8 @@ fault_at (AtFree m) = fault.Extra
 
 -- whether a line is one of the five action identifiers
 abbrev pub is_action : List ℕ → Bool
-is_action line = list_any (λ a. bytes_eq line (identifier_text a)) (identifier.New ∷ identifier.Cnl ∷ identifier.Rpl ∷ identifier.Eqt ∷ identifier.Tim ∷ [])
+is_action line = list_any (λ a. bytes_eq line (identifier_text a))
+    (identifier.New ∷ identifier.Cnl ∷ identifier.Rpl ∷ identifier.Eqt ∷ identifier.Tim ∷ [])
 
 -- whether the line is a segment line that fits the legs
 abbrev pub fits_if_segment : Body → Option SegmentLine → Bool
@@ -173,7 +172,8 @@ fits_if_segment b (Some segment) = fits_segment b segment
 -- TooMany if only the number of lines or sub-messages forbids the line.
 abbrev pub fault_of : State → List ℕ → Fault
 fault_of (AtLegs m b) line =
-    if (is_some (leg_of line) && is_none_yet b.segments) || fits_if_segment b (segment_of line) then fault.TooMany else fault.BadLeg
+    if (is_some (leg_of line) && is_none_yet b.segments) || fits_if_segment b (segment_of line)
+    then fault.TooMany else fault.BadLeg
 fault_of (AtNext m) line = if is_action line then fault.TooMany else fault.BadAction
 fault_of s line = fault_at s
 
@@ -181,28 +181,3 @@ fault_of s line = fault_at s
 abbrev pub fault_before : State → List (List ℕ) → Fault
 fault_before s [] = fault_at s
 fault_before s (line ∷ lines) = fault_of s line
-
--- a line leads from one state to the next
-pub record Takes (s : State) (line : List ℕ) (next : State) : Type 0 where
-  pub part : Part
-  pub spelled : Spells part line
-  pub step : step s part ≡ Some next
-
--- the line spells no part that is allowed in this state
-abbrev pub Refuses : State → List ℕ → Type 0
-Refuses s line = (part : Part) → Spells part line → step s part ≡ None
-
--- reading stops at this line: memory ran out, or the line spells no part that is allowed in this
--- state
-abbrev pub StopsAt : State → List ℕ → Stop → Type 0
-StopsAt s line OutOfMemory = Unit {0}
-StopsAt s line (Refused f) = Refuses s line × (f ≡ fault_of s line)
-
--- the text may end in this state, and spells this message
-abbrev pub Finishes : State → MessageValue → Type 0
-Finishes s m = finish s ≡ Some m
-
--- why a text that ends in this state has no message; out of memory says nothing of the text
-abbrev pub EndsShort : State → Stop → Type 0
-EndsShort s OutOfMemory = Unit {0}
-EndsShort s (Refused f) = (finish s ≡ None) × (f ≡ fault_at s)

@@ -16,7 +16,7 @@ pub record MessageValue : Type 0 where
 
 -- a message that has no sub-message yet
 abbrev pub begun : List ℕ → Kind → TimeMode → GivenReference → MessageValue
-begun originator kind mode reference = record { originator = originator; kind = kind; mode = mode; reference = reference; subs = []; free = [] }
+begun o kind mode r = record { originator = o; kind = kind; mode = mode; reference = r; subs = []; free = [] }
 
 -- the message with one more sub-message
 abbrev pub with_sub : MessageValue → Sub → MessageValue

@@ -26,4 +26,5 @@ printed_originator originator = if bytes_eq originator no_originator then [] els
 -- 01JUN25 00001 001
 abbrev pub printed_reference : Reference → List ℕ
 printed_reference r =
-    kind_text r.kind ++ 32 ∷ day_text r.date ++ 32 ∷ five_digits r.group ++ 32 ∷ three_digits r.serial ++ printed_originator r.originator
+    kind_text r.kind ++ 32 ∷ day_text r.date ++ 32 ∷ five_digits r.group ++ 32 ∷ three_digits r.serial
+    ++ printed_originator r.originator

@@ -12,14 +12,11 @@ pub record SpellsMessage (m : MessageValue) (text : List ℕ) : Type 0 where
   pub spelled : SpellsText m (texts (lines_left text))
   pub canonical_short : length (canonical m) ≤ 65536
 
--- the canonical text of the message spells it, if it is not too long
-abbrev pub IsSpelledWhereShort : MessageValue → Type 0
-IsSpelledWhereShort m = length (canonical m) ≤ 65536 → SpellsMessage m (canonical m)
-
 -- If some text spells a message, the canonical text of the message spells it.
 abbrev pub CanonicalReadsBack : Type 0
 CanonicalReadsBack = (m : MessageValue) (text : List ℕ) → SpellsMessage m text → SpellsMessage m (canonical m)
 
 -- Two texts spell equal messages exactly if the canonical texts of the messages are equal.
 abbrev pub EqualWhereWrittenEqual : Type 0
-EqualWhereWrittenEqual = (a b : MessageValue) (s t : List ℕ) → SpellsMessage a s → SpellsMessage b t → (a ≡ b) ↔ (canonical a ≡ canonical b)
+EqualWhereWrittenEqual = (a b : MessageValue) (s t : List ℕ) → SpellsMessage a s → SpellsMessage b t
+    → (a ≡ b) ↔ (canonical a ≡ canonical b)

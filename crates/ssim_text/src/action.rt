@@ -4,7 +4,7 @@ ghost use Rattle.ssim_text.specs.Grammar.{identifier_of};
 ghost use Rattle.ssim_text.specs.Lines.{SpellsDatedFlight};
 ghost use Rattle.ssim_values.specs.Designator.{SpellsDesignator};
 
-use crate::bytes::{cut, front};
+use crate::bytes::{cut, first_bytes};
 use crate::dates::{Dates, GivenDate, date};
 use crate::equipment::Equipment;
 use crate::kind::ActionIdentifier;
@@ -89,10 +89,11 @@ pub(crate) fn flight(line: &[u8]) -> Option<Designator>
 
 pub(crate) fn dated_flight(line: &[u8]) -> Option<(Designator, GivenDate)>
     ensures some { IfSome result (λ f. SpellsDatedFlight f.0 f.1 line.now) }
-    ensures none { IfNone result ((d : Designator) → (date : GivenDate) → ¬ (SpellsDatedFlight d date line.now)) }
+    ensures none { IfNone result
+        ((d : Designator) → (date : GivenDate) → ¬ (SpellsDatedFlight d date line.now)) }
 {
     let (designator, rest) = cut(line, b'/');
-    let (_solidus, text) = front(rest, 1);
+    let (_solidus, text) = first_bytes(rest, 1);
     let designator = flight(designator)?;
     let date = date(text)?;
     Some((designator, date))

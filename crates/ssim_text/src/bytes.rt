@@ -39,8 +39,8 @@ pub fn first_word(line: &[u8]) -> (&[u8], &[u8])
 }
 
 /// The first bytes, up to `count` of them, and the others.
-pub(crate) fn front(text: &[u8], count: usize) -> (&[u8], &[u8])
-    ensures front { result.0.now ≡ take count text.now }
+pub(crate) fn first_bytes(text: &[u8], count: usize) -> (&[u8], &[u8])
+    ensures first { result.0.now ≡ take count text.now }
     ensures rest { result.1.now ≡ drop count text.now }
 {
     if count <= text.len() {

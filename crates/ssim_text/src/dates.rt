@@ -1,6 +1,7 @@
 //! Dates and periods as a message gives them.
 ghost use Rattle.std.specs.Prelude.{◌≡◌, IfSome, IfNone};
-ghost use Rattle.ssim_text.specs.Lines.{month_day_in, date_of, last_date_of, compact_days_of, period_of};
+ghost use Rattle.ssim_text.specs.Lines.{month_day_in, date_of, last_date_of, compact_days_of};
+ghost use Rattle.ssim_text.specs.Lines.{period_of};
 
 use crate::bytes::first_word;
 use ssim_values::{Day, DayMask, DayMonth, are_digits};

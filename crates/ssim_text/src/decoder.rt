@@ -2,8 +2,9 @@
 ghost use Rattle.std.specs.Prelude.{◌≡◌, ◌≤◌, ℕ, length, map, IfOk, IfErr};
 ghost use Rattle.ssim_text.specs.Message.{MessageValue};
 ghost use Rattle.ssim_text.specs.Grammar.{SpellsText};
-ghost use Rattle.ssim_text.specs.Decoder.{IsRefusal, IsPlace, IsTooManyAtOne, NoMessage};
-ghost use Rattle.ssim_text.specs.Spelling.{SpellsMessage, IsSpelledWhereShort};
+ghost use Rattle.ssim_text.specs.Decoder.{IsRefusal, NoMessage};
+ghost use Rattle.ssim_text.specs.internal.Decoder.{IsPlace, IsTooManyAtOne, IsSpelledWhereShort};
+ghost use Rattle.ssim_text.specs.Spelling.{SpellsMessage};
 ghost use Rattle.ssim_text.specs.Canonical.{canonical};
 
 use crate::decoder_state::{State, Stop};
@@ -22,7 +23,8 @@ pub(crate) enum Refusal {
 /// The message that the lines spell.
 fn read_lines(alloc: Global, lines: &[Line]) -> Result<Draft, Refusal>
     ensures found { IfOk result (λ m. SpellsText m (map (λ l. l.bytes.now) lines.now)) }
-    ensures only { IfOk result (λ m. (n : MessageValue) → SpellsText n (map (λ l. l.bytes.now) lines.now) → n ≡ m) }
+    ensures only { IfOk result
+        (λ m. (n : MessageValue) → SpellsText n (map (λ l. l.bytes.now) lines.now) → n ≡ m) }
     ensures place { IfErr result (λ refusal. IsPlace (map (λ l. l.bytes.now) lines.now) refusal) }
 {
     let mut state = State::AtStart;

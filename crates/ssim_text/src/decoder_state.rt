@@ -1,7 +1,11 @@
 //! The part of a text that has been read, and the line that is expected next.
 ghost use Rattle.std.specs.Prelude.{◌≡◌, ◌↔◌, ◌<◌, length, codes, IsTrue, IfOk, IfErr};
 ghost use Rattle.ssim_text.specs.Lines.{begins_free, leg_of};
-ghost use Rattle.ssim_text.specs.Machine.{Takes, StopsAt, Finishes, EndsShort, flight_wanted, body_wanted, after_equipment, no_legs, action_of, sub_of, with_body, with_leg, with_segment, is_none_yet, is_whole, fits_segment, has_segments, takes_leg};
+ghost use Rattle.ssim_text.specs.Machine.{flight_expected, body_expected, after_equipment, no_legs};
+ghost use Rattle.ssim_text.specs.Machine.{action_of, sub_of, with_body, with_leg, with_segment};
+ghost use Rattle.ssim_text.specs.Machine.{is_none_yet, is_whole, fits_segment, has_segments};
+ghost use Rattle.ssim_text.specs.Machine.{takes_leg};
+ghost use Rattle.ssim_text.specs.internal.DecoderState.{Takes, StopsAt, Finishes, EndsShort};
 
 use crate::action::{Action, NewLegs, Sub, dated_flight, flight};
 use crate::dates::{Dates, GivenPeriod};
@@ -112,7 +116,8 @@ impl Body {
     }
 
     fn sub(self) -> Sub
-        ensures { result ≡ sub_of self.designator self.dates (action_of self.change self.legs self.segments) }
+        ensures { result ≡ sub_of self.designator self.dates
+            (action_of self.change self.legs self.segments) }
     {
         let Body {
             designator,
@@ -161,8 +166,8 @@ pub(crate) enum State {
 }
 
 /// After the action an SSM has a flight, an ASM a flight with its date.
-fn flight_wanted(message: Draft, action: ActionIdentifier) -> State
-    ensures { result ≡ flight_wanted message.kind message action }
+fn flight_expected(message: Draft, action: ActionIdentifier) -> State
+    ensures { result ≡ flight_expected message.kind message action }
 {
     match message.kind() {
         Kind::Ssm => State::AtFlight(message, action),
@@ -171,14 +176,14 @@ fn flight_wanted(message: Draft, action: ActionIdentifier) -> State
 }
 
 /// What is expected after flight and period.
-fn body_wanted(
+fn body_expected(
     alloc: Global,
     action: ActionIdentifier,
     message: Draft,
     designator: Designator,
     dates: Dates,
 ) -> Result<State, AllocError>
-    ensures { IfOk result (λ s. s ≡ body_wanted action message designator dates) }
+    ensures { IfOk result (λ s. s ≡ body_expected action message designator dates) }
 {
     match action {
         ActionIdentifier::New => Ok(State::AtEquipment(message, Equipped::New, designator, dates)),
@@ -260,7 +265,7 @@ impl State {
                 State::after_mode(alloc, originator, kind, mode, line)
             }
             State::AtAction(message) => match ActionIdentifier::parse(line) {
-                Some(action) => Ok(flight_wanted(message, action)),
+                Some(action) => Ok(flight_expected(message, action)),
                 None => Err(Stop::Refused(Fault::BadAction)),
             },
             State::AtFlight(message, action) => match flight(line) {
@@ -336,8 +341,10 @@ impl State {
         mode: TimeMode,
         line: &[u8],
     ) -> Result<State, Stop>
-        ensures ok { IfOk result (λ next. Takes (State.AtReference originator kind mode) line.now next) }
-        ensures err { IfErr result (λ stop. StopsAt (State.AtReference originator kind mode) line.now stop) }
+        ensures ok { IfOk result
+            (λ next. Takes (State.AtReference originator kind mode) line.now next) }
+        ensures err { IfErr result
+            (λ stop. StopsAt (State.AtReference originator kind mode) line.now stop) }
     {
         let read = GivenReference::parse(alloc, line)?;
         match read {
@@ -354,12 +361,14 @@ impl State {
         action: ActionIdentifier,
         line: &[u8],
     ) -> Result<State, Stop>
-        ensures ok { IfOk result (λ next. Takes (State.AtDatedFlight message action) line.now next) }
-        ensures err { IfErr result (λ stop. StopsAt (State.AtDatedFlight message action) line.now stop) }
+        ensures ok { IfOk result
+            (λ next. Takes (State.AtDatedFlight message action) line.now next) }
+        ensures err { IfErr result
+            (λ stop. StopsAt (State.AtDatedFlight message action) line.now stop) }
     {
         match dated_flight(line) {
             Some((designator, date)) => {
-                let next = body_wanted(alloc, action, message, designator, Dates::Date(date))?;
+                let next = body_expected(alloc, action, message, designator, Dates::Date(date))?;
                 Ok(next)
             }
             None => Err(Stop::Refused(Fault::BadFlight)),
@@ -373,12 +382,20 @@ impl State {
         designator: Designator,
         line: &[u8],
     ) -> Result<State, Stop>
-        ensures ok { IfOk result (λ next. Takes (State.AtPeriod message action designator) line.now next) }
-        ensures err { IfErr result (λ stop. StopsAt (State.AtPeriod message action designator) line.now stop) }
+        ensures ok { IfOk result
+            (λ next. Takes (State.AtPeriod message action designator) line.now next) }
+        ensures err { IfErr result
+            (λ stop. StopsAt (State.AtPeriod message action designator) line.now stop) }
     {
         match GivenPeriod::parse(line) {
             Some(period) => {
-                let next = body_wanted(alloc, action, message, designator, Dates::Period(period))?;
+                let next = body_expected(
+                    alloc,
+                    action,
+                    message,
+                    designator,
+                    Dates::Period(period),
+                )?;
                 Ok(next)
             }
             None => Err(Stop::Refused(Fault::BadPeriod)),
@@ -393,8 +410,10 @@ impl State {
         dates: Dates,
         line: &[u8],
     ) -> Result<State, Stop>
-        ensures ok { IfOk result (λ next. Takes (State.AtEquipment message equipped designator dates) line.now next) }
-        ensures err { IfErr result (λ stop. StopsAt (State.AtEquipment message equipped designator dates) line.now stop) }
+        ensures ok { IfOk result
+            (λ next. Takes (State.AtEquipment message equipped designator dates) line.now next) }
+        ensures err { IfErr result
+            (λ stop. StopsAt (State.AtEquipment message equipped designator dates) line.now stop) }
     {
         match Equipment::parse(line) {
             Some(equipment) => {
@@ -459,7 +478,7 @@ impl State {
         match ActionIdentifier::parse(line) {
             Some(action) => {
                 if message.sub_count() < 250 {
-                    Ok(flight_wanted(message, action))
+                    Ok(flight_expected(message, action))
                 } else {
                     Err(Stop::Refused(Fault::TooMany))
                 }

@@ -1,7 +1,14 @@
 //! From a message to its canonical text.
 ghost use Rattle.std.specs.Prelude.{◌≡◌, ◌++◌, ◌∷◌, [], ◌+◌, ◌%◌, OnOk, map};
-ghost use Rattle.ssim_text.specs.Canonical.{three_digits, five_digits, short_digits, reference_text, given_date_text, given_end_text, period_text, unless_empty, equipment_text, variation_text, passenger_text, leg_end_text, leg_text, segment_line_text, written, creator_text, group_code_text, originator_parts};
-ghost use Rattle.ssim_text.specs.Grammar.{LegPart, SegmentPart, FreePart, ActionPart, flight_parts, new_parts, body_parts, sub_parts, identifier_of, later_parts, subs_parts, free_parts};
+ghost use Rattle.ssim_text.specs.Canonical.{three_digits, five_digits, short_digits};
+ghost use Rattle.ssim_text.specs.Canonical.{reference_text, given_date_text, given_end_text};
+ghost use Rattle.ssim_text.specs.Canonical.{period_text, unless_empty, equipment_text};
+ghost use Rattle.ssim_text.specs.Canonical.{variation_text, passenger_text, leg_end_text, leg_text};
+ghost use Rattle.ssim_text.specs.Canonical.{segment_line_text, written, creator_text};
+ghost use Rattle.ssim_text.specs.Canonical.{group_code_text, originator_parts};
+ghost use Rattle.ssim_text.specs.Grammar.{LegPart, SegmentPart, FreePart, ActionPart, flight_parts};
+ghost use Rattle.ssim_text.specs.Grammar.{new_parts, body_parts, sub_parts, identifier_of};
+ghost use Rattle.ssim_text.specs.Grammar.{later_parts, subs_parts, free_parts};
 ghost use Rattle.ssim_text.specs.Values.{no_originator};
 ghost use Rattle.std.specs.Str.{bytes_eq};
 ghost use Rattle.ssim_values.specs.Clock.{clock_text};
@@ -73,7 +80,8 @@ impl GroupCode {
 
 impl GivenReference {
     pub(crate) fn push(&self, out: &mut Vec<u8>) -> Result<(), AllocError>
-        ensures { OnOk result (out.new.items ≡ out.old.items ++ (reference_text self.now ++ 10 ∷ [])) }
+        ensures { OnOk result
+            (out.new.items ≡ out.old.items ++ (reference_text self.now ++ 10 ∷ [])) }
     {
         out.extend_from_slice(&self.date.write())?;
         out.extend_from_slice(&five_digits(self.group))?;
@@ -134,7 +142,8 @@ impl GivenPeriod {
 }
 
 fn push_flight(designator: Designator, dates: Dates, out: &mut Vec<u8>) -> Result<(), AllocError>
-    ensures { OnOk result (out.new.items ≡ out.old.items ++ written (flight_parts designator dates)) }
+    ensures { OnOk result
+        (out.new.items ≡ out.old.items ++ written (flight_parts designator dates)) }
 {
     out.extend_from_slice(&designator.write())?;
     match dates {
@@ -164,7 +173,8 @@ fn push_unless_empty(out: &mut Vec<u8>, mark: u8, text: &[u8]) -> Result<(), All
 
 impl Equipment {
     fn push(&self, out: &mut Vec<u8>) -> Result<(), AllocError>
-        ensures { OnOk result (out.new.items ≡ out.old.items ++ (equipment_text self.now ++ 10 ∷ [])) }
+        ensures { OnOk result
+            (out.new.items ≡ out.old.items ++ (equipment_text self.now ++ 10 ∷ [])) }
     {
         out.push(self.service())?;
         out.push(b' ')?;
@@ -239,7 +249,8 @@ impl LegLine {
 
 impl SegmentLine {
     fn push(&self, out: &mut Vec<u8>) -> Result<(), AllocError>
-        ensures { OnOk result (out.new.items ≡ out.old.items ++ (segment_line_text self.now ++ 10 ∷ [])) }
+        ensures { OnOk result
+            (out.new.items ≡ out.old.items ++ (segment_line_text self.now ++ 10 ∷ [])) }
     {
         push_station(out, self.board)?;
         push_station(out, self.off)?;
@@ -260,7 +271,8 @@ fn push_legs(out: &mut Vec<u8>, legs: &[LegLine]) -> Result<(), AllocError>
 }
 
 fn push_segments(out: &mut Vec<u8>, segments: &[SegmentLine]) -> Result<(), AllocError>
-    ensures { OnOk result (out.new.items ≡ out.old.items ++ written (map SegmentPart segments.now)) }
+    ensures { OnOk result
+        (out.new.items ≡ out.old.items ++ written (map SegmentPart segments.now)) }
 {
     for segment in segments {
         segment.push(out)?;
@@ -289,7 +301,8 @@ impl NewLegs {
 
 impl Action {
     fn push_identifier(&self, out: &mut Vec<u8>) -> Result<(), AllocError>
-        ensures { OnOk result (out.new.items ≡ out.old.items ++ (identifier_text (identifier_of self.now) ++ 10 ∷ [])) }
+        ensures { OnOk result (out.new.items
+            ≡ out.old.items ++ (identifier_text (identifier_of self.now) ++ 10 ∷ [])) }
     {
         push_line(out, self.identifier().name().as_bytes())
     }

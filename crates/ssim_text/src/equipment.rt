@@ -1,6 +1,7 @@
 //! The equipment of a flight.
 ghost use Rattle.std.specs.Prelude.{◌≡◌, ◌≤◌, length, IfSome, IfNone};
-ghost use Rattle.ssim_text.specs.Lines.{service_of, aircraft_of, designators_of, configuration_of, equipment_of};
+ghost use Rattle.ssim_text.specs.Lines.{service_of, aircraft_of, designators_of, configuration_of};
+ghost use Rattle.ssim_text.specs.Lines.{equipment_of};
 
 use crate::bytes::{all_alphanumeric, all_letters, cut, first_word};
 use arrayvec::ArrayVec;
@@ -20,7 +21,12 @@ impl Model for Equipment {
 
     ghost Value = { EquipmentValue };
 
-    ghost view = { λ e. record { service = e.service; aircraft = e.aircraft; designators = e.designators.items; configuration = e.configuration.items } };
+    ghost view = { λ e. record {
+      service = e.service;
+      aircraft = e.aircraft;
+      designators = e.designators.items;
+      configuration = e.configuration.items;
+    } };
 }
 
 impl Equipment {

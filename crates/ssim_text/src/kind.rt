@@ -83,7 +83,8 @@ impl ActionIdentifier {
 
     pub(crate) fn parse(line: &[u8]) -> Option<ActionIdentifier>
         ensures some { IfSome result (λ identifier. line.now ≡ identifier_text identifier) }
-        ensures none { IfNone result ((identifier : ActionIdentifier) → ¬ (line.now ≡ identifier_text identifier)) }
+        ensures none { IfNone result
+            ((identifier : ActionIdentifier) → ¬ (line.now ≡ identifier_text identifier)) }
     {
         match line {
             b"NEW" => Some(ActionIdentifier::New),

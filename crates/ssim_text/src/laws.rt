@@ -2,7 +2,7 @@
 ghost use Rattle.ssim_text.specs.Decoder.{OneRefusal};
 ghost use Rattle.ssim_text.specs.Grammar.{OneMessage};
 ghost use Rattle.ssim_text.specs.Spelling.{CanonicalReadsBack, EqualWhereWrittenEqual};
-ghost use Rattle.ssim_text.specs.Worked.{WorkedTexts};
+ghost use Rattle.ssim_text.specs.examples.Texts.{WorkedTexts};
 
 /// No text spells two messages.
 pub fn one_message()

@@ -1,10 +1,12 @@
 //! Leg lines.
-ghost use Rattle.std.specs.Prelude.{◌≡◌, ◌<◌, ◌≤◌, ◌++◌, ◌∷◌, [], length, position, IfSome, IfNone, IfOk};
+ghost use Rattle.std.specs.Prelude.{◌≡◌, ◌<◌, ◌≤◌, ◌++◌, ◌∷◌, [], length, position, IfSome, IfNone};
+ghost use Rattle.std.specs.Prelude.{IfOk};
 ghost use Rattle.std.specs.Str.{bytes_eq};
 ghost use Rattle.ssim_text.specs.Grammar.{leg_pair, flies};
-ghost use Rattle.ssim_text.specs.Lines.{station_in, clock_in, variation_of, passenger_of, variations_of, end_of, leg_of};
+ghost use Rattle.ssim_text.specs.Lines.{station_in, clock_in, variation_of, passenger_of};
+ghost use Rattle.ssim_text.specs.Lines.{variations_of, end_of, leg_of};
 
-use crate::bytes::{first_word, front};
+use crate::bytes::{first_bytes, first_word};
 use crate::segment::SegmentLine;
 use ssim_values::{Clock, Station};
 use std::alloc::{AllocError, Global};
@@ -36,8 +38,8 @@ impl LegEnd {
         ensures some { IfSome result (λ e. end_of text.now ≡ Some e) }
         ensures none { IfNone result (end_of text.now ≡ None) }
     {
-        let (station, rest) = front(text, 3);
-        let (time, rest) = front(rest, 4);
+        let (station, rest) = first_bytes(text, 3);
+        let (time, rest) = first_bytes(rest, 4);
         let station = read_station(station)?;
         let time = read_clock(time)?;
         let (variation, passenger) = variations(time, rest)?;
@@ -126,7 +128,7 @@ fn variations(time: Clock, text: &[u8]) -> Option<(u8, Clock)>
     if text.len() == 5 {
         return Some((0, passenger(text)?));
     }
-    let (first, second) = front(text, 2);
+    let (first, second) = first_bytes(text, 2);
     Some((variation(first)?, passenger(second)?))
 }
 

@@ -1,6 +1,7 @@
 //! The lines of a text without empty lines, and without blanks and CR bytes at their ends.
 ghost use Rattle.std.specs.Prelude.{◌≡◌, ℕ, ◌+◌, ◌≤◌, ◌++◌, [], length, map, IfOk};
-ghost use Rattle.ssim_text.specs.Left.{is_dropped, without_end, numbered, lines_left, place_number, numbers, first_unprintable};
+ghost use Rattle.ssim_text.specs.Left.{is_dropped, without_end, numbered, lines_left, place_number};
+ghost use Rattle.ssim_text.specs.Left.{numbers, first_unprintable};
 ghost use Rattle.ssim_text.specs.Bytes.{is_printable};
 ghost use Rattle.std.specs.List.{All, list_all};
 
@@ -41,8 +42,10 @@ fn with_line<'a>(
     number: usize,
     bytes: &'a [u8],
 ) -> Result<Vec<Line<'a>>, AllocError>
-    ensures lines { IfOk result (λ v. map (λ l. (l.number, l.bytes.now)) v.items ≡ map (λ l. (l.number, l.bytes.now)) lines.entry.items ++ numbered number bytes.now []) }
-    ensures bound { IfOk result (λ v. (most : ℕ) → number ≤ most → All (λ l. l.number ≤ most) lines.entry.items → All (λ l. l.number ≤ most) v.items) }
+    ensures lines { IfOk result (λ v. map (λ l. (l.number, l.bytes.now)) v.items
+        ≡ map (λ l. (l.number, l.bytes.now)) lines.entry.items ++ numbered number bytes.now []) }
+    ensures bound { IfOk result (λ v. (most : ℕ) → number ≤ most
+        → All (λ l. l.number ≤ most) lines.entry.items → All (λ l. l.number ≤ most) v.items) }
 {
     let mut lines = lines;
     if bytes.is_empty() {
@@ -54,7 +57,8 @@ fn with_line<'a>(
 
 /// The lines of a text that are not empty, with their numbers.
 pub fn lines_left<'a>(alloc: Global, text: &'a [u8]) -> Result<Vec<Line<'a>>, AllocError>
-    ensures lines { IfOk result (λ v. map (λ l. (l.number, l.bytes.now)) v.items ≡ lines_left text.now) }
+    ensures lines { IfOk result
+        (λ v. map (λ l. (l.number, l.bytes.now)) v.items ≡ lines_left text.now) }
     ensures bound { IfOk result (λ v. All (λ l. l.number ≤ 1 + length text.now) v.items) }
 {
     let mut lines = Vec::new(alloc);

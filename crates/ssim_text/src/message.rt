@@ -62,7 +62,14 @@ impl Model for Draft {
 
     ghost Value = { MessageValue };
 
-    ghost view = { λ m. record { originator = m.originator; kind = m.kind; mode = m.mode; reference = m.reference; subs = m.subs.items; free = m.free.items } };
+    ghost view = { λ m. record {
+      originator = m.originator;
+      kind = m.kind;
+      mode = m.mode;
+      reference = m.reference;
+      subs = m.subs.items;
+      free = m.free.items;
+    } };
 }
 
 impl Draft {
@@ -188,7 +195,8 @@ impl Model for Message {
 
     ghost view = { λ m. m.content };
 
-    ghost invariant = { λ m. (m.text.items ≡ canonical m.content) × SpellsMessage m.content (canonical m.content) };
+    ghost invariant = { λ m. (m.text.items ≡ canonical m.content)
+        × SpellsMessage m.content (canonical m.content) };
 }
 
 impl Message {

@@ -3,7 +3,7 @@ ghost use Rattle.std.specs.Prelude.{◌≡◌, IfSome, IfNone, Some};
 ghost use Rattle.std.specs.Str.{bytes_eq};
 ghost use Rattle.ssim_text.specs.Lines.{originator_of, address_of, is_blank_or_none};
 
-use crate::bytes::{all_alphanumeric, front};
+use crate::bytes::{all_alphanumeric, first_bytes};
 use std::fmt;
 use std::marker::Model;
 
@@ -65,9 +65,9 @@ impl Originator {
         ensures some { IfSome result (λ o. originator_of line.now ≡ Some o) }
         ensures none { IfNone result (originator_of line.now ≡ None) }
     {
-        let (dot, rest) = front(line, 1);
-        let (address, rest) = front(rest, 7);
-        let (blank, _dropped) = front(rest, 1);
+        let (dot, rest) = first_bytes(line, 1);
+        let (address, rest) = first_bytes(rest, 7);
+        let (blank, _dropped) = first_bytes(rest, 1);
         if dot != b".".as_slice() {
             return None;
         }

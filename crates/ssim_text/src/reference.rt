@@ -1,11 +1,13 @@
 //! References of messages.
-ghost use Rattle.std.specs.Prelude.{◌≡◌, ◌<◌, ◌≤◌, ◌^◌, true, length, Some, IfSome, IfNone, IfOk, option_map};
-ghost use Rattle.ssim_text.specs.Lines.{reference_of, numbers_of, group_code_of, creator_of, digits_in};
+ghost use Rattle.std.specs.Prelude.{◌≡◌, ◌<◌, ◌≤◌, ◌^◌, true, length, Some, IfSome, IfNone, IfOk};
+ghost use Rattle.std.specs.Prelude.{option_map};
+ghost use Rattle.ssim_text.specs.Lines.{reference_of, numbers_of, group_code_of, creator_of};
+ghost use Rattle.ssim_text.specs.Lines.{digits_in};
 ghost use Rattle.ssim_values.specs.Flight.{number_of};
 ghost use Rattle.ssim_values.specs.Characters.{is_digit};
 ghost use Rattle.std.specs.List.{list_all};
 
-use crate::bytes::front;
+use crate::bytes::first_bytes;
 use crate::dates::month_day;
 use crate::encoder::{five_digits, three_digits};
 use crate::kind::Kind;
@@ -36,14 +38,30 @@ pub struct Reference {
 impl Reference {
     ghost use Rattle.std.specs.Ordering.{nat_cmp};
     ghost use Rattle.std.specs.Cmp.Lexicographic.{slice_cmp};
+    ghost use Rattle.ssim_text.specs.Canonical.{five_digits, three_digits};
     ghost use Rattle.ssim_text.specs.Reference.{reference_numbers};
 
     /// Which of two references comes first: by date, group serial, message serial, kind (SSM before
     /// ASM), and the bytes of the originator.
     pub fn order(&self, other: &Reference) -> Ordering
-        ensures { result ≡ slice_cmp nat_cmp (reference_numbers self.now) (reference_numbers other.now) }
+        ensures { result ≡ slice_cmp nat_cmp (reference_numbers self.now)
+            (reference_numbers other.now) }
     {
         self.cmp(other)
+    }
+
+    /// The message group serial in five digits, as a text writes it.
+    pub fn group_digits(&self) -> [u8; 5]
+        ensures { result ≡ five_digits self.now.group }
+    {
+        five_digits(self.group)
+    }
+
+    /// The message serial in three digits, as a text writes it.
+    pub fn serial_digits(&self) -> [u8; 3]
+        ensures { result ≡ three_digits self.now.serial }
+    {
+        three_digits(self.serial)
     }
 }
 
@@ -56,9 +74,9 @@ impl fmt::Display for Reference {
         let kind = self.kind;
         let date = self.date.write();
         let date = str::from_utf8(&date).map_err(|_| fmt::Error)?;
-        let group = five_digits(self.group);
+        let group = self.group_digits();
         let group = str::from_utf8(&group).map_err(|_| fmt::Error)?;
-        let serial = three_digits(self.serial);
+        let serial = self.serial_digits();
         let serial = str::from_utf8(&serial).map_err(|_| fmt::Error)?;
         let originator = self.originator;
         if originator.is_none() {
@@ -196,12 +214,13 @@ struct SerialNumbers {
 
 #[tactic(auto, unfolding(crate::specs::Lines::numbers_of))]
 fn serials(line: &[u8]) -> Option<SerialNumbers>
-    ensures some { IfSome result (λ n. numbers_of line.now ≡ Some (n.date, n.group, n.code, n.serial)) }
+    ensures some { IfSome result
+        (λ n. numbers_of line.now ≡ Some (n.date, n.group, n.code, n.serial)) }
     ensures none { IfNone result (numbers_of line.now ≡ None) }
 {
-    let (date, rest) = front(line, 5);
-    let (group, rest) = front(rest, 5);
-    let (code, serial) = front(rest, 1);
+    let (date, rest) = first_bytes(line, 5);
+    let (group, rest) = first_bytes(rest, 5);
+    let (code, serial) = first_bytes(rest, 1);
     let date = month_day(date)?;
     let group = digits(5, 5, group)?;
     let code = group_code(code)?;
@@ -221,7 +240,7 @@ impl GivenReference {
     pub(crate) fn parse(alloc: Global, line: &[u8]) -> Result<Option<GivenReference>, AllocError>
         ensures { IfOk result (λ read. reference_of line.now ≡ read) }
     {
-        let (numbers_text, creator_text) = front(line, 14);
+        let (numbers_text, creator_text) = first_bytes(line, 14);
         let Some(read) = serials(numbers_text) else {
             return Ok(None);
         };

@@ -2,7 +2,7 @@
 ghost use Rattle.std.specs.Prelude.{◌≡◌, ◌<◌, ◌≤◌, ◌++◌, ◌∷◌, [], length, IfSome, IfNone, IfOk};
 ghost use Rattle.ssim_text.specs.Lines.{points_of, segment_text_of, segment_of};
 
-use crate::bytes::{cut, first_word, front};
+use crate::bytes::{cut, first_bytes, first_word};
 use crate::leg::read_station;
 use crate::reference::digits;
 use ssim_values::Station;
@@ -50,7 +50,7 @@ fn points(word: &[u8]) -> Option<(Station, Station)>
     if word == b"QQQQQQ".as_slice() {
         return None;
     }
-    let (board, off) = front(word, 3);
+    let (board, off) = first_bytes(word, 3);
     Some((read_station(board)?, read_station(off)?))
 }
 

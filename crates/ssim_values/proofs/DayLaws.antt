@@ -14,25 +14,25 @@ IsDate-tested : (y m d : ℕ) → is_date y m d ≡ true → IsDate y m d
 IsDate-tested y m d e =
     record { year_from = grind (arith, nat_tests); year_to = grind (arith, nat_tests); month_from = grind (arith, nat_tests); month_to = grind (arith, nat_tests); day_from = grind (arith, nat_tests); day_to = grind (arith, nat_tests) }
 
-tested-IsDate : (y m d : ℕ) → IsDate y m d → is_date y m d ≡ true
+pub tested-IsDate : (y m d : ℕ) → IsDate y m d → is_date y m d ≡ true
 tested-IsDate y m d h = grind (arith, nat_tests, h.year_from, h.year_to, h.month_from, h.month_to, h.day_from, h.day_to)
 
 -- the date whose number was found, part by part
-record HasParts (y m d : Option ℕ) (n : ℕ) : Type 0 where
-  year : ℕ
-  month : ℕ
-  day : ℕ
-  year_is : y ≡ Some year
-  month_is : m ≡ Some month
-  day_is : d ≡ Some day
-  is_date : IsDate (2000 + year) month day
-  number : day_number (2000 + year) month day ≡ n
+pub record HasParts (y m d : Option ℕ) (n : ℕ) : Type 0 where
+  pub year : ℕ
+  pub month : ℕ
+  pub day : ℕ
+  pub year_is : y ≡ Some year
+  pub month_is : m ≡ Some month
+  pub day_is : d ≡ Some day
+  pub is_date : IsDate (2000 + year) month day
+  pub number : day_number (2000 + year) month day ≡ n
 
 parts_if : (y m d n : ℕ) (b : Bool) → is_date (2000 + y) m d ≡ b → (if b then Some (day_number (2000 + y) m d) else None) ≡ Some n → HasParts (Some y) (Some m) (Some d) n
 parts_if y m d n true is e = record { year = y; month = m; day = d; year_is = refl; month_is = refl; day_is = refl; is_date = IsDate-tested _ _ _ is; number = cc }
 parts_if y m d n false is e = absurd (cc)
 
-parts : (y m d : Option ℕ) (n : ℕ) → date_number y m d ≡ Some n → HasParts y m d n
+pub parts : (y m d : Option ℕ) (n : ℕ) → date_number y m d ≡ Some n → HasParts y m d n
 parts (Some y) (Some m) (Some d) n e = parts_if y m d n (is_date (2000 + y) m d) refl e
 parts (Some y) (Some m) None n e = absurd (cc)
 parts (Some y) None d n e = absurd (cc)

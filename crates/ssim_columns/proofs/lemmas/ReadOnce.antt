@@ -1,5 +1,5 @@
 -- The rows of a table follow from carried bytes, and from fields that were read.
-use Rattle.std.proofs.Common.{◌≡◌, ℕ, ◌+◌, ◌-◌, ◌≤◌, List, [], ◌∷◌, ◌++◌, Bool, Option, None, Some, arith, lit≤}
+use Rattle.std.proofs.Common.{◌≡◌, ℕ, ◌+◌, ◌-◌, ◌≤◌, List, [], ◌∷◌, Bool, Option, None, Some, arith, lit≤}
 use Rattle.std.specs.Prelude.{IsTrue, slice_range, is_some}
 use Rattle.std.specs.List.{list_all}
 use Rattle.ssim_values.specs.Day.{day_of}

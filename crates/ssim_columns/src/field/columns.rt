@@ -86,7 +86,8 @@ pub fn last_day_at(bytes: &[u8; 200], first: Day) -> Option<Day>
     ensures below { IsEnd first result }
     ensures value { end_from (Some first) (columns 22 28 bytes.now) ≡ Some result }
 {
-    end_from(first, LAST_DAY.text(bytes)).unwrap()
+    let last = LAST_DAY.text(bytes);
+    end_from(first, last, day_of(last)).unwrap()
 }
 
 /// The date in columns 29 to 35.

@@ -30,31 +30,65 @@ use Rattle.ssim_desk.specs.Desk.{finding_lines, is_desk_point, is_flight_named, 
 -- ---- meaning
 
 abbrev reference : ℕ → ℕ → Kind → List ℕ → Reference
-reference date group kind originator = record { date = date; group = group; serial = 1; kind = kind; originator = originator }
+reference date group kind originator =
+    record { date = date; group = group; serial = 1; kind = kind; originator = originator }
 
 abbrev lx600 : FlightNumber
 lx600 = record { number = 600; suffix = 32 }
 
 -- a sub-message for LX600 on 01JUL25
 abbrev sub : Action → Sub
-sub action = record { designator = record { airline = codes "LX "; flight = lx600 }; dates = Date (Full 9313); action = action }
+sub action =
+    record {
+      designator = record { airline = codes "LX "; flight = lx600 };
+      dates = Date (Full 9313);
+      action = action;
+    }
 
 abbrev dated : ResolvedSub
-dated = record { flight = lx600; period = record { first = 9313; last = 9313; days = true ∷ true ∷ true ∷ true ∷ true ∷ true ∷ true ∷ [] } }
+dated =
+    record {
+      flight = lx600;
+      period = record {
+        first = 9313;
+        last = 9313;
+        days = true ∷ true ∷ true ∷ true ∷ true ∷ true ∷ true ∷ [];
+      };
+    }
 
 abbrev end_at : List ℕ → ℕ → LegEnd
 end_at station minutes = record { station = station; time = minutes; variation = 0; passenger = minutes }
 
 -- J 320 CY.C12Y138, ZRH0545 LHR0700
 abbrev new : NewLegs
-new = record { equipment = record { service = 74; aircraft = codes "320"; designators = codes "CY"; configuration = codes "C12Y138" }; legs = record { departure = end_at (codes "ZRH") 345; arrival = end_at (codes "LHR") 420 } ∷ []; segments = [] }
+new =
+    record {
+      equipment = record {
+        service = 74;
+        aircraft = codes "320";
+        designators = codes "CY";
+        configuration = codes "C12Y138";
+      };
+      legs = record {
+        departure = end_at (codes "ZRH") 345;
+        arrival = end_at (codes "LHR") 420;
+      } ∷ [];
+      segments = [];
+    }
 
 -- J 319 CY and J 320 CY
 abbrev equipment : List ℕ → EquipmentValue
-equipment aircraft = record { service = 74; aircraft = aircraft; designators = codes "CY"; configuration = [] }
+equipment aircraft =
+    record { service = 74; aircraft = aircraft; designators = codes "CY"; configuration = [] }
 
 abbrev row : List ℕ → ℕ → Row
-row station minutes = record { station = station; first = 9220; last = 9429; variation = record { negative = false; minutes = minutes } }
+row station minutes =
+    record {
+      station = station;
+      first = 9220;
+      last = 9429;
+      variation = record { negative = false; minutes = minutes };
+    }
 
 abbrev rows : List Row
 rows = row (codes "ZRH") 120 ∷ row (codes "LHR") 60 ∷ []
@@ -66,7 +100,8 @@ blanks n = replicate n 32
 abbrev leg : List ℕ → List ℕ → LegValue
 leg aircraft configuration = record {
   sequence = 1;
-  columns = concat (codes "JZRH05450545+0200" ∷ blanks 2 ∷ codes "LHR07000700+0100" ∷ blanks 2 ∷ aircraft ∷ codes "CY" ∷ blanks 94 ∷ configuration ∷ codes "00" ∷ []);
+  columns = concat (codes "JZRH05450545+0200" ∷ blanks 2 ∷ codes "LHR07000700+0100" ∷ blanks 2 ∷ aircraft
+      ∷ codes "CY" ∷ blanks 94 ∷ configuration ∷ codes "00" ∷ []);
   tails = [];
 }
 
@@ -100,7 +135,9 @@ unfolding new_leg station_columns with_times with_equipment
 other_flight = refl
 
 -- of two equipment changes the later by reference stays
-year_of_a_reference : after (Eqt (equipment (codes "319"))) (after (Eqt (equipment (codes "320"))) (after (New new) nothing)) lx600 9313 ≡ leg (codes "319") (blanks 20) ∷ []
+year_of_a_reference : after (Eqt (equipment (codes "319")))
+    (after (Eqt (equipment (codes "320"))) (after (New new) nothing)) lx600 9313 ≡ leg (codes "319")
+    (blanks 20) ∷ []
 unfolding new_leg station_columns with_times with_equipment
 year_of_a_reference = refl
 
@@ -117,7 +154,8 @@ over = record { records = []; rows = row (codes "ZRH") 120 ∷ [] }
 abbrev holding : List Entry
 holding = record {
   reference = reference 9252 1 Ssm no_originator;
-  message = begun no_originator Ssm Utc (record { date = record { month = 5; day = 1 }; group = 1; code = End; serial = 1; creator = None });
+  message = begun no_originator Ssm Utc
+      (record { date = record { month = 5; day = 1 }; group = 1; code = End; serial = 1; creator = None });
   dates = dated ∷ [];
 } ∷ []
 
@@ -142,7 +180,8 @@ no_row_end = refl
 named : is_flight_named (record { base = over; held = holding; applied = 1 }) lx600 ≡ true
 named = refl
 
-not_named : is_flight_named (record { base = over; held = holding; applied = 1 }) (record { number = 600; suffix = 65 }) ≡ false
+not_named : is_flight_named (record { base = over; held = holding; applied = 1 })
+    (record { number = 600; suffix = 65 }) ≡ false
 not_named = refl
 
 -- there are at most four cuts; of another flight at most two
@@ -158,12 +197,24 @@ of_another_flight = refl
 abbrev cancelled : Entry
 cancelled = record {
   reference = reference 9252 1 Ssm no_originator;
-  message = with_sub (begun no_originator Ssm Utc (record { date = record { month = 5; day = 1 }; group = 1; code = End; serial = 1; creator = None })) (sub Cnl);
+  message = with_sub (begun no_originator Ssm Utc (record {
+    date = record { month = 5; day = 1 };
+    group = 1;
+    code = End;
+    serial = 1;
+    creator = None;
+  })) (sub Cnl);
   dates = dated ∷ [];
 }
 
 -- the one line of this desk says that the flight was absent on the one date
 one_line : finding_lines (record { base = over; held = cancelled ∷ []; applied = 1 })
-    ≡ record { reference = reference 9252 1 Ssm no_originator; sub = 1; action = identifier.Cnl; designator = record { airline = codes "LX "; flight = lx600 }; finding = record { acted = 0; absent = 1; present = 0; leg = 0; station = 0 } } ∷ []
+    ≡ record {
+      reference = reference 9252 1 Ssm no_originator;
+      sub = 1;
+      action = identifier.Cnl;
+      designator = record { airline = codes "LX "; flight = lx600 };
+      finding = record { acted = 0; absent = 1; present = 0; leg = 0; station = 0 };
+    } ∷ []
 unfolding day_count
 one_line = refl

@@ -1,26 +1,33 @@
 -- What a text or a merge changes in the messages that are held, and the history of schedules.
-use Rattle.std.specs.Prelude.{◌≡◌, ◌⊎◌, ℕ, ◌+◌, ◌*◌, ◌/◌, ◌%◌, ◌<◌, ◌≤◌, List, ◌∷◌, ◌++◌, length, take, map, slice_get, Contains, IsTrue, IfSome}
+use Rattle.std.specs.Prelude.{◌≡◌, ◌⊎◌, ℕ, ◌+◌, ◌*◌, ◌/◌, ◌%◌, ◌<◌, ◌≤◌, List, ◌∷◌, ◌++◌, length, take, map}
+use Rattle.std.specs.Prelude.{slice_get, Contains, IsTrue, IfSome}
 use Rattle.std.specs.Prelude.{Option, None, Some}
 use Rattle.std.specs.FinMap.{get}
 use Rattle.std.specs.Prelude.{Vec, vec_capacity, vec_len}
 use Rattle.std.specs.List.{flat_map, list_any}
 use Rattle.ssim_periods.specs.Days.{each_day}
 use Rattle.ssim_base.specs.{BaseSeen.BaseSeen, Stations.Row}
-use Rattle.ssim_schedule.specs.{Schedule.{Table, cuts_in, days_in}, declared.finding.Finding.Finding}
+use Rattle.ssim_schedule.specs.{Schedule.{Table, cuts_in, days_in}}
 use Rattle.ssim_base.specs.declared.sub_message.ResolvedSub.{ResolvedSub}
 use Rattle.ssim_text.specs.Message.{MessageValue}
 use Rattle.ssim_values.specs.Flight.{FlightNumber, IsFlight}
-use Rattle.ssim_held.specs.{Held.{DeskState, Holds, Says}, Entries.{AreEntries, DeskSeen, Entry, IsEntry, map_of, state_of}, Ordered.Belongs}
+use Rattle.ssim_held.specs.Held.{DeskState, Holds, Says}
+use Rattle.ssim_held.specs.Entries.{AreEntries, DeskSeen, Entry, IsEntry, map_of, state_of}
+use Rattle.ssim_held.specs.Ordered.{Belongs}
 use Rattle.ssim_desk.specs.{Desk.{AreDeskPoints, is_sub_point}, Meaning.{Timetable, found_by, left_by}}
 use Rattle.ssim_desk.specs.{Steps.IsUnion, declared.history.History.History}
-use Rattle.ssim_desk.specs.{declared.offer.Offer.Offer, declared.offer.Offer.TheVariants.{Known, New}, declared.replay.Replay.Replay}
+use Rattle.ssim_desk.specs.declared.offer.Offer.{Offer}
+use Rattle.ssim_desk.specs.declared.offer.Offer.TheVariants.{Known, New}
+use Rattle.ssim_desk.specs.declared.replay.Replay.{Replay}
 
 -- ---- a text that is offered
 
 -- the place of a message among the held ones: it is held, or it is new and belongs at a position
 abbrev pub IsOffer : DeskState → List Entry → List ℕ → Offer → Type 0
-IsOffer desk held text (Known reference) = (message : MessageValue) × Says desk.base text reference message × Holds desk reference message
-IsOffer desk held text (New at e) = Belongs held e.reference at at × IsEntry desk.base.records e × Says desk.base text e.reference e.message
+IsOffer desk held text (Known reference) =
+    (message : MessageValue) × Says desk.base text reference message × Holds desk reference message
+IsOffer desk held text (New at e) =
+    Belongs held e.reference at at × IsEntry desk.base.records e × Says desk.base text e.reference e.message
 
 -- ---- another desk
 
@@ -57,10 +64,12 @@ AddsSubPoints rows subs flight old new =
 -- the schedule is the base's after these messages
 pub record IsAfter (base : BaseSeen) (entries : List Entry) (schedule : Table) : Type 0 where
   pub shows : Shows schedule (left_by base entries)
-  pub cuts : (flight : FlightNumber) → IsFlight flight → AreDeskPoints base entries flight (cuts_in schedule flight)
+  pub cuts : (flight : FlightNumber) → IsFlight flight
+      → AreDeskPoints base entries flight (cuts_in schedule flight)
 
 -- the checkpoints from number `first` on: checkpoint k is the schedule after 32 * k messages
-pub record AreCheckpoints (base : BaseSeen) (entries : List Entry) (first : ℕ) (checkpoints : List Table) : Type 0 where
+pub record AreCheckpoints (base : BaseSeen) (entries : List Entry) (first : ℕ)
+    (checkpoints : List Table) : Type 0 where
   pub count : first + length checkpoints ≡ length entries / 32 + 1
   pub each : (k : ℕ) → IfSome (slice_get checkpoints k) (IsAfter base (take (32 * (first + k)) entries))
 
@@ -82,7 +91,8 @@ pub record IsReplay (base : BaseSeen) (entries : List Entry) (replay : Replay) :
 -- the lists of a history have room for what follows
 pub record HasRoom (history : History) (replay : Replay) : Type 0 where
   pub found : vec_len history.found + vec_len replay.found ≤ vec_capacity history.found
-  pub checkpoints : vec_len history.checkpoints + vec_len replay.checkpoints ≤ vec_capacity history.checkpoints
+  pub checkpoints : vec_len history.checkpoints + vec_len replay.checkpoints
+      ≤ vec_capacity history.checkpoints
 
 -- a replay counts the messages that were applied, and how many the last multiple of 32 leaves
 pub record IsCounted (replay : Replay) : Type 0 where

@@ -1,10 +1,11 @@
 //! Lines that say how many elements follow.
 
-ghost use Rattle.std.specs.Prelude.{◌≡◌, ◌↔◌, ◌++◌, ◌∷◌, [], ◌<◌, ◌*◌, ◌^◌, ℕ, List, length, IfNone, IfSome, IsSomeAnd, IsTrue, Some};
+ghost use Rattle.std.specs.Prelude.{◌≡◌, ◌↔◌, ◌++◌, ◌∷◌, [], ◌<◌, ◌*◌, ◌^◌, ℕ, List, length};
+ghost use Rattle.std.specs.Prelude.{IfNone, IfSome, IsSomeAnd, IsTrue, Some};
 ghost use Rattle.std.specs.Fmt.{decimal};
 ghost use Rattle.ssim_text.specs.Bytes.{before, from};
 ghost use Rattle.ssim_held.specs.File.{counted};
-ghost use Rattle.ssim_held.specs.Opening.{is_number};
+ghost use Rattle.ssim_held.specs.internal.DeskFileReader.{is_number};
 
 use ssim_values::are_digits;
 use std::str;
@@ -15,15 +16,17 @@ pub(crate) type Count = Option<usize>;
 /// The bytes after a prefix.
 pub(crate) fn after_prefix<'a>(prefix: &[u8], bytes: &'a [u8]) -> Option<&'a [u8]>
     ensures some { IfSome result (λ rest. bytes.now ≡ prefix.now ++ rest.now) }
-    ensures only { (rest : List ℕ) → bytes.now ≡ prefix.now ++ rest → IsSomeAnd result (λ found. found.now ≡ rest) }
+    ensures only { (rest : List ℕ) → bytes.now ≡ prefix.now ++ rest
+        → IsSomeAnd result (λ found. found.now ≡ rest) }
 {
-    let (front, rest) = bytes.split_at_checked(prefix.len())?;
-    if front == prefix { Some(rest) } else { None }
+    let (start, rest) = bytes.split_at_checked(prefix.len())?;
+    if start == prefix { Some(rest) } else { None }
 }
 
 /// The bytes of the first line without its LF, and those after it.
 fn first_line(bytes: &[u8]) -> Option<(&[u8], &[u8])>
-    ensures some { IfSome result (λ line. (line.0.now ≡ before 10 bytes.now) × (from 10 bytes.now ≡ 10 ∷ line.1.now)) }
+    ensures some { IfSome result
+        (λ line. (line.0.now ≡ before 10 bytes.now) × (from 10 bytes.now ≡ 10 ∷ line.1.now)) }
     ensures none { IfNone result (from 10 bytes.now ≡ []) }
 {
     for (at, byte) in bytes.iter().enumerate() {
@@ -61,9 +64,11 @@ fn number(text: &[u8]) -> Option<Count>
 
 /// The number of a line of this word and a number, and the bytes after the line.
 pub(crate) fn count_line<'a>(word: &[u8], bytes: &'a [u8]) -> Option<(Count, &'a [u8])>
-    ensures some { IfSome result (λ line. IfSome line.0 (λ n. bytes.now ≡ counted word.now n ++ line.1.now)) }
+    ensures some { IfSome result
+        (λ line. IfSome line.0 (λ n. bytes.now ≡ counted word.now n ++ line.1.now)) }
     ensures shorter { IfSome result (λ line. length line.1.now < length bytes.now) }
-    ensures only { (n : ℕ) (later : List ℕ) → n < 2 ^ 64 → bytes.now ≡ counted word.now n ++ later → IsSomeAnd result (λ line. (line.0 ≡ Some n) × (line.1.now ≡ later)) }
+    ensures only { (n : ℕ) (later : List ℕ) → n < 2 ^ 64 → bytes.now ≡ counted word.now n ++ later
+        → IsSomeAnd result (λ line. (line.0 ≡ Some n) × (line.1.now ≡ later)) }
 {
     let rest = after_prefix(b" ", after_prefix(word, bytes)?)?;
     let (digits, rest) = first_line(rest)?;
@@ -74,8 +79,11 @@ pub(crate) fn count_line<'a>(word: &[u8], bytes: &'a [u8]) -> Option<(Count, &'a
 /// there.
 pub(crate) fn elements(count: Count, size: usize, bytes: &[u8]) -> Option<(&[u8], &[u8])>
     requires { 0 < size }
-    ensures some { IfSome result (λ parts. (bytes.now ≡ parts.0.now ++ parts.1.now) × IsSomeAnd count (λ n. length parts.0.now ≡ n * size)) }
-    ensures only { (n : ℕ) (front later : List ℕ) → count ≡ Some n → length front ≡ n * size → bytes.now ≡ front ++ later → IsSomeAnd result (λ parts. (parts.0.now ≡ front) × (parts.1.now ≡ later)) }
+    ensures some { IfSome result (λ parts. (bytes.now ≡ parts.0.now ++ parts.1.now)
+        × IsSomeAnd count (λ n. length parts.0.now ≡ n * size)) }
+    ensures only { (n : ℕ) (part later : List ℕ) → count ≡ Some n → length part ≡ n * size
+        → bytes.now ≡ part ++ later
+        → IsSomeAnd result (λ parts. (parts.0.now ≡ part) × (parts.1.now ≡ later)) }
 {
     let count = count?;
     if count > bytes.len() / size {

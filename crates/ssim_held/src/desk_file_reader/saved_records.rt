@@ -1,6 +1,7 @@
 //! The records of a base as a desk file has them.
 
-ghost use Rattle.std.specs.Prelude.{◌≡◌, ◌≢◌, ◌++◌, ◌∷◌, [], ◌<◌, ◌^◌, List, ℕ, codes, length, IfErr, IfNone, IfOk, IfSome, IsSomeAnd, Some};
+ghost use Rattle.std.specs.Prelude.{◌≡◌, ◌≢◌, ◌++◌, ◌∷◌, [], ◌<◌, ◌^◌, List, ℕ, codes, length};
+ghost use Rattle.std.specs.Prelude.{IfErr, IfNone, IfOk, IfSome, IsSomeAnd, Some};
 ghost use Rattle.ssim_records.specs.declared.record.Record.{Record};
 ghost use Rattle.ssim_base.specs.SavedBase.{IsBaseRecords, saved};
 ghost use Rattle.ssim_text.specs.Bytes.{before, from};
@@ -14,7 +15,8 @@ use std::alloc::Global;
 
 /// The next line with its LF, if an LF follows.
 fn take_line(alloc: Global, parts: &mut Parts) -> Result<Option<Vec<u8>>, PartFault>
-    ensures some { IfOk result (λ read. IfSome read (λ line. (line.items ≡ before 10 parts.old ++ 10 ∷ []) × (parts.old ≡ line.items ++ parts.new))) }
+    ensures some { IfOk result (λ read. IfSome read (λ line.
+        (line.items ≡ before 10 parts.old ++ 10 ∷ []) × (parts.old ≡ line.items ++ parts.new))) }
     ensures none { IfOk result (λ read. IfNone read (from 10 parts.old ≡ [])) }
     ensures err { IfErr result (λ e. e ≡ PartFault.Memory) }
 {
@@ -31,8 +33,10 @@ fn take_line(alloc: Global, parts: &mut Parts) -> Result<Option<Vec<u8>>, PartFa
 
 /// The number of records that a line says.
 fn records_line(line: &[u8]) -> Option<Count>
-    ensures some { IfSome result (λ count. IfSome count (λ n. line.now ≡ counted (codes "RECORDS") n)) }
-    ensures only { (n : ℕ) → n < 2 ^ 64 → line.now ≡ counted (codes "RECORDS") n → result ≡ Some (Some n) }
+    ensures some { IfSome result
+        (λ count. IfSome count (λ n. line.now ≡ counted (codes "RECORDS") n)) }
+    ensures only { (n : ℕ) → n < 2 ^ 64 → line.now ≡ counted (codes "RECORDS") n
+        → result ≡ Some (Some n) }
 {
     match count_line(b"RECORDS", line)? {
         (count, []) => Some(count),
@@ -42,8 +46,11 @@ fn records_line(line: &[u8]) -> Option<Count>
 
 /// The number of records that the next line says.
 fn take_count(alloc: Global, parts: &mut Parts) -> Result<Option<Count>, PartFault>
-    ensures some { IfOk result (λ read. IfSome read (λ count. IfSome count (λ n. parts.old ≡ counted (codes "RECORDS") n ++ parts.new))) }
-    ensures only { (n : ℕ) (later : List ℕ) → n < 2 ^ 64 → parts.old ≡ counted (codes "RECORDS") n ++ later → IfOk result (λ read. (read ≡ Some (Some n)) × (parts.new ≡ later)) }
+    ensures some { IfOk result (λ read. IfSome read
+        (λ count. IfSome count (λ n. parts.old ≡ counted (codes "RECORDS") n ++ parts.new))) }
+    ensures only { (n : ℕ) (later : List ℕ) → n < 2 ^ 64
+        → parts.old ≡ counted (codes "RECORDS") n ++ later
+        → IfOk result (λ read. (read ≡ Some (Some n)) × (parts.new ≡ later)) }
     ensures err { IfErr result (λ e. e ≡ PartFault.Memory) }
 {
     match take_line(alloc, parts)? {
@@ -54,8 +61,11 @@ fn take_count(alloc: Global, parts: &mut Parts) -> Result<Option<Count>, PartFau
 
 /// The data set whose records the next lines are.
 fn read_lines(alloc: Global, count: Count, parts: &mut Parts) -> Result<DataSet, PartFault>
-    ensures ok { IfOk result (λ read. IsBaseRecords read × (count ≡ Some (length read)) × (parts.old ≡ saved read ++ parts.new)) }
-    ensures err { IfErr result (λ e. e ≢ PartFault.Memory → (records : List Record) (later : List ℕ) → IsBaseRecords records → count ≡ Some (length records) → parts.old ≡ saved records ++ later → ⊥) }
+    ensures ok { IfOk result (λ read. IsBaseRecords read × (count ≡ Some (length read))
+        × (parts.old ≡ saved read ++ parts.new)) }
+    ensures err { IfErr result (λ e. e ≢ PartFault.Memory → (records : List Record) (later : List ℕ)
+        → IsBaseRecords records → count ≡ Some (length records) → parts.old ≡ saved records ++ later
+        → ⊥) }
 {
     let lines = match count {
         Some(lines) => lines,
@@ -79,8 +89,11 @@ fn read_lines(alloc: Global, count: Count, parts: &mut Parts) -> Result<DataSet,
 /// at which the base is invalid. A base without header, carrier or trailer is invalid after its
 /// lines.
 pub(crate) fn read_records(alloc: Global, parts: &mut Parts) -> Result<DataSet, PartFault>
-    ensures ok { IfOk result (λ read. IsBaseRecords read × (parts.old ≡ records_part read ++ parts.new)) }
-    ensures err { IfErr result (λ e. e ≢ PartFault.Memory → (records : List Record) (later : List ℕ) → length records < 2 ^ 64 → IsBaseRecords records → parts.old ≡ records_part records ++ later → ⊥) }
+    ensures ok { IfOk result
+        (λ read. IsBaseRecords read × (parts.old ≡ records_part read ++ parts.new)) }
+    ensures err { IfErr result (λ e. e ≢ PartFault.Memory → (records : List Record) (later : List ℕ)
+        → length records < 2 ^ 64 → IsBaseRecords records
+        → parts.old ≡ records_part records ++ later → ⊥) }
 {
     let left = parts.len();
     match take_count(alloc, parts)? {

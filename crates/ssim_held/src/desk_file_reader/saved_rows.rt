@@ -1,6 +1,7 @@
 //! The rows of a station table as a desk file has them.
 
-ghost use Rattle.std.specs.Prelude.{◌≡◌, ◌≢◌, ◌↔◌, ◌++◌, ◌<◌, ◌^◌, All, List, ℕ, length, IfErr, IfNone, IfOk, IfSome, IsTrue};
+ghost use Rattle.std.specs.Prelude.{◌≡◌, ◌≢◌, ◌↔◌, ◌++◌, ◌<◌, ◌^◌, All, List, ℕ, length, IfErr};
+ghost use Rattle.std.specs.Prelude.{IfNone, IfOk, IfSome, IsTrue};
 ghost use Rattle.std.specs.List.{flat_map};
 ghost use Rattle.ssim_base.specs.Stations.{Row};
 ghost use Rattle.ssim_held.specs.File.{IsRow, row_line, rows_part};
@@ -31,8 +32,10 @@ fn are_saved(rows: &[StationRow], lines: &[u8]) -> bool
 
 /// The rows that lines are, or none if they are not rows as they are written.
 fn read_lines(alloc: Global, lines: &[u8]) -> Result<Option<Stations>, PartFault>
-    ensures some { IfOk result (λ read. IfSome read (λ rows. All IsRow rows × (lines.now ≡ flat_map row_line rows))) }
-    ensures none { IfOk result (λ read. IfNone read ((rows : List Row) → All IsRow rows → lines.now ≡ flat_map row_line rows → ⊥)) }
+    ensures some { IfOk result
+        (λ read. IfSome read (λ rows. All IsRow rows × (lines.now ≡ flat_map row_line rows))) }
+    ensures none { IfOk result (λ read. IfNone read
+        ((rows : List Row) → All IsRow rows → lines.now ≡ flat_map row_line rows → ⊥)) }
     ensures err { IfErr result (λ e. e ≡ PartFault.Memory) }
 {
     match Stations::read(alloc, lines) {
@@ -63,8 +66,10 @@ fn invalid_row(alloc: Global, bytes: &[u8]) -> PartFault {
 
 /// The rows of a station table with their number before them, and the bytes after them.
 pub(crate) fn read_rows(alloc: Global, bytes: &[u8]) -> Result<(Stations, &[u8]), PartFault>
-    ensures ok { IfOk result (λ read. All IsRow read.0 × (bytes.now ≡ rows_part read.0 ++ read.1.now)) }
-    ensures err { IfErr result (λ e. e ≢ PartFault.Memory → (rows : List Row) (later : List ℕ) → length rows < 2 ^ 64 → All IsRow rows → bytes.now ≡ rows_part rows ++ later → ⊥) }
+    ensures ok { IfOk result
+        (λ read. All IsRow read.0 × (bytes.now ≡ rows_part read.0 ++ read.1.now)) }
+    ensures err { IfErr result (λ e. e ≢ PartFault.Memory → (rows : List Row) (later : List ℕ)
+        → length rows < 2 ^ 64 → All IsRow rows → bytes.now ≡ rows_part rows ++ later → ⊥) }
 {
     let Some((count, rest)) = count_line(b"STATIONS", bytes) else {
         return Err(PartFault::Invalid(bytes.len()));

@@ -1,6 +1,7 @@
 //! The messages of a desk as a desk file has them.
 
-ghost use Rattle.std.specs.Prelude.{◌≡◌, ◌≢◌, ◌↔◌, ◌++◌, ◌∷◌, [], ◌<◌, ◌^◌, List, ℕ, length, IfErr, IfNone, IfOk, IfSome, IsTrue};
+ghost use Rattle.std.specs.Prelude.{◌≡◌, ◌≢◌, ◌↔◌, ◌++◌, ◌∷◌, [], ◌<◌, ◌^◌, List, ℕ, length, IfErr};
+ghost use Rattle.std.specs.Prelude.{IfNone, IfOk, IfSome, IsTrue};
 ghost use Rattle.ssim_base.specs.Resolve.{ResolvesIn};
 ghost use Rattle.ssim_base.specs.declared.resolution.ResolvedText.{ResolvedText};
 ghost use Rattle.ssim_text.specs.Canonical.{canonical};
@@ -8,7 +9,7 @@ ghost use Rattle.ssim_text.specs.Message.{MessageValue};
 ghost use Rattle.ssim_text.specs.Spelling.{SpellsMessage};
 ghost use Rattle.ssim_held.specs.File.{text_element, texts_part};
 ghost use Rattle.ssim_held.specs.Entries.{AreRising, Entry};
-ghost use Rattle.ssim_held.specs.Opening.{AreHeld, IsNextText, IsTextOf};
+ghost use Rattle.ssim_held.specs.internal.DeskFileReader.{AreHeld, IsNextText, IsTextOf};
 
 use crate::desk_file_reader::count_line::{count_line, elements};
 use crate::desk_file_reader::fault::PartFault;
@@ -24,8 +25,10 @@ use std::cmp::Ordering;
 
 /// The message whose canonical text this is.
 fn read_canonical(alloc: Global, text: &[u8]) -> Result<Option<Message>, PartFault>
-    ensures some { IfOk result (λ read. IfSome read (λ m. SpellsMessage m (canonical m) × (text.now ≡ canonical m))) }
-    ensures none { IfOk result (λ read. IfNone read ((m : MessageValue) → SpellsMessage m (canonical m) → text.now ≡ canonical m → ⊥)) }
+    ensures some { IfOk result
+        (λ read. IfSome read (λ m. SpellsMessage m (canonical m) × (text.now ≡ canonical m))) }
+    ensures none { IfOk result (λ read. IfNone read
+        ((m : MessageValue) → SpellsMessage m (canonical m) → text.now ≡ canonical m → ⊥)) }
     ensures err { IfErr result (λ e. e ≡ PartFault.Memory) }
 {
     match decode(alloc, text) {
@@ -43,7 +46,8 @@ fn read_canonical(alloc: Global, text: &[u8]) -> Result<Option<Message>, PartFau
 /// A message with its year and full dates, if it resolves.
 fn resolve_if(data_set: &DataSet, message: &Message) -> Result<Option<ResolvedText>, PartFault>
     ensures some { IfOk result (λ read. IfSome read (ResolvesIn data_set.now message.now)) }
-    ensures none { IfOk result (λ read. IfNone read ((text : ResolvedText) → ResolvesIn data_set.now message.now text → ⊥)) }
+    ensures none { IfOk result (λ read. IfNone read
+        ((text : ResolvedText) → ResolvesIn data_set.now message.now text → ⊥)) }
     ensures err { IfErr result (λ e. e ≡ PartFault.Memory) }
 {
     resolving_has_one_outcome();
@@ -59,7 +63,8 @@ fn resolve_if(data_set: &DataSet, message: &Message) -> Result<Option<ResolvedTe
 /// The message of a text, if the text is canonical and the message resolves.
 fn read_message(alloc: Global, data_set: &DataSet, text: &[u8]) -> Result<Option<Held>, PartFault>
     ensures some { IfOk result (λ read. IfSome read (IsTextOf data_set.now text.now)) }
-    ensures none { IfOk result (λ read. IfNone read ((e : Entry) → IsTextOf data_set.now text.now e → ⊥)) }
+    ensures none { IfOk result
+        (λ read. IfNone read ((e : Entry) → IsTextOf data_set.now text.now e → ⊥)) }
     ensures err { IfErr result (λ e. e ≡ PartFault.Memory) }
 {
     equal_where_written_equal();
@@ -96,8 +101,10 @@ fn read_next(
     text: &[u8],
 ) -> Result<Option<Held>, PartFault>
     requires { AreRising held.now }
-    ensures some { IfOk result (λ read. IfSome read (λ e. IsNextText version data_set.now held.now e × IsTextOf data_set.now text.now e)) }
-    ensures none { IfOk result (λ read. IfNone read ((e : Entry) → IsNextText version data_set.now held.now e → IsTextOf data_set.now text.now e → ⊥)) }
+    ensures some { IfOk result (λ read. IfSome read
+        (λ e. IsNextText version data_set.now held.now e × IsTextOf data_set.now text.now e)) }
+    ensures none { IfOk result (λ read. IfNone read ((e : Entry)
+        → IsNextText version data_set.now held.now e → IsTextOf data_set.now text.now e → ⊥)) }
     ensures err { IfErr result (λ e. e ≡ PartFault.Memory) }
 {
     equal_where_written_equal();
@@ -122,9 +129,12 @@ fn read_text<'a>(
     bytes: &'a [u8],
 ) -> Result<(Held, &'a [u8]), PartFault>
     requires { AreRising held.now }
-    ensures ok { IfOk result (λ read. IsNextText version data_set.now held.now read.0 × (bytes.now ≡ text_element read.0 ++ read.1.now)) }
+    ensures ok { IfOk result (λ read. IsNextText version data_set.now held.now read.0
+        × (bytes.now ≡ text_element read.0 ++ read.1.now)) }
     ensures shorter { IfOk result (λ read. length read.1.now < length bytes.now) }
-    ensures err { IfErr result (λ e. e ≢ PartFault.Memory → (next : Entry) (later : List ℕ) → IsNextText version data_set.now held.now next → bytes.now ≡ text_element next ++ later → ⊥) }
+    ensures err { IfErr result (λ e. e ≢ PartFault.Memory → (next : Entry) (later : List ℕ)
+        → IsNextText version data_set.now held.now next → bytes.now ≡ text_element next ++ later
+        → ⊥) }
 {
     let Some((count, rest)) = count_line(b"TEXT", bytes) else {
         return Err(PartFault::Invalid(bytes.len()));
@@ -148,8 +158,11 @@ pub(crate) fn read_texts<'a>(
     version: FileVersion,
     bytes: &'a [u8],
 ) -> Result<(Vec<Held>, &'a [u8]), PartFault>
-    ensures ok { IfOk result (λ read. AreHeld version data_set.now read.0.items × (bytes.now ≡ texts_part read.0.items ++ read.1.now)) }
-    ensures err { IfErr result (λ e. e ≢ PartFault.Memory → (entries : List Entry) (later : List ℕ) → length entries < 2 ^ 64 → AreHeld version data_set.now entries → bytes.now ≡ texts_part entries ++ later → ⊥) }
+    ensures ok { IfOk result (λ read. AreHeld version data_set.now read.0.items
+        × (bytes.now ≡ texts_part read.0.items ++ read.1.now)) }
+    ensures err { IfErr result (λ e. e ≢ PartFault.Memory → (entries : List Entry) (later : List ℕ)
+        → length entries < 2 ^ 64 → AreHeld version data_set.now entries
+        → bytes.now ≡ texts_part entries ++ later → ⊥) }
 {
     equal_where_written_equal();
     let Some((count, mut rest)) = count_line(b"TEXTS", bytes) else {

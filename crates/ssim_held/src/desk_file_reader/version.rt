@@ -2,7 +2,7 @@
 
 ghost use Rattle.std.specs.Prelude.{◌≡◌, ◌↔◌, ◌++◌, List, ℕ, IfNone, IfSome, IsTrue};
 ghost use Rattle.ssim_text.specs.Values.{no_originator};
-ghost use Rattle.ssim_held.specs.Opening.{IsOf, first_line};
+ghost use Rattle.ssim_held.specs.internal.DeskFileReader.{IsOf, first_line};
 ghost use Rattle.ssim_held.specs.declared.desk_file_reader.version.FileVersion.{FileVersion};
 
 use crate::desk_file_reader::count_line::after_prefix;
@@ -33,7 +33,8 @@ impl FileVersion {
 /// The version that the first line says, and the bytes after the line.
 fn read_version(bytes: &[u8]) -> Option<(FileVersion, &[u8])>
     ensures some { IfSome result (λ read. bytes.now ≡ first_line read.0 ++ read.1.now) }
-    ensures none { IfNone result ((version : FileVersion) (rest : List ℕ) → bytes.now ≡ first_line version ++ rest → ⊥) }
+    ensures none { IfNone result
+        ((version : FileVersion) (rest : List ℕ) → bytes.now ≡ first_line version ++ rest → ⊥) }
 {
     if let Some(rest) = after_prefix(b"SSIMDESK 2\n", bytes) {
         return Some((FileVersion::Two, rest));
@@ -45,7 +46,8 @@ fn read_version(bytes: &[u8]) -> Option<(FileVersion, &[u8])>
 /// The version that the next 11 bytes say.
 pub(crate) fn take_version(parts: &mut Parts) -> Option<FileVersion>
     ensures some { IfSome result (λ version. parts.old ≡ first_line version ++ parts.new) }
-    ensures none { IfNone result ((version : FileVersion) (rest : List ℕ) → parts.old ≡ first_line version ++ rest → ⊥) }
+    ensures none { IfNone result
+        ((version : FileVersion) (rest : List ℕ) → parts.old ≡ first_line version ++ rest → ⊥) }
 {
     let mut line = [0; 11];
     if !parts.fill(&mut line) {

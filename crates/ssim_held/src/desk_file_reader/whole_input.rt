@@ -16,14 +16,19 @@ const CHUNK: usize = 16384;
 /// Fetches at most `most` bytes more. Returns their number, 0 at the end.
 fn fetch_more<R: Source>(reader: &mut R, bytes: &mut Vec<u8>, most: u64) -> Result<usize, DeskFault>
     requires { 0 < most }
-    ensures ok { IfOk result (λ n. (n ≤ most) × (length bytes.new.items ≡ length bytes.old.items + n)) }
-    ensures ahead { OnOk result (SameAhead bytes.old.items (R.left reader.old) bytes.new.items (R.left reader.new)) }
+    ensures ok { IfOk result
+        (λ n. (n ≤ most) × (length bytes.new.items ≡ length bytes.old.items + n)) }
+    ensures ahead { OnOk result
+        (SameAhead bytes.old.items (R.left reader.old) bytes.new.items (R.left reader.new)) }
     ensures end { result ≡ Ok 0 → IsAtEnd (R.left reader.new) }
     ensures none { result ≡ Ok 0 → bytes.new.items ≡ bytes.old.items }
-    ensures count { IfOk result (λ n. CountsOn (R.left reader.old) (R.left reader.new) (R.came reader.old) (R.came reader.new) 0 n) }
+    ensures count { IfOk result (λ n. CountsOn (R.left reader.old) (R.left reader.new)
+        (R.came reader.old) (R.came reader.new) 0 n) }
     ensures no_failure { IfOk result (λ _. R.failures reader.new ≡ R.failures reader.old) }
-    ensures failure { IfErr result (λ e. FailsAs (R.failures reader.old) (R.failures reader.new) e) }
-    ensures fault { IfErr result (λ e. (e ≡ DeskFault.Memory) ⊎ (e ≡ DeskFault.Read (RecordFault.ReadFault 0))) }
+    ensures failure { IfErr result
+        (λ e. FailsAs (R.failures reader.old) (R.failures reader.new) e) }
+    ensures fault { IfErr result
+        (λ e. (e ≡ DeskFault.Memory) ⊎ (e ≡ DeskFault.Read (RecordFault.ReadFault 0))) }
 {
     let mut chunk = [0; CHUNK];
     let room = most.min(CHUNK as u64) as usize;
@@ -48,8 +53,10 @@ pub(crate) fn read_whole<R: Source>(
     ensures within { IfOk result (λ bytes. length bytes.items ≤ limit) }
     ensures all { IfOk result (λ bytes. IfSome (R.left reader.old) (λ all. bytes.items ≡ all)) }
     ensures no_failure { IfOk result (λ _. R.failures reader.new ≡ R.failures reader.old) }
-    ensures failure { IfErr result (λ e. FailsAs (R.failures reader.old) (R.failures reader.new) e) }
-    ensures never_ends { IfErr result (λ e. NeverEnds limit (Came (R.left reader.old) (R.left reader.new) (R.came reader.old) (R.came reader.new)) e) }
+    ensures failure { IfErr result
+        (λ e. FailsAs (R.failures reader.old) (R.failures reader.new) e) }
+    ensures never_ends { IfErr result (λ e. NeverEnds limit
+        (Came (R.left reader.old) (R.left reader.new) (R.came reader.old) (R.came reader.new)) e) }
     ensures refused { IfErr result (RefusesFile limit (R.left reader.old)) }
 {
     let mut bytes = Vec::new(alloc);

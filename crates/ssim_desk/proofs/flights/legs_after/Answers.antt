@@ -35,4 +35,4 @@ returns c =
     ∙ ap (λ (days : List Legs). slice_index_or days c.args.day []) (acted.1 g exists)
     ∙ at-each_day (acted.0 g) c.args.day (rw day_count-is within)
     ∙ ap (λ (legs : ℕ → Legs). legs c.args.day) (acted.2 ∙ entries_agree base.rows messages one (itinerary base.records) g (among_is (g ∷ []) base.records g (is_among_one g))) in
-    if_ok c.copies.result (λ copies same. same ∙ legs) c.copies.ensures
+    if_ok c.copy_legs.result (λ copies same. same ∙ legs) c.copy_legs.ensures

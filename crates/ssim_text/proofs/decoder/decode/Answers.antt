@@ -8,7 +8,8 @@ use Rattle.ssim_text.specs.Message.{MessageValue}
 use Rattle.ssim_text.specs.Left.{lines_left, numbers, place_number, first_unprintable}
 use Rattle.ssim_text.specs.Canonical.{canonical}
 use Rattle.ssim_text.specs.Spelling.{SpellsMessage}
-use Rattle.ssim_text.specs.Decoder.{IsFaultAt, IsReadable, IsRefusal, IsTooManyAtOne, NoMessage}
+use Rattle.ssim_text.specs.Decoder.{IsFaultAt, IsReadable, IsRefusal, NoMessage}
+use Rattle.ssim_text.specs.internal.Decoder.{IsTooManyAtOne}
 use Rattle.ssim_text.proofs.DecodeLemmas.{ok_then, err_then, lines_of_text, message_found, message_only, too_long_none, too_long_place, misplaced_none, misplaced_place}
 use Rattle.ssim_text.proofs.ReadsBack.{canonical_reads_back}
 use Rattle.ssim_text.proofs.decoder.decode.Goals as goal

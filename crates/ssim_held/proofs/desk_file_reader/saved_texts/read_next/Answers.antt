@@ -2,7 +2,7 @@
 use Rattle.std.proofs.Common.{◌≡◌, ◌++◌, ◌∷◌, [], true, false, sym, subst, ◌∙◌}
 use Rattle.std.specs.Prelude.{IfSome, Option}
 use Rattle.ssim_held.specs.Entries.{AreRising, Entry}
-use Rattle.ssim_held.specs.Opening.{IsOf, IsTextOf}
+use Rattle.ssim_held.specs.internal.DeskFileReader.{IsOf, IsTextOf}
 use Rattle.ssim_held.proofs.SavedTexts.{same_text}
 use Rattle.ssim_held.proofs.desk_file_reader.saved_texts.read_next.Goals as goal
 use Rattle.ssim_held.proofs.desk_file_reader.saved_texts.read_next.Goals.{else-follows-via-then-follows+else-allows, else-follows-via-else-follows}

@@ -3,7 +3,7 @@ use Rattle.std.proofs.Common.{◌++◌, length, arith, subst}
 use Rattle.std.specs.Prelude.{IfNone, Option}
 use Rattle.ssim_text.specs.Canonical.{canonical}
 use Rattle.ssim_held.specs.Entries.{Entry}
-use Rattle.ssim_held.specs.Opening.{IsNextText, IsTextOf}
+use Rattle.ssim_held.specs.internal.DeskFileReader.{IsNextText, IsTextOf}
 use Rattle.ssim_held.proofs.SavedTexts.{element_parts, short_text}
 use Rattle.ssim_held.proofs.desk_file_reader.saved_texts.read_text.Goals as goal
 

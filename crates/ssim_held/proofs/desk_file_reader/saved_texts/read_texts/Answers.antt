@@ -3,7 +3,7 @@ use Rattle.std.proofs.Common.{rules, ◌≡◌, ◌++◌, ◌∷◌, [], ◌<◌
 use Rattle.std.specs.List.{flat_map}
 use Rattle.ssim_held.specs.File.{text_element, texts_part}
 use Rattle.ssim_held.specs.Entries.{Entry}
-use Rattle.ssim_held.specs.Opening.{AreHeld, IsNextText}
+use Rattle.ssim_held.specs.internal.DeskFileReader.{AreHeld, IsNextText}
 use Rattle.ssim_held.proofs.PartFaults.{handed_on}
 use Rattle.ssim_held.proofs.SavedParts.{Goes, all_read, are_held, goes_more, next_of, not_all, texts_found, texts_split}
 use Rattle.ssim_held.proofs.desk_file_reader.saved_texts.read_texts.Goals as goal

@@ -1,7 +1,7 @@
 -- The numbers 1 and 2 in decimal are computed.
 use Rattle.std.proofs.Common.{◌≡◌, List, ℕ, ◌++◌}
 use Rattle.std.specs.Fmt.{digits}
-use Rattle.ssim_held.specs.Opening.{first_line}
+use Rattle.ssim_held.specs.internal.DeskFileReader.{first_line}
 use Rattle.ssim_held.specs.declared.desk_file_reader.version.FileVersion.{FileVersion}
 use Rattle.ssim_held.specs.declared.desk_file_reader.version.FileVersion.TheVariants.{One, Two}
 use Rattle.ssim_held.proofs.PartFaults.{none_is}

@@ -2,7 +2,7 @@
 use Rattle.std.proofs.Common.{◌≡◌, ◌++◌, ◌≤◌, List, [], ◌∷◌, ℕ, length, take, true, false, refl, sym, ap, ◌∙◌, arith, length-append}
 use Rattle.std.specs.Fmt.{digits}
 use Rattle.std.proofs.lemmas.List.{append-nil, take_at}
-use Rattle.ssim_held.specs.Opening.{first_line}
+use Rattle.ssim_held.specs.internal.DeskFileReader.{first_line}
 use Rattle.ssim_held.specs.declared.desk_file_reader.version.FileVersion.{FileVersion}
 use Rattle.ssim_held.specs.declared.desk_file_reader.version.FileVersion.TheVariants.{One, Two}
 use Rattle.ssim_held.proofs.desk_file_reader.version.take_version.Goals as goal

@@ -13,7 +13,7 @@ returns-then-has_room_for-clause-cuts g c =
 pub returns-in_ok-counts-in-Apart-clause-cuts : goal.returns-in_ok-counts-in-Apart-clause-cuts
 returns-in_ok-counts-in-Apart-clause-cuts g c cut h =
     elim (c.in_ok-counts-in-Apart.ensures.cuts cut h) [
-      | inl k ↦ inl (subst (λ s. Contains s.cuts cut) (ap seen (sym c.in-Apart.is) ∙ c.self.view_is) (c.in_ok-rows-in-Apart.ensures.cuts cut k))
+      | inl k ↦ inl (subst (λ s. Contains s.cuts cut) (ap seen (sym c.in-Apart.is) ∙ c.self.view_is) (subst (λ cuts. Contains cuts cut) c.apply_to_equal.ensures.cuts (c.in_ok-rows-in-Apart.ensures.cuts cut k)))
       | inr e ↦ inr e
     ]
 

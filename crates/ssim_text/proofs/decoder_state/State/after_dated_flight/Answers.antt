@@ -2,7 +2,7 @@
 use Rattle.std.proofs.Common.{refl, sym, subst}
 use Rattle.ssim_text.specs.declared.decoder_state.State.{State}
 use Rattle.ssim_text.specs.declared.decoder_state.State.TheVariants.{AtDatedFlight}
-use Rattle.ssim_text.specs.Machine.{Takes}
+use Rattle.ssim_text.specs.internal.DecoderState.{Takes}
 use Rattle.ssim_text.proofs.Arms.{take_dated_flight, no_dated_flight}
 use Rattle.ssim_text.proofs.decoder_state.State.after_dated_flight.Goals as goal
 

@@ -5,7 +5,7 @@ use Rattle.ssim_text.proofs.decoder_state.State.after_divider.Goals as goal
 
 pub returns-then-sub_count-lt250-clause-ok : goal.returns-then-sub_count-lt250-clause-ok
 returns-then-sub_count-lt250-clause-ok c =
-    rw c.flight_wanted.ensures (take_next c.args.message c.in-Some.action c.args.line.now c.in-Some.ensures.some (omega (arith, c.sub_count.ensures, c.if-sub_count-lt250.true)))
+    rw c.flight_expected.ensures (take_next c.args.message c.in-Some.action c.args.line.now c.in-Some.ensures.some (omega (arith, c.sub_count.ensures, c.if-sub_count-lt250.true)))
 
 pub returns-in_ok-longer-in-None-clause-ok : goal.returns-in_ok-longer-in-None-clause-ok
 returns-in_ok-longer-in-None-clause-ok c =

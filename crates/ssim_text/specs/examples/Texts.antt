@@ -33,7 +33,14 @@ pub record IsWorked (m : MessageValue) (lines : List (List ℕ)) : Type 0 where
 
 -- a reference with message serial 1 that ends its group
 abbrev pub reference : ℕ → ℕ → ℕ → GivenReference
-reference day month group = record { date = record { month = month; day = day }; group = group; code = End; serial = 1; creator = None }
+reference day month group =
+    record {
+      date = record { month = month; day = day };
+      group = group;
+      code = End;
+      serial = 1;
+      creator = None;
+    }
 
 -- a designator of the airline LX
 abbrev pub swiss : ℕ → Designator
@@ -68,7 +75,13 @@ one_sub originator kind reference designator dates action = record {
 
 -- equipment with service type J
 abbrev pub equipment : ℕ → ℕ → ℕ → List ℕ → List ℕ → EquipmentValue
-equipment a b c designators configuration = record { service = 74; aircraft = a ∷ b ∷ c ∷ []; designators = designators; configuration = configuration }
+equipment a b c designators configuration =
+    record {
+      service = 74;
+      aircraft = a ∷ b ∷ c ∷ [];
+      designators = designators;
+      configuration = configuration;
+    }
 
 -- a leg line without date variations and without passenger times of its own
 abbrev pub leg : List ℕ → ℕ → List ℕ → ℕ → LegLine
@@ -81,44 +94,57 @@ leg from departs to arrives = record {
 
 -- one Tuesday is cancelled
 abbrev pub week_cancelled : MessageValue
-week_cancelled = one_sub no_originator Ssm (reference 1 6 1) (swiss 544) (on_days (Full 9313) (Full 9319) tuesdays) action.Cnl
+week_cancelled = one_sub no_originator Ssm (reference 1 6 1) (swiss 544)
+    (on_days (Full 9313) (Full 9319) tuesdays) action.Cnl
 
 -- the lines of `week_cancelled`
 abbrev pub week_cancelled_lines : List (List ℕ)
-week_cancelled_lines = codes "SSM" ∷ codes "UTC" ∷ codes "01JUN00001E001" ∷ codes "CNL" ∷ codes "LX544" ∷ codes "01JUL25 07JUL25 2" ∷ []
+week_cancelled_lines = codes "SSM" ∷ codes "UTC" ∷ codes "01JUN00001E001" ∷ codes "CNL" ∷ codes "LX544"
+    ∷ codes "01JUL25 07JUL25 2" ∷ []
 
 -- all Wednesdays of a season are cancelled
 abbrev pub season_cancelled : MessageValue
-season_cancelled = one_sub no_originator Ssm (reference 1 6 2) (swiss 544) (on_days (Full 9220) (Full 9429) wednesdays) action.Cnl
+season_cancelled = one_sub no_originator Ssm (reference 1 6 2) (swiss 544)
+    (on_days (Full 9220) (Full 9429) wednesdays) action.Cnl
 
 -- the lines of `season_cancelled`
 abbrev pub season_cancelled_lines : List (List ℕ)
-season_cancelled_lines = codes "SSM" ∷ codes "UTC" ∷ codes "01JUN00002E001" ∷ codes "CNL" ∷ codes "LX544" ∷ codes "30MAR25 25OCT25 3" ∷ []
+season_cancelled_lines = codes "SSM" ∷ codes "UTC" ∷ codes "01JUN00002E001" ∷ codes "CNL" ∷ codes "LX544"
+    ∷ codes "30MAR25 25OCT25 3" ∷ []
 
 -- the Mondays of a month have other times
 abbrev pub retimed : MessageValue
-retimed = one_sub no_originator Ssm (reference 1 6 3) (swiss 544) (on_days (Full 9313) (Full 9343) mondays) (action.Tim (leg (codes "ZRH") 360 (codes "LHR") 435 ∷ []))
+retimed = one_sub no_originator Ssm (reference 1 6 3) (swiss 544) (on_days (Full 9313) (Full 9343) mondays)
+    (action.Tim (leg (codes "ZRH") 360 (codes "LHR") 435 ∷ []))
 
 -- the lines of `retimed`
 abbrev pub retimed_lines : List (List ℕ)
-retimed_lines = codes "SSM" ∷ codes "UTC" ∷ codes "01JUN00003E001" ∷ codes "TIM" ∷ codes "LX544" ∷ codes "01JUL25 31JUL25 1" ∷ codes "ZRH0600 LHR0715" ∷ []
+retimed_lines = codes "SSM" ∷ codes "UTC" ∷ codes "01JUN00003E001" ∷ codes "TIM" ∷ codes "LX544"
+    ∷ codes "01JUL25 31JUL25 1" ∷ codes "ZRH0600 LHR0715" ∷ []
 
 -- one date is operated again
 abbrev pub put_back : MessageValue
 put_back = one_sub no_originator Ssm (reference 1 6 5) (swiss 544) (on_days (Full 9313) (Full 9313) tuesdays)
-    (action.New (record { equipment = equipment 51 50 48 (codes "CY") (codes "C12Y138"); legs = leg (codes "ZRH") 345 (codes "LHR") 420 ∷ []; segments = [] }))
+    (action.New (record {
+      equipment = equipment 51 50 48 (codes "CY") (codes "C12Y138");
+      legs = leg (codes "ZRH") 345 (codes "LHR") 420 ∷ [];
+      segments = [];
+    }))
 
 -- the lines of `put_back`
 abbrev pub put_back_lines : List (List ℕ)
-put_back_lines = codes "SSM" ∷ codes "UTC" ∷ codes "01JUN00005E001" ∷ codes "NEW" ∷ codes "LX544" ∷ codes "01JUL25 01JUL25 2" ∷ codes "J 320 CY.C12Y138" ∷ codes "ZRH0545 LHR0700" ∷ []
+put_back_lines = codes "SSM" ∷ codes "UTC" ∷ codes "01JUN00005E001" ∷ codes "NEW" ∷ codes "LX544"
+    ∷ codes "01JUL25 01JUL25 2" ∷ codes "J 320 CY.C12Y138" ∷ codes "ZRH0545 LHR0700" ∷ []
 
 -- one date has other equipment
 abbrev pub other_equipment : MessageValue
-other_equipment = one_sub no_originator Ssm (reference 1 1 1) (swiss 544) (on_days (Full 9501) (Full 9501) mondays) (action.Eqt (equipment 51 49 57 (codes "CY") []))
+other_equipment = one_sub no_originator Ssm (reference 1 1 1) (swiss 544)
+    (on_days (Full 9501) (Full 9501) mondays) (action.Eqt (equipment 51 49 57 (codes "CY") []))
 
 -- the lines of `other_equipment`
 abbrev pub other_equipment_lines : List (List ℕ)
-other_equipment_lines = codes "SSM" ∷ codes "UTC" ∷ codes "01JAN00001E001" ∷ codes "EQT" ∷ codes "LX544" ∷ codes "05JAN26 05JAN26 1" ∷ codes "J 319 CY" ∷ []
+other_equipment_lines = codes "SSM" ∷ codes "UTC" ∷ codes "01JAN00001E001" ∷ codes "EQT" ∷ codes "LX544"
+    ∷ codes "05JAN26 05JAN26 1" ∷ codes "J 319 CY" ∷ []
 
 -- 29 February without a year
 abbrev pub leap_day : GivenDate
@@ -126,20 +152,28 @@ leap_day = Yearless (record { month = 2; day = 29 })
 
 -- one leap day is cancelled
 abbrev pub leap_day_cancelled : MessageValue
-leap_day_cancelled = one_sub no_originator Ssm (reference 1 11 1) (swiss 544) (on_days leap_day leap_day tuesdays) action.Cnl
+leap_day_cancelled =
+    one_sub no_originator Ssm (reference 1 11 1) (swiss 544) (on_days leap_day leap_day tuesdays) action.Cnl
 
 -- the lines of `leap_day_cancelled`
 abbrev pub leap_day_cancelled_lines : List (List ℕ)
-leap_day_cancelled_lines = codes "SSM" ∷ codes "UTC" ∷ codes "01NOV00001E001" ∷ codes "CNL" ∷ codes "LX544" ∷ codes "29FEB 29FEB 2" ∷ []
+leap_day_cancelled_lines = codes "SSM" ∷ codes "UTC" ∷ codes "01NOV00001E001" ∷ codes "CNL" ∷ codes "LX544"
+    ∷ codes "29FEB 29FEB 2" ∷ []
 
 -- an ASM for one date
 abbrev pub one_date : MessageValue
-one_date = one_sub no_originator Asm (reference 1 6 2) (swiss 544) (Date (Yearless (record { month = 7; day = 1 })))
-    (action.New (record { equipment = equipment 51 50 48 (codes "CY") []; legs = leg (codes "ZRH") 345 (codes "LHR") 420 ∷ []; segments = [] }))
+one_date =
+    one_sub no_originator Asm (reference 1 6 2) (swiss 544) (Date (Yearless (record { month = 7; day = 1 })))
+    (action.New (record {
+      equipment = equipment 51 50 48 (codes "CY") [];
+      legs = leg (codes "ZRH") 345 (codes "LHR") 420 ∷ [];
+      segments = [];
+    }))
 
 -- the lines of `one_date`
 abbrev pub one_date_lines : List (List ℕ)
-one_date_lines = codes "ASM" ∷ codes "UTC" ∷ codes "01JUN00002E001" ∷ codes "NEW" ∷ codes "LX544/01JUL" ∷ codes "J 320 CY" ∷ codes "ZRH0545 LHR0700" ∷ []
+one_date_lines = codes "ASM" ∷ codes "UTC" ∷ codes "01JUN00002E001" ∷ codes "NEW" ∷ codes "LX544/01JUL"
+    ∷ codes "J 320 CY" ∷ codes "ZRH0545 LHR0700" ∷ []
 
 -- an ASM in local time with a creator reference, a passenger time and free text
 abbrev pub every_part : MessageValue
@@ -147,7 +181,13 @@ every_part = record {
   originator = no_originator;
   kind = Asm;
   mode = Local;
-  reference = record { date = record { month = 5; day = 23 }; group = 144; code = End; serial = 3; creator = Some (codes "REF 123") };
+  reference = record {
+    date = record { month = 5; day = 23 };
+    group = 144;
+    code = End;
+    serial = 3;
+    creator = Some (codes "REF 123");
+  };
   subs = record {
     designator = record { airline = codes "SWR"; flight = record { number = 7; suffix = 65 } };
     dates = Date (Yearless (record { month = 7; day = 1 }));
@@ -168,20 +208,24 @@ every_part = record {
 -- the lines of `every_part`
 abbrev pub every_part_lines : List (List ℕ)
 every_part_lines =
-    codes "ASM" ∷ codes "LT" ∷ codes "23MAY00144E003/REF 123" ∷ codes "RPL" ∷ codes "SWR007A/01JUL" ∷ codes "J 320 .C12Y138" ∷ codes "ZRH2350 LHR0020/1/0025"
+    codes "ASM" ∷ codes "LT" ∷ codes "23MAY00144E003/REF 123" ∷ codes "RPL" ∷ codes "SWR007A/01JUL"
+    ∷ codes "J 320 .C12Y138" ∷ codes "ZRH2350 LHR0020/1/0025"
     ∷ codes "//" ∷ codes "SI FREE TEXT" ∷ []
 
 -- a message with an originator
 abbrev pub originated : MessageValue
-originated = one_sub (codes "AAAAAAA") Ssm (reference 1 6 1) (swiss 544) (on_days (Full 9313) (Full 9313) tuesdays) (action.Eqt (equipment 51 49 57 (codes "CY") []))
+originated = one_sub (codes "AAAAAAA") Ssm (reference 1 6 1) (swiss 544)
+    (on_days (Full 9313) (Full 9313) tuesdays) (action.Eqt (equipment 51 49 57 (codes "CY") []))
 
 -- the lines of `originated`
 abbrev pub originated_lines : List (List ℕ)
-originated_lines = codes ".AAAAAAA" ∷ codes "SSM" ∷ codes "UTC" ∷ codes "01JUN00001E001" ∷ codes "EQT" ∷ codes "LX544" ∷ codes "01JUL25 01JUL25 2" ∷ codes "J 319 CY" ∷ []
+originated_lines = codes ".AAAAAAA" ∷ codes "SSM" ∷ codes "UTC" ∷ codes "01JUN00001E001" ∷ codes "EQT"
+    ∷ codes "LX544" ∷ codes "01JUL25 01JUL25 2" ∷ codes "J 319 CY" ∷ []
 
 -- a message with segment lines
 abbrev pub with_segments : MessageValue
-with_segments = one_sub no_originator Ssm (reference 1 6 10) (swiss 700) (on_days (Full 9313) (Full 9313) tuesdays)
+with_segments =
+    one_sub no_originator Ssm (reference 1 6 10) (swiss 700) (on_days (Full 9313) (Full 9313) tuesdays)
     (action.New (record {
       equipment = equipment 51 50 48 (codes "CY") [];
       legs = leg (codes "ZRH") 345 (codes "LHR") 420 ∷ leg (codes "LHR") 480 (codes "ZRH") 645 ∷ [];
@@ -195,8 +239,10 @@ with_segments = one_sub no_originator Ssm (reference 1 6 10) (swiss 700) (on_day
 -- the lines of `with_segments`
 abbrev pub with_segments_lines : List (List ℕ)
 with_segments_lines =
-    codes "SSM" ∷ codes "UTC" ∷ codes "01JUN00010E001" ∷ codes "NEW" ∷ codes "LX700" ∷ codes "01JUL25 01JUL25 2" ∷ codes "J 320 CY"
-    ∷ codes "ZRH0545 LHR0700" ∷ codes "LHR0800 ZRH1045" ∷ codes "ZRHLHR 99/VIA TERMINAL 2" ∷ codes "LHRZRH 10/LX" ∷ codes "ZRHZRH 109/M" ∷ []
+    codes "SSM" ∷ codes "UTC" ∷ codes "01JUN00010E001" ∷ codes "NEW" ∷ codes "LX700"
+    ∷ codes "01JUL25 01JUL25 2" ∷ codes "J 320 CY"
+    ∷ codes "ZRH0545 LHR0700" ∷ codes "LHR0800 ZRH1045" ∷ codes "ZRHLHR 99/VIA TERMINAL 2"
+    ∷ codes "LHRZRH 10/LX" ∷ codes "ZRHZRH 109/M" ∷ []
 
 -- the lines of each example spell its message
 pub record WorkedTexts : Type 0 where
