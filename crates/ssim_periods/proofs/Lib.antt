@@ -21,5 +21,6 @@ pub mod TrimLemmas
 pub mod ListPieces
 pub mod SeparateLemmas
 pub mod FrontLemmas
+pub mod DoneLemmas
 pub mod MarkLemmas
 pub mod CommonDayLemmas

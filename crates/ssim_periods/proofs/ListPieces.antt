@@ -1,10 +1,12 @@
 -- The pieces of periods without a common day: the days of each value are the days of its periods,
 -- and each value comes last once.
-use Rattle.std.proofs.Common.{◌≡◌, ◌≢◌, ℕ, zero, suc, ◌+◌, ◌-◌, ◌<◌, ◌≤◌, ◌||◌, Bool, true, false, if◌then◌else◌, nat_eq, List, [], ◌∷◌, ◌++◌, length, filter, map, take, drop, slice_index_or, refl, ap, subst, sym, ◌∙◌, arith, ◌⊎◌, inl, inr, IsTrue, ◌↔◌, append-nil, append_assoc, length-drop}
+use Rattle.std.proofs.Common.{◌≡◌, ◌≢◌, ℕ, zero, suc, ◌+◌, ◌-◌, ◌<◌, ◌≤◌, ◌||◌, Bool, true, false, if◌then◌else◌, nat_eq, List, [], ◌∷◌, ◌++◌, length, filter, map, take, drop, slice_index_or, refl, ap, subst, sym, ◌∙◌, arith, ◌⊎◌, inl, inr, IsTrue, ◌↔◌, append-nil, length-drop}
 use Rattle.std.specs.List.{All, flat_map, list_any}
 use Rattle.std.specs.List.Sorted.{IsPermutation, IsNonDecreasingBy}
 use Rattle.std.proofs.Math.Path.{fun_ext}
 use Rattle.std.proofs.lemmas.List.{drop_more, take_more, take-append-drop}
+use Rattle.std.proofs.lemmas.Grind.{flat_map-append}
+use Rattle.std.proofs.lemmas.List.Elements.{filter-append}
 use Rattle.std.proofs.lemmas.List.Folds.{list_any-append}
 use Rattle.ssim_values.specs.Period.{DayRange}
 use Rattle.ssim_periods.specs.internal.Apart.{value_in, given_on, given_cover, held_cover, is_held, mark_on, last_values, AreApart}
@@ -17,7 +19,7 @@ use Rattle.ssim_periods.proofs.CoverLemmas.{le_or_lt}
 use Rattle.ssim_periods.proofs.DayLemmas.{day_count-is, length-each_day, index-each_day, holds-Holds}
 use Rattle.ssim_periods.proofs.PieceLaw.{alike-self, alike-turned, has_value-at, has_value-past, held_on-append}
 use Rattle.ssim_periods.proofs.PieceOrder.{In}
-use Rattle.ssim_periods.proofs.PiecesFound.{pieces-once}
+use Rattle.ssim_periods.proofs.PiecesFound.{in-append, pieces-once}
 
 known : (b : Bool) → (b ≡ true) ⊎ (b ≡ false)
 known true = inl refl
@@ -102,16 +104,16 @@ last-once {V} alike exact w (y ∷ xs) = by (list_any (λ (z : DayRange × V). a
     of : Bool → List V
     of = λ b. if b then w ∷ [] else []
 
-    by : (b : Bool) → among y.1 ≡ b → (alike w y.1 ≡ true) ⊎ (alike w y.1 ≡ false) → filter (λ v. alike v w) (last_values alike xs) ≡ of (among w) → filter (λ v. alike v w) (if b then last_values alike xs else y.1 ∷ last_values alike xs) ≡ of (alike w y.1 || among w)
+    by : (b : Bool) → among y.1 ≡ b → (alike w y.1 ≡ true) ⊎ (alike w y.1 ≡ false) → filter (λ v. alike v w) (last_values alike xs) ≡ of (among w) → filter (λ v. alike v w) (if b then last_values alike xs else last_values alike xs ++ y.1 ∷ []) ≡ of (alike w y.1 || among w)
     by true e (inl on) so = so ∙ ap of (ap among ((exact w y.1).0 on) ∙ e) ∙ sym (ap (λ b. of (b || among w)) on)
     by true e (inr off) so = so ∙ sym (ap (λ b. of (b || among w)) off)
     by false e (inl on) so =
-        let same : w ≡ y.1 = (exact w y.1).0 on in let rest = filter (λ v. alike v w) (last_values alike xs) in
-        ap (λ b. if b then y.1 ∷ rest else rest) ((exact y.1 w).1 (sym same))
-        ∙ ap (λ vs. y.1 ∷ vs) (so ∙ ap of (ap among same ∙ e)) ∙ ap (λ v. v ∷ []) (sym same) ∙ sym (ap (λ b. of (b || among w)) on)
+        let same : w ≡ y.1 = (exact w y.1).0 on in
+        filter-append (λ v. alike v w) (last_values alike xs) (y.1 ∷ []) ∙ ap (λ l. l ++ filter (λ v. alike v w) (y.1 ∷ [])) (so ∙ ap of (ap among same ∙ e))
+        ∙ ap (λ b. if b then y.1 ∷ [] else []) ((exact y.1 w).1 (sym same)) ∙ ap (λ v. v ∷ []) (sym same) ∙ sym (ap (λ b. of (b || among w)) on)
     by false e (inr off) so =
-        let rest = filter (λ v. alike v w) (last_values alike xs) in
-        ap (λ b. if b then y.1 ∷ rest else rest) (alike-turned alike exact y.1 w ∙ off) ∙ so ∙ sym (ap (λ b. of (b || among w)) off)
+        filter-append (λ v. alike v w) (last_values alike xs) (y.1 ∷ []) ∙ ap (λ b. filter (λ v. alike v w) (last_values alike xs) ++ (if b then y.1 ∷ [] else [])) (alike-turned alike exact y.1 w ∙ off)
+        ∙ append-nil (filter (λ v. alike v w) (last_values alike xs)) ∙ so ∙ sym (ap (λ b. of (b || among w)) off)
 
 -- the empty value is not among the last values
 none-empty : {V : Type 0} (alike : V → V → Bool) (nothing : V) → ((x y : V) → IsTrue (alike x y) ↔ (x ≡ y)) → (xs : List (DayRange × V)) → All (λ (given : DayRange × V). given.1 ≢ nothing) xs → list_any (λ (y : DayRange × V). alike nothing y.1) xs ≡ false
@@ -129,10 +131,9 @@ last-given : {V : Type 0} (alike : V → V → Bool) (nothing : V) (xs : List (D
 last-given alike nothing [] v all i = absurd i
 last-given {V} alike nothing (y ∷ xs) v all i = by (list_any (λ (z : DayRange × V). alike y.1 z.1) xs) (last-given alike nothing xs v (λ k d l. all (suc k) d (omega arith))) i
   where
-    by : (b : Bool) → (In v (last_values alike xs) → v ≢ nothing) → In v (if b then last_values alike xs else y.1 ∷ last_values alike xs) → v ≢ nothing
+    by : (b : Bool) → (In v (last_values alike xs) → v ≢ nothing) → In v (if b then last_values alike xs else last_values alike xs ++ y.1 ∷ []) → v ≢ nothing
     by true so j = so j
-    by false so (inl e) = subst (λ w. w ≢ nothing) (sym e) (all 0 y (omega arith))
-    by false so (inr j) = so j
+    by false so j = elim (in-append v (last_values alike xs) (y.1 ∷ []) j) [ inl earlier ↦ so earlier | inr own ↦ elim own [ inl e ↦ subst (λ w. w ≢ nothing) (sym e) (all 0 y (omega arith)) | inr none ↦ absurd none ] ]
 
 -- each day has its value once
 once-each : {V : Type 0} (alike : V → V → Bool) (nothing : V) → ((x y : V) → IsTrue (alike x y) ↔ (x ≡ y)) → (xs : List (DayRange × V)) (cuts : List ℕ) (n : ℕ) → AreApart nothing xs cuts → filter (λ v. alike v (value_in nothing xs n)) (last_values alike xs) ≡ alone alike nothing (value_in nothing xs n)
@@ -257,12 +258,12 @@ later-whole xs k = take-whole (length xs - k) (drop k xs) (simp length-drop (ome
 pub values-later : {V : Type 0} (alike : V → V → Bool) (xs : List (DayRange × V)) (i : ℕ) (x : DayRange × V) → i < length xs → x ≡ slice_index_or xs i x → list_any (λ (y : DayRange × V). alike x.1 y.1) (drop (i + 1) xs) ≡ true → last_values alike (drop i xs) ≡ last_values alike (drop (i + 1) xs)
 values-later alike xs i x lt is some =
     ap (last_values alike) (drop_more xs i x lt ∙ ap (λ y. y ∷ drop (i + 1) xs) (sym is))
-    ∙ ap (λ b. if b then last_values alike (drop (i + 1) xs) else x.1 ∷ last_values alike (drop (i + 1) xs)) some
+    ∙ ap (λ b. if b then last_values alike (drop (i + 1) xs) else last_values alike (drop (i + 1) xs) ++ x.1 ∷ []) some
 
-values-own : {V : Type 0} (alike : V → V → Bool) (xs : List (DayRange × V)) (i : ℕ) (x : DayRange × V) → i < length xs → x ≡ slice_index_or xs i x → list_any (λ (y : DayRange × V). alike x.1 y.1) (drop (i + 1) xs) ≡ false → last_values alike (drop i xs) ≡ x.1 ∷ last_values alike (drop (i + 1) xs)
+values-own : {V : Type 0} (alike : V → V → Bool) (xs : List (DayRange × V)) (i : ℕ) (x : DayRange × V) → i < length xs → x ≡ slice_index_or xs i x → list_any (λ (y : DayRange × V). alike x.1 y.1) (drop (i + 1) xs) ≡ false → last_values alike (drop i xs) ≡ last_values alike (drop (i + 1) xs) ++ x.1 ∷ []
 values-own alike xs i x lt is none =
     ap (last_values alike) (drop_more xs i x lt ∙ ap (λ y. y ∷ drop (i + 1) xs) (sym is))
-    ∙ ap (λ b. if b then last_values alike (drop (i + 1) xs) else x.1 ∷ last_values alike (drop (i + 1) xs)) none
+    ∙ ap (λ b. if b then last_values alike (drop (i + 1) xs) else last_values alike (drop (i + 1) xs) ++ x.1 ∷ []) none
 
 -- the days of a value that no later period has
 cover-last : {V : Type 0} (alike : V → V → Bool) (xs : List (DayRange × V)) (i : ℕ) (x : DayRange × V) → i < length xs → x ≡ slice_index_or xs i x → list_any (λ (y : DayRange × V). alike x.1 y.1) (drop (i + 1) xs) ≡ false → given_cover alike (take i xs ++ x ∷ []) x.1 ≡ given_cover alike xs x.1
@@ -278,11 +279,11 @@ cover-last {V} alike xs i x lt is none = ap (λ is_in. map (λ (period : DayRang
 
 -- what is pushed for a value that no later period has
 pub covers-more : {V : Type 0} (alike : V → V → Bool) (xs : List (DayRange × V)) (i : ℕ) (x : DayRange × V) (pieces more : List (DayRange × V)) → i < length xs → x ≡ slice_index_or xs i x → list_any (λ (y : DayRange × V). alike x.1 y.1) (drop (i + 1) xs) ≡ false → more ≡ pieces ++ given_cover alike (take i xs ++ x ∷ []) x.1
-    → more ++ flat_map (given_cover alike xs) (last_values alike (drop (i + 1) xs)) ≡ pieces ++ flat_map (given_cover alike xs) (last_values alike (drop i xs))
-covers-more alike xs i x pieces more lt is none put =
-    let rest = flat_map (given_cover alike xs) (last_values alike (drop (i + 1) xs)) in
-    ap (λ l. l ++ rest) (put ∙ ap (λ l. pieces ++ l) (cover-last alike xs i x lt is none)) ∙ append_assoc pieces (given_cover alike xs x.1) rest
-    ∙ ap (λ l. pieces ++ l) (sym (ap (flat_map (given_cover alike xs)) (values-own alike xs i x lt is none)))
+    → pieces ≡ flat_map (given_cover alike xs) (last_values alike (drop (i + 1) xs)) → more ≡ flat_map (given_cover alike xs) (last_values alike (drop i xs))
+covers-more alike xs i x pieces more lt is none put was =
+    let f = given_cover alike xs in let values = last_values alike (drop (i + 1) xs) in
+    put ∙ ap (λ l. pieces ++ l) (cover-last alike xs i x lt is none) ∙ ap (λ l. l ++ f x.1) was
+    ∙ sym (flat_map-append f values (x.1 ∷ []) ∙ ap (λ l. flat_map f values ++ l) (append-nil (f x.1))) ∙ sym (ap (flat_map f) (values-own alike xs i x lt is none))
 
 flat-same : {X Y : Type 0} (f g : X → List Y) (xs : List X) → ((x : X) → In x xs → f x ≡ g x) → flat_map f xs ≡ flat_map g xs
 flat-same f g [] h = refl

@@ -96,7 +96,7 @@ in_rows alike nothing exact before cuts rows n r =
     (ap (list_any (alike x)) (sym (row_on-place before cuts rows n before r.row_count))
     ∙ list_any_at (alike x) row (slot n) nothing (rw (row_on-week before cuts rows n r) (slot-lt n)) (alike-self alike exact x))
 
-in-append : {X : Type 0} (x : X) (xs ys : List X) → In x (xs ++ ys) → In x xs ⊎ In x ys
+pub in-append : {X : Type 0} (x : X) (xs ys : List X) → In x (xs ++ ys) → In x xs ⊎ In x ys
 in-append x [] ys i = inr i
 in-append x (y ∷ xs) ys (inl e) = inl (inl e)
 in-append x (y ∷ xs) ys (inr i) = elim (in-append x xs ys i) [ inl j ↦ inl (inr j) | inr j ↦ inr j ]

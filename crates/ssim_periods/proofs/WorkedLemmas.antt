@@ -18,4 +18,7 @@ worked_pieces = record {
   eighth_days = refl;
   in_one = refl;
   numbers = refl;
+  neighbours = refl;
+  lying_apart = refl;
+  last_first = refl;
 }

@@ -233,9 +233,6 @@ impl<V: Value> ApartPeriods<V> {
         ensures each_day { OnOk result (length self.now.days ≡ day_count) }
     {
         let mut pieces = covers(self.alloc, &self.entries)?;
-        // The periods mostly come from the last to the first, and what is in order is sorted
-        // sooner.
-        pieces.reverse();
         pieces.sort_by_key(|piece| piece.0.first().number())?;
         Ok(pieces)
     }

@@ -1,6 +1,7 @@
 //! Lists of periods with values.
-ghost use Rattle.std.specs.Prelude.{◌≡◌, ◌≤◌, ◌++◌, ◌∷◌, ℕ, List, [], true, length, IfOk, IfSome, IsTrue, OnOk};
+ghost use Rattle.std.specs.Prelude.{◌≡◌, ◌≤◌, ◌++◌, ◌∷◌, ℕ, List, [], true, false, ◌||◌, length, slice_get, slice_index_or, Some, IfOk, IfSome, IsTrue, OnOk};
 ghost use Rattle.std.specs.List.{Contains};
+ghost use Rattle.ssim_values.specs.Period.{DayRange};
 ghost use Rattle.ssim_periods.specs.internal.Apart.{given_on, is_held, mark_on, value_in, AreDivided, IsIndexOf};
 ghost use Rattle.ssim_periods.specs.Calendar.{holds};
 ghost use Rattle.ssim_periods.specs.Days.{each_day};
@@ -137,23 +138,33 @@ pub(crate) fn rows_of<V: Value>(
     Ok(rows)
 }
 
-// Makes a list of periods with the days of a value, given the last entry that has it and the earlier
-// ones. The entries are taken from the end, so that most periods lie after those before them.
+// Makes a list of periods with the days of a value, given the last entry that has it and the
+// earlier ones. The entries are taken from the end, so that most periods lie after those before
+// them. Entries that are done have other values. Those that have the value are done afterwards.
 pub(crate) fn take_days_of_value<V: Value>(
     periods: &mut Vec<Period>,
+    done: &mut Vec<bool>,
     earlier: &[(Period, V)],
     entry: &(Period, V),
 ) -> Result<(), Memory>
-    ensures { OnOk result ((n : ℕ) → is_held periods.new.items n ≡ given_on V.alike (earlier.now ++ entry.now ∷ []) entry.now.1 n) }
+    requires size { length earlier.now ≤ length done.old.items }
+    requires others { (i : ℕ) (other : DayRange × V) → slice_get earlier.now i ≡ Some other → slice_index_or done.old.items i false ≡ true → V.alike entry.now.1 other.1 ≡ false }
+    ensures days { OnOk result ((n : ℕ) → is_held periods.new.items n ≡ given_on V.alike (earlier.now ++ entry.now ∷ []) entry.now.1 n) }
+    ensures size { length done.new.items ≡ length done.old.items }
+    ensures done { OnOk result ((i : ℕ) (other : DayRange × V) → slice_get earlier.now i ≡ Some other → slice_index_or done.new.items i false ≡ (slice_index_or done.old.items i false || V.alike entry.now.1 other.1)) }
 {
     periods.clear();
     join(periods, &entry.0)?;
     let mut place = earlier.len();
     while place > 0 {
         place -= 1;
+        if done[place] {
+            continue;
+        }
         let other = &earlier[place];
         if entry.1.same(&other.1) {
             join(periods, &other.0)?;
+            done[place] = true;
         }
     }
     Ok(())

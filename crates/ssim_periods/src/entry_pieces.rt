@@ -1,6 +1,7 @@
 //! The pieces of a list of periods with values.
-ghost use Rattle.std.specs.Prelude.{◌≡◌, ℕ, ◌<◌, ◌≤◌, ◌++◌, ◌∷◌, [], false, IfOk, OnOk};
-ghost use Rattle.std.specs.List.{All, flat_map, list_any};
+ghost use Rattle.std.specs.Prelude.{◌≡◌, ℕ, ◌<◌, ◌≤◌, ◌++◌, ◌∷◌, [], true, false, ◌||◌, length, slice_get, slice_index_or, Some, IfOk, OnOk};
+ghost use Rattle.std.specs.List.{All, flat_map};
+ghost use Rattle.ssim_values.specs.Period.{DayRange};
 ghost use Rattle.ssim_periods.specs.internal.Apart.{given_cover, held_cover, is_held, last_values};
 
 use crate::Value;
@@ -11,14 +12,8 @@ use crate::trim::trimmed;
 use ssim_values::{Memory, Period};
 use std::alloc::Global;
 
-// Whether a value is among those of a list.
-fn has_value<V: Value>(entries: &[(Period, V)], value: &V) -> bool
-    ensures { result ≡ list_any (λ entry. V.alike value.now entry.1) entries.now }
-{
-    entries.iter().any(|entry| value.same(&entry.1))
-}
-
-// The cover of the days of each value, each period with the value.
+// The cover of the days of each value, each period with the value. An entry is done if a later one
+// has its value.
 pub(crate) fn covers<V: Value>(
     alloc: Global,
     entries: &[(Period, V)],
@@ -28,29 +23,38 @@ pub(crate) fn covers<V: Value>(
 {
     let mut pieces = Vec::new(alloc);
     let mut periods = Vec::new(alloc);
-    for place in 0..entries.len() {
-        let entry = &entries[place];
-        if !has_value(&entries[place + 1..], &entry.1) {
-            push_value(alloc, &mut pieces, &mut periods, &entries[..place], entry)?;
+    let mut done = vec![in alloc; false; entries.len()]?;
+    let mut place = entries.len();
+    while place > 0 {
+        place -= 1;
+        if done[place] {
+            continue;
         }
+        let (earlier, entry) = (&entries[..place], &entries[place]);
+        push_value(alloc, &mut pieces, &mut periods, &mut done, earlier, entry)?;
     }
     Ok(pieces)
 }
 
 // Appends the cover of the days of a value, given the last entry that has it and the earlier ones.
-// The list of periods is only there to be used again.
+// The list of periods is only there to be used again. Entries that are done have other values.
 fn push_value<V: Value>(
     alloc: Global,
     pieces: &mut Vec<(Period, V)>,
     periods: &mut Vec<Period>,
+    done: &mut Vec<bool>,
     earlier: &[(Period, V)],
     entry: &(Period, V),
 ) -> Result<(), Memory>
     requires earlier { All (λ other. other.0.last < 36525) earlier.now }
     requires own { entry.now.0.last < 36525 }
-    ensures { OnOk result (pieces.new.items ≡ pieces.old.items ++ given_cover V.alike (earlier.now ++ entry.now ∷ []) entry.now.1) }
+    requires size { length earlier.now ≤ length done.old.items }
+    requires others { (i : ℕ) (other : DayRange × V) → slice_get earlier.now i ≡ Some other → slice_index_or done.old.items i false ≡ true → V.alike entry.now.1 other.1 ≡ false }
+    ensures pieces { OnOk result (pieces.new.items ≡ pieces.old.items ++ given_cover V.alike (earlier.now ++ entry.now ∷ []) entry.now.1) }
+    ensures size { length done.new.items ≡ length done.old.items }
+    ensures done { OnOk result ((i : ℕ) (other : DayRange × V) → slice_get earlier.now i ≡ Some other → slice_index_or done.new.items i false ≡ (slice_index_or done.old.items i false || V.alike entry.now.1 other.1)) }
 {
-    take_days_of_value(periods, earlier, entry)?;
+    take_days_of_value(periods, done, earlier, entry)?;
     periods.sort_by_key(|period| period.first().number())?;
     push_days(alloc, pieces, periods, &entry.1)
 }

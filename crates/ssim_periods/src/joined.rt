@@ -96,7 +96,7 @@ fn of_either(days: &[bool; 7], others: &[bool; 7]) -> [bool; 7]
 }
 
 // Whether the weekdays of either of two periods, from the first day of the one to the last day of
-// both, have no other days than the periods.
+// both, give exactly the days of the periods.
 fn have_days(all: &[bool; 7], one: &Period, other: &Period) -> bool
     requires ordered { one.now.first ≤ other.now.first }
     requires all { (w : ℕ) → slice_index_or all.now w false ≡ (slice_index_or one.now.days w false || slice_index_or other.now.days w false) }
@@ -119,6 +119,9 @@ fn have_days(all: &[bool; 7], one: &Period, other: &Period) -> bool
 fn agree(days: &[bool; 7], others: &[bool; 7], from: u32, to: u32) -> bool
     ensures { IsTrue result → (n : ℕ) → from ≤ n → n < to → slice_index_or days.now (slot n) false ≡ slice_index_or others.now (slot n) false }
 {
+    if to <= from {
+        return true;
+    }
     if *days == *others {
         return true;
     }

@@ -4,6 +4,7 @@ use Rattle.ssim_values.specs.Period.{DayRange}
 use Rattle.ssim_periods.specs.Calendar.{holds}
 use Rattle.ssim_periods.specs.Days.{changed_on, counts_on}
 use Rattle.ssim_periods.specs.Cover.{cover, holding}
+use Rattle.ssim_periods.specs.internal.Apart.{is_held, last_values}
 use Rattle.ssim_periods.specs.internal.Gather.{gathered, numbered}
 use Rattle.ssim_periods.specs.Pieces.{pieces_of, held_on}
 
@@ -90,3 +91,8 @@ pub record WorkedPieces : Type 0 where
   pub in_one : holding (cover with_gap 40) 14 ≡ 1
   -- the distinct values of 0, 7, 9 and 7 have the numbers 0, 1 and 2, if 0 is the empty value
   pub numbers : map (numbered 0 (gathered nat_eq 0 [] (0 ∷ 7 ∷ 9 ∷ 7 ∷ []))) (0 ∷ 1 ∷ 2 ∷ []) ≡ Some 0 ∷ Some 7 ∷ Some 9 ∷ []
+  -- two neighbouring periods hold the days of one, and the cover of periods that lie apart is these
+  pub neighbours : cover (is_held (on_days 2 11 daily ∷ on_days 12 30 daily ∷ [])) 40 ≡ on_days 2 30 daily ∷ []
+  pub lying_apart : cover (is_held (on_days 2 9 mondays ∷ on_days 23 30 mondays ∷ [])) 40 ≡ on_days 2 9 mondays ∷ on_days 23 30 mondays ∷ []
+  -- of the values 7, 8 and 7 the last 7 comes first
+  pub last_first : last_values nat_eq ((on_days 2 2 mondays, 7) ∷ (on_days 3 3 tuesdays, 8) ∷ (on_days 9 9 mondays, 7) ∷ []) ≡ 7 ∷ 8 ∷ []

@@ -1,5 +1,5 @@
 -- Periods with values as a list, of which no two hold a common day.
-use Rattle.std.specs.Prelude.{◌≡◌, ◌≢◌, ℕ, ◌+◌, ◌-◌, ◌%◌, ◌<◌, ◌≤◌, ◌&&◌, Bool, false, nat_lt, if◌then◌else◌, List, [], ◌∷◌, length, map, slice_index_or}
+use Rattle.std.specs.Prelude.{◌≡◌, ◌≢◌, ℕ, ◌+◌, ◌-◌, ◌%◌, ◌<◌, ◌≤◌, ◌&&◌, Bool, false, nat_lt, if◌then◌else◌, List, [], ◌∷◌, ◌++◌, length, map, slice_index_or}
 use Rattle.std.specs.List.{All, Contains, list_any}
 use Rattle.std.specs.List.Sorted.{IsStrictlyIncreasing}
 use Rattle.ssim_values.specs.Period.{DayRange}
@@ -61,11 +61,11 @@ held_cover periods v = map (λ period. (period, v)) (cover (is_held periods) day
 abbrev pub mark_on : List DayRange → ℕ → ℕ
 mark_on periods n = if is_held periods n then 1 else 0
 
--- each value once, at the last period that has it
+-- each value once, at the last period that has it, from the last of these periods to the first
 abbrev pub last_values : {V : Type 0} → (V → V → Bool) → List (DayRange × V) → List V
 last_values alike [] = []
 last_values alike (given ∷ later) =
-    if list_any (λ other. alike given.1 other.1) later then last_values alike later else given.1 ∷ last_values alike later
+    if list_any (λ other. alike given.1 other.1) later then last_values alike later else last_values alike later ++ given.1 ∷ []
 
 -- which of the weekdays, Monday first, have one of the seven days from `first` on before `end`
 abbrev pub weekdays_within : List Bool → ℕ → ℕ → List Bool

@@ -12,12 +12,12 @@ push_days-requires g c =
     let ends = All-push (λ given. given.0.last < 36525) c.args.earlier.now c.args.entry.now c.requires.earlier c.requires.own in
     record {
       in_calendar = λ n past.
-          let is = held-moved c.take_days_of_value.new.periods.items c.sort_by_key.new.self.items c.deref.result.now n c.sort_by_key.ensures.permutation c.deref.ensures.value ∙ c.in_ok-take_days_of_value.ensures n in
+          let is = held-moved c.take_days_of_value.new.periods.items c.sort_by_key.new.self.items c.deref.result.now n c.sort_by_key.ensures.permutation c.deref.ensures.value ∙ c.in_ok-take_days_of_value.ensures.days n in
           none-past g.V.Value.alike xs v c.deref.result.now n ends is past;
     }
 
-pub returns : goal.returns
-returns g c =
+pub returns-clause-pieces : goal.returns-clause-pieces
+returns-clause-pieces g c =
     let pieces = c.args.pieces.now.items in let xs = c.args.earlier.now ++ c.args.entry.now ∷ [] in let v = c.args.entry.now.1 in
     on_ok_weaker c.push_days.result (λ d. d ∙ ap (λ l. pieces ++ l) (cover-given g.V.Value.alike xs v c.deref.result.now (λ n.
-    held-moved c.take_days_of_value.new.periods.items c.sort_by_key.new.self.items c.deref.result.now n c.sort_by_key.ensures.permutation c.deref.ensures.value ∙ c.in_ok-take_days_of_value.ensures n))) c.push_days.ensures
+    held-moved c.take_days_of_value.new.periods.items c.sort_by_key.new.self.items c.deref.result.now n c.sort_by_key.ensures.permutation c.deref.ensures.value ∙ c.in_ok-take_days_of_value.ensures.days n))) c.push_days.ensures
