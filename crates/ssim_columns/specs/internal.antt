@@ -3,4 +3,3 @@ pub mod LatestColumns
 pub mod LatestMonths
 pub mod LegPoints
 pub mod Clocks
-pub mod Serials

@@ -9,8 +9,8 @@ use crate::text::array::seven;
 use crate::text::equality::are_same_four;
 use ssim_values::{Day, read_two_digits};
 
-/// The number of slots. The last two letters of a month's name, added up, give each month of a year a
-/// slot of its own.
+/// The number of slots. The last two letters of a month's name, added up, give each month of a year
+/// a slot of its own.
 const SLOTS: usize = 32;
 
 /// A month of a year.

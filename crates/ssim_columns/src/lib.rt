@@ -37,6 +37,7 @@ mod latest_columns;
 mod latest_months;
 mod leg;
 mod record_writers;
+mod repeated;
 mod segment;
 mod text;
 

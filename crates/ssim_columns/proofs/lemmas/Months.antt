@@ -1,6 +1,6 @@
 -- A date's month is that of each of its first 28 days: their texts differ in the digits of the day
 -- alone, and their numbers follow one another.
-use Rattle.std.proofs.Common.{◌≡◌, ℕ, ◌+◌, ◌-◌, ◌/◌, ◌%◌, ◌<◌, ◌≤◌, List, [], ◌∷◌, ◌++◌, length, slice_index_or, refl, sym, ap, ◌∙◌, arith, lit<, lit≤, Option, Some, None, IfSome}
+use Rattle.std.proofs.Common.{◌≡◌, ℕ, ◌+◌, ◌-◌, ◌/◌, ◌%◌, ◌<◌, ◌≤◌, List, [], ◌∷◌, ◌++◌, length, slice_index_or, refl, sym, ap, ◌∙◌, arith, lit<, lit≤, Some}
 use Rattle.ssim_values.specs.Calendar.{IsDate, day_number, leap_years, month_length, months_length}
 use Rattle.ssim_values.specs.Characters.{two_digits, two_digits_of}
 use Rattle.ssim_values.specs.Day.{day_of, month_named}
@@ -102,7 +102,3 @@ day_in_month (a ∷ b ∷ e ∷ f ∷ []) name year first d len spelled named in
 day_in_month (a ∷ b ∷ e ∷ f ∷ g ∷ []) name year first d len spelled named in_year is low high = absurd cc
 day_in_month (a ∷ b ∷ e ∷ f ∷ g ∷ h ∷ []) name year first d len spelled named in_year is low high = absurd cc
 day_in_month (a ∷ b ∷ e ∷ f ∷ g ∷ h ∷ i ∷ j ∷ xs) name year first d len spelled named in_year is low high = absurd (omega (arith, len))
-
-pub read_as : (o : Option ℕ) (t : List ℕ) (n : ℕ) → IfSome o (λ d. d ≡ n) → day_of t ≡ Some n → IfSome o (λ d. day_of t ≡ Some d)
-read_as None t n h is = tt
-read_as (Some d) t n h is = is ∙ ap Some (sym h)

@@ -1,15 +1,16 @@
 -- Records with the same bytes in columns that are parsed have the same flight, the same leg of it,
--- the same ends of a period, and the same days.
+-- the same ends of a period, the same days, and the same first digits of the serial.
 use Rattle.std.proofs.Common.{◌≡◌, ℕ, Bool, ◌+◌, ◌≤◌, List, sym, ap, ◌∙◌, lit≤}
-use Rattle.std.specs.Prelude.{slice_range, Some}
+use Rattle.std.specs.Prelude.{slice_range, Option, Some, None, IfSome}
 use Rattle.ssim_values.specs.Day.{day_of}
 use Rattle.ssim_values.specs.DayMask.{days_of}
 use Rattle.ssim_columns.specs.declared.latest_columns.LegEnds.{LegEnds}
+use Rattle.ssim_columns.specs.declared.latest_columns.SerialFront.{SerialFront}
 use Rattle.ssim_columns.specs.declared.leg.leg_name.AirlineFlight.{AirlineFlight}
 use Rattle.ssim_columns.specs.declared.leg.leg_name.FlightLeg.{FlightLeg}
 use Rattle.ssim_columns.specs.Columns.{columns, end_from}
-use Rattle.ssim_columns.specs.internal.LatestColumns.{SpellsEnds, SpellsFlight, SpellsFlightLeg}
-use Rattle.ssim_columns.specs.Numbers.{number_of, sequence_of}
+use Rattle.ssim_columns.specs.internal.LatestColumns.{SpellsEnds, SpellsFlight, SpellsFlightLeg, SpellsSerialFront}
+use Rattle.ssim_columns.specs.Numbers.{digits_of, number_of, sequence_of}
 use Rattle.ssim_columns.proofs.lemmas.Slices.{slice_in}
 
 same_part : (a b : List ℕ) (from to i j : ℕ) → slice_range b from to ≡ slice_range a from to → i ≤ j → from + j ≤ to → slice_range b (from + i) (from + j) ≡ slice_range a (from + i) (from + j)
@@ -31,11 +32,18 @@ same_flight_leg l a b e s = record {
   sequence_to = s.sequence_to;
 }
 
-pub same_ends : (l : LegEnds) (a b : List ℕ) → columns 15 22 b ≡ columns 15 22 a → columns 21 28 b ≡ columns 21 28 a → SpellsEnds l a → SpellsEnds l b
-same_ends l a b e f s = record {
-  first = ap day_of (same_part a b 14 22 0 7 e (lit≤ tt) (lit≤ tt)) ∙ s.first;
-  last = ap (end_from (Some l.first)) (same_part a b 20 28 1 8 f (lit≤ tt) (lit≤ tt)) ∙ s.last;
+pub same_ends : (l : LegEnds) (a b : List ℕ) → columns 15 28 b ≡ columns 15 28 a → SpellsEnds l a → SpellsEnds l b
+same_ends l a b e s = record {
+  first = ap day_of (same_part a b 14 28 0 7 e (lit≤ tt) (lit≤ tt)) ∙ s.first;
+  last = ap (end_from (Some l.first)) (same_part a b 14 28 7 14 e (lit≤ tt) (lit≤ tt)) ∙ s.last;
 }
 
 pub same_days : (d : List Bool) (a b : List ℕ) → columns 28 35 b ≡ columns 28 35 a → days_of (columns 29 35 a) ≡ Some d → days_of (columns 29 35 b) ≡ Some d
 same_days d a b e s = ap days_of (same_part a b 27 35 1 8 e (lit≤ tt) (lit≤ tt)) ∙ s
+
+pub days_read : (o : Option (List Bool)) (a : List ℕ) → o ≡ days_of (columns 29 35 a) → IfSome o (λ d. (b : List ℕ) → columns 28 35 b ≡ columns 28 35 a → days_of (columns 29 35 b) ≡ Some d)
+days_read None a read = tt
+days_read (Some d) a read = λ b e. same_days d a b e (sym read)
+
+pub same_serial_front : (f : SerialFront) (a b : List ℕ) → columns 195 198 b ≡ columns 195 198 a → SpellsSerialFront f a → SpellsSerialFront f b
+same_serial_front f a b e s = record { value = ap digits_of e ∙ s.value; small = s.small }

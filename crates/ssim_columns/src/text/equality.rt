@@ -37,8 +37,24 @@ pub fn are_same_seven(text: [u8; 7], other: [u8; 7]) -> bool
     are_same(&with_zero(text), &with_zero(other))
 }
 
+/// Whether `N` bytes are these. Four, and eight or more, are compared as numbers.
+#[inline(always)]
+pub(crate) fn are_same_columns<const N: usize>(text: &[u8], other: &[u8; N]) -> bool
+    requires { length text.now ≡ N }
+    ensures { IsTrue result → text.now ≡ other.now }
+{
+    if N >= 8 {
+        are_same_texts(text, other)
+    } else if N == 4 {
+        are_same_four(text, other)
+    } else {
+        text == other.as_slice()
+    }
+}
+
 /// Whether two texts of one length are the same: eight bytes at a time, and the last eight at the
-/// end.
+/// end. It is inlined, so that texts of a known length are compared without a loop.
+#[inline(always)]
 pub(crate) fn are_same_texts(text: &[u8], other: &[u8]) -> bool
     requires some { 8 ≤ length text.now }
     requires same_length { length other.now ≡ length text.now }

@@ -1,6 +1,7 @@
 -- The text is of the month's days.
-use Rattle.std.proofs.Common.{◌≡◌, ◌≤◌, ◌+◌, ◌-◌, length, arith, rules}
-use Rattle.ssim_columns.proofs.lemmas.Months.{day_in_month, read_as}
+use Rattle.std.proofs.Common.{◌≡◌, ◌≤◌, length, Some, sym, ap, ◌∙◌, arith, rules}
+use Rattle.std.proofs.lemmas.Option.{IfSome_then}
+use Rattle.ssim_columns.proofs.lemmas.Months.{day_in_month}
 use Rattle.ssim_columns.proofs.latest_months.Month.day_in.Goals as goal
 
 pub returns : goal.returns
@@ -9,4 +10,4 @@ returns c =
     let low : 1 ≤ c.in_ok-in_month.in_month = omega (arith, c.if-in_month-eq0.false) in
     let read = c.in_ok-in_month.ensures.some in
     let is = day_in_month c.args.text c.args.self.now.name c.args.self.now.year c.args.self.now.first c.in_ok-in_month.in_month len read.1 (c.are_same_four.ensures c.if-not-are_same_four.false) c.if-y2-self.false c.args.self.now.is_month low c.if-in_month-gt28.false in
-    read_as c.from_number.result c.args.text (c.args.self.now.first + (c.in_ok-in_month.in_month - 1)) c.from_number.ensures.value is
+    IfSome_then c.from_number.result c.from_number.ensures.value (λ d e. is ∙ ap Some (sym e))
