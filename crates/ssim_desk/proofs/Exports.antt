@@ -5,7 +5,7 @@ use Rattle.ssim_base.proofs.ReadingBack.{reads_back_as}
 use Rattle.ssim_base.proofs.Whole.{same_export}
 use Rattle.ssim_base.specs.BaseSeen.{BaseSeen}
 use Rattle.ssim_base.specs.Export.{ExportRefusal, Frame, chapter7, export_bytes, result_map}
-use Rattle.ssim_schedule.specs.Plan.{ReadsBackBase, Refuses, RefusesBase, Writes, WritesBase}
+use Rattle.ssim_schedule.specs.ExportResult.{ReadsBackBase, Refuses, RefusesBase, Writes, WritesBase}
 use Rattle.ssim_schedule.specs.Schedule.{Table}
 use Rattle.ssim_base.specs.Stations.{Row}
 use Rattle.ssim_base.specs.Timetable.{Days, itinerary}

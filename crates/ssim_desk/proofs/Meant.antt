@@ -4,7 +4,7 @@ use Rattle.std.proofs.lemmas.List.Elements.{All-weaker}
 use Rattle.ssim_periods.proofs.DayLemmas.{day_count-is}
 use Rattle.ssim_base.proofs.Calendars.{at-each_day}
 use Rattle.ssim_base.specs.BaseSeen.{BaseSeen}
-use Rattle.ssim_schedule.specs.Plan.{RefusesBase, WritesBase}
+use Rattle.ssim_schedule.specs.ExportResult.{RefusesBase, WritesBase}
 use Rattle.ssim_schedule.specs.Schedule.{Table, days_in}
 use Rattle.ssim_schedule.specs.declared.export.ExportFault.{ExportFault}
 use Rattle.ssim_schedule.specs.declared.export.ExportFault.TheVariants.{Variations, Records, WriteFault, Memory}

@@ -4,9 +4,11 @@ use Rattle.std.proofs.lemmas.Bool.Decides.{nat_tests}
 use Rattle.ssim_values.specs.Flight.{FlightNumber}
 use Rattle.ssim_values.specs.Period.{DayRange}
 use Rattle.ssim_text.specs.declared.action.Action.{Action}
-use Rattle.ssim_schedule.specs.Acts.{AddsPoints, AddsPointsOf, acted_on, after_sub, is_point_of}
+use Rattle.ssim_schedule.specs.internal.ActionParts.{AddsPoints}
+use Rattle.ssim_schedule.specs.Acts.{AddsPointsOf, acted_on, after_sub, is_point_of}
 use Rattle.ssim_base.specs.ReadBack.{place_of}
-use Rattle.ssim_schedule.specs.Schedule.{AddsOnlyAt, Table, cuts_in, days_in, found}
+use Rattle.ssim_schedule.specs.internal.Table.{AddsOnlyAt}
+use Rattle.ssim_schedule.specs.Schedule.{Table, cuts_in, days_in, found}
 use Rattle.ssim_base.specs.Stations.{Row}
 use Rattle.ssim_base.specs.Timetable.{Days}
 use Rattle.ssim_schedule.specs.declared.flight_table.FlightPeriods.{FlightPeriods}

@@ -1,6 +1,6 @@
 -- The entries of all flights after one flight's entry is changed, or the first entry of a flight is
 -- put in.
-use Rattle.std.proofs.Common.{◌≡◌, ◌⊎◌, ℕ, ◌+◌, Bool, true, false, nat_eq, if◌then◌else◌, List, [], get_or, set, Contains, Result, Ok, Err, OnOk, IfErr, IfOk, inl, inr, refl, sym, ap, subst, ◌∙◌, arith}
+use Rattle.std.proofs.Common.{◌≡◌, ◌⊎◌, ℕ, ◌+◌, Bool, true, false, nat_eq, if◌then◌else◌, List, [], get_or, set, Contains, inl, inr, refl, sym, ap, subst, ◌∙◌, arith}
 use Rattle.std.specs.List.{insert}
 use Rattle.std.proofs.lemmas.Bool.Decides.{nat_tests}
 use Rattle.ssim_values.specs.Flight.{FlightNumber}
@@ -8,7 +8,8 @@ use Rattle.ssim_values.specs.Period.{DayRange}
 use Rattle.ssim_periods.specs.Days.{Seen, each_day, changed_on, AddsOnly}
 use Rattle.ssim_base.specs.Timetable.{Legs, Days}
 use Rattle.ssim_base.specs.ReadBack.{place_of}
-use Rattle.ssim_schedule.specs.Schedule.{Table, no_entry, AreRising, IsAt, IsGapFor, AddsOnlyAt, cuts_in, days_in}
+use Rattle.ssim_schedule.specs.Schedule.{Table, cuts_in, days_in}
+use Rattle.ssim_schedule.specs.internal.Table.{no_entry, AreRising, IsAt, IsGapFor, AddsOnlyAt}
 use Rattle.ssim_schedule.specs.declared.flight_table.FlightPeriods.{FlightPeriods}
 use Rattle.ssim_schedule.proofs.TableLemmas.{found_at, found_in_gap, found_insert, found_set}
 

@@ -11,9 +11,11 @@ use Rattle.ssim_records.specs.declared.record.Record.{Record}
 use Rattle.ssim_base.specs.Timetable.{Days, same_flight}
 use Rattle.ssim_base.specs.Export as refusal
 use Rattle.ssim_base.specs.Export.{ExportRefusal, Frame, flight_at, Piece, pieces, pieces_records, flight_records, flights_records, export_refusal, export_of, chapter7, chapter7_records, sections, unless_refused, result_map, export_bytes}
-use Rattle.ssim_schedule.specs.Blocks.{joined}
-use Rattle.ssim_schedule.specs.Plan.{IsRefusedAs, Planned, Refuses, pieces_count, plan_bytes, plan_count, plan_of, plan_records, plan_refusal}
-use Rattle.ssim_schedule.specs.Schedule.{Table, AreRising, days_in, key_at, no_entry}
+use Rattle.ssim_schedule.specs.internal.Blocks.{joined}
+use Rattle.ssim_schedule.specs.internal.Plan.{IsRefusedAs, Planned, pieces_count, plan_bytes, plan_count, plan_of, plan_records, plan_refusal}
+use Rattle.ssim_schedule.specs.ExportResult.{Refuses}
+use Rattle.ssim_schedule.specs.Schedule.{Table, days_in}
+use Rattle.ssim_schedule.specs.internal.Table.{AreRising, key_at, no_entry}
 use Rattle.ssim_base.specs.ReadBack as law
 use Rattle.ssim_base.specs.ReadBack.{place_of}
 use Rattle.ssim_base.proofs.ExportLaws.{NoOther}

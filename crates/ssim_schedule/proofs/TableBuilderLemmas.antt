@@ -5,7 +5,8 @@ use Rattle.ssim_values.specs.Period.{DayRange}
 use Rattle.ssim_periods.specs.Days.{Seen, changed_on, AddsOnly}
 use Rattle.ssim_base.specs.Timetable.{Legs}
 use Rattle.ssim_base.specs.ReadBack.{place_of}
-use Rattle.ssim_schedule.specs.Schedule.{Table, AddsOnlyAt, cuts_in, days_in, found}
+use Rattle.ssim_schedule.specs.Schedule.{Table, cuts_in, days_in, found}
+use Rattle.ssim_schedule.specs.internal.Table.{AddsOnlyAt}
 use Rattle.ssim_schedule.specs.declared.flight_table.FlightPeriods.{FlightPeriods}
 use Rattle.ssim_schedule.proofs.ChangeLemmas.{adds, by_test, cuts_at, days_at, no_days, same_place}
 

@@ -17,15 +17,15 @@ use Rattle.ssim_records.specs.Segment.{SegmentFields}
 use Rattle.ssim_records.specs.declared.record.Record.{Record}
 use Rattle.ssim_records.specs.declared.record.Record.TheVariants.{Header, Carrier, Leg, Segment, Trailer}
 use Rattle.ssim_base.specs.Timetable.{Days, LegValue, Legs, days_of, itinerary, leg_of, period_of, placed, same_flight, same_name, tails_of}
-use Rattle.ssim_schedule.specs.LegKey.{IsPlaced, name_place}
-use Rattle.ssim_schedule.specs.TimetableBuilder.{IsBuilt, IsCut, OpensGroup, PutsGroup, TakesLeg, TakesSegment, days_with}
-use Rattle.ssim_schedule.specs.Group.{Group, IsBound, with_legs}
-use Rattle.ssim_schedule.specs.InsertedLegs.{StartsFrom, placed_each}
+use Rattle.ssim_schedule.specs.internal.LegKey.{IsPlaced, name_place}
+use Rattle.ssim_schedule.specs.internal.TimetableBuilder.{IsBuilt, IsCut, OpensGroup, PutsGroup, TakesLeg, TakesSegment, days_with}
+use Rattle.ssim_schedule.specs.internal.LegGroup.{Group, IsBound, with_legs}
+use Rattle.ssim_schedule.specs.internal.InsertedLegs.{StartsFrom, placed_each}
 use Rattle.ssim_base.specs.ReadBack.{place_of}
 use Rattle.ssim_base.proofs.Places.{same_flight-place}
 use Rattle.ssim_schedule.specs.DivisionPoints.{is_point}
 use Rattle.ssim_schedule.specs.Schedule.{Table, cuts_in, days_in}
-use Rattle.ssim_schedule.specs.PendingSegments.{waiting_at}
+use Rattle.ssim_schedule.specs.internal.PendingSegments.{waiting_at}
 use Rattle.ssim_schedule.specs.declared.timetable_builder.TimetableBuilder.{TimetableBuilder}
 use Rattle.ssim_schedule.specs.declared.leg_group.Heading.{Heading}
 use Rattle.ssim_schedule.proofs.InsertedLegLemmas.{changed_not, changed_twice}

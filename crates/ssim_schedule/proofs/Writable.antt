@@ -9,7 +9,7 @@ use Rattle.ssim_periods.specs.Days.{each_day}
 use Rattle.ssim_periods.specs.Pieces.{alone, held_on}
 use Rattle.ssim_base.specs.Timetable.{Days, Legs, on_day}
 use Rattle.ssim_base.specs.Export.{Piece, pieces, same_itinerary}
-use Rattle.ssim_schedule.specs.Plan.{HasWritableLegs, HasWritablePieces, Planned, plan_of}
+use Rattle.ssim_schedule.specs.internal.Plan.{HasWritableLegs, HasWritablePieces, Planned, plan_of}
 use Rattle.ssim_base.specs.ReadBack.{CanReadBack, IsTimetable, IsWritable, place_of}
 use Rattle.ssim_schedule.specs.Schedule.{Table, days_in}
 use Rattle.ssim_base.proofs.Calendars.{at-each_day}

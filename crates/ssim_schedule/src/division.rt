@@ -3,7 +3,8 @@
 ghost use Rattle.std.specs.Prelude.{◌≡◌, ℕ, ◌<◌, ◌≤◌, ◌+◌, IfOk, OnOk, slice_index_or};
 ghost use Rattle.ssim_periods.specs.Calendar.{holds};
 ghost use Rattle.ssim_periods.specs.Days.{AddsOnly};
-ghost use Rattle.ssim_schedule.specs.Acts.{AddsPoints, IsUniform, acted_on, counts_by, sums_of};
+ghost use Rattle.ssim_schedule.specs.internal.ActionParts.{AddsPoints, IsUniform, counts_by, sums_of};
+ghost use Rattle.ssim_schedule.specs.Acts.{acted_on};
 
 use crate::division_points::next_point;
 use crate::itinerary::Itinerary;

@@ -3,7 +3,7 @@
 ghost use Rattle.std.specs.Prelude.{◌≡◌, ℕ, List, IfErr, OnOk, Some};
 ghost use Rattle.std.specs.Io.KnownBytes.{Appends};
 ghost use Rattle.ssim_base.specs.Export.{chapter7, frame_from};
-ghost use Rattle.ssim_schedule.specs.Plan.{ReadsBackBase, Refuses, RefusesBase, Writes, WritesBase};
+ghost use Rattle.ssim_schedule.specs.ExportResult.{ReadsBackBase, Refuses, RefusesBase, Writes, WritesBase};
 ghost use Rattle.ssim_base.specs.ReadBack.{CanReadBack, IsTimetable, ReadsBackFrom};
 ghost use Rattle.ssim_schedule.specs.Schedule.{days_in};
 ghost use Rattle.ssim_base.specs.Timetable.{days_of};
@@ -43,8 +43,8 @@ pub enum ExportFault {
 }
 
 impl ExportFault {
-    ghost use Rattle.ssim_schedule.specs.Plan.{export_fault_name, export_fault_number};
-    ghost use Rattle.ssim_schedule.specs.Plan.{export_fault_place};
+    ghost use Rattle.ssim_schedule.specs.ExportResult.{export_fault_name, export_fault_number};
+    ghost use Rattle.ssim_schedule.specs.ExportResult.{export_fault_place};
 
     /// The number of the fault: 50, 51, 52 or 90.
     pub fn number(self) -> u8

@@ -6,7 +6,7 @@ ghost use Rattle.ssim_values.specs.Calendar.{weekday};
 ghost use Rattle.ssim_values.specs.Flight.{FlightNumber};
 ghost use Rattle.ssim_periods.specs.Calendar.{holds};
 ghost use Rattle.ssim_periods.specs.Days.{changed_on, counts_on};
-ghost use Rattle.ssim_schedule.specs.Blocks.{block_of, joined};
+ghost use Rattle.ssim_schedule.specs.internal.Blocks.{block_of, joined};
 ghost use Rattle.ssim_base.specs.ReadBack.{place_of};
 ghost use Rattle.ssim_base.specs.Timetable.{on_day};
 
@@ -33,7 +33,7 @@ pub(crate) struct FlightBlocks {
 
 impl Model for FlightBlocks {
     ghost use Rattle.std.specs.Prelude.{◌≡◌, length};
-    ghost use Rattle.ssim_schedule.specs.Blocks.{AreBlocks, joined};
+    ghost use Rattle.ssim_schedule.specs.internal.Blocks.{AreBlocks, joined};
     ghost use Rattle.ssim_schedule.specs.Schedule.{Table};
 
     ghost Value = { Table };
@@ -44,7 +44,8 @@ impl Model for FlightBlocks {
 }
 
 impl FlightBlocks {
-    ghost use Rattle.ssim_schedule.specs.Schedule.{AddsOnlyAt, AreRising, cuts_in, days_in};
+    ghost use Rattle.ssim_schedule.specs.internal.Table.{AddsOnlyAt, AreRising};
+    ghost use Rattle.ssim_schedule.specs.Schedule.{cuts_in, days_in};
 
     /// No flight flies on any date. All blocks are there, and empty.
     pub(crate) fn new(alloc: Global) -> Result<FlightBlocks, Memory>

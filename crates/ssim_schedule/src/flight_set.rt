@@ -1,7 +1,7 @@
 //! A set of flights.
 
 ghost use Rattle.std.specs.Prelude.{◌≡◌, false, length, vec_len, IfOk};
-ghost use Rattle.ssim_schedule.specs.FlightSet.{is_marked, is_record_of};
+ghost use Rattle.ssim_schedule.specs.internal.FlightSet.{is_marked, is_record_of};
 ghost use Rattle.ssim_base.specs.Timetable.{is_among};
 ghost use Rattle.ssim_values.specs.Flight.{FlightNumber, IsFlight};
 

@@ -8,7 +8,7 @@ ghost use Rattle.ssim_periods.specs.Calendar.{holds};
 ghost use Rattle.ssim_periods.specs.Days.{AddsOnly, changed_on, counts_on};
 ghost use Rattle.ssim_base.specs.ReadBack.{place_of};
 ghost use Rattle.ssim_base.specs.Timetable.{on_day};
-ghost use Rattle.ssim_schedule.specs.Blocks.{IsBlock, block_of};
+ghost use Rattle.ssim_schedule.specs.internal.Blocks.{IsBlock, block_of};
 
 use crate::itinerary::Itinerary;
 use crate::leg::PlacedLeg;
@@ -34,7 +34,8 @@ pub(crate) struct FlightTable {
 }
 
 impl Model for FlightTable {
-    ghost use Rattle.ssim_schedule.specs.Schedule.{Table, AreRising};
+    ghost use Rattle.ssim_schedule.specs.Schedule.{Table};
+    ghost use Rattle.ssim_schedule.specs.internal.Table.{AreRising};
 
     ghost Value = { Table };
 
@@ -44,7 +45,8 @@ impl Model for FlightTable {
 }
 
 impl FlightTable {
-    ghost use Rattle.ssim_schedule.specs.Schedule.{AddsOnlyAt, AreRising, IsAt, IsGapFor, cuts_in, days_in};
+    ghost use Rattle.ssim_schedule.specs.internal.Table.{AddsOnlyAt, AreRising, IsAt, IsGapFor};
+    ghost use Rattle.ssim_schedule.specs.Schedule.{cuts_in, days_in};
 
     /// No flight flies on any date.
     pub(crate) fn new(alloc: Global) -> FlightTable

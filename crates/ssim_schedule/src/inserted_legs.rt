@@ -1,7 +1,7 @@
 //! Legs put into the itineraries of the dates of their period.
 
 ghost use Rattle.std.specs.Prelude.{◌≡◌, ◌++◌, ◌≤◌, [], IfOk, OnOk, length, reverse};
-ghost use Rattle.ssim_schedule.specs.InsertedLegs.{IsOrdered, legs_before, placed_each};
+ghost use Rattle.ssim_schedule.specs.internal.InsertedLegs.{IsOrdered, legs_before, placed_each};
 
 use crate::itinerary::Itinerary;
 use crate::leg::PlacedLeg;
@@ -18,7 +18,7 @@ pub(crate) struct InsertedLegs {
 }
 
 impl Model for InsertedLegs {
-    ghost use Rattle.ssim_schedule.specs.InsertedLegs.{IsOrdered};
+    ghost use Rattle.ssim_schedule.specs.internal.InsertedLegs.{IsOrdered};
     ghost use Rattle.ssim_base.specs.Timetable.{Legs};
 
     ghost Value = { Legs };
@@ -62,7 +62,7 @@ impl InsertedLegs {
 }
 
 impl Change<Itinerary> for InsertedLegs {
-    ghost use Rattle.ssim_schedule.specs.InsertedLegs.{placed_each};
+    ghost use Rattle.ssim_schedule.specs.internal.InsertedLegs.{placed_each};
 
     ghost outcome = { placed_each };
 

@@ -2,8 +2,8 @@
 
 ghost use Rattle.std.specs.Prelude.{◌≡◌, ◌∷◌, [], true, IfOk, IfSome, OnOk, Some, reverse};
 ghost use Rattle.ssim_base.specs.Export.{same_itinerary};
-ghost use Rattle.ssim_schedule.specs.Group.{no_group};
-ghost use Rattle.ssim_schedule.specs.InsertedLegs.{IsOrdered, StartsFrom};
+ghost use Rattle.ssim_schedule.specs.internal.LegGroup.{no_group};
+ghost use Rattle.ssim_schedule.specs.internal.InsertedLegs.{IsOrdered, StartsFrom};
 
 use crate::inserted_legs::InsertedLegs;
 use crate::leg::PlacedLeg;
@@ -46,8 +46,8 @@ pub(crate) struct LegGroup {
 
 impl Model for LegGroup {
     ghost use Rattle.std.specs.Prelude.{reverse};
-    ghost use Rattle.ssim_schedule.specs.Group.{Group};
-    ghost use Rattle.ssim_schedule.specs.InsertedLegs.{IsOrdered};
+    ghost use Rattle.ssim_schedule.specs.internal.LegGroup.{Group};
+    ghost use Rattle.ssim_schedule.specs.internal.InsertedLegs.{IsOrdered};
 
     ghost Value = { Group };
 

@@ -30,7 +30,7 @@ impl Model for LegKey {
 }
 
 impl LegKey {
-    ghost use Rattle.ssim_schedule.specs.LegKey.{IsPlaced, name_place};
+    ghost use Rattle.ssim_schedule.specs.internal.LegKey.{IsPlaced, name_place};
 
     /// A key that is not greater than any other.
     pub(crate) fn first() -> LegKey {

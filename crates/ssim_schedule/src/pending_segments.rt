@@ -4,7 +4,7 @@
 ghost use Rattle.std.specs.Prelude.{◌≡◌, ℕ, ◌<◌, ◌∷◌, [], None, nat_eq, if◌then◌else◌, reverse, false, IfOk, OnOk};
 ghost use Rattle.std.specs.BTreeMap.{get};
 ghost use Rattle.std.specs.Ordering.{nat_cmp};
-ghost use Rattle.ssim_schedule.specs.LegKey.{IsPlaced, name_place};
+ghost use Rattle.ssim_schedule.specs.internal.LegKey.{IsPlaced, name_place};
 
 use crate::leg_key::LegKey;
 use ssim_records::{LegName, SegmentRecord, SegmentTail};
@@ -30,7 +30,7 @@ pub(crate) struct PendingSegments {
 }
 
 impl PendingSegments {
-    ghost use Rattle.ssim_schedule.specs.PendingSegments.{waiting_at};
+    ghost use Rattle.ssim_schedule.specs.internal.PendingSegments.{waiting_at};
 
     /// No tail is pending.
     pub(crate) fn new(alloc: Global) -> PendingSegments

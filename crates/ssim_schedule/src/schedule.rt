@@ -6,8 +6,8 @@ ghost use Rattle.ssim_values.specs.Calendar.{weekday};
 ghost use Rattle.ssim_base.specs.Timetable.{Above, on_day};
 
 // The worked examples, which are computed: a false one is an error in this file.
-ghost use Rattle.ssim_schedule.specs.BlockExamples;
-ghost use Rattle.ssim_schedule.specs.EffectExamples;
+ghost use Rattle.ssim_schedule.specs.examples.Blocks;
+ghost use Rattle.ssim_schedule.specs.examples.Effects;
 
 use crate::flight_blocks::FlightBlocks;
 use crate::flight_table::place;

@@ -4,7 +4,7 @@ ghost use Rattle.std.specs.Prelude.{◌≡◌, ℕ, nat_eq, if◌then◌else◌,
 ghost use Rattle.ssim_values.specs.Flight.{FlightNumber};
 ghost use Rattle.ssim_periods.specs.Calendar.{holds};
 ghost use Rattle.ssim_periods.specs.Days.{changed_on, counts_on};
-ghost use Rattle.ssim_schedule.specs.Blocks.{IsBlock, block_of};
+ghost use Rattle.ssim_schedule.specs.internal.Blocks.{IsBlock, block_of};
 ghost use Rattle.ssim_base.specs.ReadBack.{place_of};
 
 use crate::flight_table::{FlightPeriods, FlightTable};
@@ -31,7 +31,8 @@ impl Model for SharedTable {
 }
 
 impl SharedTable {
-    ghost use Rattle.ssim_schedule.specs.Schedule.{AddsOnlyAt, cuts_in, days_in};
+    ghost use Rattle.ssim_schedule.specs.internal.Table.{AddsOnlyAt};
+    ghost use Rattle.ssim_schedule.specs.Schedule.{cuts_in, days_in};
 
     /// A block that nothing shares yet.
     pub(crate) fn of(alloc: Global, table: FlightTable) -> Result<SharedTable, Memory>

@@ -1,7 +1,8 @@
 //! The effect of a sub-message on an itinerary.
 
 ghost use Rattle.std.specs.Prelude.{◌≡◌, IfOk, unwrap_or};
-ghost use Rattle.ssim_schedule.specs.Effect.{equip, equipped, fits, has_leg, have_legs, made_of, retime, retimed, variation_on, with_line, with_lines};
+ghost use Rattle.ssim_schedule.specs.Effect.{equip, equipped, fits, has_leg, have_legs, retime, retimed, variation_on, with_line, with_lines};
+ghost use Rattle.ssim_schedule.specs.internal.ActionParts.{made_of};
 
 use crate::finding::Reason;
 use crate::itinerary::Itinerary;

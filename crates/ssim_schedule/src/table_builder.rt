@@ -4,8 +4,8 @@ ghost use Rattle.std.specs.Prelude.{◌≡◌, false, nat_eq, if◌then◌else�
 ghost use Rattle.ssim_values.specs.Flight.{FlightNumber};
 ghost use Rattle.ssim_periods.specs.Calendar.{holds};
 ghost use Rattle.ssim_periods.specs.Days.{changed_on};
-ghost use Rattle.ssim_schedule.specs.TableBuilder.{with_current};
-ghost use Rattle.ssim_schedule.specs.InsertedLegs.{placed_each};
+ghost use Rattle.ssim_schedule.specs.internal.TableBuilder.{with_current};
+ghost use Rattle.ssim_schedule.specs.internal.InsertedLegs.{placed_each};
 ghost use Rattle.ssim_base.specs.ReadBack.{place_of};
 ghost use Rattle.ssim_schedule.specs.Schedule.{cuts_in, days_in};
 
@@ -35,7 +35,7 @@ pub(crate) struct TableBuilder {
 }
 
 impl Model for TableBuilder {
-    ghost use Rattle.ssim_schedule.specs.TableBuilder.{with_current};
+    ghost use Rattle.ssim_schedule.specs.internal.TableBuilder.{with_current};
     ghost use Rattle.ssim_schedule.specs.Schedule.{Table};
 
     ghost Value = { Table };
@@ -44,7 +44,8 @@ impl Model for TableBuilder {
 }
 
 impl TableBuilder {
-    ghost use Rattle.ssim_schedule.specs.Schedule.{AddsOnlyAt, cuts_in, days_in};
+    ghost use Rattle.ssim_schedule.specs.internal.Table.{AddsOnlyAt};
+    ghost use Rattle.ssim_schedule.specs.Schedule.{cuts_in, days_in};
 
     /// No flight flies on any date.
     pub(crate) fn new(alloc: Global) -> Result<TableBuilder, Memory>

@@ -8,7 +8,7 @@ ghost use Rattle.ssim_periods.specs.Days.{each_day};
 ghost use Rattle.ssim_records.specs.declared.record.Record.{Record};
 ghost use Rattle.ssim_base.specs.Closed.{IsClosed};
 ghost use Rattle.ssim_base.specs.Export.{Frame};
-ghost use Rattle.ssim_schedule.specs.FlightSet.{is_marked, is_record_of};
+ghost use Rattle.ssim_schedule.specs.internal.FlightSet.{is_marked, is_record_of};
 ghost use Rattle.ssim_schedule.specs.DivisionPoints.{AreAtPoints};
 ghost use Rattle.ssim_base.specs.ReadBack.{HasFrame};
 ghost use Rattle.ssim_schedule.specs.Schedule.{cuts_in, days_in};
@@ -104,7 +104,7 @@ impl Schedule {
 }
 
 impl TimetableBuilder {
-    ghost use Rattle.ssim_schedule.specs.TimetableBuilder.{IsBuilt, OpensGroup, PutsGroup, TakesLeg, TakesSegment};
+    ghost use Rattle.ssim_schedule.specs.internal.TimetableBuilder.{IsBuilt, OpensGroup, PutsGroup, TakesLeg, TakesSegment};
 
     /// The timetable of no records.
     pub(crate) fn new(alloc: Global) -> Result<TimetableBuilder, Memory>

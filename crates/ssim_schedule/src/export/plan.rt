@@ -3,8 +3,8 @@
 ghost use Rattle.std.specs.Prelude.{◌≡◌, ◌≤◌, ◌<◌, ◌+◌, ◌++◌, List, length, None, IfOk, IfErr, IfSome, IfNone, OnOk};
 ghost use Rattle.std.specs.List.{All};
 ghost use Rattle.ssim_values.specs.Flight.{IsFlight};
-ghost use Rattle.ssim_schedule.specs.Blocks.{joined};
-ghost use Rattle.ssim_schedule.specs.Plan.{IsRefusedAs, pieces_count, plan_of, plan_refusal};
+ghost use Rattle.ssim_schedule.specs.internal.Blocks.{joined};
+ghost use Rattle.ssim_schedule.specs.internal.Plan.{IsRefusedAs, pieces_count, plan_of, plan_refusal};
 
 use crate::export::ExportFault;
 use crate::flight_table::{FlightPeriods, place};
@@ -22,7 +22,7 @@ pub(crate) struct FlightPieces {
 }
 
 impl Model for FlightPieces {
-    ghost use Rattle.ssim_schedule.specs.Plan.{Planned};
+    ghost use Rattle.ssim_schedule.specs.internal.Plan.{Planned};
 
     ghost Value = { Planned };
 

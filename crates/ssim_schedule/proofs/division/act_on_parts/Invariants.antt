@@ -1,5 +1,6 @@
 use Rattle.std.proofs.Common.{◌≡◌, ◌≤◌, ◌+◌, ◌-◌, IsTrue}
-use Rattle.ssim_schedule.specs.Acts.{AddsPoints, after_on, before, changed_by, counts_by, is_point_of}
+use Rattle.ssim_schedule.specs.internal.ActionParts.{AddsPoints, before, counts_by}
+use Rattle.ssim_schedule.specs.Acts.{after_on, changed_by, is_point_of}
 use Rattle.ssim_schedule.proofs.division.act_on_parts.Given as goal
 
 abbrev pub invariant-loop-at : goal.invariant-loop-at

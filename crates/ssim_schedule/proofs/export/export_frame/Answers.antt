@@ -3,7 +3,7 @@ use Rattle.std.proofs.Common.{◌≡◌, List, None, Err, rules, sym, ap, subst,
 use Rattle.std.specs.List.{All}
 use Rattle.ssim_values.specs.Flight.{IsFlight}
 use Rattle.ssim_base.specs.Export.{chapter7, frame_from}
-use Rattle.ssim_schedule.specs.Plan.{Planned, plan_bytes, plan_of, plan_refusal}
+use Rattle.ssim_schedule.specs.internal.Plan.{Planned, plan_bytes, plan_of, plan_refusal}
 use Rattle.ssim_schedule.specs.Schedule.{Table, days_in}
 use Rattle.ssim_schedule.proofs.Planning.{export_is, fits, refusal_is, refuses}
 use Rattle.ssim_schedule.proofs.Writable.{readable}

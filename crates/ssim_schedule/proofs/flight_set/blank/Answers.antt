@@ -1,6 +1,6 @@
 -- A list of equal elements has none other.
 use Rattle.std.proofs.Common.{Bool, List, ap, ◌∙◌}
-use Rattle.ssim_schedule.specs.FlightSet.{is_marked}
+use Rattle.ssim_schedule.specs.internal.FlightSet.{is_marked}
 use Rattle.ssim_base.specs.ReadBack.{place_of}
 use Rattle.ssim_schedule.proofs.FlightSets.{no_mark}
 use Rattle.ssim_schedule.proofs.flight_set.blank.Goals as goal

@@ -1,7 +1,7 @@
 -- A leg of the group is put after the other legs that come before it.
 use Rattle.std.proofs.Common.{◌≡◌, ℕ, ◌+◌, ◌-◌, [], ◌∷◌, ◌++◌, take, drop, append_assoc, sym, ap, subst, ◌∙◌, arith}
 use Rattle.std.proofs.lemmas.List.{drop-drop, drop_more, length-drop, take_rest}
-use Rattle.ssim_schedule.specs.InsertedLegs.{IsOrdered, legs_before, placed_each}
+use Rattle.ssim_schedule.specs.internal.InsertedLegs.{IsOrdered, legs_before, placed_each}
 use Rattle.ssim_base.specs.Timetable.{LegValue, Legs}
 use Rattle.ssim_schedule.proofs.InsertedLegLemmas.{placed_parted}
 use Rattle.ssim_schedule.proofs.inserted_legs.merged.Goals as goal

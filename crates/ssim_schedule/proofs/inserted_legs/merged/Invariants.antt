@@ -1,5 +1,5 @@
 use Rattle.std.proofs.Common.{◌≡◌, ◌≤◌, ◌++◌, drop, length}
-use Rattle.ssim_schedule.specs.InsertedLegs.{IsOrdered, placed_each}
+use Rattle.ssim_schedule.specs.internal.InsertedLegs.{IsOrdered, placed_each}
 use Rattle.ssim_schedule.proofs.inserted_legs.merged.Given as goal
 
 abbrev pub invariant-loop-leg : goal.invariant-loop-leg

@@ -1,5 +1,5 @@
 use Rattle.std.proofs.Common.{◌≡◌, ◌+◌, drop}
-use Rattle.ssim_schedule.specs.InsertedLegs.{legs_before}
+use Rattle.ssim_schedule.specs.internal.InsertedLegs.{legs_before}
 use Rattle.ssim_schedule.proofs.inserted_legs.place_among.Given as goal
 
 abbrev pub invariant-loop-place : goal.invariant-loop-place

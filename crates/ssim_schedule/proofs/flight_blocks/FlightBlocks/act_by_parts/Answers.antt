@@ -1,6 +1,7 @@
 -- The copy is changed, and replaces the periods of the flight.
 use Rattle.std.proofs.Common.{ap, subst, ◌∙◌}
-use Rattle.ssim_schedule.specs.Acts.{AddsPoints, acted_on}
+use Rattle.ssim_schedule.specs.internal.ActionParts.{AddsPoints}
+use Rattle.ssim_schedule.specs.Acts.{acted_on}
 use Rattle.ssim_schedule.proofs.Applied.{cuts_put, days_put}
 use Rattle.ssim_schedule.proofs.flight_blocks.FlightBlocks.act_by_parts.Goals as goal
 

@@ -3,9 +3,10 @@ use Rattle.std.proofs.Common.{◌≡◌, ◌<◌, Bool, nat_eq, if◌then◌else
 use Rattle.std.proofs.lemmas.List.{get_or_default}
 use Rattle.ssim_periods.specs.Calendar.{holds}
 use Rattle.ssim_periods.specs.Days.{changed_on, counts_on}
-use Rattle.ssim_schedule.specs.Blocks.{IsBlock}
+use Rattle.ssim_schedule.specs.internal.Blocks.{IsBlock}
 use Rattle.ssim_base.specs.ReadBack.{place_of}
-use Rattle.ssim_schedule.specs.Schedule.{AddsOnlyAt, Table, days_in}
+use Rattle.ssim_schedule.specs.internal.Table.{AddsOnlyAt}
+use Rattle.ssim_schedule.specs.Schedule.{Table, days_in}
 use Rattle.ssim_base.specs.Timetable.{Days}
 use Rattle.ssim_schedule.proofs.BlockLemmas.{apart_places, block_at, blocks_set, each_flight, found_block}
 use Rattle.ssim_schedule.proofs.ChangeLemmas.{cuts_at, days_at, no_days}

@@ -1,7 +1,7 @@
 -- The flights so far are marked, and no other.
 use Rattle.std.proofs.Common.{◌≡◌, length, take}
 use Rattle.ssim_values.specs.Flight.{FlightNumber, IsFlight}
-use Rattle.ssim_schedule.specs.FlightSet.{is_marked}
+use Rattle.ssim_schedule.specs.internal.FlightSet.{is_marked}
 use Rattle.ssim_base.specs.Timetable.{is_among}
 use Rattle.ssim_schedule.proofs.flight_set.FlightSet.of.Given as goal
 

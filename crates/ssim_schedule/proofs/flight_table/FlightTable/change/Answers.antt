@@ -5,11 +5,12 @@ use Rattle.std.proofs.lemmas.List.{get_or_default}
 use Rattle.ssim_periods.specs.Calendar.{holds}
 use Rattle.ssim_periods.specs.Days.{changed_on, counts_on}
 use Rattle.ssim_base.specs.ReadBack.{place_of}
-use Rattle.ssim_schedule.specs.Schedule.{AddsOnlyAt, IsAt, Table, cuts_in, days_in, no_entry}
+use Rattle.ssim_schedule.specs.internal.Table.{AddsOnlyAt, IsAt, no_entry}
+use Rattle.ssim_schedule.specs.Schedule.{Table, cuts_in, days_in}
 use Rattle.ssim_schedule.proofs.ChangeLemmas.{cuts-set, days-set, days_at, no_days, own}
 use Rattle.ssim_base.proofs.Results.{if_ok, on_ok}
 use Rattle.ssim_schedule.proofs.TableLemmas.{found_at, rising_set}
-use Rattle.ssim_schedule.specs.Blocks.{IsBlock}
+use Rattle.ssim_schedule.specs.internal.Blocks.{IsBlock}
 use Rattle.ssim_schedule.specs.declared.flight_table.FlightPeriods.{FlightPeriods}
 use Rattle.ssim_schedule.proofs.BlockLemmas.{block_set}
 use Rattle.ssim_schedule.proofs.flight_table.FlightTable.change.Goals as goal

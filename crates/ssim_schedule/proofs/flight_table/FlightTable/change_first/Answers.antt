@@ -3,11 +3,12 @@ use Rattle.std.proofs.Common.{◌≡◌, ◌+◌, [], nat_eq, if◌then◌else�
 use Rattle.ssim_periods.specs.Calendar.{holds}
 use Rattle.ssim_periods.specs.Days.{AddsOnly, Seen, changed_on, counts_on, each_day}
 use Rattle.ssim_base.specs.ReadBack.{place_of}
-use Rattle.ssim_schedule.specs.Schedule.{AddsOnlyAt, AreRising, IsGapFor, Table, cuts_in, days_in}
+use Rattle.ssim_schedule.specs.internal.Table.{AddsOnlyAt, AreRising, IsGapFor}
+use Rattle.ssim_schedule.specs.Schedule.{Table, cuts_in, days_in}
 use Rattle.ssim_base.specs.Timetable.{Legs}
 use Rattle.ssim_schedule.proofs.ChangeLemmas.{cuts-insert, days-insert, days_at, no_days}
 use Rattle.ssim_schedule.proofs.TableLemmas.{found_in_gap, rising_insert}
-use Rattle.ssim_schedule.specs.Blocks.{IsBlock}
+use Rattle.ssim_schedule.specs.internal.Blocks.{IsBlock}
 use Rattle.ssim_schedule.specs.declared.flight_table.FlightPeriods.{FlightPeriods}
 use Rattle.ssim_schedule.proofs.BlockLemmas.{block_insert}
 use Rattle.ssim_schedule.proofs.flight_table.FlightTable.change_first.Goals as goal

@@ -2,7 +2,8 @@
 use Rattle.std.proofs.Common.{◌≡◌, [], sym, ap, subst, ◌∙◌, get_or}
 use Rattle.std.proofs.lemmas.List.{get_or_default}
 use Rattle.ssim_periods.specs.Days.{Seen}
-use Rattle.ssim_schedule.specs.Schedule.{IsAt, Table, cuts_in, days_in, no_entry}
+use Rattle.ssim_schedule.specs.internal.Table.{IsAt, no_entry}
+use Rattle.ssim_schedule.specs.Schedule.{Table, cuts_in, days_in}
 use Rattle.ssim_base.specs.Timetable.{Legs}
 use Rattle.ssim_schedule.proofs.ChangeLemmas.{cuts_at, days_at, no_days}
 use Rattle.ssim_base.proofs.Results.{if_ok}

@@ -3,7 +3,8 @@ use Rattle.std.proofs.Common.{◌≡◌, ℕ, [], Option, slice_get, unwrap_or, 
 use Rattle.std.proofs.lemmas.List.{get_or_default}
 use Rattle.std.proofs.lemmas.Option.{unwrap_or-slice_get}
 use Rattle.ssim_periods.specs.Days.{Seen}
-use Rattle.ssim_schedule.specs.Schedule.{IsAt, Table, cuts_in, days_in, no_entry}
+use Rattle.ssim_schedule.specs.internal.Table.{IsAt, no_entry}
+use Rattle.ssim_schedule.specs.Schedule.{Table, cuts_in, days_in}
 use Rattle.ssim_base.specs.Timetable.{Days, Legs, on_day}
 use Rattle.ssim_schedule.specs.declared.flight_table.FlightPeriods.{FlightPeriods}
 use Rattle.ssim_schedule.proofs.ChangeLemmas.{days_at, no_days}

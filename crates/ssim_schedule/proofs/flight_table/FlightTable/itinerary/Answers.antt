@@ -3,7 +3,8 @@ use Rattle.std.proofs.Common.{◌≡◌, [], sym, ap, subst, ◌∙◌, get_or, 
 use Rattle.std.proofs.lemmas.List.{get_or_default}
 use Rattle.ssim_periods.specs.Days.{Seen, each_day}
 use Rattle.ssim_base.specs.Timetable.{Days, Legs}
-use Rattle.ssim_schedule.specs.Schedule.{IsAt, Table, days_in, no_entry}
+use Rattle.ssim_schedule.specs.internal.Table.{IsAt, no_entry}
+use Rattle.ssim_schedule.specs.Schedule.{Table, days_in}
 use Rattle.ssim_schedule.specs.declared.flight_table.FlightPeriods.{FlightPeriods}
 use Rattle.ssim_schedule.proofs.TableLemmas.{found_at, found_in_gap, index-each_day, index-get}
 use Rattle.ssim_schedule.proofs.flight_table.FlightTable.itinerary.Goals as goal

@@ -2,12 +2,13 @@
 use Rattle.std.proofs.Common.{[], nat_eq, if◌then◌else◌, sym, ap, subst, ◌∙◌}
 use Rattle.ssim_periods.specs.Days.{Seen}
 use Rattle.ssim_base.specs.ReadBack.{place_of}
-use Rattle.ssim_schedule.specs.Schedule.{AreRising, IsAt, IsGapFor, Table, cuts_in, days_in}
+use Rattle.ssim_schedule.specs.internal.Table.{AreRising, IsAt, IsGapFor}
+use Rattle.ssim_schedule.specs.Schedule.{Table, cuts_in, days_in}
 use Rattle.ssim_base.specs.Timetable.{Legs}
 use Rattle.ssim_schedule.specs.declared.flight_table.FlightPeriods.{FlightPeriods}
 use Rattle.ssim_schedule.proofs.ChangeLemmas.{cuts_at, days_at, no_days}
 use Rattle.ssim_schedule.proofs.TableLemmas.{found_insert, found_set, rising_insert, rising_set}
-use Rattle.ssim_schedule.specs.Blocks.{IsBlock}
+use Rattle.ssim_schedule.specs.internal.Blocks.{IsBlock}
 use Rattle.ssim_schedule.proofs.BlockLemmas.{block_insert, block_set}
 use Rattle.ssim_schedule.proofs.flight_table.FlightTable.put.Goals as goal
 

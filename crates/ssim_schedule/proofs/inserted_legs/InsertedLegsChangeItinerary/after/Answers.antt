@@ -1,7 +1,7 @@
 -- If there are no legs, the group is unchanged.
 use Rattle.std.proofs.Common.{◌≡◌, true, nat_eq, [], ◌∷◌, length, refl, sym, ap, ◌∙◌, arith}
 use Rattle.std.proofs.lemmas.Bool.Decides.{nat_tests}
-use Rattle.ssim_schedule.specs.InsertedLegs.{placed_each}
+use Rattle.ssim_schedule.specs.internal.InsertedLegs.{placed_each}
 use Rattle.ssim_base.specs.Timetable.{Legs}
 use Rattle.ssim_base.proofs.Results.{if_ok}
 use Rattle.ssim_schedule.proofs.InsertedLegLemmas.{placed_alone}

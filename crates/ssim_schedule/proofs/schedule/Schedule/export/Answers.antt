@@ -1,6 +1,6 @@
 -- A copy has the same itineraries, and the frame is the base's.
 use Rattle.std.proofs.Common.{Result, Ok, Err, IfErr, OnOk, subst}
-use Rattle.ssim_schedule.specs.Plan.{ReadsBackBase, RefusesBase, WritesBase}
+use Rattle.ssim_schedule.specs.ExportResult.{ReadsBackBase, RefusesBase, WritesBase}
 use Rattle.ssim_schedule.specs.Schedule.{Table, days_in}
 use Rattle.ssim_base.proofs.Results.{on_ok}
 use Rattle.ssim_schedule.proofs.schedule.Schedule.export.Goals as goal

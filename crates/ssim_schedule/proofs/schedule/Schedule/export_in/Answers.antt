@@ -2,7 +2,7 @@
 use Rattle.std.proofs.Common.{ℕ, List, OnOk, IfErr, subst}
 use Rattle.std.specs.Io.KnownBytes.{Appends}
 use Rattle.ssim_base.specs.Export.{Frame, chapter7}
-use Rattle.ssim_schedule.specs.Plan.{Refuses, Writes}
+use Rattle.ssim_schedule.specs.ExportResult.{Refuses, Writes}
 use Rattle.ssim_base.specs.ReadBack.{ReadsBackFrom}
 use Rattle.ssim_schedule.specs.Schedule.{Table, days_in}
 use Rattle.ssim_schedule.proofs.WrittenBack.{written_reads_back}

@@ -5,7 +5,7 @@ use Rattle.ssim_periods.specs.Days.{each_day}
 use Rattle.ssim_records.specs.declared.record.Record.{Record}
 use Rattle.ssim_values.specs.Flight.{FlightNumber}
 use Rattle.ssim_schedule.specs.DivisionPoints.{AreAtPoints}
-use Rattle.ssim_schedule.specs.FlightSet.{is_marked, is_record_of}
+use Rattle.ssim_schedule.specs.internal.FlightSet.{is_marked, is_record_of}
 use Rattle.ssim_schedule.specs.Schedule.{cuts_in, days_in}
 use Rattle.ssim_base.specs.Timetable.{days_of, itinerary_among}
 use Rattle.ssim_base.specs.ReadBack.{AreInOrder}

@@ -1,8 +1,9 @@
 -- The entries before the change are those of the block that was held.
 use Rattle.std.proofs.Common.{◌≡◌, OnOk, sym, subst, ◌∙◌}
 use Rattle.ssim_values.specs.Flight.{FlightNumber}
-use Rattle.ssim_schedule.specs.Blocks.{IsBlock}
-use Rattle.ssim_schedule.specs.Schedule.{AddsOnlyAt, Table, cuts_in}
+use Rattle.ssim_schedule.specs.internal.Blocks.{IsBlock}
+use Rattle.ssim_schedule.specs.internal.Table.{AddsOnlyAt}
+use Rattle.ssim_schedule.specs.Schedule.{Table, cuts_in}
 use Rattle.ssim_schedule.proofs.shared_table.SharedTable.change.Goals as goal
 
 pub returns-in-Some-clause-cuts : goal.returns-in-Some-clause-cuts

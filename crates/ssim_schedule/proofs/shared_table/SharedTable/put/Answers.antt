@@ -1,6 +1,6 @@
 -- The entries before are those of the block that was held.
 use Rattle.std.proofs.Common.{◌≡◌, sym, subst, ◌∙◌}
-use Rattle.ssim_schedule.specs.Blocks.{IsBlock}
+use Rattle.ssim_schedule.specs.internal.Blocks.{IsBlock}
 use Rattle.ssim_schedule.specs.Schedule.{Table}
 use Rattle.ssim_schedule.proofs.shared_table.SharedTable.put.Goals as goal
 

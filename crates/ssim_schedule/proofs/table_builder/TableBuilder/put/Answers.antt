@@ -1,9 +1,10 @@
 -- The current flight's entry is changed as the first entry; or `put_other` puts the legs.
 use Rattle.std.proofs.Common.{◌≡◌, ◌∷◌, Option, OnOk, sym, ap, subst, ◌∙◌}
 use Rattle.ssim_values.specs.Flight.{FlightNumber}
-use Rattle.ssim_schedule.specs.TableBuilder.{with_current}
+use Rattle.ssim_schedule.specs.internal.TableBuilder.{with_current}
 use Rattle.ssim_base.specs.ReadBack.{place_of}
-use Rattle.ssim_schedule.specs.Schedule.{Table, AddsOnlyAt, cuts_in}
+use Rattle.ssim_schedule.specs.Schedule.{Table, cuts_in}
+use Rattle.ssim_schedule.specs.internal.Table.{AddsOnlyAt}
 use Rattle.ssim_schedule.specs.declared.table_builder.CurrentFlight.{CurrentFlight}
 use Rattle.ssim_schedule.proofs.TableBuilderLemmas.{cuts-head}
 use Rattle.ssim_schedule.proofs.table_builder.TableBuilder.put.Goals as goal

@@ -2,10 +2,11 @@
 use Rattle.std.proofs.Common.{◌≡◌, ℕ, List, nat_eq, if◌then◌else◌, ◌∷◌, Option, sym, ap, subst, ◌∙◌}
 use Rattle.ssim_periods.specs.Calendar.{holds}
 use Rattle.ssim_periods.specs.Days.{changed_on}
-use Rattle.ssim_schedule.specs.TableBuilder.{with_current}
-use Rattle.ssim_schedule.specs.InsertedLegs.{placed_each}
+use Rattle.ssim_schedule.specs.internal.TableBuilder.{with_current}
+use Rattle.ssim_schedule.specs.internal.InsertedLegs.{placed_each}
 use Rattle.ssim_base.specs.ReadBack.{place_of}
-use Rattle.ssim_schedule.specs.Schedule.{Table, AddsOnlyAt, cuts_in, days_in}
+use Rattle.ssim_schedule.specs.Schedule.{Table, cuts_in, days_in}
+use Rattle.ssim_schedule.specs.internal.Table.{AddsOnlyAt}
 use Rattle.ssim_base.specs.Timetable.{Days}
 use Rattle.ssim_schedule.specs.declared.table_builder.CurrentFlight.{CurrentFlight}
 use Rattle.ssim_schedule.proofs.TableBuilderLemmas.{cuts-before, days-before}

@@ -3,7 +3,7 @@ use Rattle.std.proofs.Common.{◌≡◌, ◌<◌, ◌-◌, ℕ, List, ◌∷◌,
 use Rattle.std.proofs.lemmas.List.{drop_all}
 use Rattle.ssim_records.specs.declared.record.Record.{Record}
 use Rattle.ssim_base.specs.Closed.{IsClosed}
-use Rattle.ssim_schedule.specs.TimetableBuilder.{IsBuilt}
+use Rattle.ssim_schedule.specs.internal.TimetableBuilder.{IsBuilt}
 use Rattle.ssim_schedule.proofs.timetable_builder.TimetableBuilder.put_all.Goals as goal
 
 pub loop-place-init : goal.loop-place-init

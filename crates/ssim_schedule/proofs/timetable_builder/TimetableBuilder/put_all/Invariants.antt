@@ -1,6 +1,6 @@
 use Rattle.std.proofs.Common.{◌≤◌, ◌++◌, List, drop, length}
 use Rattle.ssim_records.specs.declared.record.Record.{Record}
-use Rattle.ssim_schedule.specs.TimetableBuilder.{IsBuilt}
+use Rattle.ssim_schedule.specs.internal.TimetableBuilder.{IsBuilt}
 use Rattle.ssim_schedule.proofs.timetable_builder.TimetableBuilder.put_all.Given as goal
 
 abbrev pub invariant-loop-place : goal.invariant-loop-place

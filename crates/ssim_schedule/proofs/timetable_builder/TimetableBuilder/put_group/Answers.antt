@@ -1,6 +1,6 @@
 -- The pending legs are put into the table.
 use Rattle.std.proofs.Common.{◌≡◌, ◌⊎◌, Contains, Option, Some, Result, Ok, Err, OnOk, sym, ap, subst, ◌∙◌}
-use Rattle.ssim_schedule.specs.Group.{IsBound, with_legs}
+use Rattle.ssim_schedule.specs.internal.LegGroup.{IsBound, with_legs}
 use Rattle.ssim_schedule.specs.Schedule.{Table, cuts_in, days_in}
 use Rattle.ssim_base.specs.Timetable.{Legs}
 use Rattle.ssim_schedule.specs.declared.leg_group.Heading.{Heading}

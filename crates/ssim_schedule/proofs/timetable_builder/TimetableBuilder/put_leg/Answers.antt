@@ -5,12 +5,12 @@ use Rattle.ssim_values.specs.Period.{DayRange}
 use Rattle.ssim_records.specs.Leg.{Name}
 use Rattle.ssim_periods.specs.Calendar.{holds}
 use Rattle.ssim_periods.specs.Days.{changed_on}
-use Rattle.ssim_schedule.specs.LegKey.{IsPlaced, name_place}
-use Rattle.ssim_schedule.specs.TimetableBuilder.{IsCut, days_with}
-use Rattle.ssim_schedule.specs.Group.{IsBound}
+use Rattle.ssim_schedule.specs.internal.LegKey.{IsPlaced, name_place}
+use Rattle.ssim_schedule.specs.internal.TimetableBuilder.{IsCut, days_with}
+use Rattle.ssim_schedule.specs.internal.LegGroup.{IsBound}
 use Rattle.ssim_base.specs.ReadBack.{place_of}
 use Rattle.ssim_base.specs.Timetable.{LegValue, period_of, placed}
-use Rattle.ssim_schedule.specs.PendingSegments.{waiting_at}
+use Rattle.ssim_schedule.specs.internal.PendingSegments.{waiting_at}
 use Rattle.ssim_schedule.specs.declared.timetable_builder.TimetableBuilder.{TimetableBuilder}
 use Rattle.ssim_schedule.specs.declared.leg_group.Heading.{Heading}
 use Rattle.ssim_schedule.specs.declared.pending_segments.PendingSegments.{PendingSegments}

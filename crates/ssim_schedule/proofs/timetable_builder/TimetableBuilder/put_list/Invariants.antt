@@ -1,7 +1,7 @@
 -- What is not left is built.
 use Rattle.std.proofs.Common.{◌≡◌, ◌++◌, List, length}
 use Rattle.ssim_records.specs.declared.record.Record.{Record}
-use Rattle.ssim_schedule.specs.TimetableBuilder.{IsBuilt}
+use Rattle.ssim_schedule.specs.internal.TimetableBuilder.{IsBuilt}
 use Rattle.ssim_schedule.proofs.timetable_builder.TimetableBuilder.put_list.Given as goal
 
 abbrev pub invariant-loop-left : goal.invariant-loop-left

@@ -4,8 +4,8 @@ use Rattle.std.proofs.lemmas.List.{drop_all}
 use Rattle.std.specs.List.{filter}
 use Rattle.ssim_records.specs.declared.record.Record.{Record}
 use Rattle.ssim_base.specs.Closed.{IsClosed}
-use Rattle.ssim_schedule.specs.TimetableBuilder.{IsBuilt}
-use Rattle.ssim_schedule.specs.FlightSet.{is_marked, is_record_of}
+use Rattle.ssim_schedule.specs.internal.TimetableBuilder.{IsBuilt}
+use Rattle.ssim_schedule.specs.internal.FlightSet.{is_marked, is_record_of}
 use Rattle.ssim_schedule.proofs.FlightSets.{one_kept, one_left_out}
 use Rattle.ssim_schedule.proofs.timetable_builder.TimetableBuilder.put_those_of.Goals as goal
 

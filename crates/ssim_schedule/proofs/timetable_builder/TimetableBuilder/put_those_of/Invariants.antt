@@ -1,8 +1,8 @@
 use Rattle.std.proofs.Common.{◌≤◌, ◌++◌, List, drop, length}
 use Rattle.std.specs.List.{filter}
 use Rattle.ssim_records.specs.declared.record.Record.{Record}
-use Rattle.ssim_schedule.specs.TimetableBuilder.{IsBuilt}
-use Rattle.ssim_schedule.specs.FlightSet.{is_marked, is_record_of}
+use Rattle.ssim_schedule.specs.internal.TimetableBuilder.{IsBuilt}
+use Rattle.ssim_schedule.specs.internal.FlightSet.{is_marked, is_record_of}
 use Rattle.ssim_schedule.proofs.timetable_builder.TimetableBuilder.put_those_of.Given as goal
 
 abbrev pub invariant-loop-place : goal.invariant-loop-place

@@ -1,7 +1,7 @@
 -- Small examples of the blocks of a schedule, checked by computation.
-use Rattle.std.specs.Prelude.{◌≡◌, ℕ, List, [], ◌∷◌, refl}
+use Rattle.std.specs.Prelude.{◌≡◌, ℕ, [], ◌∷◌, refl}
 use Rattle.ssim_values.specs.Flight.{FlightNumber}
-use Rattle.ssim_schedule.specs.Blocks.{AreOf, block_of, joined}
+use Rattle.ssim_schedule.specs.internal.Blocks.{AreOf, block_of, joined}
 use Rattle.ssim_schedule.specs.declared.flight_table.FlightPeriods.{FlightPeriods}
 
 abbrev numbered_flight : ℕ → ℕ → FlightNumber

@@ -3,7 +3,7 @@ use Rattle.std.specs.Prelude.{◌≡◌, ◌⊎◌, ℕ, ◌+◌, nat_eq, if◌t
 use Rattle.ssim_values.specs.Flight.{FlightNumber}
 use Rattle.ssim_periods.specs.Calendar.{holds}
 use Rattle.ssim_periods.specs.Days.{changed_on}
-use Rattle.ssim_schedule.specs.InsertedLegs.{placed_each}
+use Rattle.ssim_schedule.specs.internal.InsertedLegs.{placed_each}
 use Rattle.ssim_base.specs.ReadBack.{place_of}
 use Rattle.ssim_base.specs.Timetable.{Days, Legs}
 use Rattle.ssim_schedule.specs.declared.leg_group.Heading.{Heading}

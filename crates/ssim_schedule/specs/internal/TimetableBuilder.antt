@@ -8,13 +8,13 @@ use Rattle.ssim_records.specs.Leg.{LegFields, Name}
 use Rattle.ssim_records.specs.Segment.{SegmentFields}
 use Rattle.ssim_records.specs.declared.record.Record.{Record}
 use Rattle.ssim_base.specs.Timetable.{Days, days_of, period_of, placed, tails_of}
-use Rattle.ssim_schedule.specs.LegKey.{IsPlaced, name_place}
-use Rattle.ssim_schedule.specs.Group.{IsBound, no_group, with_legs}
-use Rattle.ssim_schedule.specs.InsertedLegs.{StartsFrom}
+use Rattle.ssim_schedule.specs.internal.LegKey.{IsPlaced, name_place}
+use Rattle.ssim_schedule.specs.internal.LegGroup.{IsBound, no_group, with_legs}
+use Rattle.ssim_schedule.specs.internal.InsertedLegs.{StartsFrom}
 use Rattle.ssim_base.specs.ReadBack.{place_of}
 use Rattle.ssim_schedule.specs.DivisionPoints.{is_point}
 use Rattle.ssim_schedule.specs.Schedule.{cuts_in, days_in}
-use Rattle.ssim_schedule.specs.PendingSegments.{waiting_at}
+use Rattle.ssim_schedule.specs.internal.PendingSegments.{waiting_at}
 use Rattle.ssim_schedule.specs.declared.timetable_builder.TimetableBuilder.{TimetableBuilder}
 use Rattle.ssim_schedule.specs.declared.leg_group.Heading.{Heading}
 

@@ -1,0 +1,14 @@
+-- Definitions that only private functions cite. No law and no public contract cites them, so nobody
+-- has to believe them.
+pub mod SharedLegs
+pub mod InsertedLegs
+pub mod Table
+pub mod Blocks
+pub mod LegKey
+pub mod LegGroup
+pub mod TableBuilder
+pub mod PendingSegments
+pub mod TimetableBuilder
+pub mod FlightSet
+pub mod ActionParts
+pub mod Plan
