@@ -14,7 +14,8 @@ use Rattle.ssim_records.specs.declared.record.Record.{Record}
 use Rattle.ssim_records.specs.declared.record.Record.TheVariants.{Header, Carrier, Leg, Trailer}
 use Rattle.ssim_base.specs.Timetable.{LegValue, Legs}
 use Rattle.ssim_base.specs.Export.{Piece, fill_count, frame_from, leg_records, line, numbered, pieces_records, section_bytes, tail_record, with_serial}
-use Rattle.ssim_schedule.specs.internal.Plan.{Planned, legs_count, numbered_lines, pieces_count, plan_bytes, plan_count, plan_records}
+use Rattle.ssim_schedule.specs.internal.Plan.{Planned, numbered_lines, pieces_count, plan_bytes, plan_count, plan_records}
+use Rattle.ssim_schedule.specs.internal.SharedLegs.{legs_count}
 use Rattle.ssim_schedule.proofs.Serials.{numbered_lines-append}
 
 -- ---- how many

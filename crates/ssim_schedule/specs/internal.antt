@@ -1,5 +1,6 @@
 -- Definitions that only private functions cite. No law and no public contract cites them, so nobody
 -- has to believe them.
+pub mod Shared
 pub mod SharedLegs
 pub mod InsertedLegs
 pub mod Table

@@ -13,7 +13,7 @@ ghost use Rattle.ssim_base.specs.Timetable.{on_day};
 use crate::flight_table::{FlightTable, place};
 use crate::itinerary::Itinerary;
 use crate::leg::PlacedLeg;
-use crate::shared_table::SharedTable;
+use crate::shared::Shared;
 use ssim_periods::{Change, Periods};
 use ssim_values::{Day, Flight, Memory, Period};
 use std::alloc::Global;
@@ -27,7 +27,7 @@ const BLOCKS: usize = 264;
 /// itinerary need not rise by sequence, as those of a `Schedule` do.
 #[derive(Drop)]
 pub(crate) struct FlightBlocks {
-    blocks: Vec<SharedTable>,
+    blocks: Vec<Shared<FlightTable>>,
     alloc: Global,
 }
 
@@ -100,14 +100,19 @@ impl FlightBlocks {
         ensures counts { IfOk result (λ counts. counts ≡ counts_on (holds period.now) (C.class_of change.now) (days_in self.old flight)) }
         ensures err { OnErr result (self.new ≡ self.old) }
     {
-        self.blocks[block_number(flight)].change(self.alloc, flight, period, change)
+        let block = self.blocks[block_number(flight)].own(self.alloc)?;
+        block.change(flight, period, change)
     }
 
-    /// Makes the dates of a flight that have equal itineraries share one copy of them.
+    /// Makes the dates of a flight that have equal itineraries share one copy of them, if no copy
+    /// shares the flight's block; else nothing is done.
     pub(crate) fn share(&mut self, flight: Flight) -> Result<(), Memory>
         ensures { self.new ≡ self.old }
     {
-        self.blocks[block_number(flight)].share(flight)
+        if let Some(block) = self.blocks[block_number(flight)].unshared() {
+            block.share(flight)?;
+        }
+        Ok(())
     }
 
     /// Does the same for those of these flights that have at least `least` cuts.
@@ -141,11 +146,12 @@ impl FlightBlocks {
         ensures cuts { OnOk result ((g : FlightNumber) → cuts_in self.new g ≡ (if nat_eq (place_of flight) (place_of g) then periods.cuts else cuts_in self.old g)) }
         ensures err { OnErr result (self.new ≡ self.old) }
     {
-        self.blocks[block_number(flight)].put(self.alloc, flight, periods)
+        let block = self.blocks[block_number(flight)].own(self.alloc)?;
+        block.put(flight, periods)
     }
 
     /// The blocks, whose entries together rise by number and suffix of their flights.
-    pub(crate) fn into_blocks(self) -> Vec<SharedTable>
+    pub(crate) fn into_blocks(self) -> Vec<Shared<FlightTable>>
         ensures value { joined result.items ≡ self }
         ensures rising { AreRising self }
     {
@@ -157,7 +163,7 @@ impl FlightBlocks {
         ensures days { days_in result.now flight ≡ days_in self.now flight }
         ensures cuts { cuts_in result.now flight ≡ cuts_in self.now flight }
     {
-        self.blocks[block_number(flight)].held()
+        self.blocks[block_number(flight)].get()
     }
 }
 
@@ -169,17 +175,17 @@ fn block_number(flight: Flight) -> usize
     place(flight) as usize / 1024
 }
 
-fn empty_blocks(alloc: Global) -> Result<Vec<SharedTable>, Memory>
+fn empty_blocks(alloc: Global) -> Result<Vec<Shared<FlightTable>>, Memory>
     ensures { IfOk result (λ blocks. blocks.items ≡ replicate 264 []) }
 {
     let mut blocks = Vec::with_capacity(alloc, BLOCKS)?;
     for _ in 0..BLOCKS {
-        blocks.push(SharedTable::of(alloc, FlightTable::new(alloc))?)?;
+        blocks.push(Shared::of(alloc, FlightTable::new(alloc))?)?;
     }
     Ok(blocks)
 }
 
-fn copies(alloc: Global, blocks: &[SharedTable]) -> Result<Vec<SharedTable>, Memory>
+fn copies(alloc: Global, blocks: &[Shared<FlightTable>]) -> Result<Vec<Shared<FlightTable>>, Memory>
     ensures { IfOk result (λ copies. copies.items ≡ blocks.now) }
 {
     let mut copies = Vec::with_capacity(alloc, blocks.len())?;

@@ -12,7 +12,7 @@ ghost use Rattle.ssim_schedule.specs.internal.Blocks.{IsBlock, block_of};
 
 use crate::itinerary::Itinerary;
 use crate::leg::PlacedLeg;
-use crate::shared_periods::SharedPeriods;
+use crate::shared::{Duplicate, Shared};
 use ssim_periods::{Change, Periods};
 use ssim_values::{Day, Flight, Memory, Period};
 use std::alloc::Global;
@@ -22,7 +22,7 @@ use std::marker::Model;
 #[derive(Drop)]
 pub struct FlightPeriods {
     pub(crate) flight: Flight,
-    pub(crate) periods: SharedPeriods,
+    pub(crate) periods: Shared<Periods<Itinerary>>,
 }
 
 /// The itineraries of those flights of a block that were named, by number and suffix of the flight.
@@ -64,7 +64,7 @@ impl FlightTable {
         ensures { result.now ≡ slice_index_or (days_in self.now flight.now) day [] }
     {
         match self.search(*flight) {
-            Ok(place) => self.flights[place].periods.held().at(day).legs(),
+            Ok(place) => self.flights[place].periods.get().at(day).legs(),
             Err(_) => &[],
         }
     }
@@ -78,20 +78,9 @@ impl FlightTable {
         ensures weekly { (m n : ℕ) → m ≤ n → n < 36525 → weekday m ≡ weekday n → ((cut : ℕ) → Contains result.now cut → m < cut → n < cut) → on_day (days_in self.now flight.now) m ≡ on_day (days_in self.now flight.now) n }
     {
         match self.search(*flight) {
-            Ok(place) => self.flights[place].periods.held().cuts(),
+            Ok(place) => self.flights[place].periods.get().cuts(),
             Err(_) => &[],
         }
-    }
-
-    /// The same entries. The copy and the original share the periods of each flight until one of
-    /// the two changes that flight.
-    pub(crate) fn copy(&self) -> Result<FlightTable, Memory>
-        ensures { IfOk result (λ copy. copy ≡ self.now) }
-    {
-        Ok(FlightTable {
-            flights: copies(self.alloc, &self.flights)?,
-            alloc: self.alloc,
-        })
     }
 
     /// Applies a change to a flight's itinerary on each date of a period. Returns how many of the
@@ -109,9 +98,10 @@ impl FlightTable {
         ensures err { OnErr result (self.new ≡ self.old) }
     {
         match self.search(flight) {
-            Ok(place) => self.flights[place]
-                .periods
-                .apply(self.alloc, period, change),
+            Ok(place) => {
+                let own = self.flights[place].periods.own(self.alloc)?;
+                own.apply(period, change)
+            }
             Err(place) => self.change_first(place, flight, period, change),
         }
     }
@@ -121,8 +111,8 @@ impl FlightTable {
         ensures { self.new ≡ self.old }
     {
         if let Ok(place) = self.search(flight) {
-            let shared = self.flights[place].periods.held().shared()?;
-            self.flights[place].periods = SharedPeriods::of(self.alloc, shared)?;
+            let shared = self.flights[place].periods.get().shared()?;
+            self.flights[place].periods = Shared::of(self.alloc, shared)?;
         }
         Ok(())
     }
@@ -144,7 +134,7 @@ impl FlightTable {
     {
         let mut periods = Periods::new(self.alloc);
         let counts = periods.apply(period, change)?;
-        let periods = SharedPeriods::of(self.alloc, periods)?;
+        let periods = Shared::of(self.alloc, periods)?;
         self.flights.insert(gap, FlightPeriods { flight, periods })?;
         Ok(counts)
     }
@@ -155,7 +145,7 @@ impl FlightTable {
         ensures cuts { IfOk result (λ p. p.cuts ≡ cuts_in self.now flight) }
     {
         match self.search(flight) {
-            Ok(place) => self.flights[place].periods.held().copy(),
+            Ok(place) => self.flights[place].periods.get().copy(),
             Err(_) => Ok(Periods::new(self.alloc)),
         }
     }
@@ -167,7 +157,7 @@ impl FlightTable {
         ensures block { (k : ℕ) → IsBlock k self.old → block_of flight ≡ k → IsBlock k self.new }
         ensures err { OnErr result (self.new ≡ self.old) }
     {
-        let periods = SharedPeriods::of(self.alloc, periods)?;
+        let periods = Shared::of(self.alloc, periods)?;
         match self.search(flight) {
             Ok(place) => {
                 self.flights[place] = FlightPeriods { flight, periods };
@@ -208,6 +198,24 @@ impl FlightTable {
         }
         self.flights
             .binary_search_by_key(&place(flight), |f| place(f.flight))
+    }
+}
+
+impl Duplicate for FlightTable {
+    // The same entries. The copy and the original share the periods of each flight until one of the
+    // two changes that flight.
+    fn duplicate(&self) -> Result<FlightTable, Memory> {
+        Ok(FlightTable {
+            flights: copies(self.alloc, &self.flights)?,
+            alloc: self.alloc,
+        })
+    }
+}
+
+impl Duplicate for Periods<Itinerary> {
+    // The copy shares the itineraries.
+    fn duplicate(&self) -> Result<Periods<Itinerary>, Memory> {
+        self.copy()
     }
 }
 

@@ -3,7 +3,7 @@
 ghost use Rattle.std.specs.Prelude.{◌≡◌, ◌<◌, ◌≤◌, ◌%◌, ◌^◌, ◌∷◌, [], IfNone, IfOk, IfSome, OnOk, reverse};
 ghost use Rattle.ssim_base.specs.Export.{same_itinerary};
 ghost use Rattle.ssim_base.specs.ItineraryLaws.{exact_itinerary};
-ghost use Rattle.ssim_schedule.specs.internal.Plan.{legs_count};
+ghost use Rattle.ssim_schedule.specs.internal.SharedLegs.{legs_count};
 ghost use Rattle.ssim_schedule.specs.internal.SharedLegs.{CountsRecords, hash_of, legs_of};
 
 use crate::leg::PlacedLeg;

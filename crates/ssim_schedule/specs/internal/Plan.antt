@@ -5,7 +5,7 @@ use Rattle.ssim_values.specs.Flight.{FlightNumber}
 use Rattle.ssim_records.specs.Record.{written}
 use Rattle.ssim_records.specs.declared.record.Record.{Record}
 use Rattle.ssim_base.specs.ReadBack.{IsWritable}
-use Rattle.ssim_base.specs.Timetable.{Legs}
+use Rattle.ssim_schedule.specs.internal.SharedLegs.{legs_count}
 use Rattle.ssim_base.specs.Export as refusal
 use Rattle.ssim_base.specs.Export.{ExportRefusal, Frame, Piece, export_bytes, line, numbered, pieces, pieces_records, sections}
 use Rattle.ssim_schedule.specs.Schedule.{Table}
@@ -21,11 +21,6 @@ abbrev pub plan_of : Table → List Planned
 plan_of table = map (λ f. (f.flight, pieces f.periods.days)) table
 
 -- ---- how many records there are
-
--- the number of records of legs: one for each leg and one for each of its tails
-abbrev pub legs_count : Legs → ℕ
-legs_count [] = 0
-legs_count (l ∷ legs) = (1 + length l.tails) + legs_count legs
 
 -- the number of records of some pieces
 abbrev pub pieces_count : List Piece → ℕ

@@ -1,6 +1,5 @@
 -- What contracts see of a shared itinerary, its legs; and the hash that it keeps of them.
 use Rattle.std.specs.Prelude.{◌≡◌, ℕ, ◌+◌, ◌*◌, ◌%◌, ◌<◌, ◌≤◌, [], ◌∷◌, length}
-use Rattle.ssim_schedule.specs.internal.Plan.{legs_count}
 use Rattle.ssim_records.specs.Leg.{quick_hash}
 use Rattle.ssim_base.specs.Timetable.{LegValue, Legs}
 use Rattle.ssim_schedule.specs.declared.itinerary.SharedLegs.{SharedLegs}
@@ -12,6 +11,11 @@ legs_of None = []
 legs_of (One legs) = legs.value
 legs_of (Two legs) = legs.value
 legs_of (More legs) = legs.value.items
+
+-- the number of records of legs: one for each leg and one for each of its tails
+abbrev pub legs_count : Legs → ℕ
+legs_count [] = 0
+legs_count (l ∷ legs) = (1 + length l.tails) + legs_count legs
 
 -- a count of the records of legs; below 999,999 it is exact
 abbrev pub CountsRecords : ℕ → Legs → Type 0

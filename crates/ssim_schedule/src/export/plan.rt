@@ -7,9 +7,9 @@ ghost use Rattle.ssim_schedule.specs.internal.Blocks.{joined};
 ghost use Rattle.ssim_schedule.specs.internal.Plan.{IsRefusedAs, pieces_count, plan_of, plan_refusal};
 
 use crate::export::ExportFault;
-use crate::flight_table::{FlightPeriods, place};
+use crate::flight_table::{FlightPeriods, FlightTable, place};
 use crate::itinerary::{Itinerary, MOST_RECORDS};
-use crate::shared_table::SharedTable;
+use crate::shared::Shared;
 use ssim_values::{Flight, Memory, Period};
 use std::alloc::Global;
 use std::marker::Model;
@@ -45,13 +45,16 @@ impl FlightPieces {
 
 /// The flights of all blocks with their pieces. The periods of each flight are freed as soon as it
 /// is divided.
-pub(crate) fn divide(alloc: Global, blocks: Vec<SharedTable>) -> Result<Vec<FlightPieces>, Memory>
+pub(crate) fn divide(
+    alloc: Global,
+    blocks: Vec<Shared<FlightTable>>,
+) -> Result<Vec<FlightPieces>, Memory>
     ensures plan { IfOk result (λ plan. plan.items ≡ plan_of (joined blocks.items)) }
     ensures flights { OnOk result (All (λ f. IsFlight f.flight) (joined blocks.items)) }
 {
     let mut plan = Vec::new(alloc);
     for block in blocks {
-        divide_block(&mut plan, block.into_entries()?)?;
+        divide_block(&mut plan, block.into_own()?.into_entries())?;
     }
     Ok(plan)
 }
@@ -65,7 +68,7 @@ fn divide_block(plan: &mut Vec<FlightPieces>, entries: Vec<FlightPeriods>) -> Re
         let _ = place(entry.flight);
         plan.push(FlightPieces {
             flight: entry.flight,
-            pieces: entry.periods.held().pieces()?,
+            pieces: entry.periods.get().pieces()?,
         })?;
     }
     Ok(())

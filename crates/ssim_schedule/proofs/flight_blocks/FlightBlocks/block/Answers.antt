@@ -11,7 +11,7 @@ returns-clause-days c =
     let blocks = c.self.inside.blocks.items in
     let n = c.block_number.result in
     let within : n < length blocks = omega (arith, c.block_number.ensures.small, c.self.invariant.1) in
-    let held : c.held.result.now ≡ get_or blocks n [] = c.held.ensures ∙ c.index.ensures ∙ get_or_default blocks n c.index.result.now [] within in
+    let held : c.get.result.now ≡ get_or blocks n [] = c.get.ensures ∙ c.index.ensures ∙ get_or_default blocks n c.index.result.now [] within in
     ap (λ (t : Table). days_in t c.args.flight) held ∙ found_block days_at no_days blocks n c.args.flight c.self.invariant.0 c.block_number.ensures.value
     ∙ ap (λ (t : Table). days_in t c.args.flight) c.self.view_is
 
@@ -20,6 +20,6 @@ returns-clause-cuts c =
     let blocks = c.self.inside.blocks.items in
     let n = c.block_number.result in
     let within : n < length blocks = omega (arith, c.block_number.ensures.small, c.self.invariant.1) in
-    let held : c.held.result.now ≡ get_or blocks n [] = c.held.ensures ∙ c.index.ensures ∙ get_or_default blocks n c.index.result.now [] within in
+    let held : c.get.result.now ≡ get_or blocks n [] = c.get.ensures ∙ c.index.ensures ∙ get_or_default blocks n c.index.result.now [] within in
     ap (λ (t : Table). cuts_in t c.args.flight) held ∙ found_block cuts_at [] blocks n c.args.flight c.self.invariant.0 c.block_number.ensures.value
     ∙ ap (λ (t : Table). cuts_in t c.args.flight) c.self.view_is

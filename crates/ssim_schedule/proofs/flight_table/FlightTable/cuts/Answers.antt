@@ -20,7 +20,7 @@ returns-in-Ok-clause-cuts c =
     let q = c.args.flight.now in
     let at : IsAt table q c.in-Ok.place = subst (λ (t : Table). IsAt t q c.in-Ok.place) (sym c.self.view_is) c.in-Ok.ensures.found in
     let entry : c.index.result.now ≡ get_or table c.in-Ok.place no_entry = c.index.ensures ∙ get_or_default table c.in-Ok.place c.index.result.now no_entry at.in_range in
-    c.cuts.ensures.cuts ∙ ap (λ (p : Seen Legs). p.cuts) c.held.ensures ∙ ap (λ (f : FlightPeriods). f.periods.cuts) entry
+    c.cuts.ensures.cuts ∙ ap (λ (p : Seen Legs). p.cuts) c.get.ensures ∙ ap (λ (f : FlightPeriods). f.periods.cuts) entry
     ∙ sym (found_at (λ (f : FlightPeriods). f.periods.cuts) [] table c.self.invariant q c.in-Ok.place at)
     ∙ ap (λ (t : Table). cuts_in t q) c.self.view_is
 
@@ -33,8 +33,8 @@ returns-in-Ok-clause-weekly c = λ m n le within same none.
     let q = c.args.flight.now in
     let at : IsAt table q c.in-Ok.place = subst (λ (t : Table). IsAt t q c.in-Ok.place) (sym c.self.view_is) c.in-Ok.ensures.found in
     let entry : c.index.result.now ≡ get_or table c.in-Ok.place no_entry = c.index.ensures ∙ get_or_default table c.in-Ok.place c.index.result.now no_entry at.in_range in
-    let its : c.held.result.now.days ≡ days_in c.args.self.now q =
-    ap (λ (p : Seen Legs). p.days) c.held.ensures ∙ ap days_at entry ∙ sym (found_at days_at no_days table c.self.invariant q c.in-Ok.place at) ∙ ap (λ (t : Table). days_in t q) c.self.view_is in
+    let its : c.get.result.now.days ≡ days_in c.args.self.now q =
+    ap (λ (p : Seen Legs). p.days) c.get.ensures ∙ ap days_at entry ∙ sym (found_at days_at no_days table c.self.invariant q c.in-Ok.place at) ∙ ap (λ (t : Table). days_in t q) c.self.view_is in
     same_day (days_in c.args.self.now q) m n (subst (λ (ds : Days). slice_get ds m ≡ slice_get ds n) its (c.cuts.ensures.weekly m n le within same none))
 
 pub returns-in-Err-clause-weekly : goal.returns-in-Err-clause-weekly

@@ -15,8 +15,8 @@ returns-in-Ok c =
     let q = c.args.flight.now in
     let at : IsAt table q c.in-Ok.place = subst (λ (t : Table). IsAt t q c.in-Ok.place) (sym c.self.view_is) c.in-Ok.ensures.found in
     let entry : c.index.result.now ≡ get_or table c.in-Ok.place no_entry = c.index.ensures ∙ get_or_default table c.in-Ok.place c.index.result.now no_entry at.in_range in
-    c.legs.ensures ∙ sym (index-get c.held.result.now.days c.args.day [] c.at.result.now c.at.ensures)
-    ∙ ap (λ (p : Seen Legs). slice_index_or p.days c.args.day []) c.held.ensures
+    c.legs.ensures ∙ sym (index-get c.get.result.now.days c.args.day [] c.at.result.now c.at.ensures)
+    ∙ ap (λ (p : Seen Legs). slice_index_or p.days c.args.day []) c.get.ensures
     ∙ ap (λ (f : FlightPeriods). slice_index_or f.periods.days c.args.day []) entry
     ∙ sym (ap (λ (ds : Days). slice_index_or ds c.args.day []) (found_at (λ (f : FlightPeriods). f.periods.days) (each_day (λ _. [])) table c.self.invariant q c.in-Ok.place at))
     ∙ ap (λ (t : Table). slice_index_or (days_in t q) c.args.day []) c.self.view_is
