@@ -5,7 +5,7 @@ use Rattle.std.specs.{FinMap.get, Io.KnownBytes.Appends, List.{count_by, flat_ma
 use Rattle.ssim_periods.specs.Days.{each_day}
 use Rattle.ssim_base.specs.{BaseSeen.{BaseSeen, is_leg_of}, Sinks.TakesFront, Stations.Row, Timetable.{Days, Legs, same_flight}}
 use Rattle.ssim_base.specs.Export as exported
-use Rattle.ssim_schedule.specs.{DivisionPoints.is_point, Schedule.Table, declared.export.ExportFault.ExportFault}
+use Rattle.ssim_schedule.specs.{DivisionPoints.is_point, Schedule.Flown, declared.export.ExportFault.ExportFault}
 use Rattle.ssim_schedule.specs.declared.export.ExportFault.TheVariants as export
 use Rattle.ssim_base.specs.{declared.sub_message.ResolvedSub.ResolvedSub}
 use Rattle.ssim_schedule.specs.{declared.finding.Finding.Finding}
@@ -21,7 +21,7 @@ use Rattle.ssim_desk.specs.declared.desk.Took.TheVariants as took
 -- schedule, which has the itineraries and cuts of each flight
 pub record ScheduledDesk : Type 0 where
   pub seen : DeskSeen
-  pub schedule : Table
+  pub schedule : Flown
 
 -- the `Answer` for a result of `take`
 abbrev pub take_answer : Result Took DeskFault → Answer

@@ -51,10 +51,14 @@ pub struct Desk {
 }
 
 impl Model for Desk {
+    ghost use Rattle.std.specs.Coded.{codes};
+    ghost use Rattle.ssim_schedule.specs.Schedule.{flown_code};
     ghost use Rattle.ssim_desk.specs.Desk.{ScheduledDesk};
     ghost use Rattle.ssim_desk.specs.internal.Changes.{IsHistory};
 
     ghost Value = { ScheduledDesk };
+
+    ghost coded = { Prim.hlevel (codes, flown_code) };
 
     ghost view = { λ d. let h = d.holdings in record {
       seen = record { base = h.base; held = h.held; applied = d.history.applied };

@@ -10,7 +10,6 @@ use Rattle.ssim_text.specs.declared.action.Action.{Action}
 use Rattle.ssim_text.specs.declared.action.Action.TheVariants.{New, Cnl, Rpl, Eqt, Tim}
 use Rattle.ssim_schedule.specs.Effect.{class_number, effect}
 use Rattle.ssim_base.specs.ReadBack.{place_of}
-use Rattle.ssim_schedule.specs.Schedule.{Table, days_in}
 use Rattle.ssim_base.specs.Stations.{Row}
 use Rattle.ssim_base.specs.Timetable.{Days, Legs, same_flight}
 use Rattle.ssim_schedule.specs.declared.finding.Finding.{Finding}
@@ -39,9 +38,9 @@ abbrev pub acted_on : List Row → Action → DayRange → Days → Days
 acted_on rows action period days = changed_by (holds period) (after_on rows action) 0 days
 
 -- the days of each flight after a sub-message, which changes the flight that it names
-abbrev pub after_sub : List Row → Action → FlightNumber → DayRange → Table → FlightNumber → Days
-after_sub rows action flight period table g =
-    if nat_eq (place_of flight) (place_of g) then acted_on rows action period (days_in table g) else days_in table g
+abbrev pub after_sub : List Row → Action → FlightNumber → DayRange → (FlightNumber → Days) → FlightNumber → Days
+after_sub rows action flight period days g =
+    if nat_eq (place_of flight) (place_of g) then acted_on rows action period (days g) else days g
 
 -- what flight g has on a day after the sub-message: the effect if it names g and its period holds
 -- the day, else the old legs

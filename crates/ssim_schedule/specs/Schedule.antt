@@ -1,24 +1,30 @@
--- What a schedule keeps: for each flight that was named, its itinerary on each day and its cuts.
-use Rattle.std.specs.Prelude.{ℕ, nat_eq, if◌then◌else◌, List, [], ◌∷◌}
+-- What contracts see of a schedule: the itinerary of each flight on each day, and the cuts of each
+-- flight. How these are stored is in internal/Table.
+use Rattle.std.specs.Prelude.{ℕ, List, refl}
+use Rattle.std.specs.Coded.{Coded, code_by, coded_list}
 use Rattle.ssim_values.specs.Flight.{FlightNumber}
-use Rattle.ssim_periods.specs.Days.{each_day}
 use Rattle.ssim_base.specs.Timetable.{Days}
-use Rattle.ssim_base.specs.ReadBack.{place_of}
-use Rattle.ssim_schedule.specs.declared.flight_table.FlightPeriods.{FlightPeriods}
+use Rattle.ssim_schedule.specs.internal.Table.{Table, table_cuts, table_days}
+use Rattle.ssim_schedule.specs.contracts.flight_table.FlightPeriods as entry
 
--- the flights of a schedule, each with its itineraries and cuts
-abbrev pub Table : Type 0
-Table = List FlightPeriods
-
--- a field of a flight's entry, or `other` if the flight has no entry
-abbrev pub found : {X : Type 0} → (FlightPeriods → X) → X → Table → FlightNumber → X
-found field other [] flight = other
-found field other (f ∷ table) flight = if nat_eq (place_of f.flight) (place_of flight) then field f else found field other table flight
+-- what the flights of a schedule fly; all that is seen of it is `days_in` and `cuts_in`
+pub record Flown : Type 0 where
+  table : Table
 
 -- a flight's itinerary on each day; no legs on any day if it was never named
-abbrev pub days_in : Table → FlightNumber → Days
-days_in = found (λ f. f.periods.days) (each_day (λ _. []))
+abbrev pub days_in : Flown → FlightNumber → Days
+days_in flown = table_days flown.table
 
--- the cuts of a flight
-abbrev pub cuts_in : Table → FlightNumber → List ℕ
-cuts_in = found (λ f. f.periods.cuts) []
+-- the cuts of a flight; none if it was never named
+abbrev pub cuts_in : Flown → FlightNumber → List ℕ
+cuts_in flown = table_cuts flown.table
+
+-- ---- for the model of `Schedule` alone
+
+-- what the stored flights fly
+abbrev pub flown_by : Table → Flown
+flown_by table = record { table = table }
+
+-- by this code a proof tells two values apart
+abbrev pub flown_code : Coded Flown
+flown_code = code_by Table (coded_list entry.the_row.coded) (λ flown. flown.table) flown_by (λ _. refl)

@@ -6,6 +6,7 @@ ghost use Rattle.ssim_base.specs.Export.{chapter7, frame_from};
 ghost use Rattle.ssim_schedule.specs.ExportResult.{ReadsBackBase, Refuses, RefusesBase, Writes, WritesBase};
 ghost use Rattle.ssim_base.specs.ReadBack.{CanReadBack, IsTimetable, ReadsBackFrom};
 ghost use Rattle.ssim_schedule.specs.Schedule.{days_in};
+ghost use Rattle.ssim_schedule.specs.internal.Table.{table_days};
 ghost use Rattle.ssim_base.specs.Timetable.{days_of};
 
 mod lines;
@@ -159,12 +160,12 @@ fn export_frame<W: Sink>(
     alloc: Global,
     out: &mut W,
 ) -> Result<(), ExportFault>
-    ensures ok { OnOk result (Writes W.taken W.failures (chapter7 (frame_from header.now carrier.now trailer.now) (days_in table)) out.old out.new) }
-    ensures err { IfErr result (λ fault. Refuses W.taken W.failures (chapter7 (frame_from header.now carrier.now trailer.now) (days_in table)) out.old out.new fault) }
+    ensures ok { OnOk result (Writes W.taken W.failures (chapter7 (frame_from header.now carrier.now trailer.now) (table_days table)) out.old out.new) }
+    ensures err { IfErr result (λ fault. Refuses W.taken W.failures (chapter7 (frame_from header.now carrier.now trailer.now) (table_days table)) out.old out.new fault) }
     ensures device { W.device out.new ≡ W.device out.old }
 
     // The legs that were written are legs that records may have.
-    ensures readable { OnOk result (IsTimetable (days_in table) → CanReadBack (days_in table)) }
+    ensures readable { OnOk result (IsTimetable (table_days table) → CanReadBack (table_days table)) }
 {
     let plan = divide(alloc, table.into_blocks())?;
     measure(&plan)?;

@@ -34,7 +34,7 @@ pub(crate) struct FlightBlocks {
 impl Model for FlightBlocks {
     ghost use Rattle.std.specs.Prelude.{◌≡◌, length};
     ghost use Rattle.ssim_schedule.specs.internal.Blocks.{AreBlocks, joined};
-    ghost use Rattle.ssim_schedule.specs.Schedule.{Table};
+    ghost use Rattle.ssim_schedule.specs.internal.Table.{Table};
 
     ghost Value = { Table };
 
@@ -44,8 +44,7 @@ impl Model for FlightBlocks {
 }
 
 impl FlightBlocks {
-    ghost use Rattle.ssim_schedule.specs.internal.Table.{AddsOnlyAt, AreRising};
-    ghost use Rattle.ssim_schedule.specs.Schedule.{cuts_in, days_in};
+    ghost use Rattle.ssim_schedule.specs.internal.Table.{AddsOnlyAt, AreRising, table_cuts, table_days};
 
     /// No flight flies on any date. All blocks are there, and empty.
     pub(crate) fn new(alloc: Global) -> Result<FlightBlocks, Memory>
@@ -60,7 +59,7 @@ impl FlightBlocks {
     /// The legs of a flight on a date of origin. The list is empty if the flight does not fly on
     /// the date.
     pub(crate) fn itinerary(&self, flight: &Flight, day: Day) -> &[PlacedLeg]
-        ensures { result.now ≡ slice_index_or (days_in self.now flight.now) day [] }
+        ensures { result.now ≡ slice_index_or (table_days self.now flight.now) day [] }
     {
         self.block(*flight).itinerary(flight, day)
     }
@@ -68,10 +67,10 @@ impl FlightBlocks {
     /// The rising days at which a stored range of the flight begins, or the day after its last;
     /// none for a flight that was never named.
     pub(crate) fn cuts(&self, flight: &Flight) -> &[u32]
-        ensures cuts { result.now ≡ cuts_in self.now flight.now }
+        ensures cuts { result.now ≡ table_cuts self.now flight.now }
         ensures rising { IsStrictlyIncreasing result.now }
         ensures in_calendar { All (λ cut. cut ≤ 36525) result.now }
-        ensures weekly { (m n : ℕ) → m ≤ n → n < 36525 → weekday m ≡ weekday n → ((cut : ℕ) → Contains result.now cut → m < cut → n < cut) → on_day (days_in self.now flight.now) m ≡ on_day (days_in self.now flight.now) n }
+        ensures weekly { (m n : ℕ) → m ≤ n → n < 36525 → weekday m ≡ weekday n → ((cut : ℕ) → Contains result.now cut → m < cut → n < cut) → on_day (table_days self.now flight.now) m ≡ on_day (table_days self.now flight.now) n }
     {
         self.block(*flight).cuts(flight)
     }
@@ -95,9 +94,9 @@ impl FlightBlocks {
         period: &Period,
         change: &C,
     ) -> Result<[u32; 5], Memory>
-        ensures days { OnOk result ((g : FlightNumber) → days_in self.new g ≡ (if nat_eq (place_of flight) (place_of g) then changed_on (holds period.now) (C.outcome change.now) 0 (days_in self.old g) else days_in self.old g)) }
-        ensures cuts { OnOk result ((g : FlightNumber) → AddsOnlyAt flight period.now g (cuts_in self.old g) (cuts_in self.new g)) }
-        ensures counts { IfOk result (λ counts. counts ≡ counts_on (holds period.now) (C.class_of change.now) (days_in self.old flight)) }
+        ensures days { OnOk result ((g : FlightNumber) → table_days self.new g ≡ (if nat_eq (place_of flight) (place_of g) then changed_on (holds period.now) (C.outcome change.now) 0 (table_days self.old g) else table_days self.old g)) }
+        ensures cuts { OnOk result ((g : FlightNumber) → AddsOnlyAt flight period.now g (table_cuts self.old g) (table_cuts self.new g)) }
+        ensures counts { IfOk result (λ counts. counts ≡ counts_on (holds period.now) (C.class_of change.now) (table_days self.old flight)) }
         ensures err { OnErr result (self.new ≡ self.old) }
     {
         let block = self.blocks[block_number(flight)].own(self.alloc)?;
@@ -134,16 +133,16 @@ impl FlightBlocks {
 
     /// A copy of the periods of a flight. The copy shares the itineraries.
     pub(crate) fn copy_of(&self, flight: Flight) -> Result<Periods<Itinerary>, Memory>
-        ensures days { IfOk result (λ p. p.days ≡ days_in self.now flight) }
-        ensures cuts { IfOk result (λ p. p.cuts ≡ cuts_in self.now flight) }
+        ensures days { IfOk result (λ p. p.days ≡ table_days self.now flight) }
+        ensures cuts { IfOk result (λ p. p.cuts ≡ table_cuts self.now flight) }
     {
         self.block(flight).copy_of(flight)
     }
 
     /// Replaces the periods of a flight.
     pub(crate) fn put(&mut self, flight: Flight, periods: Periods<Itinerary>) -> Result<(), Memory>
-        ensures days { OnOk result ((g : FlightNumber) → days_in self.new g ≡ (if nat_eq (place_of flight) (place_of g) then periods.days else days_in self.old g)) }
-        ensures cuts { OnOk result ((g : FlightNumber) → cuts_in self.new g ≡ (if nat_eq (place_of flight) (place_of g) then periods.cuts else cuts_in self.old g)) }
+        ensures days { OnOk result ((g : FlightNumber) → table_days self.new g ≡ (if nat_eq (place_of flight) (place_of g) then periods.days else table_days self.old g)) }
+        ensures cuts { OnOk result ((g : FlightNumber) → table_cuts self.new g ≡ (if nat_eq (place_of flight) (place_of g) then periods.cuts else table_cuts self.old g)) }
         ensures err { OnErr result (self.new ≡ self.old) }
     {
         let block = self.blocks[block_number(flight)].own(self.alloc)?;
@@ -160,8 +159,8 @@ impl FlightBlocks {
 
     // The block of a flight, which has the flight's entry if there is one.
     fn block(&self, flight: Flight) -> &FlightTable
-        ensures days { days_in result.now flight ≡ days_in self.now flight }
-        ensures cuts { cuts_in result.now flight ≡ cuts_in self.now flight }
+        ensures days { table_days result.now flight ≡ table_days self.now flight }
+        ensures cuts { table_cuts result.now flight ≡ table_cuts self.now flight }
     {
         self.blocks[block_number(flight)].get()
     }

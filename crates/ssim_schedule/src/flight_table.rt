@@ -20,7 +20,7 @@ use std::marker::Model;
 
 /// A flight, and its itinerary on each date.
 #[derive(Drop)]
-pub struct FlightPeriods {
+pub(crate) struct FlightPeriods {
     pub(crate) flight: Flight,
     pub(crate) periods: Shared<Periods<Itinerary>>,
 }
@@ -34,8 +34,7 @@ pub(crate) struct FlightTable {
 }
 
 impl Model for FlightTable {
-    ghost use Rattle.ssim_schedule.specs.Schedule.{Table};
-    ghost use Rattle.ssim_schedule.specs.internal.Table.{AreRising};
+    ghost use Rattle.ssim_schedule.specs.internal.Table.{AreRising, Table};
 
     ghost Value = { Table };
 
@@ -45,8 +44,7 @@ impl Model for FlightTable {
 }
 
 impl FlightTable {
-    ghost use Rattle.ssim_schedule.specs.internal.Table.{AddsOnlyAt, AreRising, IsAt, IsGapFor};
-    ghost use Rattle.ssim_schedule.specs.Schedule.{cuts_in, days_in};
+    ghost use Rattle.ssim_schedule.specs.internal.Table.{AddsOnlyAt, AreRising, IsAt, IsGapFor, table_cuts, table_days};
 
     /// No flight flies on any date.
     pub(crate) fn new(alloc: Global) -> FlightTable
@@ -61,7 +59,7 @@ impl FlightTable {
     /// The legs of a flight on a date of origin. The list is empty if the flight does not fly on
     /// the date.
     pub(crate) fn itinerary(&self, flight: &Flight, day: Day) -> &[PlacedLeg]
-        ensures { result.now ≡ slice_index_or (days_in self.now flight.now) day [] }
+        ensures { result.now ≡ slice_index_or (table_days self.now flight.now) day [] }
     {
         match self.search(*flight) {
             Ok(place) => self.flights[place].periods.get().at(day).legs(),
@@ -72,10 +70,10 @@ impl FlightTable {
     /// The rising days at which a stored range of the flight begins, or the day after its last;
     /// none for a flight that was never named.
     pub(crate) fn cuts(&self, flight: &Flight) -> &[u32]
-        ensures cuts { result.now ≡ cuts_in self.now flight.now }
+        ensures cuts { result.now ≡ table_cuts self.now flight.now }
         ensures rising { IsStrictlyIncreasing result.now }
         ensures in_calendar { All (λ cut. cut ≤ 36525) result.now }
-        ensures weekly { (m n : ℕ) → m ≤ n → n < 36525 → weekday m ≡ weekday n → ((cut : ℕ) → Contains result.now cut → m < cut → n < cut) → on_day (days_in self.now flight.now) m ≡ on_day (days_in self.now flight.now) n }
+        ensures weekly { (m n : ℕ) → m ≤ n → n < 36525 → weekday m ≡ weekday n → ((cut : ℕ) → Contains result.now cut → m < cut → n < cut) → on_day (table_days self.now flight.now) m ≡ on_day (table_days self.now flight.now) n }
     {
         match self.search(*flight) {
             Ok(place) => self.flights[place].periods.get().cuts(),
@@ -91,9 +89,9 @@ impl FlightTable {
         period: &Period,
         change: &C,
     ) -> Result<[u32; 5], Memory>
-        ensures days { OnOk result ((g : FlightNumber) → days_in self.new g ≡ (if nat_eq (place_of flight) (place_of g) then changed_on (holds period.now) (C.outcome change.now) 0 (days_in self.old g) else days_in self.old g)) }
-        ensures cuts { OnOk result ((g : FlightNumber) → AddsOnlyAt flight period.now g (cuts_in self.old g) (cuts_in self.new g)) }
-        ensures counts { IfOk result (λ counts. counts ≡ counts_on (holds period.now) (C.class_of change.now) (days_in self.old flight)) }
+        ensures days { OnOk result ((g : FlightNumber) → table_days self.new g ≡ (if nat_eq (place_of flight) (place_of g) then changed_on (holds period.now) (C.outcome change.now) 0 (table_days self.old g) else table_days self.old g)) }
+        ensures cuts { OnOk result ((g : FlightNumber) → AddsOnlyAt flight period.now g (table_cuts self.old g) (table_cuts self.new g)) }
+        ensures counts { IfOk result (λ counts. counts ≡ counts_on (holds period.now) (C.class_of change.now) (table_days self.old flight)) }
         ensures block { (k : ℕ) → IsBlock k self.old → block_of flight ≡ k → IsBlock k self.new }
         ensures err { OnErr result (self.new ≡ self.old) }
     {
@@ -126,9 +124,9 @@ impl FlightTable {
         change: &C,
     ) -> Result<[u32; 5], Memory>
         requires { IsGapFor self.old flight gap }
-        ensures days { OnOk result ((g : FlightNumber) → days_in self.new g ≡ (if nat_eq (place_of flight) (place_of g) then changed_on (holds period.now) (C.outcome change.now) 0 (days_in self.old g) else days_in self.old g)) }
-        ensures cuts { OnOk result ((g : FlightNumber) → AddsOnlyAt flight period.now g (cuts_in self.old g) (cuts_in self.new g)) }
-        ensures counts { IfOk result (λ counts. counts ≡ counts_on (holds period.now) (C.class_of change.now) (days_in self.old flight)) }
+        ensures days { OnOk result ((g : FlightNumber) → table_days self.new g ≡ (if nat_eq (place_of flight) (place_of g) then changed_on (holds period.now) (C.outcome change.now) 0 (table_days self.old g) else table_days self.old g)) }
+        ensures cuts { OnOk result ((g : FlightNumber) → AddsOnlyAt flight period.now g (table_cuts self.old g) (table_cuts self.new g)) }
+        ensures counts { IfOk result (λ counts. counts ≡ counts_on (holds period.now) (C.class_of change.now) (table_days self.old flight)) }
         ensures block { (k : ℕ) → IsBlock k self.old → block_of flight ≡ k → IsBlock k self.new }
         ensures err { OnErr result (self.new ≡ self.old) }
     {
@@ -141,8 +139,8 @@ impl FlightTable {
 
     /// A copy of the periods of a flight. The copy shares the itineraries.
     pub(crate) fn copy_of(&self, flight: Flight) -> Result<Periods<Itinerary>, Memory>
-        ensures days { IfOk result (λ p. p.days ≡ days_in self.now flight) }
-        ensures cuts { IfOk result (λ p. p.cuts ≡ cuts_in self.now flight) }
+        ensures days { IfOk result (λ p. p.days ≡ table_days self.now flight) }
+        ensures cuts { IfOk result (λ p. p.cuts ≡ table_cuts self.now flight) }
     {
         match self.search(flight) {
             Ok(place) => self.flights[place].periods.get().copy(),
@@ -152,8 +150,8 @@ impl FlightTable {
 
     /// Replaces the periods of a flight.
     pub(crate) fn put(&mut self, flight: Flight, periods: Periods<Itinerary>) -> Result<(), Memory>
-        ensures days { OnOk result ((g : FlightNumber) → days_in self.new g ≡ (if nat_eq (place_of flight) (place_of g) then periods.days else days_in self.old g)) }
-        ensures cuts { OnOk result ((g : FlightNumber) → cuts_in self.new g ≡ (if nat_eq (place_of flight) (place_of g) then periods.cuts else cuts_in self.old g)) }
+        ensures days { OnOk result ((g : FlightNumber) → table_days self.new g ≡ (if nat_eq (place_of flight) (place_of g) then periods.days else table_days self.old g)) }
+        ensures cuts { OnOk result ((g : FlightNumber) → table_cuts self.new g ≡ (if nat_eq (place_of flight) (place_of g) then periods.cuts else table_cuts self.old g)) }
         ensures block { (k : ℕ) → IsBlock k self.old → block_of flight ≡ k → IsBlock k self.new }
         ensures err { OnErr result (self.new ≡ self.old) }
     {

@@ -8,6 +8,9 @@
 //! - `Schedule::apply_sub` and `apply_by`: a resolved sub-message acts on each date of its period
 //!   by itself; a [`Finding`] counts the dates by what happened on them.
 //!
+//! Contracts see of a schedule what each flight has on each day (`days_in`) and its cuts
+//! (`cuts_in`), and not how it is stored.
+//!
 //! The promise: a schedule has on each date what the records, and then the sub-messages, say of
 //! that date alone; and its export is the chapter 7 of that timetable, which reads back to itself.
 #![tactic(auto)]
@@ -36,7 +39,6 @@ mod timetable_builder;
 
 pub use export::{ExportFault, export_data_set};
 pub use finding::Finding;
-pub use flight_table::FlightPeriods;
 pub use itinerary::Itinerary;
 pub use leg::PlacedLeg;
 pub use schedule::Schedule;

@@ -24,13 +24,16 @@ pub struct Schedule {
 
 impl Model for Schedule {
     ghost use Rattle.ssim_base.specs.ReadBack.{IsTimetable};
-    ghost use Rattle.ssim_schedule.specs.Schedule.{Table, days_in};
+    ghost use Rattle.ssim_schedule.specs.Schedule.{Flown, flown_by, flown_code};
+    ghost use Rattle.ssim_schedule.specs.internal.Table.{table_days};
 
-    ghost Value = { Table };
+    ghost Value = { Flown };
 
-    ghost view = { λ s. s.table };
+    ghost coded = { flown_code };
 
-    ghost invariant = { λ s. IsTimetable (days_in s.table) };
+    ghost view = { λ s. flown_by s.table };
+
+    ghost invariant = { λ s. IsTimetable (table_days s.table) };
 }
 
 impl Schedule {

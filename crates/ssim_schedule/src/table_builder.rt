@@ -7,7 +7,7 @@ ghost use Rattle.ssim_periods.specs.Days.{changed_on};
 ghost use Rattle.ssim_schedule.specs.internal.TableBuilder.{with_current};
 ghost use Rattle.ssim_schedule.specs.internal.InsertedLegs.{placed_each};
 ghost use Rattle.ssim_base.specs.ReadBack.{place_of};
-ghost use Rattle.ssim_schedule.specs.Schedule.{cuts_in, days_in};
+ghost use Rattle.ssim_schedule.specs.internal.Table.{table_cuts, table_days};
 
 use crate::flight_blocks::FlightBlocks;
 use crate::flight_table::place;
@@ -36,7 +36,7 @@ pub(crate) struct TableBuilder {
 
 impl Model for TableBuilder {
     ghost use Rattle.ssim_schedule.specs.internal.TableBuilder.{with_current};
-    ghost use Rattle.ssim_schedule.specs.Schedule.{Table};
+    ghost use Rattle.ssim_schedule.specs.internal.Table.{Table};
 
     ghost Value = { Table };
 
@@ -44,8 +44,7 @@ impl Model for TableBuilder {
 }
 
 impl TableBuilder {
-    ghost use Rattle.ssim_schedule.specs.internal.Table.{AddsOnlyAt};
-    ghost use Rattle.ssim_schedule.specs.Schedule.{cuts_in, days_in};
+    ghost use Rattle.ssim_schedule.specs.internal.Table.{AddsOnlyAt, table_cuts, table_days};
 
     /// No flight flies on any date.
     pub(crate) fn new(alloc: Global) -> Result<TableBuilder, Memory>
@@ -64,8 +63,8 @@ impl TableBuilder {
         period: &Period,
         legs: &InsertedLegs,
     ) -> Result<(), Memory>
-        ensures days { OnOk result ((g : FlightNumber) → days_in self.new g ≡ (if nat_eq (place_of flight) (place_of g) then changed_on (holds period.now) (placed_each legs.now) 0 (days_in self.old g) else days_in self.old g)) }
-        ensures cuts { OnOk result ((g : FlightNumber) → AddsOnlyAt flight period.now g (cuts_in self.old g) (cuts_in self.new g)) }
+        ensures days { OnOk result ((g : FlightNumber) → table_days self.new g ≡ (if nat_eq (place_of flight) (place_of g) then changed_on (holds period.now) (placed_each legs.now) 0 (table_days self.old g) else table_days self.old g)) }
+        ensures cuts { OnOk result ((g : FlightNumber) → AddsOnlyAt flight period.now g (table_cuts self.old g) (table_cuts self.new g)) }
     {
         if let Some(current) = &mut self.current {
             if place(current.flight) == place(flight) {
@@ -84,8 +83,8 @@ impl TableBuilder {
         period: &Period,
         legs: &InsertedLegs,
     ) -> Result<(), Memory>
-        ensures days { OnOk result ((g : FlightNumber) → days_in self.new g ≡ (if nat_eq (place_of flight) (place_of g) then changed_on (holds period.now) (placed_each legs.now) 0 (days_in self.old g) else days_in self.old g)) }
-        ensures cuts { OnOk result ((g : FlightNumber) → AddsOnlyAt flight period.now g (cuts_in self.old g) (cuts_in self.new g)) }
+        ensures days { OnOk result ((g : FlightNumber) → table_days self.new g ≡ (if nat_eq (place_of flight) (place_of g) then changed_on (holds period.now) (placed_each legs.now) 0 (table_days self.old g) else table_days self.old g)) }
+        ensures cuts { OnOk result ((g : FlightNumber) → AddsOnlyAt flight period.now g (table_cuts self.old g) (table_cuts self.new g)) }
     {
         let before = self.current.take();
         put_back(&mut self.blocks, before)?;
@@ -121,8 +120,8 @@ impl TableBuilder {
 
     /// All flights in blocks.
     pub(crate) fn into_blocks(self) -> Result<FlightBlocks, Memory>
-        ensures days { IfOk result (λ blocks. (g : FlightNumber) → days_in blocks g ≡ days_in self g) }
-        ensures cuts { IfOk result (λ blocks. (g : FlightNumber) → cuts_in blocks g ≡ cuts_in self g) }
+        ensures days { IfOk result (λ blocks. (g : FlightNumber) → table_days blocks g ≡ table_days self g) }
+        ensures cuts { IfOk result (λ blocks. (g : FlightNumber) → table_cuts blocks g ≡ table_cuts self g) }
     {
         let mut blocks = self.blocks;
         put_back(&mut blocks, self.current)?;
@@ -132,8 +131,8 @@ impl TableBuilder {
 
 /// Puts the current flight into the blocks.
 fn put_back(blocks: &mut FlightBlocks, current: Option<CurrentFlight>) -> Result<(), Memory>
-    ensures days { OnOk result ((g : FlightNumber) → days_in blocks.new g ≡ days_in (with_current current blocks.old) g) }
-    ensures cuts { OnOk result ((g : FlightNumber) → cuts_in blocks.new g ≡ cuts_in (with_current current blocks.old) g) }
+    ensures days { OnOk result ((g : FlightNumber) → table_days blocks.new g ≡ table_days (with_current current blocks.old) g) }
+    ensures cuts { OnOk result ((g : FlightNumber) → table_cuts blocks.new g ≡ table_cuts (with_current current blocks.old) g) }
 {
     match current {
         None => Ok(()),

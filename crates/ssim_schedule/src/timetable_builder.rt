@@ -12,6 +12,7 @@ ghost use Rattle.ssim_schedule.specs.internal.FlightSet.{is_marked, is_record_of
 ghost use Rattle.ssim_schedule.specs.DivisionPoints.{AreAtPoints};
 ghost use Rattle.ssim_base.specs.ReadBack.{HasFrame};
 ghost use Rattle.ssim_schedule.specs.Schedule.{cuts_in, days_in};
+ghost use Rattle.ssim_schedule.specs.internal.Table.{table_cuts, table_days};
 ghost use Rattle.ssim_base.specs.Timetable.{days_of, is_among, itinerary_among};
 
 use crate::flight_blocks::FlightBlocks;
@@ -167,8 +168,8 @@ impl TimetableBuilder {
 
     /// The timetable of the records that were added.
     fn into_table(self) -> Result<FlightBlocks, Memory>
-        ensures days { IfOk result (λ table. (done : List Record) → IsBuilt self done → (g : FlightNumber) → IsFlight g → days_in table g ≡ days_of done g) }
-        ensures cuts { IfOk result (λ table. (done : List Record) → IsBuilt self done → (g : FlightNumber) → IsFlight g → AreAtPoints (cuts_in table g) g done) }
+        ensures days { IfOk result (λ table. (done : List Record) → IsBuilt self done → (g : FlightNumber) → IsFlight g → table_days table g ≡ days_of done g) }
+        ensures cuts { IfOk result (λ table. (done : List Record) → IsBuilt self done → (g : FlightNumber) → IsFlight g → AreAtPoints (table_cuts table g) g done) }
     {
         let mut building = self;
         building.put_group(None)?;

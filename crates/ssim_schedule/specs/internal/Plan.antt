@@ -8,7 +8,7 @@ use Rattle.ssim_base.specs.ReadBack.{IsWritable}
 use Rattle.ssim_schedule.specs.internal.SharedLegs.{legs_count}
 use Rattle.ssim_base.specs.Export as refusal
 use Rattle.ssim_base.specs.Export.{ExportRefusal, Frame, Piece, export_bytes, line, numbered, pieces, pieces_records, sections}
-use Rattle.ssim_schedule.specs.Schedule.{Table}
+use Rattle.ssim_schedule.specs.internal.Table.{Table}
 use Rattle.ssim_schedule.specs.declared.export.ExportFault.{ExportFault}
 use Rattle.ssim_schedule.specs.declared.export.ExportFault.TheVariants.{Variations, Records, WriteFault, Memory}
 

@@ -1,10 +1,28 @@
 -- How a schedule stores its flights: entries that rise by number and suffix of the flight.
-use Rattle.std.specs.Prelude.{◌≡◌, ◌⊎◌, ℕ, ◌+◌, ◌<◌, ◌≤◌, List, [], length, slice_index_or, Contains}
+use Rattle.std.specs.Prelude.{◌≡◌, ◌⊎◌, ℕ, ◌+◌, ◌<◌, ◌≤◌, nat_eq, if◌then◌else◌, List, [], ◌∷◌, length, slice_index_or, Contains}
 use Rattle.ssim_values.specs.Flight.{FlightNumber}
 use Rattle.ssim_values.specs.Period.{DayRange}
+use Rattle.ssim_periods.specs.Days.{each_day}
 use Rattle.ssim_base.specs.ReadBack.{place_of}
-use Rattle.ssim_schedule.specs.Schedule.{Table}
+use Rattle.ssim_base.specs.Timetable.{Days}
 use Rattle.ssim_schedule.specs.declared.flight_table.FlightPeriods.{FlightPeriods}
+
+-- the stored flights, each with its itineraries and cuts
+abbrev pub Table : Type 0
+Table = List FlightPeriods
+
+-- a field of a flight's entry, or `other` if the flight has no entry
+abbrev pub found : {X : Type 0} → (FlightPeriods → X) → X → Table → FlightNumber → X
+found field other [] flight = other
+found field other (f ∷ table) flight = if nat_eq (place_of f.flight) (place_of flight) then field f else found field other table flight
+
+-- a flight's itinerary on each day; no legs on any day if it was never named
+abbrev pub table_days : Table → FlightNumber → Days
+table_days = found (λ f. f.periods.days) (each_day (λ _. []))
+
+-- the cuts of a flight
+abbrev pub table_cuts : Table → FlightNumber → List ℕ
+table_cuts = found (λ f. f.periods.cuts) []
 
 -- an entry in place of one that does not exist
 abbrev pub no_entry : FlightPeriods

@@ -1,7 +1,7 @@
 -- A timetable that grows. The flight whose records are being put is stored apart from the other
 -- flights.
 use Rattle.std.specs.Prelude.{◌∷◌, Option, Some, None}
-use Rattle.ssim_schedule.specs.Schedule.{Table}
+use Rattle.ssim_schedule.specs.internal.Table.{Table}
 use Rattle.ssim_schedule.specs.declared.table_builder.CurrentFlight.{CurrentFlight}
 
 -- the entries with the current flight first. A look-up takes the first entry of a flight, so it

@@ -13,18 +13,18 @@ use Rattle.ssim_schedule.specs.internal.LegGroup.{IsBound, no_group, with_legs}
 use Rattle.ssim_schedule.specs.internal.InsertedLegs.{StartsFrom}
 use Rattle.ssim_base.specs.ReadBack.{place_of}
 use Rattle.ssim_schedule.specs.DivisionPoints.{is_point}
-use Rattle.ssim_schedule.specs.Schedule.{cuts_in, days_in}
+use Rattle.ssim_schedule.specs.internal.Table.{table_cuts, table_days}
 use Rattle.ssim_schedule.specs.internal.PendingSegments.{waiting_at}
 use Rattle.ssim_schedule.specs.declared.timetable_builder.TimetableBuilder.{TimetableBuilder}
 use Rattle.ssim_schedule.specs.declared.leg_group.Heading.{Heading}
 
 -- a flight's itineraries once the pending legs are put into the table
 abbrev pub days_with : TimetableBuilder → FlightNumber → Days
-days_with b g = with_legs b.group.heading b.group.legs g (days_in b.table g)
+days_with b g = with_legs b.group.heading b.group.legs g (table_days b.table g)
 
 -- a cut of the flight in the table, or one that the pending legs may add
 abbrev pub IsCut : TimetableBuilder → FlightNumber → ℕ → Type 0
-IsCut b g cut = Contains (cuts_in b.table g) cut ⊎ IsBound b.group.heading g cut
+IsCut b g cut = Contains (table_cuts b.table g) cut ⊎ IsBound b.group.heading g cut
 
 -- the builder has the timetable of these records and their pending tails
 pub record IsBuilt (b : TimetableBuilder) (done : List Record) : Type 0 where
@@ -41,8 +41,8 @@ pub record TakesSegment (old new : TimetableBuilder) (r : SegmentFields) : Type 
 
 -- the pending legs are put into the table
 pub record PutsGroup (old new : TimetableBuilder) : Type 0 where
-  pub days : (g : FlightNumber) → days_in new.table g ≡ days_with old g
-  pub cuts : (g : FlightNumber) (cut : ℕ) → Contains (cuts_in new.table g) cut → IsCut old g cut
+  pub days : (g : FlightNumber) → table_days new.table g ≡ days_with old g
+  pub cuts : (g : FlightNumber) (cut : ℕ) → Contains (table_cuts new.table g) cut → IsCut old g cut
   pub group : new.group ≡ no_group
   pub waiting : new.waiting ≡ old.waiting
 

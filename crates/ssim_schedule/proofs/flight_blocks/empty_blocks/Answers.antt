@@ -1,7 +1,7 @@
 -- One more empty block.
 use Rattle.std.proofs.Common.{List, [], ◌∷◌, ◌++◌, replicate, ap, ◌∙◌}
 use Rattle.std.proofs.lemmas.List.{replicate-append-replicate}
-use Rattle.ssim_schedule.specs.Schedule.{Table}
+use Rattle.ssim_schedule.specs.internal.Table.{Table}
 use Rattle.ssim_schedule.proofs.flight_blocks.empty_blocks.Goals as goal
 
 pub loop-preserved : goal.loop-preserved

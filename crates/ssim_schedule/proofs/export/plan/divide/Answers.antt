@@ -5,7 +5,7 @@ use Rattle.std.specs.List.{All}
 use Rattle.std.specs.Vec.Iter.{into_iter_items}
 use Rattle.ssim_values.specs.Flight.{IsFlight}
 use Rattle.ssim_schedule.specs.internal.Plan.{plan_of}
-use Rattle.ssim_schedule.specs.Schedule.{Table}
+use Rattle.ssim_schedule.specs.internal.Table.{Table}
 use Rattle.ssim_schedule.proofs.Planning.{block_exists, planned_block}
 use Rattle.ssim_schedule.proofs.export.plan.divide.Goals as goal
 

@@ -5,8 +5,7 @@ use Rattle.ssim_periods.specs.Calendar.{holds}
 use Rattle.ssim_periods.specs.Days.{changed_on, counts_on}
 use Rattle.ssim_schedule.specs.internal.Blocks.{IsBlock}
 use Rattle.ssim_base.specs.ReadBack.{place_of}
-use Rattle.ssim_schedule.specs.internal.Table.{AddsOnlyAt}
-use Rattle.ssim_schedule.specs.Schedule.{Table, days_in}
+use Rattle.ssim_schedule.specs.internal.Table.{AddsOnlyAt, Table, table_days}
 use Rattle.ssim_base.specs.Timetable.{Days}
 use Rattle.ssim_schedule.proofs.BlockLemmas.{apart_places, block_at, blocks_set, each_flight, found_block}
 use Rattle.ssim_schedule.proofs.ChangeLemmas.{cuts_at, days_at, no_days}
@@ -57,6 +56,6 @@ returns-clause-counts g c =
     let flight = c.args.flight in
     let within : n < length blocks = omega (arith, c.block_number.ensures.small, c.self.invariant.1) in
     let held : c.in_ok-block.block.now ≡ get_or blocks n [] = c.in_ok-block.ensures.value ∙ c.index_mut.ensures.value ∙ get_or_default blocks n c.index_mut.result.now [] within in
-    let its : days_in c.in_ok-block.block.now flight ≡ days_in c.args.self.now flight =
-    ap (λ (t : Table). days_in t flight) held ∙ found_block days_at no_days blocks n flight c.self.invariant.0 c.block_number.ensures.value ∙ ap (λ (t : Table). days_in t flight) c.self.view_is in
+    let its : table_days c.in_ok-block.block.now flight ≡ table_days c.args.self.now flight =
+    ap (λ (t : Table). table_days t flight) held ∙ found_block days_at no_days blocks n flight c.self.invariant.0 c.block_number.ensures.value ∙ ap (λ (t : Table). table_days t flight) c.self.view_is in
     if_ok c.change.result (λ counts e. e ∙ ap (counts_on (holds c.args.period.now) (g.C.Change.class_of c.args.change.now)) its) c.change.ensures.counts

@@ -1,7 +1,6 @@
 -- The blocks are those of the schedule, one after another.
 use Rattle.std.proofs.Common.{subst}
-use Rattle.ssim_schedule.specs.internal.Table.{AreRising}
-use Rattle.ssim_schedule.specs.Schedule.{Table}
+use Rattle.ssim_schedule.specs.internal.Table.{AreRising, Table}
 use Rattle.ssim_schedule.proofs.BlockLemmas.{rising_joined}
 use Rattle.ssim_schedule.proofs.flight_blocks.FlightBlocks.into_blocks.Goals as goal
 

@@ -2,7 +2,7 @@
 use Rattle.std.proofs.Common.{List, [], length, sym, ap, subst, ◌∙◌}
 use Rattle.std.proofs.lemmas.List.{length-replicate}
 use Rattle.ssim_schedule.specs.internal.Blocks.{AreBlocks}
-use Rattle.ssim_schedule.specs.Schedule.{Table}
+use Rattle.ssim_schedule.specs.internal.Table.{Table}
 use Rattle.ssim_schedule.proofs.BlockLemmas.{blocks_empty}
 use Rattle.ssim_schedule.proofs.flight_blocks.FlightBlocks.new.Goals as goal
 

@@ -3,7 +3,7 @@ use Rattle.std.proofs.Common.{◌≡◌, ◌<◌, Bool, nat_eq, if◌then◌else
 use Rattle.std.proofs.lemmas.List.{get_or_default}
 use Rattle.ssim_schedule.specs.internal.Blocks.{IsBlock}
 use Rattle.ssim_base.specs.ReadBack.{place_of}
-use Rattle.ssim_schedule.specs.Schedule.{Table}
+use Rattle.ssim_schedule.specs.internal.Table.{Table}
 use Rattle.ssim_schedule.proofs.BlockLemmas.{apart_places, block_at, blocks_set, each_flight}
 use Rattle.ssim_schedule.proofs.ChangeLemmas.{cuts_at, days_at, no_days}
 use Rattle.ssim_base.proofs.Results.{on_ok}

@@ -3,8 +3,7 @@ use Rattle.std.proofs.Common.{◌≡◌, ◌+◌, [], nat_eq, if◌then◌else�
 use Rattle.ssim_periods.specs.Calendar.{holds}
 use Rattle.ssim_periods.specs.Days.{AddsOnly, Seen, changed_on, counts_on, each_day}
 use Rattle.ssim_base.specs.ReadBack.{place_of}
-use Rattle.ssim_schedule.specs.internal.Table.{AddsOnlyAt, AreRising, IsGapFor}
-use Rattle.ssim_schedule.specs.Schedule.{Table, cuts_in, days_in}
+use Rattle.ssim_schedule.specs.internal.Table.{AddsOnlyAt, AreRising, IsGapFor, Table, table_cuts, table_days}
 use Rattle.ssim_base.specs.Timetable.{Legs}
 use Rattle.ssim_schedule.proofs.ChangeLemmas.{cuts-insert, days-insert, days_at, no_days}
 use Rattle.ssim_schedule.proofs.TableLemmas.{found_in_gap, rising_insert}
@@ -29,9 +28,9 @@ returns-clause-days g c = λ q.
     let made : c.in_ok-periods.periods.days ≡ changed_on (holds c.args.period.now) (g.C.Change.outcome c.args.change.now) 0 (each_day (λ _. [])) =
     ap (λ (p : Seen Legs). p.days) c.in_ok-periods.ensures ∙ c.in_ok-counts.ensures.days ∙ ap (changed_on (holds c.args.period.now) (g.C.Change.outcome c.args.change.now) 0) c.new-periods.ensures.days in
     let gap : IsGapFor table flight c.args.gap = subst (λ (t : Table). IsGapFor t flight c.args.gap) (sym c.self.view_is) c.requires in
-    ap (λ (t : Table). days_in t q) c.in_ok-insert.ensures.items
+    ap (λ (t : Table). table_days t q) c.in_ok-insert.ensures.items
     ∙ days-insert (holds c.args.period.now) (g.C.Change.outcome c.args.change.now) table flight c.args.gap c.in_ok-periods.periods gap made q
-    ∙ ap (λ (t : Table). if nat_eq (place_of flight) (place_of q) then changed_on (holds c.args.period.now) (g.C.Change.outcome c.args.change.now) 0 (days_in t q) else days_in t q) c.self.view_is
+    ∙ ap (λ (t : Table). if nat_eq (place_of flight) (place_of q) then changed_on (holds c.args.period.now) (g.C.Change.outcome c.args.change.now) 0 (table_days t q) else table_days t q) c.self.view_is
 
 pub returns-clause-cuts : goal.returns-clause-cuts
 returns-clause-cuts g c = λ q.
@@ -40,8 +39,8 @@ returns-clause-cuts g c = λ q.
     let gap : IsGapFor table flight c.args.gap = subst (λ (t : Table). IsGapFor t flight c.args.gap) (sym c.self.view_is) c.requires in
     let adds = subst (λ (p : Seen Legs). AddsOnly c.new-periods.result.cuts p.cuts c.args.period.now.first (c.args.period.now.last + 1)) (sym c.in_ok-periods.ensures) c.in_ok-counts.ensures.cuts in
     let only = cuts-insert c.args.period.now table flight c.args.gap c.in_ok-periods.periods c.new-periods.result.cuts gap c.new-periods.ensures.cuts adds q in
-    subst (λ (t : Table). AddsOnlyAt flight c.args.period.now q (cuts_in t q) (cuts_in c.insert.new.self.items q)) c.self.view_is
-    (subst (λ (t : Table). AddsOnlyAt flight c.args.period.now q (cuts_in table q) (cuts_in t q)) (sym c.in_ok-insert.ensures.items) only)
+    subst (λ (t : Table). AddsOnlyAt flight c.args.period.now q (table_cuts t q) (table_cuts c.insert.new.self.items q)) c.self.view_is
+    (subst (λ (t : Table). AddsOnlyAt flight c.args.period.now q (table_cuts table q) (table_cuts t q)) (sym c.in_ok-insert.ensures.items) only)
 
 pub returns-clause-counts : goal.returns-clause-counts
 returns-clause-counts g c =

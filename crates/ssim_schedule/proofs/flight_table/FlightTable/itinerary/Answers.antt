@@ -3,8 +3,7 @@ use Rattle.std.proofs.Common.{◌≡◌, [], sym, ap, subst, ◌∙◌, get_or, 
 use Rattle.std.proofs.lemmas.List.{get_or_default}
 use Rattle.ssim_periods.specs.Days.{Seen, each_day}
 use Rattle.ssim_base.specs.Timetable.{Days, Legs}
-use Rattle.ssim_schedule.specs.internal.Table.{IsAt, no_entry}
-use Rattle.ssim_schedule.specs.Schedule.{Table, days_in}
+use Rattle.ssim_schedule.specs.internal.Table.{IsAt, Table, no_entry, table_days}
 use Rattle.ssim_schedule.specs.declared.flight_table.FlightPeriods.{FlightPeriods}
 use Rattle.ssim_schedule.proofs.TableLemmas.{found_at, found_in_gap, index-each_day, index-get}
 use Rattle.ssim_schedule.proofs.flight_table.FlightTable.itinerary.Goals as goal
@@ -19,7 +18,7 @@ returns-in-Ok c =
     ∙ ap (λ (p : Seen Legs). slice_index_or p.days c.args.day []) c.get.ensures
     ∙ ap (λ (f : FlightPeriods). slice_index_or f.periods.days c.args.day []) entry
     ∙ sym (ap (λ (ds : Days). slice_index_or ds c.args.day []) (found_at (λ (f : FlightPeriods). f.periods.days) (each_day (λ _. [])) table c.self.invariant q c.in-Ok.place at))
-    ∙ ap (λ (t : Table). slice_index_or (days_in t q) c.args.day []) c.self.view_is
+    ∙ ap (λ (t : Table). slice_index_or (table_days t q) c.args.day []) c.self.view_is
 
 pub returns-in-Err : goal.returns-in-Err
 returns-in-Err c =

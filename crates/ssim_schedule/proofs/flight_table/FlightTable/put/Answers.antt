@@ -2,8 +2,7 @@
 use Rattle.std.proofs.Common.{[], nat_eq, if◌then◌else◌, sym, ap, subst, ◌∙◌}
 use Rattle.ssim_periods.specs.Days.{Seen}
 use Rattle.ssim_base.specs.ReadBack.{place_of}
-use Rattle.ssim_schedule.specs.internal.Table.{AreRising, IsAt, IsGapFor}
-use Rattle.ssim_schedule.specs.Schedule.{Table, cuts_in, days_in}
+use Rattle.ssim_schedule.specs.internal.Table.{AreRising, IsAt, IsGapFor, Table, table_cuts, table_days}
 use Rattle.ssim_base.specs.Timetable.{Legs}
 use Rattle.ssim_schedule.specs.declared.flight_table.FlightPeriods.{FlightPeriods}
 use Rattle.ssim_schedule.proofs.ChangeLemmas.{cuts_at, days_at, no_days}
@@ -38,8 +37,8 @@ returns-in-Ok-clause-days c = λ r.
     let is : IsAt table q c.in-Ok.place = subst (λ (t : Table). IsAt t q c.in-Ok.place) (sym c.self.view_is) c.in-Ok.ensures.found in
     let g : FlightPeriods = record { flight = q; periods = c.in_ok-periods.periods } in
     found_set days_at no_days table c.self.invariant g c.in-Ok.place r is
-    ∙ ap (λ (p : Seen Legs). if nat_eq (place_of q) (place_of r) then p.days else days_in table r) c.in_ok-periods.ensures
-    ∙ ap (λ (t : Table). if nat_eq (place_of q) (place_of r) then c.args.periods.days else days_in t r) c.self.view_is
+    ∙ ap (λ (p : Seen Legs). if nat_eq (place_of q) (place_of r) then p.days else table_days table r) c.in_ok-periods.ensures
+    ∙ ap (λ (t : Table). if nat_eq (place_of q) (place_of r) then c.args.periods.days else table_days t r) c.self.view_is
 
 pub returns-in_ok-insert-in-Err-clause-days : goal.returns-in_ok-insert-in-Err-clause-days
 returns-in_ok-insert-in-Err-clause-days c = λ r.
@@ -47,9 +46,9 @@ returns-in_ok-insert-in-Err-clause-days c = λ r.
     let q = c.args.flight in
     let gap : IsGapFor table q c.in-Err.gap = subst (λ (t : Table). IsGapFor t q c.in-Err.gap) (sym c.self.view_is) c.in-Err.ensures.absent in
     let g : FlightPeriods = record { flight = q; periods = c.in_ok-periods.periods } in
-    ap (λ (t : Table). days_in t r) c.in_ok-insert-in-Err.ensures.items ∙ found_insert days_at no_days table g c.in-Err.gap r gap
-    ∙ ap (λ (p : Seen Legs). if nat_eq (place_of q) (place_of r) then p.days else days_in table r) c.in_ok-periods.ensures
-    ∙ ap (λ (t : Table). if nat_eq (place_of q) (place_of r) then c.args.periods.days else days_in t r) c.self.view_is
+    ap (λ (t : Table). table_days t r) c.in_ok-insert-in-Err.ensures.items ∙ found_insert days_at no_days table g c.in-Err.gap r gap
+    ∙ ap (λ (p : Seen Legs). if nat_eq (place_of q) (place_of r) then p.days else table_days table r) c.in_ok-periods.ensures
+    ∙ ap (λ (t : Table). if nat_eq (place_of q) (place_of r) then c.args.periods.days else table_days t r) c.self.view_is
 
 pub returns-in-Ok-clause-cuts : goal.returns-in-Ok-clause-cuts
 returns-in-Ok-clause-cuts c = λ r.
@@ -58,8 +57,8 @@ returns-in-Ok-clause-cuts c = λ r.
     let is : IsAt table q c.in-Ok.place = subst (λ (t : Table). IsAt t q c.in-Ok.place) (sym c.self.view_is) c.in-Ok.ensures.found in
     let g : FlightPeriods = record { flight = q; periods = c.in_ok-periods.periods } in
     found_set cuts_at [] table c.self.invariant g c.in-Ok.place r is
-    ∙ ap (λ (p : Seen Legs). if nat_eq (place_of q) (place_of r) then p.cuts else cuts_in table r) c.in_ok-periods.ensures
-    ∙ ap (λ (t : Table). if nat_eq (place_of q) (place_of r) then c.args.periods.cuts else cuts_in t r) c.self.view_is
+    ∙ ap (λ (p : Seen Legs). if nat_eq (place_of q) (place_of r) then p.cuts else table_cuts table r) c.in_ok-periods.ensures
+    ∙ ap (λ (t : Table). if nat_eq (place_of q) (place_of r) then c.args.periods.cuts else table_cuts t r) c.self.view_is
 
 pub returns-in_ok-insert-in-Err-clause-cuts : goal.returns-in_ok-insert-in-Err-clause-cuts
 returns-in_ok-insert-in-Err-clause-cuts c = λ r.
@@ -67,9 +66,9 @@ returns-in_ok-insert-in-Err-clause-cuts c = λ r.
     let q = c.args.flight in
     let gap : IsGapFor table q c.in-Err.gap = subst (λ (t : Table). IsGapFor t q c.in-Err.gap) (sym c.self.view_is) c.in-Err.ensures.absent in
     let g : FlightPeriods = record { flight = q; periods = c.in_ok-periods.periods } in
-    ap (λ (t : Table). cuts_in t r) c.in_ok-insert-in-Err.ensures.items ∙ found_insert cuts_at [] table g c.in-Err.gap r gap
-    ∙ ap (λ (p : Seen Legs). if nat_eq (place_of q) (place_of r) then p.cuts else cuts_in table r) c.in_ok-periods.ensures
-    ∙ ap (λ (t : Table). if nat_eq (place_of q) (place_of r) then c.args.periods.cuts else cuts_in t r) c.self.view_is
+    ap (λ (t : Table). table_cuts t r) c.in_ok-insert-in-Err.ensures.items ∙ found_insert cuts_at [] table g c.in-Err.gap r gap
+    ∙ ap (λ (p : Seen Legs). if nat_eq (place_of q) (place_of r) then p.cuts else table_cuts table r) c.in_ok-periods.ensures
+    ∙ ap (λ (t : Table). if nat_eq (place_of q) (place_of r) then c.args.periods.cuts else table_cuts t r) c.self.view_is
 
 pub returns-in-Ok-clause-block : goal.returns-in-Ok-clause-block
 returns-in-Ok-clause-block c = λ k block its.
