@@ -10,7 +10,7 @@ use Rattle.ssim_base.specs.ReadBack.{place_of}
 use Rattle.ssim_schedule.specs.internal.Table.{AddsOnlyAt, Table, found, table_cuts, table_days}
 use Rattle.ssim_base.specs.Stations.{Row}
 use Rattle.ssim_base.specs.Timetable.{Days}
-use Rattle.ssim_schedule.specs.declared.flight_table.FlightPeriods.{FlightPeriods}
+use Rattle.ssim_schedule.specs.declared.timetable.flight_table.FlightPeriods.{FlightPeriods}
 use Rattle.ssim_schedule.proofs.Acts.{end_point, first_point}
 
 same_place : (q g : FlightNumber) → nat_eq (place_of q) (place_of g) ≡ true → place_of q ≡ place_of g

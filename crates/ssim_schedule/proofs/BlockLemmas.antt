@@ -9,7 +9,7 @@ use Rattle.ssim_values.specs.Flight.{FlightNumber}
 use Rattle.ssim_schedule.specs.internal.Blocks.{AreBlocks, AreOf, IsBlock, block_of, joined}
 use Rattle.ssim_base.specs.ReadBack.{place_of}
 use Rattle.ssim_schedule.specs.internal.Table.{AreRising, IsAt, IsGapFor, Table, found, key_at, no_entry}
-use Rattle.ssim_schedule.specs.declared.flight_table.FlightPeriods.{FlightPeriods}
+use Rattle.ssim_schedule.specs.declared.timetable.flight_table.FlightPeriods.{FlightPeriods}
 use Rattle.ssim_schedule.proofs.TableLemmas.{rising_insert, rising_set}
 
 -- ---- one block

@@ -9,7 +9,7 @@ use Rattle.ssim_periods.specs.Days.{Seen, each_day, changed_on, AddsOnly}
 use Rattle.ssim_base.specs.Timetable.{Legs, Days}
 use Rattle.ssim_base.specs.ReadBack.{place_of}
 use Rattle.ssim_schedule.specs.internal.Table.{AddsOnlyAt, AreRising, IsAt, IsGapFor, Table, no_entry, table_cuts, table_days}
-use Rattle.ssim_schedule.specs.declared.flight_table.FlightPeriods.{FlightPeriods}
+use Rattle.ssim_schedule.specs.declared.timetable.flight_table.FlightPeriods.{FlightPeriods}
 use Rattle.ssim_schedule.proofs.TableLemmas.{found_at, found_in_gap, found_insert, found_set}
 
 abbrev pub days_at : FlightPeriods → Days

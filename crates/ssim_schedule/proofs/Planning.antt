@@ -20,7 +20,7 @@ use Rattle.ssim_base.specs.ReadBack.{place_of}
 use Rattle.ssim_base.proofs.ExportLaws.{NoOther}
 use Rattle.ssim_schedule.specs.declared.export.ExportFault.{ExportFault}
 use Rattle.ssim_schedule.specs.declared.export.ExportFault.TheVariants.{Variations, Records, WriteFault, Memory}
-use Rattle.ssim_schedule.specs.declared.flight_table.FlightPeriods.{FlightPeriods}
+use Rattle.ssim_schedule.specs.declared.timetable.flight_table.FlightPeriods.{FlightPeriods}
 use Rattle.ssim_base.proofs.Calendars.{length-each_day, at-each_day}
 use Rattle.ssim_base.proofs.Flown.{flown_suffice, unflown}
 use Rattle.ssim_base.proofs.Places.{flight-place, same-self}

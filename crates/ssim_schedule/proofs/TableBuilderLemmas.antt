@@ -6,7 +6,7 @@ use Rattle.ssim_periods.specs.Days.{Seen, changed_on, AddsOnly}
 use Rattle.ssim_base.specs.Timetable.{Legs}
 use Rattle.ssim_base.specs.ReadBack.{place_of}
 use Rattle.ssim_schedule.specs.internal.Table.{AddsOnlyAt, Table, found, table_cuts, table_days}
-use Rattle.ssim_schedule.specs.declared.flight_table.FlightPeriods.{FlightPeriods}
+use Rattle.ssim_schedule.specs.declared.timetable.flight_table.FlightPeriods.{FlightPeriods}
 use Rattle.ssim_schedule.proofs.ChangeLemmas.{adds, by_test, cuts_at, days_at, no_days, same_place}
 
 -- flights of the same rank have the same entry

@@ -26,8 +26,8 @@ use Rattle.ssim_base.proofs.Places.{same_flight-place}
 use Rattle.ssim_schedule.specs.DivisionPoints.{is_point}
 use Rattle.ssim_schedule.specs.internal.Table.{Table, table_cuts, table_days}
 use Rattle.ssim_schedule.specs.internal.PendingSegments.{waiting_at}
-use Rattle.ssim_schedule.specs.declared.timetable_builder.TimetableBuilder.{TimetableBuilder}
-use Rattle.ssim_schedule.specs.declared.leg_group.Heading.{Heading}
+use Rattle.ssim_schedule.specs.declared.builder.timetable_builder.TimetableBuilder.{TimetableBuilder}
+use Rattle.ssim_schedule.specs.declared.builder.leg_group.Heading.{Heading}
 use Rattle.ssim_schedule.proofs.InsertedLegLemmas.{changed_not, changed_twice}
 
 parts_told : (x y v w s t : ℕ) → v < 100 → w < 100 → s < 100 → t < 100 → (x * 100 + v) * 100 + s ≡ (y * 100 + w) * 100 + t → (x ≡ y) × (v ≡ w) × (s ≡ t)

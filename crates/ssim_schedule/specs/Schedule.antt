@@ -5,7 +5,7 @@ use Rattle.std.specs.Coded.{Coded, code_by, coded_list}
 use Rattle.ssim_values.specs.Flight.{FlightNumber}
 use Rattle.ssim_base.specs.Timetable.{Days}
 use Rattle.ssim_schedule.specs.internal.Table.{Table, table_cuts, table_days}
-use Rattle.ssim_schedule.specs.contracts.flight_table.FlightPeriods as entry
+use Rattle.ssim_schedule.specs.contracts.timetable.flight_table.FlightPeriods as entry
 
 -- what the flights of a schedule fly; all that is seen of it is `days_in` and `cuts_in`
 pub record Flown : Type 0 where

@@ -9,13 +9,19 @@ ghost use Rattle.ssim_schedule.specs.Schedule.{cuts_in, days_in};
 ghost use Rattle.ssim_schedule.specs.internal.Table.{table_cuts, table_days};
 ghost use Rattle.ssim_base.specs.Timetable.{on_day};
 
-use crate::division::act_on_parts;
-use crate::division_points::{lines_of, next_point};
+mod division;
+mod division_points;
+mod message_columns;
+mod new_legs;
+mod sub_message_change;
+
+use crate::effect::division::act_on_parts;
+use crate::effect::division_points::{lines_of, next_point};
+use crate::effect::sub_message_change::SubMessageChange;
 use crate::finding::Finding;
-use crate::flight_blocks::FlightBlocks;
-use crate::flight_table::place;
 use crate::schedule::Schedule;
-use crate::sub_message_change::SubMessageChange;
+use crate::timetable::flight_blocks::FlightBlocks;
+use crate::timetable::flight_table::place;
 use ssim_base::{Base, Resolved, StationRow};
 use ssim_text::Action;
 use ssim_values::{Flight, Memory, Period};

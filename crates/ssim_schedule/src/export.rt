@@ -14,8 +14,8 @@ mod plan;
 
 use crate::export::lines::put_export;
 use crate::export::plan::{divide, measure};
-use crate::flight_blocks::FlightBlocks;
 use crate::schedule::Schedule;
+use crate::timetable::flight_blocks::FlightBlocks;
 use ssim_base::laws::export_bytes_read_back;
 use ssim_base::{Base, BaseFrame, DataSet, Place};
 use ssim_records::{Carrier, Header, Sink, Trailer};

@@ -15,27 +15,14 @@
 //! that date alone; and its export is the chapter 7 of that timetable, which reads back to itself.
 #![tactic(auto)]
 
-mod division;
-mod division_points;
+mod builder;
 mod effect;
 mod export;
 mod finding;
-mod flight_blocks;
-mod flight_set;
-mod flight_table;
-mod inserted_legs;
 mod itinerary;
 mod leg;
-mod leg_group;
-mod leg_key;
-mod message_columns;
-mod new_legs;
-mod pending_segments;
 mod schedule;
-mod shared;
-mod sub_message_change;
-mod table_builder;
-mod timetable_builder;
+mod timetable;
 
 pub use export::{ExportFault, export_data_set};
 pub use finding::Finding;

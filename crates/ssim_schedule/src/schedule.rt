@@ -9,9 +9,9 @@ ghost use Rattle.ssim_base.specs.Timetable.{Above, on_day};
 ghost use Rattle.ssim_schedule.specs.examples.Blocks;
 ghost use Rattle.ssim_schedule.specs.examples.Effects;
 
-use crate::flight_blocks::FlightBlocks;
-use crate::flight_table::place;
 use crate::leg::PlacedLeg;
+use crate::timetable::flight_blocks::FlightBlocks;
+use crate::timetable::flight_table::place;
 use ssim_values::{Day, Flight, Memory};
 use std::marker::Model;
 

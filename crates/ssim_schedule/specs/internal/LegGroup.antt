@@ -6,7 +6,7 @@ use Rattle.ssim_periods.specs.Days.{changed_on}
 use Rattle.ssim_schedule.specs.internal.InsertedLegs.{placed_each}
 use Rattle.ssim_base.specs.ReadBack.{place_of}
 use Rattle.ssim_base.specs.Timetable.{Days, Legs}
-use Rattle.ssim_schedule.specs.declared.leg_group.Heading.{Heading}
+use Rattle.ssim_schedule.specs.declared.builder.leg_group.Heading.{Heading}
 
 -- the flight and the period, if there is a group, and its legs in the order of their records
 pub record Group : Type 0 where

@@ -4,7 +4,7 @@ use Rattle.std.specs.Ordering.{nat_cmp}
 use Rattle.std.specs.BTreeMap.{get}
 use Rattle.std.specs.declared.alloc.Global.{Global}
 use Rattle.std.specs.declared.vec.Vec.{Vec}
-use Rattle.ssim_schedule.specs.declared.pending_segments.PendingSegments.{PendingSegments}
+use Rattle.ssim_schedule.specs.declared.builder.pending_segments.PendingSegments.{PendingSegments}
 
 -- pending tails in the order of their records; they are stored the other way round
 abbrev pub in_order : Option (Vec (List ℕ) Global) → List (List ℕ)

@@ -1,7 +1,7 @@
 -- What a shared value is once the reference that was lent into it has ended.
 use Rattle.std.specs.Prelude.{Option, Result}
 use Rattle.std.specs.Borrow.{Fml, LendsIf, LendsIfOk, MutBor, RattleType}
-use Rattle.ssim_schedule.specs.contracts.shared.Shared.{the_row}
+use Rattle.ssim_schedule.specs.contracts.timetable.shared.Shared.{the_row}
 
 module _ (T : RattleType) (s : MutBor T.Denot) where
   -- the value is the one that was written last through r; at `None` it is unchanged

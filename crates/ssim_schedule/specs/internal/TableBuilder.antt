@@ -2,7 +2,7 @@
 -- flights.
 use Rattle.std.specs.Prelude.{◌∷◌, Option, Some, None}
 use Rattle.ssim_schedule.specs.internal.Table.{Table}
-use Rattle.ssim_schedule.specs.declared.table_builder.CurrentFlight.{CurrentFlight}
+use Rattle.ssim_schedule.specs.declared.builder.table_builder.CurrentFlight.{CurrentFlight}
 
 -- the entries with the current flight first. A look-up takes the first entry of a flight, so it
 -- hides an older entry of the current flight.

@@ -15,8 +15,8 @@ use Rattle.ssim_base.specs.ReadBack.{place_of}
 use Rattle.ssim_schedule.specs.DivisionPoints.{is_point}
 use Rattle.ssim_schedule.specs.internal.Table.{table_cuts, table_days}
 use Rattle.ssim_schedule.specs.internal.PendingSegments.{waiting_at}
-use Rattle.ssim_schedule.specs.declared.timetable_builder.TimetableBuilder.{TimetableBuilder}
-use Rattle.ssim_schedule.specs.declared.leg_group.Heading.{Heading}
+use Rattle.ssim_schedule.specs.declared.builder.timetable_builder.TimetableBuilder.{TimetableBuilder}
+use Rattle.ssim_schedule.specs.declared.builder.leg_group.Heading.{Heading}
 
 -- a flight's itineraries once the pending legs are put into the table
 abbrev pub days_with : TimetableBuilder → FlightNumber → Days

@@ -7,9 +7,9 @@ ghost use Rattle.ssim_schedule.specs.internal.Blocks.{joined};
 ghost use Rattle.ssim_schedule.specs.internal.Plan.{IsRefusedAs, pieces_count, plan_of, plan_refusal};
 
 use crate::export::ExportFault;
-use crate::flight_table::{FlightPeriods, FlightTable, place};
 use crate::itinerary::{Itinerary, MOST_RECORDS};
-use crate::shared::Shared;
+use crate::timetable::flight_table::{FlightPeriods, FlightTable, place};
+use crate::timetable::shared::Shared;
 use ssim_values::{Flight, Memory, Period};
 use std::alloc::Global;
 use std::marker::Model;
