@@ -1,5 +1,5 @@
 -- What a merge brings, and what a desk is after it.
-use Rattle.std.proofs.Common.{◌≡◌, ℕ, List, drop, All, ap, sym, subst, ◌∙◌}
+use Rattle.std.proofs.Common.{◌≡◌, ℕ, List, drop, All, sym, subst}
 use Rattle.ssim_base.specs.BaseSeen.{BaseSeen}
 use Rattle.ssim_held.specs.Held.{Agree}
 use Rattle.ssim_held.specs.Entries.{AreEntries, DeskSeen, Entry, map_of, state_of}

@@ -1,5 +1,5 @@
 -- What a text and a merge make of a desk.
-use Rattle.std.proofs.Common.{◌≡◌, ◌≢◌, ◌≤◌, ◌+◌, ℕ, List, [], ◌∷◌, ◌++◌, length, take, drop, Some, None, slice_get, refl, sym, ap, subst, ◌∙◌, arith, length-append}
+use Rattle.std.proofs.Common.{◌≡◌, ◌≢◌, ◌≤◌, ◌+◌, ℕ, List, [], ◌∷◌, ◌++◌, length, take, drop, Some, None, slice_get, refl, sym, ap, ◌∙◌, arith, length-append}
 use Rattle.std.proofs.lemmas.List.{length-take, take-append-le, take_all}
 use Rattle.std.proofs.lemmas.List.Elements.{All-append, All-cons, All-drop, All-take}
 use Rattle.std.specs.FinMap.{get}
@@ -21,8 +21,7 @@ use Rattle.ssim_held.specs.Entries.{AreEntries, AreRising, DeskSeen, Entry, IsEn
 use Rattle.ssim_held.specs.Ordered.{Belongs}
 use Rattle.ssim_held.proofs.Entries.{map_of_with, not_held, rising_with}
 use Rattle.ssim_desk.specs.Desk.{IsReplayed}
-use Rattle.ssim_desk.specs.internal.Changes.{IsOffer, IsReplaced, IsReplay}
-use Rattle.ssim_desk.specs.declared.offer.Offer.{Offer}
+use Rattle.ssim_desk.specs.internal.Changes.{IsReplaced, IsReplay}
 use Rattle.ssim_desk.specs.declared.replay.Replay.{Replay}
 use Rattle.ssim_desk.specs.Steps.{IsInConflict, IsKnown, IsNew, RefusesText}
 

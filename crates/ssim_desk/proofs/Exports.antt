@@ -5,8 +5,8 @@ use Rattle.ssim_base.proofs.ReadingBack.{reads_back_as}
 use Rattle.ssim_base.proofs.Whole.{same_export}
 use Rattle.ssim_base.specs.BaseSeen.{BaseSeen}
 use Rattle.ssim_base.specs.Export.{ExportRefusal, Frame, chapter7, export_bytes, result_map}
-use Rattle.ssim_schedule.specs.Plan.{ReadsBackBase, Refuses, RefusesBase, Writes, WritesBase}
-use Rattle.ssim_schedule.specs.Schedule.{Table}
+use Rattle.ssim_schedule.specs.ExportResult.{ReadsBackBase, Refuses, RefusesBase, Writes, WritesBase}
+use Rattle.ssim_schedule.specs.Schedule.{Flown}
 use Rattle.ssim_base.specs.Stations.{Row}
 use Rattle.ssim_base.specs.Timetable.{Days, itinerary}
 use Rattle.ssim_schedule.specs.declared.export.ExportFault.{ExportFault}
@@ -31,7 +31,7 @@ module _ (days others : FlightNumber → Days) (same : (flight : FlightNumber) �
 
 -- The messages have acted on the timetable of the base. The schedule has the timetable that they
 -- leave.
-pub left : (base : BaseSeen) (entries : List Entry) (rows : List Row) (messages : List Entry) (schedule : Table) → rows ≡ base.rows → messages ≡ entries
+pub left : (base : BaseSeen) (entries : List Entry) (rows : List Row) (messages : List Entry) (schedule : Flown) → rows ≡ base.rows → messages ≡ entries
     → Shows schedule (after_entries rows messages (itinerary base.records)) → Shows schedule (left_by base entries)
 left base entries rows messages schedule same_rows same_messages shows =
     subst (λ (es : List Entry). Shows schedule (after_entries base.rows es (itinerary base.records))) same_messages

@@ -4,8 +4,8 @@ use Rattle.std.proofs.lemmas.List.Elements.{All-weaker}
 use Rattle.ssim_periods.proofs.DayLemmas.{day_count-is}
 use Rattle.ssim_base.proofs.Calendars.{at-each_day}
 use Rattle.ssim_base.specs.BaseSeen.{BaseSeen}
-use Rattle.ssim_schedule.specs.Plan.{RefusesBase, WritesBase}
-use Rattle.ssim_schedule.specs.Schedule.{Table, days_in}
+use Rattle.ssim_schedule.specs.ExportResult.{RefusesBase, WritesBase}
+use Rattle.ssim_schedule.specs.Schedule.{Flown, days_in}
 use Rattle.ssim_schedule.specs.declared.export.ExportFault.{ExportFault}
 use Rattle.ssim_schedule.specs.declared.export.ExportFault.TheVariants.{Variations, Records, WriteFault, Memory}
 use Rattle.ssim_base.specs.Timetable.{Legs}
@@ -36,7 +36,7 @@ pub only_meaning : (desk : DeskSeen) → AreEntries desk.base.records desk.held 
 only_meaning desk h timetable means = has_one_meaning (state_of desk) (timetable_of desk) timetable (has_meaning desk h) means
 
 -- a flight's itinerary in the schedule after some messages
-pub legs_after : (base : BaseSeen) (entries : List Entry) (schedule : Table) → IsAfter base entries schedule → (flight : FlightNumber) → IsFlight flight → (day : ℕ) → day < 36525
+pub legs_after : (base : BaseSeen) (entries : List Entry) (schedule : Flown) → IsAfter base entries schedule → (flight : FlightNumber) → IsFlight flight → (day : ℕ) → day < 36525
     → slice_index_or (days_in schedule flight) day [] ≡ left_by base entries flight day
 legs_after base entries schedule is flight exists day within =
     ap (λ (days : List Legs). slice_index_or days day []) (is.shows flight exists) ∙ at-each_day (left_by base entries flight) day (rw day_count-is within)

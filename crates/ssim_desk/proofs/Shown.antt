@@ -6,7 +6,7 @@ use Rattle.ssim_periods.specs.Calendar.{day_count, holds}
 use Rattle.ssim_periods.specs.Days.{each_day}
 use Rattle.ssim_base.proofs.Places.{same_flight-place}
 use Rattle.ssim_schedule.specs.Acts.{acted_on, after_on, after_sub, changed_by, finding_of}
-use Rattle.ssim_schedule.specs.Schedule.{Table, days_in}
+use Rattle.ssim_schedule.specs.Schedule.{Flown, days_in}
 use Rattle.ssim_base.specs.Stations.{Row}
 use Rattle.ssim_base.specs.Timetable.{Days, Legs, same_flight}
 use Rattle.ssim_schedule.specs.declared.finding.Finding.{Finding}
@@ -25,8 +25,8 @@ changed-range s after f a (suc k) = ap (λ (days : Days). (if s a then after a (
 changed-each_day : (s : ℕ → Bool) (after : ℕ → Legs → Legs) (f : ℕ → Legs) → changed_by s after 0 (each_day f) ≡ each_day (λ n. if s n then after n (f n) else f n)
 changed-each_day s after f = changed-range s after f 0 day_count
 
-pub shows_one : (rows : List Row) (action : Action) (sub : ResolvedSub) (old new : Table) (t : Timetable) → IsFlight sub.flight
-    → ((g : FlightNumber) → days_in new g ≡ after_sub rows action sub.flight sub.period old g) → Shows old t → Shows new (after_one rows action sub t)
+pub shows_one : (rows : List Row) (action : Action) (sub : ResolvedSub) (old new : Flown) (t : Timetable) → IsFlight sub.flight
+    → ((g : FlightNumber) → days_in new g ≡ after_sub rows action sub.flight sub.period (days_in old) g) → Shows old t → Shows new (after_one rows action sub t)
 shows_one rows action sub old new t is_flight days shows g is =
     days g
     ∙ ap (λ b. if b then acted_on rows action sub.period (days_in old g) else days_in old g) (sym (same_flight-place sub.flight g is_flight is))
@@ -39,13 +39,13 @@ shows_one rows action sub old new t is_flight days shows g is =
 
 -- the schedule shows the timetable after a sub-message whose action, flight and period are given as
 -- equal values
-pub shows_told : (rows : List Row) (action told : Action) (sub : ResolvedSub) (flight : FlightNumber) (period : DayRange) (old new : Table) (t : Timetable) → told ≡ action → flight ≡ sub.flight → period ≡ sub.period → IsFlight sub.flight
-    → ((g : FlightNumber) → days_in new g ≡ after_sub rows told flight period old g) → Shows old t → Shows new (after_one rows action sub t)
+pub shows_told : (rows : List Row) (action told : Action) (sub : ResolvedSub) (flight : FlightNumber) (period : DayRange) (old new : Flown) (t : Timetable) → told ≡ action → flight ≡ sub.flight → period ≡ sub.period → IsFlight sub.flight
+    → ((g : FlightNumber) → days_in new g ≡ after_sub rows told flight period (days_in old) g) → Shows old t → Shows new (after_one rows action sub t)
 shows_told rows action told sub flight period old new t same_action same_flight same_period is_flight days shows =
-    shows_one rows action sub old new t is_flight (λ g. days g ∙ (λ i. after_sub rows (same_action i) (same_flight i) (same_period i) old g)) shows
+    shows_one rows action sub old new t is_flight (λ g. days g ∙ (λ i. after_sub rows (same_action i) (same_flight i) (same_period i) (days_in old) g)) shows
 
 -- the schedule's finding is the finding on the timetable
-pub found_told : (rows : List Row) (action told : Action) (sub : ResolvedSub) (flight : FlightNumber) (period : DayRange) (old : Table) (t : Timetable) (finding : Finding) → told ≡ action → flight ≡ sub.flight → period ≡ sub.period → IsFlight sub.flight
+pub found_told : (rows : List Row) (action told : Action) (sub : ResolvedSub) (flight : FlightNumber) (period : DayRange) (old : Flown) (t : Timetable) (finding : Finding) → told ≡ action → flight ≡ sub.flight → period ≡ sub.period → IsFlight sub.flight
     → finding ≡ finding_of rows told period (days_in old flight) → Shows old t → finding ≡ finding_of rows action sub.period (each_day (t sub.flight))
 found_told rows action told sub flight period old t finding same_action same_flight same_period is_flight found shows =
     found ∙ (λ i. finding_of rows (same_action i) (same_period i) (days_in old (same_flight i))) ∙ ap (finding_of rows action sub.period) (shows sub.flight is_flight)

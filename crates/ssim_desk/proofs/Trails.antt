@@ -3,7 +3,7 @@
 use Rattle.std.proofs.Common.{◌≡◌, ◌≢◌, ◌≤◌, ◌<◌, ◌+◌, ◌-◌, ◌*◌, ◌/◌, ◌%◌, ℕ, zero, suc, List, [], ◌∷◌, ◌++◌, length, take, drop, Some, IfSome, slice_get, refl, sym, ap, subst, ◌∙◌, arith, length-append, append_assoc}
 use Rattle.std.proofs.lemmas.List.{take-append-le, take_all, length-take, append-nil}
 use Rattle.ssim_base.specs.BaseSeen.{BaseSeen}
-use Rattle.ssim_schedule.specs.Schedule.{Table, cuts_in}
+use Rattle.ssim_schedule.specs.Schedule.{Flown, cuts_in}
 use Rattle.ssim_base.specs.Stations.{Row}
 use Rattle.ssim_schedule.specs.declared.finding.Finding.{Finding}
 use Rattle.ssim_values.specs.Flight.{FlightNumber, IsFlight}
@@ -77,7 +77,7 @@ if_some_take (x ∷ xs) (suc n) (suc k) P h = if_some_take xs n k P h
 
 -- ---- one more message
 
-pub after_at : (base : BaseSeen) (es fs : List Entry) (s : Table) → es ≡ fs → IsAfter base es s → IsAfter base fs s
+pub after_at : (base : BaseSeen) (es fs : List Entry) (s : Flown) → es ≡ fs → IsAfter base es s → IsAfter base fs s
 after_at base es fs s e h = subst (λ x. IsAfter base x s) e h
 
 module _ (base : BaseSeen) (before : List Entry) (e : Entry) where
@@ -87,7 +87,7 @@ module _ (base : BaseSeen) (before : List Entry) (e : Entry) where
   pub found_more : found_by base (before ++ e ∷ []) ≡ found_by base before ++ subs_findings base.rows e.message.subs e.dates (left_by base before) ∷ []
   found_more = findings-++ base.rows before (e ∷ []) _
 
-  pub after_more : (old s : Table) → IsAfter base before old → Shows s (after_entry base.rows e (left_by base before))
+  pub after_more : (old s : Flown) → IsAfter base before old → Shows s (after_entry base.rows e (left_by base before))
       → ((g : FlightNumber) → IsFlight g → AddsSubPoints base.rows e.dates g (cuts_in old g) (cuts_in s g)) → IsAfter base (before ++ e ∷ []) s
   after_more old s after shows adds = record {
     shows = subst (Shows s) (sym left_more) shows;
@@ -102,13 +102,13 @@ module _ (base : BaseSeen) (before : List Entry) (e : Entry) where
       ∙ sym (append_assoc (found_by base (take from before)) found (one ∷ []))
       ∙ ap (λ fs. fs ++ one ∷ []) is ∙ ap (λ (f : List Finding). found_by base before ++ f ∷ []) found_is ∙ sym found_more
 
-  pub kept_none : (first : ℕ) (cps : List Table) → (length before + 1) % 32 ≢ 0 → AreCheckpoints base before first cps → AreCheckpoints base (before ++ e ∷ []) first cps
+  pub kept_none : (first : ℕ) (cps : List Flown) → (length before + 1) % 32 ≢ 0 → AreCheckpoints base before first cps → AreCheckpoints base (before ++ e ∷ []) first cps
   kept_none first cps off kept = record {
     count = omega (arith, kept.count, length-append before (e ∷ []));
     each = λ k. if_some_within cps k _ _ (λ lt s h. after_at base _ _ s (sym (take-within before (e ∷ []) (32 * (first + k)) (omega (arith, kept.count)))) h) (kept.each k);
   }
 
-  pub kept_more : (first : ℕ) (cps : List Table) (s : Table) → (length before + 1) % 32 ≡ 0 → AreCheckpoints base before first cps → IsAfter base (before ++ e ∷ []) s
+  pub kept_more : (first : ℕ) (cps : List Flown) (s : Flown) → (length before + 1) % 32 ≡ 0 → AreCheckpoints base before first cps → IsAfter base (before ++ e ∷ []) s
       → AreCheckpoints base (before ++ e ∷ []) first (cps ++ s ∷ [])
   kept_more first cps s on kept is = record {
     count = omega (arith, kept.count, length-append before (e ∷ []), length-append cps (s ∷ []));
@@ -130,18 +130,18 @@ pub nothing_kept : (base : BaseSeen) (entries : List Entry) (from : ℕ) → fro
 nothing_kept base entries from is = record { count = omega arith; each = λ k. tt }
 
 -- a desk begins with one checkpoint, the base's schedule
-begun_each : (base : BaseSeen) (schedule : Table) → IsAfter base [] schedule → (k : ℕ) → IfSome (slice_get (schedule ∷ []) k) (IsAfter base (take (32 * (0 + k)) []))
+begun_each : (base : BaseSeen) (schedule : Flown) → IsAfter base [] schedule → (k : ℕ) → IfSome (slice_get (schedule ∷ []) k) (IsAfter base (take (32 * (0 + k)) []))
 begun_each base schedule after zero = after
 begun_each base schedule after (suc k) = tt
 
-begun_kept : (base : BaseSeen) (schedule : Table) → IsAfter base [] schedule → AreCheckpoints base [] 0 (schedule ∷ [])
+begun_kept : (base : BaseSeen) (schedule : Flown) → IsAfter base [] schedule → AreCheckpoints base [] 0 (schedule ∷ [])
 begun_kept base schedule after = record { count = omega arith; each = begun_each base schedule after }
 
 module _ (base : BaseSeen) (held : List Entry) (from : ℕ) where
-  pub start_latest : (latest : Table) → from ≡ length held → IsAfter base held latest → IsAfter base (take from held) latest
+  pub start_latest : (latest : Flown) → from ≡ length held → IsAfter base held latest → IsAfter base (take from held) latest
   start_latest latest is after = after_at base _ _ latest (sym (take_all from held (omega arith))) after
 
-  pub start_checkpoint : (cps : List Table) (s : Table) → from ≡ 32 * (from / 32) → AreCheckpoints base held 0 cps → slice_get cps (from / 32) ≡ Some s → IsAfter base (take from held) s
+  pub start_checkpoint : (cps : List Flown) (s : Flown) → from ≡ 32 * (from / 32) → AreCheckpoints base held 0 cps → slice_get cps (from / 32) ≡ Some s → IsAfter base (take from held) s
   start_checkpoint cps s is kept there =
       let e : 32 * (0 + from / 32) ≡ from = omega arith in
       after_at base _ _ s (ap (λ n. take n held) e) (subst (λ o. IfSome o (IsAfter base (take (32 * (0 + from / 32)) held))) there (kept.each (from / 32)))
@@ -158,7 +158,7 @@ module _ (base : BaseSeen) (held rest : List Entry) (from at : ℕ) (low : from 
       ap (λ fs. take from fs ++ tail) is ∙ ap (λ fs. fs ++ tail) (take-findings base.rows held _ from)
       ∙ ap (λ es. found_by base es ++ tail) (sym (front_is from (omega arith))) ∙ tail_is
 
-  pub kept_in_place : (cps tail : List Table) → AreCheckpoints base held 0 cps → AreCheckpoints base (take at held ++ rest) (from / 32 + 1) tail
+  pub kept_in_place : (cps tail : List Flown) → AreCheckpoints base held 0 cps → AreCheckpoints base (take at held ++ rest) (from / 32 + 1) tail
       → AreCheckpoints base (take at held ++ rest) 0 (take (from / 32 + 1) cps ++ tail)
   kept_in_place cps tail old new = record {
     count = omega (arith, front, new.count, length-append (take (from / 32 + 1) cps) tail);
@@ -172,7 +172,7 @@ module _ (base : BaseSeen) (held rest : List Entry) (from at : ℕ) (low : from 
       front = omega (arith, old.count, length-take (from / 32 + 1) cps)
 
 -- the history of messages that were all applied
-pub made : (base : BaseSeen) (held : List Entry) (began : Table) (r : Replay) (h : History) → IsAfter base [] began → IsReplay base held r → r.from ≡ 0
+pub made : (base : BaseSeen) (held : List Entry) (began : Flown) (r : Replay) (h : History) → IsAfter base [] began → IsReplay base held r → r.from ≡ 0
     → h.latest ≡ r.latest → h.found.items ≡ r.found.items → h.checkpoints.items ≡ began ∷ r.checkpoints.items → IsHistory base held h
 made base held began r h after replay none latest found checkpoints = record {
   latest_is = subst (IsAfter base held) (sym latest) replay.latest_is;

@@ -10,7 +10,7 @@ use Rattle.ssim_base.specs.Stations.{Row}
 use Rattle.ssim_base.specs.Timetable.{Days, Legs, same_flight}
 use Rattle.ssim_base.specs.Export as exported
 use Rattle.ssim_schedule.specs.DivisionPoints.{is_point}
-use Rattle.ssim_schedule.specs.Schedule.{Table}
+use Rattle.ssim_schedule.specs.Schedule.{Flown}
 use Rattle.ssim_schedule.specs.declared.export.ExportFault.{ExportFault}
 use Rattle.ssim_schedule.specs.declared.export.ExportFault.TheVariants as export
 use Rattle.ssim_base.specs.{declared.sub_message.ResolvedSub.ResolvedSub}
@@ -33,7 +33,7 @@ use Rattle.ssim_desk.specs.declared.desk.Took.TheVariants as took
 -- schedule, which has the itineraries and cuts of each flight
 pub record ScheduledDesk : Type 0 where
   pub seen : DeskSeen
-  pub schedule : Table
+  pub schedule : Flown
 
 -- the `Answer` for a result of `take`
 abbrev pub take_answer : Result Took DeskFault → Answer

@@ -6,7 +6,7 @@ ghost use Rattle.std.specs.Io.KnownBytes.{Appends};
 ghost use Rattle.std.specs.List.Sorted.{IsStrictlyIncreasing};
 ghost use Rattle.ssim_values.specs.Calendar.{weekday};
 ghost use Rattle.ssim_base.specs.Reading.{Came};
-ghost use Rattle.ssim_schedule.specs.Plan.{ReadsBackBase, RefusesBase, WritesBase};
+ghost use Rattle.ssim_schedule.specs.ExportResult.{ReadsBackBase, RefusesBase, WritesBase};
 ghost use Rattle.ssim_schedule.specs.Schedule.{cuts_in};
 ghost use Rattle.ssim_base.specs.Sinks.{CountsFault, TakesFront};
 ghost use Rattle.ssim_held.specs.File.{CanBeSaved, desk_file};
@@ -54,10 +54,14 @@ pub struct Desk {
 }
 
 impl Model for Desk {
+    ghost use Rattle.std.specs.Coded.{codes};
+    ghost use Rattle.ssim_schedule.specs.Schedule.{flown_code};
     ghost use Rattle.ssim_desk.specs.Desk.{ScheduledDesk};
     ghost use Rattle.ssim_desk.specs.internal.Changes.{IsHistory};
 
     ghost Value = { ScheduledDesk };
+
+    ghost coded = { Prim.hlevel (codes, flown_code) };
 
     ghost view = { λ d. let h = d.holdings in record {
       seen = record { base = h.base; held = h.held; applied = d.history.applied };

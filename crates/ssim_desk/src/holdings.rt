@@ -4,7 +4,7 @@ ghost use Rattle.std.specs.Prelude.{◌≡◌, ◌≤◌, ◌++◌, [], ◌∷�
 ghost use Rattle.std.specs.Prelude.{OnErr, OnOk};
 ghost use Rattle.std.specs.Io.KnownBytes.{Appends};
 ghost use Rattle.ssim_base.specs.BaseSeen.{base_with};
-ghost use Rattle.ssim_schedule.specs.Plan.{ReadsBackBase, RefusesBase, WritesBase};
+ghost use Rattle.ssim_schedule.specs.ExportResult.{ReadsBackBase, RefusesBase, WritesBase};
 ghost use Rattle.ssim_base.specs.Sinks.{CountsFault, TakesFront};
 ghost use Rattle.ssim_held.specs.File.{CanBeSaved, IsDeskFile, desk_file};
 ghost use Rattle.ssim_text.specs.Message.{MessageValue};

@@ -11,7 +11,8 @@ use Rattle.ssim_text.specs.declared.leg.LegLine.{LegLine}
 use Rattle.ssim_text.specs.declared.action.NewLegs.{NewLegs}
 use Rattle.ssim_text.specs.declared.action.Action.{Action}
 use Rattle.ssim_text.specs.declared.action.Action.TheVariants.{New, Cnl, Rpl, Eqt, Tim}
-use Rattle.ssim_schedule.specs.Acts.{AddsPoints, IsSteady, IsUniform, acted_on, after_on, before, changed_by, class_on, counted_by, counts_by, divides, is_at, is_named, is_point_of, sums_of}
+use Rattle.ssim_schedule.specs.internal.ActionParts.{AddsPoints, IsSteady, IsUniform, before, counts_by, sums_of}
+use Rattle.ssim_schedule.specs.Acts.{acted_on, after_on, changed_by, class_on, counted_by, divides, is_at, is_named, is_point_of}
 use Rattle.ssim_schedule.specs.Effect.{Outcome, Variations, class_number, create, effect, joined, leg_at, legs_from, outcome, replace, variation_on}
 use Rattle.ssim_base.specs.Stations.{Row, variation_at}
 use Rattle.ssim_base.specs.Timetable.{Days, Legs}

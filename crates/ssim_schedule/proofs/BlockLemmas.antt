@@ -6,10 +6,10 @@ use Rattle.std.proofs.lemmas.Bool.{cases_eq, cases_lt}
 use Rattle.std.proofs.lemmas.Bool.Decides.{nat_tests}
 use Rattle.std.proofs.lemmas.List.{get_or_append_left, get_or-append_right, length-append}
 use Rattle.ssim_values.specs.Flight.{FlightNumber}
-use Rattle.ssim_schedule.specs.Blocks.{AreBlocks, AreOf, IsBlock, block_of, joined}
+use Rattle.ssim_schedule.specs.internal.Blocks.{AreBlocks, AreOf, IsBlock, block_of, joined}
 use Rattle.ssim_base.specs.ReadBack.{place_of}
-use Rattle.ssim_schedule.specs.Schedule.{AreRising, IsAt, IsGapFor, Table, found, key_at, no_entry}
-use Rattle.ssim_schedule.specs.declared.flight_table.FlightPeriods.{FlightPeriods}
+use Rattle.ssim_schedule.specs.internal.Table.{AreRising, IsAt, IsGapFor, Table, found, key_at, no_entry}
+use Rattle.ssim_schedule.specs.declared.timetable.flight_table.FlightPeriods.{FlightPeriods}
 use Rattle.ssim_schedule.proofs.TableLemmas.{rising_insert, rising_set}
 
 -- ---- one block

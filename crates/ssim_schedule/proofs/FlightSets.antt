@@ -14,7 +14,7 @@ use Rattle.ssim_records.specs.Leg.{Name}
 use Rattle.ssim_records.specs.declared.record.Record.{Record}
 use Rattle.ssim_records.specs.declared.record.Record.TheVariants.{Header, Carrier, Leg, Segment, Trailer}
 use Rattle.ssim_schedule.specs.DivisionPoints.{AreAtPoints, is_point}
-use Rattle.ssim_schedule.specs.FlightSet.{is_marked, is_record_of}
+use Rattle.ssim_schedule.specs.internal.FlightSet.{is_marked, is_record_of}
 use Rattle.ssim_base.specs.ReadBack.{AreInOrder, place_of}
 use Rattle.ssim_base.specs.Timetable.{Above, LegValue, Legs, days_of, is_among, itinerary, itinerary_among, leg_of, period_of, placed, same_flight, same_name, tails_of}
 use Rattle.ssim_base.proofs.Calendars.{at-each_day}

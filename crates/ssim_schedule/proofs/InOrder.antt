@@ -13,7 +13,7 @@ use Rattle.ssim_text.specs.declared.action.Action.TheVariants.{New, Cnl, Rpl, Eq
 use Rattle.ssim_schedule.specs.Acts.{acted_on, after_on, after_sub, changed_by, itinerary_after, lines_of}
 use Rattle.ssim_schedule.specs.Effect.{Outcome, Variations, act_or, equipped, fits, have_legs, joined, leg_at, legs_from, outcome, retimed, variation_on, with_line, with_lines}
 use Rattle.ssim_base.specs.ReadBack.{AreInOrder, IsTimetable, place_of}
-use Rattle.ssim_schedule.specs.Schedule.{Table, days_in}
+use Rattle.ssim_schedule.specs.internal.Table.{Table, table_days}
 use Rattle.ssim_base.specs.Stations.{Row}
 use Rattle.ssim_base.specs.Timetable.{Above, Days, Legs, on_day, same_flight}
 use Rattle.ssim_schedule.specs.declared.finding.Reason.{Reason}
@@ -96,10 +96,10 @@ days-above s after keeps first zero (old ∷ days) h =
 days-above s after keeps first (suc n) (old ∷ days) h = days-above s after keeps (first + 1) n days h
 
 order-kept : (rows : List Row) (action : Action) (flight : FlightNumber) (period : DayRange) (old : Table) → length (lines_of action) ≤ 20
-    → AreInOrder (days_in old) → AreInOrder (after_sub rows action flight period old)
+    → AreInOrder (table_days old) → AreInOrder (after_sub rows action flight period (table_days old))
 order-kept rows action flight period old few order g n exists within =
-    elim (nat_eq (place_of flight) (place_of g)) as (λ b. Above 0 (on_day (if b then acted_on rows action period (days_in old g) else days_in old g) n)) [
-      | true ↦ days-above (holds period) (after_on rows action) (λ day legs h. effect-above (variation_on rows day) action legs few h) 0 n (days_in old g) (order g n exists within)
+    elim (nat_eq (place_of flight) (place_of g)) as (λ b. Above 0 (on_day (if b then acted_on rows action period (table_days old g) else table_days old g) n)) [
+      | true ↦ days-above (holds period) (after_on rows action) (λ day legs h. effect-above (variation_on rows day) action legs few h) 0 n (table_days old g) (order g n exists within)
       | false ↦ order g n exists within
     ]
 
@@ -108,17 +108,17 @@ length-changed : (s : ℕ → Bool) (after : ℕ → Legs → Legs) (n : ℕ) (d
 length-changed s after n [] = refl
 length-changed s after n (old ∷ days) = ap suc (length-changed s after (n + 1) days)
 
-length-after : (rows : List Row) (action : Action) (flight : FlightNumber) (period : DayRange) (old : Table) (g : FlightNumber) → length (after_sub rows action flight period old g) ≡ length (days_in old g)
+length-after : (rows : List Row) (action : Action) (flight : FlightNumber) (period : DayRange) (old : Table) (g : FlightNumber) → length (after_sub rows action flight period (table_days old) g) ≡ length (table_days old g)
 length-after rows action flight period old g =
-    elim (nat_eq (place_of flight) (place_of g)) as (λ b. length (if b then acted_on rows action period (days_in old g) else days_in old g) ≡ length (days_in old g)) [
-      | true ↦ length-changed (holds period) (after_on rows action) 0 (days_in old g)
+    elim (nat_eq (place_of flight) (place_of g)) as (λ b. length (if b then acted_on rows action period (table_days old g) else table_days old g) ≡ length (table_days old g)) [
+      | true ↦ length-changed (holds period) (after_on rows action) 0 (table_days old g)
       | false ↦ refl
     ]
 
 pub timetable-kept : (rows : List Row) (action : Action) (flight : FlightNumber) (period : DayRange) (old new : Table) → length (lines_of action) ≤ 20
-    → ((g : FlightNumber) → days_in new g ≡ after_sub rows action flight period old g) → IsTimetable (days_in old) → IsTimetable (days_in new)
+    → ((g : FlightNumber) → table_days new g ≡ after_sub rows action flight period (table_days old) g) → IsTimetable (table_days old) → IsTimetable (table_days new)
 timetable-kept rows action flight period old new few days was =
-    timetable-same (days_in new) (after_sub rows action flight period old) (λ g exists. days g) (record {
+    timetable-same (table_days new) (after_sub rows action flight period (table_days old)) (λ g exists. days g) (record {
       each_day = λ g exists. length-after rows action flight period old g ∙ was.each_day g exists;
       rising = order-kept rows action flight period old few was.rising;
     })
@@ -138,17 +138,17 @@ changed-at s after first (suc n) (old ∷ days) within =
 -- the itinerary of a date is the effect on it, if the sub-message names the flight and its period
 -- holds the date
 pub date_after : (rows : List Row) (action : Action) (flight : FlightNumber) (period : DayRange) (old new : Table) → IsFlight flight
-    → ((g : FlightNumber) → days_in new g ≡ after_sub rows action flight period old g) → IsTimetable (days_in old)
-    → (g : FlightNumber) (n : ℕ) → IsFlight g → n < day_count → on_day (days_in new g) n ≡ itinerary_after rows action flight period g n (on_day (days_in old g) n)
+    → ((g : FlightNumber) → table_days new g ≡ after_sub rows action flight period (table_days old) g) → IsTimetable (table_days old)
+    → (g : FlightNumber) (n : ℕ) → IsFlight g → n < day_count → on_day (table_days new g) n ≡ itinerary_after rows action flight period g n (on_day (table_days old g) n)
 date_after rows action flight period old new is days was g n exists within =
     ap (λ ds. on_day ds n) (days g)
-    ∙ ap (λ b. on_day (if b then acted_on rows action period (days_in old g) else days_in old g) n) (sym (same_flight-place flight g is exists))
+    ∙ ap (λ b. on_day (if b then acted_on rows action period (table_days old g) else table_days old g) n) (sym (same_flight-place flight g is exists))
     ∙ by (same_flight flight g)
   where
-    by : (b : Bool) → on_day (if b then acted_on rows action period (days_in old g) else days_in old g) n
-        ≡ (if b && holds period n then after_on rows action n (on_day (days_in old g) n) else on_day (days_in old g) n)
+    by : (b : Bool) → on_day (if b then acted_on rows action period (table_days old g) else table_days old g) n
+        ≡ (if b && holds period n then after_on rows action n (on_day (table_days old g) n) else on_day (table_days old g) n)
     by true =
         let same : 0 + n ≡ n = omega arith in
-        subst (λ d. on_day (acted_on rows action period (days_in old g)) n ≡ (if holds period d then after_on rows action d (on_day (days_in old g) n) else on_day (days_in old g) n)) same
-        (changed-at (holds period) (after_on rows action) 0 n (days_in old g) (subst (λ (l : ℕ). n < l) (sym (was.each_day g exists)) within))
+        subst (λ d. on_day (acted_on rows action period (table_days old g)) n ≡ (if holds period d then after_on rows action d (on_day (table_days old g) n) else on_day (table_days old g) n)) same
+        (changed-at (holds period) (after_on rows action) 0 n (table_days old g) (subst (λ (l : ℕ). n < l) (sym (was.each_day g exists)) within))
     by false = refl

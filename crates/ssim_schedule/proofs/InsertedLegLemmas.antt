@@ -3,7 +3,7 @@
 use Rattle.std.proofs.Common.{◌≡◌, ◌≤◌, ℕ, suc, ◌+◌, Bool, true, false, nat_lt, if◌then◌else◌, [], ◌∷◌, ◌++◌, take, drop, refl, ap, ◌∙◌, arith}
 use Rattle.std.proofs.lemmas.Bool.Decides.{nat_tests}
 use Rattle.ssim_periods.specs.Days.{changed_on}
-use Rattle.ssim_schedule.specs.InsertedLegs.{IsOrdered, StartsFrom, legs_before, placed_each}
+use Rattle.ssim_schedule.specs.internal.InsertedLegs.{IsOrdered, StartsFrom, legs_before, placed_each}
 use Rattle.ssim_base.specs.Timetable.{Days, LegValue, Legs, placed}
 
 -- ---- days that are changed twice, or not at all

@@ -11,15 +11,16 @@ use Rattle.ssim_records.specs.declared.record.Record.{Record}
 use Rattle.ssim_base.specs.Timetable.{Days, same_flight}
 use Rattle.ssim_base.specs.Export as refusal
 use Rattle.ssim_base.specs.Export.{ExportRefusal, Frame, flight_at, Piece, pieces, pieces_records, flight_records, flights_records, export_refusal, export_of, chapter7, chapter7_records, sections, unless_refused, result_map, export_bytes}
-use Rattle.ssim_schedule.specs.Blocks.{joined}
-use Rattle.ssim_schedule.specs.Plan.{IsRefusedAs, Planned, Refuses, pieces_count, plan_bytes, plan_count, plan_of, plan_records, plan_refusal}
-use Rattle.ssim_schedule.specs.Schedule.{Table, AreRising, days_in, key_at, no_entry}
+use Rattle.ssim_schedule.specs.internal.Blocks.{joined}
+use Rattle.ssim_schedule.specs.internal.Plan.{IsRefusedAs, Planned, pieces_count, plan_bytes, plan_count, plan_of, plan_records, plan_refusal}
+use Rattle.ssim_schedule.specs.ExportResult.{Refuses}
+use Rattle.ssim_schedule.specs.internal.Table.{AreRising, Table, key_at, no_entry, table_days}
 use Rattle.ssim_base.specs.ReadBack as law
 use Rattle.ssim_base.specs.ReadBack.{place_of}
 use Rattle.ssim_base.proofs.ExportLaws.{NoOther}
 use Rattle.ssim_schedule.specs.declared.export.ExportFault.{ExportFault}
 use Rattle.ssim_schedule.specs.declared.export.ExportFault.TheVariants.{Variations, Records, WriteFault, Memory}
-use Rattle.ssim_schedule.specs.declared.flight_table.FlightPeriods.{FlightPeriods}
+use Rattle.ssim_schedule.specs.declared.timetable.flight_table.FlightPeriods.{FlightPeriods}
 use Rattle.ssim_base.proofs.Calendars.{length-each_day, at-each_day}
 use Rattle.ssim_base.proofs.Flown.{flown_suffice, unflown}
 use Rattle.ssim_base.proofs.Places.{flight-place, same-self}
@@ -102,8 +103,8 @@ flights_in table = map (λ f. f.flight) table
 abbrev HasDays : (FlightNumber → Days) → FlightPeriods → Type 0
 HasDays days f = days f.flight ≡ f.periods.days
 
-its_days : (table : Table) → AreRising table → Each (HasDays (days_in table)) table
-its_days table rising = recursion_from_All (HasDays (days_in table)) table (λ k d less.
+its_days : (table : Table) → AreRising table → Each (HasDays (table_days table)) table
+its_days table rising = recursion_from_All (HasDays (table_days table)) table (λ k d less.
     let f = get_or table k d in
     let same : get_or table k d ≡ get_or table k no_entry = get_or_default table k d no_entry less in
     found_at (λ (x : FlightPeriods). x.periods.days) (each_day (λ _. [])) table rising f.flight k (record { in_range = less; its = ap (λ (x : FlightPeriods). place_of x.flight) (sym same) })
@@ -136,13 +137,13 @@ rises low (f ∷ table) rising each from =
     (from (omega arith), each.0, rises (place_of f.flight + 1) table (rising_tail f table rising) each.1 (λ some. let next = rising 0 1 (omega arith) (omega arith) in omega (arith, next)))
 
 -- a flight without an entry has none on any day
-absent : (table : Table) (g : FlightNumber) → IsFlight g → Each Exists table → list_any (same_flight g) (flights_in table) ≡ false → days_in table g ≡ each_day (λ _. [])
+absent : (table : Table) (g : FlightNumber) → IsFlight g → Each Exists table → list_any (same_flight g) (flights_in table) ≡ false → table_days table g ≡ each_day (λ _. [])
 absent [] g is each none = refl
 absent (f ∷ table) g is each none = by (same_flight g f.flight) (nat_eq (place_of f.flight) (place_of g)) refl refl (absent table g is each.1) none
   where
     by : (b d : Bool) → same_flight g f.flight ≡ b → nat_eq (place_of f.flight) (place_of g) ≡ d
-        → (list_any (same_flight g) (flights_in table) ≡ false → days_in table g ≡ each_day (λ _. [])) → (b || list_any (same_flight g) (flights_in table)) ≡ false
-        → (if d then f.periods.days else days_in table g) ≡ each_day (λ _. [])
+        → (list_any (same_flight g) (flights_in table) ≡ false → table_days table g ≡ each_day (λ _. [])) → (b || list_any (same_flight g) (flights_in table)) ≡ false
+        → (if d then f.periods.days else table_days table g) ≡ each_day (λ _. [])
     by true d e k more h = absurd cc
     by false false e k more h = more h
     by false true e k more h =
@@ -151,25 +152,25 @@ absent (f ∷ table) g is each none = by (same_flight g f.flight) (nat_eq (place
         let same : same_flight g f.flight ≡ true = ap (λ (x : FlightNumber). same_flight g x) (sym one) ∙ same-self g in
         absurd cc
 
-no_other : (table : Table) → Each Exists table → NoOther (days_in table) (flights_in table)
+no_other : (table : Table) → Each Exists table → NoOther (table_days table) (flights_in table)
 no_other table each g is out =
     ap pieces (absent table g is each out) ∙ unflown (each_day (λ n. [])) (λ n l. let len = length-each_day (λ n. []) in at-each_day (λ n. []) n (omega arith))
 
 abbrev Planned_export : Frame → Table → Result (List ℕ) ExportRefusal
 Planned_export frame table = result_map export_bytes (unless_refused (plan_refusal 2 (plan_of table)) (sections frame (plan_records frame.carrier.airline (plan_of table))))
 
-exported : (frame : Frame) (table : Table) → AreRising table → All Exists table → chapter7 frame (days_in table) ≡ Planned_export frame table
+exported : (frame : Frame) (table : Table) → AreRising table → All Exists table → chapter7 frame (table_days table) ≡ Planned_export frame table
 exported frame table rising exist =
     let a = frame.carrier.airline in
     let each = recursion_from_All Exists table exist in
     let days = its_days table rising in
-    ap (λ r. result_map export_bytes r) (flown_suffice frame (days_in table) (flights_in table) (rises 0 table rising each (λ some. omega arith)) (no_other table each))
-    ∙ ap (λ o. result_map export_bytes (unless_refused o (sections frame (flights_records a (days_in table) (flights_in table))))) (refusal-same a (days_in table) 2 table days)
-    ∙ ap (λ rs. result_map export_bytes (unless_refused (plan_refusal 2 (plan_of table)) (sections frame rs))) (records-same a (days_in table) table days)
+    ap (λ r. result_map export_bytes r) (flown_suffice frame (table_days table) (flights_in table) (rises 0 table rising each (λ some. omega arith)) (no_other table each))
+    ∙ ap (λ o. result_map export_bytes (unless_refused o (sections frame (flights_records a (table_days table) (flights_in table))))) (refusal-same a (table_days table) 2 table days)
+    ∙ ap (λ rs. result_map export_bytes (unless_refused (plan_refusal 2 (plan_of table)) (sections frame rs))) (records-same a (table_days table) table days)
 
 -- the export, if none of the flights is refused
 pub export_is : (frame : Frame) (table : Table) (plan : List Planned) → AreRising table → All Exists table → plan ≡ plan_of table → plan_refusal 2 plan ≡ None
-    → chapter7 frame (days_in table) ≡ Ok (plan_bytes frame plan)
+    → chapter7 frame (table_days table) ≡ Ok (plan_bytes frame plan)
 unfolding plan_bytes
 export_is frame table plan rising exist is none =
     exported frame table rising exist
@@ -178,7 +179,7 @@ export_is frame table plan rising exist is none =
 
 -- the refusal of the export, if a flight is refused
 pub refusal_is : (frame : Frame) (table : Table) (plan : List Planned) (r : ExportRefusal) → AreRising table → All Exists table → plan ≡ plan_of table → plan_refusal 2 plan ≡ Some r
-    → chapter7 frame (days_in table) ≡ Err r
+    → chapter7 frame (table_days table) ≡ Err r
 refusal_is frame table plan r rising exist is some =
     exported frame table rising exist
     ∙ ap (λ (ps : List Planned). result_map export_bytes (unless_refused (plan_refusal 2 ps) (sections frame (plan_records frame.carrier.airline ps)))) (sym is)

@@ -4,7 +4,7 @@ use Rattle.std.specs.List.{flat_map}
 use Rattle.ssim_records.specs.Record.{written}
 use Rattle.ssim_records.specs.declared.record.Record.{Record}
 use Rattle.ssim_base.specs.Export.{line, numbered, with_serial}
-use Rattle.ssim_schedule.specs.Plan.{numbered_lines}
+use Rattle.ssim_schedule.specs.internal.Plan.{numbered_lines}
 
 pub numbered-append : (n : ℕ) (xs ys : List Record) → numbered n (xs ++ ys) ≡ numbered n xs ++ numbered (n + length xs) ys
 numbered-append n [] ys = let same : n ≡ n + 0 = omega arith in ap (λ m. numbered m ys) same

@@ -12,8 +12,8 @@ use Rattle.ssim_values.specs.Flight.{FlightNumber}
 use Rattle.ssim_periods.specs.Calendar.{day_count}
 use Rattle.ssim_periods.specs.Days.{each_day}
 use Rattle.ssim_base.specs.ReadBack.{place_of}
-use Rattle.ssim_schedule.specs.Schedule.{Table, found, no_entry, key_at, AreRising, IsAt, IsGapFor}
-use Rattle.ssim_schedule.specs.declared.flight_table.FlightPeriods.{FlightPeriods}
+use Rattle.ssim_schedule.specs.internal.Table.{AreRising, IsAt, IsGapFor, Table, found, key_at, no_entry}
+use Rattle.ssim_schedule.specs.declared.timetable.flight_table.FlightPeriods.{FlightPeriods}
 
 -- no entry before index i has this key
 abbrev NoneBefore : Table → ℕ → ℕ → Type 0

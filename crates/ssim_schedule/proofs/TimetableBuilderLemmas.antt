@@ -17,17 +17,17 @@ use Rattle.ssim_records.specs.Segment.{SegmentFields}
 use Rattle.ssim_records.specs.declared.record.Record.{Record}
 use Rattle.ssim_records.specs.declared.record.Record.TheVariants.{Header, Carrier, Leg, Segment, Trailer}
 use Rattle.ssim_base.specs.Timetable.{Days, LegValue, Legs, days_of, itinerary, leg_of, period_of, placed, same_flight, same_name, tails_of}
-use Rattle.ssim_schedule.specs.LegKey.{IsPlaced, name_place}
-use Rattle.ssim_schedule.specs.TimetableBuilder.{IsBuilt, IsCut, OpensGroup, PutsGroup, TakesLeg, TakesSegment, days_with}
-use Rattle.ssim_schedule.specs.Group.{Group, IsBound, with_legs}
-use Rattle.ssim_schedule.specs.InsertedLegs.{StartsFrom, placed_each}
+use Rattle.ssim_schedule.specs.internal.LegKey.{IsPlaced, name_place}
+use Rattle.ssim_schedule.specs.internal.TimetableBuilder.{IsBuilt, IsCut, OpensGroup, PutsGroup, TakesLeg, TakesSegment, days_with}
+use Rattle.ssim_schedule.specs.internal.LegGroup.{Group, IsBound, with_legs}
+use Rattle.ssim_schedule.specs.internal.InsertedLegs.{StartsFrom, placed_each}
 use Rattle.ssim_base.specs.ReadBack.{place_of}
 use Rattle.ssim_base.proofs.Places.{same_flight-place}
 use Rattle.ssim_schedule.specs.DivisionPoints.{is_point}
-use Rattle.ssim_schedule.specs.Schedule.{Table, cuts_in, days_in}
-use Rattle.ssim_schedule.specs.PendingSegments.{waiting_at}
-use Rattle.ssim_schedule.specs.declared.timetable_builder.TimetableBuilder.{TimetableBuilder}
-use Rattle.ssim_schedule.specs.declared.leg_group.Heading.{Heading}
+use Rattle.ssim_schedule.specs.internal.Table.{Table, table_cuts, table_days}
+use Rattle.ssim_schedule.specs.internal.PendingSegments.{waiting_at}
+use Rattle.ssim_schedule.specs.declared.builder.timetable_builder.TimetableBuilder.{TimetableBuilder}
+use Rattle.ssim_schedule.specs.declared.builder.leg_group.Heading.{Heading}
 use Rattle.ssim_schedule.proofs.InsertedLegLemmas.{changed_not, changed_twice}
 
 parts_told : (x y v w s t : ℕ) → v < 100 → w < 100 → s < 100 → t < 100 → (x * 100 + v) * 100 + s ≡ (y * 100 + w) * 100 + t → (x ≡ y) × (v ≡ w) × (s ≡ t)
@@ -88,7 +88,7 @@ built-segment old new r done t h = record {
       t.tails (name_place n)
       ∙ ap (λ b. if b then r.tail ∷ waiting_at old.waiting (name_place n) else waiting_at old.waiting (name_place n)) (sym (same_name-place n r.name is t.named))
       ∙ ap (λ ts. if same_name n r.name then r.tail ∷ ts else ts) (h.tails n is);
-  cuts = λ g is cut has. h.cuts g is cut (subst (λ (group : Group). Contains (cuts_in old.table g) cut ⊎ IsBound group.heading g cut) t.group (subst (λ (table : Table). Contains (cuts_in table g) cut ⊎ IsBound new.group.heading g cut) t.table has));
+  cuts = λ g is cut has. h.cuts g is cut (subst (λ (group : Group). Contains (table_cuts old.table g) cut ⊎ IsBound group.heading g cut) t.group (subst (λ (table : Table). Contains (table_cuts table g) cut ⊎ IsBound new.group.heading g cut) t.table has));
 }
 
 pub built-leg : (old new : TimetableBuilder) (r : LegFields) (done : List Record) → TakesLeg old new r → IsBuilt old done → IsBuilt new (Leg r ∷ done)
@@ -166,16 +166,16 @@ opened old put new h sequence puts table waiting group = record {
   heading = ap (λ (a : Group). a.heading) group;
   order = subst (λ (a : Group). StartsFrom sequence a.legs) (sym group) tt;
   days = λ g.
-      ap (λ (a : Group). with_legs a.heading a.legs g (days_in new.table g)) group
-      ∙ none_yet (Some h) g (days_in new.table g)
-      ∙ ap (λ (t : Table). days_in t g) table
+      ap (λ (a : Group). with_legs a.heading a.legs g (table_days new.table g)) group
+      ∙ none_yet (Some h) g (table_days new.table g)
+      ∙ ap (λ (t : Table). table_days t g) table
       ∙ puts.days g;
   cuts = λ g cut has. by g cut has;
   waiting = waiting ∙ puts.waiting;
 }
   where
     by : (g : FlightNumber) (cut : ℕ) → IsCut new g cut → IsCut old g cut ⊎ IsBound (Some h) g cut
-    by g cut (inl has) = inl (puts.cuts g cut (subst (λ (t : Table). Contains (cuts_in t g) cut) table has))
+    by g cut (inl has) = inl (puts.cuts g cut (subst (λ (t : Table). Contains (table_cuts t g) cut) table has))
     by g cut (inr bound) = inr (subst (λ (a : Group). IsBound a.heading g cut) group bound)
 
 -- a leg joins the pending legs
@@ -183,18 +183,18 @@ module _ (old opened new : TimetableBuilder) (h : Heading) (l : LegValue) (seque
     (group : new.group ≡ record { heading = opened.group.heading; legs = l ∷ opened.group.legs }) where
   pub joined_days : (g : FlightNumber) → days_with new g ≡ (if nat_eq (place_of h.flight) (place_of g) then changed_on (holds h.period) (placed l) 0 (days_with old g) else days_with old g)
   joined_days g =
-      ap (λ (a : Group). with_legs a.heading a.legs g (days_in new.table g)) group
-      ∙ ap (λ (t : Table). with_legs opened.group.heading (l ∷ opened.group.legs) g (days_in t g)) table
-      ∙ ap (λ (o : Option Heading). with_legs o (l ∷ opened.group.legs) g (days_in opened.table g)) opens.heading
-      ∙ one_more h l opened.group.legs g (days_in opened.table g)
+      ap (λ (a : Group). with_legs a.heading a.legs g (table_days new.table g)) group
+      ∙ ap (λ (t : Table). with_legs opened.group.heading (l ∷ opened.group.legs) g (table_days t g)) table
+      ∙ ap (λ (o : Option Heading). with_legs o (l ∷ opened.group.legs) g (table_days opened.table g)) opens.heading
+      ∙ one_more h l opened.group.legs g (table_days opened.table g)
       ∙ ap (λ (ds : Days). if nat_eq (place_of h.flight) (place_of g) then changed_on (holds h.period) (placed l) 0 ds else ds)
-      (ap (λ (o : Option Heading). with_legs o opened.group.legs g (days_in opened.table g)) (sym opens.heading) ∙ opens.days g)
+      (ap (λ (o : Option Heading). with_legs o opened.group.legs g (table_days opened.table g)) (sym opens.heading) ∙ opens.days g)
 
   pub joined_cuts : (g : FlightNumber) (cut : ℕ) → IsCut new g cut → IsCut old g cut ⊎ IsBound (Some h) g cut
   joined_cuts g cut has =
       opens.cuts g cut
-      (subst (λ (a : Group). Contains (cuts_in opened.table g) cut ⊎ IsBound a.heading g cut) group
-      (subst (λ (t : Table). Contains (cuts_in t g) cut ⊎ IsBound new.group.heading g cut) table has))
+      (subst (λ (a : Group). Contains (table_cuts opened.table g) cut ⊎ IsBound a.heading g cut) group
+      (subst (λ (t : Table). Contains (table_cuts t g) cut ⊎ IsBound new.group.heading g cut) table has))
 
 pub same_period : (p : DayRange) (r : LegFields) (last : ℕ) → p.first ≡ r.first → p.last ≡ last → p.days ≡ r.days → r.last ≡ Some last → p ≡ period_of r
 same_period p r last first end' days some =

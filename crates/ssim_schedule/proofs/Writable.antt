@@ -9,9 +9,9 @@ use Rattle.ssim_periods.specs.Days.{each_day}
 use Rattle.ssim_periods.specs.Pieces.{alone, held_on}
 use Rattle.ssim_base.specs.Timetable.{Days, Legs, on_day}
 use Rattle.ssim_base.specs.Export.{Piece, pieces, same_itinerary}
-use Rattle.ssim_schedule.specs.Plan.{HasWritableLegs, HasWritablePieces, Planned, plan_of}
+use Rattle.ssim_schedule.specs.internal.Plan.{HasWritableLegs, HasWritablePieces, Planned, plan_of}
 use Rattle.ssim_base.specs.ReadBack.{CanReadBack, IsTimetable, IsWritable, place_of}
-use Rattle.ssim_schedule.specs.Schedule.{Table, days_in}
+use Rattle.ssim_schedule.specs.internal.Table.{Table, table_days}
 use Rattle.ssim_base.proofs.Calendars.{at-each_day}
 use Rattle.ssim_base.proofs.Pieces.{itinerary_pieces}
 
@@ -41,10 +41,10 @@ day-writable days n h =
 
 -- what holds of the days of each entry, and of a flight without an entry, holds of the days of each
 -- flight
-of-each : (P : Days → Type 0) (table : Table) (g : FlightNumber) → Each (λ f. P f.periods.days) table → P (each_day (λ _. [])) → P (days_in table g)
+of-each : (P : Days → Type 0) (table : Table) (g : FlightNumber) → Each (λ f. P f.periods.days) table → P (each_day (λ _. [])) → P (table_days table g)
 of-each P [] g each none = none
 of-each P (f ∷ table) g each none =
-    elim (nat_eq (place_of f.flight) (place_of g)) as (λ b. P (if b then f.periods.days else days_in table g)) [
+    elim (nat_eq (place_of f.flight) (place_of g)) as (λ b. P (if b then f.periods.days else table_days table g)) [
       | true ↦ each.0
       | false ↦ of-each P table g each.1 none
     ]
@@ -54,7 +54,7 @@ entries-writable [] n h = tt
 entries-writable (f ∷ table) n h = (day-writable f.periods.days n h.0, entries-writable table n h.1)
 
 -- what was written can be read back
-pub readable : (table : Table) (plan : List Planned) → plan ≡ plan_of table → All HasWritablePieces plan → IsTimetable (days_in table) → CanReadBack (days_in table)
+pub readable : (table : Table) (plan : List Planned) → plan ≡ plan_of table → All HasWritablePieces plan → IsTimetable (table_days table) → CanReadBack (table_days table)
 readable table plan is writable timetable =
     let each = recursion_from_All HasWritablePieces (plan_of table) (subst (λ (ps : List Planned). All HasWritablePieces ps) is writable) in
     record {

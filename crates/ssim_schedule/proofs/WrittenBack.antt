@@ -5,7 +5,7 @@ use Rattle.ssim_values.specs.Flight.{FlightNumber}
 use Rattle.ssim_base.specs.Timetable.{Days}
 use Rattle.ssim_base.specs.Export.{Frame, chapter7}
 use Rattle.ssim_base.specs.ReadBack.{BytesReadBack, CanReadBack, IsFrame, IsWritableFrame, ReadsBackFrom}
-use Rattle.ssim_schedule.specs.Plan.{Writes}
+use Rattle.ssim_schedule.specs.ExportResult.{Writes}
 
 pub written_reads_back : {W : Type 0} (taken : W → Option (List ℕ)) (failures : W → ℕ) (frame : Frame) (days : FlightNumber → Days) (old new : W)
     → BytesReadBack → IsFrame frame → IsWritableFrame frame → Writes taken failures (chapter7 frame days) old new → CanReadBack days

@@ -1,5 +1,5 @@
 -- What a sub-message does to a schedule: to each date of its period by itself.
-use Rattle.std.specs.Prelude.{◌≡◌, ◌⊎◌, ℕ, ◌+◌, ◌≤◌, ◌<◌, Bool, true, ◌&&◌, ◌||◌, nat_eq, nat_lt, if◌then◌else◌, IsTrue, List, [], ◌∷◌, Contains, map, slice_index_or}
+use Rattle.std.specs.Prelude.{◌≡◌, ◌⊎◌, ℕ, ◌+◌, Bool, ◌&&◌, ◌||◌, nat_eq, if◌then◌else◌, IsTrue, List, [], ◌∷◌, Contains}
 use Rattle.std.specs.List.{list_any}
 use Rattle.ssim_values.specs.Flight.{FlightNumber}
 use Rattle.ssim_values.specs.Period.{DayRange}
@@ -10,7 +10,6 @@ use Rattle.ssim_text.specs.declared.action.Action.{Action}
 use Rattle.ssim_text.specs.declared.action.Action.TheVariants.{New, Cnl, Rpl, Eqt, Tim}
 use Rattle.ssim_schedule.specs.Effect.{class_number, effect}
 use Rattle.ssim_base.specs.ReadBack.{place_of}
-use Rattle.ssim_schedule.specs.Schedule.{Table, days_in}
 use Rattle.ssim_base.specs.Stations.{Row}
 use Rattle.ssim_base.specs.Timetable.{Days, Legs, same_flight}
 use Rattle.ssim_schedule.specs.declared.finding.Finding.{Finding}
@@ -39,9 +38,9 @@ abbrev pub acted_on : List Row → Action → DayRange → Days → Days
 acted_on rows action period days = changed_by (holds period) (after_on rows action) 0 days
 
 -- the days of each flight after a sub-message, which changes the flight that it names
-abbrev pub after_sub : List Row → Action → FlightNumber → DayRange → Table → FlightNumber → Days
-after_sub rows action flight period table g =
-    if nat_eq (place_of flight) (place_of g) then acted_on rows action period (days_in table g) else days_in table g
+abbrev pub after_sub : List Row → Action → FlightNumber → DayRange → (FlightNumber → Days) → FlightNumber → Days
+after_sub rows action flight period days g =
+    if nat_eq (place_of flight) (place_of g) then acted_on rows action period (days g) else days g
 
 -- what flight g has on a day after the sub-message: the effect if it names g and its period holds
 -- the day, else the old legs
@@ -52,10 +51,6 @@ itinerary_after rows action flight period g day old =
 -- how many dates of the period get the reason of class k
 abbrev pub count_of : List Row → Action → DayRange → Days → ℕ → ℕ
 count_of rows action period days k = counted_by (holds period) (class_on rows action) k 0 days
-
--- the counts of the classes 0 to 4 on the days of a set
-abbrev pub counts_by : List Row → Action → (ℕ → Bool) → Days → List ℕ
-counts_by rows action is_in days = map (λ k. counted_by is_in (class_on rows action) k 0 days) (0 ∷ 1 ∷ 2 ∷ 3 ∷ 4 ∷ [])
 
 -- the number of dates of the period that get each reason
 abbrev pub finding_of : List Row → Action → DayRange → Days → Finding
@@ -93,29 +88,8 @@ abbrev pub is_point_of : List Row → Action → DayRange → ℕ → Bool
 is_point_of rows action period cut =
     (nat_eq cut period.first || nat_eq cut (period.last + 1)) || list_any (divides action cut) rows
 
--- new cuts are old cuts or division points of the action
-abbrev pub AddsPoints : List Row → Action → DayRange → List ℕ → List ℕ → Type 0
-AddsPoints rows action period old new =
-    (cut : ℕ) → Contains new cut → Contains old cut ⊎ IsTrue (is_point_of rows action period cut)
-
 -- new cuts of a flight are old ones or division points of the action, and the latter only for the
 -- flight that is named
 abbrev pub AddsPointsOf : FlightNumber → List Row → Action → DayRange → FlightNumber → List ℕ → List ℕ → Type 0
 AddsPointsOf flight rows action period g old new =
     (cut : ℕ) → Contains new cut → Contains old cut ⊎ ((place_of flight ≡ place_of g) × IsTrue (is_point_of rows action period cut))
-
--- no row begins from the day after d up to e, nor ends from d up to the day before e
-abbrev pub IsSteady : ℕ → ℕ → Row → Type 0
-IsSteady d e row = ((row.first ≤ d) ⊎ (e < row.first)) × ((row.last < d) ⊎ (e ≤ row.last))
-
--- the action has the same effect on all days of the period
-abbrev pub IsUniform : List Row → Action → DayRange → Type 0
-IsUniform rows action period = (day : ℕ) → holds period day ≡ true → (old : Legs) → effect rows action period.first old ≡ effect rows action day old
-
--- the days of a period before a day
-abbrev pub before : DayRange → ℕ → ℕ → Bool
-before period at n = holds period n && nat_lt n at
-
--- two lists of five counts added
-abbrev pub sums_of : List ℕ → List ℕ → List ℕ
-sums_of a b = map (λ k. slice_index_or a k 0 + slice_index_or b k 0) (0 ∷ 1 ∷ 2 ∷ 3 ∷ 4 ∷ [])

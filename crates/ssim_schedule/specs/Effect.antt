@@ -159,11 +159,3 @@ class_number Absent = 1
 class_number Present = 2
 class_number Leg = 3
 class_number Station = 4
-
--- the new legs of an action that has them
-abbrev pub made_of : Variations → Action → Option Legs
-made_of variation (New new) = new_legs variation new
-made_of variation Cnl = None
-made_of variation (Rpl new) = new_legs variation new
-made_of variation (Eqt equipment) = None
-made_of variation (Tim lines) = None

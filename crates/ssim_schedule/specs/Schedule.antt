@@ -1,55 +1,30 @@
--- What a schedule keeps: for each flight that was named, its itinerary on each day and its cuts.
-use Rattle.std.specs.Prelude.{◌≡◌, ◌⊎◌, ℕ, ◌+◌, ◌<◌, ◌≤◌, nat_eq, if◌then◌else◌, List, [], ◌∷◌, length, slice_index_or, Contains}
+-- What contracts see of a schedule: the itinerary of each flight on each day, and the cuts of each
+-- flight. How these are stored is in internal/Table.
+use Rattle.std.specs.Prelude.{ℕ, List, refl}
+use Rattle.std.specs.Coded.{Coded, code_by, coded_list}
 use Rattle.ssim_values.specs.Flight.{FlightNumber}
-use Rattle.ssim_values.specs.Period.{DayRange}
-use Rattle.ssim_periods.specs.Days.{each_day}
 use Rattle.ssim_base.specs.Timetable.{Days}
-use Rattle.ssim_base.specs.ReadBack.{place_of}
-use Rattle.ssim_schedule.specs.declared.flight_table.FlightPeriods.{FlightPeriods}
+use Rattle.ssim_schedule.specs.internal.Table.{Table, table_cuts, table_days}
+use Rattle.ssim_schedule.specs.contracts.timetable.flight_table.FlightPeriods as entry
 
--- the flights of a schedule, each with its itineraries and cuts
-abbrev pub Table : Type 0
-Table = List FlightPeriods
-
--- a field of a flight's entry, or `other` if the flight has no entry
-abbrev pub found : {X : Type 0} → (FlightPeriods → X) → X → Table → FlightNumber → X
-found field other [] flight = other
-found field other (f ∷ table) flight = if nat_eq (place_of f.flight) (place_of flight) then field f else found field other table flight
+-- what the flights of a schedule fly; all that is seen of it is `days_in` and `cuts_in`
+pub record Flown : Type 0 where
+  table : Table
 
 -- a flight's itinerary on each day; no legs on any day if it was never named
-abbrev pub days_in : Table → FlightNumber → Days
-days_in = found (λ f. f.periods.days) (each_day (λ _. []))
+abbrev pub days_in : Flown → FlightNumber → Days
+days_in flown = table_days flown.table
 
--- the cuts of a flight
-abbrev pub cuts_in : Table → FlightNumber → List ℕ
-cuts_in = found (λ f. f.periods.cuts) []
+-- the cuts of a flight; none if it was never named
+abbrev pub cuts_in : Flown → FlightNumber → List ℕ
+cuts_in flown = table_cuts flown.table
 
--- an entry in place of one that does not exist
-abbrev pub no_entry : FlightPeriods
-no_entry = record { flight = record { number = 0; suffix = 32 }; periods = record { days = []; cuts = [] } }
+-- ---- for the model of `Schedule` alone
 
--- the rank of the flight of the entry at i
-abbrev pub key_at : Table → ℕ → ℕ
-key_at table i = place_of (slice_index_or table i no_entry).flight
+-- what the stored flights fly
+abbrev pub flown_by : Table → Flown
+flown_by table = record { table = table }
 
--- the entries rise by number and suffix, so no flight has two
-abbrev pub AreRising : Table → Type 0
-AreRising table = (i j : ℕ) → i < j → j < length table → key_at table i < key_at table j
-
--- the entry at i is the flight's
-pub record IsAt (table : Table) (flight : FlightNumber) (i : ℕ) : Type 0 where
-  pub in_range : i < length table
-  pub its : key_at table i ≡ place_of flight
-
--- a flight without an entry would have it at i: lower ones before it, and higher ones from it on
-pub record IsGapFor (table : Table) (flight : FlightNumber) (i : ℕ) : Type 0 where
-  pub in_range : i ≤ length table
-  pub lower_before : (j : ℕ) → j < i → key_at table j < place_of flight
-  pub higher_after : (j : ℕ) → i ≤ j → j < length table → place_of flight < key_at table j
-
--- a flight's new cuts are old ones, or, of the flight whose dates were changed, the period's first
--- day and the day after its last
-abbrev pub AddsOnlyAt : FlightNumber → DayRange → FlightNumber → List ℕ → List ℕ → Type 0
-AddsOnlyAt flight period g old new =
-    (cut : ℕ) → Contains new cut
-    → Contains old cut ⊎ ((place_of flight ≡ place_of g) × ((cut ≡ period.first) ⊎ (cut ≡ period.last + 1)))
+-- by this code a proof tells two values apart
+abbrev pub flown_code : Coded Flown
+flown_code = code_by Table (coded_list entry.the_row.coded) (λ flown. flown.table) flown_by (λ _. refl)

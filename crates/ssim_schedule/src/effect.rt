@@ -3,17 +3,26 @@
 ghost use Rattle.std.specs.Prelude.{◌≡◌, ℕ, ◌<◌, true, IfOk, OnErr, OnOk};
 ghost use Rattle.ssim_values.specs.Flight.{FlightNumber, IsFlight};
 ghost use Rattle.ssim_periods.specs.Calendar.{day_count, holds};
-ghost use Rattle.ssim_schedule.specs.Acts.{AddsPointsOf, IsUniform, after_sub, counts_by, finding_of, itinerary_after};
+ghost use Rattle.ssim_schedule.specs.Acts.{AddsPointsOf, after_sub, finding_of, itinerary_after};
+ghost use Rattle.ssim_schedule.specs.internal.ActionParts.{IsUniform, counts_by};
 ghost use Rattle.ssim_schedule.specs.Schedule.{cuts_in, days_in};
+ghost use Rattle.ssim_schedule.specs.internal.Table.{table_cuts, table_days};
 ghost use Rattle.ssim_base.specs.Timetable.{on_day};
 
-use crate::division::act_on_parts;
-use crate::division_points::{lines_of, next_point};
+mod division;
+mod division_points;
+pub(crate) mod flight_date;
+mod message_columns;
+mod new_legs;
+mod sub_message_change;
+
+use crate::effect::division::act_on_parts;
+use crate::effect::division_points::{lines_of, next_point};
+use crate::effect::sub_message_change::SubMessageChange;
 use crate::finding::Finding;
-use crate::flight_blocks::FlightBlocks;
-use crate::flight_table::place;
 use crate::schedule::Schedule;
-use crate::sub_message_change::SubMessageChange;
+use crate::timetable::flight_blocks::FlightBlocks;
+use crate::timetable::flight_table::place;
 use ssim_base::{Base, Resolved, StationRow};
 use ssim_text::Action;
 use ssim_values::{Flight, Memory, Period};
@@ -37,7 +46,7 @@ impl Schedule {
     /// no row of their stations begins or ends. If there are several such parts, the flight's
     /// periods are copied first; they are also copied if a copy of the schedule shares them.
     pub fn apply_sub(&mut self, base: &Base, sub: &Resolved) -> Result<Finding, Memory>
-        ensures days { OnOk result ((g : FlightNumber) → days_in self.new g ≡ after_sub base.now.rows sub.now.action.now sub.now.flight sub.now.period self.old g) }
+        ensures days { OnOk result ((g : FlightNumber) → days_in self.new g ≡ after_sub base.now.rows sub.now.action.now sub.now.flight sub.now.period (days_in self.old) g) }
         ensures finding { IfOk result (λ finding. finding ≡ finding_of base.now.rows sub.now.action.now sub.now.period (days_in self.old sub.now.flight)) }
 
         // A new cut is the first day or the day after the last of the period, or of a row whose
@@ -54,7 +63,7 @@ impl Schedule {
 
     /// Does what `apply_sub` does, by these rows of a station table.
     pub fn apply_by(&mut self, rows: &[StationRow], sub: &Resolved) -> Result<Finding, Memory>
-        ensures days { OnOk result ((g : FlightNumber) → days_in self.new g ≡ after_sub rows.now sub.now.action.now sub.now.flight sub.now.period self.old g) }
+        ensures days { OnOk result ((g : FlightNumber) → days_in self.new g ≡ after_sub rows.now sub.now.action.now sub.now.flight sub.now.period (days_in self.old) g) }
         ensures finding { IfOk result (λ finding. finding ≡ finding_of rows.now sub.now.action.now sub.now.period (days_in self.old sub.now.flight)) }
 
         // A new cut is the first day or the day after the last of the period, or of a row whose
@@ -83,9 +92,9 @@ impl FlightBlocks {
         flight: Flight,
         period: &Period,
     ) -> Result<[u32; 5], Memory>
-        ensures days { OnOk result ((g : FlightNumber) → days_in self.new g ≡ after_sub rows.now action.now flight period.now self.old g) }
-        ensures counts { IfOk result (λ counts. counts ≡ counts_by rows.now action.now (holds period.now) (days_in self.old flight)) }
-        ensures cuts { OnOk result ((g : FlightNumber) → AddsPointsOf flight rows.now action.now period.now g (cuts_in self.old g) (cuts_in self.new g)) }
+        ensures days { OnOk result ((g : FlightNumber) → table_days self.new g ≡ after_sub rows.now action.now flight period.now (table_days self.old) g) }
+        ensures counts { IfOk result (λ counts. counts ≡ counts_by rows.now action.now (holds period.now) (table_days self.old flight)) }
+        ensures cuts { OnOk result ((g : FlightNumber) → AddsPointsOf flight rows.now action.now period.now g (table_cuts self.old g) (table_cuts self.new g)) }
         ensures err { OnErr result (self.new ≡ self.old) }
     {
         if is_uniform(rows, action, period) {
@@ -104,9 +113,9 @@ impl FlightBlocks {
         period: &Period,
     ) -> Result<[u32; 5], Memory>
         requires { IsUniform rows.now action.now period.now }
-        ensures days { OnOk result ((g : FlightNumber) → days_in self.new g ≡ after_sub rows.now action.now flight period.now self.old g) }
-        ensures counts { IfOk result (λ counts. counts ≡ counts_by rows.now action.now (holds period.now) (days_in self.old flight)) }
-        ensures cuts { OnOk result ((g : FlightNumber) → AddsPointsOf flight rows.now action.now period.now g (cuts_in self.old g) (cuts_in self.new g)) }
+        ensures days { OnOk result ((g : FlightNumber) → table_days self.new g ≡ after_sub rows.now action.now flight period.now (table_days self.old) g) }
+        ensures counts { IfOk result (λ counts. counts ≡ counts_by rows.now action.now (holds period.now) (table_days self.old flight)) }
+        ensures cuts { OnOk result ((g : FlightNumber) → AddsPointsOf flight rows.now action.now period.now g (table_cuts self.old g) (table_cuts self.new g)) }
         ensures err { OnErr result (self.new ≡ self.old) }
     {
         let change = SubMessageChange::on(self.allocator(), rows, action, period.first())?;
@@ -121,9 +130,9 @@ impl FlightBlocks {
         flight: Flight,
         period: &Period,
     ) -> Result<[u32; 5], Memory>
-        ensures days { OnOk result ((g : FlightNumber) → days_in self.new g ≡ after_sub rows.now action.now flight period.now self.old g) }
-        ensures counts { IfOk result (λ counts. counts ≡ counts_by rows.now action.now (holds period.now) (days_in self.old flight)) }
-        ensures cuts { OnOk result ((g : FlightNumber) → AddsPointsOf flight rows.now action.now period.now g (cuts_in self.old g) (cuts_in self.new g)) }
+        ensures days { OnOk result ((g : FlightNumber) → table_days self.new g ≡ after_sub rows.now action.now flight period.now (table_days self.old) g) }
+        ensures counts { IfOk result (λ counts. counts ≡ counts_by rows.now action.now (holds period.now) (table_days self.old flight)) }
+        ensures cuts { OnOk result ((g : FlightNumber) → AddsPointsOf flight rows.now action.now period.now g (table_cuts self.old g) (table_cuts self.new g)) }
         ensures err { OnErr result (self.new ≡ self.old) }
     {
         let alloc = self.allocator();

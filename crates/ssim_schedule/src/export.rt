@@ -3,9 +3,10 @@
 ghost use Rattle.std.specs.Prelude.{◌≡◌, ℕ, List, IfErr, OnOk, Some};
 ghost use Rattle.std.specs.Io.KnownBytes.{Appends};
 ghost use Rattle.ssim_base.specs.Export.{chapter7, frame_from};
-ghost use Rattle.ssim_schedule.specs.Plan.{ReadsBackBase, Refuses, RefusesBase, Writes, WritesBase};
+ghost use Rattle.ssim_schedule.specs.ExportResult.{ReadsBackBase, Refuses, RefusesBase, Writes, WritesBase};
 ghost use Rattle.ssim_base.specs.ReadBack.{CanReadBack, IsTimetable, ReadsBackFrom};
 ghost use Rattle.ssim_schedule.specs.Schedule.{days_in};
+ghost use Rattle.ssim_schedule.specs.internal.Table.{table_days};
 ghost use Rattle.ssim_base.specs.Timetable.{days_of};
 
 mod lines;
@@ -13,8 +14,8 @@ mod plan;
 
 use crate::export::lines::put_export;
 use crate::export::plan::{divide, measure};
-use crate::flight_blocks::FlightBlocks;
 use crate::schedule::Schedule;
+use crate::timetable::flight_blocks::FlightBlocks;
 use ssim_base::laws::export_bytes_read_back;
 use ssim_base::{Base, BaseFrame, DataSet, Place};
 use ssim_records::{Carrier, Header, Sink, Trailer};
@@ -43,8 +44,8 @@ pub enum ExportFault {
 }
 
 impl ExportFault {
-    ghost use Rattle.ssim_schedule.specs.Plan.{export_fault_name, export_fault_number};
-    ghost use Rattle.ssim_schedule.specs.Plan.{export_fault_place};
+    ghost use Rattle.ssim_schedule.specs.ExportResult.{export_fault_name, export_fault_number};
+    ghost use Rattle.ssim_schedule.specs.ExportResult.{export_fault_place};
 
     /// The number of the fault: 50, 51, 52 or 90.
     pub fn number(self) -> u8
@@ -159,12 +160,12 @@ fn export_frame<W: Sink>(
     alloc: Global,
     out: &mut W,
 ) -> Result<(), ExportFault>
-    ensures ok { OnOk result (Writes W.taken W.failures (chapter7 (frame_from header.now carrier.now trailer.now) (days_in table)) out.old out.new) }
-    ensures err { IfErr result (λ fault. Refuses W.taken W.failures (chapter7 (frame_from header.now carrier.now trailer.now) (days_in table)) out.old out.new fault) }
+    ensures ok { OnOk result (Writes W.taken W.failures (chapter7 (frame_from header.now carrier.now trailer.now) (table_days table)) out.old out.new) }
+    ensures err { IfErr result (λ fault. Refuses W.taken W.failures (chapter7 (frame_from header.now carrier.now trailer.now) (table_days table)) out.old out.new fault) }
     ensures device { W.device out.new ≡ W.device out.old }
 
     // The legs that were written are legs that records may have.
-    ensures readable { OnOk result (IsTimetable (days_in table) → CanReadBack (days_in table)) }
+    ensures readable { OnOk result (IsTimetable (table_days table) → CanReadBack (table_days table)) }
 {
     let plan = divide(alloc, table.into_blocks())?;
     measure(&plan)?;

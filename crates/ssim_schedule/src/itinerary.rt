@@ -3,8 +3,8 @@
 ghost use Rattle.std.specs.Prelude.{◌≡◌, ◌<◌, ◌≤◌, ◌%◌, ◌^◌, ◌∷◌, [], IfNone, IfOk, IfSome, OnOk, reverse};
 ghost use Rattle.ssim_base.specs.Export.{same_itinerary};
 ghost use Rattle.ssim_base.specs.ItineraryLaws.{exact_itinerary};
-ghost use Rattle.ssim_schedule.specs.Plan.{legs_count};
-ghost use Rattle.ssim_schedule.specs.Shared.{CountsRecords, hash_of, legs_of};
+ghost use Rattle.ssim_schedule.specs.internal.SharedLegs.{legs_count};
+ghost use Rattle.ssim_schedule.specs.internal.SharedLegs.{CountsRecords, hash_of, legs_of};
 
 use crate::leg::PlacedLeg;
 use ssim_periods::Value;
@@ -40,7 +40,7 @@ pub struct Itinerary {
 impl Model for Itinerary {
     ghost use Rattle.std.specs.Prelude.{◌≡◌, ◌%◌};
     ghost use Rattle.ssim_base.specs.Timetable.{Legs};
-    ghost use Rattle.ssim_schedule.specs.Shared.{CountsRecords, legs_of, hash_of};
+    ghost use Rattle.ssim_schedule.specs.internal.SharedLegs.{CountsRecords, legs_of, hash_of};
 
     ghost Value = { Legs };
 

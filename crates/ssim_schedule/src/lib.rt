@@ -8,38 +8,25 @@
 //! - `Schedule::apply_sub` and `apply_by`: a resolved sub-message acts on each date of its period
 //!   by itself; a [`Finding`] counts the dates by what happened on them.
 //!
+//! Contracts see of a schedule what each flight has on each day (`days_in`) and its cuts
+//! (`cuts_in`), and not how it is stored.
+//!
 //! The promise: a schedule has on each date what the records, and then the sub-messages, say of
 //! that date alone; and its export is the chapter 7 of that timetable, which reads back to itself.
 #![tactic(auto)]
 
-mod division;
-mod division_points;
+mod builder;
 mod effect;
 mod export;
 mod finding;
-mod flight_blocks;
-mod flight_date;
-mod flight_set;
-mod flight_table;
-mod inserted_legs;
 mod itinerary;
 mod leg;
-mod leg_group;
-mod leg_key;
-mod message_columns;
-mod new_legs;
-mod pending_segments;
 mod schedule;
-mod shared_periods;
-mod shared_table;
-mod sub_message_change;
-mod table_builder;
-mod timetable_builder;
+mod timetable;
 
+pub use effect::flight_date::FlightDate;
 pub use export::{ExportFault, export_data_set};
 pub use finding::{Finding, Reason};
-pub use flight_date::FlightDate;
-pub use flight_table::FlightPeriods;
 pub use itinerary::Itinerary;
 pub use leg::{PlacedLeg, copy_legs};
 pub use schedule::Schedule;

@@ -6,12 +6,12 @@ ghost use Rattle.ssim_values.specs.Calendar.{weekday};
 ghost use Rattle.ssim_base.specs.Timetable.{Above, on_day};
 
 // The worked examples, which are computed: a false one is an error in this file.
-ghost use Rattle.ssim_schedule.specs.BlockExamples;
-ghost use Rattle.ssim_schedule.specs.EffectExamples;
+ghost use Rattle.ssim_schedule.specs.examples.Blocks;
+ghost use Rattle.ssim_schedule.specs.examples.Effects;
 
-use crate::flight_blocks::FlightBlocks;
-use crate::flight_table::place;
 use crate::leg::PlacedLeg;
+use crate::timetable::flight_blocks::FlightBlocks;
+use crate::timetable::flight_table::place;
 use ssim_values::{Day, Flight, Memory};
 use std::marker::Model;
 
@@ -24,13 +24,16 @@ pub struct Schedule {
 
 impl Model for Schedule {
     ghost use Rattle.ssim_base.specs.ReadBack.{IsTimetable};
-    ghost use Rattle.ssim_schedule.specs.Schedule.{Table, days_in};
+    ghost use Rattle.ssim_schedule.specs.Schedule.{Flown, flown_by, flown_code};
+    ghost use Rattle.ssim_schedule.specs.internal.Table.{table_days};
 
-    ghost Value = { Table };
+    ghost Value = { Flown };
 
-    ghost view = { λ s. s.table };
+    ghost coded = { flown_code };
 
-    ghost invariant = { λ s. IsTimetable (days_in s.table) };
+    ghost view = { λ s. flown_by s.table };
+
+    ghost invariant = { λ s. IsTimetable (table_days s.table) };
 }
 
 impl Schedule {

@@ -7,7 +7,7 @@ use Rattle.std.specs.Prelude.{Vec, vec_capacity, vec_len}
 use Rattle.std.specs.List.{flat_map, list_any}
 use Rattle.ssim_periods.specs.Days.{each_day}
 use Rattle.ssim_base.specs.{BaseSeen.BaseSeen, Stations.Row}
-use Rattle.ssim_schedule.specs.{Schedule.{Table, cuts_in, days_in}}
+use Rattle.ssim_schedule.specs.{Schedule.{Flown, cuts_in, days_in}}
 use Rattle.ssim_base.specs.declared.sub_message.ResolvedSub.{ResolvedSub}
 use Rattle.ssim_text.specs.Message.{MessageValue}
 use Rattle.ssim_values.specs.Flight.{FlightNumber, IsFlight}
@@ -49,7 +49,7 @@ IsChange mine theirs (Some change) = Brings mine theirs change.0 change.1.items
 -- ---- a history: the schedule after every 32 messages, the latest one, and what each message found
 
 -- the schedule has this timetable
-abbrev pub Shows : Table → Timetable → Type 0
+abbrev pub Shows : Flown → Timetable → Type 0
 Shows schedule timetable = (g : FlightNumber) → IsFlight g → days_in schedule g ≡ each_day (timetable g)
 
 -- the flights of the sub-messages of messages
@@ -62,14 +62,14 @@ AddsSubPoints rows subs flight old new =
     (cut : ℕ) → Contains new cut → Contains old cut ⊎ IsTrue (list_any (is_sub_point rows flight cut) subs)
 
 -- the schedule is the base's after these messages
-pub record IsAfter (base : BaseSeen) (entries : List Entry) (schedule : Table) : Type 0 where
+pub record IsAfter (base : BaseSeen) (entries : List Entry) (schedule : Flown) : Type 0 where
   pub shows : Shows schedule (left_by base entries)
   pub cuts : (flight : FlightNumber) → IsFlight flight
       → AreDeskPoints base entries flight (cuts_in schedule flight)
 
 -- the checkpoints from number `first` on: checkpoint k is the schedule after 32 * k messages
 pub record AreCheckpoints (base : BaseSeen) (entries : List Entry) (first : ℕ)
-    (checkpoints : List Table) : Type 0 where
+    (checkpoints : List Flown) : Type 0 where
   pub count : first + length checkpoints ≡ length entries / 32 + 1
   pub each : (k : ℕ) → IfSome (slice_get checkpoints k) (IsAfter base (take (32 * (first + k)) entries))
 

@@ -6,7 +6,7 @@ use Rattle.ssim_values.specs.Fault.{fault_name, fault_number, memory_name}
 use Rattle.ssim_values.specs.declared.fault.Fault.{Fault}
 use Rattle.ssim_base.specs.Base.{base_fault_number}
 use Rattle.ssim_base.specs.Fault.{base_fault_name, base_fault_place, station_fault_name, station_fault_place}
-use Rattle.ssim_schedule.specs.Plan.{export_fault_name, export_fault_number, export_fault_place}
+use Rattle.ssim_schedule.specs.ExportResult.{export_fault_name, export_fault_number, export_fault_place}
 use Rattle.ssim_base.specs.Stations.{station_fault_number}
 use Rattle.ssim_schedule.specs.declared.export.ExportFault.{ExportFault}
 use Rattle.ssim_schedule.specs.declared.export.ExportFault.TheVariants as export

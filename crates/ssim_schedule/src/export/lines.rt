@@ -6,7 +6,8 @@ ghost use Rattle.std.specs.Io.KnownBytes.{Appends};
 ghost use Rattle.ssim_records.specs.Leg.{LegFields};
 ghost use Rattle.ssim_records.specs.Segment.{IsTail};
 ghost use Rattle.ssim_base.specs.Export.{fill_count, frame_from, leg_records, numbered, pieces_records, section_bytes, tail_record};
-ghost use Rattle.ssim_schedule.specs.Plan.{HasWritableLegs, HasWritablePieces, legs_count, numbered_lines, pieces_count, plan_bytes, plan_count, plan_records};
+ghost use Rattle.ssim_schedule.specs.internal.Plan.{HasWritableLegs, HasWritablePieces, numbered_lines, pieces_count, plan_bytes, plan_count, plan_records};
+ghost use Rattle.ssim_schedule.specs.internal.SharedLegs.{legs_count};
 ghost use Rattle.ssim_base.specs.ReadBack.{IsWritable};
 ghost use Rattle.ssim_base.specs.Sinks.{CountsFault, TakesFront, TakesUpTo};
 

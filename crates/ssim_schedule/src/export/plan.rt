@@ -3,13 +3,13 @@
 ghost use Rattle.std.specs.Prelude.{◌≡◌, ◌≤◌, ◌<◌, ◌+◌, ◌++◌, List, length, None, IfOk, IfErr, IfSome, IfNone, OnOk};
 ghost use Rattle.std.specs.List.{All};
 ghost use Rattle.ssim_values.specs.Flight.{IsFlight};
-ghost use Rattle.ssim_schedule.specs.Blocks.{joined};
-ghost use Rattle.ssim_schedule.specs.Plan.{IsRefusedAs, pieces_count, plan_of, plan_refusal};
+ghost use Rattle.ssim_schedule.specs.internal.Blocks.{joined};
+ghost use Rattle.ssim_schedule.specs.internal.Plan.{IsRefusedAs, pieces_count, plan_of, plan_refusal};
 
 use crate::export::ExportFault;
-use crate::flight_table::{FlightPeriods, place};
 use crate::itinerary::{Itinerary, MOST_RECORDS};
-use crate::shared_table::SharedTable;
+use crate::timetable::flight_table::{FlightPeriods, FlightTable, place};
+use crate::timetable::shared::Shared;
 use ssim_values::{Flight, Memory, Period};
 use std::alloc::Global;
 use std::marker::Model;
@@ -22,7 +22,7 @@ pub(crate) struct FlightPieces {
 }
 
 impl Model for FlightPieces {
-    ghost use Rattle.ssim_schedule.specs.Plan.{Planned};
+    ghost use Rattle.ssim_schedule.specs.internal.Plan.{Planned};
 
     ghost Value = { Planned };
 
@@ -45,13 +45,16 @@ impl FlightPieces {
 
 /// The flights of all blocks with their pieces. The periods of each flight are freed as soon as it
 /// is divided.
-pub(crate) fn divide(alloc: Global, blocks: Vec<SharedTable>) -> Result<Vec<FlightPieces>, Memory>
+pub(crate) fn divide(
+    alloc: Global,
+    blocks: Vec<Shared<FlightTable>>,
+) -> Result<Vec<FlightPieces>, Memory>
     ensures plan { IfOk result (λ plan. plan.items ≡ plan_of (joined blocks.items)) }
     ensures flights { OnOk result (All (λ f. IsFlight f.flight) (joined blocks.items)) }
 {
     let mut plan = Vec::new(alloc);
     for block in blocks {
-        divide_block(&mut plan, block.into_entries()?)?;
+        divide_block(&mut plan, block.into_own()?.into_entries())?;
     }
     Ok(plan)
 }
@@ -65,7 +68,7 @@ fn divide_block(plan: &mut Vec<FlightPieces>, entries: Vec<FlightPeriods>) -> Re
         let _ = place(entry.flight);
         plan.push(FlightPieces {
             flight: entry.flight,
-            pieces: entry.periods.held().pieces()?,
+            pieces: entry.periods.get().pieces()?,
         })?;
     }
     Ok(())

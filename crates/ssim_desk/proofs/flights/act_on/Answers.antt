@@ -1,6 +1,6 @@
 -- A message that names the flight acts; another one leaves the flight as it is.
 use Rattle.std.proofs.Common.{◌∙◌, sym, subst}
-use Rattle.ssim_schedule.specs.Schedule.{Table}
+use Rattle.ssim_schedule.specs.Schedule.{Flown}
 use Rattle.ssim_desk.specs.Meaning.{after_entry}
 use Rattle.ssim_desk.specs.internal.Changes.{Shows}
 use Rattle.ssim_desk.proofs.SomeFlights.{named_more, other_more}
@@ -17,12 +17,12 @@ loop-held-preserved c = λ before shows.
     elim c.if-names.branch [
       | then-names+in_ok-act w ↦ (
         after_entry rows e so_far.0,
-        subst (λ (s : Table). Shows s (after_entry rows e so_far.0)) (sym w.schedule-is) (w.in_ok-act.ensures.shows so_far.0 so_far.1),
+        subst (λ (s : Flown). Shows s (after_entry rows e so_far.0)) (sym w.schedule-is) (w.in_ok-act.ensures.shows so_far.0 so_far.1),
         named_more rows messages k e c.loop-held-test.true c.held-item.is before so_far.0 c.args.flight so_far.2,
       )
       | else-names w ↦ (
         so_far.0,
-        subst (λ (s : Table). Shows s so_far.0) (sym w.schedule-is) so_far.1,
+        subst (λ (s : Flown). Shows s so_far.0) (sym w.schedule-is) so_far.1,
         other_more rows messages k e c.loop-held-test.true c.held-item.is before so_far.0 c.args.flight so_far.2 (sym c.names.ensures ∙ w.if-names.false),
       )
     ]

@@ -1,7 +1,7 @@
 -- What the sub-messages so far leave, from which those that are left lead to what all of them
 -- leave; and the cuts that they add.
 use Rattle.std.proofs.Common.{◌≡◌, ℕ, List, ◌++◌, drop}
-use Rattle.ssim_schedule.specs.Schedule.{Table, cuts_in}
+use Rattle.ssim_schedule.specs.Schedule.{Flown, cuts_in}
 use Rattle.ssim_base.specs.Stations.{Row}
 use Rattle.ssim_schedule.specs.declared.finding.Finding.{Finding}
 use Rattle.ssim_held.specs.Entries.{Entry}
@@ -10,7 +10,7 @@ use Rattle.ssim_desk.specs.Meaning.{Timetable, after_subs, subs_findings}
 use Rattle.ssim_values.specs.Flight.{FlightNumber, IsFlight}
 use Rattle.ssim_desk.proofs.message_effect.act.Given as goal
 
-pub record Left (rows : List Row) (e : Entry) (place : ℕ) (before : Timetable) (now : Table) (found : List Finding) : Type 0 where
+pub record Left (rows : List Row) (e : Entry) (place : ℕ) (before : Timetable) (now : Flown) (found : List Finding) : Type 0 where
   pub between : Timetable
   pub shows : Shows now between
   pub leads : after_subs rows (drop place e.message.subs) (drop place e.dates) between ≡ after_subs rows e.message.subs e.dates before

@@ -1,5 +1,5 @@
 -- The message is looked up among the messages.
-use Rattle.std.proofs.Common.{◌≡◌, sym, subst}
+use Rattle.std.proofs.Common.{sym, subst}
 use Rattle.ssim_held.specs.Held.{DeskState}
 use Rattle.ssim_held.specs.Entries.{Entry, map_of}
 use Rattle.ssim_desk.specs.internal.Changes.{IsOffer}

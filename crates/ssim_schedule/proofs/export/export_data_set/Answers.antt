@@ -2,7 +2,7 @@
 use Rattle.std.proofs.Common.{◌≡◌, Result, Ok, Err, IfErr, ap, subst}
 use Rattle.std.specs.Prelude.{ℕ, List}
 use Rattle.ssim_base.specs.Export.{ExportRefusal, chapter7, export_bytes, result_map}
-use Rattle.ssim_schedule.specs.Plan.{Refuses, Writes}
+use Rattle.ssim_schedule.specs.ExportResult.{Refuses, Writes}
 use Rattle.ssim_schedule.specs.Schedule.{days_in}
 use Rattle.ssim_base.specs.Timetable.{days_of}
 use Rattle.ssim_base.proofs.Results.{on_ok}

@@ -3,8 +3,8 @@ use Rattle.std.proofs.Common.{◌≡◌, List, None, Err, rules, sym, ap, subst,
 use Rattle.std.specs.List.{All}
 use Rattle.ssim_values.specs.Flight.{IsFlight}
 use Rattle.ssim_base.specs.Export.{chapter7, frame_from}
-use Rattle.ssim_schedule.specs.Plan.{Planned, plan_bytes, plan_of, plan_refusal}
-use Rattle.ssim_schedule.specs.Schedule.{Table, days_in}
+use Rattle.ssim_schedule.specs.internal.Plan.{Planned, plan_bytes, plan_of, plan_refusal}
+use Rattle.ssim_schedule.specs.internal.Table.{Table, table_days}
 use Rattle.ssim_schedule.proofs.Planning.{export_is, fits, refusal_is, refuses}
 use Rattle.ssim_schedule.proofs.Writable.{readable}
 use Rattle.ssim_schedule.proofs.export.export_frame.Goals as goal
@@ -17,7 +17,7 @@ returns-in_err-measure-clause-err g c =
     let is : plan ≡ plan_of table = c.deref.ensures.value ∙ c.in_ok-plan.ensures.plan ∙ ap plan_of c.into_blocks.ensures.value in
     let exist : All (λ f. IsFlight f.flight) table = subst (λ (xs : Table). All (λ f. IsFlight f.flight) xs) c.into_blocks.ensures.value c.in_ok-plan.ensures.flights in
     let k : c.from_residual-in_err-measure.result ≡ Err c.in_err-measure.field-0.0 = search rules in
-    rw k (refuses g.W.Sink.taken g.W.Sink.failures (chapter7 frame (days_in table)) c.args.out.now (plan_refusal 2 plan) c.in_err-measure.field-0.0 c.in_err-measure.ensures.err
+    rw k (refuses g.W.Sink.taken g.W.Sink.failures (chapter7 frame (table_days table)) c.args.out.now (plan_refusal 2 plan) c.in_err-measure.field-0.0 c.in_err-measure.ensures.err
     (λ r some. refusal_is frame table plan r c.into_blocks.ensures.rising exist is some))
 
 pub put_export-requires-clause-few : goal.put_export-requires-clause-few

@@ -1,6 +1,6 @@
 -- The count so far and the count of what is left are the whole count.
 use Rattle.std.proofs.Common.{◌≡◌, ◌<◌, ◌+◌, drop}
-use Rattle.ssim_schedule.specs.Plan.{legs_count}
+use Rattle.ssim_schedule.specs.internal.SharedLegs.{legs_count}
 use Rattle.ssim_schedule.proofs.itinerary.count_legs.Given as goal
 
 abbrev pub invariant-loop-leg : goal.invariant-loop-leg

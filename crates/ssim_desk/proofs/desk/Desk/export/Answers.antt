@@ -1,6 +1,6 @@
 use Rattle.std.proofs.Common.{OnOk, IfErr, Result, Ok, Err, subst}
 use Rattle.ssim_base.specs.BaseSeen.{BaseSeen}
-use Rattle.ssim_schedule.specs.Plan.{RefusesBase, WritesBase}
+use Rattle.ssim_schedule.specs.ExportResult.{RefusesBase, WritesBase}
 use Rattle.ssim_schedule.specs.Schedule.{days_in}
 use Rattle.ssim_held.specs.Entries.{AreEntries}
 use Rattle.ssim_desk.specs.Desk.{ScheduledDesk, days_of_desk}

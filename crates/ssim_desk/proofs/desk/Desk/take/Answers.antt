@@ -7,7 +7,6 @@ use Rattle.ssim_desk.specs.Desk.{ScheduledDesk, take_answer}
 use Rattle.ssim_desk.specs.internal.Changes.{IsOffer}
 use Rattle.ssim_desk.specs.Steps.{RefusesText, Takes}
 use Rattle.ssim_desk.specs.declared.desk.Took.{Took}
-use Rattle.ssim_desk.specs.declared.offer.Offer.TheVariants.{Known, New}
 use Rattle.ssim_desk.proofs.Changes.{is_new, known, replayed}
 use Rattle.ssim_desk.proofs.desk.Desk.take.Goals as goal
 

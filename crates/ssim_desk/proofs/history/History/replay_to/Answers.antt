@@ -1,5 +1,5 @@
 -- The messages between the checkpoint and the position are applied.
-use Rattle.std.proofs.Common.{◌++◌, ◌≤◌, ◌-◌, ◌∙◌, List, ap, sym, refl, subst, take, drop, length, arith}
+use Rattle.std.proofs.Common.{◌≤◌, List, sym, refl, subst, take, length, arith}
 use Rattle.ssim_held.specs.Entries.{Entry}
 use Rattle.ssim_desk.specs.internal.Changes.{IsReplay}
 use Rattle.ssim_desk.proofs.Trails.{length-front, split}

@@ -1,7 +1,7 @@
 -- The messages have acted on the timetable of the data set, and the export stands in its frame.
 use Rattle.std.proofs.Common.{OnOk, IfErr, Result, Ok, Err, ap, subst, ◌∙◌}
 use Rattle.ssim_base.specs.BaseSeen.{BaseSeen, base_with}
-use Rattle.ssim_schedule.specs.Plan.{ReadsBackBase, RefusesBase, WritesBase}
+use Rattle.ssim_schedule.specs.ExportResult.{ReadsBackBase, RefusesBase, WritesBase}
 use Rattle.ssim_schedule.specs.Schedule.{days_in}
 use Rattle.ssim_base.specs.Timetable.{itinerary}
 use Rattle.ssim_held.specs.Entries.{AreEntries, DeskSeen}

@@ -1,5 +1,5 @@
 -- From the first message that is new on, the messages of both are put together.
-use Rattle.std.proofs.Common.{◌≡◌, ◌-◌, length, List, All, take, drop, sym, subst, arith}
+use Rattle.std.proofs.Common.{List, All, drop, subst, arith}
 use Rattle.std.proofs.lemmas.Grind.{common_steps}
 use Rattle.ssim_held.specs.Entries.{AreEntries, DeskSeen, Entry}
 use Rattle.ssim_held.specs.Ordered.{IsFirstNew, IsMerged}

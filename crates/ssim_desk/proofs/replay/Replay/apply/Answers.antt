@@ -1,5 +1,5 @@
 use Rattle.std.proofs.Common.{◌≡◌, ◌≢◌, ◌+◌, ◌++◌, ◌∷◌, ◌%◌, ◌/◌, [], List, ◌∙◌, ap, sym, length, take, subst, arith, length-append}
-use Rattle.ssim_schedule.specs.Schedule.{Table}
+use Rattle.ssim_schedule.specs.Schedule.{Flown}
 use Rattle.ssim_schedule.specs.declared.finding.Finding.{Finding}
 use Rattle.ssim_desk.specs.internal.Changes.{AreCheckpoints}
 use Rattle.ssim_desk.specs.Meaning.{found_by, left_by}
@@ -18,7 +18,7 @@ returns-in_ok-push-2-clause-applied c before tail =
       latest_is = latest;
       found_is = ap (λ (fs : List (List Finding)). found_by base (take from (before ++ e ∷ [])) ++ fs) c.in_ok-push.ensures.items
           ∙ found_next base before e from c.args.self.now.found.items c.in_ok-findings.findings.items tail.within tail.found_is (acts.found (left_by base before) tail.latest_is.shows);
-      kept = subst (AreCheckpoints base (before ++ e ∷ []) (from / 32 + 1)) (sym (c.in_ok-push-2.ensures.items ∙ ap (λ (s : Table). c.args.self.now.checkpoints.items ++ s ∷ []) c.in_ok-copy.ensures))
+      kept = subst (AreCheckpoints base (before ++ e ∷ []) (from / 32 + 1)) (sym (c.in_ok-push-2.ensures.items ∙ ap (λ (s : Flown). c.args.self.now.checkpoints.items ++ s ∷ []) c.in_ok-copy.ensures))
           (kept_more base before e (from / 32 + 1) c.args.self.now.checkpoints.items c.act.new.schedule on tail.kept latest);
       counted = omega (arith, tail.counted, length-append before (e ∷ []));
       since_is = omega (arith, tail.since_is, length-append before (e ∷ []));

@@ -3,7 +3,7 @@ use Rattle.std.proofs.Common.{◌≡◌, ◌-◌, ◌++◌, ℕ, List, replicate
 use Rattle.std.specs.List.{flat_map}
 use Rattle.ssim_records.specs.Frames.{fill}
 use Rattle.ssim_base.specs.Export.{fill_count, line, numbered, section_bytes}
-use Rattle.ssim_schedule.specs.Plan.{numbered_lines, plan_count, plan_records}
+use Rattle.ssim_schedule.specs.internal.Plan.{numbered_lines, plan_count, plan_records}
 use Rattle.ssim_base.specs.Sinks.{TakesFront, TakesUpTo}
 use Rattle.ssim_schedule.proofs.Puts.{body-split}
 use Rattle.ssim_base.proofs.SinkLemmas.{at_fault, front_more, step_last, halt_last}

@@ -2,7 +2,7 @@
 use Rattle.std.proofs.Common.{◌≡◌, ◌+◌, ◌-◌, ◌∷◌, [], refl, arith}
 use Rattle.ssim_records.specs.declared.record.Record.TheVariants.{Header, Carrier, Trailer}
 use Rattle.ssim_base.specs.Export.{frame_from, numbered, section_bytes}
-use Rattle.ssim_schedule.specs.Plan.{plan_bytes, plan_count, plan_records}
+use Rattle.ssim_schedule.specs.internal.Plan.{plan_bytes, plan_count, plan_records}
 use Rattle.ssim_schedule.proofs.Puts.{carrier_at, four_sections, trailer_at}
 use Rattle.ssim_base.proofs.SinkLemmas.{after_4, all_taken, at_fault, break_1, break_2, break_3, break_4, if_err, if_ok, taken_all, then, then_front}
 use Rattle.ssim_schedule.proofs.export.lines.put_export.Goals as goal

@@ -5,7 +5,7 @@ use Rattle.std.specs.Vec.Iter.{into_iter_items}
 use Rattle.std.proofs.lemmas.List.Elements.{recursion_from_All, All-from_recursion}
 use Rattle.ssim_values.specs.Flight.{FlightNumber}
 use Rattle.ssim_base.specs.Export.{Piece, pieces_records}
-use Rattle.ssim_schedule.specs.Plan.{HasWritableLegs, HasWritablePieces, Planned, numbered_lines, pieces_count, plan_count, plan_records}
+use Rattle.ssim_schedule.specs.internal.Plan.{HasWritableLegs, HasWritablePieces, Planned, numbered_lines, pieces_count, plan_count, plan_records}
 use Rattle.ssim_base.specs.Sinks.{TakesFront, TakesUpTo}
 use Rattle.ssim_base.proofs.Each.{all_left}
 use Rattle.ssim_schedule.proofs.Puts.{flight-split}

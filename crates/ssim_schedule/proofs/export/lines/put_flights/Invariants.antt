@@ -3,7 +3,7 @@
 use Rattle.std.proofs.Common.{◌≡◌, ◌≤◌, ◌+◌, ◌++◌, length}
 use Rattle.std.specs.List.{All}
 use Rattle.std.specs.Vec.Iter.{into_iter_items, into_iter_len}
-use Rattle.ssim_schedule.specs.Plan.{HasWritablePieces, numbered_lines, plan_count, plan_records}
+use Rattle.ssim_schedule.specs.internal.Plan.{HasWritablePieces, numbered_lines, plan_count, plan_records}
 use Rattle.ssim_base.specs.Sinks.{TakesUpTo}
 use Rattle.ssim_schedule.proofs.export.lines.put_flights.Given as goal
 

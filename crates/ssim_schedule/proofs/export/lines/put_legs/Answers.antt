@@ -8,7 +8,8 @@ use Rattle.ssim_records.specs.Record.{written}
 use Rattle.ssim_records.specs.Segment.{IsTail}
 use Rattle.ssim_records.specs.declared.record.Record.TheVariants.{Leg}
 use Rattle.ssim_base.specs.Export.{leg_records, line, tail_record, with_serial}
-use Rattle.ssim_schedule.specs.Plan.{legs_count, numbered_lines}
+use Rattle.ssim_schedule.specs.internal.Plan.{numbered_lines}
+use Rattle.ssim_schedule.specs.internal.SharedLegs.{legs_count}
 use Rattle.ssim_base.specs.ReadBack.{IsWritable}
 use Rattle.ssim_base.specs.Sinks.{TakesFront, TakesUpTo}
 use Rattle.ssim_base.proofs.Each.{all_done, all_more, item}

@@ -3,7 +3,8 @@
 use Rattle.std.proofs.Common.{◌≡◌, ◌+◌, ◌++◌, drop, take}
 use Rattle.std.specs.List.{flat_map, All}
 use Rattle.ssim_base.specs.Export.{leg_records}
-use Rattle.ssim_schedule.specs.Plan.{legs_count, numbered_lines}
+use Rattle.ssim_schedule.specs.internal.Plan.{numbered_lines}
+use Rattle.ssim_schedule.specs.internal.SharedLegs.{legs_count}
 use Rattle.ssim_base.specs.ReadBack.{IsWritable}
 use Rattle.ssim_base.specs.Sinks.{TakesUpTo}
 use Rattle.ssim_schedule.proofs.export.lines.put_legs.Given as goal

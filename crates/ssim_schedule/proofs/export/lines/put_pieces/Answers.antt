@@ -3,7 +3,8 @@ use Rattle.std.proofs.Common.{◌≡◌, ◌+◌, ◌++◌, drop, refl, ap, subs
 use Rattle.std.specs.List.{flat_map, All}
 use Rattle.ssim_base.specs.Timetable.{Legs}
 use Rattle.ssim_base.specs.Export.{leg_records, pieces_records}
-use Rattle.ssim_schedule.specs.Plan.{HasWritableLegs, legs_count, numbered_lines, pieces_count}
+use Rattle.ssim_schedule.specs.internal.Plan.{HasWritableLegs, numbered_lines, pieces_count}
+use Rattle.ssim_schedule.specs.internal.SharedLegs.{legs_count}
 use Rattle.ssim_base.specs.ReadBack.{IsWritable}
 use Rattle.ssim_base.specs.Sinks.{TakesFront, TakesUpTo}
 use Rattle.ssim_base.proofs.Each.{all_done, all_more, item}

@@ -3,7 +3,7 @@
 use Rattle.std.proofs.Common.{◌≡◌, ◌+◌, ◌++◌, drop, take}
 use Rattle.std.specs.List.{All}
 use Rattle.ssim_base.specs.Export.{pieces_records}
-use Rattle.ssim_schedule.specs.Plan.{HasWritableLegs, numbered_lines, pieces_count}
+use Rattle.ssim_schedule.specs.internal.Plan.{HasWritableLegs, numbered_lines, pieces_count}
 use Rattle.ssim_base.specs.Sinks.{TakesUpTo}
 use Rattle.ssim_schedule.proofs.export.lines.put_pieces.Given as goal
 

@@ -4,7 +4,7 @@ use Rattle.std.specs.Prelude.{slice_index}
 use Rattle.ssim_records.specs.Record.{written}
 use Rattle.ssim_records.specs.Segment.{IsTail}
 use Rattle.ssim_base.specs.Export.{line, tail_record, with_serial}
-use Rattle.ssim_schedule.specs.Plan.{numbered_lines}
+use Rattle.ssim_schedule.specs.internal.Plan.{numbered_lines}
 use Rattle.ssim_base.proofs.Each.{all_more, item}
 use Rattle.ssim_schedule.proofs.Puts.{tails-split}
 use Rattle.ssim_base.proofs.SinkLemmas.{at_fault, step, halt}

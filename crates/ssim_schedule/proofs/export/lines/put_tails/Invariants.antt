@@ -4,7 +4,7 @@ use Rattle.std.specs.Prelude.{slice_index}
 use Rattle.std.specs.List.{All}
 use Rattle.ssim_records.specs.Segment.{IsTail}
 use Rattle.ssim_base.specs.Export.{tail_record}
-use Rattle.ssim_schedule.specs.Plan.{numbered_lines}
+use Rattle.ssim_schedule.specs.internal.Plan.{numbered_lines}
 use Rattle.ssim_base.specs.Sinks.{TakesUpTo}
 use Rattle.ssim_schedule.proofs.export.lines.put_tails.Given as goal
 

@@ -1,6 +1,6 @@
 -- The count so far and the count of what is left are the whole count.
 use Rattle.std.proofs.Common.{◌≡◌, ◌<◌, ◌+◌, drop}
-use Rattle.ssim_schedule.specs.Plan.{pieces_count}
+use Rattle.ssim_schedule.specs.internal.Plan.{pieces_count}
 use Rattle.ssim_schedule.proofs.export.plan.count_pieces.Given as goal
 
 abbrev pub invariant-loop-piece : goal.invariant-loop-piece

@@ -3,8 +3,8 @@ use Rattle.std.proofs.Common.{◌≡◌, ◌++◌, length}
 use Rattle.std.specs.List.{All}
 use Rattle.std.specs.Vec.Iter.{into_iter_items, into_iter_len}
 use Rattle.ssim_values.specs.Flight.{IsFlight}
-use Rattle.ssim_schedule.specs.Blocks.{joined}
-use Rattle.ssim_schedule.specs.Plan.{plan_of}
+use Rattle.ssim_schedule.specs.internal.Blocks.{joined}
+use Rattle.ssim_schedule.specs.internal.Plan.{plan_of}
 use Rattle.ssim_schedule.proofs.export.plan.divide.Given as goal
 
 abbrev pub invariant-loop-block : goal.invariant-loop-block

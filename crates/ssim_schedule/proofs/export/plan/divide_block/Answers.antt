@@ -17,7 +17,7 @@ loop-entry-preserved c =
     let rest = into_iter_items c.next.new.self in
     let steps : left ≡ f ∷ rest = c.in-Some.ensures.steps.0 in
     record {
-      plan = planned_left left rest f at.plan.items c.push.new.self.items _ c.in_ok-pieces.field-0.items steps (c.in_ok-pieces.ensures.pieces ∙ ap (λ (p : Seen Legs). pieces p.days) c.held.ensures) c.in_ok-push.ensures.items at.invariant.plan;
+      plan = planned_left left rest f at.plan.items c.push.new.self.items _ c.in_ok-pieces.field-0.items steps (c.in_ok-pieces.ensures.pieces ∙ ap (λ (p : Seen Legs). pieces p.days) c.get.ensures) c.in_ok-push.ensures.items at.invariant.plan;
       flights = all_left (λ f. IsFlight f.flight) _ left rest f steps c.place.ensures.flight at.invariant.flights;
       left = let was = at.invariant.left in let gone = c.in-Some.ensures.steps.1 in let short = ap length steps in omega arith;
     }

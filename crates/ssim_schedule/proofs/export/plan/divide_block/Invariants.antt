@@ -4,7 +4,7 @@ use Rattle.std.proofs.Common.{◌≡◌, ◌++◌, length}
 use Rattle.std.specs.List.{All}
 use Rattle.std.specs.Vec.Iter.{into_iter_items, into_iter_len}
 use Rattle.ssim_values.specs.Flight.{IsFlight}
-use Rattle.ssim_schedule.specs.Plan.{plan_of}
+use Rattle.ssim_schedule.specs.internal.Plan.{plan_of}
 use Rattle.ssim_schedule.proofs.export.plan.divide_block.Given as goal
 
 abbrev pub invariant-loop-entry : goal.invariant-loop-entry

@@ -1,6 +1,6 @@
 -- The first refusal is the first refusal of the flights that are left.
 use Rattle.std.proofs.Common.{◌≡◌, ◌<◌, drop}
-use Rattle.ssim_schedule.specs.Plan.{plan_refusal}
+use Rattle.ssim_schedule.specs.internal.Plan.{plan_refusal}
 use Rattle.ssim_schedule.proofs.export.plan.measure.Given as goal
 
 abbrev pub invariant-loop-planned : goal.invariant-loop-planned

@@ -5,8 +5,8 @@ use Rattle.ssim_periods.specs.Days.{each_day}
 use Rattle.ssim_records.specs.declared.record.Record.{Record}
 use Rattle.ssim_values.specs.Flight.{FlightNumber}
 use Rattle.ssim_schedule.specs.DivisionPoints.{AreAtPoints}
-use Rattle.ssim_schedule.specs.FlightSet.{is_marked, is_record_of}
-use Rattle.ssim_schedule.specs.Schedule.{cuts_in, days_in}
+use Rattle.ssim_schedule.specs.internal.FlightSet.{is_marked, is_record_of}
+use Rattle.ssim_schedule.specs.internal.Table.{table_cuts, table_days}
 use Rattle.ssim_base.specs.Timetable.{days_of, itinerary_among}
 use Rattle.ssim_base.specs.ReadBack.{AreInOrder}
 use Rattle.ssim_base.proofs.Calendars.{length-each_day}
@@ -33,7 +33,7 @@ returns-clause-cuts c = λ g is.
     let p = is_marked c.in_ok-set.set.marks.items in
     let kept = filter (is_record_of p) c.records.result.now in
     let built = built_all c.put_those_of.new.self kept (c.in_ok-put_those_of.ensures [] c.in_ok-building.ensures) in
-    let cuts = cuts_in c.in_ok-table.table g in
+    let cuts = table_cuts c.in_ok-table.table g in
     all_points p c.args.data_set.now g cuts (at_kept p c.records.result.now c.args.data_set.now g cuts c.records.ensures.value (c.in_ok-table.ensures.cuts kept built g is))
 
 pub returns-clause-others : goal.returns-clause-others
@@ -41,7 +41,7 @@ returns-clause-others c = λ g is other.
     let p = is_marked c.in_ok-set.set.marks.items in
     let kept = filter (is_record_of p) c.records.result.now in
     let built = built_all c.put_those_of.new.self kept (c.in_ok-put_those_of.ensures [] c.in_ok-building.ensures) in
-    let cuts = cuts_in c.in_ok-table.table g in
+    let cuts = table_cuts c.in_ok-table.table g in
     no_points p c.args.data_set.now g cuts (c.in_ok-set.ensures g is ∙ other) (at_kept p c.records.result.now c.args.data_set.now g cuts c.records.ensures.value (c.in_ok-table.ensures.cuts kept built g is))
 
 pub invariant_of-result : goal.invariant_of-result
@@ -51,7 +51,7 @@ invariant_of-result c =
     let flights = c.args.flights.now in
     let kept = filter p c.records.result.now in
     let built = built_all c.put_those_of.new.self kept (c.in_ok-put_those_of.ensures [] c.in_ok-building.ensures) in
-    timetable-same (days_in c.in_ok-table.table) (λ g. each_day (itinerary_among flights rs g))
+    timetable-same (table_days c.in_ok-table.table) (λ g. each_day (itinerary_among flights rs g))
     (λ g is. c.in_ok-table.ensures.days kept built g is ∙ ap (λ (xs : List Record). days_of (filter p xs) g) c.records.ensures.value ∙ days_kept c.in_ok-set.set.marks.items flights rs g (c.in_ok-set.ensures g is))
     (record {
       each_day = λ g is. length-each_day (itinerary_among flights rs g);

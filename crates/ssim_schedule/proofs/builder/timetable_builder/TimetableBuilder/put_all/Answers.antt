@@ -1,0 +1,34 @@
+-- From the last record to the first: the records after an index are in the timetable.
+use Rattle.std.proofs.Common.{◌≡◌, ◌<◌, ◌-◌, ℕ, List, ◌∷◌, ◌++◌, suc, drop, length, sym, ap, subst, ◌∙◌, arith, drop-cons}
+use Rattle.std.proofs.lemmas.List.{drop_all}
+use Rattle.ssim_records.specs.declared.record.Record.{Record}
+use Rattle.ssim_base.specs.Closed.{IsClosed}
+use Rattle.ssim_schedule.specs.internal.TimetableBuilder.{IsBuilt}
+use Rattle.ssim_schedule.proofs.builder.timetable_builder.TimetableBuilder.put_all.Goals as goal
+
+pub loop-place-init : goal.loop-place-init
+loop-place-init c =
+    (omega arith, λ done built. subst (λ (before : List Record). IsBuilt c.args.self.now (before ++ done)) (sym (drop_all (length c.args.records.now) c.args.records.now (omega arith))) built)
+
+pub put-requires : goal.put-requires
+put-requires c =
+    let within : c.loop-place.place - 1 < length c.args.records.now = omega (arith, c.loop-place.invariant.0) in
+    subst (λ (r : Record). IsClosed r) (sym c.index-records-place.is) (c.requires (c.loop-place.place - 1) c.index-records-place.result within)
+
+pub loop-place-preserved : goal.loop-place-preserved
+loop-place-preserved c =
+    let records = c.args.records.now in
+    let place = c.loop-place.place in
+    let within : place - 1 < length records = omega (arith, c.loop-place.invariant.0) in
+    let back : suc (place - 1) ≡ place = omega arith in
+    let step : drop (place - 1) records ≡ c.index-records-place.result ∷ drop place records =
+    drop-cons records (place - 1) c.index-records-place.result within ∙ ap (λ (r : Record). r ∷ drop (suc (place - 1)) records) (sym c.index-records-place.is)
+    ∙ ap (λ (k : ℕ). c.index-records-place.result ∷ drop k records) back in (
+      omega (arith, c.loop-place.invariant.0),
+      λ done built. subst (λ (before : List Record). IsBuilt c.put.new.self (before ++ done)) (sym step) (c.in_ok-put.ensures (drop place records ++ done) (c.loop-place.invariant.1 done built)),
+    )
+
+pub returns : goal.returns
+returns c = λ done built.
+    let none : c.loop-place.place ≡ 0 = omega arith in
+    subst (λ (k : ℕ). IsBuilt c.loop-place.self (drop k c.args.records.now ++ done)) none (c.loop-place.invariant.1 done built)

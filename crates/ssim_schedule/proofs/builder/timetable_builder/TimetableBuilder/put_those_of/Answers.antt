@@ -1,0 +1,59 @@
+-- From the last record to the first, as for all records; those of other flights are left out.
+use Rattle.std.proofs.Common.{◌≡◌, ◌<◌, ◌-◌, ℕ, List, ◌∷◌, ◌++◌, suc, drop, get_or, length, sym, ap, subst, ◌∙◌, arith, drop-cons}
+use Rattle.std.proofs.lemmas.List.{drop_all}
+use Rattle.std.specs.List.{filter}
+use Rattle.ssim_records.specs.declared.record.Record.{Record}
+use Rattle.ssim_base.specs.Closed.{IsClosed}
+use Rattle.ssim_schedule.specs.internal.TimetableBuilder.{IsBuilt}
+use Rattle.ssim_schedule.specs.internal.FlightSet.{is_marked, is_record_of}
+use Rattle.ssim_schedule.proofs.FlightSets.{one_kept, one_left_out}
+use Rattle.ssim_schedule.proofs.builder.timetable_builder.TimetableBuilder.put_those_of.Goals as goal
+
+-- the records from the one before an index on
+step : (records : List Record) (place : ℕ) (one : Record) → 0 < place → place - 1 < length records → one ≡ get_or records (place - 1) one → drop (place - 1) records ≡ one ∷ drop place records
+step records place one some within is =
+    let back : suc (place - 1) ≡ place = omega arith in
+    drop-cons records (place - 1) one within ∙ ap (λ (r : Record). r ∷ drop (suc (place - 1)) records) (sym is) ∙ ap (λ (k : ℕ). one ∷ drop k records) back
+
+pub loop-place-init : goal.loop-place-init
+loop-place-init c =
+    let is_in = is_record_of (is_marked c.args.flights.now.marks.items) in
+    (omega arith, λ done built. subst (λ (before : List Record). IsBuilt c.args.self.now (filter is_in before ++ done)) (sym (drop_all (length c.args.records.now) c.args.records.now (omega arith))) built)
+
+pub put-requires : goal.put-requires
+put-requires c =
+    let within : c.loop-place.place - 1 < length c.args.records.now = omega (arith, c.loop-place.invariant.0) in
+    subst (λ (r : Record). IsClosed r) (sym c.index-records-place.is) (c.requires (c.loop-place.place - 1) c.index-records-place.result within)
+
+pub loop-place-preserved : goal.loop-place-preserved
+loop-place-preserved c =
+    let p = is_marked c.args.flights.now.marks.items in
+    let records = c.args.records.now in
+    let place = c.loop-place.place in
+    let one = c.index-records-place.result in
+    let within : place - 1 < length records = omega (arith, c.loop-place.invariant.0) in
+    let from = step records place one c.loop-place-test.true within c.index-records-place.is in (
+      omega (arith, c.loop-place.invariant.0),
+      λ done built. subst (λ (before : List Record). IsBuilt c.loop-place.self (filter (is_record_of p) before ++ done)) (sym from)
+          (subst (λ (before : List Record). IsBuilt c.loop-place.self before) (one_left_out p one (drop place records) done (sym c.has_flight_of.ensures ∙ c.if-has_flight_of.false)) (c.loop-place.invariant.1 done built)),
+    )
+
+pub loop-place-preserved-in-Continue-1 : goal.loop-place-preserved-in-Continue-1
+loop-place-preserved-in-Continue-1 c =
+    let p = is_marked c.args.flights.now.marks.items in
+    let records = c.args.records.now in
+    let place = c.loop-place.place in
+    let one = c.index-records-place.result in
+    let within : place - 1 < length records = omega (arith, c.loop-place.invariant.0) in
+    let from = step records place one c.loop-place-test.true within c.index-records-place.is in (
+      omega (arith, c.loop-place.invariant.0),
+      λ done built. subst (λ (before : List Record). IsBuilt c.put.new.self (filter (is_record_of p) before ++ done)) (sym from)
+          (subst (λ (before : List Record). IsBuilt c.put.new.self before) (one_kept p one (drop place records) done (sym c.has_flight_of.ensures ∙ c.if-has_flight_of.true))
+          (c.in_ok-put.ensures (filter (is_record_of p) (drop place records) ++ done) (c.loop-place.invariant.1 done built))),
+    )
+
+pub returns : goal.returns
+returns c = λ done built.
+    let is_in = is_record_of (is_marked c.args.flights.now.marks.items) in
+    let none : c.loop-place.place ≡ 0 = omega arith in
+    subst (λ (k : ℕ). IsBuilt c.loop-place.self (filter is_in (drop k c.args.records.now) ++ done)) none (c.loop-place.invariant.1 done built)

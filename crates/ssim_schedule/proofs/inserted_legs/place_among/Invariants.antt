@@ -1,6 +1,0 @@
-use Rattle.std.proofs.Common.{◌≡◌, ◌+◌, drop}
-use Rattle.ssim_schedule.specs.InsertedLegs.{legs_before}
-use Rattle.ssim_schedule.proofs.inserted_legs.place_among.Given as goal
-
-abbrev pub invariant-loop-place : goal.invariant-loop-place
-invariant-loop-place l = legs_before l.leg.sequence (drop l.place l.legs) + l.place ≡ legs_before l.leg.sequence l.legs

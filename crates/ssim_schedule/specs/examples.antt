@@ -1,0 +1,3 @@
+-- Computed examples.
+pub mod Blocks
+pub mod Effects

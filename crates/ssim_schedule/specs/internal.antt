@@ -1,0 +1,16 @@
+-- Definitions that only private functions cite. No law and no public contract cites them, so nobody
+-- has to believe them. `Table` has how flights are stored, by which `days_in` and `cuts_in` are
+-- defined: a caller knows of these two what the contracts of `Schedule` say.
+pub mod Shared
+pub mod SharedLegs
+pub mod InsertedLegs
+pub mod Table
+pub mod Blocks
+pub mod LegKey
+pub mod LegGroup
+pub mod TableBuilder
+pub mod PendingSegments
+pub mod TimetableBuilder
+pub mod FlightSet
+pub mod ActionParts
+pub mod Plan

@@ -1,0 +1,5 @@
+//! The stored flights of a schedule, in blocks that copies of the schedule share.
+
+pub(crate) mod flight_blocks;
+pub(crate) mod flight_table;
+pub(crate) mod shared;

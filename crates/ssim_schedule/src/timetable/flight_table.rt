@@ -1,0 +1,244 @@
+//! The periods of the flights of one block, in the order of the flights.
+
+ghost use Rattle.std.specs.Prelude.{◌≡◌, ℕ, ◌<◌, ◌≤◌, nat_eq, if◌then◌else◌, List, [], length, true, All, Contains, IfOk, IfErr, OnOk, OnErr, slice_index_or};
+ghost use Rattle.std.specs.List.Sorted.{IsStrictlyIncreasing};
+ghost use Rattle.ssim_values.specs.Calendar.{weekday};
+ghost use Rattle.ssim_values.specs.Flight.{FlightNumber, IsFlight};
+ghost use Rattle.ssim_periods.specs.Calendar.{holds};
+ghost use Rattle.ssim_periods.specs.Days.{AddsOnly, changed_on, counts_on};
+ghost use Rattle.ssim_base.specs.ReadBack.{place_of};
+ghost use Rattle.ssim_base.specs.Timetable.{on_day};
+ghost use Rattle.ssim_schedule.specs.internal.Blocks.{IsBlock, block_of};
+
+use crate::itinerary::Itinerary;
+use crate::leg::PlacedLeg;
+use crate::timetable::shared::{Duplicate, Shared};
+use ssim_periods::{Change, Periods};
+use ssim_values::{Day, Flight, Memory, Period};
+use std::alloc::Global;
+use std::marker::Model;
+
+/// A flight, and its itinerary on each date.
+#[derive(Drop)]
+pub(crate) struct FlightPeriods {
+    pub(crate) flight: Flight,
+    pub(crate) periods: Shared<Periods<Itinerary>>,
+}
+
+/// The itineraries of those flights of a block that were named, by number and suffix of the flight.
+/// Their legs need not rise by sequence, as those of a `Schedule` do.
+#[derive(Drop)]
+pub(crate) struct FlightTable {
+    flights: Vec<FlightPeriods>,
+    alloc: Global,
+}
+
+impl Model for FlightTable {
+    ghost use Rattle.ssim_schedule.specs.internal.Table.{AreRising, Table};
+
+    ghost Value = { Table };
+
+    ghost view = { λ s. s.flights.items };
+
+    ghost invariant = { λ s. AreRising s.flights.items };
+}
+
+impl FlightTable {
+    ghost use Rattle.ssim_schedule.specs.internal.Table.{AddsOnlyAt, AreRising, IsAt, IsGapFor, table_cuts, table_days};
+
+    /// No flight flies on any date.
+    pub(crate) fn new(alloc: Global) -> FlightTable
+        ensures { result ≡ [] }
+    {
+        FlightTable {
+            flights: Vec::new(alloc),
+            alloc,
+        }
+    }
+
+    /// The legs of a flight on a date of origin. The list is empty if the flight does not fly on
+    /// the date.
+    pub(crate) fn itinerary(&self, flight: &Flight, day: Day) -> &[PlacedLeg]
+        ensures { result.now ≡ slice_index_or (table_days self.now flight.now) day [] }
+    {
+        match self.search(*flight) {
+            Ok(place) => self.flights[place].periods.get().at(day).legs(),
+            Err(_) => &[],
+        }
+    }
+
+    /// The rising days at which a stored range of the flight begins, or the day after its last;
+    /// none for a flight that was never named.
+    pub(crate) fn cuts(&self, flight: &Flight) -> &[u32]
+        ensures cuts { result.now ≡ table_cuts self.now flight.now }
+        ensures rising { IsStrictlyIncreasing result.now }
+        ensures in_calendar { All (λ cut. cut ≤ 36525) result.now }
+        ensures weekly { (m n : ℕ) → m ≤ n → n < 36525 → weekday m ≡ weekday n → ((cut : ℕ) → Contains result.now cut → m < cut → n < cut) → on_day (table_days self.now flight.now) m ≡ on_day (table_days self.now flight.now) n }
+    {
+        match self.search(*flight) {
+            Ok(place) => self.flights[place].periods.get().cuts(),
+            Err(_) => &[],
+        }
+    }
+
+    /// Applies a change to a flight's itinerary on each date of a period. Returns how many of the
+    /// dates were of each class.
+    pub(crate) fn change<C: Change<Itinerary>>(
+        &mut self,
+        flight: Flight,
+        period: &Period,
+        change: &C,
+    ) -> Result<[u32; 5], Memory>
+        ensures days { OnOk result ((g : FlightNumber) → table_days self.new g ≡ (if nat_eq (place_of flight) (place_of g) then changed_on (holds period.now) (C.outcome change.now) 0 (table_days self.old g) else table_days self.old g)) }
+        ensures cuts { OnOk result ((g : FlightNumber) → AddsOnlyAt flight period.now g (table_cuts self.old g) (table_cuts self.new g)) }
+        ensures counts { IfOk result (λ counts. counts ≡ counts_on (holds period.now) (C.class_of change.now) (table_days self.old flight)) }
+        ensures block { (k : ℕ) → IsBlock k self.old → block_of flight ≡ k → IsBlock k self.new }
+        ensures err { OnErr result (self.new ≡ self.old) }
+    {
+        match self.search(flight) {
+            Ok(place) => {
+                let own = self.flights[place].periods.own(self.alloc)?;
+                own.apply(period, change)
+            }
+            Err(place) => self.change_first(place, flight, period, change),
+        }
+    }
+
+    /// Makes the dates of a flight that have equal itineraries share one copy of them.
+    pub(crate) fn share(&mut self, flight: Flight) -> Result<(), Memory>
+        ensures { self.new ≡ self.old }
+    {
+        if let Ok(place) = self.search(flight) {
+            let shared = self.flights[place].periods.get().shared()?;
+            self.flights[place].periods = Shared::of(self.alloc, shared)?;
+        }
+        Ok(())
+    }
+
+    // `change` for a flight that has no entry yet. Its entry is inserted at `gap`.
+    fn change_first<C: Change<Itinerary>>(
+        &mut self,
+        gap: usize,
+        flight: Flight,
+        period: &Period,
+        change: &C,
+    ) -> Result<[u32; 5], Memory>
+        requires { IsGapFor self.old flight gap }
+        ensures days { OnOk result ((g : FlightNumber) → table_days self.new g ≡ (if nat_eq (place_of flight) (place_of g) then changed_on (holds period.now) (C.outcome change.now) 0 (table_days self.old g) else table_days self.old g)) }
+        ensures cuts { OnOk result ((g : FlightNumber) → AddsOnlyAt flight period.now g (table_cuts self.old g) (table_cuts self.new g)) }
+        ensures counts { IfOk result (λ counts. counts ≡ counts_on (holds period.now) (C.class_of change.now) (table_days self.old flight)) }
+        ensures block { (k : ℕ) → IsBlock k self.old → block_of flight ≡ k → IsBlock k self.new }
+        ensures err { OnErr result (self.new ≡ self.old) }
+    {
+        let mut periods = Periods::new(self.alloc);
+        let counts = periods.apply(period, change)?;
+        let periods = Shared::of(self.alloc, periods)?;
+        self.flights.insert(gap, FlightPeriods { flight, periods })?;
+        Ok(counts)
+    }
+
+    /// A copy of the periods of a flight. The copy shares the itineraries.
+    pub(crate) fn copy_of(&self, flight: Flight) -> Result<Periods<Itinerary>, Memory>
+        ensures days { IfOk result (λ p. p.days ≡ table_days self.now flight) }
+        ensures cuts { IfOk result (λ p. p.cuts ≡ table_cuts self.now flight) }
+    {
+        match self.search(flight) {
+            Ok(place) => self.flights[place].periods.get().copy(),
+            Err(_) => Ok(Periods::new(self.alloc)),
+        }
+    }
+
+    /// Replaces the periods of a flight.
+    pub(crate) fn put(&mut self, flight: Flight, periods: Periods<Itinerary>) -> Result<(), Memory>
+        ensures days { OnOk result ((g : FlightNumber) → table_days self.new g ≡ (if nat_eq (place_of flight) (place_of g) then periods.days else table_days self.old g)) }
+        ensures cuts { OnOk result ((g : FlightNumber) → table_cuts self.new g ≡ (if nat_eq (place_of flight) (place_of g) then periods.cuts else table_cuts self.old g)) }
+        ensures block { (k : ℕ) → IsBlock k self.old → block_of flight ≡ k → IsBlock k self.new }
+        ensures err { OnErr result (self.new ≡ self.old) }
+    {
+        let periods = Shared::of(self.alloc, periods)?;
+        match self.search(flight) {
+            Ok(place) => {
+                self.flights[place] = FlightPeriods { flight, periods };
+                Ok(())
+            }
+            Err(gap) => {
+                self.flights.insert(gap, FlightPeriods { flight, periods })?;
+                Ok(())
+            }
+        }
+    }
+
+    /// The entries, by number and suffix of their flights.
+    pub(crate) fn into_entries(self) -> Vec<FlightPeriods>
+        ensures { result.items ≡ self }
+    {
+        self.flights
+    }
+
+    // Whether the first entry is the flight's.
+    fn begins_with(&self, flight: Flight) -> bool
+        ensures { result ≡ true → IsAt self.now flight 0 }
+    {
+        match self.flights.first() {
+            None => false,
+            Some(first) => place(first.flight) == place(flight),
+        }
+    }
+
+    // The index of the flight's entry, or the index at which it would be inserted.
+    fn search(&self, flight: Flight) -> Result<usize, usize>
+        ensures found { IfOk result (IsAt self.now flight) }
+        ensures absent { IfErr result (IsGapFor self.now flight) }
+    {
+        // Timetables are made from their last flight to the first.
+        if self.begins_with(flight) {
+            return Ok(0);
+        }
+        self.flights
+            .binary_search_by_key(&place(flight), |f| place(f.flight))
+    }
+}
+
+impl Duplicate for FlightTable {
+    // The same entries. The copy and the original share the periods of each flight until one of the
+    // two changes that flight.
+    fn duplicate(&self) -> Result<FlightTable, Memory> {
+        Ok(FlightTable {
+            flights: copies(self.alloc, &self.flights)?,
+            alloc: self.alloc,
+        })
+    }
+}
+
+impl Duplicate for Periods<Itinerary> {
+    // The copy shares the itineraries.
+    fn duplicate(&self) -> Result<Periods<Itinerary>, Memory> {
+        self.copy()
+    }
+}
+
+fn copies(alloc: Global, flights: &[FlightPeriods]) -> Result<Vec<FlightPeriods>, Memory>
+    ensures { IfOk result (λ copies. copies.items ≡ flights.now) }
+{
+    let mut copies = Vec::with_capacity(alloc, flights.len())?;
+    for entry in flights {
+        copies.push(FlightPeriods {
+            flight: entry.flight,
+            periods: entry.periods.copy()?,
+        })?;
+    }
+    Ok(copies)
+}
+
+// The index of a flight among all flights, by number and then by suffix, the blank first.
+pub(crate) fn place(flight: Flight) -> u32
+    ensures value { result ≡ place_of flight }
+    ensures small { result < 270000 }
+    ensures flight { IsFlight flight }
+{
+    let suffix = match flight.suffix() {
+        b' ' => 0,
+        letter => letter as u32 - 64,
+    };
+    27 * flight.number() as u32 + suffix
+}
