@@ -33,6 +33,7 @@ COMMANDS = [
     ("take", ["take", "desk", "desk", "earlier", "first", "later"], "desk"),
     ("merge", ["merge", "desk", "theirs", "new"], "new"),
     ("show", ["show", "desk", "LX544", "01JUL25"], None),
+    ("history", ["history", "desk", "LX544", "01JUL25"], None),
     ("findings", ["findings", "desk"], None),
     ("export", ["export", "desk"], None),
     ("rehearse", ["rehearse", "season", "stations", "script"], None),

@@ -1,5 +1,4 @@
 -- Small examples of references and desk files, checked by computation.
-use Rattle.std.proofs.Common.{arith}
 use Rattle.std.specs.Prelude.{◌≡◌, ℕ, ◌-◌, ◌^◌, true, false, List, [], ◌∷◌, ◌++◌, length, codes, refl}
 use Rattle.std.specs.Fmt.{digits}
 use Rattle.std.specs.declared.cmp.Ordering.TheVariants.{Less, Equal}

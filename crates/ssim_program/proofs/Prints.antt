@@ -4,14 +4,16 @@ use Rattle.ssim_values.proofs.DesignatorLemmas.{SpellsDesignator-unique}
 use Rattle.ssim_base.specs.BaseSeen.{BaseSeen}
 use Rattle.ssim_held.specs.Entries.{DeskSeen, Entry}
 use Rattle.ssim_held.specs.File.{IsDeskFile, NoTwoDesks}
+use Rattle.ssim_base.specs.Timetable.{itinerary}
+use Rattle.ssim_desk.specs.DateSteps.{steps_on}
 use Rattle.ssim_desk.specs.Desk.{days_of_desk, entry_lines}
 use Rattle.ssim_desk.specs.Meaning.{found_by, left_by}
-use Rattle.ssim_command_line.specs.Line.{Text, Show, Findings, Export}
+use Rattle.ssim_command_line.specs.Line.{Text, Show, History, Findings, Export}
 use Rattle.ssim_program.specs.Desks.{ReadsDesk}
 use Rattle.ssim_program.specs.Files.{Files}
 use Rattle.ssim_program.specs.Made.{IsExport}
 use Rattle.ssim_program.specs.Offices.{IsSameFile, PrintsTheSame}
-use Rattle.ssim_program.specs.print.Shown.{findings_lines, shown_flight}
+use Rattle.ssim_program.specs.print.Shown.{findings_lines, history_lines, shown_flight}
 use Rattle.ssim_program.proofs.Again.{one_export}
 use Rattle.ssim_program.proofs.Origins.{same_some}
 
@@ -42,8 +44,17 @@ module _ (no_two : NoTwoDesks) where
   pub show_same : (flight date : Text) → PrintsTheSame (λ file. Show file flight date)
   show_same flight date files others name another printed again kept also same (desk, read, is, _) (other, reads, are, _) =
       let one = one_desk files others name another desk other same read reads in
-      let designator = SpellsDesignator-unique is.designator are.designator flight is.spelled are.spelled in
-      let day : is.day ≡ are.day = same_some is.day are.day (sym is.dated ∙ are.dated) in
+      let designator = SpellsDesignator-unique is.designator are.designator flight is.named.spelled are.named.spelled in
+      let day : is.day ≡ are.day = same_some is.day are.day (sym is.named.dated ∙ are.named.dated) in
       is.printed_is
       ∙ (λ i. shown_flight (designator i) (day i) (left_by (one.0 i) (one.1 i) (designator i).flight (day i)))
+      ∙ sym are.printed_is
+
+  pub history_same : (flight date : Text) → PrintsTheSame (λ file. History file flight date)
+  history_same flight date files others name another printed again kept also same (desk, read, is, _) (other, reads, are, _) =
+      let one = one_desk files others name another desk other same read reads in
+      let designator = SpellsDesignator-unique is.designator are.designator flight is.named.spelled are.named.spelled in
+      let day : is.day ≡ are.day = same_some is.day are.day (sym is.named.dated ∙ are.named.dated) in
+      is.printed_is
+      ∙ (λ i. history_lines (designator i) (day i) (itinerary (one.0 i).records (designator i).flight (day i)) (steps_on (seen (one.0 i) (one.1 i)) (designator i).flight (day i)))
       ∙ sym are.printed_is

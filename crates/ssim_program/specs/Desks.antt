@@ -16,6 +16,8 @@ use Rattle.ssim_held.specs.Held.{Says}
 use Rattle.ssim_held.specs.Entries.{DeskSeen, Entry, map_of, state_of}
 use Rattle.ssim_held.specs.declared.fault.DeskFault.{DeskFault}
 use Rattle.ssim_held.specs.declared.fault.DeskFault.TheVariants as desk_fault
+use Rattle.ssim_base.specs.Timetable.{itinerary}
+use Rattle.ssim_desk.specs.DateSteps.{steps_on}
 use Rattle.ssim_desk.specs.Desk.{days_of_desk, take_answer, timetable_of}
 use Rattle.ssim_desk.specs.Steps.{Merges, RefusesDesk, RefusesText, Takes}
 use Rattle.ssim_desk.specs.declared.desk.Took.{Took}
@@ -26,7 +28,7 @@ use Rattle.ssim_command_line.specs.Line.{Text}
 use Rattle.ssim_program.specs.Made.{HasFile, IsExport, RefusesLoad}
 use Rattle.ssim_program.specs.print.Printed.{printed_text}
 use Rattle.ssim_program.specs.print.Refusal.{IsOfFile, refusal_of_desk}
-use Rattle.ssim_program.specs.print.Shown.{shown_flight}
+use Rattle.ssim_program.specs.print.Shown.{history_lines, shown_flight}
 use Rattle.ssim_program.specs.declared.print.printed.Printed.{Printed}
 use Rattle.ssim_program.specs.declared.print.printed.Printed.TheVariants as printed
 use Rattle.ssim_program.specs.declared.refusal.Refusal.{Refusal}
@@ -130,15 +132,27 @@ RefusesMerge mine theirs refusal = (fault : DeskFault) × RefusesDesk (state_of 
 
 -- ---- what a desk shows
 
+-- one word names a flight of the desk's airline, the other a date
+pub record NamesDate (desk : DeskSeen) (flight date : Text) (designator : Designator) (day : ℕ) : Type 0 where
+  pub spelled : SpellsDesignator designator flight
+  pub dated : day_in date ≡ Some day
+  pub airline : designator.airline ≡ airline_of desk.base.records
+
 -- the flight that a word names is the airline's, and the lines have its legs on the date that a
 -- word names
 pub record Shows (desk : DeskSeen) (flight date : Text) (printed : List ℕ) : Type 0 where
   pub designator : Designator
-  pub spelled : SpellsDesignator designator flight
   pub day : ℕ
-  pub dated : day_in date ≡ Some day
-  pub airline : designator.airline ≡ airline_of desk.base.records
+  pub named : NamesDate desk flight date designator day
   pub printed_is : printed ≡ shown_flight designator day (timetable_of desk designator.flight day)
+
+-- the lines have what the data set has for the flight on the date that the words name, and what each
+-- sub-message of the desk did with it
+pub record ShowsHistory (desk : DeskSeen) (flight date : Text) (printed : List ℕ) : Type 0 where
+  pub designator : Designator
+  pub day : ℕ
+  pub named : NamesDate desk flight date designator day
+  pub printed_is : printed ≡ history_lines designator day (itinerary desk.base.records designator.flight day) (steps_on desk designator.flight day)
 
 -- Why no flight is shown. Memory ran out. Or the first word names no flight (6). Or the first word
 -- names a flight, and the second no date (1). Or both are valid, and the flight is another

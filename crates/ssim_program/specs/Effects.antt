@@ -7,11 +7,11 @@ use Rattle.ssim_base.specs.declared.note.Note.{Note}
 use Rattle.ssim_held.specs.File.{desk_file}
 use Rattle.ssim_held.specs.Entries.{AreRising, DeskSeen}
 use Rattle.ssim_desk.specs.Desk.{finding_lines}
-use Rattle.ssim_program.specs.Desks.{IsExportOfDesk, IsMergeOf, ReadsDesk, Shows, TakesFirst, TakesTexts}
+use Rattle.ssim_program.specs.Desks.{IsExportOfDesk, IsMergeOf, ReadsDesk, Shows, ShowsHistory, TakesFirst, TakesTexts}
 use Rattle.ssim_program.specs.Desks.{held_line}
 use Rattle.ssim_program.specs.Explained.{Explains}
 use Rattle.ssim_program.specs.Files.{Files, Kept}
-use Rattle.ssim_command_line.specs.Line.{Line, Check, Tidy, Start, Take, Merge, Show, Findings, Export}
+use Rattle.ssim_command_line.specs.Line.{Line, Check, Tidy, Start, Take, Merge, Show, History, Findings, Export}
 use Rattle.ssim_command_line.specs.Line.{Rehearse, Explain}
 use Rattle.ssim_program.specs.Made.{AreLinesOn, IsExportOf, ReadsBase, ReadsFile}
 use Rattle.ssim_program.specs.rehearse.Rehearsal.{RehearsesFiles}
@@ -41,6 +41,8 @@ Makes (Merge file other out) files printed kept =
     × (printed ≡ held_line (length after.held)) × (kept ≡ Some (out, desk_file after.base after.held))
 Makes (Show file flight date) files printed kept =
     (desk : DeskSeen) × ReadsDesk files file desk × Shows desk flight date printed × (kept ≡ None)
+Makes (History file flight date) files printed kept =
+    (desk : DeskSeen) × ReadsDesk files file desk × ShowsHistory desk flight date printed × (kept ≡ None)
 Makes (Findings file) files printed kept =
     (desk : DeskSeen) × ReadsDesk files file desk × (printed ≡ findings_lines (finding_lines desk))
     × (kept ≡ None)

@@ -4,6 +4,7 @@
 pub(crate) mod check;
 pub(crate) mod export;
 pub(crate) mod findings;
+pub(crate) mod history;
 pub(crate) mod merge;
 pub(crate) mod show;
 pub(crate) mod start;

@@ -17,6 +17,7 @@ ghost use Rattle.clap.specs.Words.{kind_of};
 use crate::command::check::check;
 use crate::command::export::export;
 use crate::command::findings::findings;
+use crate::command::history::history;
 use crate::command::merge::merge;
 use crate::command::show::show_flight;
 use crate::command::start::start;
@@ -217,6 +218,9 @@ fn act<S: Store, O: Write>(
         Request::Merge(desk, other, name) => print(merge(alloc, desk, other, name, store), out),
         Request::Show(desk, flight, date) => {
             print(show_flight(alloc, desk, flight, date, store), out)
+        }
+        Request::History(desk, flight, date) => {
+            print(history(alloc, desk, flight, date, store), out)
         }
         Request::Findings(desk) => print(findings(alloc, desk, store), out),
         Request::Rehearse(dataset, stations, script) => {

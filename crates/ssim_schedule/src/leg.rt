@@ -84,7 +84,7 @@ impl PlacedLeg {
     }
 
     /// Whether the two are one leg.
-    pub(crate) fn same(&self, other: &PlacedLeg) -> bool
+    pub fn same(&self, other: &PlacedLeg) -> bool
         ensures { result ≡ same_leg self.now other.now }
     {
         self.sequence == other.sequence

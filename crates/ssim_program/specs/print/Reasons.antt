@@ -14,7 +14,7 @@ use Rattle.ssim_held.specs.Entries.{DeskSeen}
 use Rattle.ssim_desk.specs.Desk.{days_of_desk}
 use Rattle.ssim_program.specs.Desks.{ReadsDesk, RefusesDeskFile, RefusesFlight, RefusesMerge, RefusesTexts}
 use Rattle.ssim_program.specs.Files.{Files}
-use Rattle.ssim_command_line.specs.Line.{Line, Text, Check, Tidy, Start, Take, Merge, Show, Findings, Export}
+use Rattle.ssim_command_line.specs.Line.{Line, Text, Check, Tidy, Start, Take, Merge, Show, History, Findings, Export}
 use Rattle.ssim_command_line.specs.Line.{Rehearse, Explain}
 use Rattle.ssim_program.specs.Made.{ReadsFile, RefusesBase, RefusesFile, RefusesLoad}
 use Rattle.ssim_program.specs.print.Paper.{Paper, PrintsOrFails}
@@ -67,6 +67,9 @@ Refuses (Merge file other out) files printed refusal =
     ⊎ ((mine : DeskSeen) × (theirs : DeskSeen) × ReadsDesk files file mine × ReadsDesk files other theirs
     × RefusesMerge mine theirs refusal))
 Refuses (Show file flight date) files printed refusal =
+    (printed ≡ []) × (RefusesDeskFile files file refusal
+    ⊎ ((desk : DeskSeen) × ReadsDesk files file desk × RefusesFlight desk flight date refusal))
+Refuses (History file flight date) files printed refusal =
     (printed ≡ []) × (RefusesDeskFile files file refusal
     ⊎ ((desk : DeskSeen) × ReadsDesk files file desk × RefusesFlight desk flight date refusal))
 Refuses (Findings file) files printed refusal =

@@ -1,13 +1,20 @@
 -- What a desk has, as it is printed: a flight on a date, and what its sub-messages found.
-use Rattle.std.specs.Prelude.{ℕ, ◌==◌, if◌then◌else◌, List, [], ◌∷◌, ◌++◌, map, codes}
-use Rattle.std.specs.List.{flat_map}
+use Rattle.std.specs.Prelude.{ℕ, ◌==◌, Bool, true, false, not, ◌&&◌, if◌then◌else◌, List, [], ◌∷◌, ◌++◌, map, codes}
+use Rattle.std.specs.Fmt.{decimal}
+use Rattle.std.specs.List.{flat_map, list_any}
+use Rattle.std.specs.Str.{bytes_eq}
 use Rattle.ssim_values.specs.Characters.{two_digits}
 use Rattle.ssim_values.specs.Day.{day_text}
 use Rattle.ssim_values.specs.Designator.{designator_text}
 use Rattle.ssim_values.specs.declared.designator.Designator.{Designator}
 use Rattle.ssim_records.specs.Leg.{leg_columns}
-use Rattle.ssim_base.specs.Export.{line}
+use Rattle.ssim_text.specs.Lines.{identifier_text}
+use Rattle.ssim_text.specs.Reference.{printed_reference}
+use Rattle.ssim_base.specs.Export.{line, same_leg}
 use Rattle.ssim_base.specs.Timetable.{LegValue, Legs}
+use Rattle.ssim_schedule.specs.declared.finding.Reason.{Reason}
+use Rattle.ssim_schedule.specs.declared.finding.Reason.TheVariants.{Acted, Absent, Present, Leg, Station}
+use Rattle.ssim_desk.specs.declared.date_step.DateStep.{DateStep}
 use Rattle.ssim_desk.specs.declared.finding_line.FindingLine.{FindingLine}
 use Rattle.ssim_program.specs.print.Printed.{finding_text}
 
@@ -44,6 +51,55 @@ leg_lines (leg ∷ legs) = flat_map leg_line (leg ∷ legs)
 -- the lines of a flight on a date: a heading, then its legs
 abbrev pub shown_flight : Designator → ℕ → Legs → List ℕ
 shown_flight designator day legs = line (designator_text designator ++ 32 ∷ day_text day) ++ leg_lines legs
+
+-- ---- the history of a flight on a date
+
+-- whether a leg is none of those before, although its line is that of one of them
+abbrev pub is_marked : Legs → LegValue → Bool
+is_marked before leg =
+    not (list_any (λ other. same_leg other leg) before) && list_any (λ other. bytes_eq (leg_text other) (leg_text leg)) before
+
+-- the line of a leg, two blanks before it, and a mark after it
+abbrev pub marked_line : Legs → LegValue → List ℕ
+marked_line before leg = line (32 ∷ 32 ∷ leg_text leg ++ (if is_marked before leg then codes " *" else []))
+
+-- a line for each leg, or the line `no flight`, two blanks before it
+abbrev pub indented_lines : Legs → Legs → List ℕ
+indented_lines before [] = line (codes "  no flight")
+indented_lines before (leg ∷ legs) = flat_map (marked_line before) (leg ∷ legs)
+
+-- whether a sub-message acted
+abbrev pub is_acted : Reason → Bool
+is_acted Acted = true
+is_acted _ = false
+
+-- what a sub-message found on a date
+abbrev pub reason_word : Reason → List ℕ
+reason_word Acted = codes "acted"
+reason_word Absent = codes "absent"
+reason_word Present = codes "present"
+reason_word Leg = codes "leg"
+reason_word Station = codes "station"
+
+-- a sub-message on a date: the reference, its number, its action, and what it found
+abbrev pub step_text : DateStep → List ℕ
+step_text step =
+    printed_reference step.reference ++ 32 ∷ decimal step.sub ++ 32 ∷ identifier_text step.action ++ 32 ∷ reason_word step.reason
+
+-- the lines of the legs after a sub-message that acted; none after one that did not
+abbrev pub legs_after : Legs → DateStep → List ℕ
+legs_after before step = if is_acted step.reason then indented_lines before step.itinerary else []
+
+-- the lines of sub-messages, the first of which found these legs
+abbrev pub step_lines : Legs → List DateStep → List ℕ
+step_lines before [] = []
+step_lines before (step ∷ steps) = line (step_text step) ++ legs_after before step ++ step_lines step.itinerary steps
+
+-- the lines of a flight on a date: a heading, the legs of the data set, and what each sub-message
+-- did with them
+abbrev pub history_lines : Designator → ℕ → Legs → List DateStep → List ℕ
+history_lines designator day first steps =
+    line (designator_text designator ++ 32 ∷ day_text day) ++ line (codes "data set") ++ indented_lines [] first ++ step_lines first steps
 
 -- a line for each sub-message
 abbrev pub findings_lines : List FindingLine → List ℕ

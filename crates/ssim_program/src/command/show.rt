@@ -7,10 +7,10 @@ ghost use Rattle.ssim_text.specs.Lines.{day_in};
 ghost use Rattle.ssim_values.specs.Characters.{two_digits};
 ghost use Rattle.ssim_values.specs.Day.{day_text};
 ghost use Rattle.ssim_values.specs.Designator.{designator_text};
-ghost use Rattle.ssim_program.specs.Desks.{RefusesFlight, Shows};
+ghost use Rattle.ssim_program.specs.Desks.{NamesDate, RefusesFlight, Shows};
 ghost use Rattle.ssim_command_line.specs.Line.{Show};
 ghost use Rattle.ssim_program.specs.internal.Program.{Prepares, stored};
-ghost use Rattle.ssim_program.specs.print.Shown.{columns_text, dotted, leg_line, shown};
+ghost use Rattle.ssim_program.specs.print.Shown.{columns_text, dotted, leg_line, leg_text, shown};
 ghost use Rattle.ssim_program.specs.print.Shown.{shown_flight};
 
 use crate::desk_file::open_holdings;
@@ -49,14 +49,27 @@ fn shown(alloc: Global, desk: &Holdings, flight: &str, date: &str) -> Result<Vec
     ensures ok { IfOk result (λ lines. Shows desk.now flight.now date.now lines.items) }
     ensures err { IfErr result (RefusesFlight desk.now flight.now date.now) }
 {
+    let (designator, day) = flight_date(desk, flight, date)?;
+    let legs = desk.itinerary(&designator.flight, day)?;
+    let lines = lines_of(alloc, designator, day, &legs)?;
+    Ok(lines)
+}
+
+/// The flight of the desk's airline and the date that the words name.
+pub(crate) fn flight_date(
+    desk: &Holdings,
+    flight: &str,
+    date: &str,
+) -> Result<(Designator, Day), Refusal>
+    ensures ok { IfOk result (λ named. NamesDate desk.now flight.now date.now named.0 named.1) }
+    ensures err { IfErr result (RefusesFlight desk.now flight.now date.now) }
+{
     let designator = Designator::parse(flight.as_bytes())?;
     let day = day_in(date)?;
     if designator.airline != desk.data_set().airline() {
         return Err(Refusal::from(DeskFault::Resolve(ResolveFault::Airline(0))));
     }
-    let legs = desk.itinerary(&designator.flight, day)?;
-    let lines = lines_of(alloc, designator, day, &legs)?;
-    Ok(lines)
+    Ok((designator, day))
 }
 
 /// The day that the word spells.
@@ -91,7 +104,7 @@ fn lines_of(
 }
 
 /// Adds the line of the flight and the date.
-fn push_heading(lines: &mut Vec<u8>, designator: Designator, day: Day) -> Result<(), Memory>
+pub(crate) fn push_heading(lines: &mut Vec<u8>, designator: Designator, day: Day) -> Result<(), Memory>
     ensures { OnOk result (lines.new.items
         ≡ lines.old.items ++ line (designator_text designator ++ 32 ∷ day_text day)) }
 {
@@ -106,10 +119,17 @@ fn push_heading(lines: &mut Vec<u8>, designator: Designator, day: Day) -> Result
 fn push_leg(lines: &mut Vec<u8>, leg: &PlacedLeg) -> Result<(), Memory>
     ensures { OnOk result (lines.new.items ≡ lines.old.items ++ leg_line leg.now) }
 {
-    push_sequence(lines, leg.sequence())?;
-    push_columns(lines, &leg.columns())?;
+    push_leg_text(lines, leg)?;
     lines.push(b'\n')?;
     Ok(())
+}
+
+/// Adds the leg sequence and the columns of a leg that are shown.
+pub(crate) fn push_leg_text(lines: &mut Vec<u8>, leg: &PlacedLeg) -> Result<(), Memory>
+    ensures { OnOk result (lines.new.items ≡ lines.old.items ++ leg_text leg.now) }
+{
+    push_sequence(lines, leg.sequence())?;
+    push_columns(lines, &leg.columns())
 }
 
 fn push_sequence(lines: &mut Vec<u8>, sequence: u8) -> Result<(), Memory>

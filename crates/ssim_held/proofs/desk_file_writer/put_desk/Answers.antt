@@ -1,8 +1,5 @@
 -- The five parts, one after another, and then what the buffer holds.
-use Rattle.std.proofs.Common.{◌++◌, List, codes, subst}
-use Rattle.ssim_records.specs.declared.record.Record.{Record}
-use Rattle.ssim_base.specs.Sinks.{TakesFront, TakesUpTo}
-use Rattle.ssim_base.specs.Stations.{Row}
+use Rattle.std.proofs.Common.{codes}
 use Rattle.ssim_base.proofs.SinkLemmas.{at_fault, if_err, if_ok}
 use Rattle.ssim_held.specs.File.{counted, end_line, records_part, rows_part, texts_part}
 use Rattle.ssim_held.proofs.FileParts.{after_6, break_1, break_2, break_3, break_4, break_5, break_6}

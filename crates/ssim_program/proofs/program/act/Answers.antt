@@ -1,6 +1,6 @@
 -- The request is the command's.
 use Rattle.std.proofs.Common.{sym, subst}
-use Rattle.ssim_command_line.specs.Line.{Check, Start, Merge, Show, Findings, Rehearse, Explain}
+use Rattle.ssim_command_line.specs.Line.{Check, Start, Merge, Show, History, Findings, Rehearse, Explain}
 use Rattle.ssim_command_line.specs.Request.{line_of}
 use Rattle.ssim_program.specs.World.{world}
 use Rattle.ssim_program.specs.internal.Program.{Does, stored}
@@ -34,6 +34,13 @@ returns-in-Show g c =
     (sym c.in-Show.is) (c.print-in-Show.ensures (Show c.in-Show.desk.now c.in-Show.flight.now c.in-Show.date.now)
     (stored (g.S.Store.files c.args.store.now) (g.S.Store.failures c.args.store.now))
     (stored (g.S.Store.files c.show_flight.new.store) (g.S.Store.failures c.show_flight.new.store)) tt c.show_flight.ensures)
+
+pub returns-in-History : goal.returns-in-History
+returns-in-History g c =
+    subst (λ (r : Request). Does (line_of r) (world (g.S.Store.files c.args.store.now) (g.S.Store.failures c.args.store.now) c.args.out.now) (world (g.S.Store.files c.history.new.store) (g.S.Store.failures c.history.new.store) c.print-in-History.new.out) c.print-in-History.result)
+    (sym c.in-History.is) (c.print-in-History.ensures (History c.in-History.desk.now c.in-History.flight.now c.in-History.date.now)
+    (stored (g.S.Store.files c.args.store.now) (g.S.Store.failures c.args.store.now))
+    (stored (g.S.Store.files c.history.new.store) (g.S.Store.failures c.history.new.store)) tt c.history.ensures)
 
 pub returns-in-Findings : goal.returns-in-Findings
 returns-in-Findings g c =
