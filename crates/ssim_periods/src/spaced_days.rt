@@ -16,31 +16,31 @@ const FIRST: usize = 8;
 /// Rising days. Days mostly come from the last to the first or the other way round, so there is
 /// room for more of them before the first one and after the last one.
 #[derive(Drop)]
-pub(crate) struct SpacedList {
+pub(crate) struct SpacedDays {
     /// Elements that are no days yet, and then the days.
     items: Vec<u32>,
     /// The number of elements that are no days yet.
     front: usize,
 }
 
-impl Model for SpacedList {
+impl Model for SpacedDays {
     ghost use Rattle.std.specs.Prelude.{◌-◌, ◌≤◌, length, vec_len, vec_capacity};
     ghost use Rattle.std.proofs.Math.ListN.{drop};
-    ghost use Rattle.ssim_periods.specs.internal.Apart.{SpacedDays};
+    ghost use Rattle.ssim_periods.specs.internal.Apart.{DaysAndRoom};
 
-    ghost Value = { SpacedDays };
+    ghost Value = { DaysAndRoom };
 
     ghost view = { λ p. record { days = drop p.front p.items.items; front = p.front; back = vec_capacity p.items - vec_len p.items } };
 
     ghost invariant = { λ p. p.front ≤ length p.items.items };
 }
 
-impl SpacedList {
+impl SpacedDays {
     /// No day. Allocates nothing.
-    pub(crate) fn new(alloc: Global) -> SpacedList
+    pub(crate) fn new(alloc: Global) -> SpacedDays
         ensures { result.days ≡ [] }
     {
-        SpacedList {
+        SpacedDays {
             items: Vec::new(alloc),
             front: 0,
         }
@@ -55,11 +55,11 @@ impl SpacedList {
     }
 
     /// A copy with the same days.
-    pub(crate) fn copy(&self, alloc: Global) -> Result<SpacedList, Memory>
+    pub(crate) fn copy(&self, alloc: Global) -> Result<SpacedDays, Memory>
         ensures { IfOk result (λ copy. copy.days ≡ self.now.days) }
     {
         let items = Vec::from_slice(alloc, self.days())?;
-        Ok(SpacedList { items, front: 0 })
+        Ok(SpacedDays { items, front: 0 })
     }
 
     /// Makes room for two more days at each end.

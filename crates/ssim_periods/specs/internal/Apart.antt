@@ -9,7 +9,7 @@ use Rattle.ssim_periods.specs.Pieces.{held_on}
 
 -- what contracts see of a list of days that grows at both ends: the days, and for how many more
 -- there is room before them and after them
-pub record SpacedDays : Type 0 where
+pub record DaysAndRoom : Type 0 where
   pub days : List ℕ
   pub front : ℕ
   pub back : ℕ

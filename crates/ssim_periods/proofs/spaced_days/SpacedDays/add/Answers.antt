@@ -5,7 +5,7 @@ use Rattle.ssim_periods.specs.internal.Rows.{place}
 use Rattle.ssim_periods.specs.internal.Splits.{has_cut, with_cut}
 use Rattle.ssim_periods.proofs.CutLemmas.{with_cut-has, with_cut-insert}
 use Rattle.ssim_periods.proofs.SpacedLemmas.{drop-insert}
-use Rattle.ssim_periods.proofs.spaced_days.SpacedList.add.Goals as goal
+use Rattle.ssim_periods.proofs.spaced_days.SpacedDays.add.Goals as goal
 
 pub returns-then-is_last-clause-days : goal.returns-then-is_last-clause-days
 returns-then-is_last-clause-days c =
