@@ -20,7 +20,7 @@ pub mod EqualLemmas
 pub mod TrimLemmas
 pub mod ListPieces
 pub mod SeparateLemmas
-pub mod FrontLemmas
+pub mod SpacedLemmas
 pub mod DoneLemmas
 pub mod MarkLemmas
 pub mod CommonDayLemmas

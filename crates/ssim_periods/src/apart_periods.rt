@@ -11,9 +11,9 @@ ghost use Rattle.ssim_periods.specs.Pieces.{pieces_of, held_on};
 use crate::count::counts_of;
 use crate::entries::{copy_entries, index_of, meets_none, rows_of, shared_entries, value_at};
 use crate::entry_pieces::covers;
-use crate::front_list::FrontList;
 use crate::range_rows::RangeRows;
 use crate::rows::{is_after_cuts, is_before_cuts};
+use crate::spaced_days::SpacedDays;
 use crate::weekdays::weekday_of;
 use crate::{Change, Value};
 use ssim_values::{Day, Memory, Period};
@@ -35,7 +35,7 @@ pub(crate) struct ApartPeriods<V: Value> {
     /// not empty.
     entries: Vec<(Period, V)>,
     /// The first day of each period and the day after its last, rising.
-    cuts: FrontList,
+    cuts: SpacedDays,
     alloc: Global,
 }
 
@@ -60,7 +60,7 @@ impl<V: Value> ApartPeriods<V> {
         ApartPeriods {
             empty: empty_row(),
             entries: Vec::new(alloc),
-            cuts: FrontList::new(alloc),
+            cuts: SpacedDays::new(alloc),
             alloc,
         }
     }

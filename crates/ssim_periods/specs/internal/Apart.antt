@@ -7,11 +7,12 @@ use Rattle.ssim_periods.specs.Calendar.{day_count, holds, slot}
 use Rattle.ssim_periods.specs.Cover.{cover}
 use Rattle.ssim_periods.specs.Pieces.{held_on}
 
--- what contracts see of a list of days that grows at its front: the days, and for how many more
--- there is room before them
-pub record FrontDays : Type 0 where
+-- what contracts see of a list of days that grows at both ends: the days, and for how many more
+-- there is room before them and after them
+pub record DaysAndRoom : Type 0 where
   pub days : List ℕ
-  pub room : ℕ
+  pub front : ℕ
+  pub back : ℕ
 
 -- the empty value on each weekday
 abbrev pub empty_week : {V : Type 0} → V → List V

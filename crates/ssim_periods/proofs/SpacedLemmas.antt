@@ -1,5 +1,7 @@
--- A list of which the first elements are moved to the front by one, and one is put behind them.
+-- A list of which the first elements are moved to the front by one, and one is put behind them; and
+-- one of which the first elements are left out.
 use Rattle.std.proofs.Common.{◌≡◌, ℕ, zero, suc, ◌+◌, ◌<◌, ◌≤◌, List, [], ◌∷◌, ◌++◌, length, take, drop, slice_index_or, slice_set, refl, ap, ◌∙◌, arith}
+use Rattle.std.specs.List.{insert}
 
 pub index-drop : {X : Type 0} (xs : List X) (s k : ℕ) (d : X) → slice_index_or xs (s + k) d ≡ slice_index_or (drop s xs) k d
 index-drop xs zero k d = ap (λ j. slice_index_or xs j d) (omega arith)
@@ -25,3 +27,9 @@ pub moved-put : {X : Type 0} (xs : List X) (o v : X) (m : ℕ) → m ≤ length 
 moved-put xs o v zero l = refl
 moved-put [] o v (suc m) l = absurd (omega arith)
 moved-put (x ∷ xs) o v (suc m) l = ap (λ ys. x ∷ ys) (moved-put xs x v m (omega arith))
+
+-- an element put in behind the first ones
+pub drop-insert : {X : Type 0} (xs : List X) (s k : ℕ) (v : X) → s ≤ length xs → drop s (insert xs (s + k) v) ≡ insert (drop s xs) k v
+drop-insert xs zero k v l = ap (λ j. insert xs j v) (omega arith)
+drop-insert [] (suc s) k v l = absurd (omega arith)
+drop-insert (x ∷ xs) (suc s) k v l = let e : suc s + k ≡ suc (s + k) = omega arith in ap (λ j. drop (suc s) (insert (x ∷ xs) j v)) e ∙ drop-insert xs s k v (omega arith)
