@@ -54,6 +54,16 @@ or-false : (x y : Bool) → (x || y) ≡ false → (x ≡ false) × (y ≡ false
 or-false true y h = absurd cc
 or-false false y h = (refl, h)
 
+-- a period has no date in common with dates before it
+pub later-apart : (p : DayRange) (used : ℕ → Bool) (latest : ℕ) → latest < p.first → ((n : ℕ) → latest < n → used n ≡ false) → have_common_date (holds p) used ≡ false
+later-apart p used latest after ended = no-common-date (holds p) used (λ n l. by n (nat_le p.first n) refl)
+  where
+    by : (n : ℕ) (b : Bool) → nat_le p.first n ≡ b → (holds p n && used n) ≡ false
+    by n true e =
+        let from : p.first ≤ n = grind (arith, nat_tests) in
+        rw (ended n (omega arith)) (and-false (holds p n))
+    by n false e = rw e refl
+
 -- ---- dates as bits
 
 -- bit k of a word after bit j was set

@@ -17,11 +17,11 @@ use Rattle.ssim_base.specs.declared.used_dates.UsedDates.TheVariants.{Empty, One
 
 -- ---- one leg sequence of a flight
 
--- whether a date is used: the period or one of the periods holds it, or it is in the set
+-- whether a date is used: the period or one of the list holds it, or it is in the set
 abbrev pub is_used : UsedDates → ℕ → Bool
 is_used Empty n = false
 is_used (One period) n = holds period n
-is_used (Few periods) n = list_any (λ p. holds p n) periods.items
+is_used (Few list) n = list_any (λ p. holds p n) list.periods.items
 is_used (Many set) n = has_date set.words.items n
 
 -- whether one of the leg records has this itinerary variation: its bit is 1
