@@ -4,6 +4,7 @@ ghost use Rattle.std.specs.Prelude.{◌≡◌, ℕ, ◌<◌, ◌||◌, ◌∷◌
 ghost use Rattle.std.specs.List.{list_any};
 ghost use Rattle.ssim_periods.specs.Calendar.{holds};
 ghost use Rattle.ssim_periods.specs.CommonDays.{have_common_date, meet};
+ghost use Rattle.ssim_base.specs.internal.Dates.{is_in};
 
 use ssim_periods::meets;
 use ssim_values::{Memory, Period};
@@ -26,7 +27,7 @@ pub(crate) struct PeriodList {
     periods: Vec<Period>,
     /// No period has a later last day.
     latest: u16,
-    ghost ended: { (n : ℕ) → latest < n → list_any (λ p. holds p n) periods.items ≡ false },
+    ghost ended: { (n : ℕ) → latest < n → is_in periods.items n ≡ false },
 }
 
 impl PeriodList {
@@ -50,7 +51,7 @@ impl PeriodList {
 
     // Whether each period ends before another one begins.
     fn ends_before(&self, period: &Period) -> bool
-        ensures { result ≡ true → have_common_date (holds period.now) (λ n. list_any (λ p. holds p n) self.now.periods.items) ≡ false }
+        ensures { result ≡ true → have_common_date (holds period.now) (is_in self.now.periods.items) ≡ false }
     {
         self.latest < period.first().number()
     }
@@ -68,7 +69,7 @@ impl PeriodList {
 
     // Whether a period has a date in common with one of the list.
     fn meets_any(&self, period: &Period) -> bool
-        ensures { result ≡ have_common_date (holds period.now) (λ n. list_any (λ p. holds p n) self.now.periods.items) }
+        ensures { result ≡ have_common_date (holds period.now) (is_in self.now.periods.items) }
     {
         if self.ends_before(period) {
             return false;
@@ -78,8 +79,8 @@ impl PeriodList {
 
     /// One more period. Returns whether it has a date in common with another one.
     pub(crate) fn add(&mut self, period: &Period) -> Result<bool, Memory>
-        ensures days { OnOk result ((n : ℕ) → list_any (λ p. holds p n) self.new.periods.items ≡ (holds period.now n || list_any (λ p. holds p n) self.old.periods.items)) }
-        ensures met { IfOk result (λ met. met ≡ have_common_date (holds period.now) (λ n. list_any (λ p. holds p n) self.old.periods.items)) }
+        ensures days { OnOk result ((n : ℕ) → is_in self.new.periods.items n ≡ (holds period.now n || is_in self.old.periods.items n)) }
+        ensures met { IfOk result (λ met. met ≡ have_common_date (holds period.now) (is_in self.old.periods.items)) }
     {
         let met = self.meets_any(period);
         self.periods.push(*period)?;

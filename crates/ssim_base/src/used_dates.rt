@@ -1,10 +1,9 @@
 //! The dates that the leg records of one flight and leg sequence have.
 
 ghost use Rattle.std.specs.Prelude.{◌≡◌, ℕ, ◌||◌, false, OnOk, IfOk};
-ghost use Rattle.std.specs.List.{list_any};
 ghost use Rattle.ssim_periods.specs.Calendar.{holds};
 ghost use Rattle.ssim_periods.specs.CommonDays.{have_common_date};
-ghost use Rattle.ssim_base.specs.internal.Dates.{has_date};
+ghost use Rattle.ssim_base.specs.internal.Dates.{has_date, is_in};
 ghost use Rattle.ssim_base.specs.internal.LegTable.{is_used};
 
 use crate::day_set::DaySet;
@@ -22,8 +21,8 @@ pub(crate) enum UsedDates {
     One(Period),
     /// The periods of the records.
     Few(PeriodList),
-    /// A bit for each date, if the list has no room. A data set is refused at the first date that is
-    /// added twice, so all sets together have no more bits set than the calendar has dates.
+    /// A bit for each date, if the list has no room. A data set is refused at the first date that
+    /// is added twice, so all sets together have no more bits set than the calendar has dates.
     Many(DaySet),
 }
 
@@ -78,7 +77,7 @@ impl UsedDates {
 
 // The dates of some periods.
 fn set_of(alloc: Global, periods: &[Period]) -> Result<DaySet, Memory>
-    ensures { IfOk result (λ set. (n : ℕ) → has_date set.words.items n ≡ list_any (λ p. holds p n) periods.now) }
+    ensures { IfOk result (λ set. (n : ℕ) → has_date set.words.items n ≡ is_in periods.now n) }
 {
     let mut set = DaySet::new(alloc)?;
     for period in periods {
