@@ -1,5 +1,5 @@
 -- Sets of dates: as periods and as bits, and whether two of them have a date in common.
-use Rattle.std.proofs.Common.{◌≡◌, ◌≢◌, ℕ, zero, suc, ◌+◌, ◌*◌, ◌/◌, ◌%◌, ◌^◌, ◌<◌, ◌≤◌, bit_or, max, min, slice_set, w64, Bool, true, false, not, ◌&&◌, ◌||◌, nat_eq, nat_le, nat_lt, List, [], ◌∷◌, length, replicate, slice_index, slice_index_or, refl, sym, ap, ◌∙◌, arith}
+use Rattle.std.proofs.Common.{◌≡◌, ◌≢◌, ℕ, zero, suc, ◌+◌, ◌*◌, ◌/◌, ◌%◌, ◌^◌, ◌<◌, ◌≤◌, bit_or, slice_set, w64, Bool, true, false, ◌&&◌, ◌||◌, nat_eq, nat_le, nat_lt, List, [], ◌∷◌, length, replicate, slice_index, refl, sym, ap, ◌∙◌, arith}
 use Rattle.std.proofs.Math.Bool.{and-false, and-true}
 use Rattle.std.proofs.lemmas.Bool.Decides.{nat_tests}
 use Rattle.std.proofs.lemmas.List.{get_or-set_other, get_or-set_same}
@@ -8,9 +8,9 @@ use Rattle.std.specs.Int.{Width, bit_at}
 use mir.Val.{bits}
 use Rattle.std.specs.List.{list_any, range_with_len}
 use Rattle.ssim_values.specs.Period.{DayRange}
-use Rattle.ssim_periods.specs.Calendar.{day_count, holds, slot}
+use Rattle.ssim_periods.specs.Calendar.{day_count, holds}
 use Rattle.ssim_periods.specs.CommonDays.{have_common_date, meet}
-use Rattle.ssim_periods.proofs.CommonDayLemmas.{common-date, holds-between, no-common-date}
+use Rattle.ssim_periods.proofs.CommonDayLemmas.{common-date, no-common-date}
 use Rattle.ssim_base.specs.internal.Dates.{has_date}
 
 -- ---- whether one of some dates passes two tests

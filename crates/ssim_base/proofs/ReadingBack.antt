@@ -1,13 +1,12 @@
 -- What is exported in a frame reads back, by the law on bytes.
-use Rattle.std.proofs.Common.{◌≡◌, ℕ, List, Option, ap, ◌∙◌}
-use Rattle.std.specs.Io.KnownBytes.{Appends}
+use Rattle.std.proofs.Common.{◌≡◌, ℕ, List, ap, ◌∙◌}
 use Rattle.ssim_values.specs.Flight.{FlightNumber, IsFlight}
 use Rattle.ssim_records.specs.Carrier.{CarrierFields}
 use Rattle.ssim_records.specs.Header.{HeaderFields}
 use Rattle.ssim_records.specs.Trailer.{TrailerFields}
 use Rattle.ssim_base.specs.Timetable.{Days, on_day}
-use Rattle.ssim_base.specs.Export.{Frame, chapter7, frame_from}
-use Rattle.ssim_base.specs.ReadBack.{BytesReadBack, CanReadBack, IsFrame, IsWritableFrame, ReadsBackFrom}
+use Rattle.ssim_base.specs.Export.{Frame, frame_from}
+use Rattle.ssim_base.specs.ReadBack.{ReadsBackFrom}
 
 -- the header, carrier and trailer of a base are its frame's
 pub frame-is : (frame : Frame) (h : HeaderFields) (c : CarrierFields) (t : TrailerFields) → h ≡ frame.header → c ≡ frame.carrier → t ≡ frame.trailer → frame_from h c t ≡ frame

@@ -1,7 +1,6 @@
 -- The records are the header, the carrier record and the trailer of a frame that can be written.
-use Rattle.std.proofs.Common.{◌≡◌, ◌∙◌, sym, subst}
-use Rattle.ssim_base.specs.Export.{Frame, frame_from}
-use Rattle.ssim_base.specs.BaseSeen.{AreOfFrame}
+use Rattle.std.proofs.Common.{sym, subst}
+use Rattle.ssim_base.specs.Export.{Frame}
 use Rattle.ssim_base.specs.ReadBack.{IsFrame, IsWritableFrame}
 use Rattle.ssim_base.proofs.FrameLemmas.{of-frame}
 use Rattle.ssim_base.proofs.base_frame.BaseFrame.of.Goals as goal
