@@ -1,5 +1,5 @@
 -- Sets of dates: as periods and as bits, and whether two of them have a date in common.
-use Rattle.std.proofs.Common.{◌≡◌, ◌≢◌, ℕ, zero, suc, ◌+◌, ◌*◌, ◌/◌, ◌%◌, ◌^◌, ◌<◌, bit_or, slice_set, w64, Bool, true, false, ◌&&◌, ◌||◌, nat_eq, nat_le, nat_lt, List, [], ◌∷◌, length, replicate, slice_index, refl, sym, ap, ◌∙◌, arith}
+use Rattle.std.proofs.Common.{◌≡◌, ◌≢◌, ℕ, zero, suc, ◌+◌, ◌*◌, ◌/◌, ◌%◌, ◌^◌, ◌<◌, ◌≤◌, bit_or, slice_set, w64, Bool, true, false, ◌&&◌, ◌||◌, nat_eq, nat_le, nat_lt, List, [], ◌∷◌, length, replicate, slice_index, refl, sym, ap, ◌∙◌, arith}
 use Rattle.std.proofs.Math.Bool.{and-false, and-true}
 use Rattle.std.proofs.lemmas.Bool.Decides.{nat_tests}
 use Rattle.std.proofs.lemmas.List.{get_or-set_other, get_or-set_same}
@@ -53,6 +53,16 @@ meets-any p (q ∷ earlier) =
 or-false : (x y : Bool) → (x || y) ≡ false → (x ≡ false) × (y ≡ false)
 or-false true y h = absurd cc
 or-false false y h = (refl, h)
+
+-- a period has no date in common with dates before it
+pub later-apart : (p : DayRange) (used : ℕ → Bool) (latest : ℕ) → latest < p.first → ((n : ℕ) → latest < n → used n ≡ false) → have_common_date (holds p) used ≡ false
+later-apart p used latest after ended = no-common-date (holds p) used (λ n l. by n (nat_le p.first n) refl)
+  where
+    by : (n : ℕ) (b : Bool) → nat_le p.first n ≡ b → (holds p n && used n) ≡ false
+    by n true e =
+        let from : p.first ≤ n = grind (arith, nat_tests) in
+        rw (ended n (omega arith)) (and-false (holds p n))
+    by n false e = rw e refl
 
 -- ---- dates as bits
 

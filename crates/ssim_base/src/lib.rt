@@ -37,6 +37,7 @@ mod leg_sequence;
 mod leg_table;
 mod note;
 mod output_buffer;
+mod period_list;
 mod place;
 mod resolution;
 mod saved_lines;

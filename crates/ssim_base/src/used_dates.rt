@@ -1,24 +1,16 @@
 //! The dates that the leg records of one flight and leg sequence have.
 
-ghost use Rattle.std.specs.Prelude.{◌≡◌, ℕ, ◌<◌, ◌≤◌, ◌||◌, ◌∷◌, [], true, false, vec_len, OnOk, IfOk};
-ghost use Rattle.std.specs.List.{list_any};
-ghost use Rattle.ssim_periods.specs.Calendar.{holds, slot};
-ghost use Rattle.ssim_periods.specs.CommonDays.{have_common_date, meet};
-ghost use Rattle.ssim_base.specs.internal.Dates.{has_date};
+ghost use Rattle.std.specs.Prelude.{◌≡◌, ℕ, ◌||◌, false, OnOk, IfOk};
+ghost use Rattle.ssim_periods.specs.Calendar.{holds};
+ghost use Rattle.ssim_periods.specs.CommonDays.{have_common_date};
+ghost use Rattle.ssim_base.specs.internal.Dates.{has_date, is_in};
 ghost use Rattle.ssim_base.specs.internal.LegTable.{is_used};
 
 use crate::day_set::DaySet;
+use crate::period_list::PeriodList;
 use ssim_periods::meets;
 use ssim_values::{Memory, Period};
 use std::alloc::Global;
-
-/// The most periods that are kept as a list. A flight rarely has as many itinerary variations, and
-/// a set of dates takes as much memory as 380 periods.
-const MOST: usize = 64;
-
-/// The number of periods for which a list first has room. A leg with two itinerary variations
-/// mostly has some more.
-const FIRST_ROOM: usize = 8;
 
 /// The dates that leg records have.
 #[derive(Drop)]
@@ -28,8 +20,8 @@ pub(crate) enum UsedDates {
     /// The period of the only record. It needs no list.
     One(Period),
     /// The periods of the records.
-    Few(Vec<Period>),
-    /// A bit for each date, if there are more records. A data set is refused at the first date that
+    Few(PeriodList),
+    /// A bit for each date, if the list has no room. A data set is refused at the first date that
     /// is added twice, so all sets together have no more bits set than the calendar has dates.
     Many(DaySet),
 }
@@ -48,10 +40,8 @@ impl UsedDates {
         ensures met { IfOk result (λ met. met ≡ have_common_date (holds period.now) (is_used self.old)) }
     {
         if let UsedDates::Few(periods) = self {
-            if periods.len() < MOST {
-                let met = any_meets(periods, period);
-                periods.push(*period)?;
-                return Ok(met);
+            if periods.has_room_for(period) {
+                return periods.add(period);
             }
         }
         self.take_in_next_form(alloc, period)
@@ -71,12 +61,12 @@ impl UsedDates {
             }
             UsedDates::One(first) => {
                 let met = meets(period, first);
-                *self = UsedDates::Few(pair(alloc, first, period)?);
+                *self = UsedDates::Few(PeriodList::of_two(alloc, first, period)?);
                 Ok(met)
             }
             UsedDates::Many(set) => Ok(set.add_period(period)),
             UsedDates::Few(periods) => {
-                let mut set = set_of(alloc, periods)?;
+                let mut set = set_of(alloc, periods.periods())?;
                 let met = set.add_period(period);
                 *self = UsedDates::Many(set);
                 Ok(met)
@@ -85,45 +75,13 @@ impl UsedDates {
     }
 }
 
-// A list of two periods, with room for more.
-fn pair(alloc: Global, one: &Period, other: &Period) -> Result<Vec<Period>, Memory>
-    ensures { IfOk result (λ both. both.items ≡ one.now ∷ other.now ∷ []) }
-{
-    let mut both = Vec::with_capacity(alloc, FIRST_ROOM)?;
-    both.push(*one)?;
-    both.push(*other)?;
-    Ok(both)
-}
-
 // The dates of some periods.
 fn set_of(alloc: Global, periods: &[Period]) -> Result<DaySet, Memory>
-    ensures { IfOk result (λ set. (n : ℕ) → has_date set.words.items n ≡ list_any (λ p. holds p n) periods.now) }
+    ensures { IfOk result (λ set. (n : ℕ) → has_date set.words.items n ≡ is_in periods.now n) }
 {
     let mut set = DaySet::new(alloc)?;
     for period in periods {
         let _ = set.add_period(period);
     }
     Ok(set)
-}
-
-// Whether a period has a date in common with one of some periods.
-fn any_meets(periods: &[Period], period: &Period) -> bool
-    ensures { result ≡ list_any (λ earlier. meet period.now earlier) periods.now }
-{
-    periods.iter().any(|earlier| meets_by_ends(period, earlier))
-}
-
-// Does what `meets` does for the many periods of one leg: most of them lie apart, so their ends are
-// compared first.
-fn meets_by_ends(one: &Period, other: &Period) -> bool
-    ensures { result ≡ meet one.now other.now }
-{
-    !are_apart(one, other) && meets(one, other)
-}
-
-// Whether one period ends before the other begins.
-fn are_apart(one: &Period, other: &Period) -> bool
-    ensures { result ≡ true → meet one.now other.now ≡ false }
-{
-    other.last().number() < one.first().number() || one.last().number() < other.first().number()
 }

@@ -1,13 +1,13 @@
 -- The legs that leg records name, and the dates that they have, by flight.
 use Rattle.std.specs.Prelude.{◌≡◌, ◌≢◌, ℕ, zero, suc, ◌+◌, ◌-◌, ◌/◌, ◌%◌, Bool, true, false, ◌&&◌, ◌||◌, nat_eq, if◌then◌else◌, List, [], ◌∷◌, Option, Some, None, slice_get}
 use Rattle.std.specs.Int.{bit_at}
-use Rattle.std.specs.List.{list_any, position_or_len}
+use Rattle.std.specs.List.{position_or_len}
 use Rattle.std.specs.declared.alloc.Global.{Global}
 use Rattle.std.specs.declared.vec.Vec.{Vec}
 use Rattle.ssim_values.specs.Flight.{FlightNumber}
 use Rattle.ssim_values.specs.Period.{DayRange}
 use Rattle.ssim_periods.specs.Calendar.{holds}
-use Rattle.ssim_base.specs.internal.Dates.{has_date}
+use Rattle.ssim_base.specs.internal.Dates.{has_date, is_in}
 use Rattle.ssim_base.specs.Export.{flight_at, flight_count}
 use Rattle.ssim_base.specs.declared.flight_legs.FlightLegs.{FlightLegs}
 use Rattle.ssim_base.specs.declared.leg_sequence.LegSequence.{LegSequence}
@@ -17,11 +17,11 @@ use Rattle.ssim_base.specs.declared.used_dates.UsedDates.TheVariants.{Empty, One
 
 -- ---- one leg sequence of a flight
 
--- whether a date is used: the period or one of the periods holds it, or it is in the set
+-- whether a date is used: the period or one of the list holds it, or it is in the set
 abbrev pub is_used : UsedDates → ℕ → Bool
 is_used Empty n = false
 is_used (One period) n = holds period n
-is_used (Few periods) n = list_any (λ p. holds p n) periods.items
+is_used (Few list) n = is_in list.periods.items n
 is_used (Many set) n = has_date set.words.items n
 
 -- whether one of the leg records has this itinerary variation: its bit is 1

@@ -4,7 +4,7 @@ use Rattle.std.proofs.Common.{◌≡◌, ℕ, ◌<◌, ◌≤◌, max, min, fals
 use Rattle.std.proofs.lemmas.Bool.Decides.{nat_tests}
 use Rattle.ssim_values.specs.Period.{DayRange}
 use Rattle.ssim_periods.proofs.CommonDayLemmas.{meet-none}
-use Rattle.ssim_base.proofs.used_dates.are_apart.Goals as goal
+use Rattle.ssim_base.proofs.period_list.are_apart.Goals as goal
 
 none : (p q : DayRange) → ((n : ℕ) → max p.first q.first ≤ n → n ≤ min p.last q.last → ⊥) → meet p q ≡ false
 none p q never = meet-none p q p.days q.days (max p.first q.first) (min p.last q.last) refl refl refl refl (λ n from to. absurd (never n from to))
