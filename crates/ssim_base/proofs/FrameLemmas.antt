@@ -9,7 +9,8 @@ use Rattle.ssim_records.specs.Trailer.{TrailerFields}
 use Rattle.ssim_records.specs.declared.record.Record.{Record}
 use Rattle.ssim_records.specs.declared.record.Record.TheVariants.{Header, Carrier, Leg, Segment, Trailer}
 use Rattle.ssim_base.specs.Base.{airline_of, first_refusal, kept, kept_all, notes_of}
-use Rattle.ssim_base.specs.BaseSeen.{AreOfFrame, WasRead}
+use Rattle.ssim_base.specs.BaseSeen.{WasRead}
+use Rattle.ssim_base.specs.internal.Reading.{AreOfFrame}
 use Rattle.ssim_base.specs.Closed.{IsClosed}
 use Rattle.ssim_base.specs.Export.{Frame, frame_from}
 use Rattle.ssim_base.specs.ReadBack.{CanExport, HasFrame}

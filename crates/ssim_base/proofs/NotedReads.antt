@@ -2,7 +2,8 @@
 use Rattle.std.proofs.Common.{List, Vec, Global, Ok, Err}
 use Rattle.ssim_records.specs.declared.record.Record.{Record}
 use Rattle.ssim_base.specs.Base.{Outcome}
-use Rattle.ssim_base.specs.Reading.{Answers, AnswersAs}
+use Rattle.ssim_base.specs.Reading.{Answers}
+use Rattle.ssim_base.specs.internal.Reading.{AnswersAs}
 use Rattle.ssim_base.specs.declared.fault.BaseFault.{BaseFault}
 use Rattle.ssim_base.specs.declared.fault.BaseFault.TheVariants as fault
 use Rattle.ssim_base.specs.declared.note.Note.{Note}

@@ -18,7 +18,8 @@ use Rattle.ssim_records.proofs.Framing.{takes_all}
 use Rattle.ssim_base.specs.Base.{Ending, Done, Broken, Outcome, at_record, check_notes, data_set, first_refusal, kept, kept_all, missing, note_if, notes_of, refusal_at, unless_refused}
 use Rattle.ssim_base.specs.internal.DataSetReader.{IsSoFar, notes_at}
 use Rattle.ssim_base.specs.internal.Acceptance.{HasAccepted, IsRefused, Stood}
-use Rattle.ssim_base.specs.Reading.{AnswersAs, AreBlocks, AreGiven, AreGivenOf, Begins, Came, FailsAfter, FailsAs, Gives, IsReadOf, NeverEnds, Refuses, RefusesWhole, Stops, is_of_bytes}
+use Rattle.ssim_base.specs.Reading.{AreBlocks, AreGiven, Begins, Came, FailsAfter, FailsAs, Gives, IsReadOf, NeverEnds, RefusesWhole, Stops}
+use Rattle.ssim_base.specs.internal.Reading.{AnswersAs, AreGivenOf, Refuses, is_of_bytes}
 use Rattle.ssim_base.specs.ReadBack.{EachSpells}
 use Rattle.ssim_base.specs.declared.fault.BaseFault.{BaseFault}
 use Rattle.ssim_base.specs.declared.fault.BaseFault.TheVariants as fault

@@ -29,10 +29,6 @@ pub record WasRead (base : List Record) : Type 0 where
   pub spelt : All (λ r. IsRecord r.1) records
   pub read : data_set ending records ≡ Ok (base, notes)
 
--- the three records are the header, the carrier record and the trailer of the frame
-abbrev pub AreOfFrame : Frame → Record → Record → Record → Type 0
-AreOfFrame frame first second last = (first ≡ Header frame.header) × (second ≡ Carrier frame.carrier) × (last ≡ Trailer frame.trailer)
-
 -- whether a record is a leg of the flight
 abbrev pub is_leg_of : FlightNumber → Record → Bool
 is_leg_of flight (Header r) = false

@@ -90,25 +90,12 @@ abbrev pub IsReadOf : ℕ → Option (List ℕ) → Outcome → Type 0
 IsReadOf limit None outcome = IsOfSome outcome
 IsReadOf limit (Some bytes) outcome = IsReadAs limit bytes outcome
 
--- what records bytes have; nothing is said if the reader does not report its bytes
-abbrev pub AreGivenOf : ℕ → Option (List ℕ) → List (ℕ × Record) → Ending → Type 0
-AreGivenOf limit None records ending = Unit {0}
-AreGivenOf limit (Some bytes) records ending = AreGiven limit bytes records ending
-
 -- the result of `Base::read` as an outcome has the property P; out of memory is no outcome
 abbrev pub Answers : Result BaseRead BaseFault → (Outcome → Type 0) → Type 0
 Answers (Ok read) P = P (Ok (read.base.records, read.notes.items))
 Answers (Err fault.Memory) P = Unit {0}
 Answers (Err (fault.Read f)) P = P (Err (fault.Read f))
 Answers (Err (fault.Refused number refusal)) P = P (Err (fault.Refused number refusal))
-
--- a result whose value has records and notes, read by `seen`, has as an outcome the property P; out
--- of memory is no outcome
-abbrev pub AnswersAs : {X : Type 0} → (X → List Record × List Note) → Result X BaseFault → (Outcome → Type 0) → Type 0
-AnswersAs seen (Ok read) P = P (Ok (seen read))
-AnswersAs seen (Err fault.Memory) P = Unit {0}
-AnswersAs seen (Err (fault.Read f)) P = P (Err (fault.Read f))
-AnswersAs seen (Err (fault.Refused number refusal)) P = P (Err (fault.Refused number refusal))
 
 -- the reader's failures are counted: one more if the fault is 13, else none
 abbrev pub FailsAs : ℕ → ℕ → BaseFault → Type 0
@@ -157,28 +144,11 @@ FailsAfter all left (fault.Read (ReadFault number)) = IsAfterComplete all left n
 FailsAfter all left (fault.Read (ReaderNeverEnds number)) = Unit {0}
 FailsAfter all left (fault.Refused number refusal) = Unit {0}
 
--- the refusal is what the bytes are read as; out of memory says nothing of the bytes
-abbrev pub Refuses : ℕ → Option (List ℕ) → BaseFault → Type 0
-Refuses limit told fault.Memory = Unit {0}
-Refuses limit told (fault.Read f) = IsReadOf limit told (Err (fault.Read f))
-Refuses limit told (fault.Refused number refusal) = IsReadOf limit told (Err (fault.Refused number refusal))
-
 -- ---- reading to the end
 
 -- the outcome is what bytes within the limit are read as
 abbrev pub IsWholeOf : ℕ → Option (List ℕ) → Outcome → Type 0
 IsWholeOf limit told outcome = IsReadOf limit told outcome × IfSome told (λ bytes. length bytes ≤ limit)
-
--- whether a fault is of the bytes: neither did memory run out, nor did the reader fail (13), nor did
--- more bytes come than the limit (14)
-abbrev pub is_of_bytes : BaseFault → Bool
-is_of_bytes fault.Memory = false
-is_of_bytes (fault.Read (Short number)) = true
-is_of_bytes (fault.Read (BadType number)) = true
-is_of_bytes (fault.Read (BadColumn number column)) = true
-is_of_bytes (fault.Read (ReadFault number)) = false
-is_of_bytes (fault.Read (ReaderNeverEnds number)) = false
-is_of_bytes (fault.Refused number refusal) = true
 
 -- If the reader was read to its end, and the fault is of the bytes, the bytes are within the limit,
 -- and the fault is what they are read as.

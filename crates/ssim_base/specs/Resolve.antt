@@ -82,11 +82,6 @@ AreTurned carrier (Period given) =
     (first : ℕ) × (last : ℕ) × Means carrier.first given.first first × MeansEnd carrier first given.last last × (last < first)
 AreTurned carrier (Date given) = ⊥
 
--- why dates mean no period: a date that does not exist, or a last date before the first
-abbrev pub AreFaulty : CarrierFields → Dates → DatesFault → Type 0
-AreFaulty carrier dates dates_fault.NoSuchDate = LackYear carrier dates
-AreFaulty carrier dates dates_fault.Turned = AreTurned carrier dates
-
 -- ---- sub-messages
 
 -- the sub-message with its full dates

@@ -7,3 +7,4 @@ pub mod Acceptance
 pub mod DataSetReader
 pub mod StationRows
 pub mod SavedLines
+pub mod Reading

@@ -5,7 +5,8 @@ ghost use Rattle.ssim_records.specs.Record.{IsRecord, serial_of};
 ghost use Rattle.ssim_records.specs.declared.record.Record.{Record};
 ghost use Rattle.ssim_base.specs.internal.AcceptedRecords.{AreAccepted, keeps};
 ghost use Rattle.ssim_base.specs.internal.DataSetReader.{HasRead, unread};
-ghost use Rattle.ssim_base.specs.Reading.{Came, FailsAfter, FailsAs, NeverEnds, Refuses, RefusesWhole, is_of_bytes};
+ghost use Rattle.ssim_base.specs.Reading.{Came, FailsAfter, FailsAs, NeverEnds, RefusesWhole};
+ghost use Rattle.ssim_base.specs.internal.Reading.{Refuses, is_of_bytes};
 
 use crate::acceptance::Acceptance;
 use crate::accepted_records::AcceptedRecords;

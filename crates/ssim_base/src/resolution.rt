@@ -2,7 +2,8 @@
 
 ghost use Rattle.std.specs.Prelude.{◌≡◌, ◌⊎◌, ℕ, IsOk, IfOk, IfErr, IfSome, IfNone, Some};
 ghost use Rattle.ssim_base.specs.Fault.{resolve_fault_name, resolve_fault_place};
-ghost use Rattle.ssim_base.specs.Resolve.{AreDates, AreFaulty, AreResolved, IsFirstRefused, IsRefused, IsRefusedIn, IsResolved, IsSubRefused, Means, MeansEnd, MeansNoEnd, MeansNone, Resolves, ResolvesIn, every_day, resolve_fault_number, same_mode};
+ghost use Rattle.ssim_base.specs.Resolve.{AreDates, AreResolved, IsFirstRefused, IsRefused, IsRefusedIn, IsResolved, IsSubRefused, Means, MeansEnd, MeansNoEnd, MeansNone, Resolves, ResolvesIn, every_day, resolve_fault_number, same_mode};
+ghost use Rattle.ssim_base.specs.internal.Reading.{AreFaulty};
 
 use crate::acceptance::end_of;
 use crate::base::Base;

@@ -5,7 +5,8 @@ use Rattle.ssim_records.specs.Blocks.{CountsOn, Fetches}
 use Rattle.ssim_records.specs.Reading.{Answer, Counts, FailsAs, GivesNext, HasNumber, HoldsFew, NeverEnds, Reading, ending_of, given}
 use Rattle.ssim_records.proofs.Framing.{counts_none, counts_twice, fetches_first, fetches_on}
 use Rattle.ssim_base.specs.Base.{Done, kept}
-use Rattle.ssim_base.specs.Reading.{AreGivenOf, Came}
+use Rattle.ssim_base.specs.Reading.{Came}
+use Rattle.ssim_base.specs.internal.Reading.{AreGivenOf}
 use Rattle.ssim_base.proofs.ReadingLemmas.{Numbered, Told, came-in, ended-beyond, fails-after, never-refused, never-fails, step-refused, while-open, nothing, one-more, told-end, told-fault, told-first, told-step}
 use Rattle.ssim_base.proofs.data_set_reader.read_records.Goals as goal
 

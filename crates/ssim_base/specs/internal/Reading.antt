@@ -1,0 +1,80 @@
+-- How private functions say what was read, and why dates are invalid.
+use Rattle.std.specs.Prelude.{◌≡◌, ◌⊎◌, ℕ, ◌+◌, ◌-◌, ◌<◌, ◌≤◌, ◌%◌, ◌^◌, Bool, true, false, IfSome, List, [], ◌∷◌, ◌++◌, length, Option, Some, None, Result, Ok, Err, ◌≢◌}
+use Rattle.std.specs.List.{All, list_any}
+use Rattle.ssim_records.specs.Frames.{Frames, others}
+use Rattle.ssim_records.specs.Record.{IsRecord, Spells, fault_of}
+use Rattle.ssim_records.specs.declared.fault.RecordFault.{RecordFault}
+use Rattle.ssim_records.specs.declared.fault.RecordFault.TheVariants.{Short, BadType, BadColumn, ReadFault, ReaderNeverEnds}
+use Rattle.ssim_records.specs.declared.record.Record.{Record}
+use Rattle.ssim_base.specs.Base.{Ending, Done, Broken, Outcome, data_set, end_of}
+use Rattle.ssim_base.specs.ReadBack.{AreRead, Rise, HasFrame}
+use Rattle.ssim_base.specs.declared.base.BaseRead.{BaseRead}
+use Rattle.ssim_base.specs.declared.fault.BaseFault.{BaseFault}
+use Rattle.ssim_base.specs.declared.note.Note.{Note}
+use Rattle.ssim_base.specs.Reading.{AreGiven, IsReadOf}
+use Rattle.ssim_values.specs.Flight.{FlightNumber, IsFlight}
+use Rattle.ssim_records.specs.declared.record.Record.TheVariants.{Header, Carrier, Leg, Segment, Trailer}
+use Rattle.ssim_base.specs.Export.{Frame}
+use Rattle.ssim_base.specs.Stations.{Row}
+use Rattle.ssim_base.specs.Timetable.{same_flight}
+use Rattle.ssim_values.specs.Calendar.{HasDayMonth}
+use Rattle.ssim_values.specs.DayMonth.{MonthDay}
+use Rattle.ssim_values.specs.Period.{DayRange}
+use Rattle.ssim_records.specs.Carrier.{CarrierFields}
+use Rattle.ssim_text.specs.Message.{MessageValue}
+use Rattle.ssim_text.specs.declared.action.Sub.{Sub}
+use Rattle.ssim_text.specs.declared.dates.Dates.{Dates}
+use Rattle.ssim_text.specs.declared.dates.Dates.TheVariants.{Period, Date}
+use Rattle.ssim_text.specs.declared.dates.GivenDate.{GivenDate}
+use Rattle.ssim_text.specs.declared.dates.GivenDate.TheVariants.{Full, Yearless}
+use Rattle.ssim_text.specs.declared.dates.GivenEnd.{GivenEnd}
+use Rattle.ssim_text.specs.declared.dates.GivenEnd.TheVariants.{Until, Open}
+use Rattle.ssim_values.specs.declared.time_mode.TimeMode.{TimeMode}
+use Rattle.ssim_values.specs.declared.time_mode.TimeMode.TheVariants.{Utc, Local}
+use Rattle.ssim_base.specs.declared.resolution.DatesFault.{DatesFault}
+use Rattle.ssim_base.specs.declared.resolution.ResolveFault.{ResolveFault}
+use Rattle.ssim_base.specs.declared.resolution.ResolvedText.{ResolvedText}
+use Rattle.ssim_base.specs.declared.sub_message.ResolvedSub.{ResolvedSub}
+use Rattle.ssim_base.specs.Resolve.{LackYear, AreTurned}
+use Rattle.ssim_base.specs.declared.fault.BaseFault.TheVariants as fault
+use Rattle.ssim_base.specs.declared.resolution.DatesFault.TheVariants as dates_fault
+use Rattle.ssim_base.specs.declared.resolution.ResolveFault.TheVariants as fault
+
+-- what records bytes have; nothing is said if the reader does not report its bytes
+abbrev pub AreGivenOf : ℕ → Option (List ℕ) → List (ℕ × Record) → Ending → Type 0
+AreGivenOf limit None records ending = Unit {0}
+AreGivenOf limit (Some bytes) records ending = AreGiven limit bytes records ending
+
+-- a result whose value has records and notes, read by `seen`, has as an outcome the property P; out
+-- of memory is no outcome
+abbrev pub AnswersAs : {X : Type 0} → (X → List Record × List Note) → Result X BaseFault → (Outcome → Type 0) → Type 0
+AnswersAs seen (Ok read) P = P (Ok (seen read))
+AnswersAs seen (Err fault.Memory) P = Unit {0}
+AnswersAs seen (Err (fault.Read f)) P = P (Err (fault.Read f))
+AnswersAs seen (Err (fault.Refused number refusal)) P = P (Err (fault.Refused number refusal))
+
+-- the refusal is what the bytes are read as; out of memory says nothing of the bytes
+abbrev pub Refuses : ℕ → Option (List ℕ) → BaseFault → Type 0
+Refuses limit told fault.Memory = Unit {0}
+Refuses limit told (fault.Read f) = IsReadOf limit told (Err (fault.Read f))
+Refuses limit told (fault.Refused number refusal) = IsReadOf limit told (Err (fault.Refused number refusal))
+
+-- whether a fault is of the bytes: neither did memory run out, nor did the reader fail (13), nor did
+-- more bytes come than the limit (14)
+abbrev pub is_of_bytes : BaseFault → Bool
+is_of_bytes fault.Memory = false
+is_of_bytes (fault.Read (Short number)) = true
+is_of_bytes (fault.Read (BadType number)) = true
+is_of_bytes (fault.Read (BadColumn number column)) = true
+is_of_bytes (fault.Read (ReadFault number)) = false
+is_of_bytes (fault.Read (ReaderNeverEnds number)) = false
+is_of_bytes (fault.Refused number refusal) = true
+
+-- the three records are the header, the carrier record and the trailer of the frame
+abbrev pub AreOfFrame : Frame → Record → Record → Record → Type 0
+AreOfFrame frame first second last = (first ≡ Header frame.header) × (second ≡ Carrier frame.carrier) × (last ≡ Trailer frame.trailer)
+
+-- why dates mean no period: a date that does not exist, or a last date before the first
+abbrev pub AreFaulty : CarrierFields → Dates → DatesFault → Type 0
+AreFaulty carrier dates dates_fault.NoSuchDate = LackYear carrier dates
+AreFaulty carrier dates dates_fault.Turned = AreTurned carrier dates
