@@ -6,7 +6,6 @@ use Rattle.ssim_records.specs.Record.{IsRecord}
 use Rattle.ssim_records.specs.declared.record.Record.{Record}
 use Rattle.ssim_records.specs.declared.record.Record.TheVariants.{Header, Carrier, Leg, Segment, Trailer}
 use Rattle.ssim_base.specs.Base.{Ending, data_set}
-use Rattle.ssim_base.specs.Export.{Frame}
 use Rattle.ssim_base.specs.ReadBack.{Rise}
 use Rattle.ssim_base.specs.Stations.{Row}
 use Rattle.ssim_base.specs.Timetable.{same_flight}

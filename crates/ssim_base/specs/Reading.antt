@@ -1,5 +1,5 @@
 -- What the bytes of a data set are read as.
-use Rattle.std.specs.Prelude.{◌≡◌, ◌⊎◌, ℕ, ◌+◌, ◌-◌, ◌<◌, ◌≤◌, ◌%◌, ◌^◌, Bool, true, false, IfSome, List, [], ◌∷◌, ◌++◌, length, Option, Some, None, Result, Ok, Err}
+use Rattle.std.specs.Prelude.{◌≡◌, ◌⊎◌, ℕ, ◌+◌, ◌-◌, ◌<◌, ◌≤◌, ◌%◌, ◌^◌, false, IfSome, List, [], ◌∷◌, ◌++◌, length, Option, Some, None, Result, Ok, Err}
 use Rattle.std.specs.List.{All}
 use Rattle.ssim_records.specs.Frames.{Frames, others}
 use Rattle.ssim_records.specs.Record.{IsRecord, Spells, fault_of}

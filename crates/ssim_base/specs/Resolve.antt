@@ -19,8 +19,6 @@ use Rattle.ssim_values.specs.declared.time_mode.TimeMode.TheVariants.{Utc, Local
 use Rattle.ssim_base.specs.Base.{end_of}
 use Rattle.ssim_base.specs.Export.{Frame}
 use Rattle.ssim_base.specs.ReadBack.{HasFrame}
-use Rattle.ssim_base.specs.declared.resolution.DatesFault.{DatesFault}
-use Rattle.ssim_base.specs.declared.resolution.DatesFault.TheVariants as dates_fault
 use Rattle.ssim_base.specs.declared.resolution.ResolveFault.{ResolveFault}
 use Rattle.ssim_base.specs.declared.resolution.ResolveFault.TheVariants as fault
 use Rattle.ssim_base.specs.declared.resolution.ResolvedText.{ResolvedText}

@@ -1,44 +1,19 @@
 -- How private functions say what was read, and why dates are invalid.
-use Rattle.std.specs.Prelude.{◌≡◌, ◌⊎◌, ℕ, ◌+◌, ◌-◌, ◌<◌, ◌≤◌, ◌%◌, ◌^◌, Bool, true, false, IfSome, List, [], ◌∷◌, ◌++◌, length, Option, Some, None, Result, Ok, Err, ◌≢◌}
-use Rattle.std.specs.List.{All, list_any}
-use Rattle.ssim_records.specs.Frames.{Frames, others}
-use Rattle.ssim_records.specs.Record.{IsRecord, Spells, fault_of}
-use Rattle.ssim_records.specs.declared.fault.RecordFault.{RecordFault}
+use Rattle.std.specs.Prelude.{◌≡◌, ℕ, Bool, true, false, List, Option, Some, None, Result, Ok, Err}
 use Rattle.ssim_records.specs.declared.fault.RecordFault.TheVariants.{Short, BadType, BadColumn, ReadFault, ReaderNeverEnds}
 use Rattle.ssim_records.specs.declared.record.Record.{Record}
-use Rattle.ssim_base.specs.Base.{Ending, Done, Broken, Outcome, data_set, end_of}
-use Rattle.ssim_base.specs.ReadBack.{AreRead, Rise, HasFrame}
-use Rattle.ssim_base.specs.declared.base.BaseRead.{BaseRead}
+use Rattle.ssim_base.specs.Base.{Ending, Outcome}
 use Rattle.ssim_base.specs.declared.fault.BaseFault.{BaseFault}
 use Rattle.ssim_base.specs.declared.note.Note.{Note}
 use Rattle.ssim_base.specs.Reading.{AreGiven, IsReadOf}
-use Rattle.ssim_values.specs.Flight.{FlightNumber, IsFlight}
-use Rattle.ssim_records.specs.declared.record.Record.TheVariants.{Header, Carrier, Leg, Segment, Trailer}
+use Rattle.ssim_records.specs.declared.record.Record.TheVariants.{Header, Carrier, Trailer}
 use Rattle.ssim_base.specs.Export.{Frame}
-use Rattle.ssim_base.specs.Stations.{Row}
-use Rattle.ssim_base.specs.Timetable.{same_flight}
-use Rattle.ssim_values.specs.Calendar.{HasDayMonth}
-use Rattle.ssim_values.specs.DayMonth.{MonthDay}
-use Rattle.ssim_values.specs.Period.{DayRange}
 use Rattle.ssim_records.specs.Carrier.{CarrierFields}
-use Rattle.ssim_text.specs.Message.{MessageValue}
-use Rattle.ssim_text.specs.declared.action.Sub.{Sub}
 use Rattle.ssim_text.specs.declared.dates.Dates.{Dates}
-use Rattle.ssim_text.specs.declared.dates.Dates.TheVariants.{Period, Date}
-use Rattle.ssim_text.specs.declared.dates.GivenDate.{GivenDate}
-use Rattle.ssim_text.specs.declared.dates.GivenDate.TheVariants.{Full, Yearless}
-use Rattle.ssim_text.specs.declared.dates.GivenEnd.{GivenEnd}
-use Rattle.ssim_text.specs.declared.dates.GivenEnd.TheVariants.{Until, Open}
-use Rattle.ssim_values.specs.declared.time_mode.TimeMode.{TimeMode}
-use Rattle.ssim_values.specs.declared.time_mode.TimeMode.TheVariants.{Utc, Local}
 use Rattle.ssim_base.specs.declared.resolution.DatesFault.{DatesFault}
-use Rattle.ssim_base.specs.declared.resolution.ResolveFault.{ResolveFault}
-use Rattle.ssim_base.specs.declared.resolution.ResolvedText.{ResolvedText}
-use Rattle.ssim_base.specs.declared.sub_message.ResolvedSub.{ResolvedSub}
 use Rattle.ssim_base.specs.Resolve.{LackYear, AreTurned}
 use Rattle.ssim_base.specs.declared.fault.BaseFault.TheVariants as fault
 use Rattle.ssim_base.specs.declared.resolution.DatesFault.TheVariants as dates_fault
-use Rattle.ssim_base.specs.declared.resolution.ResolveFault.TheVariants as fault
 
 -- what records bytes have; nothing is said if the reader does not report its bytes
 abbrev pub AreGivenOf : ℕ → Option (List ℕ) → List (ℕ × Record) → Ending → Type 0
