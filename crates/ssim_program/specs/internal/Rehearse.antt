@@ -6,7 +6,6 @@ use Rattle.ssim_base.specs.BaseSeen.{BaseSeen}
 use Rattle.ssim_schedule.specs.declared.export.ExportFault.{ExportFault}
 use Rattle.ssim_desk.specs.Reach.{IsStep}
 use Rattle.ssim_desk.specs.declared.steps.Answer.{Answer}
-use Rattle.ssim_desk.specs.declared.steps.Answer.TheVariants.{Refused}
 use Rattle.ssim_desk.specs.declared.steps.Step.{Step}
 use Rattle.ssim_desk.specs.declared.steps.Step.TheVariants.{Take, Merge}
 use Rattle.ssim_program.specs.rehearse.Script.{Written, Script, IsFirstOther, Takes, Merges}

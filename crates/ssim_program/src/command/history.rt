@@ -1,6 +1,7 @@
 //! The command `history`: what each sub-message of a desk did with a flight on a date.
 
-ghost use Rattle.std.specs.Prelude.{◌≡◌, ◌++◌, IfErr, IfOk, OnOk, list_any};
+ghost use Rattle.std.specs.Prelude.{◌≡◌, ◌++◌, [], if◌then◌else◌, codes, IfErr, IfOk, OnOk};
+ghost use Rattle.std.specs.List.{flat_map, list_any};
 ghost use Rattle.std.specs.Str.{bytes_eq};
 ghost use Rattle.ssim_base.specs.Export.{line, same_leg};
 ghost use Rattle.ssim_command_line.specs.Line.{History};
@@ -133,9 +134,24 @@ fn push_legs(
 ) -> Result<(), Memory>
     ensures { OnOk result (lines.new.items ≡ lines.old.items ++ indented_lines before.now legs.now) }
 {
-    if legs.is_empty() {
-        lines.extend_from_slice(b"  no flight\n")?;
+    match legs.split_first() {
+        None => {
+            lines.extend_from_slice(b"  no flight\n")?;
+            Ok(())
+        }
+        Some(_) => push_each(alloc, lines, before, legs),
     }
+}
+
+/// Adds a line for each leg.
+fn push_each(
+    alloc: Global,
+    lines: &mut Vec<u8>,
+    before: &[PlacedLeg],
+    legs: &[PlacedLeg],
+) -> Result<(), Memory>
+    ensures { OnOk result (lines.new.items ≡ lines.old.items ++ flat_map (marked_line before.now) legs.now) }
+{
     for leg in legs {
         push_marked(alloc, lines, before, leg)?;
     }
@@ -151,13 +167,18 @@ fn push_marked(
 ) -> Result<(), Memory>
     ensures { OnOk result (lines.new.items ≡ lines.old.items ++ marked_line before.now leg.now) }
 {
+    let marked = is_marked(alloc, before, leg)?;
     lines.extend_from_slice(b"  ")?;
     push_leg_text(lines, leg)?;
-    if is_marked(alloc, before, leg)? {
-        lines.extend_from_slice(b" *")?;
-    }
+    lines.extend_from_slice(mark_of(marked))?;
     lines.push(b'\n')?;
     Ok(())
+}
+
+fn mark_of(marked: bool) -> &'static [u8]
+    ensures { result.now ≡ (if marked then codes " *" else []) }
+{
+    if marked { b" *" } else { b"" }
 }
 
 /// Whether none of the legs before is the leg, and the line of one of them is its line.
@@ -168,7 +189,8 @@ fn is_marked(alloc: Global, before: &[PlacedLeg], leg: &PlacedLeg) -> Result<boo
         return Ok(false);
     }
     let text = text_of(alloc, leg)?;
-    has_text(alloc, before, &text)
+    let found = has_text(alloc, before, &text)?;
+    Ok(found)
 }
 
 fn is_among(legs: &[PlacedLeg], leg: &PlacedLeg) -> bool

@@ -104,7 +104,11 @@ fn lines_of(
 }
 
 /// Adds the line of the flight and the date.
-pub(crate) fn push_heading(lines: &mut Vec<u8>, designator: Designator, day: Day) -> Result<(), Memory>
+pub(crate) fn push_heading(
+    lines: &mut Vec<u8>,
+    designator: Designator,
+    day: Day,
+) -> Result<(), Memory>
     ensures { OnOk result (lines.new.items
         ≡ lines.old.items ++ line (designator_text designator ++ 32 ∷ day_text day)) }
 {
@@ -129,7 +133,8 @@ pub(crate) fn push_leg_text(lines: &mut Vec<u8>, leg: &PlacedLeg) -> Result<(), 
     ensures { OnOk result (lines.new.items ≡ lines.old.items ++ leg_text leg.now) }
 {
     push_sequence(lines, leg.sequence())?;
-    push_columns(lines, &leg.columns())
+    push_columns(lines, &leg.columns())?;
+    Ok(())
 }
 
 fn push_sequence(lines: &mut Vec<u8>, sequence: u8) -> Result<(), Memory>

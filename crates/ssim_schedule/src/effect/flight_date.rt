@@ -3,10 +3,10 @@
 ghost use Rattle.std.specs.Prelude.{◌≡◌, IfOk, OnErr};
 ghost use Rattle.ssim_schedule.specs.Effect.{effect};
 
+use crate::effect::sub_message_change::SubMessageChange;
 use crate::finding::Reason;
 use crate::itinerary::Itinerary;
 use crate::leg::PlacedLeg;
-use crate::effect::sub_message_change::SubMessageChange;
 use ssim_base::StationRow;
 use ssim_periods::{Change, Value};
 use ssim_text::Action;
