@@ -17,7 +17,7 @@ use Rattle.ssim_records.specs.declared.record.Record.TheVariants.{Header, Carrie
 use Rattle.ssim_base.specs.Base.{airline_of, carrier_end, closed, end_of, is_leg_named, is_overflow, is_rate, is_continued, is_trailer, kept, overlaps, refusal_at}
 use Rattle.ssim_base.specs.Base as base
 use Rattle.ssim_base.specs.BaseSeen.{is_leg_of}
-use Rattle.ssim_base.specs.internal.Acceptance.{AreLegs, Follows, HasAccepted, IsExpectedAfter, LegStands, Stood, gives}
+use Rattle.ssim_base.specs.internal.Acceptance.{AreLegs, Follows, HasAccepted, IsExpectedAfter, AcceptsLeg, AcceptsNext, gives}
 use Rattle.ssim_base.specs.internal.AcceptedRecords.{AddsRecord}
 use Rattle.ssim_base.specs.internal.LegTable.{AddsLegAt, has_legs, legs_at, names_leg, uses_date}
 use Rattle.ssim_base.specs.ReadBack.{place_of}
@@ -136,13 +136,13 @@ kept_carrier r = Carrier (record r { serial = 0 })
 
 pub stood-carrier : (old new : Acceptance) (heading : CarrierTerms) (r : CarrierFields) (earlier : List Record) → old.expected ≡ expected.Carrier → HasAccepted old earlier
     → AddsRecord old.records new.records (kept_carrier r) → new.expected ≡ expected.Legs heading → heading.airline ≡ r.airline → heading.end ≡ end_of r
-    → new.legs ≡ old.legs → Stood new earlier (Carrier r)
+    → new.legs ≡ old.legs → AcceptsNext new earlier (Carrier r)
 stood-carrier old new heading r earlier before is records at airline end legs = by earlier is (subst (λ p. IsExpectedAfter p earlier) before is.is_expected)
   where
-    by : (e : List Record) → HasAccepted old e → IsExpectedAfter expected.Carrier e → Stood new e (Carrier r)
+    by : (e : List Record) → HasAccepted old e → IsExpectedAfter expected.Carrier e → AcceptsNext new e (Carrier r)
     by [] is alone = absurd alone
     by (x ∷ []) is alone = record {
-      stands = refl;
+      valid = refl;
       is_kept =
           kept-other old new (kept_carrier r) (x ∷ []) is records (subst (λ p. IsExpectedAfter p (kept_carrier r ∷ x ∷ [])) (sym at) (refl, airline, end)) legs (λ n. refl) (λ f s n. refl) (λ f. refl);
     }
@@ -177,13 +177,13 @@ kept_segment r = Segment (record r { overflow = 32; serial = 0 })
 pub stood-segment : (old new : Acceptance) (heading : CarrierTerms) (r : SegmentFields) (earlier : List Record) → old.expected ≡ expected.Legs heading → HasAccepted old earlier
     → AddsRecord old.records new.records (kept_segment r) → new.expected ≡ expected.Legs heading → new.legs ≡ old.legs
     → bytes_eq r.name.airline heading.airline ≡ true → is_overflow r.overflow ≡ false → IsFlight r.name.flight → names_leg (legs_at old.legs (place_of r.name.flight)) r.name.sequence r.name.variation ≡ true
-    → Stood new earlier (Segment r)
+    → AcceptsNext new earlier (Segment r)
 stood-segment old new heading r earlier before is records at legs airline blank flight named =
     let here : IsExpectedAfter (expected.Legs heading) earlier = subst (λ p. IsExpectedAfter p earlier) before is.is_expected in
     let own : bytes_eq r.name.airline (airline_of earlier) ≡ true = ap (bytes_eq r.name.airline) (sym here.1) ∙ airline in
     let found : list_any (is_leg_named r.name) earlier ≡ true = sym (is.legs.named r.name flight) ∙ named in
     record {
-      stands = rw (legs-follow earlier here.0 (Segment r) refl, own, blank, found) refl;
+      valid = rw (legs-follow earlier here.0 (Segment r) refl, own, blank, found) refl;
       is_kept =
           kept-other old new (kept_segment r) earlier is records
           (subst (λ p. IsExpectedAfter p (kept_segment r ∷ earlier)) (sym at) (more-follow earlier (kept_segment r) false here.0 refl, here.1, here.2)) legs (λ n. refl) (λ f s n. refl) (λ f. refl);
@@ -203,12 +203,12 @@ kept_trailer r = Trailer (record r { check = 0; serial = 0 })
 
 pub stood-trailer : (old new : Acceptance) (heading : CarrierTerms) (r : TrailerFields) (earlier : List Record) → old.expected ≡ expected.Legs heading → HasAccepted old earlier
     → AddsRecord old.records new.records (kept_trailer r) → new.expected ≡ expected.End → new.legs ≡ old.legs
-    → bytes_eq r.airline heading.airline ≡ true → is_continued r.code ≡ false → Stood new earlier (Trailer r)
+    → bytes_eq r.airline heading.airline ≡ true → is_continued r.code ≡ false → AcceptsNext new earlier (Trailer r)
 stood-trailer old new heading r earlier before is records at legs airline code =
     let here : IsExpectedAfter (expected.Legs heading) earlier = subst (λ p. IsExpectedAfter p earlier) before is.is_expected in
     let own : bytes_eq r.airline (airline_of earlier) ≡ true = ap (bytes_eq r.airline) (sym here.1) ∙ airline in
     record {
-      stands = rw (legs-follow earlier here.0 (Trailer r) refl, own, code) refl;
+      valid = rw (legs-follow earlier here.0 (Trailer r) refl, own, code) refl;
       is_kept =
           kept-other old new (kept_trailer r) earlier is records
           (subst (λ p. IsExpectedAfter p (kept_trailer r ∷ earlier)) (sym at) (more-follow earlier (kept_trailer r) true here.0 refl)) legs (λ n. refl) (λ f s n. refl) (λ f. refl);
@@ -221,21 +221,21 @@ kept_leg r last = record r { last = Some last; rate = 32; overflow = 32; serial 
 abbrev pub period_to : LegFields → ℕ → DayRange
 period_to r last = record { first = r.first; last = last; days = r.days }
 
-pub its-period : (heading : CarrierTerms) (r : LegFields) (p : DayRange) → LegStands heading r p → p ≡ period_to r p.last
+pub its-period : (heading : CarrierTerms) (r : LegFields) (p : DayRange) → AcceptsLeg heading r p → p ≡ period_to r p.last
 its-period heading r p s = ap (λ f. made f p.last p.days) s.first_is ∙ ap (made r.first p.last) s.days_is
   where
     made : ℕ → ℕ → List Bool → DayRange
     made f l d = record { first = f; last = l; days = d }
 
 -- the refusal of a leg record is then the refusal of its dates
-own-leg : (heading : CarrierTerms) (r : LegFields) (p : DayRange) (earlier : List Record) → IsExpectedAfter (expected.Legs heading) earlier → LegStands heading r p
+own-leg : (heading : CarrierTerms) (r : LegFields) (p : DayRange) (earlier : List Record) → IsExpectedAfter (expected.Legs heading) earlier → AcceptsLeg heading r p
     → refusal_at earlier (Leg r) ≡ base.first_of (base.refuse_if (list_any (overlaps r.name p) earlier) refused.Overlap ∷ [])
 own-leg heading r p earlier here s =
     let own : bytes_eq r.name.airline (airline_of earlier) ≡ true = ap (bytes_eq r.name.airline) (sym here.1) ∙ s.airline in
     let end : unwrap_or r.last (carrier_end earlier) ≡ p.last = ap (unwrap_or r.last) (sym here.2) ∙ sym s.last_is in
     rw (legs-follow earlier here.0 (Leg r) refl, own, s.blank, s.weekly, end, s.in_order, ← its-period heading r p s) refl
 
-pub leg-refused : (old : Acceptance) (heading : CarrierTerms) (r : LegFields) (p : DayRange) (earlier : List Record) → old.expected ≡ expected.Legs heading → HasAccepted old earlier → LegStands heading r p
+pub leg-refused : (old : Acceptance) (heading : CarrierTerms) (r : LegFields) (p : DayRange) (earlier : List Record) → old.expected ≡ expected.Legs heading → HasAccepted old earlier → AcceptsLeg heading r p
     → IsFlight r.name.flight → have_common_date (holds p) (uses_date (legs_at old.legs (place_of r.name.flight)) r.name.sequence) ≡ true
     → refusal_at earlier (Leg r) ≡ Some refused.Overlap
 leg-refused old heading r p earlier before is s flight met =
@@ -243,17 +243,17 @@ leg-refused old heading r p earlier before is s flight met =
     let overlap : list_any (overlaps r.name p) earlier ≡ true = sym (overlaps-met old.legs r.name p earlier flight is.legs) ∙ met in
     own-leg heading r p earlier here s ∙ rw overlap refl
 
-pub stood-leg : (old new : Acceptance) (heading : CarrierTerms) (r : LegFields) (p : DayRange) (earlier : List Record) → old.expected ≡ expected.Legs heading → HasAccepted old earlier → LegStands heading r p
+pub stood-leg : (old new : Acceptance) (heading : CarrierTerms) (r : LegFields) (p : DayRange) (earlier : List Record) → old.expected ≡ expected.Legs heading → HasAccepted old earlier → AcceptsLeg heading r p
     → IsFlight r.name.flight → have_common_date (holds p) (uses_date (legs_at old.legs (place_of r.name.flight)) r.name.sequence) ≡ false
     → AddsRecord old.records new.records (Leg (kept_leg r p.last)) → new.expected ≡ expected.Legs heading
     → AddsLegAt old.legs new.legs (place_of r.name.flight) r.name.sequence r.name.variation p
-    → Stood new earlier (Leg r)
+    → AcceptsNext new earlier (Leg r)
 stood-leg old new heading r p earlier before is s flight met records at legs =
     let here : IsExpectedAfter (expected.Legs heading) earlier = subst (λ q. IsExpectedAfter q earlier) before is.is_expected in
     let free : list_any (overlaps r.name p) earlier ≡ false = sym (overlaps-met old.legs r.name p earlier flight is.legs) ∙ met in
     let end : p.last ≡ unwrap_or r.last (carrier_end earlier) = s.last_is ∙ ap (unwrap_or r.last) here.2 in
     record {
-      stands = own-leg heading r p earlier here s ∙ rw free refl;
+      valid = own-leg heading r p earlier here s ∙ rw free refl;
       is_kept = subst (λ l. HasAccepted new (Leg (kept_leg r l) ∷ earlier)) end (record {
         records = records earlier is.records;
         is_expected = subst (λ q. IsExpectedAfter q (Leg (kept_leg r p.last) ∷ earlier)) (sym at) (more-follow earlier (Leg (kept_leg r p.last)) false here.0 refl, here.1, here.2);

@@ -57,7 +57,7 @@ bytes_read_back framed spells frame days bytes is =
         counted = refl;
         spelled = subst (λ blocks. EachSpells blocks (records_at 0 items)) (sym read.1) (each-spells spells 0 items valid);
       };
-      stands = data_set-is frame days s (count + 1) is.frame_is is.timetable from.1;
+      valid = data_set-is frame days s (count + 1) is.frame_is is.timetable from.1;
       frame_is = base-frame frame days s from.1;
       same = reads_back frame days s is.timetable from.1;
       again = ap (λ r. result_map export_bytes r) (exports_again frame days s is.timetable from.1) ∙ ap (λ b. Ok b) from.2;
@@ -103,7 +103,7 @@ bytes_determine framed spells once frame other days others bytes is are =
     let a = bytes_read_back framed spells frame days bytes is in
     let b = bytes_read_back framed spells other others bytes are in
     let one = once bytes a.count b.count a.records b.records a.read b.read in
-    let base : a.base ≡ b.base = same-base a.count b.count a.records b.records a.base b.base one.0 one.1 a.stands b.stands in (
+    let base : a.base ≡ b.base = same-base a.count b.count a.records b.records a.base b.base one.0 one.1 a.valid b.valid in (
       same-frame (kept_frame frame) (kept_frame other) a.base b.base base a.frame_is b.frame_is,
       λ flight n exists within. sym (a.same flight n exists within) ∙ ap (λ rs. itinerary rs flight n) base ∙ b.same flight n exists within,
     )

@@ -17,9 +17,9 @@ use Rattle.ssim_records.specs.declared.records.Ending as records
 use Rattle.ssim_records.proofs.Framing.{takes_all}
 use Rattle.ssim_base.specs.Base.{Ending, Done, Broken, Outcome, at_record, check_notes, data_set, first_refusal, kept, kept_all, missing, note_if, notes_of, refusal_at, unless_refused}
 use Rattle.ssim_base.specs.internal.DataSetReader.{IsSoFar, notes_at}
-use Rattle.ssim_base.specs.internal.Acceptance.{HasAccepted, IsRefused, Stood}
+use Rattle.ssim_base.specs.internal.Acceptance.{HasAccepted, IsRefused, AcceptsNext}
 use Rattle.ssim_base.specs.Reading.{AreBlocks, AreGiven, Begins, Came, FailsAfter, FailsAs, Gives, IsReadOf, NeverEnds, RefusesWhole, Stops}
-use Rattle.ssim_base.specs.internal.Reading.{AnswersAs, AreGivenOf, Refuses, is_of_bytes}
+use Rattle.ssim_base.specs.internal.Reading.{ReturnsAs, AreGivenOf, Refuses, is_of_bytes}
 use Rattle.ssim_base.specs.ReadBack.{EachSpells}
 use Rattle.ssim_base.specs.declared.fault.BaseFault.{BaseFault}
 use Rattle.ssim_base.specs.declared.fault.BaseFault.TheVariants as fault
@@ -53,7 +53,7 @@ all-one x h zero d below = h
 all-one x h (suc k) d below = absurd (omega (arith, below))
 
 -- one record more was read
-pub one-more : (old new : DataSetReader) (earlier : List Record) (done : List Numbered) (x : Numbered) → IsSoFar old earlier done → Stood new.kept earlier x.1
+pub one-more : (old new : DataSetReader) (earlier : List Record) (done : List Numbered) (x : Numbered) → IsSoFar old earlier done → AcceptsNext new.kept earlier x.1
     → new.notes.items ≡ old.notes.items ++ notes_at x.0 old.previous x.1 → new.previous ≡ serial_of x.1 → IsRecord x.1
     → IsSoFar new (kept earlier x.1 ∷ earlier) (done ++ x ∷ [])
 one-more old new earlier done x so_far stood notes previous is = record {
@@ -62,7 +62,7 @@ one-more old new earlier done x so_far stood notes previous is = record {
   refused = λ ending later.
       ap (first_refusal ending []) (append_assoc done (x ∷ []) later)
       ∙ so_far.refused ending (x ∷ later)
-      ∙ ap (λ o. at_record x.0 o (first_refusal ending (kept earlier x.1 ∷ earlier) later)) stood.stands;
+      ∙ ap (λ o. at_record x.0 o (first_refusal ending (kept earlier x.1 ∷ earlier) later)) stood.valid;
   kept = λ later.
       ap (λ rs. kept_all [] (records_in rs)) (append_assoc done (x ∷ []) later)
       ∙ so_far.kept (x ∷ later)
@@ -378,7 +378,7 @@ whole-within limit (Some all) done number given =
     omega (arith, over)
 
 -- a fault of a data set that was read to its end
-pub whole-refused : (limit : ℕ) (told : Option (List ℕ)) (e : BaseFault) → IfSome told (λ bytes. length bytes ≤ limit) → AnswersAs noted (Err e) (IsReadOf limit told) → RefusesWhole limit told e
+pub whole-refused : (limit : ℕ) (told : Option (List ℕ)) (e : BaseFault) → IfSome told (λ bytes. length bytes ≤ limit) → ReturnsAs noted (Err e) (IsReadOf limit told) → RefusesWhole limit told e
 whole-refused limit told fault.Memory within h = tt
 whole-refused limit told (Read (Short n)) within h = (h, within)
 whole-refused limit told (Read (BadType n)) within h = (h, within)

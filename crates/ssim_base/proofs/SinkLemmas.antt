@@ -11,7 +11,7 @@ use Rattle.ssim_records.specs.Frames.{fill}
 use Rattle.ssim_records.specs.Record.{written}
 use Rattle.ssim_records.specs.declared.record.Record.{Record}
 use Rattle.ssim_base.specs.Export.{line, section_bytes}
-use Rattle.ssim_base.specs.Sinks.{TakesUpTo, TakesFront}
+use Rattle.ssim_base.specs.Sinks.{TakesUpTo, TakesPrefix}
 
 pub nothing_after : (xs : List ℕ) → xs ++ [] ≡ xs
 nothing_after [] = refl
@@ -58,7 +58,7 @@ pub step : (all h x rest kept whole : List ℕ) (t u v : Option (List ℕ)) → 
 step all h x rest kept whole t u v split before put = then all (h ++ whole) (kept ++ rest) t u v before (next_taken h x rest kept whole u v split put)
 
 -- the sink failed during the next part
-pub halt : (all h x rest whole : List ℕ) (t u v : Option (List ℕ)) → whole ≡ x ++ rest → TakesUpTo all (h ++ whole) t u → TakesFront (h ++ x) u v → TakesFront all t v
+pub halt : (all h x rest whole : List ℕ) (t u v : Option (List ℕ)) → whole ≡ x ++ rest → TakesUpTo all (h ++ whole) t u → TakesPrefix (h ++ x) u v → TakesPrefix all t v
 halt all h x rest whole t u v split before put = (put.0 ++ rest, step all h x rest put.0 whole t u v split before put.1)
 
 -- nothing is left
@@ -66,18 +66,18 @@ pub finish : (all h : List ℕ) (t u : Option (List ℕ)) → TakesUpTo all (h +
 finish all h t u before = subst (λ (bs : List ℕ). TakesUpTo all bs t u) (nothing_after h) before
 
 -- a prefix of more bytes
-pub front_more : (a x whole : List ℕ) (t u : Option (List ℕ)) → whole ≡ a ++ x → TakesFront a t u → TakesFront whole t u
-front_more a x whole t u split h = subst (λ (bs : List ℕ). TakesFront bs t u) (sym split) (h.0 ++ x, more a h.0 x t u h.1)
+pub front_more : (a x whole : List ℕ) (t u : Option (List ℕ)) → whole ≡ a ++ x → TakesPrefix a t u → TakesPrefix whole t u
+front_more a x whole t u split h = subst (λ (bs : List ℕ). TakesPrefix bs t u) (sym split) (h.0 ++ x, more a h.0 x t u h.1)
 
 -- after some bytes were taken, a prefix of the rest was taken
-pub then_front : (a b : List ℕ) (t u v : Option (List ℕ)) → TakesUpTo a b t u → TakesFront b u v → TakesFront a t v
+pub then_front : (a b : List ℕ) (t u v : Option (List ℕ)) → TakesUpTo a b t u → TakesPrefix b u v → TakesPrefix a t v
 then_front a b t u v h k = (k.0, then a b k.0 t u v h k.1)
 
 -- one more part is put, and it was the last
 pub step_last : (h x y kept last : List ℕ) (t u v : Option (List ℕ)) → TakesUpTo (h ++ x) kept t u → TakesUpTo (kept ++ y) last u v → TakesUpTo (h ++ (x ++ y)) last t v
 step_last h x y kept last t u v one two = then (h ++ (x ++ y)) (kept ++ y) last t u v (next_taken h x y kept (x ++ y) t u refl one) two
 
-pub halt_last : (h x y kept : List ℕ) (t u v : Option (List ℕ)) → TakesUpTo (h ++ x) kept t u → TakesFront (kept ++ y) u v → TakesFront (h ++ (x ++ y)) t v
+pub halt_last : (h x y kept : List ℕ) (t u v : Option (List ℕ)) → TakesUpTo (h ++ x) kept t u → TakesPrefix (kept ++ y) u v → TakesPrefix (h ++ (x ++ y)) t v
 halt_last h x y kept t u v one two = then_front (h ++ (x ++ y)) (kept ++ y) t u v (next_taken h x y kept (x ++ y) t u refl one) two
 
 -- what a put took of a slice
@@ -127,25 +127,25 @@ module _ (all s1 s2 s3 s4 h0 : List ℕ) (t0 : Option (List ℕ)) (none : h0 ≡
   begin : TakesUpTo all (h0 ++ all) t0 t0
   begin = subst (λ (h : List ℕ). TakesUpTo all (h ++ all) t0 t0) (sym none) (start all t0)
 
-  pub break_1 : (t1 : Option (List ℕ)) → TakesFront (h0 ++ s1) t0 t1 → TakesFront all t0 t1
+  pub break_1 : (t1 : Option (List ℕ)) → TakesPrefix (h0 ++ s1) t0 t1 → TakesPrefix all t0 t1
   break_1 t1 put = halt all h0 s1 (s2 ++ (s3 ++ (s4 ++ []))) all t0 t0 t1 split begin put
 
   after_1 : (h1 : List ℕ) (t1 : Option (List ℕ)) → TakesUpTo (h0 ++ s1) h1 t0 t1 → TakesUpTo all (h1 ++ (s2 ++ (s3 ++ (s4 ++ [])))) t0 t1
   after_1 h1 t1 put = step all h0 s1 (s2 ++ (s3 ++ (s4 ++ []))) h1 all t0 t0 t1 split begin put
 
-  pub break_2 : (h1 : List ℕ) (t1 t2 : Option (List ℕ)) → TakesUpTo (h0 ++ s1) h1 t0 t1 → TakesFront (h1 ++ s2) t1 t2 → TakesFront all t0 t2
+  pub break_2 : (h1 : List ℕ) (t1 t2 : Option (List ℕ)) → TakesUpTo (h0 ++ s1) h1 t0 t1 → TakesPrefix (h1 ++ s2) t1 t2 → TakesPrefix all t0 t2
   break_2 h1 t1 t2 one put = halt all h1 s2 (s3 ++ (s4 ++ [])) (s2 ++ (s3 ++ (s4 ++ []))) t0 t1 t2 refl (after_1 h1 t1 one) put
 
   after_2 : (h1 h2 : List ℕ) (t1 t2 : Option (List ℕ)) → TakesUpTo (h0 ++ s1) h1 t0 t1 → TakesUpTo (h1 ++ s2) h2 t1 t2 → TakesUpTo all (h2 ++ (s3 ++ (s4 ++ []))) t0 t2
   after_2 h1 h2 t1 t2 one put = step all h1 s2 (s3 ++ (s4 ++ [])) h2 (s2 ++ (s3 ++ (s4 ++ []))) t0 t1 t2 refl (after_1 h1 t1 one) put
 
-  pub break_3 : (h1 h2 : List ℕ) (t1 t2 t3 : Option (List ℕ)) → TakesUpTo (h0 ++ s1) h1 t0 t1 → TakesUpTo (h1 ++ s2) h2 t1 t2 → TakesFront (h2 ++ s3) t2 t3 → TakesFront all t0 t3
+  pub break_3 : (h1 h2 : List ℕ) (t1 t2 t3 : Option (List ℕ)) → TakesUpTo (h0 ++ s1) h1 t0 t1 → TakesUpTo (h1 ++ s2) h2 t1 t2 → TakesPrefix (h2 ++ s3) t2 t3 → TakesPrefix all t0 t3
   break_3 h1 h2 t1 t2 t3 one two put = halt all h2 s3 (s4 ++ []) (s3 ++ (s4 ++ [])) t0 t2 t3 refl (after_2 h1 h2 t1 t2 one two) put
 
   after_3 : (h1 h2 h3 : List ℕ) (t1 t2 t3 : Option (List ℕ)) → TakesUpTo (h0 ++ s1) h1 t0 t1 → TakesUpTo (h1 ++ s2) h2 t1 t2 → TakesUpTo (h2 ++ s3) h3 t2 t3 → TakesUpTo all (h3 ++ (s4 ++ [])) t0 t3
   after_3 h1 h2 h3 t1 t2 t3 one two put = step all h2 s3 (s4 ++ []) h3 (s3 ++ (s4 ++ [])) t0 t2 t3 refl (after_2 h1 h2 t1 t2 one two) put
 
-  pub break_4 : (h1 h2 h3 : List ℕ) (t1 t2 t3 t4 : Option (List ℕ)) → TakesUpTo (h0 ++ s1) h1 t0 t1 → TakesUpTo (h1 ++ s2) h2 t1 t2 → TakesUpTo (h2 ++ s3) h3 t2 t3 → TakesFront (h3 ++ s4) t3 t4 → TakesFront all t0 t4
+  pub break_4 : (h1 h2 h3 : List ℕ) (t1 t2 t3 t4 : Option (List ℕ)) → TakesUpTo (h0 ++ s1) h1 t0 t1 → TakesUpTo (h1 ++ s2) h2 t1 t2 → TakesUpTo (h2 ++ s3) h3 t2 t3 → TakesPrefix (h3 ++ s4) t3 t4 → TakesPrefix all t0 t4
   break_4 h1 h2 h3 t1 t2 t3 t4 one two three put = halt all h3 s4 [] (s4 ++ []) t0 t3 t4 refl (after_3 h1 h2 h3 t1 t2 t3 one two three) put
 
   pub after_4 : (h1 h2 h3 h4 : List ℕ) (t1 t2 t3 t4 : Option (List ℕ)) → TakesUpTo (h0 ++ s1) h1 t0 t1 → TakesUpTo (h1 ++ s2) h2 t1 t2 → TakesUpTo (h2 ++ s3) h3 t2 t3 → TakesUpTo (h3 ++ s4) h4 t3 t4 → TakesUpTo all h4 t0 t4

@@ -4,7 +4,7 @@ use Rattle.std.proofs.Common.{◌≡◌, ◌≤◌, ℕ, ◌+◌, Bool, true, fa
 use Rattle.std.specs.Prelude.{nat_le, if◌then◌else◌}
 use Rattle.std.proofs.lemmas.Bool.Decides.{nat_tests}
 use Rattle.ssim_values.specs.Variation.{Offset}
-use Rattle.ssim_text.specs.Bytes.{before, from, word, behind, ◌>>=◌}
+use Rattle.ssim_text.specs.Bytes.{before, from, word, after_word, ◌>>=◌}
 use Rattle.ssim_text.specs.Left.{without_end, numbered, left_from, pieces}
 use Rattle.ssim_text.specs.Lines.{station_in, day_in}
 use Rattle.ssim_text.proofs.LeftLemmas.{after, first_piece}
@@ -129,7 +129,7 @@ parts_of (Some s) (Some f) (Some l) (Some v) row h = ordered_row s f l v row (na
 row-spells : (line : List ℕ) (row : Row) → row_of line ≡ Some row → SpellsRow row line
 unfolding row_of
 row-spells line row h =
-    let p = parts_of (station_in (word line)) (day_in (word (behind line))) (day_in (word (behind (behind line)))) (variation_in (behind (behind (behind line)))) row h in
+    let p = parts_of (station_in (word line)) (day_in (word (after_word line))) (day_in (word (after_word (after_word line)))) (variation_in (after_word (after_word (after_word line)))) row h in
     record { station = p.station; first = p.first; last = p.last; variation = p.variation; ordered = p.ordered }
 
 spells-row : (line : List ℕ) (row : Row) → SpellsRow row line → row_of line ≡ Some row

@@ -136,7 +136,7 @@ fault_unless ok = if ok then None else Some 0
 
 first-carried : (d : List ℕ) → AreLegColumns d → IsTrue (is_carried (slice_index d 0))
 first-carried [] h = let len : length {A = ℕ} [] ≡ 158 = h.len in absurd (omega arith)
-first-carried (x ∷ d) h = by (is_carried x) refl h.stands.0
+first-carried (x ∷ d) h = by (is_carried x) refl h.valid.0
   where
     by : (b : Bool) → is_carried x ≡ b → fault_unless b ≡ None → is_carried x ≡ true
     by true e none = e

@@ -110,7 +110,7 @@ pub record ReadsBackFrom (frame : Frame) (days : FlightNumber → Days) (bytes :
   pub records : List (ℕ × Record)
   pub base : List Record
   pub read : AreRead bytes count records
-  pub stands : data_set (Done (count + 1)) records ≡ Ok (base, [])
+  pub valid : data_set (Done (count + 1)) records ≡ Ok (base, [])
   pub frame_is : HasFrame (kept_frame frame) base
   pub same : (flight : FlightNumber) (n : ℕ) → IsFlight flight → n < day_count → itinerary base flight n ≡ on_day (days flight) n
   pub again : chapter7 (kept_frame frame) (days_of base) ≡ Ok bytes

@@ -91,11 +91,11 @@ IsReadOf limit None outcome = IsOfSome outcome
 IsReadOf limit (Some bytes) outcome = IsReadAs limit bytes outcome
 
 -- the result of `Base::read` as an outcome has the property P; out of memory is no outcome
-abbrev pub Answers : Result BaseRead BaseFault → (Outcome → Type 0) → Type 0
-Answers (Ok read) P = P (Ok (read.base.records, read.notes.items))
-Answers (Err fault.Memory) P = Unit {0}
-Answers (Err (fault.Read f)) P = P (Err (fault.Read f))
-Answers (Err (fault.Refused number refusal)) P = P (Err (fault.Refused number refusal))
+abbrev pub Returns : Result BaseRead BaseFault → (Outcome → Type 0) → Type 0
+Returns (Ok read) P = P (Ok (read.base.records, read.notes.items))
+Returns (Err fault.Memory) P = Unit {0}
+Returns (Err (fault.Read f)) P = P (Err (fault.Read f))
+Returns (Err (fault.Refused number refusal)) P = P (Err (fault.Refused number refusal))
 
 -- the reader's failures are counted: one more if the fault is 13, else none
 abbrev pub FailsAs : ℕ → ℕ → BaseFault → Type 0
@@ -148,18 +148,18 @@ FailsAfter all left (fault.Refused number refusal) = Unit {0}
 
 -- the outcome is what bytes within the limit are read as
 abbrev pub IsWholeOf : ℕ → Option (List ℕ) → Outcome → Type 0
-IsWholeOf limit told outcome = IsReadOf limit told outcome × IfSome told (λ bytes. length bytes ≤ limit)
+IsWholeOf limit known outcome = IsReadOf limit known outcome × IfSome known (λ bytes. length bytes ≤ limit)
 
 -- If the reader was read to its end, and the fault is of the bytes, the bytes are within the limit,
 -- and the fault is what they are read as.
 abbrev pub RefusesWhole : ℕ → Option (List ℕ) → BaseFault → Type 0
-RefusesWhole limit told fault.Memory = Unit {0}
-RefusesWhole limit told (fault.Read (Short number)) = IsWholeOf limit told (Err (fault.Read (Short number)))
-RefusesWhole limit told (fault.Read (BadType number)) = IsWholeOf limit told (Err (fault.Read (BadType number)))
-RefusesWhole limit told (fault.Read (BadColumn number column)) = IsWholeOf limit told (Err (fault.Read (BadColumn number column)))
-RefusesWhole limit told (fault.Read (ReadFault number)) = Unit {0}
-RefusesWhole limit told (fault.Read (ReaderNeverEnds number)) = Unit {0}
-RefusesWhole limit told (fault.Refused number refusal) = IsWholeOf limit told (Err (fault.Refused number refusal))
+RefusesWhole limit known fault.Memory = Unit {0}
+RefusesWhole limit known (fault.Read (Short number)) = IsWholeOf limit known (Err (fault.Read (Short number)))
+RefusesWhole limit known (fault.Read (BadType number)) = IsWholeOf limit known (Err (fault.Read (BadType number)))
+RefusesWhole limit known (fault.Read (BadColumn number column)) = IsWholeOf limit known (Err (fault.Read (BadColumn number column)))
+RefusesWhole limit known (fault.Read (ReadFault number)) = Unit {0}
+RefusesWhole limit known (fault.Read (ReaderNeverEnds number)) = Unit {0}
+RefusesWhole limit known (fault.Refused number refusal) = IsWholeOf limit known (Err (fault.Refused number refusal))
 
 -- ---- reading back what was written
 

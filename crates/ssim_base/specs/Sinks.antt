@@ -7,8 +7,8 @@ abbrev pub TakesUpTo : List ℕ → List ℕ → Option (List ℕ) → Option (L
 TakesUpTo bytes rest old new = (front : List ℕ) × (bytes ≡ front ++ rest) × Appends old new front
 
 -- the sink took some prefix of these bytes
-abbrev pub TakesFront : List ℕ → Option (List ℕ) → Option (List ℕ) → Type 0
-TakesFront bytes old new = (rest : List ℕ) × TakesUpTo bytes rest old new
+abbrev pub TakesPrefix : List ℕ → Option (List ℕ) → Option (List ℕ) → Type 0
+TakesPrefix bytes old new = (rest : List ℕ) × TakesUpTo bytes rest old new
 
 -- a failure is counted if there is one, and the count wraps
 abbrev pub CountsFault : {A E : Type 0} → ℕ → ℕ → Result A E → Type 0

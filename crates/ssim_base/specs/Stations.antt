@@ -2,7 +2,7 @@
 use Rattle.std.specs.Prelude.{◌≡◌, ◌⊎◌, ℕ, ◌≤◌, Bool, ◌&&◌, ◌==◌, nat_le, if◌then◌else◌, List, [], ◌∷◌, length, Option, Some, None, Result, Ok, Err}
 use Rattle.std.specs.Str.{bytes_eq}
 use Rattle.ssim_values.specs.Variation.{Offset, variation_of}
-use Rattle.ssim_text.specs.Bytes.{word, behind}
+use Rattle.ssim_text.specs.Bytes.{word, after_word}
 use Rattle.ssim_text.specs.Left.{lines_left}
 use Rattle.ssim_text.specs.Lines.{station_in, day_in}
 use Rattle.ssim_base.specs.declared.stations.StationFault.{StationFault}
@@ -23,9 +23,9 @@ variation_in text = if length text == 5 then variation_of text else None
 -- blanks between them
 pub record SpellsRow (row : Row) (line : List ℕ) : Type 0 where
   pub station : station_in (word line) ≡ Some row.station
-  pub first : day_in (word (behind line)) ≡ Some row.first
-  pub last : day_in (word (behind (behind line))) ≡ Some row.last
-  pub variation : variation_in (behind (behind (behind line))) ≡ Some row.variation
+  pub first : day_in (word (after_word line)) ≡ Some row.first
+  pub last : day_in (word (after_word (after_word line))) ≡ Some row.last
+  pub variation : variation_in (after_word (after_word (after_word line))) ≡ Some row.variation
   pub ordered : row.first ≤ row.last
 
 -- each of these lines spells its row, in order

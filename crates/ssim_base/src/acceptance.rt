@@ -5,7 +5,7 @@ ghost use Rattle.std.specs.Str.{bytes_eq};
 ghost use Rattle.ssim_records.specs.declared.record.Record.{Record};
 ghost use Rattle.ssim_base.specs.Base.{end_of, is_overflow, is_rate, missing};
 ghost use Rattle.ssim_base.specs.internal.AcceptedRecords.{AddsRecord, AreAccepted, keeps};
-ghost use Rattle.ssim_base.specs.internal.Acceptance.{Accepts, HasAccepted, IsExpectedAfter, IsRefused, LegStands, Stood};
+ghost use Rattle.ssim_base.specs.internal.Acceptance.{Accepts, HasAccepted, IsExpectedAfter, IsRefused, AcceptsLeg, AcceptsNext};
 ghost use Rattle.ssim_base.specs.declared.acceptance.Expected.TheVariants as expected;
 
 use crate::accepted_records::AcceptedRecords;
@@ -63,7 +63,7 @@ impl Acceptance {
     /// Accepts one more record with its number, or refuses it. The record may be changed.
     #[inline(always)]
     pub(crate) fn put(&mut self, number: u64, one: &mut Record) -> Result<(), BaseFault>
-        ensures stood { OnOk result ((earlier : List Record) → HasAccepted self.old earlier → Stood self.new earlier one.old) }
+        ensures accepted { OnOk result ((earlier : List Record) → HasAccepted self.old earlier → AcceptsNext self.new earlier one.old) }
         ensures keeps { OnOk result (keeps self.new.records ≡ keeps self.old.records) }
         ensures err { IfErr result (λ e. (earlier : List Record) → HasAccepted self.old earlier → IsRefused number earlier one.old e) }
     {
@@ -85,7 +85,7 @@ impl Acceptance {
         one: &mut Record,
     ) -> Result<(), BaseFault>
         requires { self.old.expected ≡ expected.Legs heading }
-        ensures stood { OnOk result ((earlier : List Record) → HasAccepted self.old earlier → Stood self.new earlier one.old) }
+        ensures accepted { OnOk result ((earlier : List Record) → HasAccepted self.old earlier → AcceptsNext self.new earlier one.old) }
         ensures keeps { OnOk result (keeps self.new.records ≡ keeps self.old.records) }
         ensures err { IfErr result (λ e. (earlier : List Record) → HasAccepted self.old earlier → IsRefused number earlier one.old e) }
     {
@@ -127,7 +127,7 @@ impl Acceptance {
 
     fn put_header(&mut self, number: u64, one: &Record) -> Result<(), BaseFault>
         requires { self.old.expected ≡ expected.Header }
-        ensures stood { OnOk result ((earlier : List Record) → HasAccepted self.old earlier → Stood self.new earlier one.now) }
+        ensures accepted { OnOk result ((earlier : List Record) → HasAccepted self.old earlier → AcceptsNext self.new earlier one.now) }
         ensures keeps { OnOk result (keeps self.new.records ≡ keeps self.old.records) }
         ensures err { IfErr result (λ e. (earlier : List Record) → HasAccepted self.old earlier → IsRefused number earlier one.now e) }
     {
@@ -142,7 +142,7 @@ impl Acceptance {
 
     fn put_carrier(&mut self, number: u64, one: &Record) -> Result<(), BaseFault>
         requires { self.old.expected ≡ expected.Carrier }
-        ensures stood { OnOk result ((earlier : List Record) → HasAccepted self.old earlier → Stood self.new earlier one.now) }
+        ensures accepted { OnOk result ((earlier : List Record) → HasAccepted self.old earlier → AcceptsNext self.new earlier one.now) }
         ensures keeps { OnOk result (keeps self.new.records ≡ keeps self.old.records) }
         ensures err { IfErr result (λ e. (earlier : List Record) → HasAccepted self.old earlier → IsRefused number earlier one.now e) }
     {
@@ -215,7 +215,7 @@ impl Acceptance {
         trailer: &Trailer,
     ) -> Result<(), BaseFault>
         requires { self.old.expected ≡ expected.Legs heading }
-        ensures stood { OnOk result ((earlier : List Record) → HasAccepted self.old earlier → Stood self.new earlier (Record.Trailer trailer.now)) }
+        ensures accepted { OnOk result ((earlier : List Record) → HasAccepted self.old earlier → AcceptsNext self.new earlier (Record.Trailer trailer.now)) }
         ensures keeps { OnOk result (keeps self.new.records ≡ keeps self.old.records) }
         ensures err { IfErr result (λ e. (earlier : List Record) → HasAccepted self.old earlier → IsRefused number earlier (Record.Trailer trailer.now) e) }
     {
@@ -234,7 +234,7 @@ impl Acceptance {
 
 // The period of a leg record, if its airline, overflow, rate and end are valid.
 fn leg_period(number: u64, heading: CarrierTerms, leg: &LegRecord) -> Result<Period, BaseFault>
-    ensures ok { IfOk result (LegStands heading leg.now) }
+    ensures ok { IfOk result (AcceptsLeg heading leg.now) }
     ensures err { IfErr result (λ e. (earlier : List Record) → IsExpectedAfter (expected.Legs heading) earlier → IsRefused number earlier (Record.Leg leg.now) e) }
 {
     if !same_airline(leg.airline(), heading.airline) {

@@ -6,7 +6,7 @@ ghost use Rattle.ssim_base.specs.Base.{airline_of};
 ghost use Rattle.ssim_base.specs.BaseSeen.{AreFlights, base_with};
 ghost use Rattle.ssim_base.specs.Closed.{IsClosed};
 ghost use Rattle.ssim_base.specs.ReadBack.{AreInOrder, HasFrame};
-ghost use Rattle.ssim_base.specs.Reading.{Answers, Came, FailsAfter, FailsAs, IsReadOf, NeverEnds};
+ghost use Rattle.ssim_base.specs.Reading.{Returns, Came, FailsAfter, FailsAs, IsReadOf, NeverEnds};
 ghost use Rattle.ssim_base.specs.SavedBase.{IsBaseRecords};
 ghost use Rattle.ssim_base.specs.Timetable.{days_of};
 
@@ -63,7 +63,7 @@ impl Base {
         stations: Stations,
         limit: u64,
     ) -> Result<BaseRead, BaseFault>
-        ensures read { Answers result (IsReadOf limit (R.left reader.old)) }
+        ensures read { Returns result (IsReadOf limit (R.left reader.old)) }
         ensures rows { IfOk result (λ read. read.base.rows ≡ stations) }
         ensures no_failure { IfOk result (λ _. R.failures reader.new ≡ R.failures reader.old) }
         ensures failure { IfErr result (λ e. FailsAs (R.failures reader.old) (R.failures reader.new) e) }

@@ -8,7 +8,7 @@ ghost use Rattle.ssim_base.specs.BaseSeen.{AreFlights};
 ghost use Rattle.ssim_base.specs.Closed.{IsClosed};
 ghost use Rattle.ssim_base.specs.ReadBack.{AreInOrder, CanExport, HasFrame};
 ghost use Rattle.ssim_base.specs.Reading.{Came, FailsAfter, FailsAs, IsReadOf, IsWholeOf, NeverEnds, RefusesWhole};
-ghost use Rattle.ssim_base.specs.internal.Reading.{AnswersAs};
+ghost use Rattle.ssim_base.specs.internal.Reading.{ReturnsAs};
 ghost use Rattle.ssim_base.specs.declared.note.Note.{Note};
 ghost use Rattle.ssim_base.specs.SavedBase.{IsBaseRecords};
 ghost use Rattle.ssim_base.specs.Timetable.{days_of};
@@ -75,7 +75,7 @@ impl DataSet {
         reader: &mut R,
         limit: u64,
     ) -> Result<(DataSet, Vec<Note>), BaseFault>
-        ensures read { AnswersAs (λ read. (read.0, read.1.items)) result (IsReadOf limit (R.left reader.old)) }
+        ensures read { ReturnsAs (λ read. (read.0, read.1.items)) result (IsReadOf limit (R.left reader.old)) }
         ensures no_failure { IfOk result (λ _. R.failures reader.new ≡ R.failures reader.old) }
         ensures failure { IfErr result (λ e. FailsAs (R.failures reader.old) (R.failures reader.new) e) }
         ensures fails_after { IfErr result (λ e. FailsAfter (R.left reader.old) (R.left reader.new) e) }
@@ -96,7 +96,7 @@ impl DataSet {
     ) -> Result<(DataSet, Vec<Note>), BaseFault>
         requires whole { IsWhole records_read }
         requires keeps { keeps records_read.kept.records ≡ InList }
-        ensures read { (limit : ℕ) (told : Option (List ℕ)) → HasRead limit told records_read number → AnswersAs (λ read. (read.0, read.1.items)) result (IsReadOf limit told) }
+        ensures read { (limit : ℕ) (known : Option (List ℕ)) → HasRead limit known records_read number → ReturnsAs (λ read. (read.0, read.1.items)) result (IsReadOf limit known) }
         ensures failure { (n : ℕ) → IfErr result (λ e. FailsAs n n e) }
         ensures fails_after { (all left : Option (List ℕ)) → IfErr result (λ e. FailsAfter all left e) }
         ensures never_ends { (limit old new : ℕ) (left others : Option (List ℕ)) → IfErr result (λ e. NeverEnds limit (Came left others old new) e) }

@@ -26,7 +26,7 @@ pub(crate) struct DataSetReader {
 }
 
 impl DataSetReader {
-    ghost use Rattle.ssim_base.specs.internal.Acceptance.{HasAccepted, IsRefused, Stood};
+    ghost use Rattle.ssim_base.specs.internal.Acceptance.{HasAccepted, IsRefused, AcceptsNext};
     ghost use Rattle.ssim_base.specs.internal.DataSetReader.{notes_at};
 
     /// No record.
@@ -50,7 +50,7 @@ impl DataSetReader {
     /// the records.
     #[inline(always)]
     pub(crate) fn take(&mut self, number: u64, one: &mut Record) -> Result<(), BaseFault>
-        ensures stood { OnOk result ((earlier : List Record) → HasAccepted self.old.kept earlier → Stood self.new.kept earlier one.old) }
+        ensures accepted { OnOk result ((earlier : List Record) → HasAccepted self.old.kept earlier → AcceptsNext self.new.kept earlier one.old) }
         ensures keeps { OnOk result (keeps self.new.kept.records ≡ keeps self.old.kept.records) }
         ensures noted { OnOk result (self.new.notes.items ≡ self.old.notes.items ++ notes_at number self.old.previous one.old) }
         ensures previous { OnOk result (self.new.previous ≡ serial_of one.old) }

@@ -8,7 +8,7 @@ ghost use Rattle.ssim_records.specs.Leg.{AreLegColumns, written_leg};
 ghost use Rattle.ssim_records.specs.Record.{written};
 ghost use Rattle.ssim_records.specs.Segment.{IsTail, written_segment};
 ghost use Rattle.ssim_base.specs.Export.{line};
-ghost use Rattle.ssim_base.specs.Sinks.{CountsFault, TakesFront, TakesUpTo};
+ghost use Rattle.ssim_base.specs.Sinks.{CountsFault, TakesPrefix, TakesUpTo};
 
 use ssim_records::{LegColumns, NameText, PeriodText, Record, SegmentTail, Sink, write_over};
 use std::marker::Model;
@@ -154,7 +154,7 @@ impl OutputBuffer {
 /// Puts all of the bytes into the sink, however many it takes at a time.
 fn put_all<W: Sink>(out: &mut W, bytes: &[u8]) -> Result<(), WriteFault>
     ensures ok { OnOk result (Appends (W.taken out.old) (W.taken out.new) bytes.now) }
-    ensures err { OnErr result (TakesFront bytes.now (W.taken out.old) (W.taken out.new)) }
+    ensures err { OnErr result (TakesPrefix bytes.now (W.taken out.old) (W.taken out.new)) }
     ensures failures { CountsFault (W.failures out.old) (W.failures out.new) result }
     ensures device { W.device out.new ≡ W.device out.old }
 {
@@ -173,7 +173,7 @@ fn put_all<W: Sink>(out: &mut W, bytes: &[u8]) -> Result<(), WriteFault>
 pub fn flush<W: Sink>(out: &mut W, block: &mut OutputBuffer) -> Result<(), WriteFault>
     ensures ok { OnOk result (Appends (W.taken out.old) (W.taken out.new) block.old) }
     ensures empty { OnOk result (block.new ≡ []) }
-    ensures err { OnErr result (TakesFront block.old (W.taken out.old) (W.taken out.new)) }
+    ensures err { OnErr result (TakesPrefix block.old (W.taken out.old) (W.taken out.new)) }
     ensures unchanged { OnErr result (block.new ≡ block.old) }
     ensures failures { CountsFault (W.failures out.old) (W.failures out.new) result }
     ensures device { W.device out.new ≡ W.device out.old }
@@ -188,7 +188,7 @@ pub fn flush<W: Sink>(out: &mut W, block: &mut OutputBuffer) -> Result<(), Write
 fn make_room<W: Sink>(out: &mut W, block: &mut OutputBuffer) -> Result<(), WriteFault>
     ensures ok { OnOk result (TakesUpTo block.old block.new (W.taken out.old) (W.taken out.new)) }
     ensures room { OnOk result (length block.new + 201 ≤ 64320) }
-    ensures err { OnErr result (TakesFront block.old (W.taken out.old) (W.taken out.new)) }
+    ensures err { OnErr result (TakesPrefix block.old (W.taken out.old) (W.taken out.new)) }
     ensures unchanged { OnErr result (block.new ≡ block.old) }
     ensures failures { CountsFault (W.failures out.old) (W.failures out.new) result }
     ensures device { W.device out.new ≡ W.device out.old }
@@ -207,7 +207,7 @@ pub fn put_record<W: Sink>(
     one: &Record,
 ) -> Result<(), WriteFault>
     ensures ok { OnOk result (TakesUpTo (block.old ++ line (written one.now)) block.new (W.taken out.old) (W.taken out.new)) }
-    ensures err { OnErr result (TakesFront (block.old ++ line (written one.now)) (W.taken out.old) (W.taken out.new)) }
+    ensures err { OnErr result (TakesPrefix (block.old ++ line (written one.now)) (W.taken out.old) (W.taken out.new)) }
     ensures unchanged { OnErr result (block.new ≡ block.old) }
     ensures failures { CountsFault (W.failures out.old) (W.failures out.new) result }
     ensures device { W.device out.new ≡ W.device out.old }
@@ -229,7 +229,7 @@ pub fn put_leg<W: Sink>(
     requires { serial < 1000000 }
     ensures ok { OnOk result (TakesUpTo (block.old ++ line (written_leg (record { name = name.now; first = period.now.first; last = Some period.now.last; days = period.now.days; rate = 32; columns = columns.now; overflow = 32; serial = serial }))) block.new (W.taken out.old) (W.taken out.new)) }
     ensures columns { OnOk result (AreLegColumns columns.now) }
-    ensures err { OnErr result (TakesFront (block.old ++ line (written_leg (record { name = name.now; first = period.now.first; last = Some period.now.last; days = period.now.days; rate = 32; columns = columns.now; overflow = 32; serial = serial }))) (W.taken out.old) (W.taken out.new)) }
+    ensures err { OnErr result (TakesPrefix (block.old ++ line (written_leg (record { name = name.now; first = period.now.first; last = Some period.now.last; days = period.now.days; rate = 32; columns = columns.now; overflow = 32; serial = serial }))) (W.taken out.old) (W.taken out.new)) }
     ensures failures { CountsFault (W.failures out.old) (W.failures out.new) result }
     ensures device { W.device out.new ≡ W.device out.old }
 {
@@ -250,7 +250,7 @@ pub fn put_segment<W: Sink>(
     requires { serial < 1000000 }
     ensures ok { OnOk result (TakesUpTo (block.old ++ line (written_segment (record { name = name.now; service = slice_index columns.now 0; tail = tail.now; overflow = 32; serial = serial }))) block.new (W.taken out.old) (W.taken out.new)) }
     ensures tail { OnOk result (IsTail tail.now) }
-    ensures err { OnErr result (TakesFront (block.old ++ line (written_segment (record { name = name.now; service = slice_index columns.now 0; tail = tail.now; overflow = 32; serial = serial }))) (W.taken out.old) (W.taken out.new)) }
+    ensures err { OnErr result (TakesPrefix (block.old ++ line (written_segment (record { name = name.now; service = slice_index columns.now 0; tail = tail.now; overflow = 32; serial = serial }))) (W.taken out.old) (W.taken out.new)) }
     ensures failures { CountsFault (W.failures out.old) (W.failures out.new) result }
     ensures device { W.device out.new ≡ W.device out.old }
 {
@@ -268,7 +268,7 @@ pub fn put_bytes<W: Sink>(
     bytes: &[u8],
 ) -> Result<(), WriteFault>
     ensures ok { OnOk result (TakesUpTo (block.old ++ bytes.now) block.new (W.taken out.old) (W.taken out.new)) }
-    ensures err { OnErr result (TakesFront (block.old ++ bytes.now) (W.taken out.old) (W.taken out.new)) }
+    ensures err { OnErr result (TakesPrefix (block.old ++ bytes.now) (W.taken out.old) (W.taken out.new)) }
     ensures unchanged { OnErr result (block.new ≡ block.old) }
     ensures failures { CountsFault (W.failures out.old) (W.failures out.new) result }
     ensures device { W.device out.new ≡ W.device out.old }
@@ -295,7 +295,7 @@ pub fn put_fill<W: Sink>(
     count: usize,
 ) -> Result<(), WriteFault>
     ensures ok { OnOk result (TakesUpTo (block.old ++ flat_map line (replicate count fill)) block.new (W.taken out.old) (W.taken out.new)) }
-    ensures err { OnErr result (TakesFront (block.old ++ flat_map line (replicate count fill)) (W.taken out.old) (W.taken out.new)) }
+    ensures err { OnErr result (TakesPrefix (block.old ++ flat_map line (replicate count fill)) (W.taken out.old) (W.taken out.new)) }
     ensures failures { CountsFault (W.failures out.old) (W.failures out.new) result }
     ensures device { W.device out.new ≡ W.device out.old }
 {

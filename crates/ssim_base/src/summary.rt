@@ -42,8 +42,8 @@ impl Summary {
     // The summary of the records that were read; an error if a record is missing at the end.
     fn finish(records_read: DataSetReader, number: u64) -> Result<Summary, BaseFault>
         requires { IsWhole records_read }
-        ensures sums { (limit : ℕ) (told : Option (List ℕ)) → HasRead limit told records_read number → IfOk result (IsSummary limit told) }
-        ensures refused { (limit : ℕ) (told : Option (List ℕ)) → HasRead limit told records_read number → IfErr result (RefusesWhole limit told) }
+        ensures sums { (limit : ℕ) (known : Option (List ℕ)) → HasRead limit known records_read number → IfOk result (IsSummary limit known) }
+        ensures refused { (limit : ℕ) (known : Option (List ℕ)) → HasRead limit known records_read number → IfErr result (RefusesWhole limit known) }
         ensures failure { (n : ℕ) → IfErr result (λ e. FailsAs n n e) }
         ensures never_ends { (limit old new : ℕ) (left others : Option (List ℕ)) → IfErr result (λ e. NeverEnds limit (Came left others old new) e) }
     {

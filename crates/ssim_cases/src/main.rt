@@ -4,8 +4,8 @@
 //!
 //! - `#`: a remark; `case TITLE`: a new case, with no file and no bytes. The line is printed.
 //! - `let NAME TEXT`: the name of a line. It lasts to the end of the input.
-//! - `| TEXT`, `= NAME`: a line is added to the bytes, shown or named; a name may also be that of a
-//!   worked vector, whose lines are then added. `times COUNT NAME` adds them so many times. `^ COLUMN
+//! - `| TEXT`, `= NAME`: a line is added to the bytes, shown or named; a worked vector
+//!   has a name, too, for its lines. `times COUNT NAME` adds them COUNT times. `^ COLUMN
 //!   TEXT` writes over the last one from a column on.
 //! - `at OFFSET TEXT` writes over the bytes from an offset on; `cut COUNT`: the last bytes go.
 //! - `out`: what the last run printed is added to the bytes; `load NAME`: the bytes of a file are.
@@ -52,7 +52,7 @@
 //! - `opens HOW STEP FILE`, `reads HOW STEP DATASET STATIONS`, `saves HOW STEP DESK`, `exports HOW
 //!   STEP DESK`, `puts HOW STEP FILE`: a desk file is opened, a base is read, a desk is saved or
 //!   exported, the bytes of a file are put in one call, each with a reader or writer of std that
-//!   moves so many bytes and then fails (`fail`) or moves none (`stop`), for each number of bytes
+//!   moves a number of bytes and then fails (`fail`) or moves none (`stop`), for each number
 //!   from 0 on in steps, up to all of them. Finding the end counts as a byte.
 //!
 //! In a text `<17>` is seventeen blanks, `<200*0>` two hundred zeros, `<x3C>` a byte by its

@@ -11,7 +11,7 @@ use Rattle.ssim_columns.specs.Segment.{segment_table}
 
 -- each field of the flight leg record is valid, and the parsed columns spell this
 pub record IsLegHead (h : LegHead) (bytes : List ℕ) : Type 0 where
-  pub stands : EachIsValid bytes leg_table
+  pub valid : EachIsValid bytes leg_table
   pub name : SpellsName h.name bytes
   pub is_name : IsName h.name
   pub first : day_of (columns 15 21 bytes) ≡ Some h.first
@@ -23,7 +23,7 @@ pub record IsLegHead (h : LegHead) (bytes : List ℕ) : Type 0 where
 
 -- each field of the segment record is valid, and the parsed columns spell this
 pub record IsSegmentHead (h : SegmentHead) (bytes : List ℕ) : Type 0 where
-  pub stands : EachIsValid bytes segment_table
+  pub valid : EachIsValid bytes segment_table
   pub name : SpellsName h.name bytes
   pub is_name : IsName h.name
   pub serial : digits_of (columns 195 200 bytes) ≡ Some h.serial

@@ -102,10 +102,10 @@ quick_hash d =
     three_bytes (leg_columns 37 39 d) + 31 * four_bytes (leg_columns 44 47 d) + 1009 * three_bytes (leg_columns 55 57 d)
     + 32749 * four_bytes (leg_columns 58 61 d) + 1000003 * three_bytes (leg_columns 73 75 d)
 
--- each of these bytes may stand in its column
+-- each of these bytes is allowed in its column
 pub record AreLegColumns (d : List ℕ) : Type 0 where
   pub len : length d ≡ 158
-  pub stands : EachIsValid (spread d) own_table
+  pub valid : EachIsValid (spread d) own_table
 
 -- ---- the record
 
@@ -137,7 +137,7 @@ leg_table =
 -- the bytes spell the record
 pub record SpellsLeg (r : LegFields) (bytes : List ℕ) : Type 0 where
   pub kind : columns 1 1 bytes ≡ codes "3"
-  pub stands : EachIsValid bytes leg_table
+  pub valid : EachIsValid bytes leg_table
   pub name : SpellsName r.name bytes
   pub first : day_of (columns 15 21 bytes) ≡ Some r.first
   pub last : end_from (Some r.first) (columns 22 28 bytes) ≡ Some r.last

@@ -58,7 +58,7 @@ segment_table =
 -- the bytes spell the record
 pub record SpellsSegment (r : SegmentFields) (bytes : List ℕ) : Type 0 where
   pub kind : columns 1 1 bytes ≡ codes "4"
-  pub stands : EachIsValid bytes segment_table
+  pub valid : EachIsValid bytes segment_table
   pub name : SpellsName r.name bytes
   pub service : columns 14 14 bytes ≡ r.service ∷ []
   pub tail : tail_of bytes ≡ r.tail

@@ -253,10 +253,10 @@ fn is_title(text: &[u8]) -> bool
 
 // ---- faults
 
-fn unless(stands: bool) -> Option<usize>
-    ensures { result ≡ unless stands }
+fn unless(valid: bool) -> Option<usize>
+    ensures { result ≡ unless valid }
 {
-    if stands { None } else { Some(0) }
+    if valid { None } else { Some(0) }
 }
 
 #[tactic(auto, unfolding(crate::specs::Columns::dates_fault))]

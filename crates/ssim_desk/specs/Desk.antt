@@ -5,7 +5,7 @@ use Rattle.std.specs.Prelude.{Option, Some, Result, Ok, Err}
 use Rattle.std.specs.{FinMap.get, Io.KnownBytes.Appends, List.{count_by, flat_map, list_any}}
 use Rattle.ssim_periods.specs.Days.{each_day}
 use Rattle.ssim_base.specs.BaseSeen.{BaseSeen, is_leg_of}
-use Rattle.ssim_base.specs.Sinks.{TakesFront}
+use Rattle.ssim_base.specs.Sinks.{TakesPrefix}
 use Rattle.ssim_base.specs.Stations.{Row}
 use Rattle.ssim_base.specs.Timetable.{Days, Legs, same_flight}
 use Rattle.ssim_base.specs.Export as exported
@@ -108,7 +108,7 @@ WritesDesk taken desk old new (Err (export.Variations flight)) =
     Exports desk (Err (exported.Variations flight))
 WritesDesk taken desk old new (Err export.Records) = Exports desk (Err exported.Records)
 WritesDesk taken desk old new (Err export.WriteFault) =
-    (bytes : List ℕ) × Exports desk (Ok bytes) × TakesFront bytes (taken old) (taken new)
+    (bytes : List ℕ) × Exports desk (Ok bytes) × TakesPrefix bytes (taken old) (taken new)
 WritesDesk taken desk old new (Err export.Memory) = Unit {0}
 
 -- ---- cuts: the days at which the dates of a flight are divided

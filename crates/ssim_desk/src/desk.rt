@@ -8,7 +8,7 @@ ghost use Rattle.ssim_values.specs.Calendar.{weekday};
 ghost use Rattle.ssim_base.specs.Reading.{Came};
 ghost use Rattle.ssim_schedule.specs.ExportResult.{ReadsBackBase, RefusesBase, WritesBase};
 ghost use Rattle.ssim_schedule.specs.Schedule.{cuts_in};
-ghost use Rattle.ssim_base.specs.Sinks.{CountsFault, TakesFront};
+ghost use Rattle.ssim_base.specs.Sinks.{CountsFault, TakesPrefix};
 ghost use Rattle.ssim_held.specs.File.{CanBeSaved, desk_file};
 ghost use Rattle.ssim_held.specs.Opening.{FailsAs, NeverEnds, Opens, RefusesFile};
 ghost use Rattle.ssim_held.specs.Entries.{AreEntries, AreRising, IsEntry, map_of, state_of};
@@ -259,7 +259,7 @@ impl Desk {
         ensures ok { OnOk result (Appends (W.taken out.old) (W.taken out.new)
             (desk_file self.now.seen.base self.now.seen.held)) }
         ensures can_be_saved { OnOk result (CanBeSaved self.now.seen.base self.now.seen.held) }
-        ensures err { OnErr result (TakesFront (desk_file self.now.seen.base self.now.seen.held)
+        ensures err { OnErr result (TakesPrefix (desk_file self.now.seen.base self.now.seen.held)
             (W.taken out.old) (W.taken out.new)) }
         ensures failures { CountsFault (W.failures out.old) (W.failures out.new) result }
         ensures device { W.device out.new ≡ W.device out.old }

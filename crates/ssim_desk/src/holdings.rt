@@ -5,7 +5,7 @@ ghost use Rattle.std.specs.Prelude.{OnErr, OnOk};
 ghost use Rattle.std.specs.Io.KnownBytes.{Appends};
 ghost use Rattle.ssim_base.specs.BaseSeen.{base_with};
 ghost use Rattle.ssim_schedule.specs.ExportResult.{ReadsBackBase, RefusesBase, WritesBase};
-ghost use Rattle.ssim_base.specs.Sinks.{CountsFault, TakesFront};
+ghost use Rattle.ssim_base.specs.Sinks.{CountsFault, TakesPrefix};
 ghost use Rattle.ssim_held.specs.File.{CanBeSaved, IsDeskFile, desk_file};
 ghost use Rattle.ssim_text.specs.Message.{MessageValue};
 ghost use Rattle.ssim_text.specs.declared.reference.Reference.{Reference};
@@ -159,7 +159,7 @@ impl Holdings {
         ensures ok { OnOk result
             (Appends (W.taken out.old) (W.taken out.new) (desk_file self.now.base self.now.held)) }
         ensures can_be_saved { OnOk result (CanBeSaved self.now.base self.now.held) }
-        ensures err { OnErr result (TakesFront (desk_file self.now.base self.now.held)
+        ensures err { OnErr result (TakesPrefix (desk_file self.now.base self.now.held)
             (W.taken out.old) (W.taken out.new)) }
         ensures failures { CountsFault (W.failures out.old) (W.failures out.new) result }
         ensures device { W.device out.new ≡ W.device out.old }

@@ -17,12 +17,12 @@ const TOO_LARGE: &str =
 pub(crate) const TABLE: [Explanation; 38] = [
     Explanation {
         number: 1,
-        meaning: "the date of show is not DDMMMYY, or no day of the calendar",
+        meaning: "the date is not DDMMMYY, or no day of the calendar",
         remedy: "correct the word",
     },
     Explanation {
         number: 6,
-        meaning: "the flight of show is not spelled as an airline and a flight number",
+        meaning: "the flight is not spelled as an airline and a flight number",
         remedy: "correct the word",
     },
     Explanation {
@@ -32,7 +32,7 @@ pub(crate) const TABLE: [Explanation; 38] = [
     },
     Explanation {
         number: 11,
-        meaning: "column 1 is not 1 to 5, or such a record is invalid in this place",
+        meaning: "column 1 is not 1 to 5, or a record of this type is invalid in this place",
         remedy: "check the order: header, carrier, legs and segments, trailer",
     },
     Explanation {
@@ -147,12 +147,12 @@ pub(crate) const TABLE: [Explanation; 38] = [
     },
     Explanation {
         number: 41,
-        meaning: "the flight is another airline's; 0 for the flight of show",
+        meaning: "the flight is another airline's; 0 for the flight of a command",
         remedy: "send the message to that airline's desk",
     },
     Explanation {
         number: 42,
-        meaning: "a date without a year does not come before the end of 2099; 0 for that of the reference",
+        meaning: "a date without a year does not come before the end of 2099; 0 for the date of the reference",
         remedy: "correct the date",
     },
     Explanation {
@@ -187,7 +187,7 @@ pub(crate) const TABLE: [Explanation; 38] = [
     },
     Explanation {
         number: 62,
-        meaning: "the element after so many bytes is invalid",
+        meaning: "the element at this offset is invalid",
         remedy: "take the desk file from a backup, or start again and take the messages again",
     },
     Explanation {

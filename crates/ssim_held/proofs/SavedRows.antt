@@ -18,7 +18,7 @@ use Rattle.ssim_values.proofs.ClockLaws.{variation_of-variation_text}
 use Rattle.ssim_values.proofs.DayLaws.{SpellsDay-day_text, day_of-day_text}
 use Rattle.ssim_records.proofs.CarriedTexts.{length_station}
 use Rattle.ssim_records.proofs.Days.{length_day}
-use Rattle.ssim_text.specs.Bytes.{before, behind, drop_blanks, from, is_printable, word}
+use Rattle.ssim_text.specs.Bytes.{before, after_word, drop_blanks, from, is_printable, word}
 use Rattle.ssim_text.specs.Left.{left_from, numbered, pieces, without_end}
 use Rattle.ssim_text.specs.Lines.{day_in, station_in}
 use Rattle.ssim_text.proofs.LeftLemmas.{after}
@@ -157,22 +157,22 @@ module _ (row : Row) (is : IsRow row) where
   two_first : drop_blanks two_parts ≡ two_parts
   two_first = no_blanks (day_text row.last) (32 ∷ variation_text row.variation) (omega (arith, length_day row.last is.in_calendar)) last_lacks
 
-  after_station : behind (row_text row) ≡ three_parts
+  after_station : after_word (row_text row) ≡ three_parts
   after_station = behind_first row.station three_parts station_lacks three_first
 
-  after_first : behind three_parts ≡ two_parts
+  after_first : after_word three_parts ≡ two_parts
   after_first = behind_first (day_text row.first) two_parts first_lacks two_first
 
-  after_last : behind two_parts ≡ variation_text row.variation
+  after_last : after_word two_parts ≡ variation_text row.variation
   after_last = behind_first (day_text row.last) (variation_text row.variation) last_lacks (no_blanks_alone (variation_text row.variation) (omega arith) variation_lacks)
 
   spells_row : SpellsRow row (row_text row)
   spells_row = record {
     station = ap station_in (word_first row.station three_parts station_lacks) ∙ station_read row.station is.station;
     first = ap (λ t. day_in (word t)) after_station ∙ ap day_in (word_first (day_text row.first) two_parts first_lacks) ∙ day_read row.first first_low;
-    last = ap (λ t. day_in (word (behind t))) after_station ∙ ap (λ t. day_in (word t)) after_first
+    last = ap (λ t. day_in (word (after_word t))) after_station ∙ ap (λ t. day_in (word t)) after_first
         ∙ ap day_in (word_first (day_text row.last) (variation_text row.variation) last_lacks) ∙ day_read row.last is.in_calendar;
-    variation = ap (λ t. variation_in (behind (behind t))) after_station ∙ ap (λ t. variation_in (behind t)) after_first ∙ ap variation_in after_last ∙ variation_read row.variation is.variation;
+    variation = ap (λ t. variation_in (after_word (after_word t))) after_station ∙ ap (λ t. variation_in (after_word t)) after_first ∙ ap variation_in after_last ∙ variation_read row.variation is.variation;
     ordered = is.ordered;
   }
 

@@ -4,7 +4,7 @@ ghost use Rattle.std.specs.Prelude.{◌≡◌, ◌++◌, ◌∷◌, [], decimal,
 ghost use Rattle.std.specs.Io.KnownBytes.{Appends};
 ghost use Rattle.std.specs.List.{All};
 ghost use Rattle.ssim_base.specs.BaseSeen.{base_with};
-ghost use Rattle.ssim_base.specs.Sinks.{CountsFault, TakesFront, TakesUpTo};
+ghost use Rattle.ssim_base.specs.Sinks.{CountsFault, TakesPrefix, TakesUpTo};
 ghost use Rattle.ssim_held.specs.File.{IsRow, IsSpelled, desk_file, records_part, rows_part};
 ghost use Rattle.ssim_held.specs.File.{text_element, texts_part};
 
@@ -26,7 +26,7 @@ pub fn put_desk<W: Sink>(
         (desk_file (base_with records.now rows.now) held.now)) }
     ensures rows { OnOk result (All IsRow rows.now) }
     ensures spelled { OnOk result (All IsSpelled held.now) }
-    ensures err { OnErr result (TakesFront (desk_file (base_with records.now rows.now) held.now)
+    ensures err { OnErr result (TakesPrefix (desk_file (base_with records.now rows.now) held.now)
         (W.taken out.old) (W.taken out.new)) }
     ensures failures { CountsFault (W.failures out.old) (W.failures out.new) result }
     ensures device { W.device out.new ≡ W.device out.old }
@@ -50,7 +50,7 @@ fn put_counted<W: Sink>(
     ensures ok { OnOk result (TakesUpTo
         (block.old ++ (word.now ++ (decimal number ++ 10 ∷ []))) block.new (W.taken out.old)
         (W.taken out.new)) }
-    ensures err { OnErr result (TakesFront (block.old ++ (word.now ++ (decimal number ++ 10 ∷ [])))
+    ensures err { OnErr result (TakesPrefix (block.old ++ (word.now ++ (decimal number ++ 10 ∷ [])))
         (W.taken out.old) (W.taken out.new)) }
     ensures failures { CountsFault (W.failures out.old) (W.failures out.new) result }
     ensures device { W.device out.new ≡ W.device out.old }
@@ -70,7 +70,7 @@ fn put_records<W: Sink>(
     ensures ok { OnOk result (TakesUpTo (block.old ++ records_part records.now) block.new
         (W.taken out.old) (W.taken out.new)) }
     ensures err { OnErr result
-        (TakesFront (block.old ++ records_part records.now) (W.taken out.old) (W.taken out.new)) }
+        (TakesPrefix (block.old ++ records_part records.now) (W.taken out.old) (W.taken out.new)) }
     ensures failures { CountsFault (W.failures out.old) (W.failures out.new) result }
     ensures device { W.device out.new ≡ W.device out.old }
 {
@@ -91,7 +91,7 @@ fn put_rows<W: Sink>(
         (W.taken out.old) (W.taken out.new)) }
     ensures rows { OnOk result (All IsRow rows.now) }
     ensures err { OnErr result
-        (TakesFront (block.old ++ rows_part rows.now) (W.taken out.old) (W.taken out.new)) }
+        (TakesPrefix (block.old ++ rows_part rows.now) (W.taken out.old) (W.taken out.new)) }
     ensures failures { CountsFault (W.failures out.old) (W.failures out.new) result }
     ensures device { W.device out.new ≡ W.device out.old }
 {
@@ -112,7 +112,7 @@ fn put_texts<W: Sink>(
         (W.taken out.old) (W.taken out.new)) }
     ensures spelled { OnOk result (All IsSpelled held.now) }
     ensures err { OnErr result
-        (TakesFront (block.old ++ texts_part held.now) (W.taken out.old) (W.taken out.new)) }
+        (TakesPrefix (block.old ++ texts_part held.now) (W.taken out.old) (W.taken out.new)) }
     ensures failures { CountsFault (W.failures out.old) (W.failures out.new) result }
     ensures device { W.device out.new ≡ W.device out.old }
 {
@@ -129,7 +129,7 @@ fn put_text<W: Sink>(out: &mut W, block: &mut OutputBuffer, held: &Held) -> Resu
         (W.taken out.old) (W.taken out.new)) }
     ensures spelled { IsSpelled held.now }
     ensures err { OnErr result
-        (TakesFront (block.old ++ text_element held.now) (W.taken out.old) (W.taken out.new)) }
+        (TakesPrefix (block.old ++ text_element held.now) (W.taken out.old) (W.taken out.new)) }
     ensures failures { CountsFault (W.failures out.old) (W.failures out.new) result }
     ensures device { W.device out.new ≡ W.device out.old }
 {

@@ -87,7 +87,7 @@ reads_itself frame days bytes r = record {
   records = r.records;
   base = r.base;
   read = r.read;
-  is_base = r.stands;
+  is_base = r.valid;
   export = (kept_frame frame, r.frame_is, r.again);
 }
 

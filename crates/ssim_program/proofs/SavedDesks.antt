@@ -14,7 +14,7 @@ use Rattle.ssim_values.specs.Day.{day_of}
 use Rattle.ssim_values.specs.Station.{is_station}
 use Rattle.ssim_values.specs.Variation.{variation_of}
 use Rattle.ssim_text.proofs.Words.{only_if}
-use Rattle.ssim_text.specs.Bytes.{behind, word}
+use Rattle.ssim_text.specs.Bytes.{after_word, word}
 use Rattle.ssim_text.specs.Canonical.{canonical}
 use Rattle.ssim_text.specs.Grammar.{OneMessage}
 use Rattle.ssim_text.specs.Message.{MessageValue}
@@ -43,9 +43,9 @@ row_is row line is =
     let long = only_if (length station_text == 3) (if is_station station_text then Some station_text else None) row.station is.station in
     let station = only_if (is_station station_text) (Some station_text) row.station long.1 in
     let same : station_text ≡ row.station = let e = station.1 in cc in
-    let last_text = word (behind (behind line)) in
+    let last_text = word (after_word (after_word line)) in
     let last = only_if (length last_text == 7) (day_of last_text) row.last is.last in
-    let variation_text = behind (behind (behind line)) in
+    let variation_text = after_word (after_word (after_word line)) in
     let variation = only_if (length variation_text == 5) (variation_of variation_text) row.variation is.variation in
     let spelled = variation_of-sound row.variation variation_text variation.1 in
     record {

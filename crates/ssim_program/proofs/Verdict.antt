@@ -8,7 +8,7 @@ use Rattle.std.specs.Prelude.{nat_le, nat_lt}
 use Rattle.ssim_base.specs.Export as exported
 use Rattle.ssim_base.specs.Export.{ExportRefusal}
 use Rattle.ssim_schedule.specs.declared.export.ExportFault.TheVariants as export
-use Rattle.ssim_text.specs.Bytes.{◌>>=◌, behind, word}
+use Rattle.ssim_text.specs.Bytes.{◌>>=◌, after_word, word}
 use Rattle.ssim_text.specs.Grammar.{OneMessage}
 use Rattle.ssim_held.specs.Entries.{state_of}
 use Rattle.ssim_held.specs.Held.{DeskState, IsDesk, no_desk}
@@ -112,10 +112,10 @@ merges_below count None from w below less is = absurd cc
 merges_below count (Some i) None w below less is = absurd cc
 merges_below count (Some i) (Some f) w below less is = let same : Merges i f ≡ w = cc in subst (IsStepOf count) same (below i refl, less f refl)
 
-step_below : (count : ℕ) (text : List ℕ) (w : Written) (t m : Bool) → (if t then take_in count (behind text) else (if m then merge_in count (behind text) else None)) ≡ Some w → IsStepOf count w
-step_below count text w true m is = takes_below count (desk_in count (word (behind text))) (name_in (behind (behind text))) w (λ d e. desk_below count (word (behind text)) d e) is
+step_below : (count : ℕ) (text : List ℕ) (w : Written) (t m : Bool) → (if t then take_in count (after_word text) else (if m then merge_in count (after_word text) else None)) ≡ Some w → IsStepOf count w
+step_below count text w true m is = takes_below count (desk_in count (word (after_word text))) (name_in (after_word (after_word text))) w (λ d e. desk_below count (word (after_word text)) d e) is
 step_below count text w false true is =
-    merges_below count (desk_in count (word (behind text))) (desk_in count (behind (behind text))) w (λ d e. desk_below count (word (behind text)) d e) (λ d e. desk_below count (behind (behind text)) d e) is
+    merges_below count (desk_in count (word (after_word text))) (desk_in count (after_word (after_word text))) w (λ d e. desk_below count (word (after_word text)) d e) (λ d e. desk_below count (after_word (after_word text)) d e) is
 step_below count text w false false is = absurd cc
 
 steps_below : (count : ℕ) (lines : List (ℕ × List ℕ)) (ws : List Written) → AreSteps count lines ws → AllByRecursion (IsStepOf count) ws

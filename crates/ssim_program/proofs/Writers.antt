@@ -2,7 +2,7 @@
 use Rattle.std.proofs.Common.{◌≡◌, ◌∙◌, ◌⊎◌, inl, inr, ℕ, ◌+◌, ◌%◌, ◌^◌, List, [], Option, refl, sym, ap, subst}
 use Rattle.std.specs.Io.KnownBytes.{Appends, Keeps}
 use Rattle.std.proofs.KnownBytes.{Keeps-refl}
-use Rattle.ssim_base.specs.Sinks.{TakesFront}
+use Rattle.ssim_base.specs.Sinks.{TakesPrefix}
 use Rattle.ssim_program.specs.Again.{PrintsItself}
 use Rattle.ssim_program.specs.Files.{Files}
 use Rattle.ssim_program.specs.Help.{PrintsHelp, RefusesHelp, SaysWrong}
@@ -25,7 +25,7 @@ module _ (p q : Paper) (t u : Option (List ℕ)) (began : p.taken ≡ t) (none :
 
   pub breaks_of : (bytes : List ℕ) → Breaks bytes p q → Breaks bytes (paper t 0) (paper u q.failures)
   breaks_of bytes b =
-      record { taken = at_ends (λ x y. TakesFront bytes x y) b.taken; failures = b.failures ∙ ap (λ (n : ℕ). (n + 1) % 2 ^ 64) none; device = refl }
+      record { taken = at_ends (λ x y. TakesPrefix bytes x y) b.taken; failures = b.failures ∙ ap (λ (n : ℕ). (n + 1) % 2 ^ 64) none; device = refl }
 
   pub printed_of : (bytes : List ℕ) → PrintsOrFails bytes p q → PrintsOrFails bytes (paper t 0) (paper u q.failures)
   printed_of bytes (inl g) = inl (grows_of bytes g)

@@ -14,7 +14,7 @@ use Rattle.ssim_base.specs.Stations.{NamesLine, Row, SpellsTable}
 use Rattle.ssim_base.specs.declared.fault.BaseFault.{BaseFault}
 use Rattle.ssim_base.specs.declared.note.Note.{Note}
 use Rattle.ssim_base.specs.declared.stations.StationFault.{StationFault}
-use Rattle.ssim_text.specs.Bytes.{before, behind, word}
+use Rattle.ssim_text.specs.Bytes.{before, after_word, word}
 use Rattle.ssim_text.specs.Decoder.{IsRefusal, NoMessage}
 use Rattle.ssim_text.specs.Left.{lines_left, without_end}
 use Rattle.ssim_text.specs.Message.{MessageValue}
@@ -63,7 +63,7 @@ begins_data_set (b ∷ rest) = is_digit b
 -- an originator, or a line of one part, begins a message
 abbrev pub begins_message : List ℕ → Bool
 begins_message [] = true
-begins_message (b ∷ rest) = if b == 46 then true else bytes_eq (behind (b ∷ rest)) []
+begins_message (b ∷ rest) = if b == 46 then true else bytes_eq (after_word (b ∷ rest)) []
 
 -- the kind of a file by its first line that is not empty
 abbrev pub kind_of_line : List ℕ → FileKind

@@ -1,7 +1,8 @@
 //! What is kept in files.
 
-ghost use Rattle.std.specs.Prelude.{◌≡◌, List, ℕ, OnOk};
+ghost use Rattle.std.specs.Prelude.{◌≡◌, List, ℕ, OnErr, OnOk};
 ghost use Rattle.std.specs.Io.KnownBytes.{Appends};
+ghost use Rattle.ssim_base.specs.Sinks.{CountsFault, TakesPrefix};
 ghost use Rattle.ssim_held.specs.File.{desk_file};
 
 use ssim_base::WriteFault;
@@ -14,9 +15,11 @@ pub trait Content {
     /// The bytes of the file.
     ghost bytes: { Self → List ℕ };
 
-    /// Puts the bytes into the sink. Fails only if the sink fails.
+    /// Puts the bytes into the sink. Fails only if the sink fails, which then has a prefix of them.
     fn put<W: Sink>(&self, out: &mut W) -> Result<(), WriteFault>
-        ensures { OnOk result (Appends (W.taken out.old) (W.taken out.new) (bytes self.now)) };
+        ensures ok { OnOk result (Appends (W.taken out.old) (W.taken out.new) (bytes self.now)) }
+        ensures err { OnErr result (TakesPrefix (bytes self.now) (W.taken out.old) (W.taken out.new)) }
+        ensures failures { CountsFault (W.failures out.old) (W.failures out.new) result };
 }
 
 /// What a desk holds is kept as its desk file.

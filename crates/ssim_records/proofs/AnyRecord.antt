@@ -112,11 +112,11 @@ other_fault n b k h a b' c d e = rw (first_byte b k h, a, b', c, d, e) refl
 -- a block that spells a record has no fault
 pub no_fault : (n : ℕ) (b : List ℕ) (r : Record) → Spells r b → fault_of n b ≡ None
 unfolding table_of
-no_fault n b (Header r) p = rw (first_byte b 49 p.kind, none_fault b header_table p.stands) refl
-no_fault n b (Carrier r) p = rw (first_byte b 50 p.kind, none_fault b carrier_table p.stands) refl
-no_fault n b (Leg r) p = rw (first_byte b 51 p.kind, none_fault b leg_table p.stands) refl
-no_fault n b (Segment r) p = rw (first_byte b 52 p.kind, none_fault b segment_table p.stands) refl
-no_fault n b (Trailer r) p = rw (first_byte b 53 p.kind, none_fault b trailer_table p.stands) refl
+no_fault n b (Header r) p = rw (first_byte b 49 p.kind, none_fault b header_table p.valid) refl
+no_fault n b (Carrier r) p = rw (first_byte b 50 p.kind, none_fault b carrier_table p.valid) refl
+no_fault n b (Leg r) p = rw (first_byte b 51 p.kind, none_fault b leg_table p.valid) refl
+no_fault n b (Segment r) p = rw (first_byte b 52 p.kind, none_fault b segment_table p.valid) refl
+no_fault n b (Trailer r) p = rw (first_byte b 53 p.kind, none_fault b trailer_table p.valid) refl
 
 pub one_record : (b : List ℕ) (r s : Record) → Spells r b → Spells s b → r ≡ s
 one_record b (Header r) s p q =

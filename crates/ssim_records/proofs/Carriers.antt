@@ -68,7 +68,7 @@ spells r b fits at =
     let serial : digits_of (columns 195 200 b) ≡ Some r.serial = ap digits_of at.serial ∙ digits_of-digits 5 r.serial fits.serial in
     record {
       kind = at.kind;
-      stands = (
+      valid = (
         stands_as (time_mode_of (columns 2 2 b)) r.time_mode mode,
         (
           ap (fault_in AirlineCode) at.airline ∙ stands_by (is_airline r.airline) fits.airline,

@@ -19,14 +19,14 @@ use Rattle.ssim_records.specs.examples.DataSet.{WorkedRecords, carrier_bytes, da
 
 header_spelt : SpellsHeader the_header header_bytes
 unfolding is_title digits_of
-header_spelt = record { kind = refl; stands = (refl, (refl, (refl, tt))); details = refl; serial = refl }
+header_spelt = record { kind = refl; valid = (refl, (refl, (refl, tt))); details = refl; serial = refl }
 
 header_written : written_header the_header ≡ header_bytes
 header_written = refl
 
 carrier_spelt : SpellsCarrier the_carrier carrier_bytes
 unfolding time_mode_of dates_fault end_from day_of day_number leap_years months_length digits_of
-carrier_spelt = record { kind = refl; stands = (refl, (refl, (refl, (refl, (refl, (refl, (refl, tt))))))); time_mode = refl; airline = refl; season = refl; first = refl; last = refl; created = refl; details = refl; serial = refl }
+carrier_spelt = record { kind = refl; valid = (refl, (refl, (refl, (refl, (refl, (refl, (refl, tt))))))); time_mode = refl; airline = refl; season = refl; first = refl; last = refl; created = refl; details = refl; serial = refl }
 
 carrier_written : written_carrier the_carrier ≡ carrier_bytes
 unfolding day_text year_of month_of day_of_month
@@ -34,7 +34,7 @@ carrier_written = refl
 
 leg_spelt : SpellsLeg the_leg leg_bytes
 unfolding number_of drop_blanks_at_end sequence_of dates_fault end_from day_of day_number leap_years months_length days_of clock_of passenger_time_of variation_of utc_variation_of digits_of
-leg_spelt = record { kind = refl; stands = (refl, (refl, (refl, (refl, (refl, (refl, (refl, (refl, (refl, (refl, (refl, (refl, (refl, (refl, (refl, (refl, (refl, (refl, (refl, (refl, (refl, (refl, tt)))))))))))))))))))))); name = record { suffix = refl; airline = refl; number = refl; variation = refl; sequence = refl }; first = refl; last = refl; days = refl; rate = refl; own = refl; overflow = refl; serial = refl }
+leg_spelt = record { kind = refl; valid = (refl, (refl, (refl, (refl, (refl, (refl, (refl, (refl, (refl, (refl, (refl, (refl, (refl, (refl, (refl, (refl, (refl, (refl, (refl, (refl, (refl, (refl, tt)))))))))))))))))))))); name = record { suffix = refl; airline = refl; number = refl; variation = refl; sequence = refl }; first = refl; last = refl; days = refl; rate = refl; own = refl; overflow = refl; serial = refl }
 
 leg_written : written_leg the_leg ≡ leg_bytes
 unfolding day_text year_of month_of day_of_month
@@ -42,7 +42,7 @@ leg_written = refl
 
 trailer_spelt : SpellsTrailer the_trailer trailer_bytes
 unfolding end_code_of digits_of
-trailer_spelt = record { kind = refl; stands = (refl, (refl, (refl, (refl, (refl, (refl, tt)))))); spare = refl; airline = refl; release = refl; check = refl; code = refl; serial = refl }
+trailer_spelt = record { kind = refl; valid = (refl, (refl, (refl, (refl, (refl, (refl, tt)))))); spare = refl; airline = refl; release = refl; check = refl; code = refl; serial = refl }
 
 trailer_written : written_trailer the_trailer ≡ trailer_bytes
 trailer_written = refl

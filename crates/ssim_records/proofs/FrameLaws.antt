@@ -8,11 +8,11 @@ use Rattle.ssim_columns.proofs.lemmas.Choices.{pick}
 use Rattle.ssim_records.proofs.LineEnds.{trim_less}
 use Rattle.ssim_records.proofs.Framing.{first_frame, no_frame}
 
-exist_to : (fuel beyond : ℕ) (behind : Bool) (bytes : List ℕ) → length bytes < fuel → (blocks : List (List ℕ)) × ((rest : List ℕ) × Frames beyond behind bytes blocks rest)
-exist_to zero beyond behind bytes few = absurd (omega (arith, few))
-exist_to (suc fuel) beyond behind bytes few =
-    let t = trim behind bytes in
-    let less = trim_less behind bytes in
+exist_to : (fuel beyond : ℕ) (after_block : Bool) (bytes : List ℕ) → length bytes < fuel → (blocks : List (List ℕ)) × ((rest : List ℕ) × Frames beyond after_block bytes blocks rest)
+exist_to zero beyond after_block bytes few = absurd (omega (arith, few))
+exist_to (suc fuel) beyond after_block bytes few =
+    let t = trim after_block bytes in
+    let less = trim_less after_block bytes in
     elim (pick (nat_lt (length t) (200 + beyond))) [
       | inl h ↦ (let short : length t < 200 + beyond = grind (arith, nat_tests, h) in ([], (t, (refl, short))))
       | inr h ↦ (
@@ -24,15 +24,15 @@ exist_to (suc fuel) beyond behind bytes few =
           )
     ]
 
-pub frames_exist : (beyond : ℕ) (behind : Bool) (bytes : List ℕ) → (blocks : List (List ℕ)) × ((rest : List ℕ) × Frames beyond behind bytes blocks rest)
-frames_exist beyond behind bytes = exist_to (suc (length bytes)) beyond behind bytes (omega arith)
+pub frames_exist : (beyond : ℕ) (after_block : Bool) (bytes : List ℕ) → (blocks : List (List ℕ)) × ((rest : List ℕ) × Frames beyond after_block bytes blocks rest)
+frames_exist beyond after_block bytes = exist_to (suc (length bytes)) beyond after_block bytes (omega arith)
 
-pub frames_are_one : (beyond : ℕ) (behind : Bool) (bytes : List ℕ) (blocks others : List (List ℕ)) (rest rest' : List ℕ) → Frames beyond behind bytes blocks rest → Frames beyond behind bytes others rest' → (blocks ≡ others) × (rest ≡ rest')
-frames_are_one beyond behind bytes [] others rest rest' h k =
-    let few : length (trim behind bytes) < 200 + beyond = omega (arith, ap length h.0, h.1) in
-    let n = no_frame beyond behind bytes others rest' few k in
+pub frames_are_one : (beyond : ℕ) (after_block : Bool) (bytes : List ℕ) (blocks others : List (List ℕ)) (rest rest' : List ℕ) → Frames beyond after_block bytes blocks rest → Frames beyond after_block bytes others rest' → (blocks ≡ others) × (rest ≡ rest')
+frames_are_one beyond after_block bytes [] others rest rest' h k =
+    let few : length (trim after_block bytes) < 200 + beyond = omega (arith, ap length h.0, h.1) in
+    let n = no_frame beyond after_block bytes others rest' few k in
     (sym n.0, sym h.0 ∙ n.1)
-frames_are_one beyond behind bytes (b ∷ bs) others rest rest' h k =
-    let f = first_frame beyond behind bytes b h.0 others rest' h.1 h.2 h.3 k in
+frames_are_one beyond after_block bytes (b ∷ bs) others rest rest' h k =
+    let f = first_frame beyond after_block bytes b h.0 others rest' h.1 h.2 h.3 k in
     let later = frames_are_one beyond true h.0 bs f.0 rest rest' h.4 f.2 in
     (ap (λ (x : List (List ℕ)). b ∷ x) later.0 ∙ sym f.1, later.1)

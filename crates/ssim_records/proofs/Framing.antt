@@ -19,18 +19,18 @@ use Rattle.ssim_columns.proofs.lemmas.Slices.{same_front, same_back}
 -- what came and what is held, if the reader reports its bytes: the fetched bytes are held after the
 -- earlier ones, without line ends at the beginning
 abbrev pub Stays : Bool → ℕ → List ℕ → Option (List ℕ) → ℕ → List ℕ → Option (List ℕ) → Type 0
-Stays behind came held None came' held' left' = Unit {0}
-Stays behind came held (Some left) came' held' None = ⊥
-Stays behind came held (Some left) came' held' (Some left') =
-    (fetched : List ℕ) × (came' + length left' ≡ came + length left) × (left ≡ fetched ++ left') × (trim behind (held ++ fetched) ≡ trim behind held')
+Stays after_block came held None came' held' left' = Unit {0}
+Stays after_block came held (Some left) came' held' None = ⊥
+Stays after_block came held (Some left) came' held' (Some left') =
+    (fetched : List ℕ) × (came' + length left' ≡ came + length left) × (left ≡ fetched ++ left') × (trim after_block (held ++ fetched) ≡ trim after_block held')
 
 -- what is ahead is the same, without line ends at the beginning
-same_ahead : (behind : Bool) (came came' : ℕ) (held held' x y : List ℕ) → Stays behind came held (Some x) came' held' (Some y) → trim behind (held' ++ y) ≡ trim behind (held ++ x)
-same_ahead behind came came' held held' x y stays =
-    sym (trim_pass behind held' y)
-    ∙ ap (λ (t : List ℕ). trim behind (t ++ y)) (sym stays.3)
-    ∙ trim_pass behind (held ++ stays.0) y
-    ∙ ap (trim behind) (append_assoc held stays.0 y ∙ ap (λ (t : List ℕ). held ++ t) (sym stays.2))
+same_ahead : (after_block : Bool) (came came' : ℕ) (held held' x y : List ℕ) → Stays after_block came held (Some x) came' held' (Some y) → trim after_block (held' ++ y) ≡ trim after_block (held ++ x)
+same_ahead after_block came came' held held' x y stays =
+    sym (trim_pass after_block held' y)
+    ∙ ap (λ (t : List ℕ). trim after_block (t ++ y)) (sym stays.3)
+    ∙ trim_pass after_block (held ++ stays.0) y
+    ∙ ap (trim after_block) (append_assoc held stays.0 y ∙ ap (λ (t : List ℕ). held ++ t) (sym stays.2))
 
 -- as many bytes more are held as are fewer left
 grown : (held held' x y : List ℕ) (n : ℕ) → held' ++ y ≡ held ++ x → length held' ≡ length held + n → (fetched : List ℕ) × (held' ≡ held ++ fetched) × (x ≡ fetched ++ y)
@@ -43,89 +43,89 @@ grown (b ∷ held) (c ∷ held') x y n same len =
     (on.0, ap (λ (k : ℕ). k ∷ held') first ∙ ap (λ (t : List ℕ). b ∷ t) on.1, on.2)
 
 -- the bytes that were fetched, if the result counts no block
-pub none_taken : (behind : Bool) (came0 came : ℕ) (old held : List ℕ) (left0 left1 : Option (List ℕ)) → Stays behind came0 old left0 came held left1 → Fetches behind 0 old left0 0 held left1
-none_taken behind came0 came old held None left1 stays = tt
-none_taken behind came0 came old held (Some x) None stays = stays
-none_taken behind came0 came old held (Some x) (Some y) stays = (stays.0, [], stays.2, refl, stays.3)
+pub none_taken : (after_block : Bool) (came0 came : ℕ) (old held : List ℕ) (left0 left1 : Option (List ℕ)) → Stays after_block came0 old left0 came held left1 → Fetches after_block 0 old left0 0 held left1
+none_taken after_block came0 came old held None left1 stays = tt
+none_taken after_block came0 came old held (Some x) None stays = stays
+none_taken after_block came0 came old held (Some x) (Some y) stays = (stays.0, [], stays.2, refl, stays.3)
 
-pub none_trimmed : (behind : Bool) (came0 came : ℕ) (old held trimmed : List ℕ) (left0 left1 : Option (List ℕ)) → Stays behind came0 old left0 came held left1 → trimmed ≡ trim behind held → Fetches behind 0 old left0 0 trimmed left1
-none_trimmed behind came0 came old held trimmed None left1 stays is = tt
-none_trimmed behind came0 came old held trimmed (Some x) None stays is = stays
-none_trimmed behind came0 came old held trimmed (Some x) (Some y) stays is =
-    (stays.0, [], stays.2, refl, stays.3 ∙ sym (trim_twice behind held) ∙ ap (trim behind) (sym is))
+pub none_trimmed : (after_block : Bool) (came0 came : ℕ) (old held trimmed : List ℕ) (left0 left1 : Option (List ℕ)) → Stays after_block came0 old left0 came held left1 → trimmed ≡ trim after_block held → Fetches after_block 0 old left0 0 trimmed left1
+none_trimmed after_block came0 came old held trimmed None left1 stays is = tt
+none_trimmed after_block came0 came old held trimmed (Some x) None stays is = stays
+none_trimmed after_block came0 came old held trimmed (Some x) (Some y) stays is =
+    (stays.0, [], stays.2, refl, stays.3 ∙ sym (trim_twice after_block held) ∙ ap (trim after_block) (sym is))
 
 -- the bytes that were fetched, if the result counts one block
-pub one_taken : (behind : Bool) (came0 came : ℕ) (old held trimmed block later : List ℕ) (left0 left1 : Option (List ℕ)) → Stays behind came0 old left0 came held left1 → trimmed ≡ trim behind held → trimmed ≡ block ++ later → length block ≡ 200
-    → Fetches behind 0 old left0 1 later left1
-one_taken behind came0 came old held trimmed block later None left1 stays is parts len = tt
-one_taken behind came0 came old held trimmed block later (Some x) None stays is parts len = stays
-one_taken behind came0 came old held trimmed block later (Some x) (Some y) stays is parts len = (stays.0, block ∷ [], stays.2, refl, (later, len, stays.3 ∙ sym is ∙ parts, refl))
+pub one_taken : (after_block : Bool) (came0 came : ℕ) (old held trimmed block later : List ℕ) (left0 left1 : Option (List ℕ)) → Stays after_block came0 old left0 came held left1 → trimmed ≡ trim after_block held → trimmed ≡ block ++ later → length block ≡ 200
+    → Fetches after_block 0 old left0 1 later left1
+one_taken after_block came0 came old held trimmed block later None left1 stays is parts len = tt
+one_taken after_block came0 came old held trimmed block later (Some x) None stays is parts len = stays
+one_taken after_block came0 came old held trimmed block later (Some x) (Some y) stays is parts len = (stays.0, block ∷ [], stays.2, refl, (later, len, stays.3 ∙ sym is ∙ parts, refl))
 
-pub took : (behind : Bool) (limit came0 came : ℕ) (old held trimmed block later : List ℕ) (left0 left1 : Option (List ℕ)) → Stays behind came0 old left0 came held left1 → trimmed ≡ trim behind held → 2 ≤ length trimmed → trimmed ≡ block ++ later → length block ≡ 200 → came ≤ limit + length later
-    → GivesBlock limit behind came0 old left0 came later left1 (Ok (Some block))
-took behind limit came0 came old held trimmed block later None left1 stays is long parts len room = tt
-took behind limit came0 came old held trimmed block later (Some x) None stays is long parts len room = stays
-took behind limit came0 came old held trimmed block later (Some x) (Some y) stays is long parts len room =
-    let long' : 2 ≤ length (trim behind held) = rw (← is) long in
-    (stays.1, (len, sym (same_ahead behind came0 came old held x y stays) ∙ trim_front behind held y long' ∙ ap (λ (t : List ℕ). t ++ y) (sym is ∙ parts) ∙ append_assoc block later y, omega (arith, stays.1, length-append later y)))
+pub took : (after_block : Bool) (limit came0 came : ℕ) (old held trimmed block later : List ℕ) (left0 left1 : Option (List ℕ)) → Stays after_block came0 old left0 came held left1 → trimmed ≡ trim after_block held → 2 ≤ length trimmed → trimmed ≡ block ++ later → length block ≡ 200 → came ≤ limit + length later
+    → GivesBlock limit after_block came0 old left0 came later left1 (Ok (Some block))
+took after_block limit came0 came old held trimmed block later None left1 stays is long parts len room = tt
+took after_block limit came0 came old held trimmed block later (Some x) None stays is long parts len room = stays
+took after_block limit came0 came old held trimmed block later (Some x) (Some y) stays is long parts len room =
+    let long' : 2 ≤ length (trim after_block held) = rw (← is) long in
+    (stays.1, (len, sym (same_ahead after_block came0 came old held x y stays) ∙ trim_front after_block held y long' ∙ ap (λ (t : List ℕ). t ++ y) (sym is ∙ parts) ∙ append_assoc block later y, omega (arith, stays.1, length-append later y)))
 
-pub stays_on : (behind : Bool) (came0 came : ℕ) (old held trimmed new : List ℕ) (left0 left1 left2 : Option (List ℕ)) (n : ℕ) → Stays behind came0 old left0 came held left1 → trimmed ≡ trim behind held → SameAhead trimmed left1 new left2 → length new ≡ length trimmed + n → Stays behind came0 old left0 (came + n) new left2
-stays_on behind came0 came old held trimmed new None left1 left2 n stays is same len = tt
-stays_on behind came0 came old held trimmed new (Some x) None left2 n stays is same len = absurd stays
-stays_on behind came0 came old held trimmed new (Some x) (Some z) None n stays is same len = same
-stays_on behind came0 came old held trimmed new (Some x) (Some z) (Some y) n stays is same len =
+pub stays_on : (after_block : Bool) (came0 came : ℕ) (old held trimmed new : List ℕ) (left0 left1 left2 : Option (List ℕ)) (n : ℕ) → Stays after_block came0 old left0 came held left1 → trimmed ≡ trim after_block held → SameAhead trimmed left1 new left2 → length new ≡ length trimmed + n → Stays after_block came0 old left0 (came + n) new left2
+stays_on after_block came0 came old held trimmed new None left1 left2 n stays is same len = tt
+stays_on after_block came0 came old held trimmed new (Some x) None left2 n stays is same len = absurd stays
+stays_on after_block came0 came old held trimmed new (Some x) (Some z) None n stays is same len = same
+stays_on after_block came0 came old held trimmed new (Some x) (Some z) (Some y) n stays is same len =
     let more = grown trimmed new z y n same len in
     let lens : length new + length y ≡ length trimmed + length z = sym (length-append new y) ∙ ap length same ∙ length-append trimmed z in (
       stays.0 ++ more.0,
       omega (arith, lens, len, stays.1),
       stays.2 ∙ ap (λ (t : List ℕ). stays.0 ++ t) more.2 ∙ sym (append_assoc stays.0 more.0 y),
-      ap (trim behind) (sym (append_assoc old stays.0 more.0))
-          ∙ sym (trim_pass behind (old ++ stays.0) more.0)
-          ∙ ap (λ (t : List ℕ). trim behind (t ++ more.0)) (stays.3 ∙ sym is)
-          ∙ ap (trim behind) (sym more.1),
+      ap (trim after_block) (sym (append_assoc old stays.0 more.0))
+          ∙ sym (trim_pass after_block (old ++ stays.0) more.0)
+          ∙ ap (λ (t : List ℕ). trim after_block (t ++ more.0)) (stays.3 ∙ sym is)
+          ∙ ap (trim after_block) (sym more.1),
     )
 
 -- at the end of a reader all that is ahead is held
 abbrev pub AllHeld : ℕ → Bool → ℕ → List ℕ → Option (List ℕ) → ℕ → List ℕ → Option (List ℕ) → Type 0
-AllHeld limit behind came held None came' new left' = Unit {0}
-AllHeld limit behind came held (Some left) came' new None = ⊥
-AllHeld limit behind came held (Some left) came' new (Some left') =
-    (came' + length left' ≡ came + length left) × (trim behind (held ++ left) ≡ new) × (left' ≡ [])
+AllHeld limit after_block came held None came' new left' = Unit {0}
+AllHeld limit after_block came held (Some left) came' new None = ⊥
+AllHeld limit after_block came held (Some left) came' new (Some left') =
+    (came' + length left' ≡ came + length left) × (trim after_block (held ++ left) ≡ new) × (left' ≡ [])
 
-pub all_held : (behind : Bool) (limit came0 came : ℕ) (old held trimmed new : List ℕ) (left0 left1 left2 : Option (List ℕ)) → Stays behind came0 old left0 came held left1 → trimmed ≡ trim behind held → SameAhead trimmed left1 new left2 → IsAtEnd left2 → new ≡ trimmed → AllHeld limit behind came0 old left0 came new left2
-all_held behind limit came0 came old held trimmed new None left1 left2 stays is same end' kept = tt
-all_held behind limit came0 came old held trimmed new (Some x) left1 None stays is same end' kept =
-    stays_on behind came0 came old held trimmed new (Some x) left1 None 0 stays is same (omega (arith, ap length kept))
-all_held behind limit came0 came old held trimmed new (Some x) left1 (Some y) stays is same end' kept =
+pub all_held : (after_block : Bool) (limit came0 came : ℕ) (old held trimmed new : List ℕ) (left0 left1 left2 : Option (List ℕ)) → Stays after_block came0 old left0 came held left1 → trimmed ≡ trim after_block held → SameAhead trimmed left1 new left2 → IsAtEnd left2 → new ≡ trimmed → AllHeld limit after_block came0 old left0 came new left2
+all_held after_block limit came0 came old held trimmed new None left1 left2 stays is same end' kept = tt
+all_held after_block limit came0 came old held trimmed new (Some x) left1 None stays is same end' kept =
+    stays_on after_block came0 came old held trimmed new (Some x) left1 None 0 stays is same (omega (arith, ap length kept))
+all_held after_block limit came0 came old held trimmed new (Some x) left1 (Some y) stays is same end' kept =
     let z : came + 0 ≡ came = omega arith in
-    let on = stays_on behind came0 came old held trimmed new (Some x) left1 (Some y) 0 stays is same (omega (arith, ap length kept)) in
-    (omega (arith, on.1, z), sym (same_ahead behind came0 (came + 0) old new x y on) ∙ ap (λ (t : List ℕ). trim behind (new ++ t)) end' ∙ ap (trim behind) (append-nil new ∙ kept ∙ is) ∙ trim_twice behind held ∙ sym is ∙ sym kept, end')
+    let on = stays_on after_block came0 came old held trimmed new (Some x) left1 (Some y) 0 stays is same (omega (arith, ap length kept)) in
+    (omega (arith, on.1, z), sym (same_ahead after_block came0 (came + 0) old new x y on) ∙ ap (λ (t : List ℕ). trim after_block (new ++ t)) end' ∙ ap (trim after_block) (append-nil new ∙ kept ∙ is) ∙ trim_twice after_block held ∙ sym is ∙ sym kept, end')
 
-pub ends_empty : (behind : Bool) (limit came0 came : ℕ) (old new : List ℕ) (left0 left2 : Option (List ℕ)) → AllHeld limit behind came0 old left0 came new left2 → length new ≡ 0 → came ≤ limit → GivesBlock limit behind came0 old left0 came new left2 (Ok None)
-ends_empty behind limit came0 came old new None left2 all empty within = tt
-ends_empty behind limit came0 came old new (Some x) None all empty within = all
-ends_empty behind limit came0 came old [] (Some x) (Some y) all empty within = (all.0, (all.1, omega (arith, all.0, ap length all.2)))
-ends_empty behind limit came0 came old (b ∷ bs) (Some x) (Some y) all empty within = absurd (omega (arith, empty))
+pub ends_empty : (after_block : Bool) (limit came0 came : ℕ) (old new : List ℕ) (left0 left2 : Option (List ℕ)) → AllHeld limit after_block came0 old left0 came new left2 → length new ≡ 0 → came ≤ limit → GivesBlock limit after_block came0 old left0 came new left2 (Ok None)
+ends_empty after_block limit came0 came old new None left2 all empty within = tt
+ends_empty after_block limit came0 came old new (Some x) None all empty within = all
+ends_empty after_block limit came0 came old [] (Some x) (Some y) all empty within = (all.0, (all.1, omega (arith, all.0, ap length all.2)))
+ends_empty after_block limit came0 came old (b ∷ bs) (Some x) (Some y) all empty within = absurd (omega (arith, empty))
 
-pub ends_short : (behind : Bool) (limit came0 came : ℕ) (old new : List ℕ) (left0 left2 : Option (List ℕ)) → AllHeld limit behind came0 old left0 came new left2 → 0 < length new → length new < 200 → came ≤ limit → GivesBlock limit behind came0 old left0 came new left2 (Err Short)
-ends_short behind limit came0 came old new None left2 all some short within = tt
-ends_short behind limit came0 came old new (Some x) None all some short within = all
-ends_short behind limit came0 came old new (Some x) (Some y) all some short within =
+pub ends_short : (after_block : Bool) (limit came0 came : ℕ) (old new : List ℕ) (left0 left2 : Option (List ℕ)) → AllHeld limit after_block came0 old left0 came new left2 → 0 < length new → length new < 200 → came ≤ limit → GivesBlock limit after_block came0 old left0 came new left2 (Err Short)
+ends_short after_block limit came0 came old new None left2 all some short within = tt
+ends_short after_block limit came0 came old new (Some x) None all some short within = all
+ends_short after_block limit came0 came old new (Some x) (Some y) all some short within =
     let n = ap length all.1 in
     (all.0, (omega (arith, n, some), omega (arith, n, short), omega (arith, all.0, ap length all.2)))
 
-pub never_ends : (behind : Bool) (limit came0 came : ℕ) (old held trimmed : List ℕ) (left0 left1 : Option (List ℕ)) → Stays behind came0 old left0 came held left1 → trimmed ≡ trim behind held → length trimmed ≤ 200 → limit < came → GivesBlock limit behind came0 old left0 came trimmed left1 (Err ReaderNeverEnds)
-never_ends behind limit came0 came old held trimmed None left1 stays is few over = tt
-never_ends behind limit came0 came old held trimmed (Some x) None stays is few over = stays
-never_ends behind limit came0 came old held trimmed (Some x) (Some y) stays is few over =
-    let all : trim behind (old ++ x) ≡ trim behind (trimmed ++ y) = sym (same_ahead behind came0 came old held x y stays) ∙ sym (trim_pass behind held y) ∙ ap (λ (t : List ℕ). trim behind (t ++ y)) (sym is) in
-    (stays.1, (omega (arith, stays.1), omega (arith, ap length all, trim_less behind (trimmed ++ y), length-append trimmed y, stays.1)))
+pub never_ends : (after_block : Bool) (limit came0 came : ℕ) (old held trimmed : List ℕ) (left0 left1 : Option (List ℕ)) → Stays after_block came0 old left0 came held left1 → trimmed ≡ trim after_block held → length trimmed ≤ 200 → limit < came → GivesBlock limit after_block came0 old left0 came trimmed left1 (Err ReaderNeverEnds)
+never_ends after_block limit came0 came old held trimmed None left1 stays is few over = tt
+never_ends after_block limit came0 came old held trimmed (Some x) None stays is few over = stays
+never_ends after_block limit came0 came old held trimmed (Some x) (Some y) stays is few over =
+    let all : trim after_block (old ++ x) ≡ trim after_block (trimmed ++ y) = sym (same_ahead after_block came0 came old held x y stays) ∙ sym (trim_pass after_block held y) ∙ ap (λ (t : List ℕ). trim after_block (t ++ y)) (sym is) in
+    (stays.1, (omega (arith, stays.1), omega (arith, ap length all, trim_less after_block (trimmed ++ y), length-append trimmed y, stays.1)))
 
-pub faulted : (behind : Bool) (limit came0 came : ℕ) (old held trimmed new : List ℕ) (left0 left1 left2 : Option (List ℕ)) → Stays behind came0 old left0 came held left1 → trimmed ≡ trim behind held → SameAhead trimmed left1 new left2 → length new ≡ length trimmed → GivesBlock limit behind came0 old left0 came new left2 (Err ReadFault)
-faulted behind limit came0 came old held trimmed new None left1 left2 stays is same len = tt
-faulted behind limit came0 came old held trimmed new (Some x) left1 None stays is same len = stays_on behind came0 came old held trimmed new (Some x) left1 None 0 stays is same (omega (arith, len))
-faulted behind limit came0 came old held trimmed new (Some x) left1 (Some y) stays is same len =
-    let on = stays_on behind came0 came old held trimmed new (Some x) left1 (Some y) 0 stays is same (omega (arith, len)) in
+pub faulted : (after_block : Bool) (limit came0 came : ℕ) (old held trimmed new : List ℕ) (left0 left1 left2 : Option (List ℕ)) → Stays after_block came0 old left0 came held left1 → trimmed ≡ trim after_block held → SameAhead trimmed left1 new left2 → length new ≡ length trimmed → GivesBlock limit after_block came0 old left0 came new left2 (Err ReadFault)
+faulted after_block limit came0 came old held trimmed new None left1 left2 stays is same len = tt
+faulted after_block limit came0 came old held trimmed new (Some x) left1 None stays is same len = stays_on after_block came0 came old held trimmed new (Some x) left1 None 0 stays is same (omega (arith, len))
+faulted after_block limit came0 came old held trimmed new (Some x) left1 (Some y) stays is same len =
+    let on = stays_on after_block came0 came old held trimmed new (Some x) left1 (Some y) 0 stays is same (omega (arith, len)) in
     (omega (arith, on.1), tt)
 
 -- ---- counts
@@ -181,15 +181,15 @@ pub some_before : (n : ℕ) → nat_lt 0 (n + 1) ≡ true
 some_before n = grind (arith, nat_tests)
 
 -- what holds of bytes holds with more bytes after them
-takes_more : (behind : Bool) (bytes more : List ℕ) (blocks : List (List ℕ)) (held : List ℕ) → Takes behind bytes blocks held → Takes behind (bytes ++ more) blocks (held ++ more)
-takes_more behind bytes more [] held t = sym (trim_pass behind bytes more) ∙ ap (λ (x : List ℕ). trim behind (x ++ more)) t ∙ trim_pass behind held more
-takes_more behind bytes more (b ∷ bs) held t =
-    let long : 2 ≤ length (trim behind bytes) = omega (arith, ap length t.2, length-append b t.0, t.1) in
-    (t.0 ++ more, t.1, trim_front behind bytes more long ∙ ap (λ (x : List ℕ). x ++ more) t.2 ∙ append_assoc b t.0 more, takes_more true t.0 more bs held t.3)
+takes_more : (after_block : Bool) (bytes more : List ℕ) (blocks : List (List ℕ)) (held : List ℕ) → Takes after_block bytes blocks held → Takes after_block (bytes ++ more) blocks (held ++ more)
+takes_more after_block bytes more [] held t = sym (trim_pass after_block bytes more) ∙ ap (λ (x : List ℕ). trim after_block (x ++ more)) t ∙ trim_pass after_block held more
+takes_more after_block bytes more (b ∷ bs) held t =
+    let long : 2 ≤ length (trim after_block bytes) = omega (arith, ap length t.2, length-append b t.0, t.1) in
+    (t.0 ++ more, t.1, trim_front after_block bytes more long ∙ ap (λ (x : List ℕ). x ++ more) t.2 ∙ append_assoc b t.0 more, takes_more true t.0 more bs held t.3)
 
-takes_none : (behind : Bool) (bytes : List ℕ) (later : List (List ℕ)) (held held' : List ℕ) → trim behind bytes ≡ trim behind held → Takes behind held later held' → Takes behind bytes later held'
-takes_none behind bytes [] held held' same t = same ∙ t
-takes_none behind bytes (b ∷ bs) held held' same t = (t.0, t.1, same ∙ t.2, t.3)
+takes_none : (after_block : Bool) (bytes : List ℕ) (later : List (List ℕ)) (held held' : List ℕ) → trim after_block bytes ≡ trim after_block held → Takes after_block held later held' → Takes after_block bytes later held'
+takes_none after_block bytes [] held held' same t = same ∙ t
+takes_none after_block bytes (b ∷ bs) held held' same t = (t.0, t.1, same ∙ t.2, t.3)
 
 -- blocks and then more blocks, if records were counted
 takes_on : (n : ℕ) (bytes : List ℕ) (blocks later : List (List ℕ)) (held held' : List ℕ) → Takes (nat_lt 0 n) bytes blocks held → Takes (nat_lt 0 (n + length blocks)) held later held' → Takes (nat_lt 0 n) bytes (blocks ++ later) held'
@@ -206,9 +206,9 @@ takes_on n bytes (x ∷ xs) later held held' a b =
     )
 
 -- nothing was fetched yet
-pub fetches_first : (behind : Bool) (n : ℕ) (held : List ℕ) (l : Option (List ℕ)) → Fetches behind n held l n held l
-fetches_first behind n held None = tt
-fetches_first behind n held (Some x) = ([], [], refl, omega arith, ap (trim behind) (append-nil held))
+pub fetches_first : (after_block : Bool) (n : ℕ) (held : List ℕ) (l : Option (List ℕ)) → Fetches after_block n held l n held l
+fetches_first after_block n held None = tt
+fetches_first after_block n held (Some x) = ([], [], refl, omega arith, ap (trim after_block) (append-nil held))
 
 -- the bytes that were fetched in two steps
 pub fetches_on : (n n1 n2 m m1 : ℕ) (held held1 held2 : List ℕ) (l l1 l2 : Option (List ℕ)) → Fetches (nat_lt 0 n) n held l n1 held1 l1 → Fetches (nat_lt 0 n1) m held1 l1 m1 held2 l2 → n2 + m ≡ n1 + m1 → Fetches (nat_lt 0 n) n held l n2 held2 l2
@@ -225,18 +225,18 @@ fetches_on n n1 n2 m m1 held held1 held2 (Some x) (Some y) (Some z) a b e = (
 )
 
 -- If too few bytes for a block are held, the blocks are all blocks of the bytes that came.
-pub takes_all : (behind : Bool) (bytes : List ℕ) (blocks : List (List ℕ)) (held : List ℕ) → Takes behind bytes blocks held → length held < 200 → (rest : List ℕ) × Frames 0 behind bytes blocks rest
-takes_all behind bytes [] held t few = (trim behind bytes, (refl, omega (arith, ap length t, trim_less behind held, few)))
-takes_all behind bytes (b ∷ bs) held t few =
+pub takes_all : (after_block : Bool) (bytes : List ℕ) (blocks : List (List ℕ)) (held : List ℕ) → Takes after_block bytes blocks held → length held < 200 → (rest : List ℕ) × Frames 0 after_block bytes blocks rest
+takes_all after_block bytes [] held t few = (trim after_block bytes, (refl, omega (arith, ap length t, trim_less after_block held, few)))
+takes_all after_block bytes (b ∷ bs) held t few =
     let later = takes_all true t.0 bs held t.3 few in
     (later.0, (t.0, t.1, t.2, omega arith, later.1))
 
 -- The block at the beginning is the first of the frames, if it ends within the limit.
-pub first_frame : (over : ℕ) (behind : Bool) (bytes block later : List ℕ) (blocks : List (List ℕ)) (rest : List ℕ) → length block ≡ 200 → trim behind bytes ≡ block ++ later → over ≤ length later → Frames over behind bytes blocks rest
+pub first_frame : (over : ℕ) (after_block : Bool) (bytes block later : List ℕ) (blocks : List (List ℕ)) (rest : List ℕ) → length block ≡ 200 → trim after_block bytes ≡ block ++ later → over ≤ length later → Frames over after_block bytes blocks rest
     → (more : List (List ℕ)) × (blocks ≡ block ∷ more) × Frames over true later more rest
-first_frame over behind bytes block later [] rest len parts room h =
+first_frame over after_block bytes block later [] rest len parts room h =
     absurd (omega (arith, ap length (sym h.0 ∙ parts), length-append block later, h.1, len, room))
-first_frame over behind bytes block later (b ∷ bs) rest len parts room h =
+first_frame over after_block bytes block later (b ∷ bs) rest len parts room h =
     let same : b ++ h.0 ≡ block ++ later = sym h.2 ∙ parts in
     let lens : length b ≡ length block = h.1 ∙ sym len in
     let front = same_front b block h.0 later lens same in
@@ -244,10 +244,10 @@ first_frame over behind bytes block later (b ∷ bs) rest len parts room h =
     (bs, ap (λ (x : List ℕ). x ∷ bs) front, rw (← back) h.4)
 
 -- no block is left if too few bytes are left
-pub no_frame : (over : ℕ) (behind : Bool) (bytes : List ℕ) (blocks : List (List ℕ)) (rest : List ℕ) → length (trim behind bytes) < 200 + over → Frames over behind bytes blocks rest
-    → (blocks ≡ []) × (trim behind bytes ≡ rest)
-no_frame over behind bytes [] rest few h = (refl, h.0)
-no_frame over behind bytes (b ∷ bs) rest few h = absurd (omega (arith, ap length h.2, length-append b h.0, h.1, h.3, few))
+pub no_frame : (over : ℕ) (after_block : Bool) (bytes : List ℕ) (blocks : List (List ℕ)) (rest : List ℕ) → length (trim after_block bytes) < 200 + over → Frames over after_block bytes blocks rest
+    → (blocks ≡ []) × (trim after_block bytes ≡ rest)
+no_frame over after_block bytes [] rest few h = (refl, h.0)
+no_frame over after_block bytes (b ∷ bs) rest few h = absurd (omega (arith, ap length h.2, length-append b h.0, h.1, h.3, few))
 
 -- ---- blocks of fill
 

@@ -43,7 +43,7 @@ spells r b fits at =
     let serial : digits_of (columns 195 200 b) ≡ Some r.serial = ap digits_of at.serial ∙ digits_of-digits 5 r.serial fits.serial in
     record {
       kind = at.kind;
-      stands = (
+      valid = (
         ap (fault_in Title) at.title ∙ title_stands,
         (
           ap (fault_in Carried) at.details ∙ none_other 0 r.details fits.carried,

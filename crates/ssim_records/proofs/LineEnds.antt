@@ -63,6 +63,6 @@ trim_pass false P L = refl
 pub trim_twice : (started : Bool) (P : List ℕ) → trim started (trim started P) ≡ trim started P
 trim_twice started P = ap (trim started) (sym (append-nil (trim started P))) ∙ trim_pass started P [] ∙ ap (trim started) (append-nil P)
 
-pub trim_less : (behind : Bool) (P : List ℕ) → length (trim behind P) ≤ length P
+pub trim_less : (after_block : Bool) (P : List ℕ) → length (trim after_block P) ≤ length P
 trim_less true P = drops_less P
 trim_less false P = omega arith

@@ -10,7 +10,7 @@ use Rattle.ssim_records.specs.declared.record.Record.{Record}
 use Rattle.ssim_columns.specs.Columns.{first_fault}
 use Rattle.ssim_records.specs.internal.Blocks.{GivesOther}
 use Rattle.ssim_records.specs.Record.{Spells, HasSpelt, fault_of, fault_by, column_fault, table_of}
-use Rattle.ssim_records.specs.Reading.{Reading, IsAhead, Answers, Counts, GivesNext, given, IsRefused, HasNumber, FailsAs, NeverEnds, HoldsFew}
+use Rattle.ssim_records.specs.Reading.{Reading, IsAhead, Returns, Counts, GivesNext, given, IsRefused, HasNumber, FailsAs, NeverEnds, HoldsFew}
 
 -- ---- the faults of a block
 
@@ -90,7 +90,7 @@ pub gives_placed : (old new : Reading) (l l' : Option (List ℕ)) (block : List 
 gives_placed old new l l' block None same g p = absurd p
 gives_placed old new l l' block (Some r) same g p = gives_record old new l l' block r same g p
 
-refused : (old new : Reading) (l : List ℕ) (blocks : List (List ℕ)) (rest : List ℕ) (After : List (List ℕ) → Type 0) (e : RecordFault) → IsBlockFault new.number e → IsRefused old blocks new e → Answers old l blocks rest new After (Err e)
+refused : (old new : Reading) (l : List ℕ) (blocks : List (List ℕ)) (rest : List ℕ) (After : List (List ℕ) → Type 0) (e : RecordFault) → IsBlockFault new.number e → IsRefused old blocks new e → Returns old l blocks rest new After (Err e)
 refused old new l blocks rest After (Short m) h k = absurd h
 refused old new l blocks rest After (BadType m) h k = k
 refused old new l blocks rest After (BadColumn m column) h k = k

@@ -57,7 +57,7 @@ spells r b fits at =
     let serial : digits_of (columns 195 200 b) ≡ Some r.serial = ap digits_of at.serial ∙ digits_of-digits 5 r.serial fits.serial in
     record {
       kind = at.kind;
-      stands = (
+      valid = (
         ap (fault_in Carried) at.spare ∙ rw (is_true (is_carried r.spare) fits.spare) refl,
         (
           ap (fault_in AirlineCode) at.airline ∙ stands_by (is_airline r.airline) fits.airline,

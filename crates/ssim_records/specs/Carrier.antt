@@ -38,7 +38,7 @@ carrier_table =
 -- the bytes spell the record
 pub record SpellsCarrier (r : CarrierFields) (bytes : List ℕ) : Type 0 where
   pub kind : columns 1 1 bytes ≡ codes "2"
-  pub stands : EachIsValid bytes carrier_table
+  pub valid : EachIsValid bytes carrier_table
   pub time_mode : time_mode_of (columns 2 2 bytes) ≡ Some r.time_mode
   pub airline : columns 3 5 bytes ≡ r.airline
   pub season : columns 6 14 bytes ≡ r.season

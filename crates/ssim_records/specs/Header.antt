@@ -22,7 +22,7 @@ header_table =
 -- the bytes spell the record
 pub record SpellsHeader (r : HeaderFields) (bytes : List ℕ) : Type 0 where
   pub kind : columns 1 1 bytes ≡ codes "1"
-  pub stands : EachIsValid bytes header_table
+  pub valid : EachIsValid bytes header_table
   pub details : columns 36 194 bytes ≡ r.details
   pub serial : digits_of (columns 195 200 bytes) ≡ Some r.serial
 

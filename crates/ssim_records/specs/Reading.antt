@@ -54,16 +54,16 @@ IsRefused old blocks new fault = (block : List ℕ) × (later : List (List ℕ))
 -- next block other than fill spells it, its number is the block's, and the blocks after it satisfy
 -- `After`. The end: only fill is left. A fault: the next block spells no record, the bytes end
 -- within a record, more bytes came than the limit, or the reader failed after nothing but fill.
-abbrev pub Answers : Reading → List ℕ → List (List ℕ) → List ℕ → Reading → (List (List ℕ) → Type 0) → Answer → Type 0
-Answers old left blocks rest new After (Ok None) = IsLast old blocks new × (rest ≡ []) × (beyond old.limit old.came left ≡ 0)
-Answers old left blocks rest new After (Ok (Some found)) =
+abbrev pub Returns : Reading → List ℕ → List (List ℕ) → List ℕ → Reading → (List (List ℕ) → Type 0) → Answer → Type 0
+Returns old left blocks rest new After (Ok None) = IsLast old blocks new × (rest ≡ []) × (beyond old.limit old.came left ≡ 0)
+Returns old left blocks rest new After (Ok (Some found)) =
     (block : List ℕ) × (later : List (List ℕ)) × IsNext old blocks new block later × (found.0 ≡ new.number) × Spells found.1 block × After later
-Answers old left blocks rest new After (Err (Short n)) = IsLast old blocks new × (0 < length rest) × (length rest < 200) × (beyond old.limit old.came left ≡ 0)
-Answers old left blocks rest new After (Err (BadType n)) = IsRefused old blocks new (BadType n)
-Answers old left blocks rest new After (Err (BadColumn n column)) = IsRefused old blocks new (BadColumn n column)
-Answers old left blocks rest new After (Err (ReadFault n)) =
+Returns old left blocks rest new After (Err (Short n)) = IsLast old blocks new × (0 < length rest) × (length rest < 200) × (beyond old.limit old.came left ≡ 0)
+Returns old left blocks rest new After (Err (BadType n)) = IsRefused old blocks new (BadType n)
+Returns old left blocks rest new After (Err (BadColumn n column)) = IsRefused old blocks new (BadColumn n column)
+Returns old left blocks rest new After (Err (ReadFault n)) =
     (later : List (List ℕ)) × (others old.number blocks ≡ others new.number later) × (new.number + length later ≡ old.number + length blocks)
-Answers old left blocks rest new After (Err (ReaderNeverEnds n)) = IsLast old blocks new × (0 < beyond old.limit old.came left)
+Returns old left blocks rest new After (Err (ReaderNeverEnds n)) = IsLast old blocks new × (0 < beyond old.limit old.came left)
 
 -- The result is right for whatever blocks and rest are ahead. Nothing is said if the reader does
 -- not report its bytes.
@@ -73,7 +73,7 @@ GivesNext old (Some left) new None result = ⊥
 GivesNext old (Some left) new (Some left') result =
     (new.came + length left' ≡ old.came + length left)
     × ((blocks : List (List ℕ)) → (rest : List ℕ) → IsAhead old left blocks rest
-    → Answers old left blocks rest new (λ later. IsAhead new left' later rest) result)
+    → Returns old left blocks rest new (λ later. IsAhead new left' later rest) result)
 
 -- Some of the reader's bytes were fetched. Together with the bytes held before, they are the
 -- records counted since, fill included, followed by the bytes held now.

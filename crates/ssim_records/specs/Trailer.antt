@@ -32,7 +32,7 @@ trailer_table =
 -- the bytes spell the record
 pub record SpellsTrailer (r : TrailerFields) (bytes : List ℕ) : Type 0 where
   pub kind : columns 1 1 bytes ≡ codes "5"
-  pub stands : EachIsValid bytes trailer_table
+  pub valid : EachIsValid bytes trailer_table
   pub spare : columns 2 2 bytes ≡ r.spare ∷ []
   pub airline : columns 3 5 bytes ≡ r.airline
   pub release : columns 6 187 bytes ≡ r.release

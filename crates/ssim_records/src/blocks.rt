@@ -36,22 +36,22 @@ fn next_block<R: Source>(
     window: &mut Window,
     came: &mut u128,
     limit: u64,
-    behind: bool,
+    after_block: bool,
     reader: &mut R,
 ) -> Result<bool, Stop>
     requires { came.old ≤ limit + 1 }
     ensures came { came.new ≤ limit + 1 }
     ensures held { length window.new + came.old ≤ length window.old + came.new }
     ensures long { result ≡ Ok true → 200 ≤ length window.new }
-    ensures block { GivesBlock limit behind came.old window.old (R.left reader.old) came.new (behind_front result window.new) (R.left reader.new) (with_front window.new result) }
+    ensures block { GivesBlock limit after_block came.old window.old (R.left reader.old) came.new (behind_front result window.new) (R.left reader.new) (with_front window.new result) }
     ensures never_ends { result ≡ Err ReaderNeverEnds → (limit < came.new) × (length window.new ≤ 200) }
-    ensures fetched { Fetches behind 0 window.old (R.left reader.old) (block_count (with_front window.new result)) (behind_front result window.new) (R.left reader.new) }
+    ensures fetched { Fetches after_block 0 window.old (R.left reader.old) (block_count (with_front window.new result)) (behind_front result window.new) (R.left reader.new) }
     ensures few_left { HoldsFew window.new (with_front window.new result) }
     ensures fault { FailsOnce (R.failures reader.old) (R.failures reader.new) (with_front window.new result) }
     ensures count { CountsOn (R.left reader.old) (R.left reader.new) (R.came reader.old) (R.came reader.new) came.old came.new }
 {
     loop {
-        window.trim(behind);
+        window.trim(after_block);
         if window.len() >= needed(*came, limit) {
             return Ok(true);
         }

@@ -110,11 +110,11 @@ impl Window {
     }
 
     /// Skips the line ends at the beginning, if they follow a block.
-    pub fn trim(&mut self, behind: bool)
+    pub fn trim(&mut self, after_block: bool)
         ensures less { length self.new ≤ length self.old }
-        ensures value { self.new ≡ trim behind self.old }
+        ensures value { self.new ≡ trim after_block self.old }
     {
-        if behind {
+        if after_block {
             self.drop_line_ends();
         }
     }

@@ -7,7 +7,7 @@ use Rattle.ssim_base.specs.ReadBack.{HasFrame, ReadsBackFrom}
 use Rattle.ssim_base.specs.Timetable.{Days}
 use Rattle.ssim_base.specs.Export as refusal
 use Rattle.ssim_base.specs.Export.{ExportRefusal, Frame, chapter7}
-use Rattle.ssim_base.specs.Sinks.{TakesFront}
+use Rattle.ssim_base.specs.Sinks.{TakesPrefix}
 use Rattle.ssim_schedule.specs.declared.export.ExportFault.{ExportFault}
 use Rattle.ssim_schedule.specs.declared.export.ExportFault.TheVariants.{Variations, Records, WriteFault, Memory}
 use Rattle.ssim_base.specs.declared.place.Place.{Place}
@@ -34,7 +34,7 @@ Refuses taken failures export old new (Variations flight) = (export ≡ Err (ref
 Refuses taken failures export old new Records = (export ≡ Err refusal.Records) × (new ≡ old)
 Refuses taken failures export old new Memory = new ≡ old
 Refuses taken failures export old new WriteFault =
-    (bytes : List ℕ) × (export ≡ Ok bytes) × TakesFront bytes (taken old) (taken new) × (failures new ≡ (failures old + 1) % 2 ^ 64)
+    (bytes : List ℕ) × (export ≡ Ok bytes) × TakesPrefix bytes (taken old) (taken new) × (failures new ≡ (failures old + 1) % 2 ^ 64)
 
 -- the export in the frame of a base is refused, or the sink failed
 abbrev pub RefusesBase : {W : Type 0} → (W → Option (List ℕ)) → (W → ℕ) → List Record → (FlightNumber → Days) → W → W → ExportFault → Type 0

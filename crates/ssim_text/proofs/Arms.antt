@@ -17,7 +17,7 @@ use Rattle.ssim_text.specs.declared.dates.Dates.{Dates}
 use Rattle.ssim_text.specs.declared.dates.Dates.TheVariants.{Period, Date}
 use Rattle.ssim_text.specs.declared.leg.LegEnd.{LegEnd}
 use Rattle.ssim_text.specs.declared.leg.LegLine.{LegLine}
-use Rattle.ssim_text.specs.Bytes.{◌>>=◌, before, from, word, behind}
+use Rattle.ssim_text.specs.Bytes.{◌>>=◌, before, from, word, after_word}
 use Rattle.ssim_text.specs.declared.segment.SegmentLine.{SegmentLine}
 use Rattle.ssim_text.specs.declared.fault.Fault.TheVariants as fault
 use Rattle.ssim_text.specs.declared.decoder_state.Equipped.{Equipped}
@@ -225,8 +225,8 @@ segment_points (Some p) identifier text s h = (p, refl)
 pub leg_or_segment : (leg : LegLine) (s : SegmentLine) (line : List ℕ) → leg_of line ≡ Some leg → segment_of line ≡ Some s → ⊥
 unfolding leg_of segment_of
 leg_or_segment leg s line h k =
-    let d = leg_departs (end_of (word line)) (end_of (behind line)) leg h in
-    let p = segment_points (points_of (word line)) (digits_in 1 3 (before 47 (behind line))) (segment_text_of (from 47 (behind line))) s k in
+    let d = leg_departs (end_of (word line)) (end_of (after_word line)) leg h in
+    let p = segment_points (points_of (word line)) (digits_in 1 3 (before 47 (after_word line))) (segment_text_of (from 47 (after_word line))) s k in
     let seven = end_length (word line) d.0 d.1 in
     let six = points_length (word line) p.0 p.1 in
     omega (arith, seven, six)

@@ -11,7 +11,7 @@ use Rattle.ssim_text.specs.declared.action.NewLegs.{NewLegs}
 use Rattle.ssim_text.specs.declared.action.Action.{Action}
 use Rattle.ssim_text.specs.declared.action.Action.TheVariants as action
 use Rattle.ssim_text.specs.declared.action.Sub.{Sub}
-use Rattle.ssim_text.specs.Bytes.{before, from, word, behind, is_alphanumeric, is_printable, is_text_of}
+use Rattle.ssim_text.specs.Bytes.{before, from, word, after_word, is_alphanumeric, is_printable, is_text_of}
 use Rattle.ssim_text.specs.Values.{EquipmentValue}
 use Rattle.ssim_text.specs.Lines.{creator_of, reference_of, designators_of, configuration_of, equipment_of, leg_of, segment_text_of, segment_of}
 use Rattle.ssim_text.specs.Message.{MessageValue}
@@ -49,7 +49,7 @@ reference_bounded r line h l =
 leg_bounded : (leg : LegLine) (line : List ℕ) → leg_of line ≡ Some leg → IsLegBounded leg
 leg_bounded leg line h =
     let s = leg_sound line leg h in
-    ((end_sound (word line) leg.departure s.departure).rest.0, (end_sound (behind line) leg.arrival s.arrival).rest.0)
+    ((end_sound (word line) leg.departure s.departure).rest.0, (end_sound (after_word line) leg.arrival s.arrival).rest.0)
 
 record IsData (text own : List ℕ) : Type 0 where
   same : text ≡ 47 ∷ own
@@ -79,11 +79,11 @@ some_text (x ∷ text) h = omega arith
 segment_bounded : (s : SegmentLine) (line : List ℕ) → segment_of line ≡ Some s → IsLine line → IsSegmentBounded s
 segment_bounded s line h l =
     let r = segment_sound line s h in
-    let d = data_sound (from 47 (behind line)) s.text r.text in
-    let digits = digits_sound 1 3 (before 47 (behind line)) s.identifier r.identifier in
-    let small = subst (λ (x : ℕ). x < 1000) digits.number (below_three (before 47 (behind line)) digits.all digits.to) in
-    let some = some_from (behind line) s.text d.same in
-    let last = subst IsLine d.same (line_from 47 (behind line) (line_after line l (some_text (behind line) some)) some) in
+    let d = data_sound (from 47 (after_word line)) s.text r.text in
+    let digits = digits_sound 1 3 (before 47 (after_word line)) s.identifier r.identifier in
+    let small = subst (λ (x : ℕ). x < 1000) digits.number (below_three (before 47 (after_word line)) digits.all digits.to) in
+    let some = some_from (after_word line) s.text d.same in
+    let last = subst IsLine d.same (line_from 47 (after_word line) (line_after line l (some_text (after_word line) some)) some) in
     record { identifier = omega (arith, small); some = d.some; few = d.few; printable = (and_parts (is_printable 47) (list_all is_printable s.text) last.printable).1 }
 
 -- up to twenty bytes, each of which passes
@@ -111,9 +111,9 @@ designators_short text designators h =
 equipment_bounded : (e : EquipmentValue) (line : List ℕ) → equipment_of line ≡ Some e → IsEquipmentBounded e
 equipment_bounded e line h =
     let s = equipment_sound line e h in
-    let aircraft = aircraft_sound (word (behind line)) e.aircraft s.aircraft in
-    let designators = designators_short (before 46 (behind (behind line))) e.designators s.designators in
-    let configuration = configuration_short (from 46 (behind (behind line))) e.configuration s.configuration in
+    let aircraft = aircraft_sound (word (after_word line)) e.aircraft s.aircraft in
+    let designators = designators_short (before 46 (after_word (after_word line))) e.designators s.designators in
+    let configuration = configuration_short (from 46 (after_word (after_word line))) e.configuration s.configuration in
     record {
       service = (service_sound (word line) e.service s.service).letter;
       aircraft_three = aircraft.three;

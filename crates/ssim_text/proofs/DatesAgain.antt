@@ -25,7 +25,7 @@ use Rattle.ssim_text.specs.declared.dates.GivenDate.TheVariants.{Full, Yearless}
 use Rattle.ssim_text.specs.declared.dates.GivenEnd.{GivenEnd}
 use Rattle.ssim_text.specs.declared.dates.GivenEnd.TheVariants.{Until, Open}
 use Rattle.ssim_text.specs.declared.dates.GivenPeriod.{GivenPeriod}
-use Rattle.ssim_text.specs.Bytes.{◌>>=◌, before, from, drop_blanks, word, behind, is_alphanumeric, is_printable}
+use Rattle.ssim_text.specs.Bytes.{◌>>=◌, before, from, drop_blanks, word, after_word, is_alphanumeric, is_printable}
 use Rattle.ssim_text.specs.Lines.{month_day_in, date_of, last_date_of, compact_days_of, SpellsDatedFlight, period_of}
 use Rattle.ssim_text.specs.Grammar.{FlightPart, DatedFlightPart, PeriodPart}
 use Rattle.ssim_text.specs.Canonical.{given_date_text, given_end_text, period_text}
@@ -159,15 +159,15 @@ dated_flight_again d date line h l =
 
 record IsPeriodLine (line : List ℕ) (p : GivenPeriod) : Type 0 where
   first : date_of (word line) ≡ Some p.first
-  last : last_date_of (word (behind line)) ≡ Some p.last
-  days : compact_days_of (behind (behind line)) ≡ Some p.days
+  last : last_date_of (word (after_word line)) ≡ Some p.last
+  days : compact_days_of (after_word (after_word line)) ≡ Some p.days
 
 period_sound : (line : List ℕ) (p : GivenPeriod) → period_of line ≡ Some p → IsPeriodLine line p
 unfolding period_of
 period_sound line p h =
-    let first = bound (date_of (word line)) (λ (x : GivenDate). last_date_of (word (behind line)) >>= λ y. compact_days_of (behind (behind line)) >>= λ z. Some (record { first = x; last = y; days = z })) p h in
-    let last = bound (last_date_of (word (behind line))) (λ (y : GivenEnd). compact_days_of (behind (behind line)) >>= λ z. Some (record { first = first.0; last = y; days = z })) p first.2 in
-    let days = bound (compact_days_of (behind (behind line))) (λ (z : List Bool). Some (record { first = first.0; last = last.0; days = z })) p last.2 in
+    let first = bound (date_of (word line)) (λ (x : GivenDate). last_date_of (word (after_word line)) >>= λ y. compact_days_of (after_word (after_word line)) >>= λ z. Some (record { first = x; last = y; days = z })) p h in
+    let last = bound (last_date_of (word (after_word line))) (λ (y : GivenEnd). compact_days_of (after_word (after_word line)) >>= λ z. Some (record { first = first.0; last = y; days = z })) p first.2 in
+    let days = bound (compact_days_of (after_word (after_word line))) (λ (z : List Bool). Some (record { first = first.0; last = last.0; days = z })) p last.2 in
     carried (IsPeriodLine line) (record { first = first.0; last = last.0; days = days.0 }) p days.2 (record { first = first.1; last = last.1; days = days.1 })
 
 by_parts : (first : Option GivenDate) (last : Option GivenEnd) (days : Option (List Bool)) (p : GivenPeriod) → first ≡ Some p.first → last ≡ Some p.last → days ≡ Some p.days
@@ -183,15 +183,15 @@ module _ (first last days : List ℕ) (first_lacks : lacks 32 first ≡ true) (l
   unfolding joined
   first_word = word_first first (last ++ 32 ∷ days) first_lacks
 
-  behind_word : behind (joined first last days) ≡ last ++ 32 ∷ days
+  behind_word : after_word (joined first last days) ≡ last ++ 32 ∷ days
   unfolding joined
   behind_word = behind_first first (last ++ 32 ∷ days) first_lacks (no_blanks last (32 ∷ days) last_some last_lacks)
 
-  second_word : word (behind (joined first last days)) ≡ last
+  second_word : word (after_word (joined first last days)) ≡ last
   second_word = ap word behind_word ∙ word_first last days last_lacks
 
-  third_word : behind (behind (joined first last days)) ≡ days
-  third_word = ap behind behind_word ∙ behind_first last days last_lacks whole
+  third_word : after_word (after_word (joined first last days)) ≡ days
+  third_word = ap after_word behind_word ∙ behind_first last days last_lacks whole
 
 joined_line : (first last days : List ℕ) → list_all is_printable first ≡ true → list_all is_printable last ≡ true → IsLine days → IsLine (joined first last days)
 unfolding joined
@@ -201,7 +201,7 @@ joined_period : (p : GivenPeriod) (first last days : List ℕ) → lacks 32 firs
 unfolding period_of
 joined_period p first last days f l some w h k m =
     let whole = joined first last days in
-    by_parts (date_of (word whole)) (last_date_of (word (behind whole))) (compact_days_of (behind (behind whole))) p
+    by_parts (date_of (word whole)) (last_date_of (word (after_word whole))) (compact_days_of (after_word (after_word whole))) p
     (ap date_of (first_word first last days f l some w) ∙ h) (ap last_date_of (second_word first last days f l some w) ∙ k) (ap compact_days_of (third_word first last days f l some w) ∙ m)
 
 is_written : (p : GivenPeriod) (first last days : List ℕ) → first ≡ given_date_text p.first → last ≡ given_end_text p.last → days ≡ digits_of p.days → joined first last days ≡ period_text p
@@ -222,16 +222,16 @@ pub period_again : (p : GivenPeriod) (line : List ℕ) → period_of line ≡ So
 period_again p line h l =
     let s = period_sound line p h in
     let first = word line in
-    let last = word (behind line) in
-    let days = behind (behind line) in
+    let last = word (after_word line) in
+    let days = after_word (after_word line) in
     let first_is : first ≡ given_date_text p.first = date_one_text first p.first s.first in
     let last_is : last ≡ given_end_text p.last = end_one_text last p.last s.last in
     let days_are : days ≡ digits_of p.days = days_one_text days p.days s.days in
     let last_some = end_some last p.last s.last in
-    let after = line_after line l (word_some (behind line) last_some) in
-    let days_line = line_after (behind line) after (days_some days p.days s.days) in
+    let after = line_after line l (word_some (after_word line) last_some) in
+    let days_line = line_after (after_word line) after (days_some days p.days s.days) in
     let written = is_written p first last days first_is last_is days_are in
     record {
-      spelled = ap period_of (sym written) ∙ joined_period p first last days (before_lacks 32 line) (before_lacks 32 (behind line)) last_some (blanks_twice (from 32 (behind line))) s.first s.last s.days;
-      line = subst IsLine written (joined_line first last days (all_before is_printable 32 line l.printable) (all_before is_printable 32 (behind line) after.printable) days_line);
+      spelled = ap period_of (sym written) ∙ joined_period p first last days (before_lacks 32 line) (before_lacks 32 (after_word line)) last_some (blanks_twice (from 32 (after_word line))) s.first s.last s.days;
+      line = subst IsLine written (joined_line first last days (all_before is_printable 32 line l.printable) (all_before is_printable 32 (after_word line) after.printable) days_line);
     }

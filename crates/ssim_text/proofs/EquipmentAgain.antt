@@ -6,7 +6,7 @@ use Rattle.std.proofs.lemmas.Bool.{and_parts, and_from}
 use Rattle.std.proofs.lemmas.Bool.Decides.{nat_tests}
 use Rattle.ssim_values.specs.Characters.{is_letter}
 use Rattle.ssim_text.specs.Values.{EquipmentValue}
-use Rattle.ssim_text.specs.Bytes.{◌>>=◌, before, from, drop_blanks, word, behind, is_alphanumeric, is_printable, is_text_of}
+use Rattle.ssim_text.specs.Bytes.{◌>>=◌, before, from, drop_blanks, word, after_word, is_alphanumeric, is_printable, is_text_of}
 use Rattle.ssim_text.specs.Lines.{service_of, aircraft_of, designators_of, configuration_of, equipment_of}
 use Rattle.ssim_text.specs.Grammar.{EquipmentPart}
 use Rattle.ssim_text.specs.Canonical.{unless_empty, third_text, equipment_text}
@@ -62,16 +62,16 @@ designators_same text designators h = some_same text designators (only_if (is_te
 
 pub record IsEquipmentLine (line : List ℕ) (e : EquipmentValue) : Type 0 where
   pub service : service_of (word line) ≡ Some e.service
-  pub aircraft : aircraft_of (word (behind line)) ≡ Some e.aircraft
-  pub designators : designators_of (before 46 (behind (behind line))) ≡ Some e.designators
-  pub configuration : configuration_of (from 46 (behind (behind line))) ≡ Some e.configuration
+  pub aircraft : aircraft_of (word (after_word line)) ≡ Some e.aircraft
+  pub designators : designators_of (before 46 (after_word (after_word line))) ≡ Some e.designators
+  pub configuration : configuration_of (from 46 (after_word (after_word line))) ≡ Some e.configuration
 
 pub equipment_sound : (line : List ℕ) (e : EquipmentValue) → equipment_of line ≡ Some e → IsEquipmentLine line e
 unfolding equipment_of
 equipment_sound line e h =
-    let third = behind (behind line) in
-    let service = bound (service_of (word line)) (λ (x : ℕ). aircraft_of (word (behind line)) >>= λ y. designators_of (before 46 third) >>= λ z. configuration_of (from 46 third) >>= λ w. Some (record { service = x; aircraft = y; designators = z; configuration = w })) e h in
-    let aircraft = bound (aircraft_of (word (behind line))) (λ (y : List ℕ). designators_of (before 46 third) >>= λ z. configuration_of (from 46 third) >>= λ w. Some (record { service = service.0; aircraft = y; designators = z; configuration = w })) e service.2 in
+    let third = after_word (after_word line) in
+    let service = bound (service_of (word line)) (λ (x : ℕ). aircraft_of (word (after_word line)) >>= λ y. designators_of (before 46 third) >>= λ z. configuration_of (from 46 third) >>= λ w. Some (record { service = x; aircraft = y; designators = z; configuration = w })) e h in
+    let aircraft = bound (aircraft_of (word (after_word line))) (λ (y : List ℕ). designators_of (before 46 third) >>= λ z. configuration_of (from 46 third) >>= λ w. Some (record { service = service.0; aircraft = y; designators = z; configuration = w })) e service.2 in
     let designators = bound (designators_of (before 46 third)) (λ (z : List ℕ). configuration_of (from 46 third) >>= λ w. Some (record { service = service.0; aircraft = aircraft.0; designators = z; configuration = w })) e aircraft.2 in
     let configuration = bound (configuration_of (from 46 third)) (λ (w : List ℕ). Some (record { service = service.0; aircraft = aircraft.0; designators = designators.0; configuration = w })) e designators.2 in
     carried (IsEquipmentLine line) (record { service = service.0; aircraft = aircraft.0; designators = designators.0; configuration = configuration.0 }) e configuration.2
@@ -86,8 +86,8 @@ word_before : (aircraft third : List ℕ) → lacks 32 aircraft ≡ true → wor
 word_before aircraft [] h = ap word (append-nil aircraft) ∙ before_none 32 aircraft h
 word_before aircraft (b ∷ third) h = word_first aircraft (b ∷ third) h
 
-third_behind : (aircraft third : List ℕ) → lacks 32 aircraft ≡ true → drop_blanks third ≡ third → behind (aircraft ++ unless_empty 32 third) ≡ third
-third_behind aircraft [] h k = ap behind (append-nil aircraft) ∙ behind_last aircraft h
+third_behind : (aircraft third : List ℕ) → lacks 32 aircraft ≡ true → drop_blanks third ≡ third → after_word (aircraft ++ unless_empty 32 third) ≡ third
+third_behind aircraft [] h k = ap after_word (append-nil aircraft) ∙ behind_last aircraft h
 third_behind aircraft (b ∷ third) h k = behind_first aircraft (b ∷ third) h k
 
 third_line : (aircraft third : List ℕ) → IsLine aircraft → (1 ≤ length third → IsLine third) → IsLine (aircraft ++ unless_empty 32 third)
@@ -106,9 +106,9 @@ written_read e third letter some all whole d c a =
     let rest = e.aircraft ++ unless_empty 32 third in
     let own : lacks 32 (e.service ∷ []) ≡ true = and_from (not (e.service == 32)) true (solid_no_blank e.service (letter_solid e.service letter)) refl in
     let first : word (e.service ∷ 32 ∷ rest) ≡ e.service ∷ [] = word_first (e.service ∷ []) rest own in
-    let after : behind (e.service ∷ 32 ∷ rest) ≡ rest = behind_first (e.service ∷ []) rest own (no_blanks e.aircraft (unless_empty 32 third) some lacking) in
-    let last : behind (behind (e.service ∷ 32 ∷ rest)) ≡ third = ap behind after ∙ third_behind e.aircraft third lacking whole in
-    by_parts (service_of (word (e.service ∷ 32 ∷ rest))) (aircraft_of (word (behind (e.service ∷ 32 ∷ rest)))) (designators_of (before 46 (behind (behind (e.service ∷ 32 ∷ rest))))) (configuration_of (from 46 (behind (behind (e.service ∷ 32 ∷ rest))))) e
+    let after : after_word (e.service ∷ 32 ∷ rest) ≡ rest = behind_first (e.service ∷ []) rest own (no_blanks e.aircraft (unless_empty 32 third) some lacking) in
+    let last : after_word (after_word (e.service ∷ 32 ∷ rest)) ≡ third = ap after_word after ∙ third_behind e.aircraft third lacking whole in
+    by_parts (service_of (word (e.service ∷ 32 ∷ rest))) (aircraft_of (word (after_word (e.service ∷ 32 ∷ rest)))) (designators_of (before 46 (after_word (after_word (e.service ∷ 32 ∷ rest))))) (configuration_of (from 46 (after_word (after_word (e.service ∷ 32 ∷ rest))))) e
     (ap service_of first ∙ chosen (is_letter e.service) (Some e.service) None letter)
     (ap (λ (x : List ℕ). aircraft_of (word x)) after ∙ ap aircraft_of (word_before e.aircraft third lacking) ∙ a)
     (ap (λ (x : List ℕ). designators_of (before 46 x)) last ∙ d)
@@ -126,15 +126,15 @@ is_written e third h = rw h refl
 pub equipment_again : (e : EquipmentValue) (line : List ℕ) → equipment_of line ≡ Some e → IsLine line → ReadsAgain (EquipmentPart e)
 equipment_again e line h l =
     let s = equipment_sound line e h in
-    let third = behind (behind line) in
+    let third = after_word (after_word line) in
     let service = service_sound (word line) e.service s.service in
-    let aircraft = aircraft_sound (word (behind line)) e.aircraft s.aircraft in
-    let after = line_after line l (word_some (behind line) (subst (λ (x : List ℕ). 1 ≤ length x) (sym aircraft.same) aircraft.some)) in
+    let aircraft = aircraft_sound (word (after_word line)) e.aircraft s.aircraft in
+    let after = line_after line l (word_some (after_word line) (subst (λ (x : List ℕ). 1 ≤ length x) (sym aircraft.same) aircraft.some)) in
     let third_is : third ≡ third_text e =
     sym (before_from 46 third) ∙ ap (λ (x : List ℕ). x ++ from 46 third) (designators_same (before 46 third) e.designators s.designators) ∙ ap (λ (x : List ℕ). e.designators ++ x) (configuration_sound (from 46 third) e.configuration s.configuration) in
     let whole = is_written e third third_is in
     let solid = all_more is_alphanumeric is_solid alphanumeric_solid e.aircraft aircraft.all in
     record {
-      spelled = ap equipment_of (sym whole) ∙ written_read e third service.letter aircraft.some aircraft.all (blanks_twice (from 32 (behind line))) s.designators s.configuration (ap aircraft_of (sym aircraft.same) ∙ s.aircraft);
-      line = subst IsLine whole (written_line e.service e.aircraft third service.letter (solid_line e.aircraft aircraft.some solid) (λ some. line_after (behind line) after some));
+      spelled = ap equipment_of (sym whole) ∙ written_read e third service.letter aircraft.some aircraft.all (blanks_twice (from 32 (after_word line))) s.designators s.configuration (ap aircraft_of (sym aircraft.same) ∙ s.aircraft);
+      line = subst IsLine whole (written_line e.service e.aircraft third service.letter (solid_line e.aircraft aircraft.some solid) (λ some. line_after (after_word line) after some));
     }

@@ -12,7 +12,7 @@ use Rattle.ssim_values.proofs.ClockLaws.{clock_of-sound, clock_of-clock_text}
 use Rattle.ssim_text.specs.declared.leg.LegEnd.{LegEnd}
 use Rattle.ssim_text.specs.declared.leg.LegLine.{LegLine}
 use Rattle.ssim_text.specs.declared.segment.SegmentLine.{SegmentLine}
-use Rattle.ssim_text.specs.Bytes.{◌>>=◌, before, from, drop_blanks, word, behind, is_printable}
+use Rattle.ssim_text.specs.Bytes.{◌>>=◌, before, from, drop_blanks, word, after_word, is_printable}
 use Rattle.ssim_text.specs.Lines.{station_in, clock_in, variation_of, passenger_of, variations_of, end_of, leg_of, points_of, digits_in, segment_text_of, segment_of}
 use Rattle.ssim_text.specs.Grammar.{LegPart, SegmentPart}
 use Rattle.ssim_text.specs.Canonical.{three_digits, short_digits, variation_text, passenger_text, leg_end_text, segment_line_text}
@@ -186,13 +186,13 @@ end_some text e h = some_first e.station (clock_text e.time) (variation_text e.v
 
 pub record IsLeg (line : List ℕ) (leg : LegLine) : Type 0 where
   pub departure : end_of (word line) ≡ Some leg.departure
-  pub arrival : end_of (behind line) ≡ Some leg.arrival
+  pub arrival : end_of (after_word line) ≡ Some leg.arrival
 
 pub leg_sound : (line : List ℕ) (leg : LegLine) → leg_of line ≡ Some leg → IsLeg line leg
 unfolding leg_of
 leg_sound line leg h =
-    let departure = bound (end_of (word line)) (λ (d : LegEnd). end_of (behind line) >>= λ a. Some (record { departure = d; arrival = a })) leg h in
-    let arrival = bound (end_of (behind line)) (λ (a : LegEnd). Some (record { departure = departure.0; arrival = a })) leg departure.2 in
+    let departure = bound (end_of (word line)) (λ (d : LegEnd). end_of (after_word line) >>= λ a. Some (record { departure = d; arrival = a })) leg h in
+    let arrival = bound (end_of (after_word line)) (λ (a : LegEnd). Some (record { departure = departure.0; arrival = a })) leg departure.2 in
     carried (IsLeg line) (record { departure = departure.0; arrival = arrival.0 }) leg arrival.2 (record { departure = departure.1; arrival = arrival.1 })
 
 both_ends : (departure arrival : Option LegEnd) (leg : LegLine) → departure ≡ Some leg.departure → arrival ≡ Some leg.arrival → (departure >>= λ d. arrival >>= λ a. Some (record { departure = d; arrival = a })) ≡ Some leg
@@ -204,7 +204,7 @@ no_blanks_alone xs some h = ap drop_blanks (sym (append-nil xs)) ∙ no_blanks x
 leg_read : (leg : LegLine) (from to : List ℕ) → lacks 32 from ≡ true → lacks 32 to ≡ true → 1 ≤ length to → end_of from ≡ Some leg.departure → end_of to ≡ Some leg.arrival → leg_of (from ++ 32 ∷ to) ≡ Some leg
 unfolding leg_of
 leg_read leg from to f t some h k =
-    both_ends (end_of (word (from ++ 32 ∷ to))) (end_of (behind (from ++ 32 ∷ to))) leg
+    both_ends (end_of (word (from ++ 32 ∷ to))) (end_of (after_word (from ++ 32 ∷ to))) leg
     (ap end_of (word_first from to f) ∙ h) (ap end_of (behind_first from to f (no_blanks_alone to some t)) ∙ k)
 
 pub leg_again : (leg : LegLine) (line : List ℕ) → leg_of line ≡ Some leg → ReadsAgain (LegPart leg)
@@ -213,11 +213,11 @@ leg_again leg line h =
     let from = leg_end_text leg.departure in
     let to = leg_end_text leg.arrival in
     let from_solid = end_solid (word line) leg.departure s.departure in
-    let to_solid = end_solid (behind line) leg.arrival s.arrival in
+    let to_solid = end_solid (after_word line) leg.arrival s.arrival in
     let no_blank = λ (xs : List ℕ) (k : list_all is_solid xs ≡ true). all_more is_solid (λ b. not (b == 32)) solid_no_blank xs k in
-    let some = end_some (behind line) leg.arrival s.arrival in
+    let some = end_some (after_word line) leg.arrival s.arrival in
     record {
-      spelled = leg_read leg from to (no_blank from from_solid) (no_blank to to_solid) some (end_back (word line) leg.departure s.departure) (end_back (behind line) leg.arrival s.arrival);
+      spelled = leg_read leg from to (no_blank from from_solid) (no_blank to to_solid) some (end_back (word line) leg.departure s.departure) (end_back (after_word line) leg.arrival s.arrival);
       line = line_behind from (32 ∷ to) (all_more is_solid is_printable solid_printable from from_solid) (line_behind (32 ∷ []) to refl (solid_line to some to_solid));
     }
 
@@ -248,15 +248,15 @@ segment_text_sound (b ∷ text) own h =
 
 pub record IsSegment (line : List ℕ) (s : SegmentLine) : Type 0 where
   pub points : points_of (word line) ≡ Some (two s.board s.off)
-  pub identifier : digits_in 1 3 (before 47 (behind line)) ≡ Some s.identifier
-  pub text : segment_text_of (from 47 (behind line)) ≡ Some s.text
+  pub identifier : digits_in 1 3 (before 47 (after_word line)) ≡ Some s.identifier
+  pub text : segment_text_of (from 47 (after_word line)) ≡ Some s.text
 
 pub segment_sound : (line : List ℕ) (s : SegmentLine) → segment_of line ≡ Some s → IsSegment line s
 unfolding segment_of
 segment_sound line s h =
-    let points = bound (points_of (word line)) (λ (p : List ℕ × List ℕ). digits_in 1 3 (before 47 (behind line)) >>= λ i. segment_text_of (from 47 (behind line)) >>= λ t. Some (record { board = p.0; off = p.1; identifier = i; text = t })) s h in
-    let identifier = bound (digits_in 1 3 (before 47 (behind line))) (λ (i : ℕ). segment_text_of (from 47 (behind line)) >>= λ t. Some (record { board = points.0.0; off = points.0.1; identifier = i; text = t })) s points.2 in
-    let text = bound (segment_text_of (from 47 (behind line))) (λ (t : List ℕ). Some (record { board = points.0.0; off = points.0.1; identifier = identifier.0; text = t })) s identifier.2 in
+    let points = bound (points_of (word line)) (λ (p : List ℕ × List ℕ). digits_in 1 3 (before 47 (after_word line)) >>= λ i. segment_text_of (from 47 (after_word line)) >>= λ t. Some (record { board = p.0; off = p.1; identifier = i; text = t })) s h in
+    let identifier = bound (digits_in 1 3 (before 47 (after_word line))) (λ (i : ℕ). segment_text_of (from 47 (after_word line)) >>= λ t. Some (record { board = points.0.0; off = points.0.1; identifier = i; text = t })) s points.2 in
+    let text = bound (segment_text_of (from 47 (after_word line))) (λ (t : List ℕ). Some (record { board = points.0.0; off = points.0.1; identifier = identifier.0; text = t })) s identifier.2 in
     carried (IsSegment line) (record { board = points.0.0; off = points.0.1; identifier = identifier.0; text = text.0 }) s text.2 (record { points = points.1; identifier = identifier.1; text = text.1 })
 
 three_parts : (points : Option (List ℕ × List ℕ)) (identifier : Option ℕ) (text : Option (List ℕ)) (s : SegmentLine) → points ≡ Some (two s.board s.off) → identifier ≡ Some s.identifier → text ≡ Some s.text
@@ -290,8 +290,8 @@ segment_read s points digits f h d t =
     let rest = digits ++ 47 ∷ s.text in
     let no_blank = all_more is_solid (λ b. not (b == 32)) solid_no_blank digits (all_more is_digit is_solid digit_solid digits d.all) in
     let no_solidus = all_more is_digit (λ b. not (b == 47)) digit_no_solidus digits d.all in
-    let after : behind (points ++ 32 ∷ rest) ≡ rest = behind_first points rest f (no_blanks digits (47 ∷ s.text) d.from no_blank) in
-    three_parts (points_of (word (points ++ 32 ∷ rest))) (digits_in 1 3 (before 47 (behind (points ++ 32 ∷ rest)))) (segment_text_of (from 47 (behind (points ++ 32 ∷ rest)))) s
+    let after : after_word (points ++ 32 ∷ rest) ≡ rest = behind_first points rest f (no_blanks digits (47 ∷ s.text) d.from no_blank) in
+    three_parts (points_of (word (points ++ 32 ∷ rest))) (digits_in 1 3 (before 47 (after_word (points ++ 32 ∷ rest)))) (segment_text_of (from 47 (after_word (points ++ 32 ∷ rest)))) s
     (ap points_of (word_first points rest f) ∙ h)
     (ap (λ (x : List ℕ). digits_in 1 3 (before 47 x)) after ∙ ap (digits_in 1 3) (before_mark 47 digits s.text no_solidus) ∙ digits_complete 1 3 digits s.identifier d)
     (ap (λ (x : List ℕ). segment_text_of (from 47 x)) after ∙ ap segment_text_of (from_mark 47 digits s.text no_solidus) ∙ t)
@@ -311,13 +311,13 @@ segment_again s line h l =
     let points = s.board ++ s.off in
     let same : word line ≡ points = sym (take-append-drop 3 (word line)) ∙ ap (λ (x : List ℕ). x ++ drop 3 (word line)) p.board.same ∙ ap (λ (x : List ℕ). s.board ++ x) p.off.same in
     let solid = all_join is_solid s.board s.off (station_solid s.board p.board.long p.board.valid) (station_solid s.off p.off.long p.off.valid) in
-    let identifier = digits_sound 1 3 (before 47 (behind line)) s.identifier r.identifier in
-    let small = subst (λ (x : ℕ). x < 1000) identifier.number (below_three (before 47 (behind line)) identifier.all identifier.to) in
+    let identifier = digits_sound 1 3 (before 47 (after_word line)) s.identifier r.identifier in
+    let small = subst (λ (x : ℕ). x < 1000) identifier.number (below_three (before 47 (after_word line)) identifier.all identifier.to) in
     let digits = short_digits_are s.identifier small in
     let digits_printable = all_more is_digit is_printable (λ b k. solid_printable b (digit_solid b k)) (short_digits s.identifier) digits.all in
-    let text = segment_text_sound (from 47 (behind line)) s.text r.text in
-    let some = from_some (behind line) s.text text.0 in
-    let last : IsLine (47 ∷ s.text) = subst IsLine text.0 (line_from 47 (behind line) (line_after line l (text_some (behind line) some)) some) in
+    let text = segment_text_sound (from 47 (after_word line)) s.text r.text in
+    let some = from_some (after_word line) s.text text.0 in
+    let last : IsLine (47 ∷ s.text) = subst IsLine text.0 (line_from 47 (after_word line) (line_after line l (text_some (after_word line) some)) some) in
     let whole : points ++ 32 ∷ (short_digits s.identifier ++ 47 ∷ s.text) ≡ segment_line_text s = sym (append_assoc points (32 ∷ short_digits s.identifier) (47 ∷ s.text)) in
     record {
       spelled = ap segment_of (sym whole)

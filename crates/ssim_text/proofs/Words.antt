@@ -6,7 +6,7 @@ use Rattle.std.proofs.lemmas.Bool.{and_parts, and_from}
 use Rattle.std.proofs.lemmas.Bool.Decides.{nat_tests}
 use Rattle.ssim_values.specs.Characters.{is_digit}
 use Rattle.ssim_values.specs.Flight.{number_of}
-use Rattle.ssim_text.specs.Bytes.{◌>>=◌, before, from, drop_blanks, word, behind, is_alphanumeric, is_printable, is_text_of}
+use Rattle.ssim_text.specs.Bytes.{◌>>=◌, before, from, drop_blanks, word, after_word, is_alphanumeric, is_printable, is_text_of}
 use Rattle.ssim_text.specs.Lines.{digits_in}
 use Rattle.ssim_text.specs.Left.{is_dropped}
 use Rattle.ssim_text.proofs.LeftLemmas.{keep_last}
@@ -154,21 +154,21 @@ blanks_twice (x ∷ xs) = blanks_twice_at x (x == 32) xs refl (blanks_twice xs)
 pub word_first : (xs rest : List ℕ) → lacks 32 xs ≡ true → word (xs ++ 32 ∷ rest) ≡ xs
 word_first xs rest h = before_mark 32 xs rest h
 
-pub behind_first : (xs rest : List ℕ) → lacks 32 xs ≡ true → drop_blanks rest ≡ rest → behind (xs ++ 32 ∷ rest) ≡ rest
+pub behind_first : (xs rest : List ℕ) → lacks 32 xs ≡ true → drop_blanks rest ≡ rest → after_word (xs ++ 32 ∷ rest) ≡ rest
 behind_first xs rest h k = ap drop_blanks (from_mark 32 xs rest h) ∙ k
 
-pub behind_last : (xs : List ℕ) → lacks 32 xs ≡ true → behind xs ≡ []
+pub behind_last : (xs : List ℕ) → lacks 32 xs ≡ true → after_word xs ≡ []
 behind_last xs h = ap drop_blanks (from_none 32 xs h)
 
 some_before : (xs : List ℕ) → 1 ≤ length (drop_blanks xs) → 1 ≤ length xs
 some_before [] h = h
 some_before (x ∷ xs) h = omega arith
 
-rest_some : (text : List ℕ) → 1 ≤ length (behind text) → 1 ≤ length (from 32 text)
+rest_some : (text : List ℕ) → 1 ≤ length (after_word text) → 1 ≤ length (from 32 text)
 rest_some text h = some_before (from 32 text) h
 
 -- the bytes after the first word of a line are a line
-pub line_after : (line : List ℕ) → IsLine line → 1 ≤ length (behind line) → IsLine (behind line)
+pub line_after : (line : List ℕ) → IsLine line → 1 ≤ length (after_word line) → IsLine (after_word line)
 line_after line l some = line_blanks (from 32 line) (line_from 32 line l (rest_some line some)) some
 
 pub word_some : (text : List ℕ) → 1 ≤ length (word text) → 1 ≤ length text

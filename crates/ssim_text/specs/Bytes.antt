@@ -30,8 +30,8 @@ abbrev pub word : List ℕ → List ℕ
 word = before 32
 
 -- the bytes after the first word and the blanks that follow it
-abbrev pub behind : List ℕ → List ℕ
-behind line = drop_blanks (from 32 line)
+abbrev pub after_word : List ℕ → List ℕ
+after_word line = drop_blanks (from 32 line)
 
 -- whether a byte is a letter or a digit
 abbrev pub is_alphanumeric : ℕ → Bool

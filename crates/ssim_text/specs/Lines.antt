@@ -30,7 +30,7 @@ use Rattle.ssim_values.specs.Station.{is_station}
 use Rattle.ssim_values.specs.Flight.{number_of}
 use Rattle.ssim_values.specs.Designator.{SpellsDesignator}
 use Rattle.ssim_text.specs.Values.{EquipmentValue}
-use Rattle.ssim_text.specs.Bytes.{◌>>=◌, before, from, word, behind, is_alphanumeric, is_text_of}
+use Rattle.ssim_text.specs.Bytes.{◌>>=◌, before, from, word, after_word, is_alphanumeric, is_text_of}
 
 -- ---- the lines before the sub-messages
 
@@ -123,8 +123,8 @@ pub record SpellsDatedFlight (designator : Designator) (date : GivenDate) (line 
 unfoldable pub period_of : List ℕ → Option GivenPeriod
 period_of line = do
   first ← date_of (word line)
-  last ← last_date_of (word (behind line))
-  days ← compact_days_of (behind (behind line))
+  last ← last_date_of (word (after_word line))
+  days ← compact_days_of (after_word (after_word line))
   Some (record { first = first; last = last; days = days })
 
 -- ---- the equipment
@@ -151,9 +151,9 @@ configuration_of (b ∷ text) = if (b == 46) && is_text_of is_alphanumeric 1 20 
 unfoldable pub equipment_of : List ℕ → Option EquipmentValue
 equipment_of line = do
   service ← service_of (word line)
-  aircraft ← aircraft_of (word (behind line))
-  letters ← designators_of (before 46 (behind (behind line)))
-  layout ← configuration_of (from 46 (behind (behind line)))
+  aircraft ← aircraft_of (word (after_word line))
+  letters ← designators_of (before 46 (after_word (after_word line)))
+  layout ← configuration_of (from 46 (after_word (after_word line)))
   Some (record { service = service; aircraft = aircraft; designators = letters; configuration = layout })
 
 -- ---- the leg lines
@@ -196,7 +196,7 @@ end_of text = do
 unfoldable pub leg_of : List ℕ → Option LegLine
 leg_of line = do
   departure ← end_of (word line)
-  arrival ← end_of (behind line)
+  arrival ← end_of (after_word line)
   Some (record { departure = departure; arrival = arrival })
 
 -- ---- the segment lines
@@ -217,8 +217,8 @@ points_of text =
 unfoldable pub segment_of : List ℕ → Option SegmentLine
 segment_of line = do
   points ← points_of (word line)
-  identifier ← digits_in 1 3 (before 47 (behind line))
-  text ← segment_text_of (from 47 (behind line))
+  identifier ← digits_in 1 3 (before 47 (after_word line))
+  text ← segment_text_of (from 47 (after_word line))
   Some (record { board = points.0; off = points.1; identifier = identifier; text = text })
 
 -- ---- the words

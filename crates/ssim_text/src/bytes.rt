@@ -1,7 +1,7 @@
 //! How bytes are cut into lines, and a line into its parts.
 ghost use Rattle.std.specs.Prelude.{◌≡◌, ◌∷◌, take, drop};
 ghost use Rattle.std.specs.List.{list_all};
-ghost use Rattle.ssim_text.specs.Bytes.{before, from, drop_blanks, word, behind, is_alphanumeric};
+ghost use Rattle.ssim_text.specs.Bytes.{before, from, drop_blanks, word, after_word, is_alphanumeric};
 ghost use Rattle.ssim_values.specs.Characters.{is_letter};
 
 /// The bytes before the first `mark`, and those from it on.
@@ -32,7 +32,7 @@ pub(crate) fn skip_blanks(text: &[u8]) -> &[u8]
 /// begins with a blank.
 pub fn first_word(line: &[u8]) -> (&[u8], &[u8])
     ensures word { result.0.now ≡ word line.now }
-    ensures behind { result.1.now ≡ behind line.now }
+    ensures after_word { result.1.now ≡ after_word line.now }
 {
     let (word, rest) = cut(line, b' ');
     (word, skip_blanks(rest))

@@ -62,8 +62,8 @@ no_trailer = refl
 no_leg : first_refusal (Done 5) [] ((1, top) ∷ (2, season) ∷ (3, tail) ∷ (4, bottom 3 4) ∷ []) ≡ Some (Refused 3 refused.Segment)
 no_leg = refl
 
-stands : first_refusal (Done 6) [] ((1, top) ∷ (2, season) ∷ (3, leg) ∷ (4, tail) ∷ (5, bottom 4 5) ∷ []) ≡ None
-stands = refl
+accepted : first_refusal (Done 6) [] ((1, top) ∷ (2, season) ∷ (3, leg) ∷ (4, tail) ∷ (5, bottom 4 5) ∷ []) ≡ None
+accepted = refl
 
 -- the trailer's serial is wrong, and its check reference is not: one note
 one_note : notes_of 0 ((1, top) ∷ (2, season) ∷ (3, leg) ∷ (4, bottom 3 9) ∷ []) ≡ Serial 4 ∷ []

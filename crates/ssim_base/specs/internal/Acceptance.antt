@@ -63,8 +63,8 @@ pub record HasAccepted (k : Acceptance) (earlier : List Record) : Type 0 where
   pub legs : AreLegs k.legs earlier
 
 -- one more record is allowed after the earlier ones, and the new state has it
-pub record Stood (new : Acceptance) (earlier : List Record) (r : Record) : Type 0 where
-  pub stands : refusal_at earlier r ≡ None
+pub record AcceptsNext (new : Acceptance) (earlier : List Record) (r : Record) : Type 0 where
+  pub valid : refusal_at earlier r ≡ None
   pub is_kept : HasAccepted new (kept earlier r ∷ earlier)
 
 -- A record is accepted and closed: it is allowed after the earlier records, and the new state has
@@ -72,7 +72,7 @@ pub record Stood (new : Acceptance) (earlier : List Record) (r : Record) : Type 
 abbrev pub Accepts : Acceptance → Acceptance → Record → Record → Type 0
 Accepts old new one closed =
     (earlier : List Record) (records : AcceptedRecords) → HasAccepted old earlier → AddsRecord old.records records closed
-    → Stood (record { records = records; expected = new.expected; legs = new.legs }) earlier one
+    → AcceptsNext (record { records = records; expected = new.expected; legs = new.legs }) earlier one
 
 -- the refusal is the record's own, or memory ran out
 abbrev pub IsRefused : ℕ → List Record → Record → BaseFault → Type 0
@@ -81,7 +81,7 @@ IsRefused number earlier r (fault.Read f) = ⊥
 IsRefused number earlier r (fault.Refused n refusal) = (n ≡ number) × (refusal_at earlier r ≡ Some refusal)
 
 -- the airline, overflow, rate and end of a leg record are valid, and its period is this one
-pub record LegStands (heading : CarrierTerms) (r : LegFields) (period : DayRange) : Type 0 where
+pub record AcceptsLeg (heading : CarrierTerms) (r : LegFields) (period : DayRange) : Type 0 where
   pub airline : bytes_eq r.name.airline heading.airline ≡ true
   pub blank : is_overflow r.overflow ≡ false
   pub weekly : is_rate r.rate ≡ true

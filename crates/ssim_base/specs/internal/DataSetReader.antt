@@ -30,11 +30,11 @@ pub record IsSoFar (g : DataSetReader) (earlier : List Record) (done : List (ℕ
 
 -- The records done are those of the bytes before the record with this number. If the bytes are not
 -- reported, nothing is said of them.
-pub record HasRead (limit : ℕ) (told : Option (List ℕ)) (g : DataSetReader) (number : ℕ) : Type 0 where
+pub record HasRead (limit : ℕ) (known : Option (List ℕ)) (g : DataSetReader) (number : ℕ) : Type 0 where
   pub earlier : List Record
   pub done : List (ℕ × Record)
   pub so_far : IsSoFar g earlier done
-  pub given : AreGivenOf limit told done (Done number)
+  pub given : AreGivenOf limit known done (Done number)
 
 -- the reader's state is that of some records done
 pub record IsWhole (g : DataSetReader) : Type 0 where

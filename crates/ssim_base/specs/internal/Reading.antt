@@ -22,17 +22,17 @@ AreGivenOf limit (Some bytes) records ending = AreGiven limit bytes records endi
 
 -- a result whose value has records and notes, read by `seen`, has as an outcome the property P; out
 -- of memory is no outcome
-abbrev pub AnswersAs : {X : Type 0} → (X → List Record × List Note) → Result X BaseFault → (Outcome → Type 0) → Type 0
-AnswersAs seen (Ok read) P = P (Ok (seen read))
-AnswersAs seen (Err fault.Memory) P = Unit {0}
-AnswersAs seen (Err (fault.Read f)) P = P (Err (fault.Read f))
-AnswersAs seen (Err (fault.Refused number refusal)) P = P (Err (fault.Refused number refusal))
+abbrev pub ReturnsAs : {X : Type 0} → (X → List Record × List Note) → Result X BaseFault → (Outcome → Type 0) → Type 0
+ReturnsAs seen (Ok read) P = P (Ok (seen read))
+ReturnsAs seen (Err fault.Memory) P = Unit {0}
+ReturnsAs seen (Err (fault.Read f)) P = P (Err (fault.Read f))
+ReturnsAs seen (Err (fault.Refused number refusal)) P = P (Err (fault.Refused number refusal))
 
 -- the refusal is what the bytes are read as; out of memory says nothing of the bytes
 abbrev pub Refuses : ℕ → Option (List ℕ) → BaseFault → Type 0
-Refuses limit told fault.Memory = Unit {0}
-Refuses limit told (fault.Read f) = IsReadOf limit told (Err (fault.Read f))
-Refuses limit told (fault.Refused number refusal) = IsReadOf limit told (Err (fault.Refused number refusal))
+Refuses limit known fault.Memory = Unit {0}
+Refuses limit known (fault.Read f) = IsReadOf limit known (Err (fault.Read f))
+Refuses limit known (fault.Refused number refusal) = IsReadOf limit known (Err (fault.Refused number refusal))
 
 -- whether a fault is of the bytes: neither did memory run out, nor did the reader fail (13), nor did
 -- more bytes come than the limit (14)

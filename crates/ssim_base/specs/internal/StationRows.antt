@@ -1,6 +1,6 @@
 -- A table of stations, read line by line.
 use Rattle.std.specs.Prelude.{◌≡◌, ℕ, nat_le, if◌then◌else◌, List, [], ◌∷◌, Option, Some, None, Result, Ok, Err}
-use Rattle.ssim_text.specs.Bytes.{◌>>=◌, word, behind}
+use Rattle.ssim_text.specs.Bytes.{◌>>=◌, word, after_word}
 use Rattle.ssim_text.specs.Lines.{station_in, day_in}
 use Rattle.ssim_base.specs.Stations.{Row, variation_in}
 use Rattle.ssim_base.specs.declared.stations.StationFault.{StationFault}
@@ -10,9 +10,9 @@ use Rattle.ssim_base.specs.declared.stations.StationFault.TheVariants.{Memory, S
 unfoldable pub row_of : List ℕ → Option Row
 row_of line = do
   station ← station_in (word line)
-  first ← day_in (word (behind line))
-  last ← day_in (word (behind (behind line)))
-  variation ← variation_in (behind (behind (behind line)))
+  first ← day_in (word (after_word line))
+  last ← day_in (word (after_word (after_word line)))
+  variation ← variation_in (after_word (after_word (after_word line)))
   if nat_le first last then Some (record { station = station; first = first; last = last; variation = variation }) else None
 
 -- a row before the rows of the later lines

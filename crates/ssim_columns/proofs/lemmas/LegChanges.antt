@@ -189,10 +189,10 @@ pub record AreBesideTimes (d : List ℕ) : Type 0 where
 
 pub beside_times : (d : List ℕ) → AreLegColumns d → AreBesideTimes d
 beside_times d h =
-    let m = h.stands.1 in
+    let m = h.valid.1 in
     let last : IsTrue (list_all is_carried (leg_columns 129 194 d)) = all_carried 0 (leg_columns 129 194 d) m.1.1.1.1.1.1.1.1.1.1.0 in
     record {
-      service = h.stands.0;
+      service = h.valid.0;
       departure = m.0;
       departure_variation = m.1.1.1.0;
       departure_terminal = m.1.1.1.1.0;
@@ -212,7 +212,7 @@ times_stand t d x ok h n c =
     subst (λ (z : List ℕ). IsTrue (list_all is_carried z)) (sym (slice_cut (spread x) 128 192 194 (lit≤ tt) (lit≤ tt))) (carried_append (leg_columns 129 192 x) (leg_columns 193 194 x) before variations) in
     record {
       len = n;
-      stands = (
+      valid = (
         ap (fault_in Carried) c.column_14 ∙ h.service,
         (
           ap (fault_in StationCode) c.columns_37_to_39 ∙ h.departure,
@@ -259,7 +259,7 @@ carried_as x y e h = subst (λ (z : List ℕ). IsTrue (list_all is_carried z)) (
 
 pub equipment_stands : (e : EquipmentFields) (d x : List ℕ) → AreLegColumns d → length x ≡ 158 → ChangesEquipment e d x → AreLegColumns x
 equipment_stands e d x h n c =
-    let m = h.stands.1 in
+    let m = h.valid.1 in
     let a : columns 37 72 (spread x) ≡ columns 37 72 (spread d) = c.columns_37_to_72 in
     let old_middle = all_carried 0 (leg_columns 71 127 d) m.1.1.1.1.1.1.1.1.1.0 in
     let old_tail = all_carried 0 (leg_columns 129 194 d) m.1.1.1.1.1.1.1.1.1.1.0 in
@@ -277,7 +277,7 @@ equipment_stands e d x h n c =
     let same : (first last : ℕ) → 36 < first → first ≤ last → last ≤ 72 → leg_columns first last x ≡ leg_columns first last d = λ first last low le high. same_columns (spread x) (spread d) 36 72 first last a low le high in
     record {
       len = n;
-      stands = (
+      valid = (
         ap (fault_in Carried) c.service_type ∙ none_other 0 (filled 1 (e.service_type ∷ [])) (filled_carried 1 (e.service_type ∷ [])).1,
         (
           ap (fault_in StationCode) (same 37 39 (lit< tt) (lit≤ tt) (lit≤ tt)) ∙ m.0,

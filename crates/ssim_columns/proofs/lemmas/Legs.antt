@@ -89,13 +89,13 @@ spells r b fits at =
     let serial : digits_of (columns 195 200 b) ≡ Some r.serial = ap digits_of at.serial ∙ digits_of-digits 5 r.serial fits.serial in
     let s = spread_parts r.columns fits.columns.len in
     let same : SameOwn (spread r.columns) b = record { service = sym s.service ∙ sym at.service; middle = sym s.middle ∙ sym at.middle; tail = sym s.tail ∙ sym at.tail } in
-    let own = own_moves (spread r.columns) b same fits.columns.stands in
+    let own = own_moves (spread r.columns) b same fits.columns.valid in
     let rest : EachIsValid b behind_middle =
     (ap (fault_in Carried) at.overflow ∙ rw (is_true (is_carried r.overflow) fits.overflow) refl, ((rest_stands b middle_table (field 129 194 Carried ∷ []) own.1).0, (stands_as (digits_of (columns 195 200 b)) r.serial serial, tt))) in
     let n = name_stands r.name b fits.name name in
     record {
       kind = at.kind;
-      stands = both_stand b name_table beside_name n (
+      valid = both_stand b name_table beside_name n (
         own.0,
         (
           dates_stand b r.first r.last first last,

@@ -69,7 +69,7 @@ are_leg_columns b len h =
     let same : SameOwn b (spread (own_columns b)) = record { service = sym d.service ∙ s.service; middle = sym d.middle ∙ s.middle; tail = sym d.tail ∙ s.tail } in
     let rest = h.1.1.1.1.1.1.1.1.1 in
     let stands : EachIsValid b own_table = (h.1.1.1.1.1.0, both_stand b middle_table tail_table (front_stands b middle_table behind_middle rest) ((rest_stands b middle_table behind_middle rest).1.0, tt)) in
-    record { len = length_own b len; stands = own_moves b (spread (own_columns b)) same stands }
+    record { len = length_own b len; valid = own_moves b (spread (own_columns b)) same stands }
 
 -- ---- columns of a leg, in its bytes
 

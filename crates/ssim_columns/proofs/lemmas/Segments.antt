@@ -143,7 +143,7 @@ spells r b fits at =
     let n = name_stands r.name b fits.name name in
     record {
       kind = at.kind;
-      stands = both_stand b name_table beside_name n (
+      valid = both_stand b name_table beside_name n (
         ap (fault_in Carried) at.service ∙ rw (is_true (is_carried r.service) fits.service) refl,
         (
           ap (fault_in Carried) at.front ∙ none_other 0 (slice_range r.tail 0 13) parts.0,

@@ -21,7 +21,7 @@ use ssim_values::{Airline, Day, DayMask};
 pub(crate) fn number_at(bytes: &[u8; 200], field: Field) -> u32
     requires are_columns { AreColumns field.first field.last }
     requires short { field.last ≤ field.first + 5 }
-    requires stands { fault_in Number (columns field.first field.last bytes.now) ≡ None }
+    requires valid { fault_in Number (columns field.first field.last bytes.now) ≡ None }
     ensures below { result < 10 ^ (field.last - (field.first - 1)) }
     ensures value { number_of (columns field.first field.last bytes.now) ≡ Some result }
 {
@@ -31,7 +31,7 @@ pub(crate) fn number_at(bytes: &[u8; 200], field: Field) -> u32
 pub(crate) fn sequence_at(bytes: &[u8; 200], field: Field) -> u32
     requires are_columns { AreColumns field.first field.last }
     requires short { field.last ≤ field.first + 5 }
-    requires stands { fault_in Sequence (columns field.first field.last bytes.now) ≡ None }
+    requires valid { fault_in Sequence (columns field.first field.last bytes.now) ≡ None }
     ensures below { (0 < result) × (result < 10 ^ (field.last - (field.first - 1))) }
     ensures value { sequence_of (columns field.first field.last bytes.now) ≡ Some result }
 {
@@ -41,7 +41,7 @@ pub(crate) fn sequence_at(bytes: &[u8; 200], field: Field) -> u32
 pub fn digits_at(bytes: &[u8; 200], field: Field) -> u32
     requires are_columns { AreColumns field.first field.last }
     requires short { field.last ≤ field.first + 5 }
-    requires stands { fault_in Digits (columns field.first field.last bytes.now) ≡ None }
+    requires valid { fault_in Digits (columns field.first field.last bytes.now) ≡ None }
     ensures below { result < 10 ^ (field.last - (field.first - 1)) }
     ensures value { digits_of (columns field.first field.last bytes.now) ≡ Some result }
 {
@@ -72,7 +72,7 @@ fn day_in(text: &[u8]) -> Day
 
 /// The start in columns 15 to 21.
 pub fn first_day_at(bytes: &[u8; 200]) -> Day
-    requires stands { fault_in Dates (columns 15 28 bytes.now) ≡ None }
+    requires valid { fault_in Dates (columns 15 28 bytes.now) ≡ None }
     ensures below { result < day_limit }
     ensures value { day_of (columns 15 21 bytes.now) ≡ Some result }
 {
@@ -82,7 +82,7 @@ pub fn first_day_at(bytes: &[u8; 200]) -> Day
 /// The end in columns 22 to 28.
 pub fn last_day_at(bytes: &[u8; 200], first: Day) -> Option<Day>
     requires first { day_of (columns 15 21 bytes.now) ≡ Some first }
-    requires stands { fault_in Dates (columns 15 28 bytes.now) ≡ None }
+    requires valid { fault_in Dates (columns 15 28 bytes.now) ≡ None }
     ensures below { IsEnd first result }
     ensures value { end_from (Some first) (columns 22 28 bytes.now) ≡ Some result }
 {
@@ -92,7 +92,7 @@ pub fn last_day_at(bytes: &[u8; 200], first: Day) -> Option<Day>
 
 /// The date in columns 29 to 35.
 pub fn created_at(bytes: &[u8; 200]) -> Day
-    requires stands { fault_in Date (columns 29 35 bytes.now) ≡ None }
+    requires valid { fault_in Date (columns 29 35 bytes.now) ≡ None }
     ensures below { result < day_limit }
     ensures value { day_of (columns 29 35 bytes.now) ≡ Some result }
 {
@@ -134,7 +134,7 @@ pub(crate) fn suffix_at(bytes: &[u8; 200]) -> u8
 
 pub fn carried_at(bytes: &[u8; 200], column: usize) -> u8
     requires are_columns { AreColumns column column }
-    requires stands { fault_in Carried (columns column column bytes.now) ≡ None }
+    requires valid { fault_in Carried (columns column column bytes.now) ≡ None }
     ensures ok { IsTrue (is_carried result) }
     ensures value { columns column column bytes.now ≡ result ∷ [] }
 {

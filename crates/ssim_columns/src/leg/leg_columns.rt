@@ -85,7 +85,7 @@ fn put_own(out: &mut [u8; 158], bytes: &[u8; 200])
 pub fn own_columns_at(bytes: &[u8; 200]) -> LegColumns
     requires { EachIsValid bytes.now leg_table }
     ensures value { own_columns bytes.now ≡ result }
-    ensures stands { AreLegColumns result }
+    ensures valid { AreLegColumns result }
 {
     let mut own = [0; 158];
     put_own(&mut own, bytes);
@@ -94,7 +94,7 @@ pub fn own_columns_at(bytes: &[u8; 200]) -> LegColumns
 
 fn station_of(text: &[u8]) -> Station
     requires len { length text.now ≡ 3 }
-    requires stands { fault_in StationCode text.now ≡ None }
+    requires valid { fault_in StationCode text.now ≡ None }
     ensures { result ≡ text.now }
 {
     match Station::parse(&bytes_of::<3>(text)) {
@@ -105,7 +105,7 @@ fn station_of(text: &[u8]) -> Station
 
 fn time_of(text: &[u8]) -> Clock
     requires len { length text.now ≡ 4 }
-    requires stands { fault_in Time text.now ≡ None }
+    requires valid { fault_in Time text.now ≡ None }
     ensures { clock_of text.now ≡ Some result }
 {
     clock_of(text).unwrap()
@@ -113,7 +113,7 @@ fn time_of(text: &[u8]) -> Clock
 
 fn time_or_blank(text: &[u8]) -> Option<Clock>
     requires len { length text.now ≡ 4 }
-    requires stands { fault_in PassengerTime text.now ≡ None }
+    requires valid { fault_in PassengerTime text.now ≡ None }
     ensures { passenger_time_of text.now ≡ Some result }
 {
     passenger_time_of(text).unwrap()
@@ -121,7 +121,7 @@ fn time_or_blank(text: &[u8]) -> Option<Clock>
 
 fn variation_or_blank(text: &[u8]) -> Option<Variation>
     requires len { length text.now ≡ 5 }
-    requires stands { fault_in UtcVariation text.now ≡ None }
+    requires valid { fault_in UtcVariation text.now ≡ None }
     ensures { utc_variation_of text.now ≡ Some result }
 {
     utc_variation_of(text).unwrap()
@@ -194,7 +194,7 @@ impl LegColumns {
     /// The bytes of columns 14, 37 to 127 and 129 to 194.
     pub fn bytes(&self) -> [u8; 158]
         ensures value { result ≡ self.now }
-        ensures stands { AreLegColumns result }
+        ensures valid { AreLegColumns result }
     {
         self.bytes
     }
@@ -202,7 +202,7 @@ impl LegColumns {
     /// The same bytes, in their place.
     pub(crate) fn bytes_held(&self) -> &[u8; 158]
         ensures value { result.now ≡ self.now }
-        ensures stands { AreLegColumns result.now }
+        ensures valid { AreLegColumns result.now }
     {
         &self.bytes
     }
@@ -211,7 +211,7 @@ impl LegColumns {
     pub fn put(&mut self, bytes: &[u8; 200])
         requires { EachIsValid bytes.now leg_table }
         ensures value { own_columns bytes.now ≡ self.new }
-        ensures stands { AreLegColumns self.new }
+        ensures valid { AreLegColumns self.new }
     {
         put_own(&mut self.bytes, bytes);
     }
@@ -229,7 +229,7 @@ impl LegColumns {
         requires { IsTrue (is_own field) }
         ensures len { length result.now + field.first ≡ field.last + 1 }
         ensures value { result.now ≡ leg_columns field.first field.last self.now }
-        ensures stands { AreLegColumns self.now }
+        ensures valid { AreLegColumns self.now }
     {
         let Field { first, last, .. } = field;
         if last == SERVICE_TYPE.last {

@@ -1,7 +1,7 @@
 -- What a printer has printed, and what a call of it leaves.
 use Rattle.std.specs.Prelude.{◌≡◌, ◌⊎◌, ℕ, ◌+◌, ◌%◌, ◌^◌, Bool, List, Option}
 use Rattle.std.specs.Io.KnownBytes.{Appends}
-use Rattle.ssim_base.specs.Sinks.{TakesFront}
+use Rattle.ssim_base.specs.Sinks.{TakesPrefix}
 
 -- The bytes that were taken, if the contract knows them; how many calls failed, a count that wraps;
 -- whether the latest call was a flush that did not fail; and the writer that the bytes go to.
@@ -19,7 +19,7 @@ pub record Grows (bytes : List ℕ) (before after : Paper) : Type 0 where
 
 -- a call failed, and a prefix of these bytes was taken
 pub record Breaks (bytes : List ℕ) (before after : Paper) : Type 0 where
-  pub taken : TakesFront bytes before.taken after.taken
+  pub taken : TakesPrefix bytes before.taken after.taken
   pub failures : after.failures ≡ (before.failures + 1) % 2 ^ 64
   pub device : after.device ≡ before.device
 

@@ -3,7 +3,7 @@ use Rattle.std.specs.Prelude.{◌≡◌, ◌⊎◌, ℕ, ◌+◌, ◌-◌, ◌&&
 use Rattle.std.specs.Prelude.{◌∷◌, ◌++◌, length, map, Option, Some, None, option_map, codes}
 use Rattle.std.specs.List.{list_any}
 use Rattle.std.specs.Str.{bytes_eq, is_utf8}
-use Rattle.ssim_text.specs.Bytes.{◌>>=◌, word, behind}
+use Rattle.ssim_text.specs.Bytes.{◌>>=◌, word, after_word}
 use Rattle.ssim_text.specs.Left.{lines_left}
 use Rattle.ssim_program.specs.declared.refusal.Refusal.{Refusal}
 use Rattle.ssim_program.specs.declared.refusal.Refusal.TheVariants as refused
@@ -22,7 +22,7 @@ desk_in count (digit ∷ other ∷ rest) = None
 -- the number of desks in a line DESKS n, with n from 1 to 9
 abbrev pub count_in : List ℕ → Option ℕ
 count_in line =
-    if bytes_eq (word line) (codes "DESKS") then option_map (λ n. n + 1) (desk_in 9 (behind line)) else None
+    if bytes_eq (word line) (codes "DESKS") then option_map (λ n. n + 1) (desk_in 9 (after_word line)) else None
 
 -- the name of a file in a word: at least one byte, no blank, valid UTF-8
 abbrev pub name_in : List ℕ → Option (List ℕ)
@@ -33,21 +33,21 @@ name_in text =
 abbrev pub take_in : ℕ → List ℕ → Option Written
 take_in count rest = do
   desk ← desk_in count (word rest)
-  name ← name_in (behind rest)
+  name ← name_in (after_word rest)
   Some (Takes desk name)
 
 -- the step of a line MERGE d e
 abbrev pub merge_in : ℕ → List ℕ → Option Written
 merge_in count rest = do
   into ← desk_in count (word rest)
-  from ← desk_in count (behind rest)
+  from ← desk_in count (after_word rest)
   Some (Merges into from)
 
 -- the step that a line spells, for this number of desks
 abbrev pub step_in : ℕ → List ℕ → Option Written
 step_in count line =
-    if bytes_eq (word line) (codes "TAKE") then take_in count (behind line)
-    else (if bytes_eq (word line) (codes "MERGE") then merge_in count (behind line)
+    if bytes_eq (word line) (codes "TAKE") then take_in count (after_word line)
+    else (if bytes_eq (word line) (codes "MERGE") then merge_in count (after_word line)
     else None)
 
 -- each line spells a step, in order

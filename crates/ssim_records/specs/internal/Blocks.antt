@@ -17,10 +17,10 @@ NextBlock over ahead later (Err ReaderNeverEnds) = (0 < over) × (length ahead <
 -- the result of fetching the next block is right for the bytes that were held and left; nothing is
 -- said if the reader does not report its bytes
 abbrev pub GivesBlock : ℕ → Bool → ℕ → List ℕ → Option (List ℕ) → ℕ → List ℕ → Option (List ℕ) → Result (Option (List ℕ)) Stop → Type 0
-GivesBlock limit behind came held None came' held' left' result = Unit {0}
-GivesBlock limit behind came held (Some left) came' held' None result = ⊥
-GivesBlock limit behind came held (Some left) came' held' (Some left') result =
-    (came' + length left' ≡ came + length left) × NextBlock (beyond limit came left) (trim behind (held ++ left)) (held' ++ left') result
+GivesBlock limit after_block came held None came' held' left' result = Unit {0}
+GivesBlock limit after_block came held (Some left) came' held' None result = ⊥
+GivesBlock limit after_block came held (Some left) came' held' (Some left') result =
+    (came' + length left' ≡ came + length left) × NextBlock (beyond limit came left) (trim after_block (held ++ left)) (held' ++ left') result
 
 -- the blocks and the rest ahead of a reading that has counted this number of blocks
 abbrev pub Ahead : ℕ → ℕ → ℕ → List ℕ → List ℕ → List (List ℕ) → List ℕ → Type 0

@@ -83,7 +83,7 @@ impl Model for Carrier {
 
 fn carrier_of(bytes: &[u8; 200]) -> Carrier
     requires kind { columns 1 1 bytes.now ≡ 50 ∷ [] }
-    requires stands { EachIsValid bytes.now carrier_table }
+    requires valid { EachIsValid bytes.now carrier_table }
     ensures { SpellsCarrier result bytes.now }
 {
     let first = first_day_at(bytes);

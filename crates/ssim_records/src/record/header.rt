@@ -40,7 +40,7 @@ impl Model for Header {
 
 fn header_of(bytes: &[u8; 200]) -> Header
     requires kind { columns 1 1 bytes.now ≡ 49 ∷ [] }
-    requires stands { EachIsValid bytes.now header_table }
+    requires valid { EachIsValid bytes.now header_table }
     ensures { SpellsHeader result bytes.now }
 {
     Header {

@@ -79,7 +79,7 @@ impl Model for Trailer {
 
 fn trailer_of(bytes: &[u8; 200]) -> Trailer
     requires kind { columns 1 1 bytes.now ≡ 53 ∷ [] }
-    requires stands { EachIsValid bytes.now trailer_table }
+    requires valid { EachIsValid bytes.now trailer_table }
     ensures { SpellsTrailer result bytes.now }
 {
     Trailer {

@@ -9,7 +9,7 @@ ghost use Rattle.ssim_base.specs.Export.{fill_count, frame_from, leg_records, nu
 ghost use Rattle.ssim_schedule.specs.internal.Plan.{HasWritableLegs, HasWritablePieces, numbered_lines, pieces_count, plan_bytes, plan_count, plan_records};
 ghost use Rattle.ssim_schedule.specs.internal.SharedLegs.{legs_count};
 ghost use Rattle.ssim_base.specs.ReadBack.{IsWritable};
-ghost use Rattle.ssim_base.specs.Sinks.{CountsFault, TakesFront, TakesUpTo};
+ghost use Rattle.ssim_base.specs.Sinks.{CountsFault, TakesPrefix, TakesUpTo};
 
 use crate::export::plan::FlightPieces;
 use crate::itinerary::Itinerary;
@@ -32,7 +32,7 @@ pub(crate) fn put_export<W: Sink>(
     requires room { 3 + plan_count plan.items < 1000000 }
     ensures ok { OnOk result (Appends (W.taken out.old) (W.taken out.new) (plan_bytes (frame_from header.now carrier.now trailer.now) plan.items)) }
     ensures writable { OnOk result (All HasWritablePieces plan.items) }
-    ensures err { OnErr result (TakesFront (plan_bytes (frame_from header.now carrier.now trailer.now) plan.items) (W.taken out.old) (W.taken out.new)) }
+    ensures err { OnErr result (TakesPrefix (plan_bytes (frame_from header.now carrier.now trailer.now) plan.items) (W.taken out.old) (W.taken out.new)) }
     ensures failures { CountsFault (W.failures out.old) (W.failures out.new) result }
     ensures device { W.device out.new ≡ W.device out.old }
 {
@@ -51,7 +51,7 @@ pub(crate) fn put_export<W: Sink>(
 // Puts one record, and fill up to five records.
 fn put_alone<W: Sink>(out: &mut W, block: &mut OutputBuffer, one: &Record) -> Result<(), WriteFault>
     ensures ok { OnOk result (TakesUpTo (block.old ++ section_bytes (one.now ∷ [])) block.new (W.taken out.old) (W.taken out.new)) }
-    ensures err { OnErr result (TakesFront (block.old ++ section_bytes (one.now ∷ [])) (W.taken out.old) (W.taken out.new)) }
+    ensures err { OnErr result (TakesPrefix (block.old ++ section_bytes (one.now ∷ [])) (W.taken out.old) (W.taken out.new)) }
     ensures failures { CountsFault (W.failures out.old) (W.failures out.new) result }
     ensures device { W.device out.new ≡ W.device out.old }
 {
@@ -71,7 +71,7 @@ fn put_body<W: Sink>(
     ensures next { IfOk result (λ next. next ≡ 3 + plan_count plan.items) }
     ensures ok { OnOk result (TakesUpTo (block.old ++ section_bytes (numbered 3 (plan_records airline plan.items))) block.new (W.taken out.old) (W.taken out.new)) }
     ensures writable { OnOk result (All HasWritablePieces plan.items) }
-    ensures err { OnErr result (TakesFront (block.old ++ section_bytes (numbered 3 (plan_records airline plan.items))) (W.taken out.old) (W.taken out.new)) }
+    ensures err { OnErr result (TakesPrefix (block.old ++ section_bytes (numbered 3 (plan_records airline plan.items))) (W.taken out.old) (W.taken out.new)) }
     ensures failures { CountsFault (W.failures out.old) (W.failures out.new) result }
     ensures device { W.device out.new ≡ W.device out.old }
 {
@@ -99,7 +99,7 @@ fn put_flights<W: Sink>(
     ensures next { IfOk result (λ next. next ≡ serial + plan_count plan.items) }
     ensures ok { OnOk result (TakesUpTo (block.old ++ numbered_lines serial (plan_records airline plan.items)) block.new (W.taken out.old) (W.taken out.new)) }
     ensures writable { OnOk result (All HasWritablePieces plan.items) }
-    ensures err { OnErr result (TakesFront (block.old ++ numbered_lines serial (plan_records airline plan.items)) (W.taken out.old) (W.taken out.new)) }
+    ensures err { OnErr result (TakesPrefix (block.old ++ numbered_lines serial (plan_records airline plan.items)) (W.taken out.old) (W.taken out.new)) }
     ensures failures { CountsFault (W.failures out.old) (W.failures out.new) result }
     ensures device { W.device out.new ≡ W.device out.old }
 {
@@ -131,7 +131,7 @@ fn put_pieces<W: Sink>(
     ensures next { IfOk result (λ next. next ≡ serial + pieces_count pieces.now) }
     ensures ok { OnOk result (TakesUpTo (block.old ++ numbered_lines serial (pieces_records airline flight 1 pieces.now)) block.new (W.taken out.old) (W.taken out.new)) }
     ensures writable { OnOk result (All HasWritableLegs pieces.now) }
-    ensures err { OnErr result (TakesFront (block.old ++ numbered_lines serial (pieces_records airline flight 1 pieces.now)) (W.taken out.old) (W.taken out.new)) }
+    ensures err { OnErr result (TakesPrefix (block.old ++ numbered_lines serial (pieces_records airline flight 1 pieces.now)) (W.taken out.old) (W.taken out.new)) }
     ensures failures { CountsFault (W.failures out.old) (W.failures out.new) result }
     ensures device { W.device out.new ≡ W.device out.old }
 {
@@ -170,7 +170,7 @@ fn put_legs<W: Sink>(
     ensures next { IfOk result (λ next. next ≡ serial + legs_count legs.now) }
     ensures ok { OnOk result (TakesUpTo (block.old ++ numbered_lines serial (flat_map (leg_records airline flight variation period) legs.now)) block.new (W.taken out.old) (W.taken out.new)) }
     ensures writable { OnOk result (All IsWritable legs.now) }
-    ensures err { OnErr result (TakesFront (block.old ++ numbered_lines serial (flat_map (leg_records airline flight variation period) legs.now)) (W.taken out.old) (W.taken out.new)) }
+    ensures err { OnErr result (TakesPrefix (block.old ++ numbered_lines serial (flat_map (leg_records airline flight variation period) legs.now)) (W.taken out.old) (W.taken out.new)) }
     ensures failures { CountsFault (W.failures out.old) (W.failures out.new) result }
     ensures device { W.device out.new ≡ W.device out.old }
 {
@@ -198,7 +198,7 @@ fn put_tails<W: Sink>(
     ensures next { IfOk result (λ next. next ≡ serial + length tails.now) }
     ensures ok { OnOk result (TakesUpTo (block.old ++ numbered_lines serial (map (tail_record name.now (slice_index columns.now 0)) tails.now)) block.new (W.taken out.old) (W.taken out.new)) }
     ensures writable { OnOk result (All IsTail tails.now) }
-    ensures err { OnErr result (TakesFront (block.old ++ numbered_lines serial (map (tail_record name.now (slice_index columns.now 0)) tails.now)) (W.taken out.old) (W.taken out.new)) }
+    ensures err { OnErr result (TakesPrefix (block.old ++ numbered_lines serial (map (tail_record name.now (slice_index columns.now 0)) tails.now)) (W.taken out.old) (W.taken out.new)) }
     ensures failures { CountsFault (W.failures out.old) (W.failures out.new) result }
     ensures device { W.device out.new ≡ W.device out.old }
 {

@@ -2,7 +2,7 @@
 -- buffer's own into the sink.
 use Rattle.std.proofs.Common.{◌++◌, ℕ, List, [], refl, sym, subst}
 use Rattle.std.specs.Io.KnownBytes.{Appends}
-use Rattle.ssim_base.specs.Sinks.{TakesFront, TakesUpTo}
+use Rattle.ssim_base.specs.Sinks.{TakesPrefix, TakesUpTo}
 use Rattle.ssim_base.proofs.SinkLemmas.{at_fault, front_more, halt_last, step_last, taken_all}
 use Rattle.ssim_base.proofs.output_buffer.put_bytes.Goals as goal
 
@@ -11,7 +11,7 @@ returns-in_err-put_all-clause-err g c =
     let old = g.W.Sink.taken c.args.out.now in
     let new = g.W.Sink.taken c.put_all.new.out in
     at_fault c.from_residual.result (front_more c.args.block.now c.args.bytes.now (c.args.block.now ++ c.args.bytes.now) old new refl
-    (subst (λ (bs : List ℕ). TakesFront bs old new) c.bytes.ensures c.in_err-put_all.ensures.err))
+    (subst (λ (bs : List ℕ). TakesPrefix bs old new) c.bytes.ensures c.in_err-put_all.ensures.err))
 
 pub returns-in_err-put_all-2-clause-err : goal.returns-in_err-put_all-2-clause-err
 returns-in_err-put_all-2-clause-err g c =

@@ -16,12 +16,12 @@ loop-done-preserved c =
     let i = c.loop-done.invariant in
     let r = c.in-Some.one in
     let line : IsLine r c.loop-done.parts c.next_line.new.parts = rw c.in-Some.is at (c.if-not-next_line.ensures.some refl) in
-    let stood = c.in-Ok.ensures.stood i.earlier i.is_kept in
+    let stood = c.in-Ok.ensures.accepted i.earlier i.is_kept in
     let few : length i.earlier ≡ c.args.count → ⊥ = λ all. omega (arith, all, i.number, c.loop-done-test.true) in
     record {
       earlier = r ∷ i.earlier;
       is_kept = subst (λ (k : Record). HasAccepted c.put.new.self (k ∷ i.earlier)) (kept-bare i.earlier r line.bare) stood.is_kept;
-      is_left = left-more c.args.parts.now c.loop-done.parts c.next_line.new.parts c.args.count i.earlier r i.is_left line stood.stands few;
+      is_left = left-more c.args.parts.now c.loop-done.parts c.next_line.new.parts c.args.count i.earlier r i.is_left line stood.valid few;
       keeps_is = c.in-Ok.ensures.keeps ∙ i.keeps_is;
       number = omega (arith, i.number);
       few = omega (arith, c.loop-done-test.true);

@@ -8,7 +8,7 @@ use Rattle.ssim_columns.proofs.record_writers.write_leg.Goals as goal
 pub returns-clause-value : goal.returns-clause-value
 returns-clause-value c =
     let d = c.args.columns.now in
-    let len = c.text.ensures.stands.len in
+    let len = c.text.ensures.valid.len in
     let service : c.text.result.now ≡ slice_range d 0 1 = c.text.ensures.value ∙ sym (own_service d len) in
     let middle : c.text-2.result.now ≡ slice_range d 1 92 = c.text-2.ensures.value ∙ sym (own_middle d 37 127 len (lit≤ tt) (lit≤ tt) (lit≤ tt)) in
     let tail : c.text-3.result.now ≡ slice_range d 92 158 = c.text-3.ensures.value ∙ sym (own_tail d 129 194 len (lit≤ tt) (lit≤ tt) (lit≤ tt)) in

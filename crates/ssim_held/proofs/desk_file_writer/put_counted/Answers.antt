@@ -1,6 +1,6 @@
 -- The word, the digits and LF, one after another.
 use Rattle.std.proofs.Common.{◌≡◌, ◌++◌, ◌∷◌, [], ℕ, List, decimal, append_assoc, sym, subst, ◌∙◌}
-use Rattle.ssim_base.specs.Sinks.{TakesFront, TakesUpTo}
+use Rattle.ssim_base.specs.Sinks.{TakesPrefix, TakesUpTo}
 use Rattle.ssim_base.proofs.SinkLemmas.{at_fault, front_more, halt_last, if_err, if_ok, step_last}
 use Rattle.ssim_held.proofs.desk_file_writer.put_counted.Goals as goal
 
@@ -18,7 +18,7 @@ returns-in_err-put_bytes-2-clause-err g c =
     let t1 = g.W.Sink.taken c.put_bytes.new.out in
     let t2 = g.W.Sink.taken c.put_bytes-2.new.out in
     let text : c.as_bytes.result.now ≡ digits = c.as_bytes.ensures.value ∙ c.format.ensures.text in
-    let put = subst (λ (bs : List ℕ). TakesFront (held ++ bs) t1 t2) text c.in_err-put_bytes-2.ensures.err in
+    let put = subst (λ (bs : List ℕ). TakesPrefix (held ++ bs) t1 t2) text c.in_err-put_bytes-2.ensures.err in
     at_fault c.from_residual-in_err-put_bytes-2.result (halt_last c.args.block.now c.args.word.now (digits ++ 10 ∷ []) held t t1 t2 c.in_ok-put_bytes.ensures.ok
     (front_more (held ++ digits) (10 ∷ []) (held ++ (digits ++ 10 ∷ [])) t1 t2 (sym (append_assoc held digits (10 ∷ []))) put))
 

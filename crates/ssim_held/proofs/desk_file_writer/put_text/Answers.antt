@@ -1,6 +1,6 @@
 -- The line with the length, and the text.
 use Rattle.std.proofs.Common.{◌≡◌, ◌++◌, ℕ, List, codes, length, ap, subst, ◌∙◌}
-use Rattle.ssim_base.specs.Sinks.{TakesFront, TakesUpTo}
+use Rattle.ssim_base.specs.Sinks.{TakesPrefix, TakesUpTo}
 use Rattle.ssim_base.proofs.SinkLemmas.{at_fault, halt_last, if_err, if_ok, step_last}
 use Rattle.ssim_text.specs.Canonical.{canonical}
 use Rattle.ssim_held.specs.File.{counted}
@@ -13,7 +13,7 @@ returns-in_err-put_counted-clause-err g c =
     let is : c.text-text.result.now ≡ text = c.text-text.ensures.written ∙ ap canonical c.message.ensures in
     let t = g.W.Sink.taken c.args.out.now in
     let u = g.W.Sink.taken c.put_counted.new.out in
-    let line = subst (λ (bs : List ℕ). TakesFront (c.args.block.now ++ counted (codes "TEXT") (length bs)) t u) is c.in_err-put_counted.ensures.err in
+    let line = subst (λ (bs : List ℕ). TakesPrefix (c.args.block.now ++ counted (codes "TEXT") (length bs)) t u) is c.in_err-put_counted.ensures.err in
     at_fault c.from_residual.result (first_fails c.args.block.now (counted (codes "TEXT") (length text)) text t u line)
 
 pub returns-clause-ok : goal.returns-clause-ok
@@ -38,4 +38,4 @@ returns-clause-err g c =
     let v = g.W.Sink.taken c.put_bytes.new.out in
     let line = subst (λ (bs : List ℕ). TakesUpTo (c.args.block.now ++ counted (codes "TEXT") (length bs)) held t u) is c.in_ok-put_counted.ensures.ok in
     if_err c.put_bytes.result (λ put. halt_last c.args.block.now (counted (codes "TEXT") (length text)) text held t u v line
-    (subst (λ (bs : List ℕ). TakesFront (held ++ bs) u v) is put)) c.put_bytes.ensures.err
+    (subst (λ (bs : List ℕ). TakesPrefix (held ++ bs) u v) is put)) c.put_bytes.ensures.err

@@ -5,8 +5,8 @@ use Rattle.ssim_base.specs.internal.AcceptedRecords.{AddsRecord}
 use Rattle.ssim_base.proofs.acceptance.Acceptance.put_next.Goals.{in-Leg+in_ok-close_leg-in-Leg, in-Segment+in_ok-close_segment-in-Segment}
 use Rattle.ssim_base.proofs.acceptance.Acceptance.put_next.Goals as goal
 
-pub returns-clause-stood : goal.returns-clause-stood
-returns-clause-stood c = λ earlier is.
+pub returns-clause-accepted : goal.returns-clause-accepted
+returns-clause-accepted c = λ earlier is.
     let old = c.args.self.now in
     let records = c.push.new.self in
     let pushed = c.in_ok-push.ensures.kept in

@@ -5,5 +5,5 @@ use Rattle.ssim_columns.proofs.leg.leg_columns.own_columns_at.Goals as goal
 pub invariant_of-result : goal.invariant_of-result
 invariant_of-result c = rw c.put_own.ensures (are_leg_columns c.args.bytes.now c.told-bytes c.requires)
 
-pub returns-clause-stands : goal.returns-clause-stands
-returns-clause-stands c = rw c.put_own.ensures (are_leg_columns c.args.bytes.now c.told-bytes c.requires)
+pub returns-clause-valid : goal.returns-clause-valid
+returns-clause-valid c = rw c.put_own.ensures (are_leg_columns c.args.bytes.now c.told-bytes c.requires)

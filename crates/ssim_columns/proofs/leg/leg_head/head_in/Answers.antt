@@ -15,7 +15,7 @@ returns c =
     let arrival : IsTrue (arrival_is_valid b) = simp (c.arrival_is_valid.ensures) at c.if-not-arrival_is_valid.false in
     let dates = c.in_ok-dates.ensures in
     record {
-      stands = leg_stands b c.in_ok-name.name c.in_ok-dates.dates.first c.in_ok-dates.dates.last c.in_ok-dates.dates.days c.in_ok-serial.serial all departure arrival c.in_ok-name.ensures.is_name c.in_ok-name.ensures.spells dates.first dates.last dates.days c.in_ok-serial.ensures.value;
+      valid = leg_stands b c.in_ok-name.name c.in_ok-dates.dates.first c.in_ok-dates.dates.last c.in_ok-dates.dates.days c.in_ok-serial.serial all departure arrival c.in_ok-name.ensures.is_name c.in_ok-name.ensures.spells dates.first dates.last dates.days c.in_ok-serial.ensures.value;
       name = c.in_ok-name.ensures.spells;
       is_name = c.in_ok-name.ensures.is_name;
       first = dates.first;

@@ -10,7 +10,7 @@ returns c =
     let b = c.args.bytes.now in
     let all : IsTrue (list_all is_carried (columns 3 194 b)) = simp (c.middle_is_carried.ensures) at c.if-not-middle_is_carried.false in
     record {
-      stands = segment_stands b c.in_ok-name.name c.in_ok-serial.serial all c.in_ok-name.ensures.is_name c.in_ok-name.ensures.spells c.in_ok-serial.ensures.value;
+      valid = segment_stands b c.in_ok-name.name c.in_ok-serial.serial all c.in_ok-name.ensures.is_name c.in_ok-name.ensures.spells c.in_ok-serial.ensures.value;
       name = c.in_ok-name.ensures.spells;
       is_name = c.in_ok-name.ensures.is_name;
       serial = c.in_ok-serial.ensures.value;

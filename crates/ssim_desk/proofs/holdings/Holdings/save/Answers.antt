@@ -2,7 +2,7 @@
 use Rattle.std.proofs.Common.{OnErr, OnOk, All, List, ℕ, ap, subst, ◌∙◌}
 use Rattle.std.specs.Io.KnownBytes.{Appends}
 use Rattle.ssim_base.specs.SavedBase.{IsBaseRecords}
-use Rattle.ssim_base.specs.Sinks.{TakesFront}
+use Rattle.ssim_base.specs.Sinks.{TakesPrefix}
 use Rattle.ssim_base.specs.Stations.{Row}
 use Rattle.ssim_held.specs.File.{CanBeSaved, IsRow, IsSpelled, desk_file}
 use Rattle.ssim_held.specs.Entries.{DeskSeen, Entry}
@@ -20,7 +20,7 @@ pub returns-clause-err : goal.returns-clause-err
 returns-clause-err g c =
     let i = c.self.inside in
     let file = file_is i.base i.held.items c.deref.result.now c.records.result.now c.rows.result.now c.records.ensures.value c.rows.ensures c.deref.ensures.value in
-    subst (λ (bytes : List ℕ). OnErr c.put_desk.result (TakesFront bytes (g.W.Sink.taken c.args.out.now) (g.W.Sink.taken c.put_desk.new.out)))
+    subst (λ (bytes : List ℕ). OnErr c.put_desk.result (TakesPrefix bytes (g.W.Sink.taken c.args.out.now) (g.W.Sink.taken c.put_desk.new.out)))
     (file ∙ ap (λ (d : DeskSeen). desk_file d.base d.held) c.self.view_is) c.put_desk.ensures.err
 
 pub returns-clause-can_be_saved : goal.returns-clause-can_be_saved

@@ -9,12 +9,12 @@ pub returns-after-read-clause-record : goal.returns-after-read-clause-record
 returns-after-read-clause-record g c =
     let i = c.self.inside in
     let old : Reading = record { limit = i.limit; came = i.came; number = i.number; held = i.window; ended = i.ended } in
-    let behind : Reading = record { limit = i.limit; came = c.next_other.new.came; number = c.next_other.new.number; held = drop 200 c.next_other.new.window; ended = i.ended } in
+    let after_block : Reading = record { limit = i.limit; came = c.next_other.new.came; number = c.next_other.new.number; held = drop 200 c.next_other.new.window; ended = i.ended } in
     let e : c.next_other.result ≡ Ok true = search rules in
     let b = rw e at c.next_other.ensures.block in
     elim c.match-read.branch [
-      | in-Ok w ↦ rw (w.result-is, c.skip.ensures, ← c.self.view_is) (gives_placed old behind _ _ (take 200 c.next_other.new.window) _ refl b (rw (← c.front.ensures) w.in-Ok.ensures.ok))
-      | in-Err w ↦ rw (w.result-is, c.skip.ensures, ← c.self.view_is) (gives_refusal old behind _ _ (take 200 c.next_other.new.window) w.in-Err.fault b (rw (← c.front.ensures) w.in-Err.ensures.err))
+      | in-Ok w ↦ rw (w.result-is, c.skip.ensures, ← c.self.view_is) (gives_placed old after_block _ _ (take 200 c.next_other.new.window) _ refl b (rw (← c.front.ensures) w.in-Ok.ensures.ok))
+      | in-Err w ↦ rw (w.result-is, c.skip.ensures, ← c.self.view_is) (gives_refusal old after_block _ _ (take 200 c.next_other.new.window) w.in-Err.fault b (rw (← c.front.ensures) w.in-Err.ensures.err))
     ]
 
 pub returns-after-read-clause-fetched : goal.returns-after-read-clause-fetched

@@ -5,7 +5,7 @@ use Rattle.ssim_records.specs.Frames.{fill}
 use Rattle.ssim_records.specs.Record.{written}
 use Rattle.ssim_records.specs.declared.record.Record.{Record}
 use Rattle.ssim_base.specs.Export.{line, section_bytes}
-use Rattle.ssim_base.specs.Sinks.{TakesFront, TakesUpTo}
+use Rattle.ssim_base.specs.Sinks.{TakesPrefix, TakesUpTo}
 use Rattle.ssim_base.proofs.SinkLemmas.{at_fault, if_ok, if_err, front_more, step_last, halt_last, one_section}
 use Rattle.ssim_schedule.proofs.export.lines.put_alone.Goals as goal
 
@@ -25,5 +25,5 @@ returns-clause-ok g c =
 
 pub returns-clause-err : goal.returns-clause-err
 returns-clause-err g c =
-    if_err c.put_fill.result (λ h. subst (λ (bs : List ℕ). TakesFront bs (g.W.Sink.taken c.args.out.now) (g.W.Sink.taken c.put_fill.new.out)) (sym (split (written c.args.one.now) c.args.one.now refl c.args.block.now))
+    if_err c.put_fill.result (λ h. subst (λ (bs : List ℕ). TakesPrefix bs (g.W.Sink.taken c.args.out.now) (g.W.Sink.taken c.put_fill.new.out)) (sym (split (written c.args.one.now) c.args.one.now refl c.args.block.now))
     (halt_last c.args.block.now (line (written c.args.one.now)) (flat_map line (replicate 4 fill)) c.put_record.new.block (g.W.Sink.taken c.args.out.now) (g.W.Sink.taken c.put_record.new.out) (g.W.Sink.taken c.put_fill.new.out) c.in_ok-put_record.ensures.ok h)) c.put_fill.ensures.err

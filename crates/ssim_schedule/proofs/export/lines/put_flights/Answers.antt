@@ -6,7 +6,7 @@ use Rattle.std.proofs.lemmas.List.Elements.{recursion_from_All, All-from_recursi
 use Rattle.ssim_values.specs.Flight.{FlightNumber}
 use Rattle.ssim_base.specs.Export.{Piece, pieces_records}
 use Rattle.ssim_schedule.specs.internal.Plan.{HasWritableLegs, HasWritablePieces, Planned, numbered_lines, pieces_count, plan_count, plan_records}
-use Rattle.ssim_base.specs.Sinks.{TakesFront, TakesUpTo}
+use Rattle.ssim_base.specs.Sinks.{TakesPrefix, TakesUpTo}
 use Rattle.ssim_base.proofs.Each.{all_left}
 use Rattle.ssim_schedule.proofs.Puts.{flight-split}
 use Rattle.ssim_base.proofs.SinkLemmas.{at_fault, step, halt}
@@ -45,7 +45,7 @@ returns-in_err-next-clause-err g c =
     let whole = flight-split a next after p rest left c.in-Some.ensures.steps.0 refl in
     at_fault c.from_residual.result (halt (c.args.block.now ++ numbered_lines c.args.serial (plan_records a plan)) at.block (numbered_lines next (pieces_records a p.0 1 p.1)) (numbered_lines after (plan_records a rest))
     (numbered_lines next (plan_records a left)) (g.W.Sink.taken c.args.out.now) (g.W.Sink.taken at.out) (g.W.Sink.taken c.put_pieces.new.out) whole at.invariant.bytes
-    (subst (λ (bs : List ℕ). TakesFront (at.block ++ bs) (g.W.Sink.taken at.out) (g.W.Sink.taken c.put_pieces.new.out)) (its_lines a next c.flight.result p.0 c.pieces.result.now p.1 c.flight.ensures c.pieces.ensures) c.in_err-next.ensures.err))
+    (subst (λ (bs : List ℕ). TakesPrefix (at.block ++ bs) (g.W.Sink.taken at.out) (g.W.Sink.taken c.put_pieces.new.out)) (its_lines a next c.flight.result p.0 c.pieces.result.now p.1 c.flight.ensures c.pieces.ensures) c.in_err-next.ensures.err))
 
 pub loop-planned-preserved : goal.loop-planned-preserved
 loop-planned-preserved g c =

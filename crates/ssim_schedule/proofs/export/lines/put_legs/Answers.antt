@@ -11,7 +11,7 @@ use Rattle.ssim_base.specs.Export.{leg_records, line, tail_record, with_serial}
 use Rattle.ssim_schedule.specs.internal.Plan.{numbered_lines}
 use Rattle.ssim_schedule.specs.internal.SharedLegs.{legs_count}
 use Rattle.ssim_base.specs.ReadBack.{IsWritable}
-use Rattle.ssim_base.specs.Sinks.{TakesFront, TakesUpTo}
+use Rattle.ssim_base.specs.Sinks.{TakesPrefix, TakesUpTo}
 use Rattle.ssim_base.proofs.Each.{all_done, all_more, item}
 use Rattle.ssim_schedule.proofs.Puts.{leg-split, leg-tails-split, leg_from, name_from}
 use Rattle.ssim_base.proofs.SinkLemmas.{at_fault, step, halt}
@@ -37,7 +37,7 @@ returns-in_err-put_leg-clause-err g c =
     let whole = leg-split a f v p next l (drop (i + 1) legs) (drop i legs) bytes split refl in
     at_fault c.from_residual.result (halt (c.args.block.now ++ numbered_lines c.args.serial (flat_map (leg_records a f v p) legs)) c.loop-leg.block (line bytes) (numbered_lines (next + 1) (map (tail_record (name_from a f v l.sequence) (slice_index l.columns 0)) l.tails ++ flat_map (leg_records a f v p) (drop (i + 1) legs)))
     (numbered_lines next (flat_map (leg_records a f v p) (drop i legs))) (g.W.Sink.taken c.args.out.now) (g.W.Sink.taken c.loop-leg.out) (g.W.Sink.taken c.put_leg.new.out) whole c.loop-leg.invariant.bytes
-    (subst (λ (bs : List ℕ). TakesFront (c.loop-leg.block ++ line bs) (g.W.Sink.taken c.loop-leg.out) (g.W.Sink.taken c.put_leg.new.out)) is c.in_err-put_leg.ensures.err))
+    (subst (λ (bs : List ℕ). TakesPrefix (c.loop-leg.block ++ line bs) (g.W.Sink.taken c.loop-leg.out) (g.W.Sink.taken c.put_leg.new.out)) is c.in_err-put_leg.ensures.err))
 
 pub returns-in_err-next-clause-err : goal.returns-in_err-next-clause-err
 returns-in_err-next-clause-err g c =
@@ -65,7 +65,7 @@ returns-in_err-next-clause-err g c =
     let tail_lines = λ (n : Name) (cs : List ℕ) (ts : List (List ℕ)). numbered_lines (next + 1) (map (tail_record n (slice_index cs 0)) ts) in
     let tails_are : tail_lines c.new-name.result c.columns_held-columns.result.now c.tails.result.now ≡ tail_lines (name_from a f v l.sequence) l.columns l.tails =
     ap (λ (n : Name). tail_lines n c.columns_held-columns.result.now c.tails.result.now) name ∙ ap (λ (cs : List ℕ). tail_lines (name_from a f v l.sequence) cs c.tails.result.now) c.columns_held-columns.ensures ∙ ap (λ (ts : List (List ℕ)). tail_lines (name_from a f v l.sequence) l.columns ts) c.tails.ensures in
-    let its = subst (λ (bs : List ℕ). TakesFront (c.put_leg.new.block ++ bs) (g.W.Sink.taken c.put_leg.new.out) (g.W.Sink.taken c.put_tails.new.out)) tails_are c.in_err-next.ensures.err in
+    let its = subst (λ (bs : List ℕ). TakesPrefix (c.put_leg.new.block ++ bs) (g.W.Sink.taken c.put_leg.new.out) (g.W.Sink.taken c.put_tails.new.out)) tails_are c.in_err-next.ensures.err in
     at_fault c.from_residual-in_err-next.result (halt all c.put_leg.new.block (numbered_lines (next + 1) tails) (numbered_lines ((next + 1) + length l.tails) more) (numbered_lines (next + 1) (tails ++ more))
     (g.W.Sink.taken c.args.out.now) (g.W.Sink.taken c.put_leg.new.out) (g.W.Sink.taken c.put_tails.new.out) (leg-tails-split (name_from a f v l.sequence) (slice_index l.columns 0) (next + 1) ((next + 1) + length l.tails) l.tails more refl) one its)
 

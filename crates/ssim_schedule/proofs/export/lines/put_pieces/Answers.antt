@@ -6,7 +6,7 @@ use Rattle.ssim_base.specs.Export.{leg_records, pieces_records}
 use Rattle.ssim_schedule.specs.internal.Plan.{HasWritableLegs, numbered_lines, pieces_count}
 use Rattle.ssim_schedule.specs.internal.SharedLegs.{legs_count}
 use Rattle.ssim_base.specs.ReadBack.{IsWritable}
-use Rattle.ssim_base.specs.Sinks.{TakesFront, TakesUpTo}
+use Rattle.ssim_base.specs.Sinks.{TakesPrefix, TakesUpTo}
 use Rattle.ssim_base.proofs.Each.{all_done, all_more, item}
 use Rattle.ssim_schedule.proofs.Puts.{piece-split}
 use Rattle.ssim_base.proofs.SinkLemmas.{at_fault, step, halt}
@@ -25,7 +25,7 @@ returns-in_err-next-clause-err g c =
     let whole = piece-split a f v next after c.piece-item.result (drop (i + 1) pieces) (drop i pieces) split refl in
     at_fault c.from_residual.result (halt (c.args.block.now ++ numbered_lines c.args.serial (pieces_records a f 1 pieces)) c.loop-piece.block (numbered_lines next (flat_map (leg_records a f v c.piece-item.result.0) c.piece-item.result.1)) (numbered_lines after (pieces_records a f (v + 1) (drop (i + 1) pieces)))
     (numbered_lines next (pieces_records a f v (drop i pieces))) (g.W.Sink.taken c.args.out.now) (g.W.Sink.taken c.loop-piece.out) (g.W.Sink.taken c.put_legs.new.out) whole c.loop-piece.invariant.bytes
-    (subst (λ (ls : Legs). TakesFront (c.loop-piece.block ++ numbered_lines next (flat_map (leg_records a f v c.piece-item.result.0) ls)) (g.W.Sink.taken c.loop-piece.out) (g.W.Sink.taken c.put_legs.new.out)) c.legs.ensures c.in_err-next.ensures.err))
+    (subst (λ (ls : Legs). TakesPrefix (c.loop-piece.block ++ numbered_lines next (flat_map (leg_records a f v c.piece-item.result.0) ls)) (g.W.Sink.taken c.loop-piece.out) (g.W.Sink.taken c.put_legs.new.out)) c.legs.ensures c.in_err-next.ensures.err))
 
 pub loop-piece-preserved : goal.loop-piece-preserved
 loop-piece-preserved g c =

@@ -5,8 +5,8 @@ use Rattle.ssim_columns.specs.Leg.{leg_columns}
 use Rattle.ssim_columns.proofs.lemmas.OwnColumns.{own_middle, own_tail}
 use Rattle.ssim_columns.proofs.leg.leg_columns.LegColumns.text.Goals as goal
 
-pub returns-then-last-clause-stands : goal.returns-then-last-clause-stands
-returns-then-last-clause-stands c = rw (← c.self.view_is) c.self.invariant
+pub returns-then-last-clause-valid : goal.returns-then-last-clause-valid
+returns-then-last-clause-valid c = rw (← c.self.view_is) c.self.invariant
 
 pub returns-then-last-2-clause-value : goal.returns-then-last-2-clause-value
 returns-then-last-2-clause-value c =
@@ -27,5 +27,5 @@ returns-else-last-2-clause-value c =
     let end' : last - 37 + 1 ≡ last - 36 = omega arith in
     rw end' (own_tail c.self.inside.bytes first last c.self.invariant.len low some high ∙ ap (λ (d : List ℕ). leg_columns first last d) c.self.view_is)
 
-pub returns-else-last-2-clause-stands : goal.returns-else-last-2-clause-stands
-returns-else-last-2-clause-stands c = rw (← c.self.view_is) c.self.invariant
+pub returns-else-last-2-clause-valid : goal.returns-else-last-2-clause-valid
+returns-else-last-2-clause-valid c = rw (← c.self.view_is) c.self.invariant
