@@ -22,9 +22,9 @@ use Rattle.ssim_base.specs.internal.AcceptedRecords.{AddsRecord}
 use Rattle.ssim_base.specs.internal.LegTable.{AddsLegAt, has_legs, legs_at, names_leg, uses_date}
 use Rattle.ssim_base.specs.ReadBack.{place_of}
 use Rattle.ssim_base.specs.Timetable.{period_of, same_flight, same_name}
-use Rattle.ssim_base.specs.declared.acceptance.CarrierTerms.{CarrierTerms}
-use Rattle.ssim_base.specs.declared.acceptance.Acceptance.{Acceptance}
-use Rattle.ssim_base.specs.declared.acceptance.Expected.TheVariants as expected
+use Rattle.ssim_base.specs.declared.data_set.acceptance.CarrierTerms.{CarrierTerms}
+use Rattle.ssim_base.specs.declared.data_set.acceptance.Acceptance.{Acceptance}
+use Rattle.ssim_base.specs.declared.data_set.acceptance.Expected.TheVariants as expected
 use Rattle.ssim_base.specs.declared.leg_table.LegTable.{LegTable}
 use Rattle.ssim_base.specs.declared.fault.BaseRefusal.TheVariants as refused
 use Rattle.ssim_base.proofs.Places.{same_flight-place}

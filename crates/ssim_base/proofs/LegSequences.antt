@@ -8,7 +8,7 @@ use Rattle.std.specs.Option.{option_or}
 use Rattle.ssim_values.specs.Period.{DayRange}
 use Rattle.ssim_periods.specs.Calendar.{holds}
 use Rattle.ssim_base.specs.internal.LegTable.{AddsLeg, entry_of, has_legs, has_variation, index_of, is_numbered, is_of, is_used, names_leg, used_of, uses_date, variation_of}
-use Rattle.ssim_base.specs.declared.leg_sequence.LegSequence.{LegSequence}
+use Rattle.ssim_base.specs.declared.leg_table.leg_sequence.LegSequence.{LegSequence}
 
 -- ---- the entry that a look-up finds
 

@@ -16,7 +16,7 @@ use Rattle.ssim_base.specs.Export.{flight_at, flight_count}
 use Rattle.ssim_base.specs.internal.LegTable.{AddsLeg, AddsLegAt, entries_of, flights_from, flights_in, flights_left, flights_of, has_legs, legs_at, legs_in}
 use Rattle.ssim_base.specs.ReadBack.{Rise, place_of}
 use Rattle.ssim_base.specs.Timetable.{same_flight}
-use Rattle.ssim_base.specs.declared.flight_legs.FlightLegs.{FlightLegs}
+use Rattle.ssim_base.specs.declared.leg_table.flight_legs.FlightLegs.{FlightLegs}
 use Rattle.ssim_base.specs.declared.leg_table.LegTable.{LegTable}
 use Rattle.ssim_base.proofs.LegSequences.{get-set, get-set_other}
 use Rattle.ssim_base.proofs.Places.{flight-is, flight-place, place-below, place-flight, same-places}

@@ -25,7 +25,7 @@ use Rattle.ssim_base.specs.declared.fault.BaseFault.{BaseFault}
 use Rattle.ssim_base.specs.declared.fault.BaseFault.TheVariants as fault
 use Rattle.ssim_base.specs.declared.fault.BaseFault.TheVariants.{Read, Refused}
 use Rattle.ssim_base.specs.declared.fault.BaseRefusal.{BaseRefusal}
-use Rattle.ssim_base.specs.declared.data_set_reader.DataSetReader.{DataSetReader}
+use Rattle.ssim_base.specs.declared.data_set.reader.DataSetReader.{DataSetReader}
 use Rattle.ssim_base.specs.declared.note.Note.{Note}
 use Rattle.ssim_base.specs.declared.note.Note.TheVariants.{Serial}
 use Rattle.ssim_base.proofs.NotedReads.{noted}

@@ -9,8 +9,8 @@ use Rattle.ssim_base.specs.Export.{Frame}
 use Rattle.ssim_base.specs.ReadBack.{HasFrame}
 use Rattle.ssim_base.specs.Reading.{FailedReader, IsReadAs}
 use Rattle.ssim_base.specs.declared.note.Note.{Note}
-use Rattle.ssim_base.specs.declared.saved_lines.SavedFault.{SavedFault}
-use Rattle.ssim_base.specs.declared.saved_lines.SavedFault.TheVariants as fault
+use Rattle.ssim_base.specs.declared.data_set.saved_lines.SavedFault.{SavedFault}
+use Rattle.ssim_base.specs.declared.data_set.saved_lines.SavedFault.TheVariants as fault
 
 -- a record without serial, check reference, rate and overflow; the end of a leg is a date
 abbrev pub IsBare : Record → Type 0

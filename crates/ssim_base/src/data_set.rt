@@ -13,10 +13,15 @@ ghost use Rattle.ssim_base.specs.declared.note.Note.{Note};
 ghost use Rattle.ssim_base.specs.SavedBase.{IsBaseRecords};
 ghost use Rattle.ssim_base.specs.Timetable.{days_of};
 
-use crate::acceptance::Acceptance;
-use crate::accepted_records::AcceptedRecords;
+pub(crate) mod acceptance;
+pub(crate) mod accepted_records;
+pub(crate) mod reader;
+pub(crate) mod saved_lines;
+
 use crate::base_frame::BaseFrame;
-use crate::data_set_reader::{DataSetReader, read_records, read_whole};
+use crate::data_set::acceptance::Acceptance;
+use crate::data_set::accepted_records::AcceptedRecords;
+use crate::data_set::reader::{DataSetReader, read_records, read_whole};
 use crate::fault::BaseFault;
 use crate::note::Note;
 use ssim_records::{Record, Records, Source};

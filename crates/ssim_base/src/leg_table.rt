@@ -8,7 +8,13 @@ ghost use Rattle.ssim_base.specs.Export.{flight_at};
 ghost use Rattle.ssim_base.specs.internal.LegTable.{AddsLeg, AddsLegAt, flights_in, flights_left, flights_of, has_legs, legs_at, legs_in, names_leg, uses_date};
 ghost use Rattle.ssim_base.specs.ReadBack.{place_of};
 
-use crate::flight_legs::FlightLegs;
+pub(crate) mod day_set;
+pub(crate) mod flight_legs;
+pub(crate) mod leg_sequence;
+pub(crate) mod period_list;
+pub(crate) mod used_dates;
+
+use crate::leg_table::flight_legs::FlightLegs;
 use ssim_records::LegName;
 use ssim_values::{Flight, Memory, Period};
 use std::alloc::Global;

@@ -23,32 +23,24 @@
 //! reader cuts the bytes, and the first invalid record, line or date is the one that is named.
 #![tactic(auto)]
 
-mod acceptance;
-mod accepted_records;
 mod base;
 mod base_frame;
 mod data_set;
-mod data_set_reader;
-mod day_set;
 mod fault;
-mod flight_legs;
 pub mod laws;
-mod leg_sequence;
 mod leg_table;
 mod note;
 mod output_buffer;
-mod period_list;
 mod place;
 mod resolution;
-mod saved_lines;
 mod stations;
 mod sub_message;
 mod summary;
-mod used_dates;
 
 pub use base::{Base, BaseRead};
 pub use base_frame::BaseFrame;
 pub use data_set::DataSet;
+pub use data_set::saved_lines::{SavedFault, read_saved};
 pub use fault::{BaseFault, BaseRefusal};
 pub use note::Note;
 pub use output_buffer::{
@@ -56,7 +48,6 @@ pub use output_buffer::{
 };
 pub use place::Place;
 pub use resolution::{ResolveFault, ResolvedText, resolve};
-pub use saved_lines::{SavedFault, read_saved};
 pub use stations::{StationFault, StationRow, Stations, variation_at};
 pub use sub_message::{Resolved, ResolvedSub};
 pub use summary::Summary;

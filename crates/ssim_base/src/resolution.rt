@@ -5,8 +5,8 @@ ghost use Rattle.ssim_base.specs.Fault.{resolve_fault_name, resolve_fault_place}
 ghost use Rattle.ssim_base.specs.Resolve.{AreDates, AreResolved, IsFirstRefused, IsRefused, IsRefusedIn, IsResolved, IsSubRefused, Means, MeansEnd, MeansNoEnd, MeansNone, Resolves, ResolvesIn, every_day, resolve_fault_number, same_mode};
 ghost use Rattle.ssim_base.specs.internal.Reading.{AreFaulty};
 
-use crate::acceptance::end_of;
 use crate::base::Base;
+use crate::data_set::acceptance::end_of;
 use crate::place::Place;
 use crate::sub_message::ResolvedSub;
 use ssim_records::Carrier;

@@ -4,8 +4,8 @@ ghost use Rattle.std.specs.Prelude.{◌≡◌, ℕ, List, Option, IfOk, IfErr};
 ghost use Rattle.ssim_base.specs.Reading.{Came, FailsAs, NeverEnds, RefusesWhole};
 ghost use Rattle.ssim_base.specs.Summary.{IsSummary};
 
-use crate::accepted_records::AcceptedRecords;
-use crate::data_set_reader::{DataSetReader, read_whole};
+use crate::data_set::accepted_records::AcceptedRecords;
+use crate::data_set::reader::{DataSetReader, read_whole};
 use crate::fault::BaseFault;
 use crate::note::Note;
 use ssim_records::Source;

@@ -8,12 +8,19 @@ ghost use Rattle.ssim_periods.specs.Calendar.{day_count, holds};
 ghost use Rattle.ssim_periods.specs.Days.{each_day, changed_on, counts_on, AddsOnly};
 ghost use Rattle.ssim_periods.specs.Pieces.{pieces_of, held_on};
 
-use crate::count::counts_of;
-use crate::entries::{copy_entries, index_of, meets_none, rows_of, shared_entries, value_at};
-use crate::entry_pieces::covers;
+pub(crate) mod entries;
+pub(crate) mod entry_pieces;
+pub(crate) mod marks;
+pub(crate) mod spaced_days;
+
+use crate::apart_periods::entries::{
+    copy_entries, index_of, meets_none, rows_of, shared_entries, value_at,
+};
+use crate::apart_periods::entry_pieces::covers;
+use crate::apart_periods::spaced_days::SpacedDays;
 use crate::range_rows::RangeRows;
+use crate::range_rows::count::counts_of;
 use crate::rows::{is_after_cuts, is_before_cuts};
-use crate::spaced_days::SpacedDays;
 use crate::weekdays::weekday_of;
 use crate::{Change, Value};
 use ssim_values::{Day, Memory, Period};

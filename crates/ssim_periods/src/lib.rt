@@ -27,21 +27,12 @@
 
 mod apart_periods;
 mod common_days;
-mod count;
 mod cover;
-mod entries;
-mod entry_pieces;
-mod joined;
-mod marks;
 mod numbers;
-mod patches;
 mod periods;
 mod range_rows;
 mod rows;
-mod separate;
 mod shared;
-mod spaced_days;
-mod trim;
 mod value;
 mod weekdays;
 

@@ -5,10 +5,12 @@ ghost use Rattle.ssim_values.specs.Calendar.{weekday};
 ghost use Rattle.ssim_periods.specs.Calendar.{holds};
 ghost use Rattle.ssim_periods.specs.Days.{each_day, changed_on, counts_on, AddsOnly};
 
+pub(crate) mod count;
+pub(crate) mod patches;
 mod pieces;
 
-use crate::count::class_counts;
-use crate::patches::{new_rows, put_period};
+use crate::range_rows::count::class_counts;
+use crate::range_rows::patches::{new_rows, put_period};
 use crate::rows::{copy_row, copy_rows, place_of, row_for_cut};
 use crate::weekdays::weekday_of;
 use crate::{Change, Value};

@@ -14,11 +14,11 @@ use Rattle.ssim_base.specs.internal.AcceptedRecords.{AddsRecord, AreAccepted}
 use Rattle.ssim_base.specs.internal.LegTable.{has_legs, legs_at, names_leg, uses_date}
 use Rattle.ssim_base.specs.ReadBack.{place_of}
 use Rattle.ssim_base.specs.Timetable.{same_flight, period_of}
-use Rattle.ssim_base.specs.declared.acceptance.CarrierTerms.{CarrierTerms}
-use Rattle.ssim_base.specs.declared.acceptance.Acceptance.{Acceptance}
-use Rattle.ssim_base.specs.declared.acceptance.Expected.{Expected}
-use Rattle.ssim_base.specs.declared.acceptance.Expected.TheVariants as expected
-use Rattle.ssim_base.specs.declared.accepted_records.AcceptedRecords.{AcceptedRecords}
+use Rattle.ssim_base.specs.declared.data_set.acceptance.CarrierTerms.{CarrierTerms}
+use Rattle.ssim_base.specs.declared.data_set.acceptance.Acceptance.{Acceptance}
+use Rattle.ssim_base.specs.declared.data_set.acceptance.Expected.{Expected}
+use Rattle.ssim_base.specs.declared.data_set.acceptance.Expected.TheVariants as expected
+use Rattle.ssim_base.specs.declared.data_set.accepted_records.AcceptedRecords.{AcceptedRecords}
 use Rattle.ssim_base.specs.declared.leg_table.LegTable.{LegTable}
 use Rattle.ssim_base.specs.declared.fault.BaseFault.{BaseFault}
 use Rattle.ssim_base.specs.declared.fault.BaseFault.TheVariants as fault

@@ -1,8 +1,8 @@
 -- How the accepted records are stored.
 use Rattle.std.specs.Prelude.{◌≡◌, List, ◌∷◌, length, reverse}
 use Rattle.ssim_records.specs.declared.record.Record.{Record}
-use Rattle.ssim_base.specs.declared.accepted_records.AcceptedRecords.{AcceptedRecords}
-use Rattle.ssim_base.specs.declared.accepted_records.AcceptedRecords.TheVariants.{Count, Kept}
+use Rattle.ssim_base.specs.declared.data_set.accepted_records.AcceptedRecords.{AcceptedRecords}
+use Rattle.ssim_base.specs.declared.data_set.accepted_records.AcceptedRecords.TheVariants.{Count, Kept}
 
 -- how records are stored: in a list, or only as their number
 pub data Form : Type 0 where

@@ -7,7 +7,7 @@ use Rattle.ssim_records.specs.declared.record.Record.{Record}
 use Rattle.ssim_base.specs.Base.{Ending, Done, kept_all, first_refusal, note_if, check_notes, notes_of}
 use Rattle.ssim_base.specs.internal.Acceptance.{HasAccepted}
 use Rattle.ssim_base.specs.internal.Reading.{AreGivenOf}
-use Rattle.ssim_base.specs.declared.data_set_reader.DataSetReader.{DataSetReader}
+use Rattle.ssim_base.specs.declared.data_set.reader.DataSetReader.{DataSetReader}
 use Rattle.ssim_base.specs.declared.note.Note.{Note}
 use Rattle.ssim_base.specs.declared.note.Note.TheVariants.{Serial}
 

@@ -9,11 +9,11 @@ use Rattle.ssim_values.specs.Period.{DayRange}
 use Rattle.ssim_periods.specs.Calendar.{holds}
 use Rattle.ssim_base.specs.internal.Dates.{has_date, is_in}
 use Rattle.ssim_base.specs.Export.{flight_at, flight_count}
-use Rattle.ssim_base.specs.declared.flight_legs.FlightLegs.{FlightLegs}
-use Rattle.ssim_base.specs.declared.leg_sequence.LegSequence.{LegSequence}
+use Rattle.ssim_base.specs.declared.leg_table.flight_legs.FlightLegs.{FlightLegs}
+use Rattle.ssim_base.specs.declared.leg_table.leg_sequence.LegSequence.{LegSequence}
 use Rattle.ssim_base.specs.declared.leg_table.LegTable.{LegTable}
-use Rattle.ssim_base.specs.declared.used_dates.UsedDates.{UsedDates}
-use Rattle.ssim_base.specs.declared.used_dates.UsedDates.TheVariants.{Empty, One, Few, Many}
+use Rattle.ssim_base.specs.declared.leg_table.used_dates.UsedDates.{UsedDates}
+use Rattle.ssim_base.specs.declared.leg_table.used_dates.UsedDates.TheVariants.{Empty, One, Few, Many}
 
 -- ---- one leg sequence of a flight
 

@@ -7,7 +7,7 @@ use Rattle.ssim_base.specs.Export.{Frame}
 use Rattle.ssim_base.specs.internal.Acceptance.{IsWholeBase}
 use Rattle.ssim_base.specs.internal.AcceptedRecords.{AreAccepted}
 use Rattle.ssim_base.specs.ReadBack.{HasFrame}
-use Rattle.ssim_base.specs.declared.acceptance.Acceptance.{Acceptance}
+use Rattle.ssim_base.specs.declared.data_set.acceptance.Acceptance.{Acceptance}
 use Rattle.ssim_base.proofs.FrameLemmas.{are-of-frame, exportable, length-framed}
 use Rattle.ssim_base.proofs.LegTables.{flights-are}
 use Rattle.ssim_base.proofs.data_set.DataSet.of_kept.Goals as goal

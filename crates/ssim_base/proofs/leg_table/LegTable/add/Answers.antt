@@ -8,8 +8,8 @@ use Rattle.ssim_values.specs.Flight.{FlightNumber}
 use Rattle.ssim_periods.specs.Calendar.{holds}
 use Rattle.ssim_base.specs.internal.LegTable.{flights_of, legs_at, legs_in, uses_date}
 use Rattle.ssim_base.specs.ReadBack.{place_of}
-use Rattle.ssim_base.specs.declared.flight_legs.FlightLegs.{FlightLegs}
-use Rattle.ssim_base.specs.declared.leg_sequence.LegSequence.{LegSequence}
+use Rattle.ssim_base.specs.declared.leg_table.flight_legs.FlightLegs.{FlightLegs}
+use Rattle.ssim_base.specs.declared.leg_table.leg_sequence.LegSequence.{LegSequence}
 use Rattle.ssim_base.proofs.LegSequences.{on-both}
 use Rattle.ssim_base.proofs.LegTables.{adds-in}
 use Rattle.ssim_base.proofs.leg_table.LegTable.add.Goals as goal

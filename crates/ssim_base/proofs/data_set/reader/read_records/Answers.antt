@@ -1,0 +1,159 @@
+-- From record to record, by the lemmas on what was read so far; each result that ends the reading
+-- is the outcome of the bytes.
+use Rattle.std.proofs.Common.{rules, ◌≡◌, ℕ, ◌+◌, Some, None, Ok, Err, false, [], ◌∷◌, ◌++◌, refl, sym, ap, subst, ◌∙◌, arith}
+use Rattle.ssim_records.specs.Blocks.{CountsOn, Fetches}
+use Rattle.ssim_records.specs.Reading.{Answer, Counts, FailsAs, GivesNext, HasNumber, HoldsFew, NeverEnds, Reading, ending_of, given}
+use Rattle.ssim_records.proofs.Framing.{counts_none, counts_twice, fetches_first, fetches_on}
+use Rattle.ssim_base.specs.Base.{Done, kept}
+use Rattle.ssim_base.specs.Reading.{Came}
+use Rattle.ssim_base.specs.internal.Reading.{AreGivenOf}
+use Rattle.ssim_base.proofs.ReadingLemmas.{Numbered, Told, came-in, ended-beyond, fails-after, never-refused, never-fails, step-refused, while-open, nothing, one-more, told-end, told-fault, told-first, told-step}
+use Rattle.ssim_base.proofs.data_set.reader.read_records.Goals as goal
+
+pub loop-number-init : goal.loop-number-init
+loop-number-init g c =
+    let fresh = c.requires.unread in
+    let limit = c.args.blocks.now.limit in
+    let left = g.R.Source.left c.args.reader.now in
+    let number : c.args.blocks.now.number ≡ 0 = ap (λ (r : Reading). r.number) fresh in
+    record {
+      limit_is = refl;
+      open' = ap (λ (r : Reading). r.ended) fresh;
+      counted = omega (arith, number);
+      earlier = [];
+      done = [];
+      so_far = nothing c.new-records_read.result c.new-records_read.ensures.kept c.new-records_read.ensures.notes c.new-records_read.ensures.previous;
+      told = subst (λ (r : Reading). Told limit left left r []) (sym fresh) (told-first limit left c.frames_are_one.ensures.exist);
+      fetched = subst (λ (r : Reading). Fetches false 0 [] left r.number r.held left) (sym fresh) (fetches_first false 0 [] left);
+      counts = subst (λ (r : Reading). CountsOn left left (g.R.Source.came c.args.reader.now) (g.R.Source.came c.args.reader.now) 0 r.came) (sym fresh)
+          (counts_none left (g.R.Source.came c.args.reader.now) 0);
+      no_failure = refl;
+      keeps_is = refl;
+    }
+
+pub loop-number-preserved : goal.loop-number-preserved
+loop-number-preserved g c =
+    let i = c.loop-number.invariant in
+    let old = c.loop-number.blocks in
+    let new = c.next_into.new.self in
+    let x : Numbered = (c.in-Ok.number, c.in-Some.record) in
+    let answer : given c.next_into.new.into c.next_into.result ≡ Ok (Some x) = rw (c.in-Ok.is, c.in-Some.is) refl in
+    let gives = subst (λ (a : Answer). GivesNext old (g.R.Source.left c.loop-number.reader) new (g.R.Source.left c.next_into.new.reader) a) answer (while-open old.ended i.open' c.next_into.ensures.record) in
+    let counts = subst (λ (a : Answer). Counts old new a) answer (while-open old.ended i.open' c.next_into.ensures.counts) in
+    let fault = subst (λ (a : Answer). FailsAs (g.R.Source.failures c.loop-number.reader) (g.R.Source.failures c.next_into.new.reader) a) answer (while-open old.ended i.open' c.next_into.ensures.fault) in
+    let more = counts.1 in
+    let same = c.next_into.ensures.limit in
+    let limit = i.limit_is in
+    let taken = c.in_ok-take-in-Some.ensures in
+    record {
+      limit_is = same ∙ limit;
+      open' = c.next_into.ensures.ended ∙ ap ending_of answer;
+      counted = omega (arith, more, same, limit);
+      earlier = kept i.earlier x.1 ∷ i.earlier;
+      done = i.done ++ x ∷ [];
+      so_far = one-more c.loop-number.records_read c.take.new.self i.earlier i.done x i.so_far (taken.stood i.earlier i.so_far.is_kept) taken.noted taken.previous taken.is_record;
+      told = told-step c.args.blocks.now.limit (g.R.Source.left c.args.reader.now) (g.R.Source.left c.loop-number.reader) (g.R.Source.left c.next_into.new.reader) old new i.done x i.told gives;
+      fetched = fetches_on 0 old.number new.number old.number new.number [] old.held new.held _ _ _ i.fetched (while-open old.ended i.open' c.next_into.ensures.fetched) (omega arith);
+      counts = counts_twice _ _ _ _ _ _ _ _ _ i.counts (while-open old.ended i.open' c.next_into.ensures.count);
+      no_failure = fault ∙ i.no_failure;
+      keeps_is = taken.keeps ∙ i.keeps_is;
+    }
+
+pub returns-in_err-take-in-Some-clause-err : goal.returns-in_err-take-in-Some-clause-err
+returns-in_err-take-in-Some-clause-err g c =
+    let i = c.loop-number.invariant in
+    let old = c.loop-number.blocks in
+    let new = c.next_into.new.self in
+    let x : Numbered = (c.in-Ok.number, c.in-Some.record) in
+    let answer : given c.next_into.new.into c.next_into.result ≡ Ok (Some x) = rw (c.in-Ok.is, c.in-Some.is) refl in
+    let gives = subst (λ (a : Answer). GivesNext old (g.R.Source.left c.loop-number.reader) new (g.R.Source.left c.next_into.new.reader) a) answer (while-open old.ended i.open' c.next_into.ensures.record) in
+    let refusal : c.from_residual.result ≡ Err c.in_err-take-in-Some.field-0.0 = search rules in
+    rw refusal (step-refused c.args.blocks.now.limit (g.R.Source.left c.args.reader.now) (g.R.Source.left c.loop-number.reader) (g.R.Source.left c.next_into.new.reader) old new c.loop-number.records_read i.earlier i.done x
+    c.in_err-take-in-Some.field-0.0 i.so_far i.told gives (c.in_err-take-in-Some.ensures.err i.earlier i.so_far.is_kept) c.in_err-take-in-Some.ensures.is_record)
+
+pub returns-in-None-clause-ok : goal.returns-in-None-clause-ok
+returns-in-None-clause-ok g c =
+    let i = c.loop-number.invariant in
+    let old = c.loop-number.blocks in
+    let new = c.next_into.new.self in
+    let answer : given c.next_into.new.into c.next_into.result ≡ Ok None = rw (c.in-Ok.is, c.in-None.is) refl in
+    let gives = subst (λ (a : Answer). GivesNext old (g.R.Source.left c.loop-number.reader) new (g.R.Source.left c.next_into.new.reader) a) answer (while-open old.ended i.open' c.next_into.ensures.record) in
+    record {
+      earlier = i.earlier;
+      done = i.done;
+      so_far = i.so_far;
+      given = subst (λ (n : ℕ). AreGivenOf c.args.blocks.now.limit (g.R.Source.left c.args.reader.now) i.done (Done (n + 1))) (sym c.number.ensures.value)
+          (told-end c.args.blocks.now.limit (g.R.Source.left c.args.reader.now) (g.R.Source.left c.loop-number.reader) (g.R.Source.left c.next_into.new.reader) old new i.done i.limit_is i.told gives);
+    }
+
+pub returns-in-Err-clause-err : goal.returns-in-Err-clause-err
+returns-in-Err-clause-err g c =
+    let i = c.loop-number.invariant in
+    let old = c.loop-number.blocks in
+    let new = c.next_into.new.self in
+    let answer : given c.next_into.new.into c.next_into.result ≡ Err c.in-Err.fault = rw c.in-Err.is refl in
+    let gives = subst (λ (a : Answer). GivesNext old (g.R.Source.left c.loop-number.reader) new (g.R.Source.left c.next_into.new.reader) a) answer (while-open old.ended i.open' c.next_into.ensures.record) in
+    let number = subst (λ (a : Answer). HasNumber new.number a) answer (while-open old.ended i.open' c.next_into.ensures.number) in
+    told-fault c.args.blocks.now.limit (g.R.Source.left c.args.reader.now) (g.R.Source.left c.loop-number.reader) (g.R.Source.left c.next_into.new.reader) old new c.loop-number.records_read i.earlier i.done
+    c.in-Err.fault i.limit_is i.so_far i.told gives number
+
+pub returns-in_err-take-in-Some-clause-never_ends : goal.returns-in_err-take-in-Some-clause-never_ends
+returns-in_err-take-in-Some-clause-never_ends g c =
+    let i = c.loop-number.invariant in
+    let x : Numbered = (c.in-Ok.number, c.in-Some.record) in
+    let refusal : c.from_residual.result ≡ Err c.in_err-take-in-Some.field-0.0 = search rules in
+    rw refusal (never-refused c.args.blocks.now.limit
+    (Came (g.R.Source.left c.args.reader.now) (g.R.Source.left c.next_into.new.reader) (g.R.Source.came c.args.reader.now) (g.R.Source.came c.next_into.new.reader))
+    x.0 i.earlier x.1 c.in_err-take-in-Some.field-0.0 (c.in_err-take-in-Some.ensures.err i.earlier i.so_far.is_kept))
+
+pub returns-in_err-take-in-Some-clause-fails_after : goal.returns-in_err-take-in-Some-clause-fails_after
+returns-in_err-take-in-Some-clause-fails_after g c =
+    let i = c.loop-number.invariant in
+    let x : Numbered = (c.in-Ok.number, c.in-Some.record) in
+    let refusal : c.from_residual.result ≡ Err c.in_err-take-in-Some.field-0.0 = search rules in
+    rw refusal (never-fails _ _ x.0 i.earlier x.1 c.in_err-take-in-Some.field-0.0 (c.in_err-take-in-Some.ensures.err i.earlier i.so_far.is_kept))
+
+pub returns-in-Err-clause-fails_after : goal.returns-in-Err-clause-fails_after
+returns-in-Err-clause-fails_after g c =
+    let i = c.loop-number.invariant in
+    let old = c.loop-number.blocks in
+    let new = c.next_into.new.self in
+    let answer : given c.next_into.new.into c.next_into.result ≡ Err c.in-Err.fault = rw c.in-Err.is refl in
+    let fetched = fetches_on 0 old.number new.number old.number new.number [] old.held new.held _ _ _ i.fetched (while-open old.ended i.open' c.next_into.ensures.fetched) (omega arith) in
+    let number = subst (λ (a : Answer). HasNumber new.number a) answer (while-open old.ended i.open' c.next_into.ensures.number) in
+    let few = subst (λ (a : Answer). HoldsFew new.held a) answer (while-open old.ended i.open' c.next_into.ensures.few_left) in
+    fails-after (g.R.Source.left c.args.reader.now) (g.R.Source.left c.next_into.new.reader) new.number new.held c.in-Err.fault fetched number few
+
+pub returns-in-Err-clause-never_ends : goal.returns-in-Err-clause-never_ends
+returns-in-Err-clause-never_ends g c =
+    let i = c.loop-number.invariant in
+    let old = c.loop-number.blocks in
+    let new = c.next_into.new.self in
+    let answer : given c.next_into.new.into c.next_into.result ≡ Err c.in-Err.fault = rw c.in-Err.is refl in
+    let gives = subst (λ (a : Answer). GivesNext old (g.R.Source.left c.loop-number.reader) new (g.R.Source.left c.next_into.new.reader) a) answer (while-open old.ended i.open' c.next_into.ensures.record) in
+    let over = subst (λ (a : Answer). NeverEnds new a) answer (while-open old.ended i.open' c.next_into.ensures.never_ends) in
+    let counts = counts_twice _ _ _ _ _ _ _ _ _ i.counts (while-open old.ended i.open' c.next_into.ensures.count) in
+    ended-beyond c.args.blocks.now.limit (g.R.Source.left c.args.reader.now) (g.R.Source.left c.loop-number.reader) (g.R.Source.left c.next_into.new.reader) (g.R.Source.came c.args.reader.now) (g.R.Source.came c.next_into.new.reader)
+    old new i.done c.in-Err.fault (c.next_into.ensures.limit ∙ i.limit_is) i.told gives counts over
+
+pub returns-in_err-take-in-Some-clause-came : goal.returns-in_err-take-in-Some-clause-came
+returns-in_err-take-in-Some-clause-came g c =
+    let i = c.loop-number.invariant in
+    let old = c.loop-number.blocks in
+    let new = c.next_into.new.self in
+    let refusal : c.from_residual.result ≡ Err c.in_err-take-in-Some.field-0.0 = search rules in
+    let counts = counts_twice _ _ _ _ _ _ _ _ _ i.counts (while-open old.ended i.open' c.next_into.ensures.count) in
+    rw refusal (came-in c.args.blocks.now.limit (g.R.Source.left c.args.reader.now) (g.R.Source.left c.loop-number.reader) (g.R.Source.left c.next_into.new.reader) (g.R.Source.came c.args.reader.now) (g.R.Source.came c.next_into.new.reader)
+    new.came old new i.done _ refl i.told (while-open old.ended i.open' c.next_into.ensures.record) counts)
+
+pub returns-in-Err-clause-came : goal.returns-in-Err-clause-came
+returns-in-Err-clause-came g c =
+    let i = c.loop-number.invariant in
+    let old = c.loop-number.blocks in
+    let new = c.next_into.new.self in
+    let counts = counts_twice _ _ _ _ _ _ _ _ _ i.counts (while-open old.ended i.open' c.next_into.ensures.count) in
+    came-in c.args.blocks.now.limit (g.R.Source.left c.args.reader.now) (g.R.Source.left c.loop-number.reader) (g.R.Source.left c.next_into.new.reader) (g.R.Source.came c.args.reader.now) (g.R.Source.came c.next_into.new.reader)
+    new.came old new i.done _ refl i.told (while-open old.ended i.open' c.next_into.ensures.record) counts
+
+pub overflow_add-result : goal.overflow_add-result
+overflow_add-result g c = omega (arith, c.number.ensures.small, c.next_into.ensures.limit, c.loop-number.invariant.limit_is, c.requires.limit)

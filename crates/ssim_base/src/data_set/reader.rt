@@ -1,0 +1,174 @@
+//! The records that are read of a data set, with the notes on them.
+
+ghost use Rattle.std.specs.Prelude.{◌≡◌, ◌<◌, ◌^◌, ◌∷◌, ◌++◌, [], List, IfErr, IfOk, OnOk};
+ghost use Rattle.ssim_records.specs.Record.{IsRecord, serial_of};
+ghost use Rattle.ssim_records.specs.declared.record.Record.{Record};
+ghost use Rattle.ssim_base.specs.internal.AcceptedRecords.{AreAccepted, keeps};
+ghost use Rattle.ssim_base.specs.internal.DataSetReader.{HasRead, unread};
+ghost use Rattle.ssim_base.specs.Reading.{Came, FailsAfter, FailsAs, NeverEnds, RefusesWhole};
+ghost use Rattle.ssim_base.specs.internal.Reading.{Refuses, is_of_bytes};
+
+use crate::data_set::acceptance::Acceptance;
+use crate::data_set::accepted_records::AcceptedRecords;
+use crate::fault::BaseFault;
+use crate::note::Note;
+use ssim_records::{Record, RecordFault, Records, Source, frames_are_one};
+use ssim_values::Memory;
+use std::alloc::Global;
+
+/// The records accepted so far, and the notes on them.
+#[derive(Drop)]
+pub(crate) struct DataSetReader {
+    pub kept: Acceptance,
+    pub notes: Vec<Note>,
+    /// The serial of the record before, or 0.
+    previous: u32,
+}
+
+impl DataSetReader {
+    ghost use Rattle.ssim_base.specs.internal.Acceptance.{HasAccepted, IsRefused, AcceptsNext};
+    ghost use Rattle.ssim_base.specs.internal.DataSetReader.{notes_at};
+
+    /// No record.
+    pub(crate) fn new(alloc: Global, records: AcceptedRecords) -> DataSetReader
+        requires { AreAccepted records [] }
+        ensures kept { HasAccepted result.kept [] }
+        ensures records { result.kept.records ≡ records }
+        ensures notes { result.notes.items ≡ [] }
+        ensures previous { result.previous ≡ 0 }
+    {
+        DataSetReader {
+            kept: Acceptance::new(alloc, records),
+            notes: Vec::new(alloc),
+            previous: 0,
+        }
+    }
+
+    /// Accepts one more record, with its number, or refuses it. The record may be changed.
+    ///
+    /// This function and those that it calls for each record are inlined into the loop that reads
+    /// the records.
+    #[inline(always)]
+    pub(crate) fn take(&mut self, number: u64, one: &mut Record) -> Result<(), BaseFault>
+        ensures accepted { OnOk result ((earlier : List Record) → HasAccepted self.old.kept earlier → AcceptsNext self.new.kept earlier one.old) }
+        ensures keeps { OnOk result (keeps self.new.kept.records ≡ keeps self.old.kept.records) }
+        ensures noted { OnOk result (self.new.notes.items ≡ self.old.notes.items ++ notes_at number self.old.previous one.old) }
+        ensures previous { OnOk result (self.new.previous ≡ serial_of one.old) }
+        ensures err { IfErr result (λ e. (earlier : List Record) → HasAccepted self.old.kept earlier → IsRefused number earlier one.old e) }
+        ensures is_record { IsRecord one.old }
+    {
+        // `put` closes the record, so its serial is read before.
+        self.note(number, one)?;
+        self.kept.put(number, one)
+    }
+
+    // Adds the notes on a record.
+    #[inline(always)]
+    fn note(&mut self, number: u64, one: &Record) -> Result<(), Memory>
+        ensures noted { OnOk result (self.new.notes.items ≡ self.old.notes.items ++ notes_at number self.old.previous one.now) }
+        ensures previous { OnOk result (self.new.previous ≡ serial_of one.now) }
+        ensures kept { self.new.kept ≡ self.old.kept }
+        ensures is_record { IsRecord one.now }
+    {
+        let serial = one.serial();
+        if serial as u64 != self.previous as u64 + 1 {
+            self.add_note(Note::Serial(number))?;
+        }
+        if let Record::Trailer(trailer) = one {
+            if trailer.check() != self.previous {
+                self.add_note(Note::CheckReference(number))?;
+            }
+        }
+        self.previous = serial;
+        Ok(())
+    }
+
+    // Adds a note. Few records have one.
+    #[inline(never)]
+    fn add_note(&mut self, note: Note) -> Result<(), Memory>
+        ensures noted { OnOk result (self.new.notes.items ≡ self.old.notes.items ++ note ∷ []) }
+        ensures previous { self.new.previous ≡ self.old.previous }
+        ensures kept { self.new.kept ≡ self.old.kept }
+    {
+        self.notes.push(note)?;
+        Ok(())
+    }
+}
+
+/// The records of a reader, and the number after the last of them.
+pub(crate) fn read_records<R: Source>(
+    alloc: Global,
+    records: AcceptedRecords,
+    blocks: &mut Records,
+    reader: &mut R,
+) -> Result<(DataSetReader, u64), BaseFault>
+    requires accepted { AreAccepted records [] }
+    requires unread { blocks.old ≡ unread blocks.old.limit }
+    requires limit { blocks.old.limit < 2 ^ 64 }
+    ensures ok { IfOk result (λ read. HasRead blocks.old.limit (R.left reader.old) read.0 read.1) }
+    ensures keeps { IfOk result (λ read. keeps read.0.kept.records ≡ keeps records) }
+    ensures err { IfErr result (λ e. Refuses blocks.old.limit (R.left reader.old) e) }
+    ensures no_failure { IfOk result (λ _. R.failures reader.new ≡ R.failures reader.old) }
+    ensures failure { IfErr result (λ e. FailsAs (R.failures reader.old) (R.failures reader.new) e) }
+    ensures fails_after { IfErr result (λ e. FailsAfter (R.left reader.old) (R.left reader.new) e) }
+    ensures never_ends { IfErr result (λ e. NeverEnds blocks.old.limit (Came (R.left reader.old) (R.left reader.new) (R.came reader.old) (R.came reader.new)) e) }
+    ensures limit { IfErr result (λ _. blocks.new.limit ≡ blocks.old.limit) }
+    ensures came { IfErr result (λ _. Came (R.left reader.old) (R.left reader.new) (R.came reader.old) (R.came reader.new) blocks.new.came) }
+{
+    frames_are_one();
+    let mut records_read = DataSetReader::new(alloc, records);
+    let mut next = None;
+    loop {
+        match blocks.next_into(reader, &mut next) {
+            Ok(number) => match &mut next {
+                Some(record) => records_read.take(number, record)?,
+                None => return Ok((records_read, blocks.number() + 1)),
+            },
+            Err(fault) => return Err(BaseFault::Read(fault)),
+        }
+    }
+}
+
+/// Does what `read_records` does, and reads the reader to its end: after a fault of the bytes, those
+/// that are left are fetched too. If the reader fails then, or more bytes come than the limit, this
+/// is the fault.
+pub(crate) fn read_whole<R: Source>(
+    alloc: Global,
+    records: AcceptedRecords,
+    reader: &mut R,
+    limit: u64,
+) -> Result<(DataSetReader, u64), BaseFault>
+    requires { AreAccepted records [] }
+    ensures ok { IfOk result (λ read. HasRead limit (R.left reader.old) read.0 read.1) }
+    ensures keeps { IfOk result (λ read. keeps read.0.kept.records ≡ keeps records) }
+    ensures err { IfErr result (RefusesWhole limit (R.left reader.old)) }
+    ensures no_failure { IfOk result (λ _. R.failures reader.new ≡ R.failures reader.old) }
+    ensures failure { IfErr result (λ e. FailsAs (R.failures reader.old) (R.failures reader.new) e) }
+    ensures never_ends { IfErr result (λ e. NeverEnds limit (Came (R.left reader.old) (R.left reader.new) (R.came reader.old) (R.came reader.new)) e) }
+{
+    let mut blocks = Records::new(limit);
+    match read_records(alloc, records, &mut blocks, reader) {
+        Ok(read) => Ok(read),
+        Err(fault) => {
+            if !is_of_bytes(&fault) {
+                return Err(fault);
+            }
+            match blocks.skip_rest(reader) {
+                Ok(()) => Err(fault),
+                Err(rest) => Err(BaseFault::Read(rest)),
+            }
+        }
+    }
+}
+
+/// Whether a fault is of the bytes.
+fn is_of_bytes(fault: &BaseFault) -> bool
+    ensures { result ≡ is_of_bytes fault.now }
+{
+    match fault {
+        BaseFault::Memory => false,
+        BaseFault::Read(RecordFault::ReadFault { .. }) => false,
+        BaseFault::Read(RecordFault::ReaderNeverEnds { .. }) => false,
+        _ => true,
+    }
+}

@@ -1,6 +1,0 @@
-use Rattle.ssim_periods.proofs.ApartLemmas.{none-more}
-use Rattle.ssim_periods.proofs.entries.meets_none.Goals as goal
-
-pub loop-entry-preserved : goal.loop-entry-preserved
-loop-entry-preserved g c n h =
-    none-more c.args.entries.now c.loop-entry.entry-index c.entry-item.result n c.loop-entry-test.true c.entry-item.is (c.meets.ensures.none c.if-meets.false n h) (c.loop-entry.invariant n h)
