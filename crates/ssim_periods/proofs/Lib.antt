@@ -6,6 +6,7 @@ pub mod ApplyLemmas
 pub mod CountLemmas
 pub mod CoverLemmas
 pub mod CoverLaw
+pub mod DivisionLaw
 pub mod PieceLaw
 pub mod CoverSteps
 pub mod PieceRows

@@ -1,6 +1,6 @@
 -- The canonical division of a set of days into periods. A set is a test on days that none from day
 -- `end` on passes.
-use Rattle.std.specs.Prelude.{◌≡◌, ℕ, zero, suc, ◌+◌, ◌-◌, ◌%◌, ◌≤◌, Bool, true, false, not, if◌then◌else◌, nat_lt, List, [], ◌∷◌, map, slice_index_or}
+use Rattle.std.specs.Prelude.{◌≡◌, ◌≢◌, ◌↔◌, ℕ, zero, suc, ◌+◌, ◌-◌, ◌%◌, ◌≤◌, ◌<◌, Bool, true, false, not, if◌then◌else◌, nat_lt, List, [], ◌∷◌, map, slice_index_or}
 use Rattle.ssim_values.specs.Period.{DayRange}
 use Rattle.ssim_periods.specs.Calendar.{slot, holds}
 
@@ -59,3 +59,27 @@ holding (period ∷ later) n = if holds period n then suc (holding later n) else
 -- any
 abbrev pub CoverLaw : Type 0
 CoverLaw = (is_in : ℕ → Bool) (end : ℕ) → ((n : ℕ) → end ≤ n → is_in n ≡ false) → (n : ℕ) → holding (cover is_in end) n ≡ (if is_in n then 1 else 0)
+
+-- The next period of a set from day `from` on, in words. It begins on the least day of the set from
+-- there on, on the weekdays of the set's days among the first seven. Day b is the greatest day up to
+-- which a day is in the set exactly if its weekday is one of these. The period ends on the last day
+-- of the set that is not after b.
+pub record IsNextPeriod (is_in : ℕ → Bool) (from : ℕ) (period : DayRange) (b : ℕ) : Type 0 where
+  pub begins : (from ≤ period.first) × (is_in period.first ≡ true)
+  pub least : (n : ℕ) → from ≤ n → n < period.first → is_in n ≡ false
+  pub days : period.days ≡ weekdays_of is_in period.first
+  pub reaches : period.first ≤ b
+  pub repeats : (n : ℕ) → period.first ≤ n → n ≤ b → is_in n ≡ slice_index_or period.days (slot n) false
+  pub greatest : is_in (b + 1) ≢ slice_index_or period.days (slot (b + 1)) false
+  pub ends : (period.last ≤ b) × (is_in period.last ≡ true)
+  pub last : (n : ℕ) → period.last < n → n ≤ b → is_in n ≡ false
+
+-- the periods divide the days of the set from day `from` on: one after another, each the next
+abbrev pub AreDivision : ℕ → (ℕ → Bool) → List DayRange → Type 0
+AreDivision from is_in [] = (n : ℕ) → from ≤ n → is_in n ≡ false
+AreDivision from is_in (period ∷ later) = (b : ℕ) × IsNextPeriod is_in from period b × AreDivision (b + 1) is_in later
+
+-- the law of the division: the cover of a set is its one division in these words
+abbrev pub DivisionLaw : Type 0
+DivisionLaw = (is_in : ℕ → Bool) (end : ℕ) → ((n : ℕ) → end ≤ n → is_in n ≡ false)
+    → (periods : List DayRange) → AreDivision 0 is_in periods ↔ (periods ≡ cover is_in end)

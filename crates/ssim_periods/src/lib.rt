@@ -15,7 +15,8 @@
 //! - `apply` replaces the value of each day of the period by the outcome of the change, and keeps
 //!   the value of each other day. It returns the number of days of the period in each class.
 //!   `replace` does the same and counts nothing. After an error nothing has changed.
-//! - `pieces` returns the periods of the definition `pieces_of`. By `pieces_hold_each_day_once`,
+//! - `pieces` returns the periods of the definition `pieces_of`. By `a_cover_is_the_division`, those
+//!   of a value are the one division of its days in the words of `IsNextPeriod`. By `pieces_hold_each_day_once`,
 //!   exactly one piece holds each day, the piece with the value of that day; if that value is
 //!   empty, none does.
 //! - There are few `cuts`: `new` has none, a copy has the cuts of its source, and `apply` and
@@ -38,7 +39,9 @@ mod weekdays;
 
 pub use common_days::meets;
 pub use periods::Periods;
-pub use periods::pieces::{covers_hold_each_day_once, pieces_hold_each_day_once, worked_pieces};
+pub use periods::pieces::{
+    a_cover_is_the_division, covers_hold_each_day_once, pieces_hold_each_day_once, worked_pieces,
+};
 pub use ssim_values::Memory;
 pub use value::{Change, Value};
 pub use weekdays::weekday_of;

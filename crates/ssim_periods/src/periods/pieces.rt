@@ -1,7 +1,7 @@
 //! The pieces of a list of one value per day, and the laws of their definition.
 ghost use Rattle.std.specs.Prelude.{◌≡◌, length, List, IfOk, OnOk};
 ghost use Rattle.ssim_periods.specs.Calendar.{day_count};
-ghost use Rattle.ssim_periods.specs.Cover.{CoverLaw};
+ghost use Rattle.ssim_periods.specs.Cover.{CoverLaw, DivisionLaw};
 ghost use Rattle.ssim_periods.specs.Pieces.{pieces_of, ArePieces};
 ghost use Rattle.ssim_periods.specs.examples.Pieces.{WorkedPieces};
 
@@ -35,6 +35,12 @@ impl<V: Value> Periods<V> {
 /// in any.
 pub fn covers_hold_each_day_once()
     ensures { CoverLaw }
+{}
+
+/// The law of the division: the cover of a set of days is the one division that is made period by
+/// period, each the greatest that repeats the first seven days from its first day.
+pub fn a_cover_is_the_division()
+    ensures { DivisionLaw }
 {}
 
 /// The law of pieces: exactly one piece holds each day, the piece with the value of that day; if
