@@ -1,5 +1,5 @@
-//! The texts on each refusal, in the order of their numbers. `docs/FORMATS.md` has the same
-//! meanings, the README the same remedies.
+//! The texts on each refusal, in the order of their numbers. `docs/REFUSALS.md` is written from
+//! them.
 
 use crate::explanation::Explanation;
 
