@@ -8,8 +8,8 @@ use Rattle.ssim_base.specs.Stations.{Row}
 use Rattle.ssim_schedule.specs.declared.finding.Finding.{Finding}
 use Rattle.ssim_values.specs.Flight.{FlightNumber, IsFlight}
 use Rattle.ssim_held.specs.Entries.{Entry}
-use Rattle.ssim_desk.specs.internal.Changes.{AddsSubPoints, AreCheckpoints, IsAfter, IsHistory, IsReplay, Shows}
-use Rattle.ssim_desk.specs.{declared.history.History.History, declared.replay.Replay.Replay}
+use Rattle.ssim_desk.specs.internal.Changes.{AddsSubPoints, AreCheckpoints, IsAfter, AreSchedules, IsReplay, Shows}
+use Rattle.ssim_desk.specs.{declared.schedules.Schedules.Schedules, declared.replay.Replay.Replay}
 use Rattle.ssim_desk.specs.Meaning.{Timetable, after_entries, after_entry, entries_findings, found_by, left_by, subs_findings}
 use Rattle.ssim_desk.proofs.Points.{more_at}
 
@@ -172,8 +172,8 @@ module _ (base : BaseSeen) (held rest : List Entry) (from at : ℕ) (low : from 
       front = omega (arith, old.count, length-take (from / 32 + 1) cps)
 
 -- the history of messages that were all applied
-pub made : (base : BaseSeen) (held : List Entry) (began : Flown) (r : Replay) (h : History) → IsAfter base [] began → IsReplay base held r → r.from ≡ 0
-    → h.latest ≡ r.latest → h.found.items ≡ r.found.items → h.checkpoints.items ≡ began ∷ r.checkpoints.items → IsHistory base held h
+pub made : (base : BaseSeen) (held : List Entry) (began : Flown) (r : Replay) (h : Schedules) → IsAfter base [] began → IsReplay base held r → r.from ≡ 0
+    → h.latest ≡ r.latest → h.found.items ≡ r.found.items → h.checkpoints.items ≡ began ∷ r.checkpoints.items → AreSchedules base held h
 made base held began r h after replay none latest found checkpoints = record {
   latest_is = subst (IsAfter base held) (sym latest) replay.latest_is;
   found_is = found ∙ ap (λ n. found_by base (take n held) ++ r.found.items) (sym none) ∙ replay.found_is;
@@ -183,10 +183,10 @@ made base held began r h after replay none latest found checkpoints = record {
 }
 
 -- the history after messages from a position on were replaced
-pub put_in_place : (base : BaseSeen) (held rest : List Entry) (at : ℕ) (r : Replay) (old new : History) → at ≤ length held → r.from ≤ at
-    → IsHistory base held old → IsReplay base (take at held ++ rest) r → new.latest ≡ r.latest
+pub put_in_place : (base : BaseSeen) (held rest : List Entry) (at : ℕ) (r : Replay) (old new : Schedules) → at ≤ length held → r.from ≤ at
+    → AreSchedules base held old → IsReplay base (take at held ++ rest) r → new.latest ≡ r.latest
     → new.found.items ≡ take r.from old.found.items ++ r.found.items
-    → new.checkpoints.items ≡ take (r.from / 32 + 1) old.checkpoints.items ++ r.checkpoints.items → IsHistory base (take at held ++ rest) new
+    → new.checkpoints.items ≡ take (r.from / 32 + 1) old.checkpoints.items ++ r.checkpoints.items → AreSchedules base (take at held ++ rest) new
 put_in_place base held rest at r old new place low history replay latest found checkpoints = record {
   latest_is = subst (IsAfter base (take at held ++ rest)) (sym latest) replay.latest_is;
   found_is = found ∙ found_in_place base held rest r.from at low place old.found.items r.found.items history.found_is replay.found_is;
@@ -195,8 +195,8 @@ put_in_place base held rest at r old new place low history replay latest found c
 }
 
 -- a history with the same schedules and findings
-pub same_history : (base : BaseSeen) (held : List Entry) (old new : History) → new.latest ≡ old.latest → new.found.items ≡ old.found.items
-    → new.checkpoints.items ≡ old.checkpoints.items → IsHistory base held old → IsHistory base held new
+pub same_history : (base : BaseSeen) (held : List Entry) (old new : Schedules) → new.latest ≡ old.latest → new.found.items ≡ old.found.items
+    → new.checkpoints.items ≡ old.checkpoints.items → AreSchedules base held old → AreSchedules base held new
 same_history base held old new latest found checkpoints history = record {
   latest_is = subst (IsAfter base held) (sym latest) history.latest_is;
   found_is = found ∙ history.found_is;

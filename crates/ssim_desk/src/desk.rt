@@ -21,10 +21,10 @@ ghost use Rattle.ssim_desk.specs.Meaning.{Finds, Means, Timetable, found_by};
 ghost use Rattle.ssim_desk.specs.Steps.{Merges, Takes};
 
 use crate::finding_line::{FindingLine, push_lines};
-use crate::history::History;
 use crate::holdings::Holdings;
 use crate::offer::Offer;
 use crate::replay::apply_all;
+use crate::schedules::Schedules;
 use ssim_base::{Base, WriteFault};
 use ssim_held::{DeskFault, Held, read_desk};
 use ssim_records::{Sink, Source};
@@ -50,25 +50,25 @@ pub enum Took {
 #[derive(Drop)]
 pub struct Desk {
     holdings: Holdings,
-    history: History,
+    schedules: Schedules,
 }
 
 impl Model for Desk {
     ghost use Rattle.std.specs.Coded.{codes};
     ghost use Rattle.ssim_schedule.specs.Schedule.{flown_code};
     ghost use Rattle.ssim_desk.specs.Desk.{ScheduledDesk};
-    ghost use Rattle.ssim_desk.specs.internal.Changes.{IsHistory};
+    ghost use Rattle.ssim_desk.specs.internal.Changes.{AreSchedules};
 
     ghost Value = { ScheduledDesk };
 
     ghost coded = { Prim.hlevel (codes, flown_code) };
 
     ghost view = { λ d. let h = d.holdings in record {
-      seen = record { base = h.base; held = h.held; applied = d.history.applied };
-      schedule = d.history.latest;
+      seen = record { base = h.base; held = h.held; applied = d.schedules.applied };
+      schedule = d.schedules.latest;
     } };
 
-    ghost invariant = { λ d. let h = d.holdings in IsHistory h.base h.held d.history };
+    ghost invariant = { λ d. let h = d.holdings in AreSchedules h.base h.held d.schedules };
 }
 
 impl Desk {
@@ -123,7 +123,7 @@ impl Desk {
     pub fn applied(&self) -> u64
         ensures { result ≡ self.now.seen.applied }
     {
-        self.history.applied
+        self.schedules.applied
     }
 
     /// Takes a text: holds its message if it is new.
@@ -164,7 +164,7 @@ impl Desk {
         let change = self.holdings.change_by(&other.holdings)?;
         match change {
             None => {
-                self.history.applied = 0;
+                self.schedules.applied = 0;
                 Ok(())
             }
             Some((at, rest)) => {
@@ -187,7 +187,7 @@ impl Desk {
         let _ = flight.suffix();
         let _ = day.number();
         let _ = self.holdings.held();
-        self.history.latest.itinerary(flight, day)
+        self.schedules.latest.itinerary(flight, day)
     }
 
     /// The rising days at which a stored range of the flight begins or ends; none for a flight that
@@ -213,7 +213,7 @@ impl Desk {
         // No effect at run time. The proof reads from these uses that the flight exists.
         let _ = flight.number();
         let _ = flight.suffix();
-        self.history.latest.cuts(flight)
+        self.schedules.latest.cuts(flight)
     }
 
     /// A line for each sub-message that is held, in order: what it found on the dates of its
@@ -224,7 +224,7 @@ impl Desk {
             (found_by self.now.seen.base self.now.seen.held)) }
     {
         let mut lines = Vec::new(self.holdings.allocator());
-        push_lines(&mut lines, self.holdings.held(), &self.history.found)?;
+        push_lines(&mut lines, self.holdings.held(), &self.schedules.found)?;
         Ok(lines)
     }
 
@@ -248,7 +248,7 @@ impl Desk {
         // No effect at run time. The proof reads from this use that the messages are those of a
         // desk.
         let _ = self.holdings.held();
-        self.history.latest.export(self.holdings.base(), out)
+        self.schedules.latest.export(self.holdings.base(), out)
     }
 
     /// Writes the desk file: the base and the messages that are held, in version 2 of the format.
@@ -276,8 +276,11 @@ impl Desk {
         }) }
     {
         let alloc = holdings.allocator();
-        let history = History::of(alloc, holdings.base(), holdings.held())?;
-        Ok(Desk { holdings, history })
+        let schedules = Schedules::of(alloc, holdings.base(), holdings.held())?;
+        Ok(Desk {
+            holdings,
+            schedules,
+        })
     }
 
     // Inserts a new message at its position.
@@ -291,12 +294,12 @@ impl Desk {
         let alloc = self.holdings.allocator();
         let base = self.holdings.base();
         let held = self.holdings.held();
-        let mut replay = self.history.replay_to(alloc, base, held, at)?;
+        let mut replay = self.schedules.replay_to(alloc, base, held, at)?;
         replay.apply(alloc, base, &new)?;
         apply_all(alloc, base, &mut replay, &held[at..])?;
-        self.history.reserve(&replay)?;
+        self.schedules.reserve(&replay)?;
         self.holdings.insert(at, new)?;
-        self.history.put(replay);
+        self.schedules.put(replay);
         Ok(())
     }
 
@@ -311,11 +314,11 @@ impl Desk {
         let alloc = self.holdings.allocator();
         let base = self.holdings.base();
         let held = self.holdings.held();
-        let mut replay = self.history.replay_to(alloc, base, held, at)?;
+        let mut replay = self.schedules.replay_to(alloc, base, held, at)?;
         apply_all(alloc, base, &mut replay, &rest)?;
-        self.history.reserve(&replay)?;
+        self.schedules.reserve(&replay)?;
         self.holdings.replace_from(at, rest)?;
-        self.history.put(replay);
+        self.schedules.put(replay);
         Ok(())
     }
 }

@@ -28,13 +28,13 @@ mod date_step;
 mod desk;
 mod finding_line;
 mod flights;
-mod history;
 mod holder;
 mod holdings;
 pub mod laws;
 mod message_effect;
 mod offer;
 mod replay;
+mod schedules;
 mod steps;
 
 pub use date_step::{DateHistory, DateStep};

@@ -1,4 +1,4 @@
--- What a text or a merge changes in the messages that are held, and the history of schedules.
+-- What a text or a merge changes in the messages that are held, and the schedules after them.
 use Rattle.std.specs.Prelude.{◌≡◌, ◌⊎◌, ℕ, ◌+◌, ◌*◌, ◌/◌, ◌%◌, ◌<◌, ◌≤◌, List, ◌∷◌, ◌++◌, length, take, map}
 use Rattle.std.specs.Prelude.{slice_get, Contains, IsTrue, IfSome}
 use Rattle.std.specs.Prelude.{Option, None, Some}
@@ -15,7 +15,7 @@ use Rattle.ssim_held.specs.Held.{DeskState, Holds, Says}
 use Rattle.ssim_held.specs.Entries.{AreEntries, DeskSeen, Entry, IsEntry, map_of, state_of}
 use Rattle.ssim_held.specs.Ordered.{Belongs}
 use Rattle.ssim_desk.specs.{Desk.{AreDeskPoints, is_sub_point}, Meaning.{Timetable, found_by, left_by}}
-use Rattle.ssim_desk.specs.{Steps.IsUnion, declared.history.History.History}
+use Rattle.ssim_desk.specs.{Steps.IsUnion, declared.schedules.Schedules.Schedules}
 use Rattle.ssim_desk.specs.declared.offer.Offer.{Offer}
 use Rattle.ssim_desk.specs.declared.offer.Offer.TheVariants.{Known, New}
 use Rattle.ssim_desk.specs.declared.replay.Replay.{Replay}
@@ -46,7 +46,7 @@ abbrev pub IsChange : {A : Type 0} → DeskSeen → DeskSeen → Option (ℕ × 
 IsChange mine theirs None = IsUnion (state_of mine) (state_of theirs) (map_of mine.held)
 IsChange mine theirs (Some change) = Brings mine theirs change.0 change.1.items
 
--- ---- a history: the schedule after every 32 messages, the latest one, and what each message found
+-- ---- the schedules of a desk: that after every 32 messages, the latest one, and what each message found
 
 -- the schedule has this timetable
 abbrev pub Shows : Flown → Timetable → Type 0
@@ -73,11 +73,11 @@ pub record AreCheckpoints (base : BaseSeen) (entries : List Entry) (first : ℕ)
   pub count : first + length checkpoints ≡ length entries / 32 + 1
   pub each : (k : ℕ) → IfSome (slice_get checkpoints k) (IsAfter base (take (32 * (first + k)) entries))
 
--- what a history keeps of a base and messages
-pub record IsHistory (base : BaseSeen) (entries : List Entry) (history : History) : Type 0 where
-  pub latest_is : IsAfter base entries history.latest
-  pub found_is : history.found.items ≡ found_by base entries
-  pub kept : AreCheckpoints base entries 0 history.checkpoints.items
+-- the schedules of a base and messages
+pub record AreSchedules (base : BaseSeen) (entries : List Entry) (schedules : Schedules) : Type 0 where
+  pub latest_is : IsAfter base entries schedules.latest
+  pub found_is : schedules.found.items ≡ found_by base entries
+  pub kept : AreCheckpoints base entries 0 schedules.checkpoints.items
 
 -- what follows the first messages: the checkpoints, the findings, and how many messages were applied
 pub record IsReplay (base : BaseSeen) (entries : List Entry) (replay : Replay) : Type 0 where
@@ -88,11 +88,11 @@ pub record IsReplay (base : BaseSeen) (entries : List Entry) (replay : Replay) :
   pub counted : replay.applied + replay.from ≡ length entries
   pub since_is : replay.since ≡ length entries % 32
 
--- the lists of a history have room for what follows
-pub record HasRoom (history : History) (replay : Replay) : Type 0 where
-  pub found : vec_len history.found + vec_len replay.found ≤ vec_capacity history.found
-  pub checkpoints : vec_len history.checkpoints + vec_len replay.checkpoints
-      ≤ vec_capacity history.checkpoints
+-- the lists have room for what follows
+pub record HasRoom (schedules : Schedules) (replay : Replay) : Type 0 where
+  pub found : vec_len schedules.found + vec_len replay.found ≤ vec_capacity schedules.found
+  pub checkpoints : vec_len schedules.checkpoints + vec_len replay.checkpoints
+      ≤ vec_capacity schedules.checkpoints
 
 -- a replay counts the messages that were applied, and how many the last multiple of 32 leaves
 pub record IsCounted (replay : Replay) : Type 0 where

@@ -32,9 +32,9 @@ returns-clause-unnamed c = none_unnamed c.args.self.now.seen.base c.args.self.no
 pub returns-clause-bound : goal.returns-clause-bound
 returns-clause-bound c = within_bound c.args.self.now.seen.base c.args.self.now.seen.held c.args.flight.now c.cuts.result.now c.cuts.ensures.rising (points c)
 
-legs : (c : goal.After-cuts) (day : ℕ) → day < 36525 → on_day (days_in c.self.inside.history.latest c.args.flight.now) day ≡ timetable_of c.args.self.now.seen c.args.flight.now day
+legs : (c : goal.After-cuts) (day : ℕ) → day < 36525 → on_day (days_in c.self.inside.schedules.latest c.args.flight.now) day ≡ timetable_of c.args.self.now.seen c.args.flight.now day
 legs c day within =
-    legs_after c.self.inside.holdings.base c.self.inside.holdings.held c.self.inside.history.latest c.self.invariant.latest_is c.args.flight.now (exists c) day within
+    legs_after c.self.inside.holdings.base c.self.inside.holdings.held c.self.inside.schedules.latest c.self.invariant.latest_is c.args.flight.now (exists c) day within
     ∙ ap (λ (t : ScheduledDesk). timetable_of t.seen c.args.flight.now day) c.self.view_is
 
 pub returns-clause-weekly : goal.returns-clause-weekly

@@ -18,7 +18,7 @@ if_err (Err e) f p = f e p
 
 pub returns-clause-ok : goal.returns-clause-ok
 returns-clause-ok g c =
-    let t = c.self.inside.holdings in let days = days_in c.self.inside.history.latest in
+    let t = c.self.inside.holdings in let days = days_in c.self.inside.schedules.latest in
     on_ok c.export.result
     (λ w. subst (λ (d : ScheduledDesk). WritesBase g.W.Sink.taken g.W.Sink.failures d.seen.base.records (days_of_desk d.seen) c.args.out.now c.export.new.out) c.self.view_is
     (writes days (days_of_desk t) c.self.invariant.latest_is.shows g.W.Sink.taken g.W.Sink.failures t.base.records c.args.out.now c.export.new.out
@@ -27,7 +27,7 @@ returns-clause-ok g c =
 
 pub returns-clause-err : goal.returns-clause-err
 returns-clause-err g c =
-    let t = c.self.inside.holdings in let days = days_in c.self.inside.history.latest in
+    let t = c.self.inside.holdings in let days = days_in c.self.inside.schedules.latest in
     if_err c.export.result
     (λ fault r. subst (λ (d : ScheduledDesk). RefusesBase g.W.Sink.taken g.W.Sink.failures d.seen.base.records (days_of_desk d.seen) c.args.out.now c.export.new.out fault) c.self.view_is
     (refuses days (days_of_desk t) c.self.invariant.latest_is.shows g.W.Sink.taken g.W.Sink.failures t.base.records c.args.out.now c.export.new.out fault

@@ -4,7 +4,7 @@ use Rattle.std.proofs.lemmas.Grind.{common_steps}
 use Rattle.ssim_base.specs.BaseSeen.{BaseSeen}
 use Rattle.ssim_held.specs.Entries.{DeskSeen, Entry}
 use Rattle.ssim_desk.specs.Desk.{ScheduledDesk}
-use Rattle.ssim_desk.specs.internal.Changes.{IsHistory, IsReplay, IsReplaced}
+use Rattle.ssim_desk.specs.internal.Changes.{AreSchedules, IsReplay, IsReplaced}
 use Rattle.ssim_desk.proofs.Changes.{replaced}
 use Rattle.ssim_desk.proofs.desk.Desk.insert.Goals as goal
 
@@ -22,8 +22,8 @@ invariant_of-self-2 c =
     let place = subst (λ (d : ScheduledDesk). at ≤ length d.seen.held) (sym c.self.view_is) c.requires.gap.within in
     let low : r.from ≤ at = omega (arith, c.in_ok-apply_all.ensures.from, c.in_ok-apply.ensures.from, c.in_ok-replay.ensures.low) in
     let history = c.put.ensures.is h.base h.held (new ∷ drop at h.held) at place low (c.in_ok-reserve.ensures.same h.base h.held c.self.invariant) replay in
-    subst (λ (x : BaseSeen). IsHistory x c.insert.new.self.held c.put.new.self) (sym c.in_ok-insert.ensures.base)
-    (subst (λ (es : List Entry). IsHistory h.base es c.put.new.self) (sym c.in_ok-insert.ensures.ok) history)
+    subst (λ (x : BaseSeen). AreSchedules x c.insert.new.self.held c.put.new.self) (sym c.in_ok-insert.ensures.base)
+    (subst (λ (es : List Entry). AreSchedules h.base es c.put.new.self) (sym c.in_ok-insert.ensures.ok) history)
 
 pub returns-clause-ok : goal.returns-clause-ok
 returns-clause-ok c =
@@ -39,7 +39,7 @@ returns-clause-ok c =
     let place = subst (λ (d : ScheduledDesk). at ≤ length d.seen.held) (sym c.self.view_is) c.requires.gap.within in
     let low : r.from ≤ at = omega (arith, c.in_ok-apply_all.ensures.from, c.in_ok-apply.ensures.from, c.in_ok-replay.ensures.low) in
     let near : at ≤ r.from + 31 = omega (arith, c.in_ok-apply_all.ensures.from, c.in_ok-apply.ensures.from, c.in_ok-replay.ensures.near) in
-    let before : DeskSeen = record { base = h.base; held = h.held; applied = c.self.inside.history.applied } in
+    let before : DeskSeen = record { base = h.base; held = h.held; applied = c.self.inside.schedules.applied } in
     let after : DeskSeen = record { base = c.insert.new.self.base; held = c.insert.new.self.held; applied = c.put.new.self.applied } in
     subst (λ (d : ScheduledDesk). IsReplaced d.seen at (new ∷ drop at d.seen.held) after) c.self.view_is
     (replaced before after at (new ∷ drop at h.held) h.base r place low near replay c.in_ok-insert.ensures.base c.in_ok-insert.ensures.ok c.put.ensures.applied)

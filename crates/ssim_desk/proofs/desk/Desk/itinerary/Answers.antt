@@ -19,7 +19,7 @@ entries c = subst (λ (t : ScheduledDesk). AreEntries t.seen.base.records t.seen
 legs : (c : goal.After-itinerary) → c.itinerary.result.now ≡ timetable_of c.args.self.now.seen c.args.flight.now c.args.day
 legs c =
     c.itinerary.ensures.value
-    ∙ legs_after c.self.inside.holdings.base c.self.inside.holdings.held c.self.inside.history.latest c.self.invariant.latest_is c.args.flight.now (exists c) c.args.day (subst (λ n. n < 36525) c.number-2.ensures.value c.number-2.ensures.bound)
+    ∙ legs_after c.self.inside.holdings.base c.self.inside.holdings.held c.self.inside.schedules.latest c.self.invariant.latest_is c.args.flight.now (exists c) c.args.day (subst (λ n. n < 36525) c.number-2.ensures.value c.number-2.ensures.bound)
     ∙ ap (λ (t : ScheduledDesk). timetable_of t.seen c.args.flight.now c.args.day) c.self.view_is
 
 pub returns-clause-value : goal.returns-clause-value

@@ -3,10 +3,10 @@ use Rattle.std.proofs.Common.{◌≤◌, List, sym, refl, subst, take, length, a
 use Rattle.ssim_held.specs.Entries.{Entry}
 use Rattle.ssim_desk.specs.internal.Changes.{IsReplay}
 use Rattle.ssim_desk.proofs.Trails.{length-front, split}
-use Rattle.ssim_desk.proofs.history.History.replay_to.Goals as goal
+use Rattle.ssim_desk.proofs.schedules.Schedules.replay_to.Goals as goal
 
-pub schedule-requires-clause-history : goal.schedule-requires-clause-history
-schedule-requires-clause-history c = (c.args.base.now, c.args.held.now, c.requires.is, refl)
+pub schedule-requires-clause-schedules : goal.schedule-requires-clause-schedules
+schedule-requires-clause-schedules c = (c.args.base.now, c.args.held.now, c.requires.is, refl)
 
 pub returns-clause-replay : goal.returns-clause-replay
 returns-clause-replay c =

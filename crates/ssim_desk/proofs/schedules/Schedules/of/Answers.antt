@@ -5,7 +5,7 @@ use Rattle.ssim_schedule.specs.Schedule.{cuts_in}
 use Rattle.ssim_desk.specs.internal.Changes.{IsAfter}
 use Rattle.ssim_desk.proofs.Points.{begun_at}
 use Rattle.ssim_desk.proofs.Trails.{made}
-use Rattle.ssim_desk.proofs.history.History.of.Goals as goal
+use Rattle.ssim_desk.proofs.schedules.Schedules.of.Goals as goal
 
 pub returns-clause-is : goal.returns-clause-is
 returns-clause-is c =

@@ -4,7 +4,7 @@ ghost use Rattle.std.specs.Prelude.{◌≡◌, ◌⊎◌, ◌≤◌, ◌+◌, �
 ghost use Rattle.std.specs.Prelude.{IfOk, OnOk};
 ghost use Rattle.ssim_base.specs.BaseSeen.{BaseSeen};
 ghost use Rattle.ssim_held.specs.Entries.{Entry};
-ghost use Rattle.ssim_desk.specs.internal.Changes.{HasRoom, IsAfter, IsCounted, IsHistory};
+ghost use Rattle.ssim_desk.specs.internal.Changes.{HasRoom, IsAfter, IsCounted, AreSchedules};
 ghost use Rattle.ssim_desk.specs.internal.Changes.{IsReplay};
 
 use crate::replay::{MessageFindings, Replay, STEP, apply_all};
@@ -17,7 +17,7 @@ use std::alloc::Global;
 /// Of a base and messages in order: the schedule after them and after every 32 of them, and what
 /// each of them found.
 #[derive(Drop)]
-pub(crate) struct History {
+pub(crate) struct Schedules {
     /// The schedule after 0, 32, 64, .. messages.
     pub checkpoints: Vec<Schedule>,
     /// The schedule after all messages.
@@ -28,11 +28,11 @@ pub(crate) struct History {
     pub applied: u64,
 }
 
-impl History {
+impl Schedules {
     /// All messages are applied to the base's schedule.
-    pub(crate) fn of(alloc: Global, base: &Base, held: &[Held]) -> Result<History, Memory>
-        ensures is { IfOk result (IsHistory base.now held.now) }
-        ensures applied { IfOk result (λ history. history.applied ≡ length held.now) }
+    pub(crate) fn of(alloc: Global, base: &Base, held: &[Held]) -> Result<Schedules, Memory>
+        ensures is { IfOk result (AreSchedules base.now held.now) }
+        ensures applied { IfOk result (λ schedules. schedules.applied ≡ length held.now) }
     {
         let began = Schedule::of(base)?;
         let mut replay = Replay::after(alloc, &began, 0)?;
@@ -40,7 +40,7 @@ impl History {
         let mut checkpoints = Vec::with_capacity(alloc, 1)?;
         checkpoints.push(began)?;
         checkpoints.append(&mut replay.checkpoints)?;
-        Ok(History {
+        Ok(Schedules {
             checkpoints,
             latest: replay.latest,
             found: replay.found,
@@ -57,7 +57,7 @@ impl History {
         held: &[Held],
         at: usize,
     ) -> Result<Replay, Memory>
-        requires is { IsHistory base.now held.now self.now }
+        requires is { AreSchedules base.now held.now self.now }
         requires within { at ≤ length held.now }
         ensures counted { IfOk result IsCounted }
         ensures low { IfOk result (λ replay. replay.from ≤ at) }
@@ -74,10 +74,10 @@ impl History {
     fn schedule(&self, count: usize, from: usize) -> &Schedule
         requires within { from ≤ count }
         requires kept { (from ≡ count) ⊎ (from ≡ 32 * (from / 32)) }
-        requires history { (base : BaseSeen) × (held : List Entry) × IsHistory base held self.now
+        requires schedules { (base : BaseSeen) × (held : List Entry) × AreSchedules base held self.now
             × (count ≡ length held) }
         ensures { (base : BaseSeen) (held : List Entry) → count ≡ length held
-            → IsHistory base held self.now → IsAfter base (take from held) result.now }
+            → AreSchedules base held self.now → IsAfter base (take from held) result.now }
     {
         if from == count {
             &self.latest
@@ -89,8 +89,8 @@ impl History {
     /// Makes room for what follows. Nothing else changes.
     pub(crate) fn reserve(&mut self, replay: &Replay) -> Result<(), Memory>
         ensures room { OnOk result (HasRoom self.new replay.now) }
-        ensures same { (base : BaseSeen) (held : List Entry) → IsHistory base held self.old
-            → IsHistory base held self.new }
+        ensures same { (base : BaseSeen) (held : List Entry) → AreSchedules base held self.old
+            → AreSchedules base held self.new }
         ensures latest { self.new.latest ≡ self.old.latest }
         ensures applied { self.new.applied ≡ self.old.applied }
     {
@@ -103,9 +103,9 @@ impl History {
     pub(crate) fn put(&mut self, mut replay: Replay)
         requires { HasRoom self.old replay }
         ensures is { (base : BaseSeen) (held rest : List Entry) (at : ℕ) → at ≤ length held
-            → replay.from ≤ at → IsHistory base held self.old
+            → replay.from ≤ at → AreSchedules base held self.old
             → IsReplay base (take at held ++ rest) replay
-            → IsHistory base (take at held ++ rest) self.new }
+            → AreSchedules base (take at held ++ rest) self.new }
         ensures applied { self.new.applied ≡ replay.applied }
     {
         self.found.truncate(replay.from);

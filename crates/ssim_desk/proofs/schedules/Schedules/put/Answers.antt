@@ -2,7 +2,7 @@
 use Rattle.std.proofs.Common.{◌≡◌, ◌+◌, ◌/◌, ◌++◌, refl, take, arith}
 use Rattle.std.proofs.lemmas.Grind.{common_steps}
 use Rattle.ssim_desk.proofs.Trails.{put_in_place}
-use Rattle.ssim_desk.proofs.history.History.put.Goals as goal
+use Rattle.ssim_desk.proofs.schedules.Schedules.put.Goals as goal
 
 pub returns-clause-is : goal.returns-clause-is
 returns-clause-is c base held rest at place low history replay =
