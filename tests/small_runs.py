@@ -1,4 +1,4 @@
-"""The ten commands on small files, run under a library that refuses some of their calls (refusing.c).
+"""The commands on small files, run under a library that refuses some of their calls (refusing.c).
 
 `Runs` is a folder with the files; `COMMANDS` names a command line for each command, and the file that it keeps.
 """
@@ -32,6 +32,7 @@ COMMANDS = [
     ("start", ["start", "season", "stations", "old"], "old"),
     ("take", ["take", "desk", "desk", "earlier", "first", "later"], "desk"),
     ("merge", ["merge", "desk", "theirs", "new"], "new"),
+    ("texts", ["texts", "desk", "LX544", "LX540"], None),
     ("show", ["show", "desk", "LX544", "01JUL25"], None),
     ("history", ["history", "desk", "LX544", "01JUL25"], None),
     ("findings", ["findings", "desk"], None),

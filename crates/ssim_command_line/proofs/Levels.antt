@@ -1,17 +1,16 @@
 -- What a parse makes of the program's name, a command's name and its values: the walk of the top
 -- level stops at the command's name, and each plain value then goes to the next positional.
-use Rattle.std.proofs.Common.{◌≡◌, ◌∙◌, ◌&&◌, ◌||◌, ℕ, Bool, cond, true, false, not, refl, sym, ap, ap₂, List, [], ◌∷◌, ◌++◌, Option, Some, None, true≢false, append_assoc, codes, is_some}
+use Rattle.std.proofs.Common.{◌≡◌, ◌∙◌, ◌&&◌, Bool, true, false, refl, sym, ap, ap₂, List, [], ◌∷◌, ◌++◌, Option, Some, None, append_assoc, codes, is_some}
 use Rattle.std.specs.List.{find, fold, list_all}
-use Rattle.std.specs.Prelude.{⊤}
+use Rattle.std.specs.Prelude.{unwrap_or}
 use Rattle.std.specs.Option.{option_map, option_map_or}
 use Rattle.clap.specs.declared.parser.matches.ValueSource.TheVariants.{CommandLine}
-use Rattle.clap.specs.Walk.{Held, Names, Row, Rule, Step, Walk, all_of, first_of, reading_by, settled, answers_to, arg_by_index, finished, nothing_held, rows_after, to_positional, value, walk, walk_from, walked, Waiting, idle, option, positional}
-use Rattle.clap.specs.Simple.{App, Shape, filled, with_index, argument_words, built, built_leaf, entered, inherited, is_simple, label_of, names_of, on_top, marked_built, rows_at, subcommand_of, with_leaf_noted}
-use Rattle.clap.specs.Takes.{built_takes, default_passes, entered_passes, is_valid, level_passes, settle_passes, takes, turn_passes, walk_passes}
-use Rattle.clap.proofs.OnLiterals.{clap_on_literals}
+use Rattle.clap.specs.Walk.{Row, Rule, Walk, all_of, first_of, reading_by, settled, answers_to, arg_by_index, finished, nothing_held, rows_after, to_positional, walk, walk_from, walked, idle, positional}
+use Rattle.clap.specs.Simple.{App, Shape, filled, with_index, built, built_leaf, entered, inherited, is_simple, label_of, names_of, marked_built, rows_at, subcommand_of, with_leaf_noted}
+use Rattle.clap.specs.Takes.{default_passes, entered_passes, is_valid, level_passes, settle_passes, takes, turn_passes, walk_passes}
 use Rattle.clap.proofs.WalkLemmas.{both, walk_stopped}
 use Rattle.ssim_command_line.specs.Line.{Text, is_plain}
-use Rattle.ssim_command_line.specs.Commands.{whole_program, leaf, bare_program, one_value, several_texts, three_values, two_values_and_texts}
+use Rattle.ssim_command_line.specs.Commands.{whole_program, any_texts, leaf, bare_program, one_value, one_value_and_texts, several_texts, three_values, two_values_and_texts}
 use Rattle.ssim_command_line.proofs.Words.{Looks, at, looks, next_passes, none_passes, stopped_passes, turn_plain, walked_plain}
 
 -- ---- a subcommand, as it is built
@@ -88,6 +87,133 @@ module _ (name : Text) (a b d : Text) (la : Looks a) (lb : Looks b) (ld : Looks 
 
   pub three_rows : rows_after s3.rules [] (a ∷ b ∷ d ∷ []) ≡ finished s3.rules x3.held
   three_rows = ap (λ (v : Walk). finished s3.rules v.held) ends3
+
+-- one value and any number of texts
+module _ (name : Text) where
+  abbrev pub sf : Shape
+  sf = ready (leaf name one_value_and_texts)
+
+  abbrev pub cf : List Rule
+  cf = sf.rules
+
+  module _ (a : Text) where
+    abbrev pub f1 : Walk
+    f1 = to_positional cf (arg_by_index cf 1) a (at nothing_held idle 1) nothing_held
+
+    -- after the first text
+    abbrev pub f2 : Text → Walk
+    f2 t = to_positional cf (arg_by_index cf 2) t (at f1.held idle 2) f1.held
+
+    abbrev any_row : List Text → Row
+    any_row seen = record {
+      id = codes "texts";
+      values = seen;
+      count = None;
+      source = Some CommandLine;
+      reading = reading_by (with_index 2 (filled any_texts));
+    }
+
+    -- after more: those before the last are used, and the last is pending
+    abbrev pub any_state : List Text → Text → Walk
+    any_state seen t = at (record {
+      rows = (settled cf f1.held).rows ++ any_row seen ∷ [];
+      pending = Some (codes "texts", t ∷ []);
+      skip = 0;
+    }) positional 2
+
+    module _ (la : Looks a) where
+      pub any_first : walked cf [] (at nothing_held idle 1) a ≡ f1
+      any_first = walked_plain cf nothing_held idle 1 a la refl
+
+      pub any_second : (t : Text) → Looks t → walked cf [] f1 t ≡ f2 t
+      any_second t l = walked_plain cf f1.held idle 2 t l refl
+
+      pub any_third : (t u : Text) → Looks u → walked cf [] (f2 t) u ≡ any_state (t ∷ []) u
+      any_third t u l = walked_plain cf (f2 t).held positional 2 u l refl
+
+      pub any_later : (seen : List Text) (t u : Text) → Looks u → walked cf [] (any_state seen t) u ≡ any_state (seen ++ t ∷ []) u
+      any_later seen t u l = walked_plain cf (any_state seen t).held positional 2 u l refl
+
+      -- all the texts come, in order
+      any_rest : (seen : List Text) (t : Text) (rest : List Text) → list_all is_plain rest ≡ true
+          → (vs : List Text) × (v : Text) × (fold (walked cf []) (any_state seen t) rest ≡ any_state vs v) × (vs ++ v ∷ [] ≡ seen ++ t ∷ rest)
+      any_rest seen t [] e = (seen, t, refl, refl)
+      any_rest seen t (u ∷ rest) e =
+          let p = both _ _ e in
+          let r = any_rest (seen ++ t ∷ []) u rest p.1 in
+          (r.0, r.1, ap (λ (w : Walk). fold (walked cf []) w rest) (any_later seen t u (looks u p.0)) ∙ r.2, r.3 ∙ append_assoc seen (t ∷ []) (u ∷ rest))
+
+      -- the end of the walk, if there are two texts or more
+      pub any_ends : (t u : Text) (rest : List Text) → list_all is_plain (t ∷ u ∷ rest) ≡ true
+          → (vs : List Text) × (v : Text) × (walk cf [] nothing_held (a ∷ t ∷ u ∷ rest) ≡ any_state vs v) × (vs ++ v ∷ [] ≡ t ∷ u ∷ rest)
+      any_ends t u rest e =
+          let p = both _ _ e in let q = both _ _ p.1 in
+          let r = any_rest (t ∷ []) u rest q.1 in (
+            r.0,
+            r.1,
+            ap (λ (w : Walk). fold (walked cf []) w (t ∷ u ∷ rest)) any_first
+                ∙ (ap (λ (w : Walk). fold (walked cf []) w (u ∷ rest)) (any_second t (looks t p.0))
+                ∙ (ap (λ (w : Walk). fold (walked cf []) w rest) (any_third t u (looks u q.0)) ∙ r.2)),
+            r.3,
+          )
+
+      pub any_ends_at_one : (t : Text) → Looks t → walk cf [] nothing_held (a ∷ t ∷ []) ≡ f2 t
+      any_ends_at_one t l = ap (λ (w : Walk). fold (walked cf []) w (t ∷ [])) any_first ∙ any_second t l
+
+      any_later_pass : (seen : List Text) (t : Text) (rest : List Text) → list_all is_plain rest ≡ true → walk_passes sf [] (any_state seen t) rest ≡ true
+      any_later_pass seen t [] e = none_passes sf [] (any_state seen t)
+      any_later_pass seen t (u ∷ rest) e =
+          let p = both _ _ e in
+          let l = looks u p.0 in
+          next_passes sf [] (any_state seen t) (any_state (seen ++ t ∷ []) u) u rest (turn_plain sf (any_state seen t).held positional 2 u l refl refl) (any_later seen t u l)
+          (any_later_pass (seen ++ t ∷ []) u rest p.1)
+
+      any_from_second : (t : Text) (rest : List Text) → list_all is_plain rest ≡ true → walk_passes sf [] (f2 t) rest ≡ true
+      any_from_second t [] e = none_passes sf [] (f2 t)
+      any_from_second t (u ∷ rest) e =
+          let p = both _ _ e in
+          let k = looks u p.0 in
+          next_passes sf [] (f2 t) (any_state (t ∷ []) u) u rest (turn_plain sf (f2 t).held positional 2 u k refl refl) (any_third t u k) (any_later_pass (t ∷ []) u rest p.1)
+
+      any_from_first : (rest : List Text) → list_all is_plain rest ≡ true → walk_passes sf [] f1 rest ≡ true
+      any_from_first [] e = none_passes sf [] f1
+      any_from_first (t ∷ rest) e =
+          let p = both _ _ e in
+          let k = looks t p.0 in
+          next_passes sf [] f1 (f2 t) t rest (turn_plain sf f1.held idle 2 t k refl refl) (any_second t k) (any_from_second t rest p.1)
+
+      any_passes : (rest : List Text) → list_all is_plain rest ≡ true → walk_passes sf [] (at nothing_held idle 1) (a ∷ rest) ≡ true
+      any_passes rest e = next_passes sf [] (at nothing_held idle 1) f1 a rest (turn_plain sf nothing_held idle 1 a la refl refl) any_first (any_from_first rest e)
+
+      abbrev any_done : Walk → Bool
+      any_done w = settle_passes sf.rules sf.args_override_self w.held
+          && (list_all default_passes sf.rules && is_valid sf (finished sf.rules w.held) false)
+
+      any_end_passes : (rest : List Text) → list_all is_plain rest ≡ true → any_done (walk cf [] nothing_held (a ∷ rest)) ≡ true
+      any_end_passes [] e = ap any_done any_first
+      any_end_passes (t ∷ []) e = ap any_done (any_ends_at_one t (looks t (both _ _ e).0))
+      any_end_passes (t ∷ u ∷ rest) e = ap any_done (any_ends t u rest e).2
+
+      pub any_level : (rest : List Text) → list_all is_plain rest ≡ true → level_passes sf [] nothing_held (a ∷ rest) false ≡ true
+      any_level rest e = ap (λ (x : Bool). x && any_done (walk cf [] nothing_held (a ∷ rest))) (any_passes rest e) ∙ any_end_passes rest e
+
+      abbrev any_values : Walk → List Text
+      any_values w = unwrap_or (all_of (codes "texts") (finished cf w.held)) []
+
+      -- the rows at the end have the value and all the texts
+      pub any_rows : (rest : List Text) → list_all is_plain rest ≡ true
+          → (first_of (codes "first") (rows_after cf [] (a ∷ rest)) ≡ Some a)
+          × (unwrap_or (all_of (codes "texts") (rows_after cf [] (a ∷ rest))) [] ≡ rest)
+      any_rows [] e = (
+        ap (λ (w : Walk). first_of (codes "first") (finished cf w.held)) any_first,
+        ap any_values any_first,
+      )
+      any_rows (t ∷ []) e =
+          let q = any_ends_at_one t (looks t (both _ _ e).0) in
+          (ap (λ (w : Walk). first_of (codes "first") (finished cf w.held)) q, ap any_values q)
+      any_rows (t ∷ u ∷ rest) e =
+          let r = any_ends t u rest e in
+          (ap (λ (w : Walk). first_of (codes "first") (finished cf w.held)) r.2, ap any_values r.2 ∙ r.3)
 
 -- two values and texts
 abbrev pub st : Shape

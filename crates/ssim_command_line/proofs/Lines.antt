@@ -20,13 +20,13 @@ use Rattle.clap.specs.declared.parser.matches.SubCommand.{SubCommand}
 use Rattle.std.specs.Box.{box_value}
 use Rattle.clap.proofs.OnLiterals.{clap_on_literals}
 use Rattle.clap.proofs.WalkLemmas.{both}
-use Rattle.ssim_command_line.specs.Line.{Line, Spells, Text, is_plain, is_whole, name_of, values_of, Check, Tidy, Start, Take, Merge, Show, History, Findings, Export, Rehearse, Explain}
-use Rattle.ssim_command_line.specs.Commands.{whole_program, leaf, one_value, three_values, two_values_and_texts}
+use Rattle.ssim_command_line.specs.Line.{Line, Spells, Text, is_plain, is_whole, name_of, values_of, Check, Tidy, Start, Take, Merge, Texts, Show, History, Findings, Export, Rehearse, Explain}
+use Rattle.ssim_command_line.specs.Commands.{whole_program, leaf, one_value, one_value_and_texts, three_values, two_values_and_texts}
 use Rattle.ssim_command_line.specs.Request.{line_at, with_one, with_three}
 use Rattle.ssim_command_line.specs.Usage.{IsNoCommand, Names}
 use Rattle.ssim_command_line.proofs.Words.{Looks, looks}
-use Rattle.ssim_command_line.proofs.Levels.{enters, one_level, one_rows, ready, simple, st, take_level, take_rows, takes_words, three_level, three_rows, top_rules, whole}
-use Rattle.ssim_command_line.proofs.Right.{one_right, take_right, three_right, words_right}
+use Rattle.ssim_command_line.proofs.Levels.{any_level, any_rows, enters, one_level, one_rows, ready, sf, simple, st, take_level, take_rows, takes_words, three_level, three_rows, top_rules, whole}
+use Rattle.ssim_command_line.proofs.Right.{any_right, one_right, take_right, three_right, words_right}
 
 -- the words are taken without a fault, and name the row
 pub record Answers (words : List Text) (line : Line) : Type 0 where
@@ -62,6 +62,10 @@ take_is = record { met = refl; fits = refl; right = refl; found = refl }
 merge_is : IsNamed (codes "merge") (ready (leaf (codes "merge") three_values))
 unfolding clap_on_literals
 merge_is = record { met = refl; fits = refl; right = refl; found = refl }
+
+texts_is : IsNamed (codes "texts") (ready (leaf (codes "texts") one_value_and_texts))
+unfolding clap_on_literals
+texts_is = record { met = refl; fits = refl; right = refl; found = refl }
 
 show_is : IsNamed (codes "show") (ready (leaf (codes "show") three_values))
 unfolding clap_on_literals
@@ -135,6 +139,24 @@ take_answers a b t rest la lb lt plain program =
         → option_and_then (λ (p : Text × Text). option_map (Take p.0 p.1) h) (option_and_then (λ (x : Text). option_map (λ y. (x, y)) g) f) ≡ Some (Take a b (t ∷ rest))
     made_of f g h ef eg eh = rw (ef, eg, eh) refl
 
+-- one value and any number of flights
+texts_answers : (a : Text) (rest : List Text) → Looks a → list_all is_plain rest ≡ true → (program : Text) → Answers (program ∷ codes "texts" ∷ a ∷ rest) (Texts a rest)
+texts_answers a rest la plain program =
+    let name = codes "texts" in
+    let s = sf name in
+    let rows = rows_after s.rules [] (a ∷ rest) in
+    let has = any_rows name a la rest plain in
+    record {
+      taken = takes_words name (a ∷ rest) s texts_is.met texts_is.fits texts_is.found program (any_level name a la rest plain);
+      right = words_right name (a ∷ rest) s texts_is.met texts_is.right texts_is.fits texts_is.found program (any_right name a la rest plain);
+      rows = rows;
+      named = enters name (a ∷ rest) s texts_is.met texts_is.fits texts_is.found program;
+      made = made_of (first_of (codes "first") rows) (all_of (codes "texts") rows) has.0 has.1;
+    }
+  where
+    made_of : (f : Option Text) (h : Option (List Text)) → f ≡ Some a → unwrap_or h [] ≡ rest → option_map (λ (desk : Text). Texts desk (unwrap_or h [])) f ≡ Some (Texts a rest)
+    made_of f h ef eh = rw (ef, eh) refl
+
 -- the one word of a list of plain ones
 one_plain : (a : Text) → list_all is_plain (a ∷ []) ≡ true → Looks a
 one_plain a e = looks a (both _ _ e).0
@@ -151,6 +173,9 @@ from_line program (Start a b d) w e =
 from_line program (Merge a b d) w e =
     let p = both _ _ e in let q = both _ _ p.1 in
     three_answers (Merge a b d) (codes "merge") a b d Merge refl refl merge_is (looks a p.0) (looks b q.0) (one_plain d q.1) (λ rows. refl) program
+from_line program (Texts a rest) w e =
+    let p = both _ _ e in
+    texts_answers a rest (looks a p.0) p.1 program
 from_line program (Show a b d) w e =
     let p = both _ _ e in let q = both _ _ p.1 in
     three_answers (Show a b d) (codes "show") a b d Show refl refl show_is (looks a p.0) (looks b q.0) (one_plain d q.1) (λ rows. refl) program

@@ -1,10 +1,10 @@
 -- In plain words of a command `clap` finds no fault.
-use Rattle.std.proofs.Common.{◌≡◌, ◌∙◌, ℕ, Bool, cond, true, false, not, refl, sym, ap, ap₂, List, [], ◌∷◌, ◌++◌, Option, Some, None, true≢false, is_some, codes}
+use Rattle.std.proofs.Common.{◌≡◌, ◌∙◌, ℕ, Bool, cond, true, false, refl, ap, ap₂, List, [], ◌∷◌, ◌++◌, Option, Some, None, true≢false, is_some}
 use Rattle.std.specs.List.{find, fold, list_all}
 use Rattle.std.specs.Option.{option_map_or}
 use Rattle.clap.specs.Faults.{bundle_fault, check_fault, defaults_fault, entered_fault, fault_of, flag_word_fault, level_fault, other_fault, settle_fault, step_fault, turn_fault, walk_fault}
 use Rattle.clap.specs.Kinds.{Kinds, or_else}
-use Rattle.clap.specs.Lexer.{long_of, short_of}
+use Rattle.clap.specs.Lexer.{long_of}
 use Rattle.clap.specs.Walk.{Held, Names, Step, Waiting, Walk, answers_to, finished, nothing_held, settled, value, walk, walk_from, walked, idle, option, positional}
 use Rattle.clap.specs.Simple.{Shape, entered, label_of, names_of}
 use Rattle.clap.specs.Takes.{turn_passes}
@@ -13,7 +13,7 @@ use Rattle.clap.proofs.WalkLemmas.{both}
 use Rattle.ssim_command_line.specs.Line.{Text, is_plain}
 use Rattle.ssim_command_line.specs.Commands.{whole_program, leaf, one_value, three_values}
 use Rattle.ssim_command_line.proofs.Words.{Looks, at, awaits_option, looks, word_is}
-use Rattle.ssim_command_line.proofs.Levels.{ct, ends3, ends_at, entered_is, first_is, later_text, ready, second_is, second_text, st, state, t1, t2, t3, take_starts, third_is, top_rules, v1, w1, walk_is, whole, x1, x2, x3, y1, y2, y3}
+use Rattle.ssim_command_line.proofs.Levels.{any_ends, any_ends_at_one, any_first, any_later, any_second, any_state, any_third, cf, ct, ends3, ends_at, entered_is, f1, f2, first_is, later_text, ready, second_is, second_text, sf, st, state, t1, t2, t3, take_starts, third_is, top_rules, v1, w1, walk_is, whole, x1, x2, x3, y1, y2, y3}
 
 word_right : (s : Shape) (word : Text) (h : Held) → Looks word → other_fault s None word h ≡ []
 word_right s word h l =
@@ -88,6 +88,43 @@ module _ (name : Text) (a b d : Text) (la : Looks a) (lb : Looks b) (ld : Looks 
       (next_right s3 [] (at nothing_held idle 1) z1 a (b ∷ d ∷ []) (turn_right s3 nothing_held idle 1 a la refl refl) (y1 name a b d la lb ld)
       (next_right s3 [] z1 z2 b (d ∷ []) (turn_right s3 z1.held idle 2 b lb refl refl) (y2 name a b d la lb ld)
       (next_right s3 [] z2 z3 d [] (turn_right s3 z2.held idle 3 d ld refl refl) (y3 name a b d la lb ld) (none_right s3 [] z3)))) refl
+
+-- one value and any number of texts
+module _ (name a : Text) (la : Looks a) where
+  any_later_right : (seen : List Text) (t : Text) (rest : List Text) → list_all is_plain rest ≡ true → walk_fault (sf name) [] (any_state name a seen t) rest ≡ []
+  any_later_right seen t [] e = none_right (sf name) [] (any_state name a seen t)
+  any_later_right seen t (u ∷ rest) e =
+      let p = both _ _ e in
+      let l = looks u p.0 in
+      next_right (sf name) [] (any_state name a seen t) (any_state name a (seen ++ t ∷ []) u) u rest (turn_right (sf name) (any_state name a seen t).held positional 2 u l refl refl) (any_later name a la seen t u l)
+      (any_later_right (seen ++ t ∷ []) u rest p.1)
+
+  any_second_right : (t : Text) (rest : List Text) → list_all is_plain rest ≡ true → walk_fault (sf name) [] (f2 name a t) rest ≡ []
+  any_second_right t [] e = none_right (sf name) [] (f2 name a t)
+  any_second_right t (u ∷ rest) e =
+      let p = both _ _ e in
+      let k = looks u p.0 in
+      next_right (sf name) [] (f2 name a t) (any_state name a (t ∷ []) u) u rest (turn_right (sf name) (f2 name a t).held positional 2 u k refl refl) (any_third name a la t u k) (any_later_right (t ∷ []) u rest p.1)
+
+  any_first_right : (rest : List Text) → list_all is_plain rest ≡ true → walk_fault (sf name) [] (f1 name a) rest ≡ []
+  any_first_right [] e = none_right (sf name) [] (f1 name a)
+  any_first_right (t ∷ rest) e =
+      let p = both _ _ e in
+      let k = looks t p.0 in
+      next_right (sf name) [] (f1 name a) (f2 name a t) t rest (turn_right (sf name) (f1 name a).held idle 2 t k refl refl) (any_second name a la t k) (any_second_right t rest p.1)
+
+  any_words_right : (rest : List Text) → list_all is_plain rest ≡ true → walk_fault (sf name) [] (at nothing_held idle 1) (a ∷ rest) ≡ []
+  any_words_right rest e =
+      next_right (sf name) [] (at nothing_held idle 1) (f1 name a) a rest (turn_right (sf name) nothing_held idle 1 a la refl refl) (any_first name a la) (any_first_right rest e)
+
+  any_end_right : (rest : List Text) → list_all is_plain rest ≡ true → after_words (sf name) false [] (walk (cf name) [] nothing_held (a ∷ rest)) ≡ []
+  unfolding clap_on_literals
+  any_end_right [] e = ap (after_words (sf name) false []) (any_first name a la)
+  any_end_right (t ∷ []) e = ap (after_words (sf name) false []) (any_ends_at_one name a la t (looks t (both _ _ e).0))
+  any_end_right (t ∷ u ∷ rest) e = ap (after_words (sf name) false []) (any_ends name a la t u rest e).2
+
+  pub any_right : (rest : List Text) → list_all is_plain rest ≡ true → level_fault (sf name) [] nothing_held (a ∷ rest) false [] ≡ []
+  any_right rest e = level_right (sf name) (a ∷ rest) (walk (cf name) [] nothing_held (a ∷ rest)) refl (any_words_right rest e) (any_end_right rest e)
 
 -- two values and texts
 module _ (a b : Text) (la : Looks a) (lb : Looks b) where

@@ -12,9 +12,17 @@ needed id = record (new_rule id) { value_names = 1; required = true }
 abbrev pub several_texts : Rule
 several_texts = record (needed (codes "texts")) { action = Some Append }
 
+-- any number of texts
+abbrev pub any_texts : Rule
+any_texts = record (new_rule (codes "texts")) { value_names = 1; action = Some Append }
+
 -- the values of a command with one value
 abbrev pub one_value : List Rule
 one_value = needed (codes "first") ∷ []
+
+-- the values of a command with one value and any number of texts
+abbrev pub one_value_and_texts : List Rule
+one_value_and_texts = needed (codes "first") ∷ any_texts ∷ []
 
 -- the values of a command with three values
 abbrev pub three_values : List Rule
@@ -49,6 +57,10 @@ on_data_sets =
 abbrev pub on_desks : List Shape
 on_desks = leaf (codes "take") two_values_and_texts ∷ leaf (codes "merge") three_values ∷ []
 
+-- the commands on the messages that a desk holds
+abbrev pub on_messages : List Shape
+on_messages = leaf (codes "texts") one_value_and_texts ∷ []
+
 -- the commands that print a flight of a desk on a date
 abbrev pub on_dates : List Shape
 on_dates = leaf (codes "show") three_values ∷ leaf (codes "history") three_values ∷ []
@@ -67,5 +79,5 @@ explanations = leaf (codes "explain") one_value ∷ []
 
 -- the program with all its commands
 abbrev pub whole_program : App
-whole_program = add_all (add_all (add_all (add_all (add_all (add_all bare_program on_data_sets)
-    on_desks) on_dates) of_desks) rehearsals) explanations
+whole_program = add_all (add_all (add_all (add_all (add_all (add_all (add_all bare_program on_data_sets)
+    on_desks) on_messages) on_dates) of_desks) rehearsals) explanations

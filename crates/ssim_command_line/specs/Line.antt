@@ -13,6 +13,7 @@ pub data Line : Type 0 where
   Start : Text → Text → Text → Line
   Take : Text → Text → List Text → Line
   Merge : Text → Text → Text → Line
+  Texts : Text → List Text → Line
   Show : Text → Text → Text → Line
   History : Text → Text → Text → Line
   Findings : Text → Line
@@ -27,6 +28,7 @@ name_of (Tidy dataset) = codes "tidy"
 name_of (Start dataset stations out) = codes "start"
 name_of (Take desk out texts) = codes "take"
 name_of (Merge desk other out) = codes "merge"
+name_of (Texts desk flights) = codes "texts"
 name_of (Show desk flight date) = codes "show"
 name_of (History desk flight date) = codes "history"
 name_of (Findings desk) = codes "findings"
@@ -41,6 +43,7 @@ values_of (Tidy dataset) = dataset ∷ []
 values_of (Start dataset stations out) = dataset ∷ stations ∷ out ∷ []
 values_of (Take desk out texts) = desk ∷ out ∷ texts
 values_of (Merge desk other out) = desk ∷ other ∷ out ∷ []
+values_of (Texts desk flights) = desk ∷ flights
 values_of (Show desk flight date) = desk ∷ flight ∷ date ∷ []
 values_of (History desk flight date) = desk ∷ flight ∷ date ∷ []
 values_of (Findings desk) = desk ∷ []

@@ -1,9 +1,9 @@
 -- The command line that the matches of a subcommand name.
-use Rattle.std.specs.Prelude.{List, Option, None, map, option_and_then, option_map, if◌then◌else◌, codes}
+use Rattle.std.specs.Prelude.{List, [], Option, None, map, option_and_then, option_map, unwrap_or, if◌then◌else◌, codes}
 use Rattle.std.specs.Str.{bytes_eq}
 use Rattle.clap.specs.Words.{Row, all_of, first_of}
-use Rattle.ssim_command_line.specs.Line.{Line, Text, Check, Tidy, Start, Take, Merge, Show, History, Findings, Export}
-use Rattle.ssim_command_line.specs.Line.{Rehearse, Explain}
+use Rattle.ssim_command_line.specs.Line.{Line, Text, Check, Tidy, Start, Take, Merge, Texts, Show, History, Findings}
+use Rattle.ssim_command_line.specs.Line.{Export, Rehearse, Explain}
 use Rattle.ssim_command_line.specs.declared.command_line.Request.{Request}
 use Rattle.ssim_command_line.specs.declared.command_line.Request.TheVariants as request
 
@@ -14,6 +14,7 @@ line_of (request.Tidy dataset) = Tidy dataset.now
 line_of (request.Start dataset stations out) = Start dataset.now stations.now out.now
 line_of (request.Take desk out texts) = Take desk.now out.now (map (λ t. t.now) texts.items)
 line_of (request.Merge desk other out) = Merge desk.now other.now out.now
+line_of (request.Texts desk flights) = Texts desk.now (map (λ t. t.now) flights.items)
 line_of (request.Show desk flight date) = Show desk.now flight.now date.now
 line_of (request.History desk flight date) = History desk.now flight.now date.now
 line_of (request.Findings desk) = Findings desk.now
@@ -45,6 +46,14 @@ with_three make rows = option_map (λ p. make p.0 p.1 p.2) (three_of rows)
 abbrev pub with_texts : List Row → Option Line
 with_texts rows = option_and_then (λ p. option_map (Take p.0 p.1) (all_of (codes "texts") rows)) (two_of rows)
 
+-- the texts, none if none is given
+abbrev pub texts_of : List Row → List Text
+texts_of rows = unwrap_or (all_of (codes "texts") rows) []
+
+-- the `texts` line of a desk and any number of flights, if the desk is given
+abbrev pub with_flights : List Row → Option Line
+with_flights rows = option_map (λ desk. Texts desk (texts_of rows)) (first_of (codes "first") rows)
+
 -- what a subcommand's name and matches name, if they name a command with its values
 abbrev pub line_at : Text → List Row → Option Line
 line_at name rows =
@@ -53,10 +62,11 @@ line_at name rows =
     else (if bytes_eq name (codes "start") then with_three Start rows
     else (if bytes_eq name (codes "take") then with_texts rows
     else (if bytes_eq name (codes "merge") then with_three Merge rows
+    else (if bytes_eq name (codes "texts") then with_flights rows
     else (if bytes_eq name (codes "show") then with_three Show rows
     else (if bytes_eq name (codes "history") then with_three History rows
     else (if bytes_eq name (codes "findings") then with_one Findings rows
     else (if bytes_eq name (codes "export") then with_one Export rows
     else (if bytes_eq name (codes "rehearse") then with_three Rehearse rows
     else (if bytes_eq name (codes "explain") then with_one Explain rows
-    else None))))))))))
+    else None)))))))))))

@@ -3,7 +3,8 @@ ghost use Rattle.std.specs.Prelude.{◌≡◌, IfErr, IfOk, MatchResult, Option,
 ghost use Rattle.clap.specs.Words.{all_of, app_of, first_of, found_of, rows_of};
 ghost use Rattle.ssim_command_line.specs.Commands.{whole_program};
 ghost use Rattle.ssim_command_line.specs.Line.{Line, Spells};
-ghost use Rattle.ssim_command_line.specs.Request.{line_at, line_of, three_of, two_of, with_texts};
+ghost use Rattle.ssim_command_line.specs.Request.{line_at, line_of, three_of, two_of};
+ghost use Rattle.ssim_command_line.specs.Request.{with_flights, with_texts};
 ghost use Rattle.ssim_command_line.specs.Usage.{IsFaultOf, Names};
 
 use crate::commands::command;
@@ -11,8 +12,8 @@ use clap::error::ErrorKind;
 use clap::{ArgMatches, Error};
 use std::alloc::{AllocError, Global};
 
-/// A command with its values: names of files, but for the flight and the date of `Show` and
-/// of `History`, and the word of `Explain`.
+/// A command with its values: names of files, but for the flights of `Texts`, the flight and the
+/// date of `Show` and of `History`, and the word of `Explain`.
 #[derive(Debug, Drop)]
 pub enum Request<'a> {
     /// Print the notes on a data set and a summary.
@@ -25,6 +26,8 @@ pub enum Request<'a> {
     Take(&'a str, &'a str, Vec<&'a str>),
     /// Merge two desks, and write the desk file.
     Merge(&'a str, &'a str, &'a str),
+    /// Print the texts of the messages of a desk: of all, or of those that name one of the flights.
+    Texts(&'a str, Vec<&'a str>),
     /// Print a flight of a desk on a date.
     Show(&'a str, &'a str, &'a str),
     /// Print what the messages of a desk did with a flight on a date.
@@ -103,6 +106,22 @@ fn taking<'a>(alloc: Global, inner: &ArgMatches<'a>) -> Result<Option<Request<'a
     Ok(Some(Request::Take(desk, out, texts.to_vec(alloc)?)))
 }
 
+/// The request that the matches of `texts` make.
+fn showing_texts<'a>(
+    alloc: Global,
+    inner: &ArgMatches<'a>,
+) -> Result<Option<Request<'a>>, AllocError>
+    ensures { IfOk result (λ r. option_map line_of r ≡ with_flights (rows_of (found_of inner.now))) }
+{
+    let Some(desk) = one(inner) else {
+        return Ok(None);
+    };
+    let Some(flights) = texts_at(inner) else {
+        return Ok(Some(Request::Texts(desk, Vec::new(alloc))));
+    };
+    Ok(Some(Request::Texts(desk, flights.to_vec(alloc)?)))
+}
+
 /// The request that a subcommand's matches make.
 fn read<'a>(
     alloc: Global,
@@ -126,6 +145,9 @@ fn read<'a>(
     }
     if name == "merge" {
         return Ok(three(inner).map(|(a, b, c)| Request::Merge(a, b, c)));
+    }
+    if name == "texts" {
+        return showing_texts(alloc, inner);
     }
     if name == "show" {
         return Ok(three(inner).map(|(a, b, c)| Request::Show(a, b, c)));

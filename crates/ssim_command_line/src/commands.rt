@@ -1,8 +1,9 @@
 //! The commands as `clap` sees them.
 ghost use Rattle.std.specs.Prelude.{◌≡◌, IfOk, codes, false};
 ghost use Rattle.clap.specs.Words.{app_of, rule_of};
-ghost use Rattle.ssim_command_line.specs.Commands.{add_all, explanations, leaf, needed, of_desks, on_dates};
-ghost use Rattle.ssim_command_line.specs.Commands.{on_data_sets, on_desks, one_value, rehearsals};
+ghost use Rattle.ssim_command_line.specs.Commands.{add_all, any_texts, explanations, leaf, needed};
+ghost use Rattle.ssim_command_line.specs.Commands.{of_desks, on_data_sets, on_dates, on_desks};
+ghost use Rattle.ssim_command_line.specs.Commands.{on_messages, one_value, one_value_and_texts, rehearsals};
 ghost use Rattle.ssim_command_line.specs.Commands.{several_texts, three_values};
 ghost use Rattle.ssim_command_line.specs.Commands.{two_values_and_texts, whole_program};
 ghost use Rattle.ssim_command_line.specs.internal.Commands.{IsLeaf};
@@ -34,6 +35,17 @@ fn texts<'a>(alloc: Global) -> Arg<'a>
         .value_name("TEXT")
         .help(help::about_value("TEXT"))
         .required(true)
+        .action(ArgAction::Append)
+}
+
+/// Any number of texts.
+fn any_texts<'a>(alloc: Global, shown: &'a str) -> Arg<'a>
+    ensures rule { rule_of result ≡ any_texts }
+    ensures local { result.global ≡ false }
+{
+    Arg::new(alloc, "texts")
+        .value_name(shown)
+        .help(help::about_value(shown))
         .action(ArgAction::Append)
 }
 
@@ -80,6 +92,17 @@ fn take<'a>(alloc: Global) -> Result<Command<'a>, AllocError>
     command.arg(texts(alloc))
 }
 
+/// The command `texts`, with one value and any number of flights.
+fn texts_of_desk<'a>(alloc: Global) -> Result<Command<'a>, AllocError>
+    ensures { IfOk result (IsLeaf (leaf (codes "texts") one_value_and_texts)) }
+{
+    let command = Command::new(alloc, "texts")
+        .about(help::TEXTS)
+        .after_help(help::TEXTS_EXAMPLE);
+    let command = command.arg(value(alloc, "first", "DESK"))?;
+    command.arg(any_texts(alloc, "FLIGHT"))
+}
+
 /// The commands on data sets.
 fn with_data_sets<'a>(alloc: Global, program: Command<'a>) -> Result<Command<'a>, AllocError>
     ensures { IfOk result (λ c. app_of c ≡ add_all (app_of program.entry) on_data_sets) }
@@ -102,6 +125,14 @@ fn with_desks<'a>(alloc: Global, program: Command<'a>) -> Result<Command<'a>, Al
     let shown = ["DESK", "OTHER", "OUT"];
     let merge = with_three(alloc, "merge", help::MERGE, help::MERGE_EXAMPLE, shown)?;
     program.subcommand(take)?.subcommand(merge)
+}
+
+/// The commands on the messages that a desk holds.
+fn with_messages<'a>(alloc: Global, program: Command<'a>) -> Result<Command<'a>, AllocError>
+    ensures { IfOk result (λ c. app_of c ≡ add_all (app_of program.entry) on_messages) }
+{
+    let texts = texts_of_desk(alloc)?;
+    program.subcommand(texts)
 }
 
 /// The commands that print a flight of a desk on a date.
@@ -160,6 +191,7 @@ pub fn command<'a>(alloc: Global) -> Result<Command<'a>, AllocError>
         .subcommand_required(true);
     let program = with_data_sets(alloc, program)?;
     let program = with_desks(alloc, program)?;
+    let program = with_messages(alloc, program)?;
     let program = with_dates(alloc, program)?;
     let program = with_prints(alloc, program)?;
     let program = with_rehearsal(alloc, program)?;

@@ -76,6 +76,23 @@ writes the file 'both.desk' and prints the number of messages that it holds:
 Exit status: 0; 1 if a desk file is refused, the data sets or the tables differ (61), the
 two hold different messages under one reference (60), or a file cannot be read or written.";
 
+pub(crate) const TEXTS: &str = "\
+Read a desk file, and print the canonical texts of the messages that it holds, in order of
+reference; with flights, only of those that name one of the flights";
+
+pub(crate) const TEXTS_EXAMPLE: &str = "\
+Example:
+  ssimdesk texts fdh.desk Z7103 Z7111
+prints each text, with an empty line between two:
+  SSM
+  LT
+  15MAR00001E001
+  CNL
+  Z7103
+  24MAY27 24MAY27 1
+Exit status: 0, also if no message is printed; 1 if the desk file is refused, FLIGHT is no
+designator (6), or the airline is another one (41).";
+
 pub(crate) const SHOW: &str =
     "Read a desk file, and print the legs of a flight on a date of origin";
 

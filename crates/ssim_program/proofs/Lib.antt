@@ -4,6 +4,8 @@ pub mod Exporting
 pub mod Again
 pub mod Joining
 pub mod Texts
+pub mod MessageTexts
+pub mod NamedFlights
 pub mod Opening
 pub mod Within
 pub mod RefusalTexts

@@ -1,6 +1,7 @@
 -- Equal files are of one desk, so commands print the same of them.
-use Rattle.std.proofs.Common.{◌≡◌, ◌∙◌, ℕ, List, Some, sym, subst, arith}
+use Rattle.std.proofs.Common.{◌≡◌, ◌∙◌, ℕ, List, [], ◌∷◌, Some, refl, ap, ap₂, sym, subst, arith}
 use Rattle.ssim_values.proofs.DesignatorLemmas.{SpellsDesignator-unique}
+use Rattle.ssim_values.specs.declared.designator.Designator.{Designator}
 use Rattle.ssim_base.specs.BaseSeen.{BaseSeen}
 use Rattle.ssim_held.specs.Entries.{DeskSeen, Entry}
 use Rattle.ssim_held.specs.File.{IsDeskFile, NoTwoDesks}
@@ -8,10 +9,11 @@ use Rattle.ssim_base.specs.Timetable.{itinerary}
 use Rattle.ssim_desk.specs.DateSteps.{steps_on}
 use Rattle.ssim_desk.specs.Desk.{days_of_desk, entry_lines}
 use Rattle.ssim_desk.specs.Meaning.{found_by, left_by}
-use Rattle.ssim_command_line.specs.Line.{Text, Show, History, Findings, Export}
+use Rattle.ssim_command_line.specs.Line.{Text, Texts, Show, History, Findings, Export}
 use Rattle.ssim_program.specs.Desks.{ReadsDesk}
 use Rattle.ssim_program.specs.Files.{Files}
 use Rattle.ssim_program.specs.Made.{IsExport}
+use Rattle.ssim_program.specs.Messages.{SpellEach, message_texts, messages_on}
 use Rattle.ssim_program.specs.Offices.{IsSameFile, PrintsTheSame}
 use Rattle.ssim_program.specs.print.Shown.{findings_lines, history_lines, shown_flight}
 use Rattle.ssim_program.proofs.Again.{one_export}
@@ -20,6 +22,16 @@ use Rattle.ssim_program.proofs.Origins.{same_some}
 -- a desk, whatever its latest change applied
 abbrev seen : BaseSeen → List Entry → DeskSeen
 seen base held = record { base = base; held = held; applied = 0 }
+
+-- words name one list of flights
+spell_once : (words : List Text) (flights others : List Designator) → SpellEach words flights → SpellEach words others → flights ≡ others
+spell_once [] [] [] one other = refl
+spell_once (word ∷ words) (d ∷ flights) (e ∷ others) one other =
+    ap₂ (λ (x : Designator) (xs : List Designator). x ∷ xs) (SpellsDesignator-unique d e word one.0 other.0) (spell_once words flights others one.1 other.1)
+spell_once [] [] (e ∷ others) one other = absurd other
+spell_once [] (d ∷ flights) others one other = absurd one
+spell_once (word ∷ words) [] others one other = absurd one
+spell_once (word ∷ words) (d ∷ flights) [] one other = absurd other
 
 module _ (no_two : NoTwoDesks) where
   -- equal files are read as one desk
@@ -40,6 +52,12 @@ module _ (no_two : NoTwoDesks) where
       one_export other.base.records (days_of_desk (seen other.base other.held)) printed again
       (subst (λ (es : List Entry). IsExport other.base.records (days_of_desk (seen other.base es)) printed) one.1
       (subst (λ (b : BaseSeen). IsExport b.records (days_of_desk (seen b desk.held)) printed) one.0 is)) are
+
+  pub texts_same : (flights : List Text) → PrintsTheSame (λ file. Texts file flights)
+  texts_same words files others name another printed again kept also same (desk, read, is, _) (other, reads, are, _) =
+      let one = one_desk files others name another desk other same read reads in
+      let flights = spell_once words is.flights are.flights is.named.spelled are.named.spelled in
+      is.printed_is ∙ (λ i. message_texts (messages_on (flights i) (one.1 i))) ∙ sym are.printed_is
 
   pub show_same : (flight date : Text) → PrintsTheSame (λ file. Show file flight date)
   show_same flight date files others name another printed again kept also same (desk, read, is, _) (other, reads, are, _) =

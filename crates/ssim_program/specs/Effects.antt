@@ -11,8 +11,9 @@ use Rattle.ssim_program.specs.Desks.{IsExportOfDesk, IsMergeOf, ReadsDesk, Shows
 use Rattle.ssim_program.specs.Desks.{held_line}
 use Rattle.ssim_program.specs.Explained.{Explains}
 use Rattle.ssim_program.specs.Files.{Files, Kept}
-use Rattle.ssim_command_line.specs.Line.{Line, Check, Tidy, Start, Take, Merge, Show, History, Findings, Export}
-use Rattle.ssim_command_line.specs.Line.{Rehearse, Explain}
+use Rattle.ssim_command_line.specs.Line.{Line, Check, Tidy, Start, Take, Merge, Texts, Show, History, Findings}
+use Rattle.ssim_command_line.specs.Line.{Export, Rehearse, Explain}
+use Rattle.ssim_program.specs.Messages.{ShowsTexts}
 use Rattle.ssim_program.specs.Made.{AreLinesOn, IsExportOf, ReadsBase, ReadsFile}
 use Rattle.ssim_program.specs.rehearse.Rehearsal.{RehearsesFiles}
 use Rattle.ssim_program.specs.print.Shown.{findings_lines}
@@ -39,6 +40,8 @@ Makes (Merge file other out) files printed kept =
     (mine : DeskSeen) × (theirs : DeskSeen) × (after : DeskSeen) × ReadsDesk files file mine
     × ReadsDesk files other theirs × IsMergeOf mine theirs after × AreRising after.held
     × (printed ≡ held_line (length after.held)) × (kept ≡ Some (out, desk_file after.base after.held))
+Makes (Texts file flights) files printed kept =
+    (desk : DeskSeen) × ReadsDesk files file desk × ShowsTexts desk flights printed × (kept ≡ None)
 Makes (Show file flight date) files printed kept =
     (desk : DeskSeen) × ReadsDesk files file desk × Shows desk flight date printed × (kept ≡ None)
 Makes (History file flight date) files printed kept =

@@ -2,6 +2,7 @@ pub mod Files
 pub mod print
 pub mod Made
 pub mod Desks
+pub mod Messages
 pub mod Effects
 pub mod Again
 pub mod World

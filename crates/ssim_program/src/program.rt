@@ -22,6 +22,7 @@ use crate::command::merge::merge;
 use crate::command::show::show_flight;
 use crate::command::start::start;
 use crate::command::take::take;
+use crate::command::texts::texts;
 use crate::command::tidy::tidy;
 use crate::explain::explain;
 use crate::print::printer::{Printer, print_all, print_line};
@@ -216,6 +217,7 @@ fn act<S: Store, O: Write>(
             print(start(alloc, dataset, stations, name, store), out)
         }
         Request::Merge(desk, other, name) => print(merge(alloc, desk, other, name, store), out),
+        Request::Texts(desk, flights) => print(texts(alloc, desk, flights, store), out),
         Request::Show(desk, flight, date) => {
             print(show_flight(alloc, desk, flight, date, store), out)
         }

@@ -14,8 +14,9 @@ use Rattle.ssim_held.specs.Entries.{DeskSeen}
 use Rattle.ssim_desk.specs.Desk.{days_of_desk}
 use Rattle.ssim_program.specs.Desks.{ReadsDesk, RefusesDeskFile, RefusesFlight, RefusesMerge, RefusesTexts}
 use Rattle.ssim_program.specs.Files.{Files}
-use Rattle.ssim_command_line.specs.Line.{Line, Text, Check, Tidy, Start, Take, Merge, Show, History, Findings, Export}
-use Rattle.ssim_command_line.specs.Line.{Rehearse, Explain}
+use Rattle.ssim_command_line.specs.Line.{Line, Text, Check, Tidy, Start, Take, Merge, Texts, Show, History, Findings}
+use Rattle.ssim_command_line.specs.Line.{Export, Rehearse, Explain}
+use Rattle.ssim_program.specs.Messages.{RefusesFlights}
 use Rattle.ssim_program.specs.Made.{ReadsFile, RefusesBase, RefusesFile, RefusesLoad}
 use Rattle.ssim_program.specs.print.Paper.{Paper, PrintsOrFails}
 use Rattle.ssim_program.specs.print.Refusal.{refusal_of_export, refusal_text}
@@ -66,6 +67,10 @@ Refuses (Merge file other out) files printed refusal =
     ⊎ (((mine : DeskSeen) × ReadsDesk files file mine) × RefusesDeskFile files other refusal)
     ⊎ ((mine : DeskSeen) × (theirs : DeskSeen) × ReadsDesk files file mine × ReadsDesk files other theirs
     × RefusesMerge mine theirs refusal))
+Refuses (Texts file flights) files printed refusal =
+    (printed ≡ []) × (RefusesDeskFile files file refusal
+    ⊎ ((desk : DeskSeen) × ReadsDesk files file desk
+    × RefusesFlights (airline_of desk.base.records) flights refusal))
 Refuses (Show file flight date) files printed refusal =
     (printed ≡ []) × (RefusesDeskFile files file refusal
     ⊎ ((desk : DeskSeen) × ReadsDesk files file desk × RefusesFlight desk flight date refusal))

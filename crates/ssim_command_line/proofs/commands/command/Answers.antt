@@ -1,7 +1,7 @@
 -- Each group of commands is added to those before it.
 use Rattle.std.proofs.Common.{rules, ◌≡◌, IfOk, ap, subst, ◌∙◌}
 use Rattle.clap.specs.Words.{App, app_of}
-use Rattle.ssim_command_line.specs.Commands.{add_all, bare_program, explanations, of_desks, on_data_sets, on_dates, on_desks, rehearsals}
+use Rattle.ssim_command_line.specs.Commands.{add_all, bare_program, explanations, of_desks, on_data_sets, on_dates, on_desks, on_messages, rehearsals}
 use Rattle.ssim_command_line.proofs.commands.command.Goals as goal
 
 pub returns : goal.returns
@@ -9,7 +9,8 @@ returns c =
     let bare : app_of c.subcommand_required-program.result ≡ bare_program = search rules in
     let first : app_of c.in_ok-program.program ≡ add_all bare_program on_data_sets = c.in_ok-program.ensures ∙ ap (λ (a : App). add_all a on_data_sets) bare in
     let second = c.in_ok-program-2.ensures ∙ ap (λ (a : App). add_all a on_desks) first in
-    let third = c.in_ok-program-3.ensures ∙ ap (λ (a : App). add_all a on_dates) second in
-    let fourth = c.in_ok-program-4.ensures ∙ ap (λ (a : App). add_all a of_desks) third in
-    let fifth = c.in_ok-program-5.ensures ∙ ap (λ (a : App). add_all a rehearsals) fourth in
-    subst (λ (a : App). IfOk c.with_explanations.result (λ program. app_of program ≡ add_all a explanations)) fifth c.with_explanations.ensures
+    let third = c.in_ok-program-3.ensures ∙ ap (λ (a : App). add_all a on_messages) second in
+    let fourth = c.in_ok-program-4.ensures ∙ ap (λ (a : App). add_all a on_dates) third in
+    let fifth = c.in_ok-program-5.ensures ∙ ap (λ (a : App). add_all a of_desks) fourth in
+    let sixth = c.in_ok-program-6.ensures ∙ ap (λ (a : App). add_all a rehearsals) fifth in
+    subst (λ (a : App). IfOk c.with_explanations.result (λ program. app_of program ≡ add_all a explanations)) sixth c.with_explanations.ensures

@@ -1,6 +1,6 @@
 -- The request is the command's.
-use Rattle.std.proofs.Common.{sym, subst}
-use Rattle.ssim_command_line.specs.Line.{Check, Start, Merge, Show, History, Findings, Rehearse, Explain}
+use Rattle.std.proofs.Common.{map, sym, subst}
+use Rattle.ssim_command_line.specs.Line.{Check, Start, Merge, Texts, Show, History, Findings, Rehearse, Explain}
 use Rattle.ssim_command_line.specs.Request.{line_of}
 use Rattle.ssim_program.specs.World.{world}
 use Rattle.ssim_program.specs.internal.Program.{Does, stored}
@@ -27,6 +27,13 @@ returns-in-Merge g c =
     (sym c.in-Merge.is) (c.print-in-Merge.ensures (Merge c.in-Merge.desk.now c.in-Merge.other.now c.in-Merge.name.now)
     (stored (g.S.Store.files c.args.store.now) (g.S.Store.failures c.args.store.now))
     (stored (g.S.Store.files c.merge.new.store) (g.S.Store.failures c.merge.new.store)) tt c.merge.ensures)
+
+pub returns-in-Texts : goal.returns-in-Texts
+returns-in-Texts g c =
+    subst (λ (r : Request). Does (line_of r) (world (g.S.Store.files c.args.store.now) (g.S.Store.failures c.args.store.now) c.args.out.now) (world (g.S.Store.files c.texts.new.store) (g.S.Store.failures c.texts.new.store) c.print-in-Texts.new.out) c.print-in-Texts.result)
+    (sym c.in-Texts.is) (c.print-in-Texts.ensures (Texts c.in-Texts.desk.now (map (λ t. t.now) c.in-Texts.flights.now.items))
+    (stored (g.S.Store.files c.args.store.now) (g.S.Store.failures c.args.store.now))
+    (stored (g.S.Store.files c.texts.new.store) (g.S.Store.failures c.texts.new.store)) tt c.texts.ensures)
 
 pub returns-in-Show : goal.returns-in-Show
 returns-in-Show g c =

@@ -1,0 +1,42 @@
+-- The words of flights are read one after another.
+use Rattle.std.proofs.Common.{◌≡◌, ◌⊎◌, ◌∙◌, inr, Result, Ok, Err, IfErr, ◌+◌, ◌<◌, ◌≤◌, ℕ, List, [], ◌∷◌, ◌++◌, length, drop, map, get_or, sym, ap, subst, append_assoc}
+use Rattle.std.proofs.lemmas.List.{append-nil, drop-map, drop_all, drop_more}
+use Rattle.ssim_values.specs.Designator.{SpellsDesignator}
+use Rattle.ssim_values.specs.declared.designator.Designator.{Designator}
+use Rattle.ssim_command_line.specs.Line.{Text}
+use Rattle.ssim_values.specs.declared.fault.Fault.{Fault}
+use Rattle.ssim_values.specs.declared.fault.Fault.TheVariants as value_fault
+use Rattle.std.specs.Result.{IsErrAnd}
+use Rattle.ssim_program.specs.Messages.{HasNoFlight, SpellEach}
+use Rattle.ssim_program.specs.declared.refusal.Refusal.{Refusal}
+use Rattle.ssim_program.specs.declared.refusal.Refusal.TheVariants as refused
+
+-- the flights so far, and those of the words that are left, are those of all words
+abbrev pub AreSoFar : List Text → ℕ → List Designator → Type 0
+AreSoFar words i so_far = (later : List Designator) → SpellEach (drop i words) later → SpellEach words (so_far ++ later)
+
+-- one more word is a designator
+pub one_more_flight : (words : List Text) (i : ℕ) (word : Text) (so_far next : List Designator) (flight : Designator) → drop i words ≡ word ∷ drop (i + 1) words
+    → AreSoFar words i so_far → SpellsDesignator flight word → next ≡ so_far ++ flight ∷ [] → AreSoFar words (i + 1) next
+one_more_flight words i word so_far next flight more before spelled is = λ later left.
+    subst (SpellEach words) (sym (ap (λ (xs : List Designator). xs ++ later) is ∙ append_assoc so_far (flight ∷ []) later))
+    (before (flight ∷ later) (subst (λ (ws : List Text). SpellEach ws (flight ∷ later)) (sym more) (spelled, left)))
+
+-- no word is left
+pub all_flights : (words : List Text) (i : ℕ) (so_far : List Designator) → drop i words ≡ [] → AreSoFar words i so_far → SpellEach words so_far
+all_flights words i so_far none before =
+    subst (SpellEach words) (append-nil so_far) (before [] (subst (λ (ws : List Text). SpellEach ws []) (sym none) tt))
+
+-- the next word of those that are left
+pub next_word : {A : Type 0} (f : A → Text) (xs : List A) (i : ℕ) (d : A) → i < length xs → drop i (map f xs) ≡ f (get_or xs i d) ∷ drop (i + 1) (map f xs)
+next_word f xs i d within =
+    drop-map f i xs ∙ ap (map f) (drop_more xs i d within) ∙ ap (λ (ws : List Text). f (get_or xs i d) ∷ ws) (sym (drop-map f (i + 1) xs))
+
+pub no_word : {A : Type 0} (f : A → Text) (xs : List A) (i : ℕ) → length xs ≤ i → drop i (map f xs) ≡ []
+no_word f xs i past = drop-map f i xs ∙ ap (map f) (drop_all i xs past)
+
+-- the fault of a word that is no designator, as a refusal
+pub refused_word : {A : Type 0} (words : List Text) (r : Result A Refusal) (fault : Fault) → IsErrAnd r (λ refusal. refusal ≡ refused.Value fault) → fault ≡ value_fault.BadDesignator → HasNoFlight words
+    → IfErr r (λ refusal. (refusal ≡ refused.Memory) ⊎ ((refusal ≡ refused.Value value_fault.BadDesignator) × HasNoFlight words))
+refused_word words (Ok x) fault from is none = tt
+refused_word words (Err refusal) fault from is none = inr (from ∙ ap (λ (f : Fault). refused.Value f) is, none)

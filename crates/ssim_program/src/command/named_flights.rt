@@ -1,0 +1,56 @@
+//! The flights that words of the command line name.
+
+ghost use Rattle.std.specs.Prelude.{◌≡◌, ◌⊎◌, All, IfErr, IfOk, false, map, true};
+ghost use Rattle.ssim_values.specs.declared.fault.Fault.TheVariants as value_fault;
+ghost use Rattle.ssim_program.specs.Messages.{HasNoFlight, HasOther, IsOf, NameFlights};
+ghost use Rattle.ssim_program.specs.Messages.{RefusesFlights, SpellEach};
+ghost use Rattle.ssim_program.specs.declared.refusal.Refusal.TheVariants as refused;
+
+use crate::refusal::Refusal;
+use ssim_base::ResolveFault;
+use ssim_desk::DeskFault;
+use ssim_values::{Airline, Designator};
+use std::alloc::Global;
+
+/// The flights of the airline that the words name, in their order.
+pub(crate) fn named_flights(
+    alloc: Global,
+    airline: Airline,
+    words: &[&str],
+) -> Result<Vec<Designator>, Refusal>
+    ensures ok { IfOk result (λ flights. NameFlights airline (map (λ t. t.now) words.now) flights.items) }
+    ensures err { IfErr result (RefusesFlights airline (map (λ t. t.now) words.now)) }
+{
+    let flights = designators(alloc, words)?;
+    if has_other(airline, &flights) {
+        return Err(Refusal::from(DeskFault::Resolve(ResolveFault::Airline(0))));
+    }
+    Ok(flights)
+}
+
+/// The designators that the words are.
+fn designators(alloc: Global, words: &[&str]) -> Result<Vec<Designator>, Refusal>
+    ensures ok { IfOk result (λ flights. SpellEach (map (λ t. t.now) words.now) flights.items) }
+    ensures err { IfErr result (λ refusal. (refusal ≡ refused.Memory)
+        ⊎ ((refusal ≡ refused.Value value_fault.BadDesignator) × HasNoFlight (map (λ t. t.now) words.now))) }
+{
+    let mut flights = Vec::with_capacity(alloc, words.len())?;
+    for word in words {
+        let flight = Designator::parse(word.as_bytes())?;
+        flights.push(flight)?;
+    }
+    Ok(flights)
+}
+
+/// Whether one of the flights is another airline's.
+fn has_other(airline: Airline, flights: &[Designator]) -> bool
+    ensures other { result ≡ true → HasOther airline flights.now }
+    ensures none { result ≡ false → All (IsOf airline) flights.now }
+{
+    for flight in flights {
+        if flight.airline != airline {
+            return true;
+        }
+    }
+    false
+}
