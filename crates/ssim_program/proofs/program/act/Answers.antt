@@ -1,9 +1,9 @@
 -- The request is the command's.
-use Rattle.std.proofs.Common.{map, sym, subst}
+use Rattle.std.proofs.Common.{Bor, List, ℕ, map, sym, subst}
 use Rattle.ssim_command_line.specs.Line.{Check, Start, Merge, Texts, Show, History, Findings, Rehearse, Explain}
 use Rattle.ssim_command_line.specs.Request.{line_of}
 use Rattle.ssim_program.specs.World.{world}
-use Rattle.ssim_program.specs.internal.Program.{Does, stored}
+use Rattle.ssim_program.specs.internal.Program.{Does, Prepares, stored}
 use Rattle.ssim_command_line.specs.declared.command_line.Request.{Request}
 use Rattle.ssim_program.proofs.program.act.Goals as goal
 
@@ -30,10 +30,12 @@ returns-in-Merge g c =
 
 pub returns-in-Texts : goal.returns-in-Texts
 returns-in-Texts g c =
+    let before = stored (g.S.Store.files c.args.store.now) (g.S.Store.failures c.args.store.now) in
+    let after = stored (g.S.Store.files c.texts.new.store) (g.S.Store.failures c.texts.new.store) in
+    let desk = c.in-Texts.desk.now in
     subst (λ (r : Request). Does (line_of r) (world (g.S.Store.files c.args.store.now) (g.S.Store.failures c.args.store.now) c.args.out.now) (world (g.S.Store.files c.texts.new.store) (g.S.Store.failures c.texts.new.store) c.print-in-Texts.new.out) c.print-in-Texts.result)
-    (sym c.in-Texts.is) (c.print-in-Texts.ensures (Texts c.in-Texts.desk.now (map (λ t. t.now) c.in-Texts.flights.now.items))
-    (stored (g.S.Store.files c.args.store.now) (g.S.Store.failures c.args.store.now))
-    (stored (g.S.Store.files c.texts.new.store) (g.S.Store.failures c.texts.new.store)) tt c.texts.ensures)
+    (sym c.in-Texts.is) (c.print-in-Texts.ensures (Texts desk (map (λ t. t.now) c.in-Texts.flights.items)) before after tt
+    (subst (λ (words : List (Bor (List ℕ))). Prepares (Texts desk (map (λ t. t.now) words)) before after c.texts.result) c.deref-in-Texts.ensures.value c.texts.ensures))
 
 pub returns-in-Show : goal.returns-in-Show
 returns-in-Show g c =
