@@ -2,6 +2,8 @@
 
 ghost use Rattle.std.specs.Prelude.{◌≡◌, ◌++◌, map, IfOk, OnOk};
 ghost use Rattle.std.specs.List.{list_any};
+ghost use Rattle.ssim_periods.specs.Days.{each_day};
+ghost use Rattle.ssim_schedule.specs.Schedule.{days_in};
 ghost use Rattle.ssim_desk.specs.Desk.{is_sub_of};
 ghost use Rattle.ssim_desk.specs.Meaning.{Timetable, after_entries, entries_findings, found_by};
 ghost use Rattle.ssim_desk.specs.Meaning.{left_by};
@@ -11,13 +13,13 @@ use crate::message_effect::act;
 use crate::replay::MessageFindings;
 use ssim_base::{Base, ResolvedSub, StationRow};
 use ssim_held::Held;
-use ssim_schedule::{PlacedLeg, Schedule, copy_legs};
+use ssim_periods::Periods;
+use ssim_schedule::{Itinerary, PlacedLeg, Schedule, copy_legs};
 use ssim_values::{Day, Flight, Memory};
 use std::alloc::Global;
 
 /// The legs of a flight on a date of origin that messages, in this order, leave of the timetable of
-/// a base. Of this timetable only the flight's is made, and only the messages that name the flight
-/// act.
+/// a base.
 pub(crate) fn legs_after(
     alloc: Global,
     base: &Base,
@@ -27,13 +29,42 @@ pub(crate) fn legs_after(
 ) -> Result<Vec<PlacedLeg>, Memory>
     ensures { IfOk result (λ legs. legs.items ≡ left_by base.now messages.now flight.now day) }
 {
-    // No effect at run time. The proof reads from these uses that the flight and the day exist.
+    // No effect at run time. The proof reads from this use that the day exists.
+    let _ = day.number();
+    let schedule = schedule_after(alloc, base, messages, flight)?;
+    copy_legs(alloc, schedule.itinerary(flight, day))
+}
+
+/// The itinerary of a flight on each day that messages, in this order, leave of the timetable of a
+/// base.
+pub(crate) fn days_after(
+    alloc: Global,
+    base: &Base,
+    messages: &[Held],
+    flight: &Flight,
+) -> Result<Periods<Itinerary>, Memory>
+    ensures { IfOk result (λ itineraries. itineraries.days ≡ each_day (left_by base.now messages.now flight.now)) }
+{
+    let schedule = schedule_after(alloc, base, messages, flight)?;
+    schedule.days(flight)
+}
+
+// The schedule of a flight that messages, in this order, leave of the timetable of a base. Of this
+// timetable only the flight's is made, and only the messages that name the flight act.
+fn schedule_after(
+    alloc: Global,
+    base: &Base,
+    messages: &[Held],
+    flight: &Flight,
+) -> Result<Schedule, Memory>
+    ensures { IfOk result (λ schedule. days_in schedule flight.now ≡ each_day (left_by base.now messages.now flight.now)) }
+{
+    // No effect at run time. The proof reads from these uses that the flight exists.
     let _ = flight.number();
     let _ = flight.suffix();
-    let _ = day.number();
     let mut schedule = Schedule::of_flights(base.data_set(), &[*flight])?;
     act_on(alloc, base.rows(), &mut schedule, *flight, messages)?;
-    copy_legs(alloc, schedule.itinerary(flight, day))
+    Ok(schedule)
 }
 
 /// What each of these messages finds in this order. Of the base's timetable only the flights are

@@ -24,13 +24,14 @@ ghost use Rattle.ssim_desk.specs.Steps.{Merges, RefusesDesk, RefusesText, Takes}
 use crate::date_step::{DateHistory, history_of};
 use crate::desk::Took;
 use crate::finding_line::{FindingLine, push_lines};
-use crate::flights::{found_by, legs_after};
+use crate::flights::{days_after, found_by, legs_after};
 use crate::message_effect::act_in_order;
 use crate::offer::{Offer, offer_over};
 use ssim_base::{Base, DataSet, Stations, WriteFault};
 use ssim_held::{DeskFault, Held, Opened, first_conflict, first_new, merged, put_desk, read_parts};
+use ssim_periods::Periods;
 use ssim_records::{Parts, Sink};
-use ssim_schedule::{ExportFault, PlacedLeg, Schedule};
+use ssim_schedule::{ExportFault, Itinerary, PlacedLeg, Schedule};
 use ssim_text::Reference;
 use ssim_values::{Day, Flight, Memory};
 use std::alloc::Global;
@@ -176,6 +177,13 @@ impl Holdings {
             → Means (state_of self.now) timetable → legs.items ≡ timetable flight.now day) }
     {
         legs_after(self.alloc, &self.base, &self.held, flight, day)
+    }
+
+    /// The itinerary of a flight on each day. Reads all records of the base.
+    pub fn days(&self, flight: &Flight) -> Result<Periods<Itinerary>, Memory>
+        ensures { IfOk result (λ itineraries. itineraries.days ≡ days_of_desk self.now flight.now) }
+    {
+        days_after(self.alloc, &self.base, &self.held, flight)
     }
 
     /// A line for each sub-message that is held, in order: what it found on the dates of its

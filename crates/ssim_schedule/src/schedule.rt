@@ -9,9 +9,11 @@ ghost use Rattle.ssim_base.specs.Timetable.{Above, on_day};
 ghost use Rattle.ssim_schedule.specs.examples.Blocks;
 ghost use Rattle.ssim_schedule.specs.examples.Effects;
 
+use crate::itinerary::Itinerary;
 use crate::leg::PlacedLeg;
 use crate::timetable::flight_blocks::FlightBlocks;
 use crate::timetable::flight_table::place;
+use ssim_periods::Periods;
 use ssim_values::{Day, Flight, Memory};
 use std::marker::Model;
 
@@ -64,6 +66,13 @@ impl Schedule {
         ensures weekly { (m n : ℕ) → m ≤ n → n < 36525 → weekday m ≡ weekday n → ((cut : ℕ) → Contains result.now cut → m < cut → n < cut) → on_day (days_in self.now flight.now) m ≡ on_day (days_in self.now flight.now) n }
     {
         self.table.cuts(flight)
+    }
+
+    /// The itinerary of a flight on each day. It shares the legs with the schedule.
+    pub fn days(&self, flight: &Flight) -> Result<Periods<Itinerary>, Memory>
+        ensures { IfOk result (λ itineraries. itineraries.days ≡ days_in self.now flight.now) }
+    {
+        self.table.copy_of(*flight)
     }
 
     /// The same itineraries with the same cuts. The copy and the original share the flights in

@@ -1,0 +1,4 @@
+pub mod Ranges
+pub mod NewValues
+pub mod Dates
+pub mod Telling

@@ -1,0 +1,4 @@
+pub mod Letters
+pub mod Picture
+pub mod Legend
+pub mod examples
