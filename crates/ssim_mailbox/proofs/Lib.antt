@@ -1,0 +1,3 @@
+pub mod Dividing
+pub mod Finding
+pub mod Splitting

@@ -1,0 +1,2 @@
+-- Mailboxes worked out by hand.
+pub mod Mailboxes
