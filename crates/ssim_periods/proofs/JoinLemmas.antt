@@ -55,6 +55,23 @@ joined-days p q r all n ordered first last days within =
       ]
     ]
 
+-- a period of one day, and one that has its weekday, but none of its own weekdays between the two
+pub begun-earlier : (p q : DayRange) (n : ℕ) → p.last ≡ p.first → p.first < q.first → slice_index_or p.days (slot p.first) false ≡ true → slice_index_or q.days (slot p.first) false ≡ true
+    → ((m : ℕ) → p.first < m → m < q.first → slice_index_or q.days (slot m) false ≡ false) → p.first ≤ n → n ≤ max p.last q.last → slice_index_or q.days (slot n) false ≡ (holds p n || holds q n)
+begun-earlier p q n one before own its between from to =
+    elim (le_or_lt n p.first) [
+      | inl here ↦
+          let is : n ≡ p.first = omega arith in
+          let on : holds p n ≡ true = inside p.first p.last n p.days from (omega arith) ∙ ap (λ m. slice_index_or p.days (slot m) false) is ∙ own in
+          ap (λ m. slice_index_or q.days (slot m) false) is ∙ its ∙ sym (ap (λ b. b || holds q n) on)
+      | inr later ↦
+          let off : holds p n ≡ false = outside-after p.first p.last n p.days (omega arith) in
+          sym (ap (λ b. b || holds q n) off ∙ elim (le_or_lt q.first n) [
+            | inl past ↦ inside q.first q.last n q.days past (omega arith)
+            | inr early ↦ outside-before q.first q.last n q.days early ∙ sym (between n later early)
+          ])
+    ]
+
 -- ---- a list of periods
 
 pub held-set : (ps : List DayRange) (i : ℕ) (r p d : DayRange) (n : ℕ) → i < length ps → holds r n ≡ (holds (slice_index_or ps i d) n || holds p n) → is_held (slice_set ps i r) n ≡ (holds p n || is_held ps n)

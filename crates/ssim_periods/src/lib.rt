@@ -38,6 +38,7 @@ mod value;
 mod weekdays;
 
 pub use common_days::meets;
+pub use cover::joined::union;
 pub use periods::Periods;
 pub use periods::pieces::{
     a_cover_is_the_division, covers_hold_each_day_once, pieces_hold_each_day_once, worked_pieces,

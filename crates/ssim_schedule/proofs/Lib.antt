@@ -4,6 +4,7 @@ pub mod FlightSets
 pub mod TableBuilderLemmas
 pub mod Planning
 pub mod Puts
+pub mod RunLemmas
 pub mod InsertedLegLemmas
 pub mod SameTails
 pub mod Serials

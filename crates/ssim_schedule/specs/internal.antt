@@ -8,6 +8,7 @@ pub mod Table
 pub mod Blocks
 pub mod LegKey
 pub mod LegGroup
+pub mod Runs
 pub mod TableBuilder
 pub mod PendingSegments
 pub mod TimetableBuilder

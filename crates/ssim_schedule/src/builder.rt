@@ -1,9 +1,11 @@
 //! A timetable made of records.
 
+pub(crate) mod current_flight;
 pub(crate) mod flight_set;
 pub(crate) mod inserted_legs;
 pub(crate) mod leg_group;
 pub(crate) mod leg_key;
 pub(crate) mod pending_segments;
+pub(crate) mod run;
 pub(crate) mod table_builder;
 pub(crate) mod timetable_builder;

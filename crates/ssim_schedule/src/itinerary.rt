@@ -92,6 +92,13 @@ impl Itinerary {
         }
     }
 
+    /// The low 32 bits of the hash of the legs.
+    pub(crate) fn hash(&self) -> u32
+        ensures { result ≡ hash_of self.now % 4294967296 }
+    {
+        self.hash
+    }
+
     /// The legs.
     pub fn legs(&self) -> &[PlacedLeg]
         ensures { result.now ≡ self.now }

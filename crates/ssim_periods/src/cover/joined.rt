@@ -1,8 +1,9 @@
 //! Periods with the days of several periods.
-ghost use Rattle.std.specs.Prelude.{◌≡◌, ℕ, ◌+◌, ◌<◌, ◌≤◌, ◌||◌, false, length, max, slice_index_or, IfSome, IsTrue, OnOk};
+ghost use Rattle.std.specs.Prelude.{◌≡◌, ◌⊎◌, ℕ, ◌+◌, ◌<◌, ◌≤◌, ◌||◌, false, length, max, slice_index_or, IfSome, IsTrue, OnOk};
 ghost use Rattle.ssim_periods.specs.internal.Apart.{is_held};
 ghost use Rattle.ssim_periods.specs.Calendar.{holds, slot};
 
+use crate::cover::trim::first_in;
 use crate::weekdays::weekday_of;
 use ssim_values::{DayMask, Memory, Period};
 
@@ -34,36 +35,82 @@ fn joined_with_last(periods: &[Period], period: &Period) -> Option<(usize, Perio
     let least = place.saturating_sub(TRIED);
     while place > least {
         place -= 1;
-        if let Some(both) = joined(&periods[place], period) {
+        if let Some(both) = union(&periods[place], period) {
             return Some((place, both));
         }
     }
     None
 }
 
-// The period with exactly the days of two periods. May be none although there is one.
-fn joined(one: &Period, other: &Period) -> Option<Period>
-    ensures { IfSome result (λ both. (n : ℕ) → holds both n ≡ (holds one.now n || holds other.now n)) }
+/// The period with exactly the days of two periods. May be none although there is one.
+pub fn union(one: &Period, other: &Period) -> Option<Period>
+    ensures days { IfSome result (λ both. (n : ℕ) → holds both n ≡ (holds one.now n || holds other.now n)) }
+    ensures first { IfSome result (λ both. (both.first ≡ one.now.first) ⊎ (both.first ≡ other.now.first)) }
+    ensures last { IfSome result (λ both. (both.last ≡ one.now.last) ⊎ (both.last ≡ other.now.last)) }
 {
     if one.first().number() <= other.first().number() {
-        joined_in_order(one, other)
+        in_order(one, other)
     } else {
-        joined_in_order(other, one)
+        in_order(other, one)
+    }
+}
+
+// The same if the first period begins no later than the other.
+fn in_order(one: &Period, other: &Period) -> Option<Period>
+    requires { one.now.first ≤ other.now.first }
+    ensures days { IfSome result (λ both. (n : ℕ) → holds both n ≡ (holds one.now n || holds other.now n)) }
+    ensures first { IfSome result (λ both. both.first ≡ one.now.first) }
+    ensures last { IfSome result (λ both. (both.last ≡ one.now.last) ⊎ (both.last ≡ other.now.last)) }
+{
+    if let Some(both) = begun_earlier(one, other) {
+        return Some(both);
+    }
+    joined_in_order(one, other)
+}
+
+// The other period, begun with the first one, if that is of one day and the other begins on its
+// next day. Records of one date mostly are.
+fn begun_earlier(one: &Period, other: &Period) -> Option<Period>
+    ensures days { IfSome result (λ both. (n : ℕ) → holds both n ≡ (holds one.now n || holds other.now n)) }
+    ensures first { IfSome result (λ both. both.first ≡ one.now.first) }
+    ensures last { IfSome result (λ both. both.last ≡ other.now.last) }
+{
+    let day = one.first().number() as u32;
+    let next = other.first().number() as u32;
+    if one.last().number() as u32 != day || next <= day {
+        return None;
+    }
+    let days = other.mask().days();
+    let weekday = weekday_of(day);
+    if !days[weekday] || !one.mask().days()[weekday] {
+        return None;
+    }
+    if first_in(&days, day + 1, next) < next {
+        return None;
+    }
+    match Period::new(one.first(), other.last(), other.mask()) {
+        Ok(period) => Some(period),
+        Err(_) => None,
     }
 }
 
 // The same if the first period begins no later than the other.
 fn joined_in_order(one: &Period, other: &Period) -> Option<Period>
     requires { one.now.first ≤ other.now.first }
-    ensures { IfSome result (λ both. (n : ℕ) → holds both n ≡ (holds one.now n || holds other.now n)) }
+    ensures days { IfSome result (λ both. (n : ℕ) → holds both n ≡ (holds one.now n || holds other.now n)) }
+    ensures first { IfSome result (λ both. both.first ≡ one.now.first) }
+    ensures last { IfSome result (λ both. (both.last ≡ one.now.last) ⊎ (both.last ≡ other.now.last)) }
 {
     let days = one.mask().days();
-    let all = of_either(&days, &other.mask().days());
+    let others = other.mask().days();
+    let all = of_either(&days, &others);
     if !have_days(&all, one, other) {
         return None;
     }
     let mask = if all == days {
         one.mask()
+    } else if all == others {
+        other.mask()
     } else {
         DayMask::of(all)?
     };

@@ -1,7 +1,8 @@
 //! Legs put into the itineraries of the dates of their period.
 
-ghost use Rattle.std.specs.Prelude.{◌≡◌, ◌++◌, ◌≤◌, [], IfOk, OnOk, length, reverse};
+ghost use Rattle.std.specs.Prelude.{◌≡◌, ◌++◌, ◌≤◌, ◌%◌, [], IfOk, OnOk, length, reverse};
 ghost use Rattle.ssim_schedule.specs.internal.InsertedLegs.{IsOrdered, legs_before, placed_each};
+ghost use Rattle.ssim_schedule.specs.internal.SharedLegs.{hash_of};
 
 use crate::itinerary::Itinerary;
 use crate::leg::PlacedLeg;
@@ -49,6 +50,13 @@ impl InsertedLegs {
         ensures { result.now ≡ self.now }
     {
         self.group.legs()
+    }
+
+    /// The hash of the itinerary of the legs.
+    pub(crate) fn hash(&self) -> u32
+        ensures { result ≡ hash_of self.now % 4294967296 }
+    {
+        self.group.hash()
     }
 
     /// The change that puts the same legs. Both share them.

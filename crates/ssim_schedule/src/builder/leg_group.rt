@@ -1,9 +1,10 @@
 //! Legs of one flight and one period, which are put into the timetable together.
 
-ghost use Rattle.std.specs.Prelude.{◌≡◌, ◌∷◌, [], true, IfOk, IfSome, OnOk, Some, reverse};
+ghost use Rattle.std.specs.Prelude.{◌≡◌, ◌<◌, ◌%◌, ◌^◌, ◌∷◌, [], true, IfOk, OnOk, Some, reverse};
 ghost use Rattle.ssim_base.specs.Export.{same_itinerary};
 ghost use Rattle.ssim_schedule.specs.internal.LegGroup.{no_group};
-ghost use Rattle.ssim_schedule.specs.internal.InsertedLegs.{IsOrdered, StartsFrom};
+ghost use Rattle.ssim_schedule.specs.internal.InsertedLegs.{StartsFrom};
+ghost use Rattle.ssim_schedule.specs.internal.SharedLegs.{hash_of};
 
 use crate::builder::inserted_legs::InsertedLegs;
 use crate::leg::PlacedLeg;
@@ -36,9 +37,6 @@ pub(crate) struct LegGroup {
     heading: Option<Heading>,
     /// The last leg first. The room stays when the legs are taken out, for the next group.
     legs: Vec<PlacedLeg>,
-    /// The change of the latest group. If each record is of one date, the next group mostly has the
-    /// same legs.
-    latest: Option<InsertedLegs>,
     /// How many itineraries were made since they were last counted.
     made: usize,
     alloc: Global,
@@ -64,7 +62,6 @@ impl LegGroup {
         LegGroup {
             heading: None,
             legs: Vec::new(alloc),
-            latest: None,
             made: 0,
             alloc,
         }
@@ -110,43 +107,37 @@ impl LegGroup {
         Ok(())
     }
 
-    /// Takes the legs out, as the change that puts them, in the order of their records. No group is
-    /// left.
-    pub(crate) fn take(&mut self) -> Result<InsertedLegs, Memory>
-        ensures put { IfOk result (λ put. put ≡ self.old.legs) }
-        ensures rest { OnOk result (self.new ≡ no_group) }
+    /// Whether the legs, in the order of their records, are these.
+    pub(crate) fn is_of(&self, legs: &[PlacedLeg]) -> bool
+        ensures { result ≡ same_itinerary self.now.legs legs.now }
     {
-        self.heading = None;
-        match self.repeated()? {
-            Some(put) => {
-                self.legs.clear();
-                Ok(put)
-            }
-            None => self.take_new(),
-        }
+        are_reversed(&self.legs, legs)
     }
 
-    /// The latest change, with its legs shared, if it puts these legs.
-    fn repeated(&self) -> Result<Option<InsertedLegs>, Memory>
-        ensures { IfOk result (λ repeated. IfSome repeated (λ put. put ≡ self.now.legs)) }
+    /// The hash of the itinerary of the legs.
+    pub(crate) fn hash(&self) -> u32
+        ensures { result ≡ hash_of self.now.legs % 4294967296 }
     {
-        match &self.latest {
-            Some(put) if are_reversed(&self.legs, put.legs()) => Ok(Some(put.copy(self.alloc)?)),
-            _ => Ok(None),
-        }
+        (hash_of_reversed(&self.legs) % 4_294_967_296) as u32
     }
 
-    /// Takes the legs out, as a change with an itinerary of its own, which is then the latest.
-    fn take_new(&mut self) -> Result<InsertedLegs, Memory>
-        ensures put { IfOk result (λ put. put ≡ self.old.legs) }
-        ensures rest { OnOk result (self.new ≡ record self.old { legs = [] }) }
+    /// Takes the legs out, as a change with an itinerary of its own.
+    pub(crate) fn take_new(&mut self) -> Result<InsertedLegs, Memory>
+        ensures { IfOk result (λ put. put ≡ self.old.legs) }
     {
         let mut room = mem::replace(&mut self.legs, Vec::new(self.alloc));
         let put = InsertedLegs::of_reversed(self.alloc, &mut room)?;
         self.legs = room;
-        self.latest = Some(put.copy(self.alloc)?);
         self.made = self.made.saturating_add(1);
         Ok(put)
+    }
+
+    /// Leaves no group.
+    pub(crate) fn clear(&mut self)
+        ensures { self.new ≡ no_group }
+    {
+        self.heading = None;
+        self.legs.clear();
     }
 
     /// How many itineraries were made since the last call.
@@ -167,5 +158,16 @@ fn are_reversed(room: &[PlacedLeg], legs: &[PlacedLeg]) -> bool
             None => false,
             Some((other, others)) => leg.same(other) && are_reversed(rest, others),
         },
+    }
+}
+
+// The hash of the legs in the room, from the last to the first.
+fn hash_of_reversed(room: &[PlacedLeg]) -> u64
+    ensures value { result ≡ hash_of (reverse room.now) }
+    ensures bound { result < 2 ^ 56 }
+{
+    match room.split_last() {
+        None => 0,
+        Some((leg, later)) => hash_of_reversed(later) % 4_294_967_296 * 7_919 + leg.hash(),
     }
 }

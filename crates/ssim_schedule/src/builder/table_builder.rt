@@ -1,6 +1,6 @@
 //! The itineraries of flights while records are put into them, from flight to flight.
 
-ghost use Rattle.std.specs.Prelude.{◌≡◌, false, nat_eq, if◌then◌else◌, IfSome, IfOk, OnOk, [], Option};
+ghost use Rattle.std.specs.Prelude.{◌≡◌, ℕ, false, nat_eq, if◌then◌else◌, Contains, IfOk, OnOk, [], Option};
 ghost use Rattle.ssim_values.specs.Flight.{FlightNumber};
 ghost use Rattle.ssim_periods.specs.Calendar.{holds};
 ghost use Rattle.ssim_periods.specs.Days.{changed_on};
@@ -9,21 +9,13 @@ ghost use Rattle.ssim_schedule.specs.internal.InsertedLegs.{placed_each};
 ghost use Rattle.ssim_base.specs.ReadBack.{place_of};
 ghost use Rattle.ssim_schedule.specs.internal.Table.{table_cuts, table_days};
 
-use crate::builder::inserted_legs::InsertedLegs;
-use crate::itinerary::Itinerary;
+use crate::builder::current_flight::CurrentFlight;
+use crate::builder::leg_group::LegGroup;
 use crate::timetable::flight_blocks::FlightBlocks;
 use crate::timetable::flight_table::place;
-use ssim_periods::Periods;
 use ssim_values::{Flight, Memory, Period};
 use std::alloc::Global;
 use std::marker::Model;
-
-/// A flight, and its itinerary on each date.
-#[derive(Drop)]
-pub(crate) struct CurrentFlight {
-    pub flight: Flight,
-    pub periods: Periods<Itinerary>,
-}
 
 /// The itineraries of the flights that were named. Records come flight by flight, so the flight of
 /// the latest records is stored apart, and need not be searched for.
@@ -56,23 +48,23 @@ impl TableBuilder {
         })
     }
 
-    /// Puts legs into a flight's itinerary on each date of a period.
+    /// Puts the legs of a group into a flight's itinerary on each date of a period. The group may
+    /// lose its legs.
     pub(crate) fn put(
         &mut self,
         flight: Flight,
         period: &Period,
-        legs: &InsertedLegs,
+        group: &mut LegGroup,
     ) -> Result<(), Memory>
-        ensures days { OnOk result ((g : FlightNumber) → table_days self.new g ≡ (if nat_eq (place_of flight) (place_of g) then changed_on (holds period.now) (placed_each legs.now) 0 (table_days self.old g) else table_days self.old g)) }
+        ensures days { OnOk result ((g : FlightNumber) → table_days self.new g ≡ (if nat_eq (place_of flight) (place_of g) then changed_on (holds period.now) (placed_each group.old.legs) 0 (table_days self.old g) else table_days self.old g)) }
         ensures cuts { OnOk result ((g : FlightNumber) → AddsOnlyAt flight period.now g (table_cuts self.old g) (table_cuts self.new g)) }
     {
         if let Some(current) = &mut self.current {
-            if place(current.flight) == place(flight) {
-                current.periods.replace(period, legs)?;
-                return Ok(());
+            if place(current.flight()) == place(flight) {
+                return current.put(period, group);
             }
         }
-        self.put_other(flight, period, legs)
+        self.put_other(flight, period, group)
     }
 
     // Does what `put` does for a flight that is not the current one. It becomes the current one,
@@ -81,20 +73,22 @@ impl TableBuilder {
         &mut self,
         flight: Flight,
         period: &Period,
-        legs: &InsertedLegs,
+        group: &mut LegGroup,
     ) -> Result<(), Memory>
-        ensures days { OnOk result ((g : FlightNumber) → table_days self.new g ≡ (if nat_eq (place_of flight) (place_of g) then changed_on (holds period.now) (placed_each legs.now) 0 (table_days self.old g) else table_days self.old g)) }
+        ensures days { OnOk result ((g : FlightNumber) → table_days self.new g ≡ (if nat_eq (place_of flight) (place_of g) then changed_on (holds period.now) (placed_each group.old.legs) 0 (table_days self.old g) else table_days self.old g)) }
         ensures cuts { OnOk result ((g : FlightNumber) → AddsOnlyAt flight period.now g (table_cuts self.old g) (table_cuts self.new g)) }
     {
         let before = self.current.take();
         put_back(&mut self.blocks, before)?;
         if !self.blocks.cuts(&flight).is_empty() {
-            self.blocks.change(flight, period, legs)?;
+            let legs = group.take_new()?;
+            self.blocks.change(flight, period, &legs)?;
             return Ok(());
         }
-        let mut periods = self.blocks.copy_of(flight)?;
-        periods.replace(period, legs)?;
-        self.current = Some(CurrentFlight { flight, periods });
+        let periods = self.blocks.copy_of(flight)?;
+        let mut current = CurrentFlight::new(self.blocks.allocator(), flight, periods);
+        current.put(period, group)?;
+        self.current = Some(current);
         Ok(())
     }
 
@@ -104,24 +98,22 @@ impl TableBuilder {
         ensures { self.new ≡ self.old }
     {
         match &mut self.current {
-            Some(current) if place(current.flight) == place(flight) => {
-                if current.periods.cuts().len() < limit {
-                    current.periods = current.periods.shared()?;
-                }
+            Some(current) if place(current.flight()) == place(flight) => {
+                current.share_below(limit)
             }
             _ => {
                 if self.blocks.cuts(&flight).len() < limit {
                     self.blocks.share(flight)?;
                 }
+                Ok(())
             }
         }
-        Ok(())
     }
 
     /// All flights in blocks.
     pub(crate) fn into_blocks(self) -> Result<FlightBlocks, Memory>
         ensures days { IfOk result (λ blocks. (g : FlightNumber) → table_days blocks g ≡ table_days self g) }
-        ensures cuts { IfOk result (λ blocks. (g : FlightNumber) → table_cuts blocks g ≡ table_cuts self g) }
+        ensures cuts { IfOk result (λ blocks. (g : FlightNumber) (cut : ℕ) → Contains (table_cuts blocks g) cut → Contains (table_cuts self g) cut) }
     {
         let mut blocks = self.blocks;
         put_back(&mut blocks, self.current)?;
@@ -132,10 +124,14 @@ impl TableBuilder {
 /// Puts the current flight into the blocks.
 fn put_back(blocks: &mut FlightBlocks, current: Option<CurrentFlight>) -> Result<(), Memory>
     ensures days { OnOk result ((g : FlightNumber) → table_days blocks.new g ≡ table_days (with_current current blocks.old) g) }
-    ensures cuts { OnOk result ((g : FlightNumber) → table_cuts blocks.new g ≡ table_cuts (with_current current blocks.old) g) }
+    ensures cuts { OnOk result ((g : FlightNumber) (cut : ℕ) → Contains (table_cuts blocks.new g) cut → Contains (table_cuts (with_current current blocks.old) g) cut) }
 {
     match current {
         None => Ok(()),
-        Some(CurrentFlight { flight, periods }) => blocks.put(flight, periods),
+        Some(current) => {
+            let flight = current.flight();
+            let periods = current.into_periods()?;
+            blocks.put(flight, periods)
+        }
     }
 }

@@ -228,12 +228,13 @@ impl TimetableBuilder {
     fn put_group(&mut self, next: Option<Flight>) -> Result<(), Memory>
         ensures { OnOk result (PutsGroup self.old self.new) }
     {
-        let heading = self.group.heading();
-        let put = self.group.take()?;
-        let Some(heading) = heading else {
+        let Some(heading) = self.group.heading() else {
+            self.group.clear();
             return Ok(());
         };
-        self.table.put(heading.flight, &heading.period, &put)?;
+        self.table
+            .put(heading.flight, &heading.period, &mut self.group)?;
+        self.group.clear();
         self.leave(heading.flight, next)
     }
 

@@ -2,14 +2,15 @@
 use Rattle.std.proofs.Common.{◌≡◌, max, sym, ◌∙◌, arith}
 use Rattle.ssim_periods.proofs.JoinLemmas.{same-mask, joined-days}
 use Rattle.ssim_periods.proofs.cover.joined.joined_in_order.Goals as goal
-use Rattle.ssim_periods.proofs.cover.joined.joined_in_order.Goals.{then-eq, else-eq+in_ok-mask, then-number, else-number}
+use Rattle.ssim_periods.proofs.cover.joined.joined_in_order.Goals.{then-eq, else-eq+then-eq-2, else-eq+else-eq-2+in_ok-mask, then-number, else-number}
 
-pub returns-in-Ok : goal.returns-in-Ok
-returns-in-Ok c n =
+pub returns-in-Ok-clause-days : goal.returns-in-Ok-clause-days
+returns-in-Ok-clause-days c n =
     let p = c.args.one.now in let q = c.args.other.now in let all = c.of_either-all.result in
     let mask : c.if-eq.mask ≡ all = elim c.if-eq.branch [
       | then-eq w ↦ w.mask-is ∙ w.mask-mask.ensures.value ∙ sym (same-mask all c.days-days.result (sym c.eq.ensures ∙ w.if-eq.true) ∙ c.days-days.ensures.value ∙ c.mask.ensures.value)
-      | else-eq+in_ok-mask w ↦ w.mask-is ∙ w.in_ok-mask.ensures.value
+      | else-eq+then-eq-2 w ↦ w.mask-is ∙ w.mask-then-eq-2.ensures.value ∙ sym (same-mask all c.days-others.result (sym w.eq-else-eq.ensures ∙ w.if-eq-2.true) ∙ c.days-others.ensures.value ∙ c.mask-2.ensures.value)
+      | else-eq+else-eq-2+in_ok-mask w ↦ w.mask-is ∙ w.in_ok-mask.ensures.value
     ] in
     let one_last = c.last.ensures.value in let other_last = c.last-2.ensures.value in
     let one_number = c.number.ensures.value in let other_number = c.number-2.ensures.value in

@@ -1,5 +1,5 @@
 -- The legs that waited are put into the table, and then it has the days of the records.
-use Rattle.std.proofs.Common.{ℕ, List, Contains, subst, ◌∙◌}
+use Rattle.std.proofs.Common.{◌∙◌}
 use Rattle.ssim_schedule.proofs.builder.timetable_builder.TimetableBuilder.into_table.Goals as goal
 
 pub returns-clause-days : goal.returns-clause-days
@@ -7,4 +7,4 @@ returns-clause-days c = λ done built g is. c.in_ok-table.ensures.days g ∙ c.i
 
 pub returns-clause-cuts : goal.returns-clause-cuts
 returns-clause-cuts c = λ done built g is cut has.
-    built.cuts g is cut (c.in_ok-put_group.ensures.cuts g cut (subst (λ (cs : List ℕ). Contains cs cut) (c.in_ok-table.ensures.cuts g) has))
+    built.cuts g is cut (c.in_ok-put_group.ensures.cuts g cut (c.in_ok-table.ensures.cuts g cut has))

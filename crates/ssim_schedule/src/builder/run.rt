@@ -1,0 +1,113 @@
+//! The runs of a flight: legs that are still to be put into its itineraries.
+
+ghost use Rattle.std.specs.Prelude.{◌≡◌, ◌⊎◌, ℕ, ◌+◌, ◌<◌, ◌++◌, ◌∷◌, [], true, false, Contains, length, IfOk, IfSome, OnOk};
+ghost use Rattle.ssim_periods.specs.Calendar.{holds};
+ghost use Rattle.ssim_periods.specs.Days.{changed_on};
+ghost use Rattle.ssim_base.specs.Timetable.{Days};
+ghost use Rattle.ssim_schedule.specs.internal.InsertedLegs.{placed_each};
+ghost use Rattle.ssim_schedule.specs.internal.Runs.{IsWider, ends_of, is_run_on, with_runs};
+
+use crate::builder::inserted_legs::InsertedLegs;
+use crate::builder::leg_group::LegGroup;
+use crate::itinerary::Itinerary;
+use ssim_periods::{Periods, meets, union};
+use ssim_values::{Memory, Period};
+use std::alloc::Global;
+
+/// Legs, and a period into whose itineraries they are still to be put.
+#[derive(Drop)]
+pub(crate) struct Run {
+    pub period: Period,
+    pub legs: InsertedLegs,
+}
+
+/// Adds the days of a period to a run with the legs of the group. The result says whether there is
+/// one; if not, nothing is changed.
+pub(crate) fn widen(runs: &mut Vec<Run>, period: &Period, group: &LegGroup) -> bool
+    ensures days { result ≡ true → (days : Days) → with_runs runs.new.items days ≡ changed_on (holds period.now) (placed_each group.now.legs) 0 (with_runs runs.old.items days) }
+    ensures ends { result ≡ true → (cut : ℕ) → Contains (ends_of runs.new.items) cut → Contains (ends_of runs.old.items) cut ⊎ (cut ≡ period.now.first) ⊎ (cut ≡ period.now.last + 1) }
+    ensures none { result ≡ false → runs.new ≡ runs.old }
+{
+    if let Some(found) = wider(runs, period, group) {
+        runs[found.0].period = found.1;
+        return true;
+    }
+    false
+}
+
+// The place of a run with the legs of the group, and the period with its days and those of another
+// period. No run from this one on has a day of the period, so that the order of the changes is of
+// no effect.
+fn wider(runs: &[Run], period: &Period, group: &LegGroup) -> Option<(usize, Period)>
+    ensures { IfSome result (λ found. IsWider runs.now period.now group.now.legs found.0 found.1) }
+{
+    let hash = group.hash();
+    let mut place = runs.len();
+    while place > 0 {
+        place -= 1;
+        let run = &runs[place];
+        if run.legs.hash() == hash && group.is_of(run.legs.legs()) {
+            if let Some(both) = union(&run.period, period) {
+                if are_apart_from(&runs[place..], period) {
+                    return Some((place, both));
+                }
+            }
+        }
+    }
+    None
+}
+
+// Whether no run has a day of a period.
+fn are_apart_from(runs: &[Run], period: &Period) -> bool
+    ensures { result ≡ true → (n : ℕ) → holds period.now n ≡ true → is_run_on runs.now n ≡ false }
+{
+    match runs.split_first() {
+        None => true,
+        Some((run, later)) => are_apart(period, &run.period) && are_apart_from(later, period),
+    }
+}
+
+// Whether two periods have no day in common. Mostly one ends before the other begins.
+#[inline(always)]
+fn are_apart(one: &Period, other: &Period) -> bool
+    ensures { result ≡ true → (n : ℕ) → holds one.now n ≡ true → holds other.now n ≡ false }
+{
+    if one.last().number() < other.first().number() {
+        return true;
+    }
+    if other.last().number() < one.first().number() {
+        return true;
+    }
+    !meets(one, other)
+}
+
+/// The legs of a group, which may lose them. A run with the same legs shares them.
+pub(crate) fn take_legs(
+    alloc: Global,
+    runs: &[Run],
+    group: &mut LegGroup,
+) -> Result<InsertedLegs, Memory>
+    ensures { IfOk result (λ legs. legs ≡ group.old.legs) }
+{
+    let hash = group.hash();
+    for run in runs {
+        if run.legs.hash() == hash && group.is_of(run.legs.legs()) {
+            return run.legs.copy(alloc);
+        }
+    }
+    group.take_new()
+}
+
+/// Puts the legs of each run into the itineraries of its days.
+pub(crate) fn put_runs(runs: &[Run], periods: &mut Periods<Itinerary>) -> Result<(), Memory>
+    ensures days { OnOk result (periods.new.days ≡ with_runs runs.now periods.old.days) }
+    ensures cuts { OnOk result ((cut : ℕ) → Contains periods.new.cuts cut → Contains (ends_of runs.now ++ periods.old.cuts) cut) }
+{
+    match runs.split_first() {
+        None => Ok(()),
+        Some((run, later)) => {
+            periods.replace(&run.period, &run.legs)?;
+            put_runs(later, periods)
+        }
+    }
+}
