@@ -1,0 +1,18 @@
+# Completes the words of ssimdesk in bash: source this file.
+_ssimdesk() {
+    local word=${COMP_WORDS[COMP_CWORD]} options= files=yes
+    if [ "$COMP_CWORD" -eq 1 ]; then
+        COMPREPLY=($(compgen -W "check tidy start take merge texts show history findings export rehearse explain help --help --version" -- "$word"))
+        return
+    fi
+    case "${COMP_WORDS[1]}" in
+    check|tidy|start|take|merge|findings|export|rehearse|explain) options="--help" ;;
+    texts|show|history) options="--help"; [ "$COMP_CWORD" -lt 3 ] || files= ;;
+    help) COMPREPLY=($(compgen -W "check tidy start take merge texts show history findings export rehearse explain" -- "$word")); return ;;
+    esac
+    case "$word" in
+    -*) COMPREPLY=($(compgen -W "$options" -- "$word")) ;;
+    *) [ -z "$files" ] || COMPREPLY=($(compgen -f -- "$word")) ;;
+    esac
+}
+complete -o filenames -F _ssimdesk ssimdesk
