@@ -21,19 +21,19 @@ use Rattle.ssim_text.proofs.Words.{bound, carried, only_if, alphanumeric_solid, 
 
 -- ---- the originator
 
-record IsAddress (text originator : List ℕ) : Type 0 where
-  same : text ≡ originator
-  long : length originator ≡ 7
-  all : list_all is_alphanumeric originator ≡ true
+pub record IsAddress (text originator : List ℕ) : Type 0 where
+  pub same : text ≡ originator
+  pub long : length originator ≡ 7
+  pub all : list_all is_alphanumeric originator ≡ true
 
-address_sound : (text originator : List ℕ) → address_of text ≡ Some originator → IsAddress text originator
+pub address_sound : (text originator : List ℕ) → address_of text ≡ Some originator → IsAddress text originator
 address_sound text originator h =
     let p = only_if (length text == 7) (if list_all is_alphanumeric text then Some text else None) originator h in
     let q = only_if (list_all is_alphanumeric text) (Some text) originator p.1 in
     let same = some_same text originator q.1 in
     record { same = same; long = ap length (sym same) ∙ eqb-true (length text) 7 p.0; all = ap (list_all is_alphanumeric) (sym same) ∙ q.0 }
 
-address_complete : (originator : List ℕ) → length originator ≡ 7 → list_all is_alphanumeric originator ≡ true → address_of originator ≡ Some originator
+pub address_complete : (originator : List ℕ) → length originator ≡ 7 → list_all is_alphanumeric originator ≡ true → address_of originator ≡ Some originator
 address_complete originator l h =
     chosen (length originator == 7) (if list_all is_alphanumeric originator then Some originator else None) None (eq-eqb (length originator) 7 l)
     ∙ chosen (list_all is_alphanumeric originator) (Some originator) None h
@@ -64,10 +64,10 @@ originator_again originator line h =
 
 -- ---- the reference
 
-five_again : (n : ℕ) → n < 100000 → digits_in 5 5 (five_digits n) ≡ Some n
+pub five_again : (n : ℕ) → n < 100000 → digits_in 5 5 (five_digits n) ≡ Some n
 five_again n h = digits_complete 5 5 (five_digits n) n (record { from = omega arith; to = omega arith; all = grind (arith, nat_tests); number = omega arith })
 
-three_again : (n : ℕ) → n < 1000 → digits_in 3 3 (three_digits n) ≡ Some n
+pub three_again : (n : ℕ) → n < 1000 → digits_in 3 3 (three_digits n) ≡ Some n
 three_again n h = digits_complete 3 3 (three_digits n) n (record { from = omega arith; to = omega arith; all = grind (arith, nat_tests); number = omega arith })
 
 code_again : (code : GroupCode) → group_code_of (group_code_text code) ≡ Some code
@@ -81,10 +81,10 @@ pub record AreNumbers (text : List ℕ) (date : MonthDay) (group : ℕ) (code : 
   pub group_below : group < 100000
   pub serial_below : serial < 1000
 
-group_bound : (text : List ℕ) (n : ℕ) → digits_in 5 5 text ≡ Some n → n < 100000
+pub group_bound : (text : List ℕ) (n : ℕ) → digits_in 5 5 text ≡ Some n → n < 100000
 group_bound text n h = let d = digits_sound 5 5 text n h in subst (λ (x : ℕ). x < 100000) d.number (below_five text d.all (omega (arith, d.from, d.to)))
 
-serial_bound : (text : List ℕ) (n : ℕ) → digits_in 3 3 text ≡ Some n → n < 1000
+pub serial_bound : (text : List ℕ) (n : ℕ) → digits_in 3 3 text ≡ Some n → n < 1000
 serial_bound text n h = let d = digits_sound 3 3 text n h in subst (λ (x : ℕ). x < 1000) d.number (below_three text d.all d.to)
 
 numbers_sound : (text : List ℕ) (n : MonthDay × ℕ × GroupCode × ℕ) → numbers_of text ≡ Some n → AreNumbers text n.0 n.1 n.2 n.3

@@ -11,6 +11,7 @@ pub mod LinesKept
 pub mod Words
 pub mod ReadsBack
 pub mod HeadingAgain
+pub mod PrintedReferences
 pub mod DatesAgain
 pub mod EquipmentAgain
 pub mod LegsAgain

@@ -3,3 +3,4 @@
 pub mod DecoderState
 pub mod Decoder
 pub mod Completions
+pub mod PrintedReference

@@ -1,6 +1,6 @@
 //! Dates and periods as a message gives them.
 ghost use Rattle.std.specs.Prelude.{◌≡◌, IfSome, IfNone};
-ghost use Rattle.ssim_text.specs.Lines.{month_day_in, date_of, last_date_of, compact_days_of};
+ghost use Rattle.ssim_text.specs.Lines.{month_day_in, day_in, date_of, last_date_of, compact_days_of};
 ghost use Rattle.ssim_text.specs.Lines.{period_of};
 
 use crate::bytes::first_word;
@@ -42,6 +42,19 @@ pub(crate) fn month_day(text: &[u8]) -> Option<DayMonth>
     match text.as_array() {
         Some(text) => match DayMonth::parse(text) {
             Ok(date) => Some(date),
+            Err(_) => None,
+        },
+        None => None,
+    }
+}
+
+pub(crate) fn day(text: &[u8]) -> Option<Day>
+    ensures some { IfSome result (λ day. day_in text.now ≡ Some day) }
+    ensures none { IfNone result (day_in text.now ≡ None) }
+{
+    match text.as_array() {
+        Some(text) => match Day::parse(text) {
+            Ok(day) => Some(day),
             Err(_) => None,
         },
         None => None,

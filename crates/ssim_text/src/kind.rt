@@ -1,6 +1,7 @@
 //! The words of a text: its kind, its time mode, its actions.
 ghost use Rattle.std.specs.Prelude.{◌≡◌, IfSome, IfNone, Some};
 ghost use Rattle.ssim_text.specs.Lines.{kind_text, mode_text, identifier_text};
+ghost use Rattle.ssim_text.specs.internal.PrintedReference.{kind_in};
 
 use ssim_values::TimeMode;
 use std::fmt;
@@ -27,6 +28,7 @@ impl Kind {
     pub(crate) fn parse(line: &[u8]) -> Option<Kind>
         ensures some { IfSome result (λ kind. line.now ≡ kind_text kind) }
         ensures none { IfNone result ((kind : Kind) → ¬ (line.now ≡ kind_text kind)) }
+        ensures value { kind_in line.now ≡ result }
     {
         match line {
             b"SSM" => Some(Kind::Ssm),

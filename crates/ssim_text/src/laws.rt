@@ -1,12 +1,18 @@
 //! Laws of the grammar.
 ghost use Rattle.ssim_text.specs.Decoder.{OneRefusal};
 ghost use Rattle.ssim_text.specs.Grammar.{OneMessage};
+ghost use Rattle.ssim_text.specs.Reference.{OneReference};
 ghost use Rattle.ssim_text.specs.Spelling.{CanonicalReadsBack, EqualWhereWrittenEqual};
 ghost use Rattle.ssim_text.specs.examples.Texts.{WorkedTexts};
 
 /// No text spells two messages.
 pub fn one_message()
     ensures { OneMessage }
+{}
+
+/// No text spells two references.
+pub fn one_reference()
+    ensures { OneReference }
 {}
 
 /// A text that spells no message has one fault, at one line. So all refusals of the text by

@@ -2,6 +2,7 @@
 ghost use Rattle.std.specs.Prelude.{◌≡◌, IfSome, IfNone, Some};
 ghost use Rattle.std.specs.Str.{bytes_eq};
 ghost use Rattle.ssim_text.specs.Lines.{originator_of, address_of, is_blank_or_none};
+ghost use Rattle.ssim_text.specs.internal.PrintedReference.{originator_in};
 
 use crate::bytes::{all_alphanumeric, first_bytes};
 use std::fmt;
@@ -75,6 +76,19 @@ impl Originator {
             Originator::of(address)
         } else {
             None
+        }
+    }
+
+    /// Reads what a printed reference has after its message serial: a blank and seven letters or
+    /// digits, or nothing.
+    pub(crate) fn printed(text: &[u8]) -> Option<Originator>
+        ensures some { IfSome result (λ o. originator_in text.now ≡ Some o) }
+        ensures none { IfNone result (originator_in text.now ≡ None) }
+    {
+        match text {
+            [] => Some(Originator::none()),
+            [b' ', address @ ..] => Originator::of(address),
+            _ => None,
         }
     }
 

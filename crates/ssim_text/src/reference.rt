@@ -1,15 +1,17 @@
 //! References of messages.
 ghost use Rattle.std.specs.Prelude.{◌≡◌, ◌<◌, ◌≤◌, ◌^◌, true, length, Some, IfSome, IfNone, IfOk};
-ghost use Rattle.std.specs.Prelude.{option_map};
+ghost use Rattle.std.specs.Prelude.{IfErr, option_map};
 ghost use Rattle.ssim_text.specs.Lines.{reference_of, numbers_of, group_code_of, creator_of};
 ghost use Rattle.ssim_text.specs.Lines.{digits_in};
+ghost use Rattle.ssim_text.specs.internal.PrintedReference.{after_blank, reference_in};
 ghost use Rattle.ssim_values.specs.Flight.{number_of};
 ghost use Rattle.ssim_values.specs.Characters.{is_digit};
 ghost use Rattle.std.specs.List.{list_all};
 
 use crate::bytes::first_bytes;
-use crate::dates::month_day;
+use crate::dates::{day, month_day};
 use crate::encoder::{five_digits, three_digits};
+use crate::fault::Fault;
 use crate::kind::Kind;
 use crate::originator::Originator;
 use ssim_values::{Day, DayMonth, are_digits};
@@ -39,7 +41,20 @@ impl Reference {
     ghost use Rattle.std.specs.Ordering.{nat_cmp};
     ghost use Rattle.std.specs.Cmp.Lexicographic.{slice_cmp};
     ghost use Rattle.ssim_text.specs.Canonical.{five_digits, three_digits};
-    ghost use Rattle.ssim_text.specs.Reference.{reference_numbers};
+    ghost use Rattle.ssim_text.specs.Reference.{SpellsReference, reference_numbers};
+
+    /// Reads a reference as it is displayed. Any other text is 21 `BadReference`.
+    pub fn parse(text: &[u8]) -> Result<Reference, Fault>
+        ensures ok { IfOk result (λ reference. SpellsReference reference text.now) }
+        ensures only { (reference : Reference) → SpellsReference reference text.now
+            → result ≡ Ok reference }
+        ensures err { IfErr result (λ fault. fault ≡ Fault.BadReference) }
+    {
+        match printed(text) {
+            Some(reference) => Ok(reference),
+            None => Err(Fault::BadReference),
+        }
+    }
 
     /// Which of two references comes first: by date, group serial, message serial, kind (SSM before
     /// ASM), and the bytes of the originator.
@@ -131,6 +146,40 @@ impl CreatorReference {
 }
 
 // ---- reading
+
+// The reference that a text is the printed form of.
+#[tactic(auto, unfolding(crate::specs::internal::PrintedReference::reference_in))]
+fn printed(text: &[u8]) -> Option<Reference>
+    ensures some { IfSome result (λ reference. reference_in text.now ≡ Some reference) }
+    ensures none { IfNone result (reference_in text.now ≡ None) }
+{
+    let (kind, rest) = first_bytes(text, 3);
+    let kind = Kind::parse(kind)?;
+    let (date, rest) = first_bytes(after_blank(rest)?, 7);
+    let date = day(date)?;
+    let (group, rest) = first_bytes(after_blank(rest)?, 5);
+    let group = digits(5, 5, group)?;
+    let (serial, rest) = first_bytes(after_blank(rest)?, 3);
+    let serial = digits(3, 3, serial)? as u16;
+    let originator = Originator::printed(rest)?;
+    Some(Reference {
+        date,
+        group,
+        serial,
+        kind,
+        originator,
+    })
+}
+
+fn after_blank(text: &[u8]) -> Option<&[u8]>
+    ensures some { IfSome result (λ rest. after_blank text.now ≡ Some rest.now) }
+    ensures none { IfNone result (after_blank text.now ≡ None) }
+{
+    match text {
+        [b' ', rest @ ..] => Some(rest),
+        _ => None,
+    }
+}
 
 /// The number that the digits spell, if there are `low` to `high` of them.
 pub(crate) fn digits(low: usize, high: usize, text: &[u8]) -> Option<u32>
