@@ -1,5 +1,6 @@
 pub mod LineEnds
 pub mod Windows
+pub mod Beginnings
 pub mod Framing
 pub mod Headers
 pub mod Carriers

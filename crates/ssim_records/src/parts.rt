@@ -1,8 +1,10 @@
 //! The bytes of a file, in parts that are freed one after another.
 
-ghost use Rattle.std.specs.Prelude.{◌≡◌, ◌↔◌, ◌++◌, ◌≤◌, [], IfErr, IfSome, IsFalse, IsTrue, OnErr, OnOk, Ok, Some, drop, length, take};
+ghost use Rattle.std.specs.Prelude.{◌≡◌, ◌↔◌, ◌++◌, ◌≤◌, ℕ, false, List, [], IfErr, IfNone, IfSome};
+ghost use Rattle.std.specs.Prelude.{IsFalse, IsTrue, OnErr, OnOk, Ok, Some, drop, length, nat_eq, take};
 ghost use Rattle.std.specs.Io.{ReadsAtMost};
 ghost use Rattle.std.specs.Io.KnownBytes.{ReadConsumes};
+ghost use Rattle.std.specs.List.{starts_with};
 ghost use Rattle.ssim_records.specs.Device.{CountsFailure};
 
 use crate::device::{DeviceFault, Source};
@@ -33,6 +35,22 @@ impl Model for Parts {
     ghost view = { λ p. drop p.used p.front.items ++ flat_map (λ part. part.items) p.later.items };
 
     ghost invariant = { λ p. (p.used ≤ length p.front.items) × (p.len ≡ length (drop p.used p.front.items ++ flat_map (λ part. part.items) p.later.items)) };
+}
+
+/// Those of the bytes that come after this part, if the part and the bytes are equal as far as both
+/// go.
+fn after_part<'a>(bytes: &'a [u8], part: &[u8]) -> Option<&'a [u8]>
+    ensures some { IfSome result (λ rest. (later : List ℕ)
+        → starts_with nat_eq (part.now ++ later) bytes.now ≡ starts_with nat_eq later rest.now) }
+    ensures none { IfNone result ((later : List ℕ)
+        → starts_with nat_eq (part.now ++ later) bytes.now ≡ false) }
+{
+    let (start, rest) = bytes.split_at(bytes.len().min(part.len()));
+    if part.starts_with(start) {
+        Some(rest)
+    } else {
+        None
+    }
 }
 
 impl Parts {
@@ -82,6 +100,22 @@ impl Parts {
         } else {
             None
         }
+    }
+
+    /// Whether the bytes that are left begin with these, in one part or in several.
+    pub fn starts_with(&self, bytes: &[u8]) -> bool
+        ensures { result ≡ starts_with nat_eq self.now bytes.now }
+    {
+        let Some(mut rest) = after_part(bytes, &self.front[self.used..]) else {
+            return false;
+        };
+        for part in self.later.iter() {
+            let Some(later) = after_part(rest, part) else {
+                return false;
+            };
+            rest = later;
+        }
+        rest.is_empty()
     }
 
     /// Skips the next `count` bytes.

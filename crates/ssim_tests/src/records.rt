@@ -6,6 +6,7 @@ mod bytes_of_fields;
 mod columns;
 mod devices;
 mod fields;
+mod parts;
 
 use crate::data::with;
 use crate::pieces::{in_pieces, without_end};
