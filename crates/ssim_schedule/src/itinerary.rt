@@ -57,14 +57,19 @@ impl Itinerary {
         Ok(Itinerary::of_shared(SharedLegs::More(Rc::new(alloc, legs)?)))
     }
 
-    /// The itinerary of the legs of a list, of which the last comes first. Takes them out of the
-    /// list, which keeps its room.
-    pub(crate) fn of_reversed(alloc: Global, room: &mut Vec<PlacedLeg>) -> Result<Itinerary, Memory>
+    /// The itinerary of the legs of a list, of which the last comes first, with their hash. Takes
+    /// them out of the list, which keeps its room.
+    pub(crate) fn of_reversed(
+        alloc: Global,
+        room: &mut Vec<PlacedLeg>,
+        hash: u32,
+    ) -> Result<Itinerary, Memory>
+        requires { hash ≡ hash_of (reverse room.old.items) % 4294967296 }
         ensures itinerary { IfOk result (λ itinerary. itinerary ≡ reverse room.old.items) }
         ensures rest { OnOk result (room.new.items ≡ []) }
     {
         let legs = SharedLegs::of_reversed(alloc, room)?;
-        Ok(Itinerary::of_shared(legs))
+        Ok(Itinerary::hashed(legs, hash))
     }
 
     // The itinerary of legs that are in one place.
@@ -72,6 +77,14 @@ impl Itinerary {
         ensures { result ≡ legs_of legs }
     {
         let hash = short_hash(legs.as_slice());
+        Itinerary::hashed(legs, hash)
+    }
+
+    // The itinerary of legs that are in one place, and have this hash.
+    fn hashed(legs: SharedLegs, hash: u32) -> Itinerary
+        requires { hash ≡ hash_of (legs_of legs) % 4294967296 }
+        ensures { result ≡ legs_of legs }
+    {
         let records = counted(legs.as_slice());
         Itinerary {
             legs,

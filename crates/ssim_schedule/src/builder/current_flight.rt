@@ -65,10 +65,11 @@ impl CurrentFlight {
         ensures days { OnOk result (self.new.periods.days ≡ changed_on (holds period.now) (placed_each group.old.legs) 0 self.old.periods.days) }
         ensures cuts { OnOk result (AddsOnly self.old.periods.cuts self.new.periods.cuts period.now.first (period.now.last + 1)) }
     {
-        if widen(&mut self.runs, period, group) {
+        let hash = group.hash();
+        if widen(&mut self.runs, period, group, hash) {
             return Ok(());
         }
-        let legs = take_legs(self.alloc, &self.runs, group)?;
+        let legs = take_legs(self.alloc, &self.runs, group, hash)?;
         if self.runs.len() >= MOST {
             put_runs(&self.runs, &mut self.periods)?;
             self.runs.clear();

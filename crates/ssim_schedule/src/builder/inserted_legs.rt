@@ -30,18 +30,20 @@ impl Model for InsertedLegs {
 }
 
 impl InsertedLegs {
-    /// The change that puts the legs of a list, of which the last comes first. Takes them out of
-    /// the list, which keeps its room.
+    /// The change that puts the legs of a list, of which the last comes first, with their hash.
+    /// Takes them out of the list, which keeps its room.
     pub(crate) fn of_reversed(
         alloc: Global,
         room: &mut Vec<PlacedLeg>,
+        hash: u32,
     ) -> Result<InsertedLegs, Memory>
-        requires { IsOrdered (reverse room.old.items) }
+        requires ordered { IsOrdered (reverse room.old.items) }
+        requires hash { hash ≡ hash_of (reverse room.old.items) % 4294967296 }
         ensures put { IfOk result (λ put. put ≡ reverse room.old.items) }
         ensures rest { OnOk result (room.new.items ≡ []) }
     {
         Ok(InsertedLegs {
-            group: Itinerary::of_reversed(alloc, room)?,
+            group: Itinerary::of_reversed(alloc, room, hash)?,
         })
     }
 

@@ -121,12 +121,13 @@ impl LegGroup {
         (hash_of_reversed(&self.legs) % 4_294_967_296) as u32
     }
 
-    /// Takes the legs out, as a change with an itinerary of its own.
-    pub(crate) fn take_new(&mut self) -> Result<InsertedLegs, Memory>
+    /// Takes the legs out, as a change with an itinerary of its own. `hash` is that of the legs.
+    pub(crate) fn take_new(&mut self, hash: u32) -> Result<InsertedLegs, Memory>
+        requires { hash ≡ hash_of self.old.legs % 4294967296 }
         ensures { IfOk result (λ put. put ≡ self.old.legs) }
     {
         let mut room = mem::replace(&mut self.legs, Vec::new(self.alloc));
-        let put = InsertedLegs::of_reversed(self.alloc, &mut room)?;
+        let put = InsertedLegs::of_reversed(self.alloc, &mut room, hash)?;
         self.legs = room;
         self.made = self.made.saturating_add(1);
         Ok(put)

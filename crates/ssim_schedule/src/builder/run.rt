@@ -1,10 +1,11 @@
 //! The runs of a flight: legs that are still to be put into its itineraries.
 
-ghost use Rattle.std.specs.Prelude.{◌≡◌, ◌⊎◌, ℕ, ◌+◌, ◌<◌, ◌++◌, ◌∷◌, [], true, false, Contains, length, IfOk, IfSome, OnOk};
+ghost use Rattle.std.specs.Prelude.{◌≡◌, ◌⊎◌, ℕ, ◌+◌, ◌%◌, ◌<◌, ◌++◌, ◌∷◌, [], true, false, Contains, length, IfOk, IfSome, OnOk};
 ghost use Rattle.ssim_periods.specs.Calendar.{holds};
 ghost use Rattle.ssim_periods.specs.Days.{changed_on};
 ghost use Rattle.ssim_base.specs.Timetable.{Days};
 ghost use Rattle.ssim_schedule.specs.internal.InsertedLegs.{placed_each};
+ghost use Rattle.ssim_schedule.specs.internal.SharedLegs.{hash_of};
 ghost use Rattle.ssim_schedule.specs.internal.Runs.{IsWider, ends_of, is_run_on, with_runs};
 
 use crate::builder::inserted_legs::InsertedLegs;
@@ -22,13 +23,13 @@ pub(crate) struct Run {
 }
 
 /// Adds the days of a period to a run with the legs of the group. The result says whether there is
-/// one; if not, nothing is changed.
-pub(crate) fn widen(runs: &mut Vec<Run>, period: &Period, group: &LegGroup) -> bool
+/// one; if not, nothing is changed. `hash` is that of the legs: a run with another is not compared.
+pub(crate) fn widen(runs: &mut Vec<Run>, period: &Period, group: &LegGroup, hash: u32) -> bool
     ensures days { result ≡ true → (days : Days) → with_runs runs.new.items days ≡ changed_on (holds period.now) (placed_each group.now.legs) 0 (with_runs runs.old.items days) }
     ensures ends { result ≡ true → (cut : ℕ) → Contains (ends_of runs.new.items) cut → Contains (ends_of runs.old.items) cut ⊎ (cut ≡ period.now.first) ⊎ (cut ≡ period.now.last + 1) }
     ensures none { result ≡ false → runs.new ≡ runs.old }
 {
-    if let Some(found) = wider(runs, period, group) {
+    if let Some(found) = wider(runs, period, group, hash) {
         runs[found.0].period = found.1;
         return true;
     }
@@ -38,10 +39,9 @@ pub(crate) fn widen(runs: &mut Vec<Run>, period: &Period, group: &LegGroup) -> b
 // The place of a run with the legs of the group, and the period with its days and those of another
 // period. No run from this one on has a day of the period, so that the order of the changes is of
 // no effect.
-fn wider(runs: &[Run], period: &Period, group: &LegGroup) -> Option<(usize, Period)>
+fn wider(runs: &[Run], period: &Period, group: &LegGroup, hash: u32) -> Option<(usize, Period)>
     ensures { IfSome result (λ found. IsWider runs.now period.now group.now.legs found.0 found.1) }
 {
-    let hash = group.hash();
     let mut place = runs.len();
     while place > 0 {
         place -= 1;
@@ -81,21 +81,22 @@ fn are_apart(one: &Period, other: &Period) -> bool
     !meets(one, other)
 }
 
-/// The legs of a group, which may lose them. A run with the same legs shares them.
+/// The legs of a group, which may lose them, and their hash. A run with the same legs shares them.
 pub(crate) fn take_legs(
     alloc: Global,
     runs: &[Run],
     group: &mut LegGroup,
+    hash: u32,
 ) -> Result<InsertedLegs, Memory>
+    requires { hash ≡ hash_of group.old.legs % 4294967296 }
     ensures { IfOk result (λ legs. legs ≡ group.old.legs) }
 {
-    let hash = group.hash();
     for run in runs {
         if run.legs.hash() == hash && group.is_of(run.legs.legs()) {
             return run.legs.copy(alloc);
         }
     }
-    group.take_new()
+    group.take_new(hash)
 }
 
 /// Puts the legs of each run into the itineraries of its days.

@@ -81,7 +81,8 @@ impl TableBuilder {
         let before = self.current.take();
         put_back(&mut self.blocks, before)?;
         if !self.blocks.cuts(&flight).is_empty() {
-            let legs = group.take_new()?;
+            let hash = group.hash();
+            let legs = group.take_new(hash)?;
             self.blocks.change(flight, period, &legs)?;
             return Ok(());
         }
