@@ -80,6 +80,44 @@ def read_edit(path):
     return edit
 
 
+def edits_of(crate):
+    """The wrong bodies of a crate."""
+    folder = os.path.join(TOP, "crates", crate, "wrong_bodies")
+    names = sorted(os.listdir(folder)) if os.path.isdir(folder) else []
+    return [read_edit(os.path.join(folder, name)) for name in names]
+
+
+def texts_of(folder):
+    """The texts of the files below a folder."""
+    for parent, _, names in os.walk(folder):
+        for name in names:
+            with open(os.path.join(parent, name), encoding="utf-8") as file:
+                yield file.read()
+
+
+def is_there(crate, function):
+    """Whether the module that a function's path names is there, and the crate has a function of this name."""
+    *modules, name = [part for part in function.split("::") if part[:1].islower()]
+    folder = os.path.join(TOP, "crates", crate, "src")
+    word = re.compile(rf"\bfn {re.escape(name)}\b")
+    return os.path.isfile(os.path.join(folder, *modules) + ".rt") and any(word.search(text) for text in texts_of(folder))
+
+
+def unfit():
+    """For each wrong body of the repository: None, or why it cannot be tried. Nothing is proved."""
+    found = []
+    for crate in sorted(os.listdir(os.path.join(TOP, "crates"))):
+        for edit in edits_of(crate):
+            with tempfile.TemporaryDirectory() as folder:
+                for path in {path for path, _, _ in edit.pairs}:
+                    os.makedirs(os.path.join(folder, os.path.dirname(path)), exist_ok=True)
+                    shutil.copy(os.path.join(TOP, "crates", crate, path), os.path.join(folder, path))
+                why = edit.apply(folder)
+            why = why or next((f"there is no function {name}" for name in edit.functions if not is_there(crate, name)), None)
+            found.append(f"{crate}: {edit.name}: {why}" if why else None)
+    return found
+
+
 class Crates:
     """The crates of the repository, and the command that checks functions of one. `log` is what `rt ci` prints, if it runs."""
 
@@ -211,9 +249,9 @@ def main(names):
     names = names[2:] if log else names
     crates, found = Crates(log), []
     for crate in names or crates.uses:
-        folder = os.path.join(TOP, "crates", crate, "wrong_bodies")
-        if os.path.isdir(folder):
-            found.append(Tries(crates, crate, [read_edit(os.path.join(folder, name)) for name in sorted(os.listdir(folder))]))
+        edits = edits_of(crate)
+        if edits:
+            found.append(Tries(crates, crate, edits))
     results = verdicts(crates, found)
     failed = [why for why in results if why]
     for why in failed:
