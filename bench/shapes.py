@@ -2,6 +2,8 @@
 """Measures two programs on shapes that real files have beside that of large.py: shapes.py OURS OTHER [FOLDER] [SHAPE..]
 
 - `dates`: one record a date: 180,000 leg records, 180 of them a flight, of two aircraft types in turn.
+- `weeks`: weekly strips: 180,000 leg records of 15,000 flights in no order, a record for each of four weekdays and of three parts of the
+  season, weekday after weekday. Some weekdays have other times.
 - `legs`: long itineraries: 891,000 leg records, of 9,000 flights of leg sequences 1 to 99 over one period.
 - `sequence`: one flight with 238,000 legs of one day: seven leg sequences, each on 34,000 dates, the last date first.
 
@@ -10,6 +12,7 @@
 import datetime
 import itertools
 import os
+import random
 import sys
 import tempfile
 
@@ -21,27 +24,42 @@ FIRST, LAST, CREATED = datetime.date(2025, 3, 30), datetime.date(2025, 10, 25), 
 DAY = datetime.timedelta(days=1)
 
 
-def leg_line(flight, sequence, first, last, operates, aircraft="320"):
-    """A leg record without its serial. It flies from the station of its leg sequence to the next one."""
+def leg_line(flight, sequence, first, last, operates, aircraft="320", variation=1, start=0):
+    """A leg record without its serial. It flies from the station of its leg sequence to the next one, at `start` minutes after the time
+    of its leg sequence."""
     suffix, number = divmod(flight, 9999)
     stations = [f"{chr(65 + place // 26)}{chr(65 + place % 26)}X" for place in (sequence, sequence + 1)]
-    clock = f"{sequence * 13 // 60:02}{sequence * 13 % 60:02}"
-    line = (f"3{' ABCDEFGHIJKLMNOPQRSTUVWXYZ'[suffix]}LX {number + 1:04}01{sequence:02}J{first}{last}{operates} "
+    minutes = sequence * 13 + start
+    clock = f"{minutes // 60:02}{minutes % 60:02}"
+    line = (f"3{' ABCDEFGHIJKLMNOPQRSTUVWXYZ'[suffix]}LX {number + 1:04}{variation:02}{sequence:02}J{first}{last}{operates} "
             f"{stations[0]}{clock}{clock}+0200  {stations[1]}{clock}{clock}+0200  {aircraft}CY")
     return f"{line:<172}{'C12Y138':<20}00".encode("ascii")
 
 
-def dates():
+def dates(flights=1_000):
     """One record a date."""
     names = [(date(FIRST + place * DAY), days(1 << (FIRST + place * DAY).weekday())) for place in range(180)]
-    for flight in range(1_000):
+    for flight in range(flights):
         for place, (name, operates) in enumerate(names):
             yield leg_line(flight, 1, name, name, operates, "319" if (place + flight) // 45 % 2 else "320")
 
 
-def legs():
+def weeks(flights=15_000):
+    """Weekly strips."""
+    rng = random.Random(1)
+    parts = [(FIRST + place * 70 * DAY, FIRST + (place * 70 + 69) * DAY) for place in range(3)]
+    for flight in rng.sample(range(flights), flights):
+        for place, weekday in enumerate(sorted(rng.sample(range(7), 4))):
+            start, aircraft = rng.choice([0, 0, 0, 25]), rng.choice(["320", "320", "320", "321"])
+            for part, (first, last) in enumerate(parts):
+                operates = [first + day * DAY for day in range(70) if (first + day * DAY).weekday() == weekday]
+                yield leg_line(flight, 1, date(operates[0]), date(operates[-1]), days(1 << weekday), aircraft, place * 3 + part + 1,
+                               start + 60 * (part == 1))
+
+
+def legs(flights=9_000):
     """Itineraries of 99 legs."""
-    for flight in range(9_000):
+    for flight in range(flights):
         operates = days(1 + flight * 37 % 127)
         for sequence in range(1, 100):
             yield leg_line(flight, sequence, date(FIRST), date(LAST), operates)
@@ -59,6 +77,7 @@ def sequence():
 # The leg records of each shape, and the season of its carrier.
 SHAPES = {
     "dates": (dates, FIRST, LAST),
+    "weeks": (weeks, FIRST, LAST),
     "legs": (legs, FIRST, LAST),
     "sequence": (sequence, datetime.date(2000, 1, 1), datetime.date(2099, 12, 31)),
 }
