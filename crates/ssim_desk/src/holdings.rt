@@ -2,6 +2,8 @@
 
 ghost use Rattle.std.specs.Prelude.{◌≡◌, ◌≤◌, ◌++◌, [], ◌∷◌, length, take, drop, Ok, IfErr, IfOk};
 ghost use Rattle.std.specs.Prelude.{OnErr, OnOk};
+ghost use Rattle.std.specs.Bool.{OnFalse};
+ghost use Rattle.std.specs.FinMap.{contains_key, remove};
 ghost use Rattle.std.specs.Io.KnownBytes.{Appends};
 ghost use Rattle.ssim_base.specs.BaseSeen.{base_with};
 ghost use Rattle.ssim_schedule.specs.ExportResult.{ReadsBackBase, RefusesBase, WritesBase};
@@ -28,7 +30,9 @@ use crate::flights::{days_after, found_by, legs_after};
 use crate::message_effect::act_in_order;
 use crate::offer::{Offer, offer_over};
 use ssim_base::{Base, DataSet, Stations, WriteFault};
-use ssim_held::{DeskFault, Held, Opened, first_conflict, first_new, merged, put_desk, read_parts};
+use ssim_held::{
+    DeskFault, Held, Opened, first_conflict, first_new, merged, put_desk, read_parts, search,
+};
 use ssim_periods::Periods;
 use ssim_records::{Parts, Sink};
 use ssim_schedule::{ExportFault, Itinerary, PlacedLeg, Schedule};
@@ -151,6 +155,22 @@ impl Holdings {
             self.replace_from(at, rest)?;
         }
         Ok(())
+    }
+
+    /// Holds the message of a reference no longer. Returns whether it was held. Allocates nothing.
+    pub fn withdraw(&mut self, reference: &Reference) -> bool
+        ensures held { map_of self.new.held ≡ remove (map_of self.old.held) reference.now }
+        ensures was_held { result ≡ contains_key (map_of self.old.held) reference.now }
+        ensures base { self.new.base ≡ self.old.base }
+        ensures absent { OnFalse result (self.new ≡ self.old) }
+    {
+        match search(&self.held, reference) {
+            Ok(at) => {
+                self.held.remove(at);
+                true
+            }
+            Err(_) => false,
+        }
     }
 
     /// Writes the desk file, as `Desk::save` does. Allocates nothing.

@@ -3,7 +3,7 @@
 //! - [`Held`]: a message that is held, with its reference, its canonical text and the full dates of
 //!   its sub-messages.
 //! - [`look`]: looks a message up in a list in order of reference; [`LookUp`]: what is held under
-//!   its reference.
+//!   its reference. [`search`]: the position of a reference.
 //! - [`first_conflict`], [`first_new`], [`merged`]: two such lists, compared and put together.
 //! - [`put_desk`]: writes the desk file of a base and the messages that are held over it; or
 //!   [`WriteFault`], 52.
@@ -33,6 +33,6 @@ pub use desk_file_reader::{Opened, read_desk, read_parts};
 pub use desk_file_writer::put_desk;
 pub use fault::DeskFault;
 pub use held::Held;
-pub use lookup::{LookUp, look};
+pub use lookup::{LookUp, look, search};
 pub use ssim_base::WriteFault;
 pub use union::{first_conflict, first_new, merged};

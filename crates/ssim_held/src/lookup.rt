@@ -45,8 +45,8 @@ pub(crate) fn look_up(held: &[Held], one: &Held) -> LookUp
     look(held, &one.reference(), one.message())
 }
 
-// The position of a reference, or the position where it belongs.
-fn search(held: &[Held], reference: &Reference) -> Result<usize, usize>
+/// The position of a reference in a list in order of reference, or the position where it belongs.
+pub fn search(held: &[Held], reference: &Reference) -> Result<usize, usize>
     requires { AreRising held.now }
     ensures found { IfOk result
         (λ at. (e : Entry) × (slice_get held.now at ≡ Some e) × (e.reference ≡ reference.now)) }

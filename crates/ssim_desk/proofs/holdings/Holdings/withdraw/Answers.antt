@@ -1,0 +1,60 @@
+-- The list without the message at its position is the map without the message.
+use Rattle.std.proofs.Common.{◌≡◌, ◌∙◌, suc, List, None, Some, drop, take, is_some, sym, ap, subst}
+use Rattle.std.proofs.lemmas.List.Elements.{All-append, All-drop, All-take}
+use Rattle.std.specs.FinMap.{contains_key, get, remove}
+use Rattle.ssim_held.specs.Entries.{AreEntries, DeskSeen, Entry, IsEntry, map_of}
+use Rattle.ssim_held.specs.Ordered.{Belongs}
+use Rattle.ssim_held.proofs.Entries.{held_at, not_held}
+use Rattle.ssim_held.proofs.Searching.{IsHeldAt}
+use Rattle.ssim_held.proofs.Withdrawing.{map_of_without, rising_without, without_absent}
+use Rattle.ssim_desk.proofs.holdings.Holdings.withdraw.Goals as goal
+
+pub invariant_of-self : goal.invariant_of-self
+invariant_of-self c =
+    let i = c.self.inside in
+    let es = i.held.items in
+    let at = c.in-Ok.at in
+    let one = IsEntry i.base.records in
+    subst (AreEntries i.base.records) (sym c.remove.ensures.items) (record {
+      rising = rising_without es at c.self.invariant.rising;
+      each = All-append one (take at es) (drop (suc at) es) (All-take one at es c.self.invariant.each)
+          (All-drop one (suc at) es c.self.invariant.each);
+    })
+
+pub returns-in-Ok-clause-held : goal.returns-in-Ok-clause-held
+returns-in-Ok-clause-held c =
+    let es = c.self.inside.held.items in
+    let at = c.in-Ok.at in
+    let reference = c.args.reference.now in
+    let (e, there, its) = subst (λ (xs : List Entry). IsHeldAt xs reference at) c.deref.ensures.value c.in-Ok.ensures.found in
+    ap map_of c.remove.ensures.items ∙ map_of_without es at e c.self.invariant.rising there
+    ∙ ap (remove (map_of es)) its ∙ ap (λ (d : DeskSeen). remove (map_of d.held) reference) c.self.view_is
+
+pub returns-in-Ok-clause-was_held : goal.returns-in-Ok-clause-was_held
+returns-in-Ok-clause-was_held c =
+    let es = c.self.inside.held.items in
+    let at = c.in-Ok.at in
+    let reference = c.args.reference.now in
+    let (e, there, its) = subst (λ (xs : List Entry). IsHeldAt xs reference at) c.deref.ensures.value c.in-Ok.ensures.found in
+    let got : get (map_of es) reference ≡ Some e.message =
+    ap (get (map_of es)) (sym its) ∙ held_at es at e c.self.invariant.rising there in
+    sym (ap is_some got) ∙ ap (λ (d : DeskSeen). contains_key (map_of d.held) reference) c.self.view_is
+
+pub returns-in-Err-clause-held : goal.returns-in-Err-clause-held
+returns-in-Err-clause-held c =
+    let es = c.self.inside.held.items in
+    let at = c.in-Err.field-0 in
+    let reference = c.args.reference.now in
+    let gap = subst (λ (xs : List Entry). Belongs xs reference at at) c.deref.ensures.value c.in-Err.ensures.absent in
+    let none = not_held es at reference c.self.invariant.rising gap in
+    subst (λ (d : DeskSeen). map_of d.held ≡ remove (map_of d.held) reference) c.self.view_is
+    (sym (without_absent (map_of es) reference none))
+
+pub returns-in-Err-clause-was_held : goal.returns-in-Err-clause-was_held
+returns-in-Err-clause-was_held c =
+    let es = c.self.inside.held.items in
+    let at = c.in-Err.field-0 in
+    let reference = c.args.reference.now in
+    let gap = subst (λ (xs : List Entry). Belongs xs reference at at) c.deref.ensures.value c.in-Err.ensures.absent in
+    let none : get (map_of es) reference ≡ None = not_held es at reference c.self.invariant.rising gap in
+    sym (ap is_some none) ∙ ap (λ (d : DeskSeen). contains_key (map_of d.held) reference) c.self.view_is
