@@ -207,6 +207,15 @@ impl Model for Stations {
 }
 
 impl Stations {
+    /// A table without rows. It does not allocate.
+    pub fn new(alloc: Global) -> Stations
+        ensures { result ≡ [] }
+    {
+        Stations {
+            rows: Vec::new(alloc),
+        }
+    }
+
     /// Reads a table. CR bytes and blanks at line ends are dropped, and then empty lines. Each line
     /// that is left is a station, a first day, a last day not before it and a variation, with one
     /// or more blanks between them.
