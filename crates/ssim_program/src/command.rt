@@ -5,6 +5,7 @@ pub(crate) mod check;
 pub(crate) mod export;
 pub(crate) mod findings;
 pub(crate) mod history;
+pub(crate) mod marks;
 pub(crate) mod merge;
 pub(crate) mod named_flights;
 pub(crate) mod show;

@@ -52,16 +52,26 @@ leg_lines (leg ∷ legs) = flat_map leg_line (leg ∷ legs)
 abbrev pub shown_flight : Designator → ℕ → Legs → List ℕ
 shown_flight designator day legs = line (designator_text designator ++ 32 ∷ day_text day) ++ leg_lines legs
 
+-- ---- legs that differ in what is not shown
+
+-- whether two legs differ, but have the same line
+abbrev pub is_like : LegValue → LegValue → Bool
+is_like other leg = not (same_leg other leg) && bytes_eq (leg_text other) (leg_text leg)
+
+-- whether one of the legs differs from this one, but has the same line
+abbrev pub is_like_one : Legs → LegValue → Bool
+is_like_one legs leg = list_any (λ other. is_like other leg) legs
+
+-- the mark after the line of a leg, or nothing
+abbrev pub mark_text : Bool → List ℕ
+mark_text is_marked = if is_marked then codes " *" else []
+
 -- ---- the history of a flight on a date
 
--- whether a leg is none of those before, although its line is that of one of them
-abbrev pub is_marked : Legs → LegValue → Bool
-is_marked before leg =
-    not (list_any (λ other. same_leg other leg) before) && list_any (λ other. bytes_eq (leg_text other) (leg_text leg)) before
-
--- the line of a leg, two blanks before it, and a mark after it
+-- The line of a leg, two blanks before it, and a mark after it if one of the legs before differs
+-- from it, but has the same line.
 abbrev pub marked_line : Legs → LegValue → List ℕ
-marked_line before leg = line (32 ∷ 32 ∷ leg_text leg ++ (if is_marked before leg then codes " *" else []))
+marked_line before leg = line (32 ∷ 32 ∷ leg_text leg ++ mark_text (is_like_one before leg))
 
 -- a line for each leg, or the line `no flight`, two blanks before it
 abbrev pub indented_lines : Legs → Legs → List ℕ

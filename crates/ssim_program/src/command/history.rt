@@ -1,15 +1,15 @@
 //! The command `history`: what each sub-message of a desk did with a flight on a date.
 
-ghost use Rattle.std.specs.Prelude.{◌≡◌, ◌++◌, [], if◌then◌else◌, codes, IfErr, IfOk, OnOk};
-ghost use Rattle.std.specs.List.{flat_map, list_any};
-ghost use Rattle.std.specs.Str.{bytes_eq};
-ghost use Rattle.ssim_base.specs.Export.{line, same_leg};
+ghost use Rattle.std.specs.Prelude.{◌≡◌, ◌++◌, IfErr, IfOk, OnOk};
+ghost use Rattle.std.specs.List.{flat_map};
+ghost use Rattle.ssim_base.specs.Export.{line};
 ghost use Rattle.ssim_command_line.specs.Line.{History};
 ghost use Rattle.ssim_program.specs.Desks.{RefusesFlight, ShowsHistory};
 ghost use Rattle.ssim_program.specs.internal.Program.{Prepares, stored};
-ghost use Rattle.ssim_program.specs.print.Shown.{history_lines, indented_lines, is_marked, leg_text};
-ghost use Rattle.ssim_program.specs.print.Shown.{legs_after, marked_line, reason_word, step_lines, step_text};
+ghost use Rattle.ssim_program.specs.print.Shown.{history_lines, indented_lines, legs_after, marked_line};
+ghost use Rattle.ssim_program.specs.print.Shown.{reason_word, step_lines, step_text};
 
+use crate::command::marks::{is_like_one, mark_of};
 use crate::command::show::{flight_date, push_heading, push_leg_text};
 use crate::desk_file::open_holdings;
 use crate::refusal::Refusal;
@@ -124,8 +124,8 @@ fn word_of(reason: Reason) -> &'static str
     }
 }
 
-/// Adds a line for each leg, two blanks before it, or `no flight`. A leg is marked if only its line
-/// is that of one of the legs before.
+/// Adds a line for each leg, two blanks before it, or `no flight`. A leg is marked if one of the legs
+/// before differs from it, but has the same line.
 fn push_legs(
     alloc: Global,
     lines: &mut Vec<u8>,
@@ -167,58 +167,10 @@ fn push_marked(
 ) -> Result<(), Memory>
     ensures { OnOk result (lines.new.items ≡ lines.old.items ++ marked_line before.now leg.now) }
 {
-    let marked = is_marked(alloc, before, leg)?;
+    let marked = is_like_one(alloc, before, leg)?;
     lines.extend_from_slice(b"  ")?;
     push_leg_text(lines, leg)?;
     lines.extend_from_slice(mark_of(marked))?;
     lines.push(b'\n')?;
     Ok(())
-}
-
-fn mark_of(marked: bool) -> &'static [u8]
-    ensures { result.now ≡ (if marked then codes " *" else []) }
-{
-    if marked { b" *" } else { b"" }
-}
-
-/// Whether none of the legs before is the leg, and the line of one of them is its line.
-fn is_marked(alloc: Global, before: &[PlacedLeg], leg: &PlacedLeg) -> Result<bool, Memory>
-    ensures { IfOk result (λ marked. marked ≡ is_marked before.now leg.now) }
-{
-    if is_among(before, leg) {
-        return Ok(false);
-    }
-    let text = text_of(alloc, leg)?;
-    let found = has_text(alloc, before, &text)?;
-    Ok(found)
-}
-
-fn is_among(legs: &[PlacedLeg], leg: &PlacedLeg) -> bool
-    ensures { result ≡ list_any (λ other. same_leg other leg.now) legs.now }
-{
-    legs.iter().any(|other| other.same(leg))
-}
-
-/// Whether one of the legs has the text.
-fn has_text(alloc: Global, legs: &[PlacedLeg], text: &[u8]) -> Result<bool, Memory>
-    ensures { IfOk result (λ found. found ≡ list_any (λ other. bytes_eq (leg_text other) text.now) legs.now) }
-{
-    match legs.split_first() {
-        None => Ok(false),
-        Some((leg, rest)) => {
-            if *text_of(alloc, leg)? == *text {
-                Ok(true)
-            } else {
-                has_text(alloc, rest, text)
-            }
-        }
-    }
-}
-
-fn text_of(alloc: Global, leg: &PlacedLeg) -> Result<Vec<u8>, Memory>
-    ensures { IfOk result (λ text. text.items ≡ leg_text leg.now) }
-{
-    let mut text = Vec::new(alloc);
-    push_leg_text(&mut text, leg)?;
-    Ok(text)
 }
