@@ -35,6 +35,7 @@ COMMANDS = [
     ("texts", ["texts", "desk", "LX544", "LX540"], None),
     ("show", ["show", "desk", "LX544", "01JUL25"], None),
     ("history", ["history", "desk", "LX544", "01JUL25"], None),
+    ("calendar", ["calendar", "desk", "LX544"], None),
     ("findings", ["findings", "desk"], None),
     ("export", ["export", "desk"], None),
     ("rehearse", ["rehearse", "season", "stations", "script"], None),

@@ -2,7 +2,7 @@
 """Types every command line of docs/TUTORIAL.md and compares what is printed: tutorial.py PROGRAM [PAGE..]
 
 In the code blocks of a PAGE (docs/TUTORIAL.md if none is named), a line after `$` is typed and the lines up to the next
-one are what it has to print, on standard output and standard error together. The lines of a page run one after another
+one are what it has to print, on standard output and standard error together; empty lines between two of them, too. The lines of a page run one after another
 in a new copy of samples/, where `ssimdesk` is PROGRAM; `$?` is the exit status of the line before. The last line is
 'N passed, M failed'.
 """
@@ -19,16 +19,19 @@ INDENT = "    "
 def typed_lines(page):
     """The command lines of a page, as (line number, command, what it prints)."""
     found = []
-    inside = False
+    inside, empty = False, ""
     with open(page, encoding="utf-8", newline="\n") as file:
         for number, line in enumerate(file, 1):
             text = line.rstrip("\n")
             if text.startswith(INDENT + "$ "):
                 found.append((number, text[len(INDENT) + 2 :], ""))
-                inside = True
+                inside, empty = True, ""
             elif inside and text.startswith(INDENT):
                 at, command, printed = found[-1]
-                found[-1] = (at, command, printed + text[len(INDENT) :] + "\n")
+                found[-1] = (at, command, printed + empty + text[len(INDENT) :] + "\n")
+                empty = ""
+            elif inside and not text:
+                empty += "\n"
             else:
                 inside = False
     return found

@@ -1,17 +1,26 @@
 -- What a parse makes of the program's name, a command's name and its values: the walk of the top
 -- level stops at the command's name, and each plain value then goes to the next positional.
-use Rattle.std.proofs.Common.{◌≡◌, ◌∙◌, ◌&&◌, Bool, true, false, refl, sym, ap, ap₂, List, [], ◌∷◌, ◌++◌, Option, Some, None, append_assoc, codes, is_some}
+use Rattle.std.proofs.Common.{◌≡◌, ◌∙◌, ◌&&◌, Bool, true, false, refl, sym, ap, ap₂, List, [], ◌∷◌}
+use Rattle.std.proofs.Common.{◌++◌, Option, Some, None, append_assoc, codes, is_some}
 use Rattle.std.specs.List.{find, fold, list_all}
 use Rattle.std.specs.Prelude.{unwrap_or}
 use Rattle.std.specs.Option.{option_map, option_map_or}
 use Rattle.clap.specs.declared.parser.matches.ValueSource.TheVariants.{CommandLine}
-use Rattle.clap.specs.Walk.{Row, Rule, Walk, all_of, first_of, reading_by, settled, answers_to, arg_by_index, finished, nothing_held, rows_after, to_positional, walk, walk_from, walked, idle, positional}
-use Rattle.clap.specs.Simple.{App, Shape, filled, with_index, built, built_leaf, entered, inherited, is_simple, label_of, names_of, marked_built, rows_at, subcommand_of, with_leaf_noted}
-use Rattle.clap.specs.Takes.{default_passes, entered_passes, is_valid, level_passes, settle_passes, takes, turn_passes, walk_passes}
+use Rattle.clap.specs.Walk.{Row, Rule, Walk, all_of, first_of, reading_by, settled, answers_to}
+use Rattle.clap.specs.Walk.{arg_by_index, finished, nothing_held, rows_after, to_positional, walk}
+use Rattle.clap.specs.Walk.{walk_from, walked, idle, positional}
+use Rattle.clap.specs.Simple.{App, Shape, filled, with_index, built, built_leaf, entered, inherited}
+use Rattle.clap.specs.Simple.{is_simple, label_of, names_of, marked_built, rows_at, subcommand_of}
+use Rattle.clap.specs.Simple.{with_leaf_noted}
+use Rattle.clap.specs.Takes.{default_passes, entered_passes, is_valid, level_passes, settle_passes}
+use Rattle.clap.specs.Takes.{takes, turn_passes, walk_passes}
 use Rattle.clap.proofs.WalkLemmas.{both, walk_stopped}
 use Rattle.ssim_command_line.specs.Line.{Text, is_plain}
-use Rattle.ssim_command_line.specs.Commands.{whole_program, any_texts, leaf, bare_program, one_value, one_value_and_texts, several_texts, three_values, two_values_and_texts}
-use Rattle.ssim_command_line.proofs.Words.{Looks, at, looks, next_passes, none_passes, stopped_passes, turn_plain, walked_plain}
+use Rattle.ssim_command_line.specs.Commands.{whole_program, any_texts, leaf, bare_program, one_value}
+use Rattle.ssim_command_line.specs.Commands.{one_value_and_texts, several_texts, three_values}
+use Rattle.ssim_command_line.specs.Commands.{two_values, two_values_and_texts}
+use Rattle.ssim_command_line.proofs.Words.{Looks, at, looks, next_passes, none_passes, stopped_passes}
+use Rattle.ssim_command_line.proofs.Words.{turn_plain, walked_plain}
 
 -- ---- a subcommand, as it is built
 
@@ -43,6 +52,45 @@ module _ (name : Text) (a : Text) (la : Looks a) where
 
   pub one_rows : rows_after s1.rules [] (a ∷ []) ≡ finished s1.rules v1.held
   one_rows = ap (λ (v : Walk). finished s1.rules v.held) w1
+
+-- two values
+module _ (name : Text) (a b : Text) (la : Looks a) (lb : Looks b) where
+  abbrev s2 : Shape
+  s2 = ready (leaf name two_values)
+
+  abbrev c2 : List Rule
+  c2 = s2.rules
+
+  abbrev pub p1 : Walk
+  p1 = to_positional c2 (arg_by_index c2 1) a (at nothing_held idle 1) nothing_held
+
+  abbrev pub p2 : Walk
+  p2 = to_positional c2 (arg_by_index c2 2) b (at p1.held idle 2) p1.held
+
+  pub q1 : walked c2 [] (at nothing_held idle 1) a ≡ p1
+  q1 = walked_plain c2 nothing_held idle 1 a la refl
+
+  pub q2 : walked c2 [] p1 b ≡ p2
+  q2 = walked_plain c2 p1.held idle 2 b lb refl
+
+  pub ends2 : (walk c2 [] nothing_held (a ∷ b ∷ [])) ≡ p2
+  ends2 = ap (λ (v : Walk). fold (walked c2 []) v (b ∷ [])) q1 ∙ q2
+
+  passes2 : walk_passes s2 [] (at nothing_held idle 1) (a ∷ b ∷ []) ≡ true
+  passes2 =
+      let first = turn_plain s2 nothing_held idle 1 a la refl refl in
+      let second = turn_plain s2 p1.held idle 2 b lb refl refl in
+      next_passes s2 [] (at nothing_held idle 1) p1 a (b ∷ []) first q1
+      (next_passes s2 [] p1 p2 b [] second q2 (none_passes s2 [] p2))
+
+  pub two_level : level_passes s2 [] nothing_held (a ∷ b ∷ []) false ≡ true
+  two_level =
+      ap₂ (λ (t : Bool) (v : Walk). t && (settle_passes s2.rules s2.args_override_self v.held
+      && (list_all default_passes s2.rules && is_valid s2 (finished s2.rules v.held) false)))
+      passes2 ends2
+
+  pub two_rows : rows_after s2.rules [] (a ∷ b ∷ []) ≡ finished s2.rules p2.held
+  two_rows = ap (λ (v : Walk). finished s2.rules v.held) ends2
 
 -- three values
 module _ (name : Text) (a b d : Text) (la : Looks a) (lb : Looks b) (ld : Looks d) where

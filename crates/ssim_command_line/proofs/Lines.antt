@@ -1,9 +1,11 @@
 -- A command line is taken, and the matches name it again: the names of the commands by computation,
 -- their values as variables.
-use Rattle.std.proofs.Common.{◌≡◌, ◌∙◌, inl, inr, true, refl, ap, ap₂, List, [], ◌∷◌, Option, Some, None, codes, sym, true≢false, subst}
+use Rattle.std.proofs.Common.{◌≡◌, ◌∙◌, inl, inr, true, refl, ap, ap₂, List, [], ◌∷◌, Option, Some}
+use Rattle.std.proofs.Common.{None, codes, sym, true≢false, subst}
 use Rattle.std.specs.List.{find, list_all}
 use Rattle.std.specs.Prelude.{Box, is_some, option_and_then, option_map, unwrap_or}
-use Rattle.clap.specs.Walk.{Row, all_of, answers_to, first_of, nothing_held, rows_after, walk_from, walked}
+use Rattle.clap.specs.Walk.{Row, all_of, answers_to, first_of, nothing_held, rows_after, walk_from}
+use Rattle.clap.specs.Walk.{walked}
 use Rattle.clap.specs.Simple.{Shape, label_of, names_of, subcommand_of}
 use Rattle.clap.specs.Takes.{takes, turn_passes}
 use Rattle.clap.specs.Matches.{subcommand_name_of}
@@ -20,13 +22,20 @@ use Rattle.clap.specs.declared.parser.matches.SubCommand.{SubCommand}
 use Rattle.std.specs.Box.{box_value}
 use Rattle.clap.proofs.OnLiterals.{clap_on_literals}
 use Rattle.clap.proofs.WalkLemmas.{both}
-use Rattle.ssim_command_line.specs.Line.{Line, Spells, Text, is_plain, is_whole, name_of, values_of, Check, Tidy, Start, Take, Merge, Texts, Show, History, Findings, Export, Rehearse, Explain}
-use Rattle.ssim_command_line.specs.Commands.{whole_program, leaf, one_value, one_value_and_texts, three_values, two_values_and_texts}
-use Rattle.ssim_command_line.specs.Request.{line_at, with_one, with_three}
+use Rattle.ssim_command_line.specs.Line.{Line, Spells, Text, is_plain, is_whole, name_of, values_of}
+use Rattle.ssim_command_line.specs.Line.{Check, Tidy, Start, Take, Merge, Texts, Show, History}
+use Rattle.ssim_command_line.specs.Line.{Calendar, Findings, Export, Rehearse, Explain}
+use Rattle.ssim_command_line.specs.Commands.{whole_program, leaf, one_value, one_value_and_texts}
+use Rattle.ssim_command_line.specs.Commands.{three_values, two_values, two_values_and_texts}
+use Rattle.ssim_command_line.specs.Request.{line_at, with_one, with_three, with_two}
 use Rattle.ssim_command_line.specs.Usage.{IsNoCommand, Names}
 use Rattle.ssim_command_line.proofs.Words.{Looks, looks}
-use Rattle.ssim_command_line.proofs.Levels.{any_level, any_rows, enters, one_level, one_rows, ready, sf, simple, st, take_level, take_rows, takes_words, three_level, three_rows, top_rules, whole}
-use Rattle.ssim_command_line.proofs.Right.{any_right, one_right, take_right, three_right, words_right}
+use Rattle.ssim_command_line.proofs.Levels.{any_level, any_rows, enters, one_level, one_rows, ready}
+use Rattle.ssim_command_line.proofs.Levels.{sf, simple, st, take_level, take_rows, takes_words}
+use Rattle.ssim_command_line.proofs.Levels.{three_level, three_rows, top_rules, two_level, two_rows}
+use Rattle.ssim_command_line.proofs.Levels.{whole}
+use Rattle.ssim_command_line.proofs.Right.{any_right, one_right, take_right, three_right, two_right}
+use Rattle.ssim_command_line.proofs.Right.{words_right}
 
 -- the words are taken without a fault, and name the row
 pub record Answers (words : List Text) (line : Line) : Type 0 where
@@ -75,6 +84,10 @@ history_is : IsNamed (codes "history") (ready (leaf (codes "history") three_valu
 unfolding clap_on_literals
 history_is = record { met = refl; fits = refl; right = refl; found = refl }
 
+calendar_is : IsNamed (codes "calendar") (ready (leaf (codes "calendar") two_values))
+unfolding clap_on_literals
+calendar_is = record { met = refl; fits = refl; right = refl; found = refl }
+
 findings_is : IsNamed (codes "findings") (ready (leaf (codes "findings") one_value))
 unfolding clap_on_literals
 findings_is = record { met = refl; fits = refl; right = refl; found = refl }
@@ -103,6 +116,27 @@ one_answers line name a make is named n la reads program =
       rows = rows;
       named = enters name (a ∷ []) s n.met n.fits n.found program ∙ ap (λ (x : Text). Some (x, rows)) (sym named);
       made = ap (λ (x : Text). line_at x rows) named ∙ (reads rows ∙ (ap (with_one make) (one_rows name a la) ∙ ap Some (sym is)));
+    }
+
+-- a command with two values
+two_answers : (line : Line) (name a b : Text) (make : Text → Text → Line) → line ≡ make a b
+    → name_of line ≡ name → IsNamed name (ready (leaf name two_values)) → Looks a → Looks b
+    → ((rows : List Row) → line_at name rows ≡ with_two make rows) → (program : Text)
+    → Answers (program ∷ name ∷ a ∷ b ∷ []) line
+two_answers line name a b make is named n la lb reads program =
+    let s = ready (leaf name two_values) in
+    let values = a ∷ b ∷ [] in
+    let rows = rows_after s.rules [] values in
+    let entered = enters name values s n.met n.fits n.found program in
+    let read = ap (with_two make) (two_rows name a b la lb) in
+    let level = two_level name a b la lb in
+    let faultless = two_right name a b la lb in
+    record {
+      taken = takes_words name values s n.met n.fits n.found program level;
+      right = words_right name values s n.met n.right n.fits n.found program faultless;
+      rows = rows;
+      named = entered ∙ ap (λ (x : Text). Some (x, rows)) (sym named);
+      made = ap (λ (x : Text). line_at x rows) named ∙ (reads rows ∙ (read ∙ ap Some (sym is)));
     }
 
 -- a command with three values
@@ -182,6 +216,12 @@ from_line program (Show a b d) w e =
 from_line program (History a b d) w e =
     let p = both _ _ e in let q = both _ _ p.1 in
     three_answers (History a b d) (codes "history") a b d History refl refl history_is (looks a p.0) (looks b q.0) (one_plain d q.1) (λ rows. refl) program
+from_line program (Calendar a b) w e =
+    let p = both _ _ e in
+    let l = looks a p.0 in
+    let k = one_plain b p.1 in
+    let name = codes "calendar" in
+    two_answers (Calendar a b) name a b Calendar refl refl calendar_is l k (λ rows. refl) program
 from_line program (Rehearse a b d) w e =
     let p = both _ _ e in let q = both _ _ p.1 in
     three_answers (Rehearse a b d) (codes "rehearse") a b d Rehearse refl refl rehearse_is (looks a p.0) (looks b q.0) (one_plain d q.1) (λ rows. refl) program

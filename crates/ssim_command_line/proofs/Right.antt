@@ -1,19 +1,28 @@
 -- In plain words of a command `clap` finds no fault.
-use Rattle.std.proofs.Common.{◌≡◌, ◌∙◌, ℕ, Bool, cond, true, false, refl, ap, ap₂, List, [], ◌∷◌, ◌++◌, Option, Some, None, true≢false, is_some}
+use Rattle.std.proofs.Common.{◌≡◌, ◌∙◌, ℕ, Bool, cond, true, false, refl, ap, ap₂, List, [], ◌∷◌, ◌++◌}
+use Rattle.std.proofs.Common.{Option, Some, None, true≢false, is_some}
 use Rattle.std.specs.List.{find, fold, list_all}
 use Rattle.std.specs.Option.{option_map_or}
-use Rattle.clap.specs.Faults.{bundle_fault, check_fault, defaults_fault, entered_fault, fault_of, flag_word_fault, level_fault, other_fault, settle_fault, step_fault, turn_fault, walk_fault}
+use Rattle.clap.specs.Faults.{bundle_fault, check_fault, defaults_fault, entered_fault, fault_of}
+use Rattle.clap.specs.Faults.{flag_word_fault, level_fault, other_fault, settle_fault, step_fault}
+use Rattle.clap.specs.Faults.{turn_fault, walk_fault}
 use Rattle.clap.specs.Kinds.{Kinds, or_else}
 use Rattle.clap.specs.Lexer.{long_of}
-use Rattle.clap.specs.Walk.{Held, Names, Step, Waiting, Walk, answers_to, finished, nothing_held, settled, value, walk, walk_from, walked, idle, option, positional}
+use Rattle.clap.specs.Walk.{Held, Names, Step, Waiting, Walk, answers_to, finished, nothing_held}
+use Rattle.clap.specs.Walk.{settled, value, walk, walk_from, walked, idle, option, positional}
 use Rattle.clap.specs.Simple.{Shape, entered, label_of, names_of}
 use Rattle.clap.specs.Takes.{turn_passes}
 use Rattle.clap.proofs.OnLiterals.{clap_on_literals}
 use Rattle.clap.proofs.WalkLemmas.{both}
 use Rattle.ssim_command_line.specs.Line.{Text, is_plain}
-use Rattle.ssim_command_line.specs.Commands.{whole_program, leaf, one_value, three_values}
+use Rattle.ssim_command_line.specs.Commands.{whole_program, leaf, one_value, three_values, two_values}
 use Rattle.ssim_command_line.proofs.Words.{Looks, at, awaits_option, looks, word_is}
-use Rattle.ssim_command_line.proofs.Levels.{any_ends, any_ends_at_one, any_first, any_later, any_second, any_state, any_third, cf, ct, ends3, ends_at, entered_is, f1, f2, first_is, later_text, ready, second_is, second_text, sf, st, state, t1, t2, t3, take_starts, third_is, top_rules, v1, w1, walk_is, whole, x1, x2, x3, y1, y2, y3}
+use Rattle.ssim_command_line.proofs.Levels.{any_ends, any_ends_at_one, any_first, any_later}
+use Rattle.ssim_command_line.proofs.Levels.{any_second, any_state, any_third, cf, ct, ends2, ends3}
+use Rattle.ssim_command_line.proofs.Levels.{ends_at, entered_is, f1, f2, first_is, later_text, p1, p2}
+use Rattle.ssim_command_line.proofs.Levels.{q1, q2, ready, second_is, second_text, sf, st, state, t1}
+use Rattle.ssim_command_line.proofs.Levels.{t2, t3, take_starts, third_is, top_rules, v1, w1, walk_is}
+use Rattle.ssim_command_line.proofs.Levels.{whole, x1, x2, x3, y1, y2, y3}
 
 word_right : (s : Shape) (word : Text) (h : Held) → Looks word → other_fault s None word h ≡ []
 word_right s word h l =
@@ -66,6 +75,26 @@ module _ (name : Text) (a : Text) (la : Looks a) where
   one_right =
       level_right s1 (a ∷ []) (v1 name a la) (w1 name a la)
       (next_right s1 [] (at nothing_held idle 1) (v1 name a la) a [] (turn_right s1 nothing_held idle 1 a la refl refl) (w1 name a la) (none_right s1 [] (v1 name a la))) refl
+
+-- two values
+module _ (name : Text) (a b : Text) (la : Looks a) (lb : Looks b) where
+  abbrev s2 : Shape
+  s2 = ready (leaf name two_values)
+
+  abbrev r1 : Walk
+  r1 = p1 name a b la lb
+
+  abbrev r2 : Walk
+  r2 = p2 name a b la lb
+
+  pub two_right : level_fault s2 [] nothing_held (a ∷ b ∷ []) false [] ≡ []
+  unfolding clap_on_literals
+  two_right =
+      let first = turn_right s2 nothing_held idle 1 a la refl refl in
+      let second = turn_right s2 r1.held idle 2 b lb refl refl in
+      level_right s2 (a ∷ b ∷ []) r2 (ends2 name a b la lb)
+      (next_right s2 [] (at nothing_held idle 1) r1 a (b ∷ []) first (q1 name a b la lb)
+      (next_right s2 [] r1 r2 b [] second (q2 name a b la lb) (none_right s2 [] r2))) refl
 
 -- three values
 module _ (name : Text) (a b d : Text) (la : Looks a) (lb : Looks b) (ld : Looks d) where

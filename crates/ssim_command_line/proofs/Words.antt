@@ -1,12 +1,16 @@
 -- How `clap` walks over plain words, at a command with no subcommand.
-use Rattle.std.proofs.Common.{◌≡◌, ◌∙◌, ◌&&◌, ◌||◌, ℕ, Bool, cond, true, false, not, refl, sym, ap, ap₂, List, [], ◌∷◌, ◌++◌, Some, None, true≢false}
+use Rattle.std.proofs.Common.{◌≡◌, ◌∙◌, ◌&&◌, ◌||◌, ℕ, Bool, cond, true, false, not, refl, sym, ap}
+use Rattle.std.proofs.Common.{ap₂, List, [], ◌∷◌, ◌++◌, Some, None, true≢false}
 use Rattle.std.specs.Prelude.{option_and_then, ◌==◌}
 use Rattle.std.specs.Option.{option_map_or}
 use Rattle.std.specs.Str.{bytes_eq}
 use Rattle.clap.specs.Lexer.{long_of, long_of_rest, short_of, short_of_rest, strip_byte}
-use Rattle.clap.specs.Walk.{Held, Names, Rule, Step, Waiting, Walk, after_step, arg_by_index, long_or_other, plain_word, short_or_plain, subcommand_or_other, to_positional, trailing, value, walked, idle, option, positional}
+use Rattle.clap.specs.Walk.{Held, Names, Rule, Step, Waiting, Walk, after_step, arg_by_index}
+use Rattle.clap.specs.Walk.{long_or_other, plain_word, short_or_plain, subcommand_or_other}
+use Rattle.clap.specs.Walk.{to_positional, trailing, value, walked, idle, option, positional}
 use Rattle.clap.specs.Simple.{Shape}
-use Rattle.clap.specs.Takes.{bundle_passes, flag_word_passes, other_passes, step_passes, turn_passes, walk_passes}
+use Rattle.clap.specs.Takes.{bundle_passes, flag_word_passes, other_passes, step_passes, turn_passes}
+use Rattle.clap.specs.Takes.{walk_passes}
 use Rattle.ssim_command_line.specs.Line.{Text, is_plain}
 
 -- the word is no `--` and no flag

@@ -24,6 +24,10 @@ one_value = needed (codes "first") ∷ []
 abbrev pub one_value_and_texts : List Rule
 one_value_and_texts = needed (codes "first") ∷ any_texts ∷ []
 
+-- the values of a command with two values
+abbrev pub two_values : List Rule
+two_values = needed (codes "first") ∷ needed (codes "second") ∷ []
+
 -- the values of a command with three values
 abbrev pub three_values : List Rule
 three_values = needed (codes "first") ∷ needed (codes "second") ∷ needed (codes "third") ∷ []
@@ -65,6 +69,10 @@ on_messages = leaf (codes "texts") one_value_and_texts ∷ []
 abbrev pub on_dates : List Shape
 on_dates = leaf (codes "show") three_values ∷ leaf (codes "history") three_values ∷ []
 
+-- the commands that print the timetable of a desk or a data set
+abbrev pub on_timetables : List Shape
+on_timetables = leaf (codes "calendar") two_values ∷ []
+
 -- the commands that print what a desk has
 abbrev pub of_desks : List Shape
 of_desks = leaf (codes "findings") one_value ∷ leaf (codes "export") one_value ∷ []
@@ -79,5 +87,5 @@ explanations = leaf (codes "explain") one_value ∷ []
 
 -- the program with all its commands
 abbrev pub whole_program : App
-whole_program = add_all (add_all (add_all (add_all (add_all (add_all (add_all bare_program on_data_sets)
-    on_desks) on_messages) on_dates) of_desks) rehearsals) explanations
+whole_program = add_all (add_all (add_all (add_all (add_all (add_all (add_all (add_all bare_program
+    on_data_sets) on_desks) on_messages) on_dates) on_timetables) of_desks) rehearsals) explanations

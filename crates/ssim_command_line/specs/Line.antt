@@ -16,6 +16,7 @@ pub data Line : Type 0 where
   Texts : Text → List Text → Line
   Show : Text → Text → Text → Line
   History : Text → Text → Text → Line
+  Calendar : Text → Text → Line
   Findings : Text → Line
   Export : Text → Line
   Rehearse : Text → Text → Text → Line
@@ -31,6 +32,7 @@ name_of (Merge desk other out) = codes "merge"
 name_of (Texts desk flights) = codes "texts"
 name_of (Show desk flight date) = codes "show"
 name_of (History desk flight date) = codes "history"
+name_of (Calendar file flight) = codes "calendar"
 name_of (Findings desk) = codes "findings"
 name_of (Export desk) = codes "export"
 name_of (Rehearse dataset stations script) = codes "rehearse"
@@ -46,6 +48,7 @@ values_of (Merge desk other out) = desk ∷ other ∷ out ∷ []
 values_of (Texts desk flights) = desk ∷ flights
 values_of (Show desk flight date) = desk ∷ flight ∷ date ∷ []
 values_of (History desk flight date) = desk ∷ flight ∷ date ∷ []
+values_of (Calendar file flight) = file ∷ flight ∷ []
 values_of (Findings desk) = desk ∷ []
 values_of (Export desk) = desk ∷ []
 values_of (Rehearse dataset stations script) = dataset ∷ stations ∷ script ∷ []

@@ -1,9 +1,11 @@
 -- The command line that the matches of a subcommand name.
-use Rattle.std.specs.Prelude.{List, [], Option, None, map, option_and_then, option_map, unwrap_or, if◌then◌else◌, codes}
+use Rattle.std.specs.Prelude.{List, [], Option, None, map, option_and_then, option_map, unwrap_or}
+use Rattle.std.specs.Prelude.{if◌then◌else◌, codes}
 use Rattle.std.specs.Str.{bytes_eq}
 use Rattle.clap.specs.Words.{Row, all_of, first_of}
-use Rattle.ssim_command_line.specs.Line.{Line, Text, Check, Tidy, Start, Take, Merge, Texts, Show, History, Findings}
-use Rattle.ssim_command_line.specs.Line.{Export, Rehearse, Explain}
+use Rattle.ssim_command_line.specs.Line.{Line, Text, Check, Tidy, Start, Take, Merge, Texts, Show}
+use Rattle.ssim_command_line.specs.Line.{History}
+use Rattle.ssim_command_line.specs.Line.{Calendar, Findings, Export, Rehearse, Explain}
 use Rattle.ssim_command_line.specs.declared.command_line.Request.{Request}
 use Rattle.ssim_command_line.specs.declared.command_line.Request.TheVariants as request
 
@@ -17,6 +19,7 @@ line_of (request.Merge desk other out) = Merge desk.now other.now out.now
 line_of (request.Texts desk flights) = Texts desk.now (map (λ t. t.now) flights.items)
 line_of (request.Show desk flight date) = Show desk.now flight.now date.now
 line_of (request.History desk flight date) = History desk.now flight.now date.now
+line_of (request.Calendar file flight) = Calendar file.now flight.now
 line_of (request.Findings desk) = Findings desk.now
 line_of (request.Export desk) = Export desk.now
 line_of (request.Rehearse dataset stations script) = Rehearse dataset.now stations.now script.now
@@ -37,6 +40,10 @@ three_of rows =
 -- the line of a command with one value, if it is given
 abbrev pub with_one : (Text → Line) → List Row → Option Line
 with_one make rows = option_map make (first_of (codes "first") rows)
+
+-- the line of a command with two values, if both are given
+abbrev pub with_two : (Text → Text → Line) → List Row → Option Line
+with_two make rows = option_map (λ p. make p.0 p.1) (two_of rows)
 
 -- the line of a command with three values, if all are given
 abbrev pub with_three : (Text → Text → Text → Line) → List Row → Option Line
@@ -65,8 +72,9 @@ line_at name rows =
     else (if bytes_eq name (codes "texts") then with_flights rows
     else (if bytes_eq name (codes "show") then with_three Show rows
     else (if bytes_eq name (codes "history") then with_three History rows
+    else (if bytes_eq name (codes "calendar") then with_two Calendar rows
     else (if bytes_eq name (codes "findings") then with_one Findings rows
     else (if bytes_eq name (codes "export") then with_one Export rows
     else (if bytes_eq name (codes "rehearse") then with_three Rehearse rows
     else (if bytes_eq name (codes "explain") then with_one Explain rows
-    else None)))))))))))
+    else None))))))))))))

@@ -13,7 +13,7 @@ use clap::{ArgMatches, Error};
 use std::alloc::{AllocError, Global};
 
 /// A command with its values: names of files, but for the flights of `Texts`, the flight and the
-/// date of `Show` and of `History`, and the word of `Explain`.
+/// date of `Show` and of `History`, the flight of `Calendar`, and the word of `Explain`.
 #[derive(Debug, Drop)]
 pub enum Request<'a> {
     /// Print the notes on a data set and a summary.
@@ -32,6 +32,8 @@ pub enum Request<'a> {
     Show(&'a str, &'a str, &'a str),
     /// Print what the messages of a desk did with a flight on a date.
     History(&'a str, &'a str, &'a str),
+    /// Print on which dates a flight of a desk or a data set operates.
+    Calendar(&'a str, &'a str),
     /// Print what the sub-messages of a desk found.
     Findings(&'a str),
     /// Export a desk.
@@ -154,6 +156,9 @@ fn read<'a>(
     }
     if name == "history" {
         return Ok(three(inner).map(|(a, b, c)| Request::History(a, b, c)));
+    }
+    if name == "calendar" {
+        return Ok(two(inner).map(|(a, b)| Request::Calendar(a, b)));
     }
     if name == "findings" {
         return Ok(one(inner).map(Request::Findings));

@@ -3,9 +3,10 @@ ghost use Rattle.std.specs.Prelude.{◌≡◌, IfOk, codes, false};
 ghost use Rattle.clap.specs.Words.{app_of, rule_of};
 ghost use Rattle.ssim_command_line.specs.Commands.{add_all, any_texts, explanations, leaf, needed};
 ghost use Rattle.ssim_command_line.specs.Commands.{of_desks, on_data_sets, on_dates, on_desks};
-ghost use Rattle.ssim_command_line.specs.Commands.{on_messages, one_value, one_value_and_texts, rehearsals};
-ghost use Rattle.ssim_command_line.specs.Commands.{several_texts, three_values};
-ghost use Rattle.ssim_command_line.specs.Commands.{two_values_and_texts, whole_program};
+ghost use Rattle.ssim_command_line.specs.Commands.{on_messages, on_timetables, one_value};
+ghost use Rattle.ssim_command_line.specs.Commands.{one_value_and_texts, rehearsals, several_texts};
+ghost use Rattle.ssim_command_line.specs.Commands.{three_values, two_values, two_values_and_texts};
+ghost use Rattle.ssim_command_line.specs.Commands.{whole_program};
 ghost use Rattle.ssim_command_line.specs.internal.Commands.{IsLeaf};
 
 use crate::help;
@@ -61,6 +62,22 @@ fn with_one<'a>(
 {
     let command = Command::new(alloc, name).about(about).after_help(example);
     command.arg(value(alloc, "first", first))
+}
+
+/// A command with two values.
+fn with_two<'a>(
+    alloc: Global,
+    name: &'a str,
+    about: &'a str,
+    example: &'a str,
+    shown: [&'a str; 2],
+) -> Result<Command<'a>, AllocError>
+    ensures { IfOk result (IsLeaf (leaf name.entry.now two_values)) }
+{
+    let [first, second] = shown;
+    let command = Command::new(alloc, name).about(about).after_help(example);
+    let command = command.arg(value(alloc, "first", first))?;
+    command.arg(value(alloc, "second", second))
 }
 
 /// A command with three values.
@@ -146,6 +163,16 @@ fn with_dates<'a>(alloc: Global, program: Command<'a>) -> Result<Command<'a>, Al
     program.subcommand(show)?.subcommand(history)
 }
 
+/// The commands that print the timetable of a desk or a data set.
+fn with_timetables<'a>(alloc: Global, program: Command<'a>) -> Result<Command<'a>, AllocError>
+    ensures { IfOk result (λ c. app_of c ≡ add_all (app_of program.entry) on_timetables) }
+{
+    let about = help::CALENDAR;
+    let shown = ["FILE", "FLIGHT"];
+    let calendar = with_two(alloc, "calendar", about, help::CALENDAR_EXAMPLE, shown)?;
+    program.subcommand(calendar)
+}
+
 /// The commands that print what a desk has.
 fn with_prints<'a>(alloc: Global, program: Command<'a>) -> Result<Command<'a>, AllocError>
     ensures { IfOk result (λ c. app_of c ≡ add_all (app_of program.entry) of_desks) }
@@ -193,6 +220,7 @@ pub fn command<'a>(alloc: Global) -> Result<Command<'a>, AllocError>
     let program = with_desks(alloc, program)?;
     let program = with_messages(alloc, program)?;
     let program = with_dates(alloc, program)?;
+    let program = with_timetables(alloc, program)?;
     let program = with_prints(alloc, program)?;
     let program = with_rehearsal(alloc, program)?;
     with_explanations(alloc, program)

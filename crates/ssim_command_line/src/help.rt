@@ -128,6 +128,26 @@ if its line is that of one before:
 Exit status: 0; 1 if the desk file is refused, FLIGHT is no designator (6), DATE is no
 date (1), or the airline is another one (41).";
 
+pub(crate) const CALENDAR: &str = "\
+Read a desk file or a data set, and print a picture of the dates on which a flight
+operates, and of where it changes";
+
+pub(crate) const CALENDAR_EXAMPLE: &str = "\
+Example:
+  ssimdesk calendar fdh.desk Z7341
+prints the flight with its first and last date, the month and the day of each Monday, a
+column for each week and a row for each weekday:
+  Z7341 28MAR27 30OCT27
+  ...
+  6  AAAAAAAAAAAAABBBBBBBBBAAAAAAAAA
+  7 AAAAAAAAAAAAAABBBB.............
+A letter stands for the legs on the date, . for a date without the flight. Then it prints
+for each letter the number of dates and the legs:
+  A 129 01 HAM 0540 0540 +0200 PMI 0825 0825 +0200 00 J 320
+  B  13 01 HAM 0540 0540 +0200 PMI 0825 0825 +0200 00 J 32N
+Exit status: 0, also if there is no flight; 1 if the file is refused, FLIGHT is no
+designator (6), or the airline is another one (41).";
+
 pub(crate) const FINDINGS: &str = "\
 Read a desk file, and print for each sub-message that it holds on how many dates it acted,
 and why not on the others";
@@ -189,6 +209,9 @@ pub(crate) fn about_value(shown: &str) -> &'static str {
     }
     if shown == "STATIONS" {
         return "The station table: lines such as ZRH 30MAR25 25OCT25 +0200; - is standard input";
+    }
+    if shown == "FILE" {
+        return "A desk file, or a data set's file; - is standard input";
     }
     if shown == "DESK" || shown == "OTHER" {
         return "A desk file; - is standard input";

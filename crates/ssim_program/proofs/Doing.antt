@@ -3,7 +3,7 @@ use Rattle.std.proofs.Common.{◌≡◌, inl, inr, ℕ, Vec, List, [], Option, N
 use Rattle.ssim_program.specs.Again.{PrintsItself}
 use Rattle.ssim_program.specs.Effects.{Begins, Makes}
 use Rattle.ssim_program.specs.Files.{Files, Kept, with_kept}
-use Rattle.ssim_command_line.specs.Line.{Line, Check, Tidy, Start, Take, Merge, Texts, Show, History, Findings, Export, Rehearse, Explain}
+use Rattle.ssim_command_line.specs.Line.{Line, Check, Tidy, Start, Take, Merge, Texts, Show, History, Calendar, Findings, Export, Rehearse, Explain}
 use Rattle.ssim_program.specs.print.Paper.{Paper}
 use Rattle.ssim_program.specs.internal.Print.{Prints}
 use Rattle.ssim_program.specs.print.Reasons.{Refuses}
@@ -24,6 +24,7 @@ itself (Merge file other out) t u at_once = tt
 itself (Texts file flights) t u at_once = tt
 itself (Show file flight date) t u at_once = tt
 itself (History file flight date) t u at_once = tt
+itself (Calendar file flight) t u at_once = tt
 itself (Findings file) t u at_once = tt
 itself (Export file) t u at_once = absurd at_once
 itself (Rehearse dataset stations script) t u at_once = tt
@@ -38,6 +39,7 @@ begins (Merge file other out) files text kept at_once made = made
 begins (Texts file flights) files text kept at_once made = made
 begins (Show file flight date) files text kept at_once made = made
 begins (History file flight date) files text kept at_once made = made
+begins (Calendar file flight) files text kept at_once made = made
 begins (Findings file) files text kept at_once made = made
 begins (Export file) files text kept at_once made = made
 begins (Rehearse dataset stations script) files text kept at_once made = made
@@ -88,6 +90,7 @@ memory_refuses (Merge file other out) files = (refl, inl (inl (inl refl)))
 memory_refuses (Texts file flights) files = (refl, inl (inl (inl refl)))
 memory_refuses (Show file flight date) files = (refl, inl (inl (inl refl)))
 memory_refuses (History file flight date) files = (refl, inl (inl (inl refl)))
+memory_refuses (Calendar file flight) files = (refl, inl (inl (inl refl)))
 memory_refuses (Findings file) files = (refl, inl (inl (inl refl)))
 memory_refuses (Export file) files = (refl, inl (inl (inl refl)))
 memory_refuses (Rehearse dataset stations script) files = (refl, inl refl)

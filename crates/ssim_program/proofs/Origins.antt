@@ -8,7 +8,7 @@ use Rattle.ssim_held.specs.Entries.{AreRising, DeskSeen}
 use Rattle.ssim_held.specs.File.{desk_file}
 use Rattle.ssim_program.specs.Desks.{IsMergeOf, ReadsDesk, TakesTexts}
 use Rattle.ssim_program.specs.Files.{Files, Kept, file_of, with_kept}
-use Rattle.ssim_command_line.specs.Line.{Line, Text, Check, Tidy, Start, Take, Merge, Texts, Show, History, Findings, Export, Rehearse, Explain}
+use Rattle.ssim_command_line.specs.Line.{Line, Text, Check, Tidy, Start, Take, Merge, Texts, Show, History, Calendar, Findings, Export, Rehearse, Explain}
 use Rattle.ssim_program.specs.Made.{ReadsBase}
 use Rattle.ssim_program.specs.Offices.{Event, Done, Refused, Copied, Came, IsMade, Leaves, Origin, Was, Started, Took, Merged, Given, origin_of}
 
@@ -76,6 +76,7 @@ done_comes (Merge one other out) old new name (printed, kept, makes, is) =
 done_comes (Texts file flights) old new name (printed, kept, makes, is) = unchanged name kept old new makes.3 is
 done_comes (Show file flight date) old new name (printed, kept, makes, is) = unchanged name kept old new makes.3 is
 done_comes (History file flight date) old new name (printed, kept, makes, is) = unchanged name kept old new makes.3 is
+done_comes (Calendar file flight) old new name (printed, kept, makes, is) = unchanged name kept old new makes.3 is
 done_comes (Findings file) old new name (printed, kept, makes, is) = unchanged name kept old new makes.3 is
 done_comes (Export file) old new name (printed, kept, makes, is) = unchanged name kept old new makes.3 is
 done_comes (Rehearse dataset stations script) old new name (printed, kept, makes, is) = unchanged name kept old new makes.1 is

@@ -1,20 +1,26 @@
 -- Equal files are of one desk, so commands print the same of them.
-use Rattle.std.proofs.Common.{◌≡◌, ◌∙◌, ℕ, List, [], ◌∷◌, Some, refl, ap, ap₂, sym, subst, arith}
+use Rattle.std.proofs.Common.{◌≡◌, ◌∙◌, ◌<◌, ◌^◌, ℕ, List, [], ◌∷◌, Some, length, refl, ap, ap₂, sym, subst, arith}
 use Rattle.ssim_values.proofs.DesignatorLemmas.{SpellsDesignator-unique}
 use Rattle.ssim_values.specs.declared.designator.Designator.{Designator}
-use Rattle.ssim_base.specs.BaseSeen.{BaseSeen}
+use Rattle.ssim_base.specs.BaseSeen.{BaseSeen, base_with}
+use Rattle.ssim_base.specs.Reading.{SameBytesSameBase}
+use Rattle.ssim_records.specs.declared.record.Record.{Record}
 use Rattle.ssim_held.specs.Entries.{DeskSeen, Entry}
 use Rattle.ssim_held.specs.File.{IsDeskFile, NoTwoDesks}
 use Rattle.ssim_base.specs.Timetable.{itinerary}
 use Rattle.ssim_desk.specs.DateSteps.{steps_on}
 use Rattle.ssim_desk.specs.Desk.{days_of_desk, entry_lines}
 use Rattle.ssim_desk.specs.Meaning.{found_by, left_by}
-use Rattle.ssim_command_line.specs.Line.{Text, Texts, Show, History, Findings, Export}
+use Rattle.ssim_command_line.specs.Line.{Text, Texts, Show, History, Calendar, Findings, Export}
 use Rattle.ssim_program.specs.Desks.{ReadsDesk}
 use Rattle.ssim_program.specs.Files.{Files}
-use Rattle.ssim_program.specs.Made.{IsExport}
+use Rattle.ssim_program.specs.Made.{IsExport, file_limit}
 use Rattle.ssim_program.specs.Messages.{SpellEach, message_texts, messages_on}
 use Rattle.ssim_program.specs.Offices.{IsSameFile, PrintsTheSame}
+use Rattle.ssim_program.specs.Timetables.{HasTimetable, ReadsTimetable, timetable_kind}
+use Rattle.ssim_program.specs.declared.explain.file_kind.FileKind.{FileKind}
+use Rattle.ssim_program.specs.declared.explain.file_kind.FileKind.TheVariants as kind
+use Rattle.ssim_program.specs.print.Calendar.{calendar_lines}
 use Rattle.ssim_program.specs.print.Shown.{findings_lines, history_lines, shown_flight}
 use Rattle.ssim_program.proofs.Again.{one_export}
 use Rattle.ssim_program.proofs.Origins.{same_some}
@@ -75,4 +81,30 @@ module _ (no_two : NoTwoDesks) where
       let day : is.day ≡ are.day = same_some is.day are.day (sym is.named.dated ∙ are.named.dated) in
       is.printed_is
       ∙ (λ i. history_lines (designator i) (day i) (itinerary (one.0 i).records (designator i).flight (day i)) (steps_on (seen (one.0 i) (one.1 i)) (designator i).flight (day i)))
+      ∙ sym are.printed_is
+
+  -- the bytes of a file have one timetable
+  one_timetable : SameBytesSameBase → (kind : FileKind) (bytes : List ℕ) (desk other : DeskSeen) → length bytes < 2 ^ 64 → HasTimetable kind bytes desk → HasTimetable kind bytes other
+      → (desk.base ≡ other.base) × (desk.held ≡ other.held)
+  one_timetable same_base kind.Desk bytes desk other within is are = no_two bytes desk.base other.base desk.held other.held within is are
+  one_timetable same_base kind.DataSet bytes desk other within (records, notes, read, base, held) (these, noted, reads, base_too, none) =
+      let same = same_base bytes file_limit file_limit records these notes noted read reads in
+      (base ∙ ap (λ (rs : List Record). base_with rs []) same.0 ∙ sym base_too, held ∙ sym none)
+  one_timetable same_base kind.Script bytes desk other within is are = absurd is
+  one_timetable same_base kind.Message bytes desk other within is are = absurd is
+  one_timetable same_base kind.Stations bytes desk other within is are = absurd is
+
+  -- equal files have one timetable
+  same_timetable : SameBytesSameBase → (files others : Files) (name another : Text) (desk other : DeskSeen) → IsSameFile files name others another → ReadsTimetable (Some files) name desk
+      → ReadsTimetable (Some others) another other → (desk.base ≡ other.base) × (desk.held ≡ other.held)
+  same_timetable same_base files others name another desk other (bytes, here, there) (mine, has, is) (theirs, has_too, are) =
+      let same : theirs ≡ mine = same_some theirs mine (sym has_too.1 ∙ there ∙ sym here ∙ has.1) in
+      one_timetable same_base (timetable_kind mine) mine desk other (omega (arith, has.0)) is (subst (λ (bs : List ℕ). HasTimetable (timetable_kind bs) bs other) same are)
+
+  pub calendar_same : SameBytesSameBase → (flight : Text) → PrintsTheSame (λ file. Calendar file flight)
+  calendar_same same_base flight files others name another printed again kept also same (desk, read, is, _) (other, reads, are, _) =
+      let one = same_timetable same_base files others name another desk other same read reads in
+      let designator = SpellsDesignator-unique is.designator are.designator flight is.named.spelled.0 are.named.spelled.0 in
+      is.printed_is
+      ∙ (λ i. calendar_lines (designator i) (days_of_desk (seen (one.0 i) (one.1 i)) (designator i).flight))
       ∙ sym are.printed_is

@@ -11,11 +11,13 @@ use Rattle.ssim_program.specs.Desks.{IsExportOfDesk, IsMergeOf, ReadsDesk, Shows
 use Rattle.ssim_program.specs.Desks.{held_line}
 use Rattle.ssim_program.specs.Explained.{Explains}
 use Rattle.ssim_program.specs.Files.{Files, Kept}
-use Rattle.ssim_command_line.specs.Line.{Line, Check, Tidy, Start, Take, Merge, Texts, Show, History, Findings}
-use Rattle.ssim_command_line.specs.Line.{Export, Rehearse, Explain}
+use Rattle.ssim_command_line.specs.Line.{Line, Check, Tidy, Start, Take, Merge, Texts, Show, History, Calendar}
+use Rattle.ssim_command_line.specs.Line.{Findings, Export, Rehearse, Explain}
+use Rattle.ssim_program.specs.Calendars.{ShowsCalendar}
 use Rattle.ssim_program.specs.Messages.{ShowsTexts}
 use Rattle.ssim_program.specs.Made.{AreLinesOn, IsExportOf, ReadsBase, ReadsFile}
 use Rattle.ssim_program.specs.rehearse.Rehearsal.{RehearsesFiles}
+use Rattle.ssim_program.specs.Timetables.{ReadsTimetable}
 use Rattle.ssim_program.specs.print.Shown.{findings_lines}
 
 -- What each command makes of the files: the bytes that it prints, and the file that it keeps. The
@@ -46,6 +48,8 @@ Makes (Show file flight date) files printed kept =
     (desk : DeskSeen) × ReadsDesk files file desk × Shows desk flight date printed × (kept ≡ None)
 Makes (History file flight date) files printed kept =
     (desk : DeskSeen) × ReadsDesk files file desk × ShowsHistory desk flight date printed × (kept ≡ None)
+Makes (Calendar file flight) files printed kept =
+    (desk : DeskSeen) × ReadsTimetable files file desk × ShowsCalendar desk flight printed × (kept ≡ None)
 Makes (Findings file) files printed kept =
     (desk : DeskSeen) × ReadsDesk files file desk × (printed ≡ findings_lines (finding_lines desk))
     × (kept ≡ None)

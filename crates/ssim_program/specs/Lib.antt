@@ -2,6 +2,7 @@ pub mod Files
 pub mod print
 pub mod Made
 pub mod Desks
+pub mod Calendars
 pub mod Messages
 pub mod Effects
 pub mod Again
@@ -10,5 +11,6 @@ pub mod Offices
 pub mod Help
 pub mod rehearse
 pub mod Explained
+pub mod Timetables
 pub mod examples
 pub mod internal

@@ -3,5 +3,6 @@ pub mod Names
 pub mod Refusal
 pub mod Printed
 pub mod Shown
+pub mod Calendar
 pub mod Paper
 pub mod Reasons

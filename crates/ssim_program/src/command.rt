@@ -1,6 +1,7 @@
 //! The commands, each in a module of its own: what it prints, and the file that it keeps. `explain`
 //! and `rehearse` have their own folders.
 
+pub(crate) mod calendar;
 pub(crate) mod check;
 pub(crate) mod export;
 pub(crate) mod findings;

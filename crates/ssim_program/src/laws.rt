@@ -1,7 +1,7 @@
 //! What holds of the bytes that the commands write, and of desk files after any commands.
 
 ghost use Rattle.std.specs.Prelude.{List};
-ghost use Rattle.ssim_command_line.specs.Line.{Export, Findings, History, Show, Text, Texts};
+ghost use Rattle.ssim_command_line.specs.Line.{Calendar, Export, Findings, History, Show, Text, Texts};
 ghost use Rattle.ssim_program.specs.Again.{TidiesOnce};
 ghost use Rattle.ssim_program.specs.Offices.{HoldsWhatWasBrought, OfficesAgree, PrintsTheSame};
 ghost use Rattle.ssim_program.specs.rehearse.Verdict.{EndsWithSame};
@@ -36,17 +36,20 @@ pub fn offices_agree()
     same_bytes_same_rows();
 }
 
-/// Of two equal desk files `texts`, `show`, `history`, `findings` and `export` print the same: the
-/// messages, each flight on each date, which message did what to it, what each sub-message found, and
-/// the chapter 7 data set, byte for byte.
+/// Of two equal desk files `texts`, `show`, `history`, `calendar`, `findings` and `export` print the
+/// same: the messages, each flight on each date, which message did what to it, its calendar, what each
+/// sub-message found, and the chapter 7 data set, byte for byte. So does `calendar` of two equal data
+/// sets.
 pub fn equal_files_print_the_same()
     ensures texts { (flights : List Text) → PrintsTheSame (λ file. Texts file flights) }
     ensures show { (flight date : Text) → PrintsTheSame (λ file. Show file flight date) }
     ensures history { (flight date : Text) → PrintsTheSame (λ file. History file flight date) }
+    ensures calendar { (flight : Text) → PrintsTheSame (λ file. Calendar file flight) }
     ensures findings { PrintsTheSame Findings }
     ensures export { PrintsTheSame Export }
 {
     no_two_desks_have_one_file();
+    same_bytes_same_base();
 }
 
 /// A script runs texts and merges on several desks. If the same messages reached all of them, by

@@ -29,6 +29,7 @@ mod program;
 mod refusal;
 mod rehearse;
 mod store;
+mod timetable_file;
 mod word;
 
 pub use content::Content;

@@ -14,6 +14,7 @@ ghost use Rattle.ssim_program.specs.World.{EndsWithLine, IsDone, World, paper, w
 ghost use Rattle.ssim_program.specs.declared.refusal.Refusal.TheVariants as refused;
 ghost use Rattle.clap.specs.Words.{kind_of};
 
+use crate::command::calendar::calendar;
 use crate::command::check::check;
 use crate::command::export::export;
 use crate::command::findings::findings;
@@ -224,6 +225,7 @@ fn act<S: Store, O: Write>(
         Request::History(desk, flight, date) => {
             print(history(alloc, desk, flight, date, store), out)
         }
+        Request::Calendar(file, flight) => print(calendar(alloc, file, flight, store), out),
         Request::Findings(desk) => print(findings(alloc, desk, store), out),
         Request::Rehearse(dataset, stations, script) => {
             print(rehearse(alloc, dataset, stations, script, store), out)

@@ -1,5 +1,5 @@
 -- Why a command is refused, and how its refusal is printed.
-use Rattle.std.specs.Prelude.{◌≡◌, ◌⊎◌, ℕ, List, [], ⊤, Option, Ok, Err}
+use Rattle.std.specs.Prelude.{◌≡◌, ◌⊎◌, ℕ, List, [], ◌∷◌, ⊤, Option, Ok, Err}
 use Rattle.ssim_records.specs.declared.record.Record.{Record}
 use Rattle.ssim_base.specs.Base.{airline_of}
 use Rattle.ssim_base.specs.Export as refusal
@@ -14,10 +14,11 @@ use Rattle.ssim_held.specs.Entries.{DeskSeen}
 use Rattle.ssim_desk.specs.Desk.{days_of_desk}
 use Rattle.ssim_program.specs.Desks.{ReadsDesk, RefusesDeskFile, RefusesFlight, RefusesMerge, RefusesTexts}
 use Rattle.ssim_program.specs.Files.{Files}
-use Rattle.ssim_command_line.specs.Line.{Line, Text, Check, Tidy, Start, Take, Merge, Texts, Show, History, Findings}
-use Rattle.ssim_command_line.specs.Line.{Export, Rehearse, Explain}
+use Rattle.ssim_command_line.specs.Line.{Line, Text, Check, Tidy, Start, Take, Merge, Texts, Show, History, Calendar}
+use Rattle.ssim_command_line.specs.Line.{Findings, Export, Rehearse, Explain}
 use Rattle.ssim_program.specs.Messages.{RefusesFlights}
 use Rattle.ssim_program.specs.Made.{ReadsFile, RefusesBase, RefusesFile, RefusesLoad}
+use Rattle.ssim_program.specs.Timetables.{ReadsTimetable, RefusesTimetable}
 use Rattle.ssim_program.specs.print.Paper.{Paper, PrintsOrFails}
 use Rattle.ssim_program.specs.print.Refusal.{refusal_of_export, refusal_text}
 use Rattle.ssim_program.specs.rehearse.Rehearsal.{RefusesLines}
@@ -77,6 +78,10 @@ Refuses (Show file flight date) files printed refusal =
 Refuses (History file flight date) files printed refusal =
     (printed ≡ []) × (RefusesDeskFile files file refusal
     ⊎ ((desk : DeskSeen) × ReadsDesk files file desk × RefusesFlight desk flight date refusal))
+Refuses (Calendar file flight) files printed refusal =
+    (printed ≡ []) × (RefusesTimetable files file refusal
+    ⊎ ((desk : DeskSeen) × ReadsTimetable files file desk
+    × RefusesFlights (airline_of desk.base.records) (flight ∷ []) refusal))
 Refuses (Findings file) files printed refusal =
     (printed ≡ []) × (RefusesDeskFile files file refusal ⊎ (refusal ≡ refused.Memory))
 Refuses (Export file) files printed refusal =

@@ -1,6 +1,6 @@
 //! The flights that words of the command line name.
 
-ghost use Rattle.std.specs.Prelude.{◌≡◌, ◌⊎◌, All, IfErr, IfOk, false, map, true};
+ghost use Rattle.std.specs.Prelude.{◌≡◌, ◌⊎◌, [], ◌∷◌, All, IfErr, IfOk, false, map, true};
 ghost use Rattle.ssim_values.specs.declared.fault.Fault.TheVariants as value_fault;
 ghost use Rattle.ssim_program.specs.Messages.{HasNoFlight, HasOther, IsOf, NameFlights};
 ghost use Rattle.ssim_program.specs.Messages.{RefusesFlights, SpellEach};
@@ -11,6 +11,22 @@ use ssim_base::ResolveFault;
 use ssim_desk::DeskFault;
 use ssim_values::{Airline, Designator};
 use std::alloc::Global;
+
+/// The flight of the airline that the word names.
+pub(crate) fn named_flight(
+    alloc: Global,
+    airline: Airline,
+    word: &str,
+) -> Result<Designator, Refusal>
+    ensures ok { IfOk result (λ flight. NameFlights airline (word.now ∷ []) (flight ∷ [])) }
+    ensures err { IfErr result (RefusesFlights airline (word.now ∷ [])) }
+{
+    let flights = named_flights(alloc, airline, &[word])?;
+    let Some(flight) = flights.first() else {
+        unreachable!();
+    };
+    Ok(*flight)
+}
 
 /// The flights of the airline that the words name, in their order.
 pub(crate) fn named_flights(

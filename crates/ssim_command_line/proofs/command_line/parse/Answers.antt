@@ -4,7 +4,8 @@ use denote.Enum.Bare.{sameb}
 use Rattle.clap.specs.contracts.error.kind.ErrorKind.{the_type}
 use Rattle.clap.specs.declared.error.kind.ErrorKind.{ErrorKind}
 use Rattle.clap.specs.declared.error.kind.ErrorKind.TheVariants as kind
-use Rattle.ssim_command_line.proofs.Lines.{fault_shown, kind_read, line_read, names_none, names_read, names_unentered, none_read, request_read}
+use Rattle.ssim_command_line.proofs.Lines.{fault_shown, kind_read, line_read, names_none, names_read}
+use Rattle.ssim_command_line.proofs.Lines.{names_unentered, none_read, request_read}
 use Rattle.ssim_command_line.proofs.command_line.parse.Goals as goal
 
 pub returns-in-Err-clause-spelled : goal.returns-in-Err-clause-spelled

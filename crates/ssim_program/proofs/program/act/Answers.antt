@@ -1,6 +1,6 @@
 -- The request is the command's.
 use Rattle.std.proofs.Common.{Bor, List, ℕ, map, sym, subst}
-use Rattle.ssim_command_line.specs.Line.{Check, Start, Merge, Texts, Show, History, Findings, Rehearse, Explain}
+use Rattle.ssim_command_line.specs.Line.{Check, Start, Merge, Texts, Show, History, Calendar, Findings, Rehearse, Explain}
 use Rattle.ssim_command_line.specs.Request.{line_of}
 use Rattle.ssim_program.specs.World.{world}
 use Rattle.ssim_program.specs.internal.Program.{Does, Prepares, stored}
@@ -50,6 +50,13 @@ returns-in-History g c =
     (sym c.in-History.is) (c.print-in-History.ensures (History c.in-History.desk.now c.in-History.flight.now c.in-History.date.now)
     (stored (g.S.Store.files c.args.store.now) (g.S.Store.failures c.args.store.now))
     (stored (g.S.Store.files c.history.new.store) (g.S.Store.failures c.history.new.store)) tt c.history.ensures)
+
+pub returns-in-Calendar : goal.returns-in-Calendar
+returns-in-Calendar g c =
+    subst (λ (r : Request). Does (line_of r) (world (g.S.Store.files c.args.store.now) (g.S.Store.failures c.args.store.now) c.args.out.now) (world (g.S.Store.files c.calendar.new.store) (g.S.Store.failures c.calendar.new.store) c.print-in-Calendar.new.out) c.print-in-Calendar.result)
+    (sym c.in-Calendar.is) (c.print-in-Calendar.ensures (Calendar c.in-Calendar.file.now c.in-Calendar.flight.now)
+    (stored (g.S.Store.files c.args.store.now) (g.S.Store.failures c.args.store.now))
+    (stored (g.S.Store.files c.calendar.new.store) (g.S.Store.failures c.calendar.new.store)) tt c.calendar.ensures)
 
 pub returns-in-Findings : goal.returns-in-Findings
 returns-in-Findings g c =
