@@ -2,9 +2,9 @@
 """Types every command line of docs/TUTORIAL.md and compares what is printed: tutorial.py PROGRAM [PAGE..]
 
 In the code blocks of a PAGE (docs/TUTORIAL.md if none is named), a line after `$` is typed and the lines up to the next
-one are what it has to print, on standard output and standard error together; empty lines between two of them, too. The lines of a page run one after another
-in a new copy of samples/, where `ssimdesk` is PROGRAM; `$?` is the exit status of the line before. The last line is
-'N passed, M failed'.
+one are what it has to print, on standard output and standard error together, with the empty lines between two of them. The
+lines of a page run one after another in a new copy of samples/, where `ssimdesk` is PROGRAM; `$?` is the exit status of the
+line before. The last line is 'N passed, M failed'.
 """
 import os
 import shutil
