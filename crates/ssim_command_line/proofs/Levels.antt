@@ -263,126 +263,127 @@ module _ (name : Text) where
           let r = any_ends t u rest e in
           (ap (λ (w : Walk). first_of (codes "first") (finished cf w.held)) r.2, ap any_values r.2 ∙ r.3)
 
--- two values and texts
-abbrev pub st : Shape
-st = ready (leaf (codes "take") two_values_and_texts)
+-- two values and one text or more
+module _ (name : Text) where
+  abbrev pub st : Shape
+  st = ready (leaf name two_values_and_texts)
 
-abbrev pub ct : List Rule
-ct = st.rules
+  abbrev pub ct : List Rule
+  ct = st.rules
 
-module _ (a b : Text) where
-  abbrev pub t1 : Walk
-  t1 = to_positional ct (arg_by_index ct 1) a (at nothing_held idle 1) nothing_held
+  module _ (a b : Text) where
+    abbrev pub t1 : Walk
+    t1 = to_positional ct (arg_by_index ct 1) a (at nothing_held idle 1) nothing_held
 
-  abbrev pub t2 : Walk
-  t2 = to_positional ct (arg_by_index ct 2) b (at t1.held idle 2) t1.held
+    abbrev pub t2 : Walk
+    t2 = to_positional ct (arg_by_index ct 2) b (at t1.held idle 2) t1.held
 
-  -- after the first text
-  abbrev pub t3 : Text → Walk
-  t3 t = to_positional ct (arg_by_index ct 3) t (at t2.held idle 3) t2.held
+    -- after the first text
+    abbrev pub t3 : Text → Walk
+    t3 t = to_positional ct (arg_by_index ct 3) t (at t2.held idle 3) t2.held
 
-  abbrev texts_row : List Text → Row
-  texts_row seen = record {
-    id = codes "texts";
-    values = seen;
-    count = None;
-    source = Some CommandLine;
-    reading = reading_by (with_index 3 (filled several_texts));
-  }
+    abbrev texts_row : List Text → Row
+    texts_row seen = record {
+      id = codes "texts";
+      values = seen;
+      count = None;
+      source = Some CommandLine;
+      reading = reading_by (with_index 3 (filled several_texts));
+    }
 
-  -- after more: those before the last are used, and the last is pending
-  abbrev pub state : List Text → Text → Walk
-  state seen t = at (record {
-    rows = (settled ct t2.held).rows ++ texts_row seen ∷ [];
-    pending = Some (codes "texts", t ∷ []);
-    skip = 0;
-  }) positional 3
+    -- after more: those before the last are used, and the last is pending
+    abbrev pub state : List Text → Text → Walk
+    state seen t = at (record {
+      rows = (settled ct t2.held).rows ++ texts_row seen ∷ [];
+      pending = Some (codes "texts", t ∷ []);
+      skip = 0;
+    }) positional 3
 
-  module _ (la : Looks a) (lb : Looks b) where
-    pub first_is : walked ct [] (at nothing_held idle 1) a ≡ t1
-    first_is = walked_plain ct nothing_held idle 1 a la refl
+    module _ (la : Looks a) (lb : Looks b) where
+      pub first_is : walked ct [] (at nothing_held idle 1) a ≡ t1
+      first_is = walked_plain ct nothing_held idle 1 a la refl
 
-    pub second_is : walked ct [] t1 b ≡ t2
-    second_is = walked_plain ct t1.held idle 2 b lb refl
+      pub second_is : walked ct [] t1 b ≡ t2
+      second_is = walked_plain ct t1.held idle 2 b lb refl
 
-    pub third_is : (t : Text) → Looks t → walked ct [] t2 t ≡ t3 t
-    third_is t l = walked_plain ct t2.held idle 3 t l refl
+      pub third_is : (t : Text) → Looks t → walked ct [] t2 t ≡ t3 t
+      third_is t l = walked_plain ct t2.held idle 3 t l refl
 
-    pub second_text : (t u : Text) → Looks u → walked ct [] (t3 t) u ≡ state (t ∷ []) u
-    second_text t u l = walked_plain ct (t3 t).held positional 3 u l refl
+      pub second_text : (t u : Text) → Looks u → walked ct [] (t3 t) u ≡ state (t ∷ []) u
+      second_text t u l = walked_plain ct (t3 t).held positional 3 u l refl
 
-    pub later_text : (seen : List Text) (t u : Text) → Looks u → walked ct [] (state seen t) u ≡ state (seen ++ t ∷ []) u
-    later_text seen t u l = walked_plain ct (state seen t).held positional 3 u l refl
+      pub later_text : (seen : List Text) (t u : Text) → Looks u → walked ct [] (state seen t) u ≡ state (seen ++ t ∷ []) u
+      later_text seen t u l = walked_plain ct (state seen t).held positional 3 u l refl
 
-    -- all the texts come, in order
-    pub ends_at : (seen : List Text) (t : Text) (rest : List Text) → list_all is_plain rest ≡ true
-        → (vs : List Text) × (v : Text) × (fold (walked ct []) (state seen t) rest ≡ state vs v) × (vs ++ v ∷ [] ≡ seen ++ t ∷ rest)
-    ends_at seen t [] e = (seen, t, refl, refl)
-    ends_at seen t (u ∷ rest) e =
-        let p = both _ _ e in
-        let r = ends_at (seen ++ t ∷ []) u rest p.1 in
-        (r.0, r.1, ap (λ (w : Walk). fold (walked ct []) w rest) (later_text seen t u (looks u p.0)) ∙ r.2, r.3 ∙ append_assoc seen (t ∷ []) (u ∷ rest))
+      -- all the texts come, in order
+      pub ends_at : (seen : List Text) (t : Text) (rest : List Text) → list_all is_plain rest ≡ true
+          → (vs : List Text) × (v : Text) × (fold (walked ct []) (state seen t) rest ≡ state vs v) × (vs ++ v ∷ [] ≡ seen ++ t ∷ rest)
+      ends_at seen t [] e = (seen, t, refl, refl)
+      ends_at seen t (u ∷ rest) e =
+          let p = both _ _ e in
+          let r = ends_at (seen ++ t ∷ []) u rest p.1 in
+          (r.0, r.1, ap (λ (w : Walk). fold (walked ct []) w rest) (later_text seen t u (looks u p.0)) ∙ r.2, r.3 ∙ append_assoc seen (t ∷ []) (u ∷ rest))
 
-    later_pass : (seen : List Text) (t : Text) (rest : List Text) → list_all is_plain rest ≡ true → walk_passes st [] (state seen t) rest ≡ true
-    later_pass seen t [] e = none_passes st [] (state seen t)
-    later_pass seen t (u ∷ rest) e =
-        let p = both _ _ e in
-        let l = looks u p.0 in
-        next_passes st [] (state seen t) (state (seen ++ t ∷ []) u) u rest (turn_plain st (state seen t).held positional 3 u l refl refl) (later_text seen t u l)
-        (later_pass (seen ++ t ∷ []) u rest p.1)
+      later_pass : (seen : List Text) (t : Text) (rest : List Text) → list_all is_plain rest ≡ true → walk_passes st [] (state seen t) rest ≡ true
+      later_pass seen t [] e = none_passes st [] (state seen t)
+      later_pass seen t (u ∷ rest) e =
+          let p = both _ _ e in
+          let l = looks u p.0 in
+          next_passes st [] (state seen t) (state (seen ++ t ∷ []) u) u rest (turn_plain st (state seen t).held positional 3 u l refl refl) (later_text seen t u l)
+          (later_pass (seen ++ t ∷ []) u rest p.1)
 
-    from_third : (t : Text) (rest : List Text) → Looks t → list_all is_plain rest ≡ true → walk_passes st [] (t3 t) rest ≡ true
-    from_third t [] l e = none_passes st [] (t3 t)
-    from_third t (u ∷ rest) l e =
-        let p = both _ _ e in
-        let k = looks u p.0 in
-        next_passes st [] (t3 t) (state (t ∷ []) u) u rest (turn_plain st (t3 t).held positional 3 u k refl refl) (second_text t u k) (later_pass (t ∷ []) u rest p.1)
+      from_third : (t : Text) (rest : List Text) → Looks t → list_all is_plain rest ≡ true → walk_passes st [] (t3 t) rest ≡ true
+      from_third t [] l e = none_passes st [] (t3 t)
+      from_third t (u ∷ rest) l e =
+          let p = both _ _ e in
+          let k = looks u p.0 in
+          next_passes st [] (t3 t) (state (t ∷ []) u) u rest (turn_plain st (t3 t).held positional 3 u k refl refl) (second_text t u k) (later_pass (t ∷ []) u rest p.1)
 
-    take_passes : (t : Text) (rest : List Text) → Looks t → list_all is_plain rest ≡ true
-        → walk_passes st [] (at nothing_held idle 1) (a ∷ b ∷ t ∷ rest) ≡ true
-    take_passes t rest l e =
-        next_passes st [] (at nothing_held idle 1) t1 a (b ∷ t ∷ rest) (turn_plain st nothing_held idle 1 a la refl refl) first_is
-        (next_passes st [] t1 t2 b (t ∷ rest) (turn_plain st t1.held idle 2 b lb refl refl) second_is
-        (next_passes st [] t2 (t3 t) t rest (turn_plain st t2.held idle 3 t l refl refl) (third_is t l) (from_third t rest l e)))
+      several_pass : (t : Text) (rest : List Text) → Looks t → list_all is_plain rest ≡ true
+          → walk_passes st [] (at nothing_held idle 1) (a ∷ b ∷ t ∷ rest) ≡ true
+      several_pass t rest l e =
+          next_passes st [] (at nothing_held idle 1) t1 a (b ∷ t ∷ rest) (turn_plain st nothing_held idle 1 a la refl refl) first_is
+          (next_passes st [] t1 t2 b (t ∷ rest) (turn_plain st t1.held idle 2 b lb refl refl) second_is
+          (next_passes st [] t2 (t3 t) t rest (turn_plain st t2.held idle 3 t l refl refl) (third_is t l) (from_third t rest l e)))
 
-    pub take_starts : (t : Text) (rest : List Text) → Looks t → walk ct [] nothing_held (a ∷ b ∷ t ∷ rest) ≡ fold (walked ct []) (t3 t) rest
-    take_starts t rest l = ap (λ (w : Walk). fold (walked ct []) w (b ∷ t ∷ rest)) first_is
-        ∙ (ap (λ (w : Walk). fold (walked ct []) w (t ∷ rest)) second_is ∙ ap (λ (w : Walk). fold (walked ct []) w rest) (third_is t l))
+      pub several_start : (t : Text) (rest : List Text) → Looks t → walk ct [] nothing_held (a ∷ b ∷ t ∷ rest) ≡ fold (walked ct []) (t3 t) rest
+      several_start t rest l = ap (λ (w : Walk). fold (walked ct []) w (b ∷ t ∷ rest)) first_is
+          ∙ (ap (λ (w : Walk). fold (walked ct []) w (t ∷ rest)) second_is ∙ ap (λ (w : Walk). fold (walked ct []) w rest) (third_is t l))
 
-    abbrev done : Walk → Bool
-    done w = settle_passes st.rules st.args_override_self w.held
-        && (list_all default_passes st.rules && is_valid st (finished st.rules w.held) false)
+      abbrev done : Walk → Bool
+      done w = settle_passes st.rules st.args_override_self w.held
+          && (list_all default_passes st.rules && is_valid st (finished st.rules w.held) false)
 
-    end_passes : (t : Text) (rest : List Text) → list_all is_plain rest ≡ true → done (fold (walked ct []) (t3 t) rest) ≡ true
-    end_passes t [] e = refl
-    end_passes t (u ∷ rest) e =
-        let p = both _ _ e in
-        let r = ends_at (t ∷ []) u rest p.1 in
-        ap done (ap (λ (w : Walk). fold (walked ct []) w rest) (second_text t u (looks u p.0)) ∙ r.2)
+      end_passes : (t : Text) (rest : List Text) → list_all is_plain rest ≡ true → done (fold (walked ct []) (t3 t) rest) ≡ true
+      end_passes t [] e = refl
+      end_passes t (u ∷ rest) e =
+          let p = both _ _ e in
+          let r = ends_at (t ∷ []) u rest p.1 in
+          ap done (ap (λ (w : Walk). fold (walked ct []) w rest) (second_text t u (looks u p.0)) ∙ r.2)
 
-    pub take_level : (t : Text) (rest : List Text) → Looks t → list_all is_plain rest ≡ true → level_passes st [] nothing_held (a ∷ b ∷ t ∷ rest) false ≡ true
-    take_level t rest l e =
-        ap₂ (λ (x : Bool) (w : Walk). x && done w) (take_passes t rest l e) (take_starts t rest l) ∙ end_passes t rest e
+      pub several_level : (t : Text) (rest : List Text) → Looks t → list_all is_plain rest ≡ true → level_passes st [] nothing_held (a ∷ b ∷ t ∷ rest) false ≡ true
+      several_level t rest l e =
+          ap₂ (λ (x : Bool) (w : Walk). x && done w) (several_pass t rest l e) (several_start t rest l) ∙ end_passes t rest e
 
-    -- the rows at the end have both values and all the texts
-    pub take_rows : (t : Text) (rest : List Text) → Looks t → list_all is_plain rest ≡ true
-        → (first_of (codes "first") (rows_after ct [] (a ∷ b ∷ t ∷ rest)) ≡ Some a)
-        × (first_of (codes "second") (rows_after ct [] (a ∷ b ∷ t ∷ rest)) ≡ Some b)
-        × (all_of (codes "texts") (rows_after ct [] (a ∷ b ∷ t ∷ rest)) ≡ Some (t ∷ rest))
-    take_rows t [] l e =
-        let q = take_starts t [] l in (
-          ap (λ (w : Walk). first_of (codes "first") (finished ct w.held)) q,
-          ap (λ (w : Walk). first_of (codes "second") (finished ct w.held)) q,
-          ap (λ (w : Walk). all_of (codes "texts") (finished ct w.held)) q,
-        )
-    take_rows t (u ∷ rest) l e =
-        let p = both _ _ e in
-        let r = ends_at (t ∷ []) u rest p.1 in
-        let q = take_starts t (u ∷ rest) l ∙ (ap (λ (w : Walk). fold (walked ct []) w rest) (second_text t u (looks u p.0)) ∙ r.2) in (
-          ap (λ (w : Walk). first_of (codes "first") (finished ct w.held)) q,
-          ap (λ (w : Walk). first_of (codes "second") (finished ct w.held)) q,
-          ap (λ (w : Walk). all_of (codes "texts") (finished ct w.held)) q ∙ ap Some r.3,
-        )
+      -- the rows at the end have both values and all the texts
+      pub several_rows : (t : Text) (rest : List Text) → Looks t → list_all is_plain rest ≡ true
+          → (first_of (codes "first") (rows_after ct [] (a ∷ b ∷ t ∷ rest)) ≡ Some a)
+          × (first_of (codes "second") (rows_after ct [] (a ∷ b ∷ t ∷ rest)) ≡ Some b)
+          × (all_of (codes "texts") (rows_after ct [] (a ∷ b ∷ t ∷ rest)) ≡ Some (t ∷ rest))
+      several_rows t [] l e =
+          let q = several_start t [] l in (
+            ap (λ (w : Walk). first_of (codes "first") (finished ct w.held)) q,
+            ap (λ (w : Walk). first_of (codes "second") (finished ct w.held)) q,
+            ap (λ (w : Walk). all_of (codes "texts") (finished ct w.held)) q,
+          )
+      several_rows t (u ∷ rest) l e =
+          let p = both _ _ e in
+          let r = ends_at (t ∷ []) u rest p.1 in
+          let q = several_start t (u ∷ rest) l ∙ (ap (λ (w : Walk). fold (walked ct []) w rest) (second_text t u (looks u p.0)) ∙ r.2) in (
+            ap (λ (w : Walk). first_of (codes "first") (finished ct w.held)) q,
+            ap (λ (w : Walk). first_of (codes "second") (finished ct w.held)) q,
+            ap (λ (w : Walk). all_of (codes "texts") (finished ct w.held)) q ∙ ap Some r.3,
+          )
 
 -- ---- the command line as a whole
 

@@ -23,18 +23,19 @@ use Rattle.std.specs.Box.{box_value}
 use Rattle.clap.proofs.OnLiterals.{clap_on_literals}
 use Rattle.clap.proofs.WalkLemmas.{both}
 use Rattle.ssim_command_line.specs.Line.{Line, Spells, Text, is_plain, is_whole, name_of, values_of}
-use Rattle.ssim_command_line.specs.Line.{Check, Tidy, Start, Take, Merge, Texts, Show, History}
+use Rattle.ssim_command_line.specs.Line.{Check, Tidy, Start, Take, Merge, Texts, Withdraw, Show}
+use Rattle.ssim_command_line.specs.Line.{History}
 use Rattle.ssim_command_line.specs.Line.{Calendar, Findings, Export, Rehearse, Explain}
 use Rattle.ssim_command_line.specs.Commands.{whole_program, leaf, one_value, one_value_and_texts}
 use Rattle.ssim_command_line.specs.Commands.{three_values, two_values, two_values_and_texts}
-use Rattle.ssim_command_line.specs.Request.{line_at, with_one, with_three, with_two}
+use Rattle.ssim_command_line.specs.Request.{line_at, with_one, with_texts, with_three, with_two}
 use Rattle.ssim_command_line.specs.Usage.{IsNoCommand, Names}
 use Rattle.ssim_command_line.proofs.Words.{Looks, looks}
 use Rattle.ssim_command_line.proofs.Levels.{any_level, any_rows, enters, one_level, one_rows, ready}
-use Rattle.ssim_command_line.proofs.Levels.{sf, simple, st, take_level, take_rows, takes_words}
+use Rattle.ssim_command_line.proofs.Levels.{several_level, several_rows, sf, simple, st, takes_words}
 use Rattle.ssim_command_line.proofs.Levels.{three_level, three_rows, top_rules, two_level, two_rows}
 use Rattle.ssim_command_line.proofs.Levels.{whole}
-use Rattle.ssim_command_line.proofs.Right.{any_right, one_right, take_right, three_right, two_right}
+use Rattle.ssim_command_line.proofs.Right.{any_right, one_right, several_right, three_right, two_right}
 use Rattle.ssim_command_line.proofs.Right.{words_right}
 
 -- the words are taken without a fault, and name the row
@@ -71,6 +72,10 @@ take_is = record { met = refl; fits = refl; right = refl; found = refl }
 merge_is : IsNamed (codes "merge") (ready (leaf (codes "merge") three_values))
 unfolding clap_on_literals
 merge_is = record { met = refl; fits = refl; right = refl; found = refl }
+
+withdraw_is : IsNamed (codes "withdraw") (ready (leaf (codes "withdraw") two_values_and_texts))
+unfolding clap_on_literals
+withdraw_is = record { met = refl; fits = refl; right = refl; found = refl }
 
 texts_is : IsNamed (codes "texts") (ready (leaf (codes "texts") one_value_and_texts))
 unfolding clap_on_literals
@@ -154,23 +159,41 @@ three_answers line name a b d make is named n la lb ld reads program =
     }
 
 -- two values and one text or more
-take_answers : (a b t : Text) (rest : List Text) → Looks a → Looks b → Looks t → list_all is_plain rest ≡ true → (program : Text)
-    → Answers (program ∷ codes "take" ∷ a ∷ b ∷ t ∷ rest) (Take a b (t ∷ rest))
-take_answers a b t rest la lb lt plain program =
-    let name = codes "take" in
+several_answers : (line : Line) (name a b t : Text) (rest : List Text)
+    (make : Text → Text → List Text → Line) → line ≡ make a b (t ∷ rest) → name_of line ≡ name
+    → IsNamed name (st name) → Looks a → Looks b → Looks t → list_all is_plain rest ≡ true
+    → ((rows : List Row) → line_at name rows ≡ with_texts make rows) → (program : Text)
+    → Answers (program ∷ name ∷ a ∷ b ∷ t ∷ rest) line
+several_answers line name a b t rest make is named n la lb lt plain reads program =
+    let s = st name in
     let values = a ∷ b ∷ t ∷ rest in
-    let rows = rows_after st.rules [] values in
-    let has = take_rows a b la lb t rest lt plain in
+    let rows = rows_after s.rules [] values in
+    let has = several_rows name a b la lb t rest lt plain in
+    let entered = enters name values s n.met n.fits n.found program in
+    let level = several_level name a b la lb t rest lt plain in
+    let faultless = several_right name a b la lb t rest lt plain in
+    let first = first_of (codes "first") rows in
+    let second = first_of (codes "second") rows in
+    let texts = all_of (codes "texts") rows in
+    let read : with_texts make rows ≡ Some (make a b (t ∷ rest)) =
+    made_of first second texts has.0 has.1 has.2 in
     record {
-      taken = takes_words name values st take_is.met take_is.fits take_is.found program (take_level a b la lb t rest lt plain);
-      right = words_right name values st take_is.met take_is.right take_is.fits take_is.found program (take_right a b la lb t rest lt plain);
+      taken = takes_words name values s n.met n.fits n.found program level;
+      right = words_right name values s n.met n.right n.fits n.found program faultless;
       rows = rows;
-      named = enters name values st take_is.met take_is.fits take_is.found program;
-      made = made_of (first_of (codes "first") rows) (first_of (codes "second") rows) (all_of (codes "texts") rows) has.0 has.1 has.2;
+      named = entered ∙ ap (λ (x : Text). Some (x, rows)) (sym named);
+      made = ap (λ (x : Text). line_at x rows) named ∙ (reads rows ∙ (read ∙ ap Some (sym is)));
     }
   where
+    two_in : Option Text → Option Text → Option (Text × Text)
+    two_in f g = option_and_then (λ (x : Text). option_map (λ (y : Text). (x, y)) g) f
+
+    line_in : Option (Text × Text) → Option (List Text) → Option Line
+    line_in o h = option_map (λ (p : Text × Text × List Text). make p.0 p.1 p.2)
+        (option_and_then (λ (p : Text × Text). option_map (λ (ts : List Text). (p.0, p.1, ts)) h) o)
+
     made_of : (f g : Option Text) (h : Option (List Text)) → f ≡ Some a → g ≡ Some b → h ≡ Some (t ∷ rest)
-        → option_and_then (λ (p : Text × Text). option_map (Take p.0 p.1) h) (option_and_then (λ (x : Text). option_map (λ y. (x, y)) g) f) ≡ Some (Take a b (t ∷ rest))
+        → line_in (two_in f g) h ≡ Some (make a b (t ∷ rest))
     made_of f g h ef eg eh = rw (ef, eg, eh) refl
 
 -- one value and any number of flights
@@ -228,7 +251,15 @@ from_line program (Rehearse a b d) w e =
 from_line program (Take a b []) w e = absurd (true≢false (sym w))
 from_line program (Take a b (t ∷ rest)) w e =
     let p = both _ _ e in let q = both _ _ p.1 in let r = both _ _ q.1 in
-    take_answers a b t rest (looks a p.0) (looks b q.0) (looks t r.0) r.1 program
+    let la = looks a p.0 in let lb = looks b q.0 in let lt = looks t r.0 in
+    several_answers (Take a b (t ∷ rest)) (codes "take") a b t rest Take refl refl take_is la lb lt r.1
+    (λ rows. refl) program
+from_line program (Withdraw a b []) w e = absurd (true≢false (sym w))
+from_line program (Withdraw a b (t ∷ rest)) w e =
+    let p = both _ _ e in let q = both _ _ p.1 in let r = both _ _ q.1 in
+    let la = looks a p.0 in let lb = looks b q.0 in let lt = looks t r.0 in
+    several_answers (Withdraw a b (t ∷ rest)) (codes "withdraw") a b t rest Withdraw refl refl withdraw_is
+    la lb lt r.1 (λ rows. refl) program
 
 pub line_answers : (words : List Text) (line : Line) → Spells words line → Answers words line
 line_answers words line s = subst (λ (ws : List Text). Answers ws line) (sym s.words_are) (from_line s.program line s.whole s.plain)

@@ -21,7 +21,8 @@ use Rattle.ssim_command_line.proofs.Levels.{any_ends, any_ends_at_one, any_first
 use Rattle.ssim_command_line.proofs.Levels.{any_second, any_state, any_third, cf, ct, ends2, ends3}
 use Rattle.ssim_command_line.proofs.Levels.{ends_at, entered_is, f1, f2, first_is, later_text, p1, p2}
 use Rattle.ssim_command_line.proofs.Levels.{q1, q2, ready, second_is, second_text, sf, st, state, t1}
-use Rattle.ssim_command_line.proofs.Levels.{t2, t3, take_starts, third_is, top_rules, v1, w1, walk_is}
+use Rattle.ssim_command_line.proofs.Levels.{t2, t3, several_start, third_is, top_rules, v1, w1}
+use Rattle.ssim_command_line.proofs.Levels.{walk_is}
 use Rattle.ssim_command_line.proofs.Levels.{whole, x1, x2, x3, y1, y2, y3}
 
 word_right : (s : Shape) (word : Text) (h : Held) → Looks word → other_fault s None word h ≡ []
@@ -155,40 +156,40 @@ module _ (name a : Text) (la : Looks a) where
   pub any_right : (rest : List Text) → list_all is_plain rest ≡ true → level_fault (sf name) [] nothing_held (a ∷ rest) false [] ≡ []
   any_right rest e = level_right (sf name) (a ∷ rest) (walk (cf name) [] nothing_held (a ∷ rest)) refl (any_words_right rest e) (any_end_right rest e)
 
--- two values and texts
-module _ (a b : Text) (la : Looks a) (lb : Looks b) where
-  later_right : (seen : List Text) (t : Text) (rest : List Text) → list_all is_plain rest ≡ true → walk_fault st [] (state a b seen t) rest ≡ []
-  later_right seen t [] e = none_right st [] (state a b seen t)
+-- two values and one text or more
+module _ (name a b : Text) (la : Looks a) (lb : Looks b) where
+  later_right : (seen : List Text) (t : Text) (rest : List Text) → list_all is_plain rest ≡ true → walk_fault (st name) [] (state name a b seen t) rest ≡ []
+  later_right seen t [] e = none_right (st name) [] (state name a b seen t)
   later_right seen t (u ∷ rest) e =
       let p = both _ _ e in
       let l = looks u p.0 in
-      next_right st [] (state a b seen t) (state a b (seen ++ t ∷ []) u) u rest (turn_right st (state a b seen t).held positional 3 u l refl refl) (later_text a b la lb seen t u l)
+      next_right (st name) [] (state name a b seen t) (state name a b (seen ++ t ∷ []) u) u rest (turn_right (st name) (state name a b seen t).held positional 3 u l refl refl) (later_text name a b la lb seen t u l)
       (later_right (seen ++ t ∷ []) u rest p.1)
 
-  from_third : (t : Text) (rest : List Text) → list_all is_plain rest ≡ true → walk_fault st [] (t3 a b t) rest ≡ []
-  from_third t [] e = none_right st [] (t3 a b t)
+  from_third : (t : Text) (rest : List Text) → list_all is_plain rest ≡ true → walk_fault (st name) [] (t3 name a b t) rest ≡ []
+  from_third t [] e = none_right (st name) [] (t3 name a b t)
   from_third t (u ∷ rest) e =
       let p = both _ _ e in
       let k = looks u p.0 in
-      next_right st [] (t3 a b t) (state a b (t ∷ []) u) u rest (turn_right st (t3 a b t).held positional 3 u k refl refl) (second_text a b la lb t u k) (later_right (t ∷ []) u rest p.1)
+      next_right (st name) [] (t3 name a b t) (state name a b (t ∷ []) u) u rest (turn_right (st name) (t3 name a b t).held positional 3 u k refl refl) (second_text name a b la lb t u k) (later_right (t ∷ []) u rest p.1)
 
-  texts_right : (t : Text) (rest : List Text) → Looks t → list_all is_plain rest ≡ true → walk_fault st [] (at nothing_held idle 1) (a ∷ b ∷ t ∷ rest) ≡ []
+  texts_right : (t : Text) (rest : List Text) → Looks t → list_all is_plain rest ≡ true → walk_fault (st name) [] (at nothing_held idle 1) (a ∷ b ∷ t ∷ rest) ≡ []
   texts_right t rest l e =
-      next_right st [] (at nothing_held idle 1) (t1 a b) a (b ∷ t ∷ rest) (turn_right st nothing_held idle 1 a la refl refl) (first_is a b la lb)
-      (next_right st [] (t1 a b) (t2 a b) b (t ∷ rest) (turn_right st (t1 a b).held idle 2 b lb refl refl) (second_is a b la lb)
-      (next_right st [] (t2 a b) (t3 a b t) t rest (turn_right st (t2 a b).held idle 3 t l refl refl) (third_is a b la lb t l) (from_third t rest e)))
+      next_right (st name) [] (at nothing_held idle 1) (t1 name a b) a (b ∷ t ∷ rest) (turn_right (st name) nothing_held idle 1 a la refl refl) (first_is name a b la lb)
+      (next_right (st name) [] (t1 name a b) (t2 name a b) b (t ∷ rest) (turn_right (st name) (t1 name a b).held idle 2 b lb refl refl) (second_is name a b la lb)
+      (next_right (st name) [] (t2 name a b) (t3 name a b t) t rest (turn_right (st name) (t2 name a b).held idle 3 t l refl refl) (third_is name a b la lb t l) (from_third t rest e)))
 
-  end_right : (t : Text) (rest : List Text) → list_all is_plain rest ≡ true → after_words st false [] (fold (walked ct []) (t3 a b t) rest) ≡ []
+  end_right : (t : Text) (rest : List Text) → list_all is_plain rest ≡ true → after_words (st name) false [] (fold (walked (ct name) []) (t3 name a b t) rest) ≡ []
   unfolding clap_on_literals
   end_right t [] e = refl
   end_right t (u ∷ rest) e =
       let p = both _ _ e in
-      let r = ends_at a b la lb (t ∷ []) u rest p.1 in
-      ap (after_words st false []) (ap (λ (w : Walk). fold (walked ct []) w rest) (second_text a b la lb t u (looks u p.0)) ∙ r.2)
+      let r = ends_at name a b la lb (t ∷ []) u rest p.1 in
+      ap (after_words (st name) false []) (ap (λ (w : Walk). fold (walked (ct name) []) w rest) (second_text name a b la lb t u (looks u p.0)) ∙ r.2)
 
-  pub take_right : (t : Text) (rest : List Text) → Looks t → list_all is_plain rest ≡ true → level_fault st [] nothing_held (a ∷ b ∷ t ∷ rest) false [] ≡ []
-  take_right t rest l e =
-      level_right st (a ∷ b ∷ t ∷ rest) (fold (walked ct []) (t3 a b t) rest) (take_starts a b la lb t rest l) (texts_right t rest l e) (end_right t rest e)
+  pub several_right : (t : Text) (rest : List Text) → Looks t → list_all is_plain rest ≡ true → level_fault (st name) [] nothing_held (a ∷ b ∷ t ∷ rest) false [] ≡ []
+  several_right t rest l e =
+      level_right (st name) (a ∷ b ∷ t ∷ rest) (fold (walked (ct name) []) (t3 name a b t) rest) (several_start name a b la lb t rest l) (texts_right t rest l e) (end_right t rest e)
 
 -- the command line as a whole
 module _ (name : Text) (values : List Text) (s : Shape)

@@ -63,7 +63,8 @@ on_desks = leaf (codes "take") two_values_and_texts ∷ leaf (codes "merge") thr
 
 -- the commands on the messages that a desk holds
 abbrev pub on_messages : List Shape
-on_messages = leaf (codes "texts") one_value_and_texts ∷ []
+on_messages =
+    leaf (codes "texts") one_value_and_texts ∷ leaf (codes "withdraw") two_values_and_texts ∷ []
 
 -- the commands that print a flight of a desk on a date
 abbrev pub on_dates : List Shape

@@ -14,6 +14,7 @@ pub data Line : Type 0 where
   Take : Text → Text → List Text → Line
   Merge : Text → Text → Text → Line
   Texts : Text → List Text → Line
+  Withdraw : Text → Text → List Text → Line
   Show : Text → Text → Text → Line
   History : Text → Text → Text → Line
   Calendar : Text → Text → Line
@@ -30,6 +31,7 @@ name_of (Start dataset stations out) = codes "start"
 name_of (Take desk out texts) = codes "take"
 name_of (Merge desk other out) = codes "merge"
 name_of (Texts desk flights) = codes "texts"
+name_of (Withdraw desk out references) = codes "withdraw"
 name_of (Show desk flight date) = codes "show"
 name_of (History desk flight date) = codes "history"
 name_of (Calendar file flight) = codes "calendar"
@@ -46,6 +48,7 @@ values_of (Start dataset stations out) = dataset ∷ stations ∷ out ∷ []
 values_of (Take desk out texts) = desk ∷ out ∷ texts
 values_of (Merge desk other out) = desk ∷ other ∷ out ∷ []
 values_of (Texts desk flights) = desk ∷ flights
+values_of (Withdraw desk out references) = desk ∷ out ∷ references
 values_of (Show desk flight date) = desk ∷ flight ∷ date ∷ []
 values_of (History desk flight date) = desk ∷ flight ∷ date ∷ []
 values_of (Calendar file flight) = file ∷ flight ∷ []
@@ -54,9 +57,10 @@ values_of (Export desk) = desk ∷ []
 values_of (Rehearse dataset stations script) = dataset ∷ stations ∷ script ∷ []
 values_of (Explain word) = word ∷ []
 
--- `take` has one text or more
+-- `take` has one text or more, `withdraw` one reference or more
 abbrev pub is_whole : Line → Bool
 is_whole (Take desk out []) = false
+is_whole (Withdraw desk out []) = false
 is_whole _ = true
 
 -- the word is not empty and begins with no hyphen (45), or is the hyphen alone

@@ -5,7 +5,7 @@ use Rattle.std.specs.Str.{bytes_eq}
 use Rattle.clap.specs.Words.{Row, all_of, first_of}
 use Rattle.ssim_command_line.specs.Line.{Line, Text, Check, Tidy, Start, Take, Merge, Texts, Show}
 use Rattle.ssim_command_line.specs.Line.{History}
-use Rattle.ssim_command_line.specs.Line.{Calendar, Findings, Export, Rehearse, Explain}
+use Rattle.ssim_command_line.specs.Line.{Withdraw, Calendar, Findings, Export, Rehearse, Explain}
 use Rattle.ssim_command_line.specs.declared.command_line.Request.{Request}
 use Rattle.ssim_command_line.specs.declared.command_line.Request.TheVariants as request
 
@@ -17,6 +17,8 @@ line_of (request.Start dataset stations out) = Start dataset.now stations.now ou
 line_of (request.Take desk out texts) = Take desk.now out.now (map (λ t. t.now) texts.items)
 line_of (request.Merge desk other out) = Merge desk.now other.now out.now
 line_of (request.Texts desk flights) = Texts desk.now (map (λ t. t.now) flights.items)
+line_of (request.Withdraw desk out references) =
+    Withdraw desk.now out.now (map (λ r. r.now) references.items)
 line_of (request.Show desk flight date) = Show desk.now flight.now date.now
 line_of (request.History desk flight date) = History desk.now flight.now date.now
 line_of (request.Calendar file flight) = Calendar file.now flight.now
@@ -49,9 +51,14 @@ with_two make rows = option_map (λ p. make p.0 p.1) (two_of rows)
 abbrev pub with_three : (Text → Text → Text → Line) → List Row → Option Line
 with_three make rows = option_map (λ p. make p.0 p.1 p.2) (three_of rows)
 
--- the `take` line of a desk, an output file and texts, if the first two are given
-abbrev pub with_texts : List Row → Option Line
-with_texts rows = option_and_then (λ p. option_map (Take p.0 p.1) (all_of (codes "texts") rows)) (two_of rows)
+-- the first value, the second and the texts, if all are given
+abbrev pub two_and_texts_of : List Row → Option (Text × Text × List Text)
+two_and_texts_of rows = option_and_then
+    (λ p. option_map (λ texts. (p.0, p.1, texts)) (all_of (codes "texts") rows)) (two_of rows)
+
+-- the line of a command with two values and texts, if all are given
+abbrev pub with_texts : (Text → Text → List Text → Line) → List Row → Option Line
+with_texts make rows = option_map (λ p. make p.0 p.1 p.2) (two_and_texts_of rows)
 
 -- the texts, none if none is given
 abbrev pub texts_of : List Row → List Text
@@ -67,9 +74,10 @@ line_at name rows =
     if bytes_eq name (codes "check") then with_one Check rows
     else (if bytes_eq name (codes "tidy") then with_one Tidy rows
     else (if bytes_eq name (codes "start") then with_three Start rows
-    else (if bytes_eq name (codes "take") then with_texts rows
+    else (if bytes_eq name (codes "take") then with_texts Take rows
     else (if bytes_eq name (codes "merge") then with_three Merge rows
     else (if bytes_eq name (codes "texts") then with_flights rows
+    else (if bytes_eq name (codes "withdraw") then with_texts Withdraw rows
     else (if bytes_eq name (codes "show") then with_three Show rows
     else (if bytes_eq name (codes "history") then with_three History rows
     else (if bytes_eq name (codes "calendar") then with_two Calendar rows
@@ -77,4 +85,4 @@ line_at name rows =
     else (if bytes_eq name (codes "export") then with_one Export rows
     else (if bytes_eq name (codes "rehearse") then with_three Rehearse rows
     else (if bytes_eq name (codes "explain") then with_one Explain rows
-    else None))))))))))))
+    else None)))))))))))))

@@ -2,9 +2,9 @@
 ghost use Rattle.std.specs.Prelude.{◌≡◌, IfErr, IfOk, MatchResult, Option, codes, map, option_map};
 ghost use Rattle.clap.specs.Words.{all_of, app_of, first_of, found_of, rows_of};
 ghost use Rattle.ssim_command_line.specs.Commands.{whole_program};
-ghost use Rattle.ssim_command_line.specs.Line.{Line, Spells};
-ghost use Rattle.ssim_command_line.specs.Request.{line_at, line_of, three_of, two_of};
-ghost use Rattle.ssim_command_line.specs.Request.{with_flights, with_texts};
+ghost use Rattle.ssim_command_line.specs.Line.{Line, Spells, Take, Withdraw};
+ghost use Rattle.ssim_command_line.specs.Request.{line_at, line_of, three_of, two_and_texts_of};
+ghost use Rattle.ssim_command_line.specs.Request.{two_of, with_flights, with_texts};
 ghost use Rattle.ssim_command_line.specs.Usage.{IsFaultOf, Names};
 
 use crate::commands::command;
@@ -12,8 +12,9 @@ use clap::error::ErrorKind;
 use clap::{ArgMatches, Error};
 use std::alloc::{AllocError, Global};
 
-/// A command with its values: names of files, but for the flights of `Texts`, the flight and the
-/// date of `Show` and of `History`, the flight of `Calendar`, and the word of `Explain`.
+/// A command with its values: names of files, but for the flights of `Texts`, the references of
+/// `Withdraw`, the flight and the date of `Show` and of `History`, the flight of `Calendar`, and the
+/// word of `Explain`.
 #[derive(Debug, Drop)]
 pub enum Request<'a> {
     /// Print the notes on a data set and a summary.
@@ -28,6 +29,8 @@ pub enum Request<'a> {
     Merge(&'a str, &'a str, &'a str),
     /// Print the texts of the messages of a desk: of all, or of those that name one of the flights.
     Texts(&'a str, Vec<&'a str>),
+    /// Withdraw messages from a desk, and write its desk file: DESK, OUT and the references.
+    Withdraw(&'a str, &'a str, Vec<&'a str>),
     /// Print a flight of a desk on a date.
     Show(&'a str, &'a str, &'a str),
     /// Print what the messages of a desk did with a flight on a date.
@@ -95,17 +98,42 @@ fn three<'a>(inner: &ArgMatches<'a>) -> Option<(&'a str, &'a str, &'a str)>
     Some((first, second, third))
 }
 
-/// The request that the matches of `take` make.
-fn taking<'a>(alloc: Global, inner: &ArgMatches<'a>) -> Result<Option<Request<'a>>, AllocError>
-    ensures { IfOk result (λ r. option_map line_of r ≡ with_texts (rows_of (found_of inner.now))) }
+/// Two values and one or more texts.
+type TwoAndTexts<'a> = (&'a str, &'a str, Vec<&'a str>);
+
+fn two_and_texts<'a>(
+    alloc: Global,
+    inner: &ArgMatches<'a>,
+) -> Result<Option<TwoAndTexts<'a>>, AllocError>
+    ensures { IfOk result
+        (λ r. option_map (λ p. (p.0.now, p.1.now, map (λ t. t.now) p.2.items)) r
+        ≡ two_and_texts_of (rows_of (found_of inner.now))) }
 {
-    let Some((desk, out)) = two(inner) else {
+    let Some((first, second)) = two(inner) else {
         return Ok(None);
     };
     let Some(texts) = texts_at(inner) else {
         return Ok(None);
     };
-    Ok(Some(Request::Take(desk, out, texts.to_vec(alloc)?)))
+    Ok(Some((first, second, texts.to_vec(alloc)?)))
+}
+
+/// The request that the matches of `take` make.
+fn taking<'a>(alloc: Global, inner: &ArgMatches<'a>) -> Result<Option<Request<'a>>, AllocError>
+    ensures { IfOk result
+        (λ r. option_map line_of r ≡ with_texts Take (rows_of (found_of inner.now))) }
+{
+    let values = two_and_texts(alloc, inner)?;
+    Ok(values.map(|(desk, out, texts)| Request::Take(desk, out, texts)))
+}
+
+/// The request that the matches of `withdraw` make.
+fn withdrawing<'a>(alloc: Global, inner: &ArgMatches<'a>) -> Result<Option<Request<'a>>, AllocError>
+    ensures { IfOk result
+        (λ r. option_map line_of r ≡ with_texts Withdraw (rows_of (found_of inner.now))) }
+{
+    let values = two_and_texts(alloc, inner)?;
+    Ok(values.map(|(desk, out, references)| Request::Withdraw(desk, out, references)))
 }
 
 /// The request that the matches of `texts` make.
@@ -150,6 +178,9 @@ fn read<'a>(
     }
     if name == "texts" {
         return showing_texts(alloc, inner);
+    }
+    if name == "withdraw" {
+        return withdrawing(alloc, inner);
     }
     if name == "show" {
         return Ok(three(inner).map(|(a, b, c)| Request::Show(a, b, c)));

@@ -28,13 +28,13 @@ fn value<'a>(alloc: Global, id: &'a str, shown: &'a str) -> Arg<'a>
 }
 
 /// One or more texts.
-fn texts<'a>(alloc: Global) -> Arg<'a>
+fn texts<'a>(alloc: Global, shown: &'a str) -> Arg<'a>
     ensures rule { rule_of result ≡ several_texts }
     ensures local { result.global ≡ false }
 {
     Arg::new(alloc, "texts")
-        .value_name("TEXT")
-        .help(help::about_value("TEXT"))
+        .value_name(shown)
+        .help(help::about_value(shown))
         .required(true)
         .action(ArgAction::Append)
 }
@@ -97,16 +97,20 @@ fn with_three<'a>(
     command.arg(value(alloc, "third", third))
 }
 
-/// The command `take`, with two values and one or more texts.
-fn take<'a>(alloc: Global) -> Result<Command<'a>, AllocError>
-    ensures { IfOk result (IsLeaf (leaf (codes "take") two_values_and_texts)) }
+/// A command with a desk, the desk file to write, and one or more texts.
+fn with_texts<'a>(
+    alloc: Global,
+    name: &'a str,
+    about: &'a str,
+    example: &'a str,
+    shown: &'a str,
+) -> Result<Command<'a>, AllocError>
+    ensures { IfOk result (IsLeaf (leaf name.entry.now two_values_and_texts)) }
 {
-    let command = Command::new(alloc, "take")
-        .about(help::TAKE)
-        .after_help(help::TAKE_EXAMPLE);
+    let command = Command::new(alloc, name).about(about).after_help(example);
     let command = command.arg(value(alloc, "first", "DESK"))?;
     let command = command.arg(value(alloc, "second", "OUT"))?;
-    command.arg(texts(alloc))
+    command.arg(texts(alloc, shown))
 }
 
 /// The command `texts`, with one value and any number of flights.
@@ -138,7 +142,7 @@ fn with_data_sets<'a>(alloc: Global, program: Command<'a>) -> Result<Command<'a>
 fn with_desks<'a>(alloc: Global, program: Command<'a>) -> Result<Command<'a>, AllocError>
     ensures { IfOk result (λ c. app_of c ≡ add_all (app_of program.entry) on_desks) }
 {
-    let take = take(alloc)?;
+    let take = with_texts(alloc, "take", help::TAKE, help::TAKE_EXAMPLE, "TEXT")?;
     let shown = ["DESK", "OTHER", "OUT"];
     let merge = with_three(alloc, "merge", help::MERGE, help::MERGE_EXAMPLE, shown)?;
     program.subcommand(take)?.subcommand(merge)
@@ -149,7 +153,15 @@ fn with_messages<'a>(alloc: Global, program: Command<'a>) -> Result<Command<'a>,
     ensures { IfOk result (λ c. app_of c ≡ add_all (app_of program.entry) on_messages) }
 {
     let texts = texts_of_desk(alloc)?;
-    program.subcommand(texts)
+    let about = help::WITHDRAW;
+    let withdraw = with_texts(
+        alloc,
+        "withdraw",
+        about,
+        help::WITHDRAW_EXAMPLE,
+        "REFERENCE",
+    )?;
+    program.subcommand(texts)?.subcommand(withdraw)
 }
 
 /// The commands that print a flight of a desk on a date.

@@ -93,6 +93,19 @@ prints each text, with an empty line between two:
 Exit status: 0, also if no message is printed; 1 if the desk file is refused, FLIGHT is no
 designator (6), or the airline is another one (41).";
 
+pub(crate) const WITHDRAW: &str = "\
+Read a desk file, and write the desk file OUT of the desk as if the messages with these
+references had never come";
+
+pub(crate) const WITHDRAW_EXAMPLE: &str = "\
+Example:
+  ssimdesk withdraw fdh.desk fdh.desk 'SSM 15MAR27 00002 001'
+prints each reference, after 'withdrawn', or 'not held' if the desk does not hold it:
+  withdrawn SSM 15MAR27 00002 001
+A merge with a desk that still holds the message brings it back.
+Exit status: 0, also if no message was held; 1 if the desk file is refused, a word is no
+reference (21), or a file cannot be read or written.";
+
 pub(crate) const SHOW: &str =
     "Read a desk file, and print the legs of a flight on a date of origin";
 
@@ -221,6 +234,9 @@ pub(crate) fn about_value(shown: &str) -> &'static str {
     }
     if shown == "TEXT" {
         return "The files of one or more SSM and ASM texts, a message each; - is standard input";
+    }
+    if shown == "REFERENCE" {
+        return "The references of one or more messages, each as one word, as 'take' prints it";
     }
     if shown == "FLIGHT" {
         return "A flight designator such as LX544";
