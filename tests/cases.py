@@ -71,6 +71,12 @@ def shown(heading, data):
     return found
 
 
+def words_of(text):
+    """The words of a command line, where a word with blanks is between two '."""
+    parts = text.split("'")
+    return [word for at, part in enumerate(parts) for word in ([part] if at % 2 else part.split())]
+
+
 class Case:
     """The files and bytes of a case, in a folder of its own."""
 
@@ -101,7 +107,7 @@ class Case:
         self.bytes[start : start + len(data)] = data
 
     def answer(self, words):
-        done = subprocess.run([self.program, *words.split()], cwd=self.folder, input=self.standard_input,
+        done = subprocess.run([self.program, *words_of(words)], cwd=self.folder, input=self.standard_input,
                               capture_output=True, timeout=60, check=False)
         return done.returncode, done.stdout, done.stderr
 

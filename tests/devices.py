@@ -83,7 +83,7 @@ class Devices:
     def kept_by(self, name):
         """The file that a command keeps before it prints."""
         kept = {command: kept for command, _, kept in COMMANDS}[name]
-        return {kept: self.whole[name].files[kept]} if name in ("start", "merge") else {}
+        return {kept: self.whole[name].files[kept]} if name in ("start", "merge", "withdraw") else {}
 
     # ---- the standard streams
 

@@ -32,6 +32,7 @@ COMMANDS = [
     ("start", ["start", "season", "stations", "old"], "old"),
     ("take", ["take", "desk", "desk", "earlier", "first", "later"], "desk"),
     ("merge", ["merge", "desk", "theirs", "new"], "new"),
+    ("withdraw", ["withdraw", "theirs", "theirs", "SSM 01JUN25 00001 001", "SSM 02JUN25 00001 001"], "theirs"),
     ("texts", ["texts", "desk", "LX544", "LX540"], None),
     ("show", ["show", "desk", "LX544", "01JUL25"], None),
     ("history", ["history", "desk", "LX544", "01JUL25"], None),

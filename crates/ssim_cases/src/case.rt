@@ -450,12 +450,25 @@ impl<'t> Case<'t> {
     }
 }
 
-/// The words of the program: its name, and then these.
+/// The words of the program: its name, and then these. A word with blanks is between two `'`.
 fn words_of(alloc: Global, rest: &str) -> Result<Vec<&str>, AllocError> {
     let mut words = Vec::new(alloc);
     words.push("ssimdesk")?;
-    for word in rest.split_whitespace() {
-        words.push(word)?;
+    let mut is_one_word = false;
+    for part in rest.split('\'') {
+        if is_one_word {
+            words.push(part)?;
+        } else {
+            push_words(&mut words, part)?;
+        }
+        is_one_word = !is_one_word;
     }
     Ok(words)
+}
+
+fn push_words<'a>(words: &mut Vec<&'a str>, text: &'a str) -> Result<(), AllocError> {
+    for word in text.split_whitespace() {
+        words.push(word)?;
+    }
+    Ok(())
 }

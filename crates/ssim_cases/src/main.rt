@@ -41,8 +41,8 @@
 //!   itineraries of these flights from the first to the last day, which are numbers.
 //! - `cancels FLIGHT DAY STEP COUNT`: sub-messages are added to the bytes, which each cancel the
 //!   flight on one date.
-//! - `run WORD ..`: the program runs on its name and these words. The file `-` is its standard
-//!   input.
+//! - `run WORD ..`: the program runs on its name and these words. A word with blanks is between two
+//!   `'`. The file `-` is its standard input.
 //! - `show NAME`, `size NAME`: the bytes of a file, or their number; `equal NAME NAME`: whether two
 //!   files have the same bytes.
 //! - `prefixes NAME WORD ..`: runs the program for each prefix of a file, which then has the name

@@ -47,7 +47,7 @@ pub(crate) const TABLE: [Explanation; 38] = [
     },
     Explanation {
         number: 21,
-        meaning: "a reference line was expected",
+        meaning: "a reference line was expected, or a word that is a reference as it is printed",
         remedy: MESSAGE,
     },
     Explanation {

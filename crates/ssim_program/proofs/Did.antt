@@ -1,6 +1,6 @@
 -- A command that was cut off has made all that it makes, but for `take`, which keeps its file last.
 use Rattle.std.proofs.Common.{◌≡◌, ◌∙◌, inl, inr, ℕ, zero, suc, List, Option, refl, ap, arith}
-use Rattle.ssim_command_line.specs.Line.{Line, Text, Check, Tidy, Start, Take, Merge, Texts, Show, History, Calendar, Findings, Export, Rehearse, Explain}
+use Rattle.ssim_command_line.specs.Line.{Line, Text, Check, Tidy, Start, Take, Merge, Withdraw, Texts, Show, History, Calendar, Findings, Export, Rehearse, Explain}
 use Rattle.ssim_command_line.specs.Usage.{Names}
 use Rattle.ssim_program.specs.Effects.{Begins}
 use Rattle.ssim_program.specs.Files.{Files, Kept, with_kept}
@@ -16,6 +16,7 @@ begun (Tidy name) old new printed kept begins files = inl (printed, kept, begins
 begun (Start dataset stations out) old new printed kept begins files = inl (printed, kept, begins, files)
 begun (Take file out names) old new printed kept begins files = inr (files ∙ ap (λ (k : Kept). with_kept k old) begins.5)
 begun (Merge file other out) old new printed kept begins files = inl (printed, kept, begins, files)
+begun (Withdraw file out references) old new printed kept begins files = inl (printed, kept, begins, files)
 begun (Texts file flights) old new printed kept begins files = inl (printed, kept, begins, files)
 begun (Show file flight date) old new printed kept begins files = inl (printed, kept, begins, files)
 begun (History file flight date) old new printed kept begins files = inl (printed, kept, begins, files)

@@ -3,7 +3,7 @@ use Rattle.std.proofs.Common.{◌≡◌, inl, inr, ℕ, Vec, List, [], Option, N
 use Rattle.ssim_program.specs.Again.{PrintsItself}
 use Rattle.ssim_program.specs.Effects.{Begins, Makes}
 use Rattle.ssim_program.specs.Files.{Files, Kept, with_kept}
-use Rattle.ssim_command_line.specs.Line.{Line, Check, Tidy, Start, Take, Merge, Texts, Show, History, Calendar, Findings, Export, Rehearse, Explain}
+use Rattle.ssim_command_line.specs.Line.{Line, Check, Tidy, Start, Take, Merge, Withdraw, Texts, Show, History, Calendar, Findings, Export, Rehearse, Explain}
 use Rattle.ssim_program.specs.print.Paper.{Paper}
 use Rattle.ssim_program.specs.internal.Print.{Prints}
 use Rattle.ssim_program.specs.print.Reasons.{Refuses}
@@ -21,6 +21,7 @@ itself (Tidy name) t u at_once = absurd at_once
 itself (Start dataset stations out) t u at_once = tt
 itself (Take file out names) t u at_once = absurd at_once
 itself (Merge file other out) t u at_once = tt
+itself (Withdraw file out references) t u at_once = tt
 itself (Texts file flights) t u at_once = tt
 itself (Show file flight date) t u at_once = tt
 itself (History file flight date) t u at_once = tt
@@ -36,6 +37,7 @@ begins (Tidy name) files text kept at_once made = made
 begins (Start dataset stations out) files text kept at_once made = made
 begins (Take file out names) files text kept at_once made = absurd at_once
 begins (Merge file other out) files text kept at_once made = made
+begins (Withdraw file out references) files text kept at_once made = made
 begins (Texts file flights) files text kept at_once made = made
 begins (Show file flight date) files text kept at_once made = made
 begins (History file flight date) files text kept at_once made = made
@@ -87,6 +89,7 @@ memory_refuses (Tidy name) files = (refl, inl (inl (inl refl)))
 memory_refuses (Start dataset stations out) files = (refl, inl (inl refl))
 memory_refuses (Take file out names) files = inl (refl, inl (inl refl))
 memory_refuses (Merge file other out) files = (refl, inl (inl (inl refl)))
+memory_refuses (Withdraw file out references) files = (refl, inl (inl (inl refl)))
 memory_refuses (Texts file flights) files = (refl, inl (inl (inl refl)))
 memory_refuses (Show file flight date) files = (refl, inl (inl (inl refl)))
 memory_refuses (History file flight date) files = (refl, inl (inl (inl refl)))

@@ -14,6 +14,7 @@ pub mod Outcomes
 pub mod Scripted
 pub mod Saying
 pub mod Writers
+pub mod Withdrawing
 pub mod Origins
 pub mod SavedDesks
 pub mod Offices

@@ -7,6 +7,7 @@ use Rattle.ssim_base.specs.Stations.{SameBytesSameRows, SpellsTable}
 use Rattle.ssim_base.specs.declared.note.Note.{Note}
 use Rattle.ssim_text.specs.Grammar.{OneMessage}
 use Rattle.ssim_text.specs.Message.{MessageValue}
+use Rattle.ssim_text.specs.Reference.{OneReference}
 use Rattle.ssim_text.specs.Spelling.{CanonicalReadsBack}
 use Rattle.ssim_text.specs.declared.reference.Reference.{Reference}
 use Rattle.ssim_held.proofs.Entries.{entries-map_of, get-map_of}
@@ -27,7 +28,9 @@ use Rattle.ssim_program.specs.Made.{file_limit}
 use Rattle.ssim_program.specs.Offices.{BeganBy, BeganFrom, Began, Bringing, Brought, BroughtBy, Happened, History, HoldsWhatWasBrought, IsIn, IsSaid, OfficesAgree, Origin, Then, files_of, origin_of}
 use Rattle.ssim_program.specs.Offices as office
 use Rattle.ssim_program.proofs.Origins.{Comes, comes, same_some}
-use Rattle.ssim_program.proofs.SavedDesks.{IsValid, is_listed, same_file, valid_file, valid_merge, valid_start, valid_take}
+use Rattle.ssim_program.proofs.SavedDesks.{IsValid, is_listed, same_file, valid_fewer, valid_file, valid_merge, valid_start, valid_take}
+use Rattle.ssim_program.proofs.Withdrawing.{left_after}
+use Rattle.ssim_program.specs.Withdrawing.{IsNamed}
 
 -- what messages a desk has
 abbrev Messages : Type 1
@@ -70,7 +73,7 @@ accepted : (answer : Took) → is_accepted (take_answer (Ok answer)) ≡ true
 accepted took.Taken = refl
 accepted took.Repeated = refl
 
-module _ (one : OneMessage) (again : CanonicalReadsBack) (no_two : NoTwoDesks) where
+module _ (one : OneMessage) (again : CanonicalReadsBack) (one_each : OneReference) (no_two : NoTwoDesks) where
   -- a file is read as one desk
   one_desk : (file : Option (List ℕ)) (base other : BaseSeen) (held others : List Entry) → Reads file base held → Reads file other others → (base ≡ other) × (held ≡ others)
   one_desk file base other held others (bytes, short, is, desk) (more, less, are, another) =
@@ -190,6 +193,21 @@ module _ (one : OneMessage) (again : CanonicalReadsBack) (no_two : NoTwoDesks) w
         back r m (inl b) = inl ((before name mine.base mine.held (reads_of files name mine read) r m).1 b)
         back r m (inr b) = inr (refl, (before another theirs.base theirs.held (reads_of files another theirs reads) r m).1 b)
 
+    -- a desk without the messages of some references
+    after_withdraw : (name : Text) (words : List Text) (file : Option (List ℕ)) (c : Comes (office.Withdrew name words) files file) → IsKept file c.0.base (BroughtBy (office.Withdrew name words) files brought)
+    after_withdraw name words file (desk, after, printed, read, withdraws, rising, is) =
+        subst (λ (b : BaseSeen). IsKept file b (BroughtBy (office.Withdrew name words) files brought)) withdraws.base
+        (is_kept file after.base after.held (BroughtBy (office.Withdrew name words) files brought) rising
+        (subst (λ (b : BaseSeen). IsValid b (map_of after.held)) (sym withdraws.base)
+        (valid_fewer desk.base (map_of desk.held) (map_of after.held) (valid_file desk.base desk.held read.2.saved) (λ r m h. ((left r m).0 h).0)))
+        is (λ r m. (λ h. let l = (left r m).0 h in ((held r m).0 l.0, l.1), λ b. (left r m).1 ((held r m).1 b.0, b.1))))
+      where
+        held : (r : Reference) (m : MessageValue) → (get (map_of desk.held) r ≡ Some m) ↔ brought name r m
+        held = before name desk.base desk.held (reads_of files name desk read)
+
+        left : (r : Reference) (m : MessageValue) → (get (map_of after.held) r ≡ Some m) ↔ ((get (map_of desk.held) r ≡ Some m) × (IsNamed words r → ⊥))
+        left = left_after one_each words (map_of desk.held) (map_of after.held) printed withdraws.withdraws
+
     -- what bytes have that came from elsewhere
     given : (bytes : List ℕ) → Holding (Some bytes) (IsIn bytes)
     given bytes base held (these, short, is, desk) r m =
@@ -206,6 +224,7 @@ module _ (one : OneMessage) (again : CanonicalReadsBack) (no_two : NoTwoDesks) w
     holding (office.Started dataset stations) file c = kept_holding file c.0 _ (after_start dataset stations file c)
     holding (office.Took name texts) file c = kept_holding file c.0.base _ (after_take name texts file c)
     holding (office.Merged name another) file c = kept_holding file c.0.base _ (after_merge name another file c)
+    holding (office.Withdrew name words) file c = kept_holding file c.0.base _ (after_withdraw name words file c)
     holding (office.Given bytes) file c = subst (λ (f : Option (List ℕ)). Holding f (IsIn bytes)) (sym c) (given bytes)
 
     -- and each desk that began by `start` is over the base that it began from
@@ -229,6 +248,10 @@ module _ (one : OneMessage) (again : CanonicalReadsBack) (no_two : NoTwoDesks) w
         let first = earlier name from in
         let same = kept_desk (file_of files name) first.0 c.0.base (brought name) c.0.held first.2 (reads_of files name c.0 c.3) in
         (c.0.base, subst (λ (b : BaseSeen). IsReadFrom b d s) same.0 first.1, after_merge name another file c)
+    founded began d s earlier (office.Withdrew name words) file c from =
+        let first = earlier name from in
+        let same = kept_desk (file_of files name) first.0 c.0.base (brought name) c.0.held first.2 (reads_of files name c.0 c.3) in
+        (c.0.base, subst (λ (b : BaseSeen). IsReadFrom b d s) same.0 first.1, after_withdraw name words file c)
     founded began d s earlier (office.Given bytes) file c from = absurd from
 
   -- ---- histories

@@ -8,9 +8,10 @@ use Rattle.ssim_held.specs.Entries.{AreRising, DeskSeen}
 use Rattle.ssim_held.specs.File.{desk_file}
 use Rattle.ssim_program.specs.Desks.{IsMergeOf, ReadsDesk, TakesTexts}
 use Rattle.ssim_program.specs.Files.{Files, Kept, file_of, with_kept}
-use Rattle.ssim_command_line.specs.Line.{Line, Text, Check, Tidy, Start, Take, Merge, Texts, Show, History, Calendar, Findings, Export, Rehearse, Explain}
+use Rattle.ssim_command_line.specs.Line.{Line, Text, Check, Tidy, Start, Take, Merge, Withdraw, Texts, Show, History, Calendar, Findings, Export, Rehearse, Explain}
 use Rattle.ssim_program.specs.Made.{ReadsBase}
-use Rattle.ssim_program.specs.Offices.{Event, Done, Refused, Copied, Came, IsMade, Leaves, Origin, Was, Started, Took, Merged, Given, origin_of}
+use Rattle.ssim_program.specs.Offices.{Event, Done, Refused, Copied, Came, IsMade, Leaves, Origin, Was, Started, Took, Merged, Withdrew, Given, origin_of}
+use Rattle.ssim_program.specs.Withdrawing.{WithdrawsFrom}
 
 -- what the file of a name is, by where it comes from
 abbrev pub Comes : Origin → Files → Option (List ℕ) → Type 0
@@ -22,6 +23,9 @@ Comes (Took desk texts) files file =
     × (file ≡ Some (desk_file after.base after.held))
 Comes (Merged one other) files file =
     (mine : DeskSeen) × (theirs : DeskSeen) × (after : DeskSeen) × ReadsDesk (Some files) one mine × ReadsDesk (Some files) other theirs × IsMergeOf mine theirs after × AreRising after.held
+    × (file ≡ Some (desk_file after.base after.held))
+Comes (Withdrew desk references) files file =
+    (before : DeskSeen) × (after : DeskSeen) × (printed : List ℕ) × ReadsDesk (Some files) desk before × WithdrawsFrom references before after printed × AreRising after.held
     × (file ≡ Some (desk_file after.base after.held))
 Comes (Given bytes) files file = file ≡ Some bytes
 
@@ -73,6 +77,10 @@ done_comes (Merge one other out) old new name (printed, kept, makes, is) =
     let after = makes.2 in
     let bytes = desk_file after.base after.held in
     written out name bytes old new (Merged one other) (with_file out bytes kept old new makes.8 is) (makes.0, makes.1, after, makes.3, makes.4, makes.5, makes.6, refl)
+done_comes (Withdraw desk out references) old new name (printed, kept, makes, is) =
+    let after = makes.1 in
+    let bytes = desk_file after.base after.held in
+    written out name bytes old new (Withdrew desk references) (with_file out bytes kept old new makes.5 is) (makes.0, after, printed, makes.2, makes.3, makes.4, refl)
 done_comes (Texts file flights) old new name (printed, kept, makes, is) = unchanged name kept old new makes.3 is
 done_comes (Show file flight date) old new name (printed, kept, makes, is) = unchanged name kept old new makes.3 is
 done_comes (History file flight date) old new name (printed, kept, makes, is) = unchanged name kept old new makes.3 is

@@ -1,17 +1,18 @@
 -- Equal files are of one desk, so commands print the same of them.
 use Rattle.std.proofs.Common.{◌≡◌, ◌∙◌, ◌<◌, ◌^◌, ℕ, List, [], ◌∷◌, Some, length, refl, ap, ap₂, sym, subst, arith}
 use Rattle.ssim_values.proofs.DesignatorLemmas.{SpellsDesignator-unique}
+use Rattle.ssim_text.specs.Reference.{OneReference}
 use Rattle.ssim_values.specs.declared.designator.Designator.{Designator}
 use Rattle.ssim_base.specs.BaseSeen.{BaseSeen, base_with}
 use Rattle.ssim_base.specs.Reading.{SameBytesSameBase}
 use Rattle.ssim_records.specs.declared.record.Record.{Record}
-use Rattle.ssim_held.specs.Entries.{DeskSeen, Entry}
+use Rattle.ssim_held.specs.Entries.{DeskSeen, Entry, map_of}
 use Rattle.ssim_held.specs.File.{IsDeskFile, NoTwoDesks}
 use Rattle.ssim_base.specs.Timetable.{itinerary}
 use Rattle.ssim_desk.specs.DateSteps.{steps_on}
 use Rattle.ssim_desk.specs.Desk.{days_of_desk, entry_lines}
 use Rattle.ssim_desk.specs.Meaning.{found_by, left_by}
-use Rattle.ssim_command_line.specs.Line.{Text, Texts, Show, History, Calendar, Findings, Export}
+use Rattle.ssim_command_line.specs.Line.{Text, Texts, Withdraw, Show, History, Calendar, Findings, Export}
 use Rattle.ssim_program.specs.Desks.{ReadsDesk}
 use Rattle.ssim_program.specs.Files.{Files}
 use Rattle.ssim_program.specs.Made.{IsExport, file_limit}
@@ -22,8 +23,10 @@ use Rattle.ssim_program.specs.declared.explain.file_kind.FileKind.{FileKind}
 use Rattle.ssim_program.specs.declared.explain.file_kind.FileKind.TheVariants as kind
 use Rattle.ssim_program.specs.print.Calendar.{calendar_lines}
 use Rattle.ssim_program.specs.print.Shown.{findings_lines, history_lines, shown_flight}
+use Rattle.ssim_program.specs.Withdrawing.{Withdraws}
 use Rattle.ssim_program.proofs.Again.{one_export}
 use Rattle.ssim_program.proofs.Origins.{same_some}
+use Rattle.ssim_program.proofs.Withdrawing.{printed_once}
 
 -- a desk, whatever its latest change applied
 abbrev seen : BaseSeen → List Entry → DeskSeen
@@ -64,6 +67,12 @@ module _ (no_two : NoTwoDesks) where
       let one = one_desk files others name another desk other same read reads in
       let flights = spell_once words is.flights are.flights is.named.spelled are.named.spelled in
       is.printed_is ∙ (λ i. message_texts (messages_on (flights i) (one.1 i))) ∙ sym are.printed_is
+
+  pub withdraw_same : OneReference → (out : Text) (references : List Text) → PrintsTheSame (λ file. Withdraw file out references)
+  withdraw_same one_each out words files others name another printed again kept also same (desk, after, read, is, _, _) (other, last, reads, are, _, _) =
+      let one = one_desk files others name another desk other same read reads in
+      printed_once one_each words (map_of other.held) (map_of after.held) (map_of last.held) printed again
+      (subst (λ (es : List Entry). Withdraws words (map_of es) (map_of after.held) printed) one.1 is.withdraws) are.withdraws
 
   pub show_same : (flight date : Text) → PrintsTheSame (λ file. Show file flight date)
   show_same flight date files others name another printed again kept also same (desk, read, is, _) (other, reads, are, _) =

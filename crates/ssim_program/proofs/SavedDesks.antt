@@ -131,6 +131,14 @@ valid_merge mine theirs held valid other merges = record {
     by r m (inl before) = valid.each r m before
     by r m (inr theirs_too) = subst (λ (b : BaseSeen). IsKnown b r m) (sym merges.base) (other.each r m theirs_too.1)
 
+-- a desk that holds some of the messages
+pub valid_fewer : (base : BaseSeen) (held fewer : HeldMessages) → IsValid base held → ((r : Reference) (m : MessageValue) → get fewer r ≡ Some m → get held r ≡ Some m) → IsValid base fewer
+valid_fewer base held fewer valid some = record {
+  is_base = valid.is_base;
+  rows = valid.rows;
+  each = λ r m is. valid.each r m (some r m is);
+}
+
 -- ---- the list of such a desk
 
 listed : (base : BaseSeen) (ps : List (Reference × MessageValue)) → AllByRecursion (λ (p : Reference × MessageValue). IsKnown base p.0 p.1) ps

@@ -11,11 +11,12 @@ use Rattle.ssim_program.specs.Desks.{IsExportOfDesk, IsMergeOf, ReadsDesk, Shows
 use Rattle.ssim_program.specs.Desks.{held_line}
 use Rattle.ssim_program.specs.Explained.{Explains}
 use Rattle.ssim_program.specs.Files.{Files, Kept}
-use Rattle.ssim_command_line.specs.Line.{Line, Check, Tidy, Start, Take, Merge, Texts, Show, History, Calendar}
-use Rattle.ssim_command_line.specs.Line.{Findings, Export, Rehearse, Explain}
+use Rattle.ssim_command_line.specs.Line.{Line, Check, Tidy, Start, Take, Merge, Withdraw, Texts}
+use Rattle.ssim_command_line.specs.Line.{Show, History, Calendar, Findings, Export, Rehearse, Explain}
 use Rattle.ssim_program.specs.Calendars.{ShowsCalendar}
 use Rattle.ssim_program.specs.Messages.{ShowsTexts}
 use Rattle.ssim_program.specs.Made.{AreLinesOn, IsExportOf, ReadsBase, ReadsFile}
+use Rattle.ssim_program.specs.Withdrawing.{WithdrawsFrom}
 use Rattle.ssim_program.specs.rehearse.Rehearsal.{RehearsesFiles}
 use Rattle.ssim_program.specs.Timetables.{ReadsTimetable}
 use Rattle.ssim_program.specs.print.Shown.{findings_lines}
@@ -42,6 +43,10 @@ Makes (Merge file other out) files printed kept =
     (mine : DeskSeen) × (theirs : DeskSeen) × (after : DeskSeen) × ReadsDesk files file mine
     × ReadsDesk files other theirs × IsMergeOf mine theirs after × AreRising after.held
     × (printed ≡ held_line (length after.held)) × (kept ≡ Some (out, desk_file after.base after.held))
+Makes (Withdraw file out references) files printed kept =
+    (before : DeskSeen) × (after : DeskSeen) × ReadsDesk files file before
+    × WithdrawsFrom references before after printed × AreRising after.held
+    × (kept ≡ Some (out, desk_file after.base after.held))
 Makes (Texts file flights) files printed kept =
     (desk : DeskSeen) × ReadsDesk files file desk × ShowsTexts desk flights printed × (kept ≡ None)
 Makes (Show file flight date) files printed kept =

@@ -4,6 +4,7 @@ pub mod Made
 pub mod Desks
 pub mod Calendars
 pub mod Messages
+pub mod Withdrawing
 pub mod Effects
 pub mod Again
 pub mod World

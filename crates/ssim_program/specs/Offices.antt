@@ -11,8 +11,9 @@ use Rattle.ssim_held.specs.Held.{Holds, Says}
 use Rattle.ssim_program.specs.Desks.{ReadsDesk}
 use Rattle.ssim_program.specs.Effects.{Makes}
 use Rattle.ssim_program.specs.Files.{Files, Kept, file_of, with_kept}
-use Rattle.ssim_command_line.specs.Line.{Line, Text, Start, Take, Merge}
+use Rattle.ssim_command_line.specs.Line.{Line, Text, Start, Take, Merge, Withdraw}
 use Rattle.ssim_program.specs.Made.{HasFile, file_limit}
+use Rattle.ssim_program.specs.Withdrawing.{IsNamed}
 
 -- ---- what a command leaves, whatever its status
 
@@ -63,13 +64,14 @@ Happened (Then history event files) = Happened history × Leaves event (files_of
 -- ---- where the file of a name comes from
 
 -- The file of a name after an event: it is the file of some name before; `start` made it of a data
--- set and a station table; `take` of a desk file and texts; `merge` of two desk files; or it came
--- from elsewhere.
+-- set and a station table; `take` of a desk file and texts; `merge` of two desk files; `withdraw` of
+-- a desk file and references; or it came from elsewhere.
 pub data Origin : Type 0 where
   Was : Text → Origin
   Started : Text → Text → Origin
   Took : Text → List Text → Origin
   Merged : Text → Text → Origin
+  Withdrew : Text → List Text → Origin
   Given : List ℕ → Origin
 
 -- where the file of this name comes from
@@ -78,6 +80,8 @@ origin_of (Done (Start dataset stations out)) name =
     if bytes_eq out name then Started dataset stations else Was name
 origin_of (Done (Take desk out texts)) name = if bytes_eq out name then Took desk texts else Was name
 origin_of (Done (Merge mine theirs out)) name = if bytes_eq out name then Merged mine theirs else Was name
+origin_of (Done (Withdraw desk out references)) name =
+    if bytes_eq out name then Withdrew desk references else Was name
 origin_of (Copied from to) name = if bytes_eq to name then Was from else Was name
 origin_of (Came other bytes) name = if bytes_eq other name then Given bytes else Was name
 origin_of event name = Was name
@@ -107,8 +111,9 @@ abbrev pub Bringing : Type 1
 Bringing = Text → Reference → MessageValue → Type 0
 
 -- what was brought to a file, by where it comes from: to a new desk nothing; to one that took texts
--- what they say and what was brought to it before; to a merged one what was brought to both; and to
--- one that came from elsewhere what it holds
+-- what they say and what was brought to it before; to a merged one what was brought to both; to one
+-- without the messages of some references all others that were brought to it before; and to one that
+-- came from elsewhere what it holds
 abbrev pub BroughtBy : Origin → Files → Bringing → Reference → MessageValue → Type 0
 BroughtBy (Was name) files before reference message = before name reference message
 BroughtBy (Started dataset stations) files before reference message = ⊥
@@ -116,11 +121,14 @@ BroughtBy (Took desk texts) files before reference message =
     before desk reference message ⊎ IsSaidTo files desk texts reference message
 BroughtBy (Merged mine theirs) files before reference message =
     before mine reference message ⊎ before theirs reference message
+BroughtBy (Withdrew desk references) files before reference message =
+    before desk reference message × (IsNamed references reference → ⊥)
 BroughtBy (Given bytes) files before reference message = IsIn bytes reference message
 
 -- The message was brought to the file of this name: by a text that a `take` took, by a desk file to
 -- which it had been brought, or in a desk file that came from elsewhere or was there at the
--- beginning.
+-- beginning. It was not withdrawn after this; a message that was withdrawn can be brought again, also
+-- by a merge with a desk from which it was not withdrawn.
 abbrev pub Brought : History → Bringing
 Brought (Began files) name reference message =
     (bytes : List ℕ) × (file_of files name ≡ Some bytes) × IsIn bytes reference message
@@ -136,6 +144,7 @@ BeganBy (Started data_file table_file) files before dataset stations =
     (file_of files data_file ≡ Some dataset) × (file_of files table_file ≡ Some stations)
 BeganBy (Took desk texts) files before dataset stations = before desk dataset stations
 BeganBy (Merged mine theirs) files before dataset stations = before mine dataset stations
+BeganBy (Withdrew desk references) files before dataset stations = before desk dataset stations
 BeganBy (Given bytes) files before dataset stations = ⊥
 
 -- the desk in the file of this name began so
@@ -146,7 +155,8 @@ BeganFrom (Then history event files) name dataset stations =
 
 -- ---- the laws
 
--- A desk file that can be read holds the messages that were brought to it, and no others.
+-- A desk file that can be read holds the messages that were brought to it and not withdrawn since,
+-- and no others.
 abbrev pub HoldsWhatWasBrought : Type 0
 HoldsWhatWasBrought =
     (history : History) (name : Text) (desk : DeskSeen) → Happened history
@@ -169,8 +179,10 @@ IsSameFile files name others another =
     (bytes : List ℕ) × (file_of files name ≡ Some bytes) × (file_of others another ≡ Some bytes)
 
 -- Two offices have the same desk file, byte for byte, if their desks began by `start` from the same
--- data set and station table and the same messages were brought to both: whatever commands each
--- office typed, in whatever order, and however often.
+-- data set and station table and the same messages were brought to both, not counting those that
+-- were withdrawn since: whatever commands each office typed, in whatever order, and however often.
+-- So a desk from which messages were withdrawn has the file of a desk to which only the others were
+-- ever brought.
 abbrev pub OfficesAgree : Type 0
 OfficesAgree =
     (one other : History) (name another : Text) → Happened one → Happened other

@@ -14,3 +14,4 @@ pub(crate) mod start;
 pub(crate) mod take;
 pub(crate) mod texts;
 pub(crate) mod tidy;
+pub(crate) mod withdraw;

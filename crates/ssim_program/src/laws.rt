@@ -1,7 +1,8 @@
 //! What holds of the bytes that the commands write, and of desk files after any commands.
 
 ghost use Rattle.std.specs.Prelude.{List};
-ghost use Rattle.ssim_command_line.specs.Line.{Calendar, Export, Findings, History, Show, Text, Texts};
+ghost use Rattle.ssim_command_line.specs.Line.{Calendar, Export, Findings, History, Show, Text};
+ghost use Rattle.ssim_command_line.specs.Line.{Texts, Withdraw};
 ghost use Rattle.ssim_program.specs.Again.{TidiesOnce};
 ghost use Rattle.ssim_program.specs.Offices.{HoldsWhatWasBrought, OfficesAgree, PrintsTheSame};
 ghost use Rattle.ssim_program.specs.rehearse.Verdict.{EndsWithSame};
@@ -11,7 +12,7 @@ ghost use Rattle.ssim_program.specs.examples.Scripts;
 
 use ssim_base::laws::{same_bytes_same_base, same_bytes_same_rows, written_bases_are_read};
 use ssim_desk::laws::{any_two_desks_agree, no_two_desks_have_one_file};
-use ssim_text::laws::{canonical_reads_back, one_message};
+use ssim_text::laws::{canonical_reads_back, one_message, one_reference};
 
 /// Of a file that is the export of its own base, as all that `tidy` wrote is, `tidy` makes the same
 /// bytes.
@@ -24,13 +25,15 @@ pub fn tidied_once()
 /// Two offices begin their desks by `start` from the same data set and the same station table. If
 /// the same messages are brought to both desks, by texts or by merges, in any order and however
 /// often, both have the same desk file, byte for byte. Each desk file that can be read holds the
-/// messages that were brought to it, and no others.
+/// messages that were brought to it, and no others. A message that `withdraw` took out of a desk
+/// file is not brought to it until it is brought again.
 pub fn offices_agree()
     ensures agree { OfficesAgree }
     ensures holds { HoldsWhatWasBrought }
 {
     one_message();
     canonical_reads_back();
+    one_reference();
     no_two_desks_have_one_file();
     same_bytes_same_base();
     same_bytes_same_rows();
@@ -39,15 +42,18 @@ pub fn offices_agree()
 /// Of two equal desk files `texts`, `show`, `history`, `calendar`, `findings` and `export` print the
 /// same: the messages, each flight on each date, which message did what to it, its calendar, what each
 /// sub-message found, and the chapter 7 data set, byte for byte. So does `calendar` of two equal data
-/// sets.
+/// sets, and `withdraw` of two equal desk files: what became of each reference.
 pub fn equal_files_print_the_same()
     ensures texts { (flights : List Text) → PrintsTheSame (λ file. Texts file flights) }
+    ensures withdraw { (out : Text) (references : List Text)
+        → PrintsTheSame (λ file. Withdraw file out references) }
     ensures show { (flight date : Text) → PrintsTheSame (λ file. Show file flight date) }
     ensures history { (flight date : Text) → PrintsTheSame (λ file. History file flight date) }
     ensures calendar { (flight : Text) → PrintsTheSame (λ file. Calendar file flight) }
     ensures findings { PrintsTheSame Findings }
     ensures export { PrintsTheSame Export }
 {
+    one_reference();
     no_two_desks_have_one_file();
     same_bytes_same_base();
 }

@@ -25,6 +25,7 @@ use crate::command::start::start;
 use crate::command::take::take;
 use crate::command::texts::texts;
 use crate::command::tidy::tidy;
+use crate::command::withdraw::withdraw;
 use crate::explain::explain;
 use crate::print::printer::{Printer, print_all, print_line};
 use crate::print::refusal_line::print_refusal;
@@ -218,6 +219,9 @@ fn act<S: Store, O: Write>(
             print(start(alloc, dataset, stations, name, store), out)
         }
         Request::Merge(desk, other, name) => print(merge(alloc, desk, other, name, store), out),
+        Request::Withdraw(desk, name, references) => {
+            print(withdraw(alloc, desk, name, references, store), out)
+        }
         Request::Texts(desk, flights) => print(texts(alloc, desk, flights, store), out),
         Request::Show(desk, flight, date) => {
             print(show_flight(alloc, desk, flight, date, store), out)

@@ -24,6 +24,8 @@ use std::fmt;
 pub enum Refusal {
     /// 1 to 7: a word of the command line is no value of the kind.
     Value(Fault),
+    /// 21: a word of the command line is no reference.
+    Reference,
     /// 10 to 14, or 30 to 38: the data set is invalid at a record.
     DataSet(BaseFault),
     /// 39: the station table is invalid at a line.
@@ -58,6 +60,7 @@ impl Refusal {
     {
         match self {
             Refusal::Value(fault) => fault.number(),
+            Refusal::Reference => ssim_text::Fault::BadReference.number(),
             Refusal::DataSet(fault) => fault.number(),
             Refusal::Stations(fault) => fault.number(),
             Refusal::Desk(fault) => fault.number(),
@@ -75,6 +78,7 @@ impl Refusal {
     {
         match self {
             Refusal::Value(fault) => fault.name(),
+            Refusal::Reference => ssim_text::Fault::BadReference.name(),
             Refusal::DataSet(fault) => fault.name(),
             Refusal::Stations(fault) => fault.name(),
             Refusal::Desk(fault) => fault.name(),
@@ -96,9 +100,11 @@ impl Refusal {
             Refusal::Desk(fault) => fault.place(),
             Refusal::Export { airline, fault } => fault.place(*airline),
             Refusal::Script { line } => Place::Line(*line),
-            Refusal::Value(_) | Refusal::WriteFault | Refusal::Memory | Refusal::File { .. } => {
-                Place::Nowhere
-            }
+            Refusal::Value(_)
+            | Refusal::Reference
+            | Refusal::WriteFault
+            | Refusal::Memory
+            | Refusal::File { .. } => Place::Nowhere,
         }
     }
 

@@ -1,8 +1,9 @@
--- What three commands at one office bring to a desk file, computed.
+-- What commands at one office bring to a desk file, computed.
 use Rattle.std.specs.Prelude.{◌≡◌, ◌⊎◌, ℕ, List, [], ◌∷◌, codes, Some, refl}
 use Rattle.ssim_text.specs.Message.{MessageValue}
 use Rattle.ssim_text.specs.declared.reference.Reference.{Reference}
-use Rattle.ssim_command_line.specs.Line.{Text, Start, Take, Merge}
+use Rattle.ssim_text.specs.Reference.{SpellsReference}
+use Rattle.ssim_command_line.specs.Line.{Text, Start, Take, Merge, Withdraw}
 use Rattle.ssim_program.specs.Files.{Files, file_of}
 use Rattle.ssim_program.specs.Offices.{BeganFrom, Began, Brought, Done, History, IsSaidTo, Then}
 
@@ -41,3 +42,12 @@ zurich_began : (before started taken merged : Files) (dataset stations : List �
     ≡ ((file_of before (codes "season.ssim") ≡ Some dataset)
     × (file_of before (codes "stations.txt") ≡ Some stations))
 zurich_began before started taken merged dataset stations = refl
+
+-- After `withdraw zurich.desk zurich.desk 'SSM 15MAR27 00002 001'` what was brought to Zurich's desk
+-- is what was brought to it before, but for the message under this reference.
+withdrawn_from_zurich : (before : History) (after : Files) (reference : Reference) (message : MessageValue)
+    → Brought (Then before (Done (Withdraw zurich zurich (codes "SSM 15MAR27 00002 001" ∷ []))) after) zurich
+    reference message
+    ≡ (Brought before zurich reference message
+    × ((SpellsReference reference (codes "SSM 15MAR27 00002 001") ⊎ ⊥) → ⊥))
+withdrawn_from_zurich before after reference message = refl

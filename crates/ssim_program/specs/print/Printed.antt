@@ -10,7 +10,7 @@ use Rattle.ssim_program.specs.declared.print.printed.Printed.{Printed}
 use Rattle.ssim_program.specs.declared.print.printed.Printed.TheVariants as printed
 
 -- the text of a line: a note on a record's serial or check reference; the summary of records,
--- flights and notes; what became of a text; how many messages a desk holds
+-- flights and notes; what became of a text; what became of a reference; how many messages a desk holds
 abbrev pub printed_text : Printed → List ℕ
 printed_text (printed.SerialNote n) = codes "note Serial record " ++ decimal n
 printed_text (printed.CheckReferenceNote n) = codes "note CheckReference record " ++ decimal n
@@ -19,6 +19,8 @@ printed_text (printed.Summary records flights notes) =
     ++ decimal notes
 printed_text (printed.Taken reference) = codes "taken " ++ printed_reference reference
 printed_text (printed.Repeated reference) = codes "repeated " ++ printed_reference reference
+printed_text (printed.Withdrawn reference) = codes "withdrawn " ++ printed_reference reference
+printed_text (printed.NotHeld reference) = codes "not held " ++ printed_reference reference
 printed_text (printed.Held n) = codes "held " ++ decimal n
 
 -- on how many dates a sub-message acted, and on how many each reason kept it from acting

@@ -14,11 +14,12 @@ use Rattle.ssim_held.specs.Entries.{DeskSeen}
 use Rattle.ssim_desk.specs.Desk.{days_of_desk}
 use Rattle.ssim_program.specs.Desks.{ReadsDesk, RefusesDeskFile, RefusesFlight, RefusesMerge, RefusesTexts}
 use Rattle.ssim_program.specs.Files.{Files}
-use Rattle.ssim_command_line.specs.Line.{Line, Text, Check, Tidy, Start, Take, Merge, Texts, Show, History, Calendar}
-use Rattle.ssim_command_line.specs.Line.{Findings, Export, Rehearse, Explain}
+use Rattle.ssim_command_line.specs.Line.{Line, Text, Check, Tidy, Start, Take, Merge, Withdraw, Texts}
+use Rattle.ssim_command_line.specs.Line.{Show, History, Calendar, Findings, Export, Rehearse, Explain}
 use Rattle.ssim_program.specs.Messages.{RefusesFlights}
 use Rattle.ssim_program.specs.Made.{ReadsFile, RefusesBase, RefusesFile, RefusesLoad}
 use Rattle.ssim_program.specs.Timetables.{ReadsTimetable, RefusesTimetable}
+use Rattle.ssim_program.specs.Withdrawing.{RefusesReferences}
 use Rattle.ssim_program.specs.print.Paper.{Paper, PrintsOrFails}
 use Rattle.ssim_program.specs.print.Refusal.{refusal_of_export, refusal_text}
 use Rattle.ssim_program.specs.rehearse.Rehearsal.{RefusesLines}
@@ -68,6 +69,9 @@ Refuses (Merge file other out) files printed refusal =
     ⊎ (((mine : DeskSeen) × ReadsDesk files file mine) × RefusesDeskFile files other refusal)
     ⊎ ((mine : DeskSeen) × (theirs : DeskSeen) × ReadsDesk files file mine × ReadsDesk files other theirs
     × RefusesMerge mine theirs refusal))
+Refuses (Withdraw file out references) files printed refusal =
+    (printed ≡ []) × (RefusesDeskFile files file refusal
+    ⊎ (((desk : DeskSeen) × ReadsDesk files file desk) × RefusesReferences references refusal))
 Refuses (Texts file flights) files printed refusal =
     (printed ≡ []) × (RefusesDeskFile files file refusal
     ⊎ ((desk : DeskSeen) × ReadsDesk files file desk

@@ -17,7 +17,9 @@ use Rattle.ssim_base.specs.declared.place.Place.TheVariants.{Nowhere, Record, Co
 use Rattle.ssim_base.specs.declared.place.Place.TheVariants.{Offset, Flight, Message}
 use Rattle.ssim_base.specs.declared.stations.StationFault.{StationFault}
 use Rattle.ssim_base.specs.declared.stations.StationFault.TheVariants as stations
+use Rattle.ssim_text.specs.Fault as text
 use Rattle.ssim_text.specs.Reference.{printed_reference}
+use Rattle.ssim_text.specs.declared.fault.Fault.TheVariants as text_fault
 use Rattle.ssim_held.specs.Fault.{desk_fault_name, desk_fault_number, desk_fault_place}
 use Rattle.ssim_held.specs.declared.fault.DeskFault.{DeskFault}
 use Rattle.ssim_held.specs.declared.fault.DeskFault.TheVariants as desk
@@ -28,6 +30,7 @@ use Rattle.ssim_program.specs.declared.refusal.Refusal.TheVariants as refusal
 -- the number of a refusal, which is its fault's number
 abbrev pub refusal_number : Refusal → ℕ
 refusal_number (refusal.Value fault) = fault_number fault
+refusal_number refusal.Reference = text.fault_number text_fault.BadReference
 refusal_number (refusal.DataSet fault) = base_fault_number fault
 refusal_number (refusal.Stations fault) = station_fault_number fault
 refusal_number (refusal.Desk fault) = desk_fault_number fault
@@ -40,6 +43,7 @@ refusal_number (refusal.File name) = 91
 -- the name of a refusal, which is its fault's name
 abbrev pub refusal_name : Refusal → List ℕ
 refusal_name (refusal.Value fault) = fault_name fault
+refusal_name refusal.Reference = text.fault_name text_fault.BadReference
 refusal_name (refusal.DataSet fault) = base_fault_name fault
 refusal_name (refusal.Stations fault) = station_fault_name fault
 refusal_name (refusal.Desk fault) = desk_fault_name fault
@@ -52,6 +56,7 @@ refusal_name (refusal.File name) = codes "File"
 -- what a refusal names: what its fault names, or the line of a script; the file of 91 is no place
 abbrev pub refusal_place : Refusal → Place
 refusal_place (refusal.Value fault) = Nowhere
+refusal_place refusal.Reference = Nowhere
 refusal_place (refusal.DataSet fault) = base_fault_place fault
 refusal_place (refusal.Stations fault) = station_fault_place fault
 refusal_place (refusal.Desk fault) = desk_fault_place fault

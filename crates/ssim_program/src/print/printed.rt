@@ -34,6 +34,14 @@ pub enum Printed {
     Repeated {
         reference: Reference,
     },
+    /// The message of a reference was held, and is held no longer.
+    Withdrawn {
+        reference: Reference,
+    },
+    /// The message of a reference was not held.
+    NotHeld {
+        reference: Reference,
+    },
     /// How many messages a desk holds.
     Held {
         messages: usize,
@@ -56,6 +64,8 @@ impl fmt::Display for Printed {
             } => write!(f, "ok records {records} flights {flights} notes {notes}"),
             Printed::Taken { reference } => write!(f, "taken {reference}"),
             Printed::Repeated { reference } => write!(f, "repeated {reference}"),
+            Printed::Withdrawn { reference } => write!(f, "withdrawn {reference}"),
+            Printed::NotHeld { reference } => write!(f, "not held {reference}"),
             Printed::Held { messages } => write!(f, "held {messages}"),
         }
     }

@@ -1,6 +1,6 @@
 -- The request is the command's.
 use Rattle.std.proofs.Common.{Bor, List, ℕ, map, sym, subst}
-use Rattle.ssim_command_line.specs.Line.{Check, Start, Merge, Texts, Show, History, Calendar, Findings, Rehearse, Explain}
+use Rattle.ssim_command_line.specs.Line.{Check, Start, Merge, Withdraw, Texts, Show, History, Calendar, Findings, Rehearse, Explain}
 use Rattle.ssim_command_line.specs.Request.{line_of}
 use Rattle.ssim_program.specs.World.{world}
 use Rattle.ssim_program.specs.internal.Program.{Does, Prepares, stored}
@@ -27,6 +27,15 @@ returns-in-Merge g c =
     (sym c.in-Merge.is) (c.print-in-Merge.ensures (Merge c.in-Merge.desk.now c.in-Merge.other.now c.in-Merge.name.now)
     (stored (g.S.Store.files c.args.store.now) (g.S.Store.failures c.args.store.now))
     (stored (g.S.Store.files c.merge.new.store) (g.S.Store.failures c.merge.new.store)) tt c.merge.ensures)
+
+pub returns-in-Withdraw : goal.returns-in-Withdraw
+returns-in-Withdraw g c =
+    let before = stored (g.S.Store.files c.args.store.now) (g.S.Store.failures c.args.store.now) in
+    let after = stored (g.S.Store.files c.withdraw.new.store) (g.S.Store.failures c.withdraw.new.store) in
+    let desk = c.in-Withdraw.desk.now in let name = c.in-Withdraw.name.now in
+    subst (λ (r : Request). Does (line_of r) (world (g.S.Store.files c.args.store.now) (g.S.Store.failures c.args.store.now) c.args.out.now) (world (g.S.Store.files c.withdraw.new.store) (g.S.Store.failures c.withdraw.new.store) c.print-in-Withdraw.new.out) c.print-in-Withdraw.result)
+    (sym c.in-Withdraw.is) (c.print-in-Withdraw.ensures (Withdraw desk name (map (λ t. t.now) c.in-Withdraw.references.items)) before after tt
+    (subst (λ (words : List (Bor (List ℕ))). Prepares (Withdraw desk name (map (λ t. t.now) words)) before after c.withdraw.result) c.deref-in-Withdraw.ensures.value c.withdraw.ensures))
 
 pub returns-in-Texts : goal.returns-in-Texts
 returns-in-Texts g c =

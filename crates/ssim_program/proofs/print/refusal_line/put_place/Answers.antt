@@ -6,3 +6,6 @@ returns-in-Flight g c = rw c.in-Flight.is c.put_flight.ensures
 
 pub returns-in-Message : goal.returns-in-Message
 returns-in-Message g c = rw c.in-Message.is c.put_message.ensures
+
+pub returns-in-Column : goal.returns-in-Column
+returns-in-Column g c = rw c.in-Column.is c.put_column.ensures
