@@ -23,6 +23,7 @@ LIMIT = 268_435_456
 WRITE_FAULT = b"refused 52 WriteFault\n"
 NOBODY = 65534
 KILLED = -1
+UNREAD = b"refused 91 File mail\nrefused 91 File missing\ntaken 0 repeated 0 refused 2\n"
 
 
 def file_fault(name):
@@ -139,6 +140,10 @@ class Devices:
             self.expect("no desk starts there", ["start", "season", "stations", bad], 1, b"", fault)
             self.expect("no desk is taken there", ["take", "desk", bad, "later"], 1, self.line_of_later(), fault)
             self.expect("no desk is merged there", ["merge", "desk", "theirs", bad], 1, b"", fault)
+            received = self.whole["receive"]
+            self.expect("no desk that received is kept there", ["receive", "--refused", "back", "desk", bad, "mail", "missing"], 1, received.out,
+                        fault, {"back": received.files["back"]})
+            self.expect("no refused text is kept there", ["receive", "--refused", bad, "desk", "new", "mail", "missing"], 1, received.out, fault)
         os.rmdir(self.path("folder"))
 
     def line_of_later(self):
@@ -266,8 +271,10 @@ class Devices:
     def wrong_answer(self, name, kept, answer, left_beside):
         """What is wrong with a run of which a call failed, or nothing."""
         whole = self.whole[name]
-        files = {other: data for other, data in answer.files.items() if not (left_beside and other == f"{kept}.0.part")}
+        files = {other: data for other, data in answer.files.items() if not (left_beside and other.endswith(".0.part"))}
         if answer.status == 0:
+            if name == "receive" and answer.out == UNREAD:
+                return None if files == {**self.start, "back": b"", "new": self.start["desk"]} else "other files of unread mail"
             return None if (answer.out, answer.err, files) == (whole.out, b"", whole.files) else "other bytes or files"
         if answer.status != 1:
             return f"status {answer.status}"
@@ -279,9 +286,9 @@ class Devices:
             return None if files in (self.start, {**self.start, **self.kept_by(name)}) else "other files"
         if not answer.err.startswith(b"refused 91 File "):
             return "another line"
-        if files != self.start:
+        if files != self.start and not (answer.err == file_fault(kept) and self.is_half_kept(name, files)):
             return "a file changed"
-        return "something was printed" if answer.out and name != "take" else None
+        return "something was printed" if answer.out and name not in ("take", "receive") else None
 
     def failing_calls(self, error, onward):
         for name, words, kept in COMMANDS:
@@ -309,8 +316,8 @@ class Devices:
             whole = self.whole[name]
             for number in range(1, NEVER):
                 answer = self.runs.run(words, "calls", number, number, KILLED)
-                files = {other: data for other, data in answer.files.items() if other != f"{kept}.0.part"}
-                wrong = files not in (self.start, whole.files) and "another file"
+                files = {other: data for other, data in answer.files.items() if not other.endswith(".0.part")}
+                wrong = files not in (self.start, whole.files) and not self.is_half_kept(name, files) and "another file"
                 self.count(f"{name} is killed at call {number}", wrong, sorted(answer.files))
                 self.runs.put_back(files)
                 again = self.runs.run(words)
@@ -319,6 +326,10 @@ class Devices:
                 self.runs.put_back(self.runs.files())
                 if answer.refused == 0:
                     break
+
+    def is_half_kept(self, name, files):
+        """Whether only the refused texts are kept."""
+        return name == "receive" and files == {**self.start, "back": self.whole[name].files["back"]}
 
     def all(self):
         self.full_devices()

@@ -1,12 +1,13 @@
 #!/usr/bin/env python3
-"""Refuses each growth of memory in turn to each of the ten commands: growths.py PROGRAM
+"""Refuses each growth of memory in turn to each of the commands: growths.py PROGRAM
 
 For k = 1, 2, .. growth number k of a run is refused, and then every growth from the k-th on, until a run meets no
 refusal. Each run ends with status 0 and exactly the bytes and the file of a run without refusals; or with status 1 and
 `refused 90 Memory`, and no file is kept or changed. Before a 90 `take` may have printed the lines of its first texts, and no
 other command anything. `rehearse` may print 90 in the line of a step: then the other lines are those of the script without
 the step. It may print 90 in the line of a desk, and does so in some run: then the other desks have the lines that they have
-without it, and the last line is `same` only if all desks have this line. The last line is 'N passed, M failed'; the lines
+without it, and the last line is `same` only if all desks have this line. `receive` may print 90 in the line of a text: then the other lines are as
+they are without it, the text is among the refused ones, and the desk is that of the other texts. The last line is 'N passed, M failed'; the lines
 before it say how many runs each command took.
 """
 import concurrent.futures
@@ -15,7 +16,7 @@ import sys
 import tempfile
 import time
 
-from small_runs import COMMANDS, NEVER, SCRIPT, Runs, built_library
+from small_runs import COMMANDS, MAIL, NEVER, SCRIPT, Runs, built_library, mailbox
 
 MEMORY = b"refused 90 Memory\n"
 AT_ONCE = 2
@@ -34,7 +35,7 @@ class Sweep:
         self.whole = runs.run(self.words)
         runs.put_back(self.whole.files)
         assert self.whole.status == 0, self.whole
-        self.rehearsals = {}
+        self.rehearsals, self.desks = {}, {}
 
     def wrong(self, answer):
         """What is wrong with an answer, or nothing."""
@@ -44,9 +45,10 @@ class Sweep:
             return f"status {answer.status}"
         if answer.err != MEMORY:
             return "another line"
-        if answer.files != self.runs.start:
+        kept_first = {**self.runs.start, "back": answer.files.get("back")} if self.name == "receive" else self.runs.start
+        if answer.files not in (self.runs.start, kept_first):
             return "a file changed"
-        if not (answer.out == b"" or self.name == "take" and self.is_front(answer.out)):
+        if not (answer.out == b"" or self.name == "take" and self.is_front(answer.out) or self.name == "receive"):
             return "something was printed"
         return None
 
@@ -55,6 +57,8 @@ class Sweep:
             return f"status {answer.status}"
         if answer.err:
             return "a line of a refusal"
+        if self.name == "receive":
+            return self.wrong_if_received(answer)
         if answer.files != self.whole.files:
             return "other files"
         if answer.out != self.whole.out and not (self.name == "rehearse" and self.is_rehearsal(answer.out)):
@@ -89,6 +93,35 @@ class Sweep:
             lines[-1] = b"same\n" if len(desks) == int(first.split()[1]) else b"different\n"
         return b"".join(lines)
 
+    def wrong_if_received(self, answer):
+        """What is wrong with the lines and the files of mail of which the texts whose lines say 90 were refused, or nothing."""
+        whole = lines_of(self.whole.out)
+        refused = tuple(place for place, line in enumerate(lines_of(answer.out)) if line.endswith(b" " + MEMORY))
+        ends = [line.split()[1] if place < len(MAIL) and place not in refused else b"refused" for place, line in enumerate(whole[:-1])]
+        lines = [line.split()[0] + b" " + MEMORY if place in refused else line for place, line in enumerate(whole[:-1])]
+        lines.append(b"taken %d repeated %d refused %d\n" % tuple(ends.count(word) for word in (b"taken", b"repeated", b"refused")))
+        if answer.out != b"".join(lines):
+            return "other bytes"
+        if refused not in self.desks:
+            self.desks[refused] = self.desk_of([text for text, end in zip(MAIL, ends) if end != b"refused"])
+        back = mailbox([text for text, end in zip(MAIL, ends) if end == b"refused"])
+        if answer.files != {**self.runs.start, "back": back, "new": self.desks[refused]}:
+            return "other files"
+        return None
+
+    def desk_of(self, texts):
+        """The desk file of the desk that received these texts."""
+        found = self.runs.files()
+        self.runs.put_back(found)
+        self.runs.write({"mail": mailbox(texts)})
+        files = self.runs.run(["receive", "desk", "new", "mail"]).files
+        self.runs.put_back(files)
+        return files["new"]
+
+    def has_refused_text(self):
+        """Whether a run printed 90 in the line of a text."""
+        return any(self.desks)
+
     def has_refused_export(self):
         """Whether a run printed 90 in the line of a desk."""
         steps = len(SCRIPT.splitlines()) - 1
@@ -107,6 +140,8 @@ class Sweep:
             if answer.refused == 0:
                 if self.name == "rehearse" and not onward and not self.has_refused_export():
                     faults.append("growths: rehearse: no line of a desk has 90")
+                if self.name == "receive" and not onward and not self.has_refused_text():
+                    faults.append("growths: receive: no line of a text has 90")
                 return number, faults
 
 

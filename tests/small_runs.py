@@ -1,6 +1,6 @@
 """The commands on small files, run under a library that refuses some of their calls (refusing.c).
 
-`Runs` is a folder with the files; `COMMANDS` names a command line for each command, and the file that it keeps.
+`Runs` is a folder with the files; `COMMANDS` names a command line for each command, and the file that it keeps last.
 """
 import dataclasses
 import os
@@ -24,6 +24,16 @@ TEXTS = {
 }
 SCRIPT = "DESKS 3\nTAKE 1 first\nTAKE 2 later\nTAKE 1 second\nMERGE 2 1\nTAKE 2 other\nTAKE 3 earlier\nMERGE 3 2\nMERGE 1 3\nTAKE 1 first\n"
 
+# The texts of a mailbox: the desk takes one, holds one, refuses two for what they say, and takes the last. None of them depends on
+# another.
+MAIL = [TEXTS["earlier"], TEXTS["first"], TEXTS["other"], "SSM\nUTC\n04JUN00001E001\nCNL\nLX544\n31JUN25 31JUN25 2\n", TEXTS["later"]]
+
+
+def mailbox(texts):
+    """The mailbox of these texts, as it is kept of refused ones."""
+    return "".join(text + "NNNN\n" for text in texts).encode()
+
+
 DESKS = ("start season stations base", "take base desk first second", "take base theirs first later")
 
 COMMANDS = [
@@ -31,6 +41,7 @@ COMMANDS = [
     ("tidy", ["tidy", "season"], None),
     ("start", ["start", "season", "stations", "old"], "old"),
     ("take", ["take", "desk", "desk", "earlier", "first", "later"], "desk"),
+    ("receive", ["receive", "--refused", "back", "desk", "new", "mail", "missing"], "new"),
     ("merge", ["merge", "desk", "theirs", "new"], "new"),
     ("withdraw", ["withdraw", "theirs", "theirs", "SSM 01JUN25 00001 001", "SSM 02JUN25 00001 001"], "theirs"),
     ("texts", ["texts", "desk", "LX544", "LX540"], None),
@@ -83,7 +94,8 @@ class Runs:
         self.write({"script": SCRIPT.encode(), "old": b"an old file\n", "stations": b"ZRH 30MAR25 25OCT25 +0200\nLHR 30MAR25 25OCT25 +0100\n"})
         with open(os.path.join(HERE, "program", "divided.ssim"), "rb") as file:
             lines = file.read().splitlines(keepends=True)
-        self.write({"season": b"".join(lines), "overlap": b"".join([*lines[:3], *lines[2:]]), "cut": TEXTS["later"][:60].encode()})
+        self.write({"season": b"".join(lines), "overlap": b"".join([*lines[:3], *lines[2:]]), "cut": TEXTS["later"][:60].encode(),
+                    "mail": b"ZCZC ABC1\n" + mailbox(MAIL)})
         for words in desks or ():
             assert self.run(words.split()).status == 0, words
         self.start = self.files()

@@ -1,5 +1,7 @@
 pub mod Words
 pub mod Levels
 pub mod Right
+pub mod TextWords
+pub mod TextForms
 pub mod Lines
 pub mod Rows

@@ -1,10 +1,10 @@
 -- A command line is taken, and the matches name it again: the names of the commands by computation,
 -- their values as variables.
 use Rattle.std.proofs.Common.{◌≡◌, ◌∙◌, inl, inr, true, refl, ap, ap₂, List, [], ◌∷◌, Option, Some}
-use Rattle.std.proofs.Common.{None, codes, sym, true≢false, subst}
-use Rattle.std.specs.List.{find, list_all}
-use Rattle.std.specs.Prelude.{Box, is_some, option_and_then, option_map, unwrap_or}
-use Rattle.clap.specs.Walk.{Row, all_of, answers_to, first_of, nothing_held, rows_after, walk_from}
+use Rattle.std.proofs.Common.{None, ℕ, ◌++◌, codes, sym, true≢false, subst}
+use Rattle.std.specs.List.{find, fold, list_all}
+use Rattle.std.specs.Prelude.{Box, is_some, option_map, unwrap_or}
+use Rattle.clap.specs.Walk.{Held, Row, Walk, answers_to, idle, nothing_held, rows_after, walk_from}
 use Rattle.clap.specs.Walk.{walked}
 use Rattle.clap.specs.Simple.{Shape, label_of, names_of, subcommand_of}
 use Rattle.clap.specs.Takes.{takes, turn_passes}
@@ -23,20 +23,29 @@ use Rattle.std.specs.Box.{box_value}
 use Rattle.clap.proofs.OnLiterals.{clap_on_literals}
 use Rattle.clap.proofs.WalkLemmas.{both}
 use Rattle.ssim_command_line.specs.Line.{Line, Spells, Text, is_plain, is_whole, name_of, values_of}
-use Rattle.ssim_command_line.specs.Line.{Check, Tidy, Start, Take, Merge, Texts, Withdraw, Show}
+use Rattle.ssim_command_line.specs.Line.{Check, Tidy, Start, Take, Receive, Merge, Texts, Withdraw}
+use Rattle.ssim_command_line.specs.Line.{Show}
 use Rattle.ssim_command_line.specs.Line.{History}
 use Rattle.ssim_command_line.specs.Line.{Calendar, Findings, Export, Rehearse, Explain}
 use Rattle.ssim_command_line.specs.Commands.{whole_program, leaf, one_value, one_value_and_texts}
 use Rattle.ssim_command_line.specs.Commands.{three_values, two_values, two_values_and_texts}
-use Rattle.ssim_command_line.specs.Request.{line_at, with_one, with_texts, with_three, with_two}
+use Rattle.ssim_command_line.specs.Commands.{two_values_and_texts_or_refused}
+use Rattle.ssim_command_line.specs.Request.{line_at, with_flights, with_one, with_refused, with_texts}
+use Rattle.ssim_command_line.specs.Request.{with_three, with_two}
 use Rattle.ssim_command_line.specs.Usage.{IsNoCommand, Names}
-use Rattle.ssim_command_line.proofs.Words.{Looks, looks}
-use Rattle.ssim_command_line.proofs.Levels.{any_level, any_rows, enters, one_level, one_rows, ready}
-use Rattle.ssim_command_line.proofs.Levels.{several_level, several_rows, sf, simple, st, takes_words}
+use Rattle.ssim_command_line.proofs.Words.{Looks, at, looks}
+use Rattle.ssim_command_line.proofs.Levels.{enters, one_level, one_rows, ready, simple, takes_words}
 use Rattle.ssim_command_line.proofs.Levels.{three_level, three_rows, top_rules, two_level, two_rows}
 use Rattle.ssim_command_line.proofs.Levels.{whole}
-use Rattle.ssim_command_line.proofs.Right.{any_right, one_right, several_right, three_right, two_right}
-use Rattle.ssim_command_line.proofs.Right.{words_right}
+use Rattle.ssim_command_line.proofs.Right.{one_right, three_right, two_right, words_right}
+use Rattle.ssim_command_line.proofs.TextForms.{EndsAs, Leads, any_more, any_none, any_one, any_takes}
+use Rattle.ssim_command_line.proofs.TextForms.{any_value, form_level, form_read, form_right, hf, ht}
+use Rattle.ssim_command_line.proofs.TextForms.{kt}
+use Rattle.ssim_command_line.proofs.TextForms.{hr, kr, sr, receive_first, receive_more, receive_one}
+use Rattle.ssim_command_line.proofs.TextForms.{receive_second, receive_takes}
+use Rattle.ssim_command_line.proofs.TextForms.{one_leads, several_first, several_more, several_one}
+use Rattle.ssim_command_line.proofs.TextForms.{several_second, several_takes, sf, st, two_leads}
+use Rattle.ssim_command_line.proofs.TextWords.{TakesTexts, ends}
 
 -- the words are taken without a fault, and name the row
 pub record Answers (words : List Text) (line : Line) : Type 0 where
@@ -68,6 +77,10 @@ start_is = record { met = refl; fits = refl; right = refl; found = refl }
 take_is : IsNamed (codes "take") (ready (leaf (codes "take") two_values_and_texts))
 unfolding clap_on_literals
 take_is = record { met = refl; fits = refl; right = refl; found = refl }
+
+receive_is : IsNamed (codes "receive") (ready (leaf (codes "receive") two_values_and_texts_or_refused))
+unfolding clap_on_literals
+receive_is = record { met = refl; fits = refl; right = refl; found = refl }
 
 merge_is : IsNamed (codes "merge") (ready (leaf (codes "merge") three_values))
 unfolding clap_on_literals
@@ -158,61 +171,90 @@ three_answers line name a b d make is named n la lb ld reads program =
       made = ap (λ (x : Text). line_at x rows) named ∙ (reads rows ∙ (ap (with_three make) (three_rows name a b d la lb ld) ∙ ap Some (sym is)));
     }
 
--- two values and one text or more
-several_answers : (line : Line) (name a b t : Text) (rest : List Text)
-    (make : Text → Text → List Text → Line) → line ≡ make a b (t ∷ rest) → name_of line ≡ name
-    → IsNamed name (st name) → Looks a → Looks b → Looks t → list_all is_plain rest ≡ true
-    → ((rows : List Row) → line_at name rows ≡ with_texts make rows) → (program : Text)
-    → Answers (program ∷ name ∷ a ∷ b ∷ t ∷ rest) line
-several_answers line name a b t rest make is named n la lb lt plain reads program =
-    let s = st name in
-    let values = a ∷ b ∷ t ∷ rest in
-    let rows = rows_after s.rules [] values in
-    let has = several_rows name a b la lb t rest lt plain in
-    let entered = enters name values s n.met n.fits n.found program in
-    let level = several_level name a b la lb t rest lt plain in
-    let faultless = several_right name a b la lb t rest lt plain in
-    let first = first_of (codes "first") rows in
-    let second = first_of (codes "second") rows in
-    let texts = all_of (codes "texts") rows in
-    let read : with_texts make rows ≡ Some (make a b (t ∷ rest)) =
-    made_of first second texts has.0 has.1 has.2 in
+-- values and then texts
+texts_answers : (line : Line) (name : Text) (s : Shape) (values : List Text) (k : ℕ) (h : Held)
+    (texts : List Text) (read : List Row → Option Line) → name_of line ≡ name → s.name ≡ name
+    → IsNamed name s → Leads s values k h → TakesTexts s k h → list_all is_plain texts ≡ true
+    → EndsAs s read line (fold (walked s.rules []) (at h idle k) texts)
+    → ((rows : List Row) → line_at name rows ≡ read rows) → (program : Text)
+    → Answers (program ∷ name ∷ values ++ texts) line
+texts_answers line name s values k h texts read named label n leads taken plain end reads program =
+    let words = values ++ texts in
+    let rows = rows_after s.rules [] words in
+    let entered = enters name words s n.met n.fits n.found program in
+    let level = form_level s values k h leads taken texts plain read line end in
+    let faultless = form_right s values k h leads taken texts plain read line end in
+    let has = form_read s values k h leads taken texts plain read line end in
     record {
-      taken = takes_words name values s n.met n.fits n.found program level;
-      right = words_right name values s n.met n.right n.fits n.found program faultless;
+      taken = takes_words name words s n.met n.fits n.found program level;
+      right = words_right name words s n.met n.right n.fits n.found program faultless;
       rows = rows;
-      named = entered ∙ ap (λ (x : Text). Some (x, rows)) (sym named);
-      made = ap (λ (x : Text). line_at x rows) named ∙ (reads rows ∙ (read ∙ ap Some (sym is)));
+      named = entered ∙ ap (λ (x : Text). Some (x, rows)) (label ∙ sym named);
+      made = ap (λ (x : Text). line_at x rows) named ∙ (reads rows ∙ has);
     }
-  where
-    two_in : Option Text → Option Text → Option (Text × Text)
-    two_in f g = option_and_then (λ (x : Text). option_map (λ (y : Text). (x, y)) g) f
 
-    line_in : Option (Text × Text) → Option (List Text) → Option Line
-    line_in o h = option_map (λ (p : Text × Text × List Text). make p.0 p.1 p.2)
-        (option_and_then (λ (p : Text × Text). option_map (λ (ts : List Text). (p.0, p.1, ts)) h) o)
+-- two values and one text or more
+several_answers : (name a b t : Text) (rest : List Text) (make : Text → Text → List Text → Line)
+    → name_of (make a b (t ∷ rest)) ≡ name → IsNamed name (st name a b)
+    → list_all is_plain (a ∷ b ∷ t ∷ rest) ≡ true
+    → ((rows : List Row) → line_at name rows ≡ with_texts make rows) → (program : Text)
+    → Answers (program ∷ name ∷ a ∷ b ∷ t ∷ rest) (make a b (t ∷ rest))
+several_answers name a b t rest make named n plain reads program =
+    let p = both _ _ plain in let q = both _ _ p.1 in let r = both _ _ q.1 in
+    let s = st name a b in
+    let h = ht name a b in
+    let k = kt name a b in
+    let first = several_first name a b in
+    let second = several_second name a b in
+    let lead = two_leads s a b 2 3 h k (looks a p.0) (looks b q.0) first second in
+    let kept = several_takes name a b in
+    let read = with_texts make in
+    let end = ends s 3 k kept (λ (ts : List Text) (w : Walk). EndsAs s read (make a b ts) w)
+    (several_one name a b make) (several_more name a b make) t rest (looks t r.0) r.1 in
+    texts_answers (make a b (t ∷ rest)) name s (a ∷ b ∷ []) 3 k (t ∷ rest) read named refl n lead
+    kept q.1 end reads program
 
-    made_of : (f g : Option Text) (h : Option (List Text)) → f ≡ Some a → g ≡ Some b → h ≡ Some (t ∷ rest)
-        → line_in (two_in f g) h ≡ Some (make a b (t ∷ rest))
-    made_of f g h ef eg eh = rw (ef, eg, eh) refl
+-- the same for `receive`, without its option
+receive_answers : (a b t : Text) (rest : List Text) → list_all is_plain (a ∷ b ∷ t ∷ rest) ≡ true
+    → (program : Text)
+    → Answers (program ∷ codes "receive" ∷ a ∷ b ∷ t ∷ rest) (Receive None a b (t ∷ rest))
+receive_answers a b t rest plain program =
+    let p = both _ _ plain in let q = both _ _ p.1 in let r = both _ _ q.1 in
+    let h = hr a b in
+    let k = kr a b in
+    let first = receive_first a b in
+    let second = receive_second a b in
+    let lead = two_leads sr a b 2 3 h k (looks a p.0) (looks b q.0) first second in
+    let kept = receive_takes a b in
+    let line = λ (ts : List Text). Receive None a b ts in
+    let end = ends sr 3 k kept (λ (ts : List Text) (w : Walk). EndsAs sr with_refused (line ts) w)
+    (receive_one a b) (receive_more a b) t rest (looks t r.0) r.1 in
+    texts_answers (line (t ∷ rest)) (codes "receive") sr (a ∷ b ∷ []) 3 k (t ∷ rest) with_refused refl
+    refl receive_is lead kept q.1 end (λ rows. refl) program
 
 -- one value and any number of flights
-texts_answers : (a : Text) (rest : List Text) → Looks a → list_all is_plain rest ≡ true → (program : Text) → Answers (program ∷ codes "texts" ∷ a ∷ rest) (Texts a rest)
-texts_answers a rest la plain program =
+flights_answers : (a : Text) (rest : List Text) → list_all is_plain (a ∷ rest) ≡ true
+    → (program : Text) → Answers (program ∷ codes "texts" ∷ a ∷ rest) (Texts a rest)
+flights_answers a rest plain program =
+    let p = both _ _ plain in
     let name = codes "texts" in
-    let s = sf name in
-    let rows = rows_after s.rules [] (a ∷ rest) in
-    let has = any_rows name a la rest plain in
-    record {
-      taken = takes_words name (a ∷ rest) s texts_is.met texts_is.fits texts_is.found program (any_level name a la rest plain);
-      right = words_right name (a ∷ rest) s texts_is.met texts_is.right texts_is.fits texts_is.found program (any_right name a la rest plain);
-      rows = rows;
-      named = enters name (a ∷ rest) s texts_is.met texts_is.fits texts_is.found program;
-      made = made_of (first_of (codes "first") rows) (all_of (codes "texts") rows) has.0 has.1;
-    }
+    let s = sf name a in
+    let h = hf name a in
+    let lead = one_leads s a 2 h (looks a p.0) (any_value name a) in
+    let kept = any_takes name a in
+    texts_answers (Texts a rest) name s (a ∷ []) 2 h rest with_flights refl refl texts_is lead kept p.1
+    (end rest p.1) (λ rows. refl) program
   where
-    made_of : (f : Option Text) (h : Option (List Text)) → f ≡ Some a → unwrap_or h [] ≡ rest → option_map (λ (desk : Text). Texts desk (unwrap_or h [])) f ≡ Some (Texts a rest)
-    made_of f h ef eh = rw (ef, eh) refl
+    end : (ts : List Text) → list_all is_plain ts ≡ true
+        → EndsAs (sf (codes "texts") a) with_flights (Texts a ts)
+        (fold (walked (sf (codes "texts") a).rules []) (at (hf (codes "texts") a) idle 2) ts)
+    end [] e = any_none (codes "texts") a
+    end (t ∷ ts) e =
+        let p = both _ _ e in
+        let name = codes "texts" in
+        ends (sf name a) 2 (hf name a) (any_takes name a)
+        (λ (us : List Text) (w : Walk). EndsAs (sf name a) with_flights (Texts a us) w)
+        (any_one name a) (any_more name a) t ts (looks t p.0) p.1
 
 -- the one word of a list of plain ones
 one_plain : (a : Text) → list_all is_plain (a ∷ []) ≡ true → Looks a
@@ -230,9 +272,7 @@ from_line program (Start a b d) w e =
 from_line program (Merge a b d) w e =
     let p = both _ _ e in let q = both _ _ p.1 in
     three_answers (Merge a b d) (codes "merge") a b d Merge refl refl merge_is (looks a p.0) (looks b q.0) (one_plain d q.1) (λ rows. refl) program
-from_line program (Texts a rest) w e =
-    let p = both _ _ e in
-    texts_answers a rest (looks a p.0) p.1 program
+from_line program (Texts a rest) w e = flights_answers a rest e program
 from_line program (Show a b d) w e =
     let p = both _ _ e in let q = both _ _ p.1 in
     three_answers (Show a b d) (codes "show") a b d Show refl refl show_is (looks a p.0) (looks b q.0) (one_plain d q.1) (λ rows. refl) program
@@ -250,16 +290,13 @@ from_line program (Rehearse a b d) w e =
     three_answers (Rehearse a b d) (codes "rehearse") a b d Rehearse refl refl rehearse_is (looks a p.0) (looks b q.0) (one_plain d q.1) (λ rows. refl) program
 from_line program (Take a b []) w e = absurd (true≢false (sym w))
 from_line program (Take a b (t ∷ rest)) w e =
-    let p = both _ _ e in let q = both _ _ p.1 in let r = both _ _ q.1 in
-    let la = looks a p.0 in let lb = looks b q.0 in let lt = looks t r.0 in
-    several_answers (Take a b (t ∷ rest)) (codes "take") a b t rest Take refl refl take_is la lb lt r.1
-    (λ rows. refl) program
+    several_answers (codes "take") a b t rest Take refl take_is e (λ rows. refl) program
+from_line program (Receive refused a b []) w e = absurd (true≢false (sym w))
+from_line program (Receive None a b (t ∷ rest)) w e = receive_answers a b t rest e program
+from_line program (Receive (Some file) a b (t ∷ rest)) w e = absurd (true≢false (sym e))
 from_line program (Withdraw a b []) w e = absurd (true≢false (sym w))
 from_line program (Withdraw a b (t ∷ rest)) w e =
-    let p = both _ _ e in let q = both _ _ p.1 in let r = both _ _ q.1 in
-    let la = looks a p.0 in let lb = looks b q.0 in let lt = looks t r.0 in
-    several_answers (Withdraw a b (t ∷ rest)) (codes "withdraw") a b t rest Withdraw refl refl withdraw_is
-    la lb lt r.1 (λ rows. refl) program
+    several_answers (codes "withdraw") a b t rest Withdraw refl withdraw_is e (λ rows. refl) program
 
 pub line_answers : (words : List Text) (line : Line) → Spells words line → Answers words line
 line_answers words line s = subst (λ (ws : List Text). Answers ws line) (sym s.words_are) (from_line s.program line s.whole s.plain)

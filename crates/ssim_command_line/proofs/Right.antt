@@ -1,7 +1,7 @@
 -- In plain words of a command `clap` finds no fault.
 use Rattle.std.proofs.Common.{◌≡◌, ◌∙◌, ℕ, Bool, cond, true, false, refl, ap, ap₂, List, [], ◌∷◌, ◌++◌}
 use Rattle.std.proofs.Common.{Option, Some, None, true≢false, is_some}
-use Rattle.std.specs.List.{find, fold, list_all}
+use Rattle.std.specs.List.{find}
 use Rattle.std.specs.Option.{option_map_or}
 use Rattle.clap.specs.Faults.{bundle_fault, check_fault, defaults_fault, entered_fault, fault_of}
 use Rattle.clap.specs.Faults.{flag_word_fault, level_fault, other_fault, settle_fault, step_fault}
@@ -13,17 +13,11 @@ use Rattle.clap.specs.Walk.{settled, value, walk, walk_from, walked, idle, optio
 use Rattle.clap.specs.Simple.{Shape, entered, label_of, names_of}
 use Rattle.clap.specs.Takes.{turn_passes}
 use Rattle.clap.proofs.OnLiterals.{clap_on_literals}
-use Rattle.clap.proofs.WalkLemmas.{both}
-use Rattle.ssim_command_line.specs.Line.{Text, is_plain}
+use Rattle.ssim_command_line.specs.Line.{Text}
 use Rattle.ssim_command_line.specs.Commands.{whole_program, leaf, one_value, three_values, two_values}
-use Rattle.ssim_command_line.proofs.Words.{Looks, at, awaits_option, looks, word_is}
-use Rattle.ssim_command_line.proofs.Levels.{any_ends, any_ends_at_one, any_first, any_later}
-use Rattle.ssim_command_line.proofs.Levels.{any_second, any_state, any_third, cf, ct, ends2, ends3}
-use Rattle.ssim_command_line.proofs.Levels.{ends_at, entered_is, f1, f2, first_is, later_text, p1, p2}
-use Rattle.ssim_command_line.proofs.Levels.{q1, q2, ready, second_is, second_text, sf, st, state, t1}
-use Rattle.ssim_command_line.proofs.Levels.{t2, t3, several_start, third_is, top_rules, v1, w1}
-use Rattle.ssim_command_line.proofs.Levels.{walk_is}
-use Rattle.ssim_command_line.proofs.Levels.{whole, x1, x2, x3, y1, y2, y3}
+use Rattle.ssim_command_line.proofs.Words.{Looks, at, awaits_option, word_is}
+use Rattle.ssim_command_line.proofs.Levels.{ends2, ends3, entered_is, p1, p2, q1, q2, ready, top_rules}
+use Rattle.ssim_command_line.proofs.Levels.{v1, w1, walk_is, whole, x1, x2, x3, y1, y2, y3}
 
 word_right : (s : Shape) (word : Text) (h : Held) → Looks word → other_fault s None word h ≡ []
 word_right s word h l =
@@ -32,7 +26,7 @@ word_right s word h l =
     ∙ ap (λ o. option_map_or (λ flags. bundle_fault s.rules s.args_override_self flags h) o []) l.short
 
 -- a plain word is right if the positional takes it
-turn_right : (s : Shape) (h : Held) (waiting : Waiting) (position : ℕ) (word : Text) → Looks word → awaits_option waiting ≡ false
+pub turn_right : (s : Shape) (h : Held) (waiting : Waiting) (position : ℕ) (word : Text) → Looks word → awaits_option waiting ≡ false
     → step_fault s position h value ≡ [] → turn_fault s [] (at h waiting position) word ≡ []
 turn_right s h (option id) position word l e p = absurd (true≢false e)
 turn_right s h idle position word l e p =
@@ -40,11 +34,11 @@ turn_right s h idle position word l e p =
 turn_right s h positional position word l e p =
     ap₂ (λ (k : Kinds) (m : Held × Step). or_else k (step_fault s position m.0 m.1)) (word_right s word h l) (word_is s.rules positional position word h l) ∙ p
 
-none_right : (s : Shape) (names : Names) (w : Walk) → walk_fault s names w [] ≡ []
+pub none_right : (s : Shape) (names : Names) (w : Walk) → walk_fault s names w [] ≡ []
 unfolding walk_fault
 none_right s names w = refl
 
-next_right : (s : Shape) (names : Names) (w after : Walk) (word : Text) (rest : List Text) → turn_fault s names w word ≡ []
+pub next_right : (s : Shape) (names : Names) (w after : Walk) (word : Text) (rest : List Text) → turn_fault s names w word ≡ []
     → walked s.rules names w word ≡ after → walk_fault s names after rest ≡ [] → walk_fault s names w (word ∷ rest) ≡ []
 unfolding walk_fault
 next_right s names w after word rest t e r = ap₂ (λ a b. or_else a b) t (ap (λ v. walk_fault s names v rest) e ∙ r)
@@ -57,12 +51,12 @@ stopped_right s names w name seen [] = refl
 stopped_right s names w name seen (x ∷ xs) = stopped_right s names w name (seen ++ x ∷ []) xs
 
 -- what is found after the words
-abbrev after_words : Shape → Bool → Kinds → Walk → Kinds
+abbrev pub after_words : Shape → Bool → Kinds → Walk → Kinds
 after_words s has below w =
     or_else below (or_else (settle_fault s.rules s.args_override_self w.held)
     (or_else (defaults_fault (settled s.rules w.held).rows s.rules) (check_fault s (finished s.rules w.held) has)))
 
-level_right : (s : Shape) (words : List Text) (w : Walk) → walk s.rules [] nothing_held words ≡ w → walk_fault s [] (walk_from nothing_held) words ≡ []
+pub level_right : (s : Shape) (words : List Text) (w : Walk) → walk s.rules [] nothing_held words ≡ w → walk_fault s [] (walk_from nothing_held) words ≡ []
     → after_words s false [] w ≡ [] → level_fault s [] nothing_held words false [] ≡ []
 level_right s words w e k r = ap₂ (λ (x : Kinds) (v : Walk). or_else x (after_words s false [] v)) k e ∙ r
 
@@ -118,78 +112,6 @@ module _ (name : Text) (a b d : Text) (la : Looks a) (lb : Looks b) (ld : Looks 
       (next_right s3 [] (at nothing_held idle 1) z1 a (b ∷ d ∷ []) (turn_right s3 nothing_held idle 1 a la refl refl) (y1 name a b d la lb ld)
       (next_right s3 [] z1 z2 b (d ∷ []) (turn_right s3 z1.held idle 2 b lb refl refl) (y2 name a b d la lb ld)
       (next_right s3 [] z2 z3 d [] (turn_right s3 z2.held idle 3 d ld refl refl) (y3 name a b d la lb ld) (none_right s3 [] z3)))) refl
-
--- one value and any number of texts
-module _ (name a : Text) (la : Looks a) where
-  any_later_right : (seen : List Text) (t : Text) (rest : List Text) → list_all is_plain rest ≡ true → walk_fault (sf name) [] (any_state name a seen t) rest ≡ []
-  any_later_right seen t [] e = none_right (sf name) [] (any_state name a seen t)
-  any_later_right seen t (u ∷ rest) e =
-      let p = both _ _ e in
-      let l = looks u p.0 in
-      next_right (sf name) [] (any_state name a seen t) (any_state name a (seen ++ t ∷ []) u) u rest (turn_right (sf name) (any_state name a seen t).held positional 2 u l refl refl) (any_later name a la seen t u l)
-      (any_later_right (seen ++ t ∷ []) u rest p.1)
-
-  any_second_right : (t : Text) (rest : List Text) → list_all is_plain rest ≡ true → walk_fault (sf name) [] (f2 name a t) rest ≡ []
-  any_second_right t [] e = none_right (sf name) [] (f2 name a t)
-  any_second_right t (u ∷ rest) e =
-      let p = both _ _ e in
-      let k = looks u p.0 in
-      next_right (sf name) [] (f2 name a t) (any_state name a (t ∷ []) u) u rest (turn_right (sf name) (f2 name a t).held positional 2 u k refl refl) (any_third name a la t u k) (any_later_right (t ∷ []) u rest p.1)
-
-  any_first_right : (rest : List Text) → list_all is_plain rest ≡ true → walk_fault (sf name) [] (f1 name a) rest ≡ []
-  any_first_right [] e = none_right (sf name) [] (f1 name a)
-  any_first_right (t ∷ rest) e =
-      let p = both _ _ e in
-      let k = looks t p.0 in
-      next_right (sf name) [] (f1 name a) (f2 name a t) t rest (turn_right (sf name) (f1 name a).held idle 2 t k refl refl) (any_second name a la t k) (any_second_right t rest p.1)
-
-  any_words_right : (rest : List Text) → list_all is_plain rest ≡ true → walk_fault (sf name) [] (at nothing_held idle 1) (a ∷ rest) ≡ []
-  any_words_right rest e =
-      next_right (sf name) [] (at nothing_held idle 1) (f1 name a) a rest (turn_right (sf name) nothing_held idle 1 a la refl refl) (any_first name a la) (any_first_right rest e)
-
-  any_end_right : (rest : List Text) → list_all is_plain rest ≡ true → after_words (sf name) false [] (walk (cf name) [] nothing_held (a ∷ rest)) ≡ []
-  unfolding clap_on_literals
-  any_end_right [] e = ap (after_words (sf name) false []) (any_first name a la)
-  any_end_right (t ∷ []) e = ap (after_words (sf name) false []) (any_ends_at_one name a la t (looks t (both _ _ e).0))
-  any_end_right (t ∷ u ∷ rest) e = ap (after_words (sf name) false []) (any_ends name a la t u rest e).2
-
-  pub any_right : (rest : List Text) → list_all is_plain rest ≡ true → level_fault (sf name) [] nothing_held (a ∷ rest) false [] ≡ []
-  any_right rest e = level_right (sf name) (a ∷ rest) (walk (cf name) [] nothing_held (a ∷ rest)) refl (any_words_right rest e) (any_end_right rest e)
-
--- two values and one text or more
-module _ (name a b : Text) (la : Looks a) (lb : Looks b) where
-  later_right : (seen : List Text) (t : Text) (rest : List Text) → list_all is_plain rest ≡ true → walk_fault (st name) [] (state name a b seen t) rest ≡ []
-  later_right seen t [] e = none_right (st name) [] (state name a b seen t)
-  later_right seen t (u ∷ rest) e =
-      let p = both _ _ e in
-      let l = looks u p.0 in
-      next_right (st name) [] (state name a b seen t) (state name a b (seen ++ t ∷ []) u) u rest (turn_right (st name) (state name a b seen t).held positional 3 u l refl refl) (later_text name a b la lb seen t u l)
-      (later_right (seen ++ t ∷ []) u rest p.1)
-
-  from_third : (t : Text) (rest : List Text) → list_all is_plain rest ≡ true → walk_fault (st name) [] (t3 name a b t) rest ≡ []
-  from_third t [] e = none_right (st name) [] (t3 name a b t)
-  from_third t (u ∷ rest) e =
-      let p = both _ _ e in
-      let k = looks u p.0 in
-      next_right (st name) [] (t3 name a b t) (state name a b (t ∷ []) u) u rest (turn_right (st name) (t3 name a b t).held positional 3 u k refl refl) (second_text name a b la lb t u k) (later_right (t ∷ []) u rest p.1)
-
-  texts_right : (t : Text) (rest : List Text) → Looks t → list_all is_plain rest ≡ true → walk_fault (st name) [] (at nothing_held idle 1) (a ∷ b ∷ t ∷ rest) ≡ []
-  texts_right t rest l e =
-      next_right (st name) [] (at nothing_held idle 1) (t1 name a b) a (b ∷ t ∷ rest) (turn_right (st name) nothing_held idle 1 a la refl refl) (first_is name a b la lb)
-      (next_right (st name) [] (t1 name a b) (t2 name a b) b (t ∷ rest) (turn_right (st name) (t1 name a b).held idle 2 b lb refl refl) (second_is name a b la lb)
-      (next_right (st name) [] (t2 name a b) (t3 name a b t) t rest (turn_right (st name) (t2 name a b).held idle 3 t l refl refl) (third_is name a b la lb t l) (from_third t rest e)))
-
-  end_right : (t : Text) (rest : List Text) → list_all is_plain rest ≡ true → after_words (st name) false [] (fold (walked (ct name) []) (t3 name a b t) rest) ≡ []
-  unfolding clap_on_literals
-  end_right t [] e = refl
-  end_right t (u ∷ rest) e =
-      let p = both _ _ e in
-      let r = ends_at name a b la lb (t ∷ []) u rest p.1 in
-      ap (after_words (st name) false []) (ap (λ (w : Walk). fold (walked (ct name) []) w rest) (second_text name a b la lb t u (looks u p.0)) ∙ r.2)
-
-  pub several_right : (t : Text) (rest : List Text) → Looks t → list_all is_plain rest ≡ true → level_fault (st name) [] nothing_held (a ∷ b ∷ t ∷ rest) false [] ≡ []
-  several_right t rest l e =
-      level_right (st name) (a ∷ b ∷ t ∷ rest) (fold (walked (ct name) []) (t3 name a b t) rest) (several_start name a b la lb t rest l) (texts_right t rest l e) (end_right t rest e)
 
 -- the command line as a whole
 module _ (name : Text) (values : List Text) (s : Shape)

@@ -1,5 +1,5 @@
 -- What `clap` reads of the program's commands.
-use Rattle.std.specs.Prelude.{ℕ, true, List, [], ◌∷◌, Some, codes}
+use Rattle.std.specs.Prelude.{ℕ, true, List, [], ◌∷◌, ◌++◌, Some, codes}
 use Rattle.clap.specs.Words.{App, Rule, Shape, new_rule, with_subcommand}
 use Rattle.clap.specs.Simple.{new_shape}
 use Rattle.clap.specs.declared.builder.action.ArgAction.TheVariants.{Append}
@@ -36,6 +36,15 @@ three_values = needed (codes "first") ∷ needed (codes "second") ∷ needed (co
 abbrev pub two_values_and_texts : List Rule
 two_values_and_texts = needed (codes "first") ∷ needed (codes "second") ∷ several_texts ∷ []
 
+-- an option with a value, which may be left out
+abbrev pub optional : List ℕ → Rule
+optional name = record (new_rule name) { long = Some name; value_names = 1 }
+
+-- the values of a command with two values and one or more texts, and an option for a file of refused
+-- texts
+abbrev pub two_values_and_texts_or_refused : List Rule
+two_values_and_texts_or_refused = two_values_and_texts ++ optional (codes "refused") ∷ []
+
 -- a command with these values and no subcommand
 abbrev pub leaf : List ℕ → List Rule → Shape
 leaf name rules = record (new_shape name) { rules = rules }
@@ -59,7 +68,10 @@ on_data_sets =
 
 -- the commands that change a desk
 abbrev pub on_desks : List Shape
-on_desks = leaf (codes "take") two_values_and_texts ∷ leaf (codes "merge") three_values ∷ []
+on_desks =
+    leaf (codes "take") two_values_and_texts
+    ∷ leaf (codes "receive") two_values_and_texts_or_refused
+    ∷ leaf (codes "merge") three_values ∷ []
 
 -- the commands on the messages that a desk holds
 abbrev pub on_messages : List Shape

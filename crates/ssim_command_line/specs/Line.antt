@@ -1,5 +1,6 @@
 -- The command lines of the program.
-use Rattle.std.specs.Prelude.{◌≡◌, ◌==◌, ℕ, Bool, true, false, not, List, [], ◌∷◌, codes}
+use Rattle.std.specs.Prelude.{◌≡◌, ◌==◌, ℕ, Bool, true, false, not, List, [], ◌∷◌, ◌++◌, Option, None}
+use Rattle.std.specs.Prelude.{Some, codes}
 use Rattle.std.specs.List.{list_all}
 
 -- a text as its bytes
@@ -12,6 +13,7 @@ pub data Line : Type 0 where
   Tidy : Text → Line
   Start : Text → Text → Text → Line
   Take : Text → Text → List Text → Line
+  Receive : Option Text → Text → Text → List Text → Line
   Merge : Text → Text → Text → Line
   Texts : Text → List Text → Line
   Withdraw : Text → Text → List Text → Line
@@ -29,6 +31,7 @@ name_of (Check dataset) = codes "check"
 name_of (Tidy dataset) = codes "tidy"
 name_of (Start dataset stations out) = codes "start"
 name_of (Take desk out texts) = codes "take"
+name_of (Receive refused desk out texts) = codes "receive"
 name_of (Merge desk other out) = codes "merge"
 name_of (Texts desk flights) = codes "texts"
 name_of (Withdraw desk out references) = codes "withdraw"
@@ -40,12 +43,19 @@ name_of (Export desk) = codes "export"
 name_of (Rehearse dataset stations script) = codes "rehearse"
 name_of (Explain word) = codes "explain"
 
--- the values of a line, in the order in which they are written
+-- an option and its value, if it is given
+abbrev pub option_words : Text → Option Text → List Text
+option_words name None = []
+option_words name (Some value) = name ∷ value ∷ []
+
+-- the values of a line, in the order in which they are written; options come first
 abbrev pub values_of : Line → List Text
 values_of (Check dataset) = dataset ∷ []
 values_of (Tidy dataset) = dataset ∷ []
 values_of (Start dataset stations out) = dataset ∷ stations ∷ out ∷ []
 values_of (Take desk out texts) = desk ∷ out ∷ texts
+values_of (Receive refused desk out texts) =
+    option_words (codes "--refused") refused ++ desk ∷ out ∷ texts
 values_of (Merge desk other out) = desk ∷ other ∷ out ∷ []
 values_of (Texts desk flights) = desk ∷ flights
 values_of (Withdraw desk out references) = desk ∷ out ∷ references
@@ -57,9 +67,10 @@ values_of (Export desk) = desk ∷ []
 values_of (Rehearse dataset stations script) = dataset ∷ stations ∷ script ∷ []
 values_of (Explain word) = word ∷ []
 
--- `take` has one text or more, `withdraw` one reference or more
+-- `take` and `receive` have one text or more, `withdraw` one reference or more
 abbrev pub is_whole : Line → Bool
 is_whole (Take desk out []) = false
+is_whole (Receive refused desk out []) = false
 is_whole (Withdraw desk out []) = false
 is_whole _ = true
 
@@ -69,7 +80,8 @@ is_plain [] = false
 is_plain (x ∷ []) = true
 is_plain (x ∷ y ∷ rest) = not (x == 45)
 
--- the words are the program's name, the command's name and its values, which are plain
+-- The words are the program's name, the command's name and its values, which are plain: no option is
+-- given.
 pub record Spells (words : List Text) (line : Line) : Type 0 where
   pub program : Text
   pub words_are : words ≡ program ∷ name_of line ∷ values_of line

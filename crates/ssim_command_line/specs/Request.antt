@@ -5,7 +5,8 @@ use Rattle.std.specs.Str.{bytes_eq}
 use Rattle.clap.specs.Words.{Row, all_of, first_of}
 use Rattle.ssim_command_line.specs.Line.{Line, Text, Check, Tidy, Start, Take, Merge, Texts, Show}
 use Rattle.ssim_command_line.specs.Line.{History}
-use Rattle.ssim_command_line.specs.Line.{Withdraw, Calendar, Findings, Export, Rehearse, Explain}
+use Rattle.ssim_command_line.specs.Line.{Receive, Withdraw, Calendar, Findings, Export, Rehearse}
+use Rattle.ssim_command_line.specs.Line.{Explain}
 use Rattle.ssim_command_line.specs.declared.command_line.Request.{Request}
 use Rattle.ssim_command_line.specs.declared.command_line.Request.TheVariants as request
 
@@ -15,6 +16,8 @@ line_of (request.Check dataset) = Check dataset.now
 line_of (request.Tidy dataset) = Tidy dataset.now
 line_of (request.Start dataset stations out) = Start dataset.now stations.now out.now
 line_of (request.Take desk out texts) = Take desk.now out.now (map (λ t. t.now) texts.items)
+line_of (request.Receive refused desk out texts) =
+    Receive (option_map (λ r. r.now) refused) desk.now out.now (map (λ t. t.now) texts.items)
 line_of (request.Merge desk other out) = Merge desk.now other.now out.now
 line_of (request.Texts desk flights) = Texts desk.now (map (λ t. t.now) flights.items)
 line_of (request.Withdraw desk out references) =
@@ -60,6 +63,11 @@ two_and_texts_of rows = option_and_then
 abbrev pub with_texts : (Text → Text → List Text → Line) → List Row → Option Line
 with_texts make rows = option_map (λ p. make p.0 p.1 p.2) (two_and_texts_of rows)
 
+-- the `receive` line, which may have a file of refused texts, if the other values are given
+abbrev pub with_refused : List Row → Option Line
+with_refused rows =
+    option_map (λ p. Receive (first_of (codes "refused") rows) p.0 p.1 p.2) (two_and_texts_of rows)
+
 -- the texts, none if none is given
 abbrev pub texts_of : List Row → List Text
 texts_of rows = unwrap_or (all_of (codes "texts") rows) []
@@ -75,6 +83,7 @@ line_at name rows =
     else (if bytes_eq name (codes "tidy") then with_one Tidy rows
     else (if bytes_eq name (codes "start") then with_three Start rows
     else (if bytes_eq name (codes "take") then with_texts Take rows
+    else (if bytes_eq name (codes "receive") then with_refused rows
     else (if bytes_eq name (codes "merge") then with_three Merge rows
     else (if bytes_eq name (codes "texts") then with_flights rows
     else (if bytes_eq name (codes "withdraw") then with_texts Withdraw rows
@@ -85,4 +94,4 @@ line_at name rows =
     else (if bytes_eq name (codes "export") then with_one Export rows
     else (if bytes_eq name (codes "rehearse") then with_three Rehearse rows
     else (if bytes_eq name (codes "explain") then with_one Explain rows
-    else None)))))))))))))
+    else None))))))))))))))

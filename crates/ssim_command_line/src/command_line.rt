@@ -4,7 +4,7 @@ ghost use Rattle.clap.specs.Words.{all_of, app_of, first_of, found_of, rows_of};
 ghost use Rattle.ssim_command_line.specs.Commands.{whole_program};
 ghost use Rattle.ssim_command_line.specs.Line.{Line, Spells, Take, Withdraw};
 ghost use Rattle.ssim_command_line.specs.Request.{line_at, line_of, three_of, two_and_texts_of};
-ghost use Rattle.ssim_command_line.specs.Request.{two_of, with_flights, with_texts};
+ghost use Rattle.ssim_command_line.specs.Request.{two_of, with_flights, with_refused, with_texts};
 ghost use Rattle.ssim_command_line.specs.Usage.{IsFaultOf, Names};
 
 use crate::commands::command;
@@ -25,6 +25,9 @@ pub enum Request<'a> {
     Start(&'a str, &'a str, &'a str),
     /// Take texts at a desk, and write its desk file: DESK, OUT and the texts.
     Take(&'a str, &'a str, Vec<&'a str>),
+    /// Take each text of mailbox files that a desk takes, keep the refused ones, if a file for them
+    /// is named, and write the desk file: that file, DESK, OUT and the mailbox files.
+    Receive(Option<&'a str>, &'a str, &'a str, Vec<&'a str>),
     /// Merge two desks, and write the desk file.
     Merge(&'a str, &'a str, &'a str),
     /// Print the texts of the messages of a desk: of all, or of those that name one of the flights.
@@ -127,6 +130,18 @@ fn taking<'a>(alloc: Global, inner: &ArgMatches<'a>) -> Result<Option<Request<'a
     Ok(values.map(|(desk, out, texts)| Request::Take(desk, out, texts)))
 }
 
+/// The request that the matches of `receive` make.
+fn receiving<'a>(alloc: Global, inner: &ArgMatches<'a>) -> Result<Option<Request<'a>>, AllocError>
+    ensures { IfOk result
+        (λ r. option_map line_of r ≡ with_refused (rows_of (found_of inner.now))) }
+{
+    let Some((desk, out, texts)) = two_and_texts(alloc, inner)? else {
+        return Ok(None);
+    };
+    let refused = value_at(inner, "refused");
+    Ok(Some(Request::Receive(refused, desk, out, texts)))
+}
+
 /// The request that the matches of `withdraw` make.
 fn withdrawing<'a>(alloc: Global, inner: &ArgMatches<'a>) -> Result<Option<Request<'a>>, AllocError>
     ensures { IfOk result
@@ -172,6 +187,9 @@ fn read<'a>(
     }
     if name == "take" {
         return taking(alloc, inner);
+    }
+    if name == "receive" {
+        return receiving(alloc, inner);
     }
     if name == "merge" {
         return Ok(three(inner).map(|(a, b, c)| Request::Merge(a, b, c)));

@@ -4,9 +4,10 @@ ghost use Rattle.clap.specs.Words.{app_of, rule_of};
 ghost use Rattle.ssim_command_line.specs.Commands.{add_all, any_texts, explanations, leaf, needed};
 ghost use Rattle.ssim_command_line.specs.Commands.{of_desks, on_data_sets, on_dates, on_desks};
 ghost use Rattle.ssim_command_line.specs.Commands.{on_messages, on_timetables, one_value};
-ghost use Rattle.ssim_command_line.specs.Commands.{one_value_and_texts, rehearsals, several_texts};
+ghost use Rattle.ssim_command_line.specs.Commands.{one_value_and_texts, optional, rehearsals};
+ghost use Rattle.ssim_command_line.specs.Commands.{several_texts};
 ghost use Rattle.ssim_command_line.specs.Commands.{three_values, two_values, two_values_and_texts};
-ghost use Rattle.ssim_command_line.specs.Commands.{whole_program};
+ghost use Rattle.ssim_command_line.specs.Commands.{two_values_and_texts_or_refused, whole_program};
 ghost use Rattle.ssim_command_line.specs.internal.Commands.{IsLeaf};
 
 use crate::help;
@@ -48,6 +49,17 @@ fn any_texts<'a>(alloc: Global, shown: &'a str) -> Arg<'a>
         .value_name(shown)
         .help(help::about_value(shown))
         .action(ArgAction::Append)
+}
+
+/// An option with a value, which may be left out.
+fn optional<'a>(alloc: Global, name: &'a str, shown: &'a str, about: &'a str) -> Arg<'a>
+    ensures rule { rule_of result ≡ optional name.entry.now }
+    ensures local { result.global ≡ false }
+{
+    Arg::new(alloc, name)
+        .long(name)
+        .value_name(shown)
+        .help(about)
 }
 
 /// A command with one value.
@@ -113,6 +125,16 @@ fn with_texts<'a>(
     command.arg(texts(alloc, shown))
 }
 
+/// The command `receive`, with a desk, the desk file to write, one or more mailbox files, and an
+/// option for the refused texts.
+fn receive<'a>(alloc: Global) -> Result<Command<'a>, AllocError>
+    ensures { IfOk result (IsLeaf (leaf (codes "receive") two_values_and_texts_or_refused)) }
+{
+    let about = help::RECEIVE;
+    let command = with_texts(alloc, "receive", about, help::RECEIVE_EXAMPLE, "TEXT")?;
+    command.arg(optional(alloc, "refused", "FILE", help::REFUSED))
+}
+
 /// The command `texts`, with one value and any number of flights.
 fn texts_of_desk<'a>(alloc: Global) -> Result<Command<'a>, AllocError>
     ensures { IfOk result (IsLeaf (leaf (codes "texts") one_value_and_texts)) }
@@ -145,7 +167,11 @@ fn with_desks<'a>(alloc: Global, program: Command<'a>) -> Result<Command<'a>, Al
     let take = with_texts(alloc, "take", help::TAKE, help::TAKE_EXAMPLE, "TEXT")?;
     let shown = ["DESK", "OTHER", "OUT"];
     let merge = with_three(alloc, "merge", help::MERGE, help::MERGE_EXAMPLE, shown)?;
-    program.subcommand(take)?.subcommand(merge)
+    let receive = receive(alloc)?;
+    program
+        .subcommand(take)?
+        .subcommand(receive)?
+        .subcommand(merge)
 }
 
 /// The commands on the messages that a desk holds.

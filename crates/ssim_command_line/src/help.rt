@@ -60,9 +60,28 @@ Example:
 prints the reference of each message, 'taken' if it is new and 'repeated' if it was held:
   taken SSM 15MAR27 00001 001
   repeated SSM 15MAR27 00001 001
-At the first text that is refused it stops, and OUT is not written.
+Each file is one text. At the first that is refused it stops, and OUT is not written.
 Exit status: 0; 1 if the desk file or a text is refused, or a file cannot be read or
 written.";
+
+pub(crate) const RECEIVE: &str = "\
+Read a desk file, try every text of every file, print what became of each, and write the
+desk file OUT, which may be the same file, with all that was taken";
+
+pub(crate) const RECEIVE_EXAMPLE: &str = "\
+Example:
+  ssimdesk receive fdh.desk new.desk mail.txt
+prints the file and the line on which each text begins, with 'taken', 'repeated' or its
+refusal, and the number of each:
+  mail.txt:2 taken SSM 16MAR27 00003 001 MUCOPZ7
+  mail.txt:11 refused 24 BadPeriod line 17
+  taken 1 repeated 0 refused 1
+A file may have any number of texts, with their envelopes and lines NNNN.
+Exit status: 0, also if texts were refused; 1 if the desk file is refused or cannot be
+read, or a file cannot be written.";
+
+pub(crate) const REFUSED: &str =
+    "The file in which to keep the refused texts, to be corrected and received again";
 
 pub(crate) const MERGE: &str = "\
 Read two desk files that began from the same data set and station table, and write the
@@ -233,7 +252,7 @@ pub(crate) fn about_value(shown: &str) -> &'static str {
         return "The desk file to write";
     }
     if shown == "TEXT" {
-        return "The files of one or more SSM and ASM texts, a message each; - is standard input";
+        return "The files of one or more SSM and ASM texts; - is standard input";
     }
     if shown == "REFERENCE" {
         return "The references of one or more messages, each as one word, as 'take' prints it";

@@ -1,9 +1,11 @@
 -- What a command does to the world, from what it makes and what is printed of it.
-use Rattle.std.proofs.Common.{◌≡◌, inl, inr, ℕ, Vec, List, [], Option, None, Result, Ok, Err, IfErr, IfOk, refl}
+use Rattle.std.proofs.Common.{◌≡◌, inl, inr, ℕ, Vec, List, [], Option, Result, Ok, Err, IfErr, IfOk, refl}
 use Rattle.ssim_program.specs.Again.{PrintsItself}
 use Rattle.ssim_program.specs.Effects.{Begins, Makes}
 use Rattle.ssim_program.specs.Files.{Files, Kept, with_kept}
-use Rattle.ssim_command_line.specs.Line.{Line, Check, Tidy, Start, Take, Merge, Withdraw, Texts, Show, History, Calendar, Findings, Export, Rehearse, Explain}
+use Rattle.ssim_command_line.specs.Line.{Line, Check, Tidy, Start, Take, Merge, Withdraw, Receive}
+use Rattle.ssim_command_line.specs.Line.{Texts, Show, History, Calendar, Findings, Export, Rehearse}
+use Rattle.ssim_command_line.specs.Line.{Explain}
 use Rattle.ssim_program.specs.print.Paper.{Paper}
 use Rattle.ssim_program.specs.internal.Print.{Prints}
 use Rattle.ssim_program.specs.print.Reasons.{Refuses}
@@ -20,6 +22,7 @@ itself (Check name) t u at_once = tt
 itself (Tidy name) t u at_once = absurd at_once
 itself (Start dataset stations out) t u at_once = tt
 itself (Take file out names) t u at_once = absurd at_once
+itself (Receive refused file out names) t u at_once = absurd at_once
 itself (Merge file other out) t u at_once = tt
 itself (Withdraw file out references) t u at_once = tt
 itself (Texts file flights) t u at_once = tt
@@ -36,6 +39,7 @@ begins (Check name) files text kept at_once made = made
 begins (Tidy name) files text kept at_once made = made
 begins (Start dataset stations out) files text kept at_once made = made
 begins (Take file out names) files text kept at_once made = absurd at_once
+begins (Receive refused file out names) files text kept at_once made = absurd at_once
 begins (Merge file other out) files text kept at_once made = made
 begins (Withdraw file out references) files text kept at_once made = made
 begins (Texts file flights) files text kept at_once made = made
@@ -71,16 +75,16 @@ prints_made line old n new m text before after (Err refusal) at_once made printe
 })
 
 -- nothing is printed of what stops
-pub stops_at_once : (line : Line) (old : Option Files) (n : ℕ) (new : Option Files) (m : ℕ) (out : Paper) (refusal : Refusal) → Stops line old n m [] refusal → new ≡ old
+pub stops_at_once : (line : Line) (old : Option Files) (n : ℕ) (new : Option Files) (m : ℕ) (out : Paper) (refusal : Refusal) → Stops line old n m [] [] refusal → new ≡ old
     → Does line (world old n out) (world new m out) (Err refusal)
-stops_at_once line old n new m out refusal why same = inl (record { printed = []; why = why; files = same; grows = nothing out })
+stops_at_once line old n new m out refusal why same = inl (record { printed = []; kept = []; why = why; files = same; grows = nothing out })
 
 -- a command that keeps no file, from what its last call makes
 pub prepared : {A : Type 0} (line : Line) (old : Option Files) (n : ℕ) (new : Option Files) (m : ℕ) (P : List ℕ → Type 0) (Q : Refusal → Type 0) (r : Result (Vec ℕ A) Refusal)
-    → ((text : List ℕ) → P text → Makes line old text None) → ((refusal : Refusal) → Q refusal → Refuses line old [] refusal) → new ≡ old → m ≡ n
+    → ((text : List ℕ) → P text → Makes line old text []) → ((refusal : Refusal) → Q refusal → Refuses line old [] refusal) → new ≡ old → m ≡ n
     → IfOk r (λ v. P v.items) → IfErr r Q → Prepares line (stored old n) (stored new m) r
-prepared line old n new m P Q (Ok v) made why same counted ok err = (None, made v.items ok, same, counted)
-prepared line old n new m P Q (Err refusal) made why same counted ok err = (inl (why refusal err, counted), same)
+prepared line old n new m P Q (Ok v) made why same counted ok err = ([], made v.items ok, same, counted)
+prepared line old n new m P Q (Err refusal) made why same counted ok err = (inl (why refusal err, counted, refl), same)
 
 -- memory ran out before anything was done
 pub memory_refuses : (line : Line) (files : Option Files) → Refuses line files [] refused.Memory
@@ -88,6 +92,7 @@ memory_refuses (Check name) files = (refl, inl (inl refl))
 memory_refuses (Tidy name) files = (refl, inl (inl (inl refl)))
 memory_refuses (Start dataset stations out) files = (refl, inl (inl refl))
 memory_refuses (Take file out names) files = inl (refl, inl (inl refl))
+memory_refuses (Receive refused file out names) files = (refl, inr refl)
 memory_refuses (Merge file other out) files = (refl, inl (inl (inl refl)))
 memory_refuses (Withdraw file out references) files = (refl, inl (inl (inl refl)))
 memory_refuses (Texts file flights) files = (refl, inl (inl (inl refl)))

@@ -1,5 +1,5 @@
 -- What an export leaves on a printer, from what the crates below say of it.
-use Rattle.std.proofs.Common.{◌≡◌, inl, inr, ℕ, List, [], ◌++◌, Option, None, Result, Ok, Err, refl, sym, ap, subst, append-nil}
+use Rattle.std.proofs.Common.{◌≡◌, inl, inr, ℕ, List, [], ◌++◌, Option, Result, Ok, Err, refl, sym, ap, subst, append-nil}
 use Rattle.std.specs.Io.KnownBytes.{Appends}
 use Rattle.std.proofs.KnownBytes.{Appends-trans}
 use Rattle.ssim_values.specs.Flight.{FlightNumber}
@@ -58,26 +58,28 @@ module _ (files : Option Files) (n : ℕ) (new : Option Files) (m : ℕ) (name :
   pub tidy_does : (base : List Record) (notes : List Note) (r : Result (Unit {0}) Refusal) → ReadsFile files name (Ok (base, notes)) → PrintsExport base (days_of base) p q r
       → Does (Tidy name) (world files n p) (world new m q) r
   tidy_does base notes (Ok x) read h =
-      record { printed = h.0.0; kept = None; makes = (base, notes, read, h.0.1, refl); again = h.1; files = same; failures = counted; grows = h.0.2; flushed = h.2 }
+      record { printed = h.0.0; kept = []; makes = (base, notes, read, h.0.1, refl); again = h.1; files = same; failures = counted; grows = h.0.2; flushed = h.2 }
   tidy_does base notes (Err refusal) read (inl k) = inl (record {
     printed = [];
-    why = inl ((refl, inr (base, notes, read, k.1)), counted);
+    kept = [];
+    why = inl ((refl, inr (base, notes, read, k.1)), counted, refl);
     files = same;
     grows = subst (λ (x : Paper). Grows [] p x) (sym k.0) (nothing p);
   })
   tidy_does base notes (Err refusal) read (inr k) =
-      inr (record { is = k.0; printed = k.1; kept = None; begins = (base, notes, read, k.2, refl); files = same; failures = counted; breaks = k.3 })
+      inr (record { is = k.0; printed = k.1; kept = []; begins = (base, notes, read, k.2, refl); files = same; failures = counted; breaks = k.3 })
 
   -- what `export` does
   pub export_does : (desk : DeskSeen) (r : Result (Unit {0}) Refusal) → ReadsDesk files name desk → PrintsExport desk.base.records (days_of_desk desk) p q r
       → Does (Export name) (world files n p) (world new m q) r
   export_does desk (Ok x) read h =
-      record { printed = h.0.0; kept = None; makes = (desk, read, h.0.1, refl); again = h.1; files = same; failures = counted; grows = h.0.2; flushed = h.2 }
+      record { printed = h.0.0; kept = []; makes = (desk, read, h.0.1, refl); again = h.1; files = same; failures = counted; grows = h.0.2; flushed = h.2 }
   export_does desk (Err refusal) read (inl k) = inl (record {
     printed = [];
-    why = inl ((refl, inr (desk, read, k.1)), counted);
+    kept = [];
+    why = inl ((refl, inr (desk, read, k.1)), counted, refl);
     files = same;
     grows = subst (λ (x : Paper). Grows [] p x) (sym k.0) (nothing p);
   })
   export_does desk (Err refusal) read (inr k) =
-      inr (record { is = k.0; printed = k.1; kept = None; begins = (desk, read, k.2, refl); files = same; failures = counted; breaks = k.3 })
+      inr (record { is = k.0; printed = k.1; kept = []; begins = (desk, read, k.2, refl); files = same; failures = counted; breaks = k.3 })

@@ -4,6 +4,9 @@ pub mod Exporting
 pub mod Again
 pub mod Joining
 pub mod Texts
+pub mod Received
+pub mod Keeping
+pub mod Receiving
 pub mod MessageTexts
 pub mod NamedFlights
 pub mod Opening
@@ -17,6 +20,7 @@ pub mod Writers
 pub mod Withdrawing
 pub mod Origins
 pub mod SavedDesks
+pub mod AcceptedTexts
 pub mod Offices
 pub mod Prints
 pub mod Verdict

@@ -18,15 +18,15 @@ use Rattle.ssim_desk.proofs.Agreeing.{same_desk}
 use Rattle.ssim_desk.proofs.Taking.{merge_holds, take_holds}
 use Rattle.ssim_desk.specs.Desk.{take_answer}
 use Rattle.ssim_desk.specs.Reach.{is_accepted}
-use Rattle.ssim_desk.specs.declared.desk.Took.{Took}
-use Rattle.ssim_desk.specs.declared.desk.Took.TheVariants as took
 use Rattle.ssim_desk.specs.declared.steps.Answer.TheVariants.{Merged}
 use Rattle.ssim_command_line.specs.Line.{Text}
 use Rattle.ssim_program.specs.Desks.{ReadsDesk, TakesText, TakesTexts}
 use Rattle.ssim_program.specs.Files.{Files, file_of}
 use Rattle.ssim_program.specs.Made.{file_limit}
+use Rattle.ssim_program.specs.Receiving.{IsAccepted, Receipt, texts_received}
 use Rattle.ssim_program.specs.Offices.{BeganBy, BeganFrom, Began, Bringing, Brought, BroughtBy, Happened, History, HoldsWhatWasBrought, IsIn, IsSaid, OfficesAgree, Origin, Then, files_of, origin_of}
 use Rattle.ssim_program.specs.Offices as office
+use Rattle.ssim_program.proofs.AcceptedTexts.{accepted, after_files}
 use Rattle.ssim_program.proofs.Origins.{Comes, comes, same_some}
 use Rattle.ssim_program.proofs.SavedDesks.{IsValid, is_listed, same_file, valid_fewer, valid_file, valid_merge, valid_start, valid_take}
 use Rattle.ssim_program.proofs.Withdrawing.{left_after}
@@ -68,10 +68,6 @@ record AfterTexts (files : Files) (names : List Text) (before after : DeskSeen) 
   base : after.base ≡ before.base
   valid : IsValid after.base (map_of after.held)
   holds : (r : Reference) (m : MessageValue) → (get (map_of after.held) r ≡ Some m) ↔ ((get (map_of before.held) r ≡ Some m) ⊎ IsSaid files before.base names r m)
-
-accepted : (answer : Took) → is_accepted (take_answer (Ok answer)) ≡ true
-accepted took.Taken = refl
-accepted took.Repeated = refl
 
 module _ (one : OneMessage) (again : CanonicalReadsBack) (one_each : OneReference) (no_two : NoTwoDesks) where
   -- a file is read as one desk
@@ -173,6 +169,27 @@ module _ (one : OneMessage) (again : CanonicalReadsBack) (one_each : OneReferenc
             let same = one_desk (file_of files name) other.base desk.base other.held desk.held (reads_of files name other reads) (reads_of files name desk read) in
             inr (subst (λ (b : BaseSeen). IsSaid files b texts r m) same.0 s)
 
+    -- a desk that received mailboxes
+    after_receive : (name : Text) (names : List Text) (receipts : List Receipt) (file : Option (List ℕ)) (c : Comes (office.TookSome name names receipts) files file)
+        → IsKept file c.0.base (BroughtBy (office.TookSome name names receipts) files brought)
+    after_receive name names receipts file (desk, after, read, received, rising, is) =
+        let these = after_files one again files names receipts desk after received (valid_file desk.base desk.held read.2.saved) in
+        subst (λ (b : BaseSeen). IsKept file b (BroughtBy (office.TookSome name names receipts) files brought)) these.base
+        (is_kept file after.base after.held (BroughtBy (office.TookSome name names receipts) files brought) rising these.valid is (λ r m. (λ h. there r m ((these.holds r m).0 h), λ s. (these.holds r m).1 (back r m s))))
+      where
+        held : (r : Reference) (m : MessageValue) → (get (map_of desk.held) r ≡ Some m) ↔ brought name r m
+        held = before name desk.base desk.held (reads_of files name desk read)
+
+        there : (r : Reference) (m : MessageValue) → (get (map_of desk.held) r ≡ Some m) ⊎ IsAccepted desk.base (texts_received files names) receipts r m → BroughtBy (office.TookSome name names receipts) files brought r m
+        there r m (inl h) = inl ((held r m).0 h)
+        there r m (inr s) = inr (desk, read, s)
+
+        back : (r : Reference) (m : MessageValue) → BroughtBy (office.TookSome name names receipts) files brought r m → (get (map_of desk.held) r ≡ Some m) ⊎ IsAccepted desk.base (texts_received files names) receipts r m
+        back r m (inl b) = inl ((held r m).1 b)
+        back r m (inr (other, reads, s)) =
+            let same = one_desk (file_of files name) other.base desk.base other.held desk.held (reads_of files name other reads) (reads_of files name desk read) in
+            inr (subst (λ (b : BaseSeen). IsAccepted b (texts_received files names) receipts r m) same.0 s)
+
     -- a desk that holds what two desks held
     after_merge : (name another : Text) (file : Option (List ℕ)) (c : Comes (office.Merged name another) files file) → IsKept file c.0.base (BroughtBy (office.Merged name another) files brought)
     after_merge name another file (mine, theirs, after, read, reads, is_merge, rising, is) =
@@ -223,6 +240,7 @@ module _ (one : OneMessage) (again : CanonicalReadsBack) (one_each : OneReferenc
     holding (office.Was name) file c = subst (λ (f : Option (List ℕ)). Holding f (brought name)) (sym c) (before name)
     holding (office.Started dataset stations) file c = kept_holding file c.0 _ (after_start dataset stations file c)
     holding (office.Took name texts) file c = kept_holding file c.0.base _ (after_take name texts file c)
+    holding (office.TookSome name names receipts) file c = kept_holding file c.0.base _ (after_receive name names receipts file c)
     holding (office.Merged name another) file c = kept_holding file c.0.base _ (after_merge name another file c)
     holding (office.Withdrew name words) file c = kept_holding file c.0.base _ (after_withdraw name words file c)
     holding (office.Given bytes) file c = subst (λ (f : Option (List ℕ)). Holding f (IsIn bytes)) (sym c) (given bytes)
@@ -244,6 +262,10 @@ module _ (one : OneMessage) (again : CanonicalReadsBack) (one_each : OneReferenc
         let first = earlier name from in
         let same = kept_desk (file_of files name) first.0 c.0.base (brought name) c.0.held first.2 (reads_of files name c.0 c.3) in
         (c.0.base, subst (λ (b : BaseSeen). IsReadFrom b d s) same.0 first.1, after_take name texts file c)
+    founded began d s earlier (office.TookSome name names receipts) file c from =
+        let first = earlier name from in
+        let same = kept_desk (file_of files name) first.0 c.0.base (brought name) c.0.held first.2 (reads_of files name c.0 c.2) in
+        (c.0.base, subst (λ (b : BaseSeen). IsReadFrom b d s) same.0 first.1, after_receive name names receipts file c)
     founded began d s earlier (office.Merged name another) file c from =
         let first = earlier name from in
         let same = kept_desk (file_of files name) first.0 c.0.base (brought name) c.0.held first.2 (reads_of files name c.0 c.3) in

@@ -1,5 +1,5 @@
 -- What the file of a name is after an event, by where it comes from.
-use Rattle.std.proofs.Common.{◌≡◌, ◌∙◌, ℕ, Bool, true, false, if◌then◌else◌, List, [], ◌∷◌, Option, None, Some, refl, sym, ap, subst, option_map, find}
+use Rattle.std.proofs.Common.{◌≡◌, ◌∙◌, ℕ, Bool, true, false, if◌then◌else◌, List, [], ◌∷◌, ◌++◌, Option, Some, None, refl, sym, ap, subst, option_map, find}
 use Rattle.std.specs.Str.{bytes_eq}
 use Rattle.ssim_base.specs.BaseSeen.{BaseSeen}
 use Rattle.ssim_base.specs.SavedBase.{IsBaseRecords}
@@ -8,10 +8,15 @@ use Rattle.ssim_held.specs.Entries.{AreRising, DeskSeen}
 use Rattle.ssim_held.specs.File.{desk_file}
 use Rattle.ssim_program.specs.Desks.{IsMergeOf, ReadsDesk, TakesTexts}
 use Rattle.ssim_program.specs.Files.{Files, Kept, file_of, with_kept}
-use Rattle.ssim_command_line.specs.Line.{Line, Text, Check, Tidy, Start, Take, Merge, Withdraw, Texts, Show, History, Calendar, Findings, Export, Rehearse, Explain}
+use Rattle.ssim_command_line.specs.Line.{Line, Text, Check, Tidy, Start, Take, Merge, Withdraw}
+use Rattle.ssim_command_line.specs.Line.{Receive, Texts, Show, History, Calendar, Findings, Export}
+use Rattle.ssim_command_line.specs.Line.{Rehearse, Explain}
 use Rattle.ssim_program.specs.Made.{ReadsBase}
-use Rattle.ssim_program.specs.Offices.{Event, Done, Refused, Copied, Came, IsMade, Leaves, Origin, Was, Started, Took, Merged, Withdrew, Given, origin_of}
+use Rattle.ssim_program.specs.Offices.{Event, Done, Refused, Copied, Came, IsMade, Leaves, Origin, Was}
+use Rattle.ssim_program.specs.Offices.{Started, Took, Merged, Withdrew, Given, origin_of, Received}
+use Rattle.ssim_program.specs.Offices.{IsReceived, TookSome, origin_of_refused}
 use Rattle.ssim_program.specs.Withdrawing.{WithdrawsFrom}
+use Rattle.ssim_program.specs.Receiving.{Receipt, ReceivesEach, file_of_refused, refused_texts}
 
 -- what the file of a name is, by where it comes from
 abbrev pub Comes : Origin → Files → Option (List ℕ) → Type 0
@@ -21,6 +26,8 @@ Comes (Started dataset stations) files file =
 Comes (Took desk texts) files file =
     (before : DeskSeen) × (after : DeskSeen) × (printed : List ℕ) × ReadsDesk (Some files) desk before × TakesTexts (Some files) texts before after printed × AreRising after.held
     × (file ≡ Some (desk_file after.base after.held))
+Comes (TookSome desk names receipts) files file =
+    (before : DeskSeen) × (after : DeskSeen) × ReadsDesk (Some files) desk before × ReceivesEach (Some files) names before receipts after × AreRising after.held × (file ≡ Some (desk_file after.base after.held))
 Comes (Merged one other) files file =
     (mine : DeskSeen) × (theirs : DeskSeen) × (after : DeskSeen) × ReadsDesk (Some files) one mine × ReadsDesk (Some files) other theirs × IsMergeOf mine theirs after × AreRising after.held
     × (file ≡ Some (desk_file after.base after.held))
@@ -39,31 +46,36 @@ kept_file out name bytes files = by (bytes_eq out name)
     by true = refl
     by false = refl
 
+-- the file under the new name comes from there, and each other file from where it came before
+written_over : (out name : Text) (bytes : List ℕ) (old mid new : Files) (origin other : Origin) → new ≡ (out, bytes) ∷ mid → Comes origin old (Some bytes) → Comes other old (file_of mid name)
+    → Comes (if bytes_eq out name then origin else other) old (file_of new name)
+written_over out name bytes old mid new origin other is comes before =
+    subst (Comes (if bytes_eq out name then origin else other) old) (sym (ap (λ (all : Files). file_of all name) is ∙ kept_file out name bytes mid)) (by (bytes_eq out name))
+  where
+    by : (b : Bool) → Comes (if b then origin else other) old (if b then Some bytes else file_of mid name)
+    by true = comes
+    by false = before
+
 -- the file under the new name comes from there, and each other file is as it was
 written : (out name : Text) (bytes : List ℕ) (old new : Files) (origin : Origin) → new ≡ (out, bytes) ∷ old → Comes origin old (Some bytes)
     → Comes (if bytes_eq out name then origin else Was name) old (file_of new name)
-written out name bytes old new origin is comes =
-    subst (Comes (if bytes_eq out name then origin else Was name) old) (sym (ap (λ (all : Files). file_of all name) is ∙ kept_file out name bytes old)) (by (bytes_eq out name))
-  where
-    by : (b : Bool) → Comes (if b then origin else Was name) old (if b then Some bytes else file_of old name)
-    by true = comes
-    by false = refl
+written out name bytes old new origin is comes = written_over out name bytes old old new origin (Was name) is comes refl
 
 pub same_some : {A : Type 0} (x y : A) → Some x ≡ Some y → x ≡ y
 same_some x y e = cc
 
 -- no file was kept
-unchanged : (name : Text) (kept : Kept) (old new : Files) → kept ≡ None → Some new ≡ with_kept kept (Some old) → file_of new name ≡ file_of old name
+unchanged : (name : Text) (kept : Kept) (old new : Files) → kept ≡ [] → Some new ≡ with_kept kept (Some old) → file_of new name ≡ file_of old name
 unchanged name kept old new none is =
     ap (λ (all : Files). file_of all name) (same_some new old (is ∙ ap (λ (k : Kept). with_kept k (Some old)) none))
 
 -- a file was kept
-with_file : (out : Text) (bytes : List ℕ) (kept : Kept) (old new : Files) → kept ≡ Some (out, bytes) → Some new ≡ with_kept kept (Some old) → new ≡ (out, bytes) ∷ old
+with_file : (out : Text) (bytes : List ℕ) (kept : Kept) (old new : Files) → kept ≡ (out, bytes) ∷ [] → Some new ≡ with_kept kept (Some old) → new ≡ (out, bytes) ∷ old
 with_file out bytes kept old new some is = same_some new ((out, bytes) ∷ old) (is ∙ ap (λ (k : Kept). with_kept k (Some old)) some)
 
 -- ---- by the event
 
-done_comes : (line : Line) (old new : Files) (name : Text) → IsMade line (Some old) (Some new) → Comes (origin_of (Done line) name) old (file_of new name)
+done_comes : (line : Line) (old new : Files) (name : Text) → Leaves (Done line) old new → Comes (origin_of (Done line) name) old (file_of new name)
 done_comes (Check file) old new name (printed, kept, makes, is) = unchanged name kept old new makes.4 is
 done_comes (Tidy file) old new name (printed, kept, makes, is) = unchanged name kept old new makes.4 is
 done_comes (Start dataset stations out) old new name (printed, kept, makes, is) =
@@ -73,6 +85,7 @@ done_comes (Take desk out texts) old new name (printed, kept, makes, is) =
     let after = makes.1 in
     let bytes = desk_file after.base after.held in
     written out name bytes old new (Took desk texts) (with_file out bytes kept old new makes.5 is) (makes.0, after, printed, makes.2, makes.3, makes.4, refl)
+done_comes (Receive refused desk out names) old new name leaves = absurd leaves
 done_comes (Merge one other out) old new name (printed, kept, makes, is) =
     let after = makes.2 in
     let bytes = desk_file after.base after.held in
@@ -90,8 +103,39 @@ done_comes (Export file) old new name (printed, kept, makes, is) = unchanged nam
 done_comes (Rehearse dataset stations script) old new name (printed, kept, makes, is) = unchanged name kept old new makes.1 is
 done_comes (Explain word) old new name (printed, kept, makes, is) = unchanged name kept old new makes.1 is
 
+received_comes : (refused : Option Text) (desk out : Text) (names : List Text) (receipts : List Receipt) (old new : Files) (name : Text) → IsReceived refused desk out names receipts old new
+    → Comes (origin_of (Received refused desk out names receipts) name) old (file_of new name)
+received_comes refused desk out names receipts old new name received = by refused received.receives.kept_is
+  where
+    after : DeskSeen
+    after = received.receives.after
+
+    bytes : List ℕ
+    bytes = desk_file after.base after.held
+
+    desk_comes : Comes (TookSome desk names receipts) old (Some bytes)
+    desk_comes = (
+      received.receives.before,
+      after,
+      received.receives.reads,
+      subst (λ (rs : List Receipt). ReceivesEach (Some old) names received.receives.before rs after) received.receipts_are received.receives.received,
+      received.receives.rising,
+      refl,
+    )
+
+    by : (r : Option Text) → received.kept ≡ file_of_refused r (refused_texts received.receives.receipts) ++ (out, bytes) ∷ []
+        → Comes (if bytes_eq out name then TookSome desk names receipts else origin_of_refused r (refused_texts receipts) name) old (file_of new name)
+    by None is = written out name bytes old new (TookSome desk names receipts) (with_file out bytes received.kept old new is received.files) desk_comes
+    by (Some other) is =
+        let texts = refused_texts receipts in
+        let kept : received.kept ≡ (other, texts) ∷ (out, bytes) ∷ [] = is ∙ ap (λ (rs : List Receipt). (other, refused_texts rs) ∷ (out, bytes) ∷ []) received.receipts_are in
+        let mid : Files = (other, texts) ∷ old in
+        let all : new ≡ (out, bytes) ∷ mid = same_some new ((out, bytes) ∷ mid) (received.files ∙ ap (λ (k : Kept). with_kept k (Some old)) kept) in
+        written_over out name bytes old mid new (TookSome desk names receipts) (origin_of_refused (Some other) texts name) all desk_comes (written other name texts old mid (Given texts) refl refl)
+
 pub comes : (event : Event) (old new : Files) (name : Text) → Leaves event old new → Comes (origin_of event name) old (file_of new name)
 comes (Done line) old new name leaves = done_comes line old new name leaves
+comes (Received refused desk out names receipts) old new name leaves = received_comes refused desk out names receipts old new name leaves
 comes (Refused line) old new name leaves = ap (λ (all : Files). file_of all name) leaves
 comes (Copied from to) old new name (bytes, is, all) = written to name bytes old new (Was from) all (sym is)
 comes (Came other bytes) old new name leaves = written other name bytes old new (Given bytes) leaves refl

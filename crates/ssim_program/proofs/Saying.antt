@@ -85,7 +85,7 @@ module _ (words : List Text) (files : Option Files) (failures : ℕ) (out out' e
     memory = λ _. inr (inr printed);
     wrong = λ two. absurd (omega arith);
     done = λ line names zero. absurd (omega arith);
-    ends = λ line names _. (refused.Memory, inl (record { printed = []; why = inl (memory_refuses line files, refl); files = refl; grows = still }), printed);
+    ends = λ line names _. (refused.Memory, inl (record { printed = []; kept = []; why = inl (memory_refuses line files, refl, refl); files = refl; grows = still }), printed);
     help = λ zero. absurd (omega arith);
     no_help = λ _. inr (refused.Memory, inl (refl, still), printed);
     usage = λ two. absurd (omega arith);

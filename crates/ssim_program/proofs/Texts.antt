@@ -1,5 +1,5 @@
 -- Texts that are taken one after another: one more at the end, which is taken or refused.
-use Rattle.std.proofs.Common.{◌≡◌, ◌∙◌, inl, inr, ℕ, zero, suc, ◌+◌, List, [], ◌∷◌, ◌++◌, length, take, Option, Some, None, Result, Ok, Err, IfErr, OnErr, OnOk, true, is_some, unwrap_or, true≢false, refl, sym, ap, subst, append_assoc, append-nil, arith}
+use Rattle.std.proofs.Common.{◌≡◌, ◌∙◌, inl, inr, ℕ, zero, suc, ◌+◌, List, [], ◌∷◌, ◌++◌, length, take, Option, Some, Result, Ok, Err, IfErr, OnErr, OnOk, true, is_some, unwrap_or, true≢false, refl, sym, ap, subst, append_assoc, append-nil, arith}
 use Rattle.std.specs.List.{slice_get}
 use Rattle.std.proofs.Math.Seq.{take-length}
 use Rattle.ssim_held.specs.File.{desk_file}
@@ -73,17 +73,17 @@ module _ (files : Option Files) (n : ℕ) (file out : Text) (names : List Text) 
   -- the desk file is refused
   pub not_opened : (new : Option Files) (m : ℕ) (p : Paper) (refusal : Refusal) → RefusesDeskFile files file refusal → new ≡ files → m ≡ n
       → Does (Take file out names) (world files n p) (world new m p) (Err refusal)
-  not_opened new m p refusal why same counted = inl (record { printed = []; why = inl (inl (refl, why), counted); files = same; grows = nothing p })
+  not_opened new m p refusal why same counted = inl (record { printed = []; kept = []; why = inl (inl (refl, why), counted, refl); files = same; grows = nothing p })
 
   module _ (desk : DeskSeen) (read : ReadsDesk files file desk) (last : DeskSeen) (p q : Paper) where
     -- a text is refused, or `out` fails
     pub not_taken : (new : Option Files) (m : ℕ) (refusal : Refusal) → new ≡ files → m ≡ n → PrintsTexts files names desk last p q (Err refusal)
         → Does (Take file out names) (world files n p) (world new m q) (Err refusal)
-    not_taken new m refusal same counted (inl k) = inl (record { printed = k.0; why = inl (inr (desk, read, k.1), counted); files = same; grows = k.2 })
+    not_taken new m refusal same counted (inl k) = inl (record { printed = k.0; kept = []; why = inl (inr (desk, read, k.1), counted, refl); files = same; grows = k.2 })
     not_taken new m refusal same counted (inr k) = inr (record {
       is = k.0;
       printed = k.3;
-      kept = None;
+      kept = [];
       begins = (desk, k.1, k.2, read, k.4, refl);
       files = same;
       failures = counted;
@@ -100,7 +100,7 @@ module _ (files : Option Files) (n : ℕ) (file out : Text) (names : List Text) 
       not_flushed new m refusal same counted failed breaks = inr (record {
         is = failed;
         printed = printed.0;
-        kept = None;
+        kept = [];
         begins = (desk, length names, last, read, whole, refl);
         files = same;
         failures = counted;
@@ -109,26 +109,29 @@ module _ (files : Option Files) (n : ℕ) (file out : Text) (names : List Text) 
 
       -- the desk file is kept or not
       pub kept_or_not : (k : Result (Unit {0}) Refusal) (between : Option Files) (l : ℕ) (new : Option Files) (m : ℕ) → AreRising last.held → between ≡ files → l ≡ n → Grows [] q r → r.flushed ≡ true
-          → OnOk k (new ≡ with_kept (Some (out, desk_file last.base last.held)) between) → OnErr k (new ≡ between) → OnOk k (m ≡ l) → IfErr k (RefusesKeep l m out)
+          → OnOk k (new ≡ with_kept ((out, desk_file last.base last.held) ∷ []) between) → OnErr k (new ≡ between) → OnOk k (m ≡ l) → IfErr k (RefusesKeep l m out)
           → Does (Take file out names) (world files n p) (world new m r) k
       kept_or_not (Ok x) between l new m rising before none grows flushed done same counted why = record {
         printed = printed.0;
-        kept = Some (out, desk_file last.base last.held);
+        kept = (out, desk_file last.base last.held) ∷ [];
         makes = (desk, last, read, printed.1, rising, refl);
         again = tt;
-        files = done ∙ ap (with_kept (Some (out, desk_file last.base last.held))) before;
+        files = done ∙ ap (with_kept ((out, desk_file last.base last.held) ∷ [])) before;
         failures = counted ∙ none;
         grows = flushed_after printed.0 p q r printed.2 grows;
         flushed = flushed;
       }
       kept_or_not (Err refusal) between l new m rising before none grows flushed done same counted why = inl (record {
         printed = printed.0;
+        kept = [];
         why = inr (record {
           made = printed.0;
           name = out;
           bytes = desk_file last.base last.held;
+          later = [];
           makes = (desk, last, read, printed.1, rising, refl);
           printed_is = refl;
+          kept_is = refl;
           why = subst (λ (k : ℕ). RefusesKeep k m out refusal) none why;
         });
         files = same ∙ before;

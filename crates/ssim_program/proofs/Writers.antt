@@ -53,7 +53,7 @@ module _ (p q : Paper) (t u : Option (List ℕ)) (began : p.taken ≡ t) (none :
 
   pub refused_of : (line : Line) (old : Option Files) (n : ℕ) (new : Option Files) (m : ℕ) (refusal : Refusal) → IsRefused line (world old n p) (world new m q) refusal
       → IsRefused line (world old n (paper t 0)) (world new m (paper u q.failures)) refusal
-  refused_of line old n new m refusal (inl s) = inl (record { printed = s.printed; why = s.why; files = s.files; grows = grows_of s.printed s.grows })
+  refused_of line old n new m refusal (inl s) = inl (record { printed = s.printed; kept = s.kept; why = s.why; files = s.files; grows = grows_of s.printed s.grows })
   refused_of line old n new m refusal (inr k) = inr (record {
     is = k.is;
     printed = k.printed;

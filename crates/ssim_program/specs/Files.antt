@@ -1,5 +1,5 @@
 -- Named files.
-use Rattle.std.specs.Prelude.{Vec, ◌≡◌, ◌<◌, ◌+◌, ◌%◌, ◌^◌, ℕ, IfSome, List, ◌∷◌, ⊤, Option, Some, None}
+use Rattle.std.specs.Prelude.{Vec, ◌≡◌, ◌<◌, ◌+◌, ◌%◌, ◌^◌, ℕ, IfSome, List, [], ◌∷◌, ⊤, Option, Some, None}
 use Rattle.std.specs.Prelude.{Result, Ok, Err, find, length, option_map}
 use Rattle.std.specs.Str.{bytes_eq}
 use Rattle.ssim_program.specs.declared.store.StoreFault.{StoreFault}
@@ -54,11 +54,11 @@ abbrev pub store_fault_number : StoreFault → ℕ
 store_fault_number fault.Memory = 90
 store_fault_number fault.Fault = 91
 
--- the name and the bytes of a file that is kept, if one is
+-- the names and the bytes of files that are kept, in order
 abbrev pub Kept : Type 0
-Kept = Option (List ℕ × List ℕ)
+Kept = List (List ℕ × List ℕ)
 
--- the files after it was kept
+-- the files after these were kept
 abbrev pub with_kept : Kept → Option Files → Option Files
-with_kept None files = files
-with_kept (Some file) files = option_map (λ all. file ∷ all) files
+with_kept [] files = files
+with_kept (file ∷ later) files = with_kept later (option_map (λ all. file ∷ all) files)

@@ -5,6 +5,7 @@ pub mod Desks
 pub mod Calendars
 pub mod Messages
 pub mod Withdrawing
+pub mod Receiving
 pub mod Effects
 pub mod Again
 pub mod World

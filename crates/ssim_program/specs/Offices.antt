@@ -1,6 +1,6 @@
 -- What is in desk files after any commands: offices to whose desks the same messages were brought
 -- have the same desk file.
-use Rattle.std.specs.Prelude.{◌≡◌, ◌⊎◌, ◌↔◌, ℕ, ◌≤◌, if◌then◌else◌, List, [], ◌∷◌, length, Option, Some}
+use Rattle.std.specs.Prelude.{◌≡◌, ◌⊎◌, ◌↔◌, ℕ, ◌≤◌, if◌then◌else◌, List, [], ◌∷◌, length, Option, Some, None}
 use Rattle.std.specs.Str.{bytes_eq}
 use Rattle.ssim_base.specs.BaseSeen.{BaseSeen}
 use Rattle.ssim_text.specs.Message.{MessageValue}
@@ -11,29 +11,39 @@ use Rattle.ssim_held.specs.Held.{Holds, Says}
 use Rattle.ssim_program.specs.Desks.{ReadsDesk}
 use Rattle.ssim_program.specs.Effects.{Makes}
 use Rattle.ssim_program.specs.Files.{Files, Kept, file_of, with_kept}
-use Rattle.ssim_command_line.specs.Line.{Line, Text, Start, Take, Merge, Withdraw}
+use Rattle.ssim_command_line.specs.Line.{Line, Text, Start, Take, Merge, Withdraw, Receive}
+use Rattle.ssim_program.specs.Receiving.{IsAccepted, Receipt, Receives, refused_texts, texts_received}
 use Rattle.ssim_program.specs.Made.{HasFile, file_limit}
 use Rattle.ssim_program.specs.Withdrawing.{IsNamed}
 
 -- ---- what a command leaves, whatever its status
 
--- the command has made what it makes of the old files, and the new files are these with the file
+-- the command has made what it makes of the old files, and the new files are these with the files
 -- that it keeps
 abbrev pub IsMade : Line → Option Files → Option Files → Type 0
 IsMade line old new =
     (printed : List ℕ) × (kept : Kept) × Makes line old printed kept × (new ≡ with_kept kept old)
 
--- The command has made it, or the files are as they were. So a call of the program on the words of a
--- command is an event of a history: `Done` or `Refused`.
+-- the command has made what it makes of the old files, but has kept only the first of its files
+abbrev pub IsHalfMade : Line → Option Files → Option Files → Type 0
+IsHalfMade line old new =
+    (printed : List ℕ) × (name : Text) × (bytes : List ℕ) × (later : Kept)
+    × Makes line old printed ((name, bytes) ∷ later) × (new ≡ with_kept ((name, bytes) ∷ []) old)
+
+-- The command has made it, or the files are as they were, or only the first of its files was kept.
+-- So a call of the program on the words of a command is an event of a history: `Done` (`Received` for
+-- `receive`), or `Refused`, or `Came` of that file.
 abbrev pub Did : Line → Option Files → Option Files → Type 0
-Did line old new = IsMade line old new ⊎ (new ≡ old)
+Did line old new = IsMade line old new ⊎ (new ≡ old) ⊎ IsHalfMade line old new
 
 -- ---- histories
 
--- What happens to named files: a command is done; a command is refused, and they stay as they were;
--- a file is copied under another name; a file comes from elsewhere, as a telegram does.
+-- What happens to named files: a command is done, and if it is `receive`, what became of each text; a
+-- command is refused, and they stay as they were; a file is copied under another name; a file comes
+-- from elsewhere, as a telegram does.
 pub data Event : Type 0 where
   Done : Line → Event
+  Received : Option Text → Text → Text → List Text → List Receipt → Event
   Refused : Line → Event
   Copied : Text → Text → Event
   Came : Text → List ℕ → Event
@@ -48,9 +58,22 @@ abbrev pub files_of : History → Files
 files_of (Began files) = files
 files_of (Then history event files) = files
 
+-- `receive` has made what it makes of the old files, with these receipts, and the new files are these
+-- with the files that it keeps
+pub record IsReceived (refused : Option Text) (desk out : Text) (names : List Text)
+    (receipts : List Receipt) (old new : Files) : Type 0 where
+  pub printed : List ℕ
+  pub kept : Kept
+  pub receives : Receives (Some old) refused desk out names printed kept
+  pub receipts_are : receives.receipts ≡ receipts
+  pub files : Some new ≡ with_kept kept (Some old)
+
 -- the event leaves these files
 abbrev pub Leaves : Event → Files → Files → Type 0
+Leaves (Done (Receive refused desk out names)) old new = ⊥
 Leaves (Done line) old new = IsMade line (Some old) (Some new)
+Leaves (Received refused desk out names receipts) old new =
+    IsReceived refused desk out names receipts old new
 Leaves (Refused line) old new = new ≡ old
 Leaves (Copied from to) old new =
     (bytes : List ℕ) × (file_of old from ≡ Some bytes) × (new ≡ (to, bytes) ∷ old)
@@ -64,15 +87,23 @@ Happened (Then history event files) = Happened history × Leaves event (files_of
 -- ---- where the file of a name comes from
 
 -- The file of a name after an event: it is the file of some name before; `start` made it of a data
--- set and a station table; `take` of a desk file and texts; `merge` of two desk files; `withdraw` of
--- a desk file and references; or it came from elsewhere.
+-- set and a station table; `take` of a desk file and texts; `receive` of a desk file and those texts
+-- of mailboxes that have such receipts; `merge` of two desk files; `withdraw` of a desk file and
+-- references; or it came from elsewhere.
 pub data Origin : Type 0 where
   Was : Text → Origin
   Started : Text → Text → Origin
   Took : Text → List Text → Origin
+  TookSome : Text → List Text → List Receipt → Origin
   Merged : Text → Text → Origin
   Withdrew : Text → List Text → Origin
   Given : List ℕ → Origin
+
+-- Where the file of this name comes from, if `receive` did not keep its desk there. Its refused texts
+-- come from elsewhere, as all texts do.
+abbrev pub origin_of_refused : Option Text → List ℕ → Text → Origin
+origin_of_refused None texts name = Was name
+origin_of_refused (Some refused) texts name = if bytes_eq refused name then Given texts else Was name
 
 -- where the file of this name comes from
 abbrev pub origin_of : Event → Text → Origin
@@ -82,6 +113,8 @@ origin_of (Done (Take desk out texts)) name = if bytes_eq out name then Took des
 origin_of (Done (Merge mine theirs out)) name = if bytes_eq out name then Merged mine theirs else Was name
 origin_of (Done (Withdraw desk out references)) name =
     if bytes_eq out name then Withdrew desk references else Was name
+origin_of (Received refused desk out names receipts) name = if bytes_eq out name
+    then TookSome desk names receipts else origin_of_refused refused (refused_texts receipts) name
 origin_of (Copied from to) name = if bytes_eq to name then Was from else Was name
 origin_of (Came other bytes) name = if bytes_eq other name then Given bytes else Was name
 origin_of event name = Was name
@@ -106,29 +139,37 @@ abbrev pub IsSaidTo : Files → Text → List Text → Reference → MessageValu
 IsSaidTo files name texts reference message =
     (desk : DeskSeen) × ReadsDesk (Some files) name desk × IsSaid files desk.base texts reference message
 
+-- one of the texts that have such receipts says the message to the desk in the file of this name
+abbrev pub IsAcceptedBy : Files → Text → List Text → List Receipt → Reference → MessageValue → Type 0
+IsAcceptedBy files name names receipts reference message = (desk : DeskSeen) × ReadsDesk (Some files) name desk
+    × IsAccepted desk.base (texts_received files names) receipts reference message
+
 -- which messages, each under its reference, were brought to the files of which names
 abbrev pub Bringing : Type 1
 Bringing = Text → Reference → MessageValue → Type 0
 
 -- what was brought to a file, by where it comes from: to a new desk nothing; to one that took texts
--- what they say and what was brought to it before; to a merged one what was brought to both; to one
--- without the messages of some references all others that were brought to it before; and to one that
--- came from elsewhere what it holds
+-- what they say and what was brought to it before, and so to one that received texts what those say
+-- that it accepted; to a merged one what was brought to both; to one without the messages of some
+-- references all others that were brought to it before; and to one that came from elsewhere what it
+-- holds
 abbrev pub BroughtBy : Origin → Files → Bringing → Reference → MessageValue → Type 0
 BroughtBy (Was name) files before reference message = before name reference message
 BroughtBy (Started dataset stations) files before reference message = ⊥
 BroughtBy (Took desk texts) files before reference message =
     before desk reference message ⊎ IsSaidTo files desk texts reference message
+BroughtBy (TookSome desk names receipts) files before reference message =
+    before desk reference message ⊎ IsAcceptedBy files desk names receipts reference message
 BroughtBy (Merged mine theirs) files before reference message =
     before mine reference message ⊎ before theirs reference message
 BroughtBy (Withdrew desk references) files before reference message =
     before desk reference message × (IsNamed references reference → ⊥)
 BroughtBy (Given bytes) files before reference message = IsIn bytes reference message
 
--- The message was brought to the file of this name: by a text that a `take` took, by a desk file to
--- which it had been brought, or in a desk file that came from elsewhere or was there at the
--- beginning. It was not withdrawn after this; a message that was withdrawn can be brought again, also
--- by a merge with a desk from which it was not withdrawn.
+-- The message was brought to the file of this name: by a text that a `take` took or a `receive`
+-- accepted, by a desk file to which it had been brought, or in a desk file that came from elsewhere
+-- or was there at the beginning. It was not withdrawn after this; a message that was withdrawn can be
+-- brought again, also by a merge with a desk from which it was not withdrawn.
 abbrev pub Brought : History → Bringing
 Brought (Began files) name reference message =
     (bytes : List ℕ) × (file_of files name ≡ Some bytes) × IsIn bytes reference message
@@ -143,6 +184,7 @@ BeganBy (Was name) files before dataset stations = before name dataset stations
 BeganBy (Started data_file table_file) files before dataset stations =
     (file_of files data_file ≡ Some dataset) × (file_of files table_file ≡ Some stations)
 BeganBy (Took desk texts) files before dataset stations = before desk dataset stations
+BeganBy (TookSome desk names receipts) files before dataset stations = before desk dataset stations
 BeganBy (Merged mine theirs) files before dataset stations = before mine dataset stations
 BeganBy (Withdrew desk references) files before dataset stations = before desk dataset stations
 BeganBy (Given bytes) files before dataset stations = ⊥

@@ -1,10 +1,10 @@
 -- What a command does to the world: to the store, and to the printer that it prints on.
-use Rattle.std.specs.Prelude.{◌≡◌, ◌⊎◌, ℕ, true, List, [], Option, Some}
+use Rattle.std.specs.Prelude.{◌≡◌, ◌⊎◌, ℕ, true, List, [], ◌∷◌, ◌++◌, Option}
 use Rattle.ssim_program.specs.Again.{PrintsItself}
 use Rattle.ssim_program.specs.Desks.{RefusesKeep}
 use Rattle.ssim_program.specs.Effects.{Begins, Makes}
 use Rattle.ssim_program.specs.Files.{Files, Kept, with_kept}
-use Rattle.ssim_command_line.specs.Line.{Line, Text, Take}
+use Rattle.ssim_command_line.specs.Line.{Line, Text, Take, Receive}
 use Rattle.ssim_program.specs.print.Paper.{Breaks, Grows, Paper}
 use Rattle.ssim_program.specs.print.Reasons.{PrintsRefusal, Refuses}
 use Rattle.ssim_program.specs.declared.refusal.Refusal.{Refusal}
@@ -22,7 +22,7 @@ abbrev pub world : Option Files → ℕ → Paper → World
 world files failures out = record { files = files; failures = failures; out = out }
 
 -- A command was done. `out` has taken exactly what the command prints, and was flushed after it;
--- the file that the command keeps was kept, and no other file changed; the store counted no
+-- the files that the command keeps were kept, and no other file changed; the store counted no
 -- failure.
 pub record IsDone (line : Line) (before after : World) : Type 0 where
   pub printed : List ℕ
@@ -34,38 +34,51 @@ pub record IsDone (line : Line) (before after : World) : Type 0 where
   pub grows : Grows printed before.out after.out
   pub flushed : after.out.flushed ≡ true
 
--- what a command has printed when it keeps its file: `take` all of its lines, another nothing
+-- what a command has printed when it keeps its files: `take` and `receive` all of their lines,
+-- another nothing
 abbrev pub IsPrintedBefore : Line → List ℕ → List ℕ → Type 0
 IsPrintedBefore (Take file out names) made printed = printed ≡ made
+IsPrintedBefore (Receive refused file out names) made printed = printed ≡ made
 IsPrintedBefore line made printed = printed ≡ []
 
--- a command has made all that it makes, but the store has not kept its file
+-- the files that a command has kept when it fails to keep the next one: `receive` maybe its refused
+-- texts, another none
+abbrev pub IsKeptBefore : Line → Kept → Type 0
+IsKeptBefore (Receive refused file out names) kept = Unit {0}
+IsKeptBefore line kept = kept ≡ []
+
+-- a command has made all that it makes, and the store has kept the first of its files, but not the
+-- next one
 pub record IsNotKept (line : Line) (files : Option Files) (failures failures' : ℕ) (printed : List ℕ)
-    (refusal : Refusal) : Type 0 where
+    (kept : Kept) (refusal : Refusal) : Type 0 where
   pub made : List ℕ
   pub name : Text
   pub bytes : List ℕ
-  pub makes : Makes line files made (Some (name, bytes))
+  pub later : Kept
+  pub makes : Makes line files made (kept ++ (name, bytes) ∷ later)
   pub printed_is : IsPrintedBefore line made printed
+  pub kept_is : IsKeptBefore line kept
   pub why : RefusesKeep failures failures' name refusal
 
--- Why a command stops, and what it has printed before: it is refused for a file that it reads or
--- what it makes of it, and the store counted no failure; or its file was not kept.
-abbrev pub Stops : Line → Option Files → ℕ → ℕ → List ℕ → Refusal → Type 0
-Stops line files failures failures' printed refusal =
-    (Refuses line files printed refusal × (failures' ≡ failures))
-    ⊎ IsNotKept line files failures failures' printed refusal
+-- Why a command stops, what it has printed before, and which files it has kept: it is refused for a
+-- file that it reads or what it makes of it, and has kept none, and the store counted no failure;
+-- or one of its files was not kept.
+abbrev pub Stops : Line → Option Files → ℕ → ℕ → List ℕ → Kept → Refusal → Type 0
+Stops line files failures failures' printed kept refusal =
+    (Refuses line files printed refusal × (failures' ≡ failures) × (kept ≡ []))
+    ⊎ IsNotKept line files failures failures' printed kept refusal
 
--- A command stops for a reason. No file changed, and `out` has taken only what the command printed
--- before, which is nothing but for `take`.
+-- A command stops for a reason. No file changed but those that it kept before, and `out` has taken
+-- only what the command printed before, which is nothing but for `take` and `receive`.
 pub record IsStopped (line : Line) (before after : World) (refusal : Refusal) : Type 0 where
   pub printed : List ℕ
-  pub why : Stops line before.files before.failures after.failures printed refusal
-  pub files : after.files ≡ before.files
+  pub kept : Kept
+  pub why : Stops line before.files before.failures after.failures printed kept refusal
+  pub files : after.files ≡ with_kept kept before.files
   pub grows : Grows printed before.out after.out
 
 -- A call of `out` failed, and the refusal is 52. `out` has taken a prefix of what the command
--- prints, and a file that was kept before stays.
+-- prints, and the files that were kept before stay.
 pub record IsCutOff (line : Line) (before after : World) (refusal : Refusal) : Type 0 where
   pub is : refusal ≡ refused.WriteFault
   pub printed : List ℕ

@@ -2,6 +2,7 @@
 -- has to believe them.
 pub mod Program
 pub mod Take
+pub mod Receive
 pub mod Export
 pub mod Explain
 pub mod DataSet

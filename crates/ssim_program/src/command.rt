@@ -1,4 +1,4 @@
-//! The commands, each in a module of its own: what it prints, and the file that it keeps. `explain`
+//! The commands, each in a module of its own: what it prints, and the files that it keeps. `explain`
 //! and `rehearse` have their own folders.
 
 pub(crate) mod calendar;
@@ -9,6 +9,7 @@ pub(crate) mod history;
 pub(crate) mod marks;
 pub(crate) mod merge;
 pub(crate) mod named_flights;
+pub(crate) mod receive;
 pub(crate) mod show;
 pub(crate) mod start;
 pub(crate) mod take;

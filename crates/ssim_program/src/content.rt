@@ -5,7 +5,7 @@ ghost use Rattle.std.specs.Io.KnownBytes.{Appends};
 ghost use Rattle.ssim_base.specs.Sinks.{CountsFault, TakesPrefix};
 ghost use Rattle.ssim_held.specs.File.{desk_file};
 
-use ssim_base::WriteFault;
+use ssim_base::{OutputBuffer, WriteFault, flush, put_bytes};
 use ssim_desk::Holdings;
 use ssim_records::Sink;
 
@@ -20,6 +20,17 @@ pub trait Content {
         ensures ok { OnOk result (Appends (W.taken out.old) (W.taken out.new) (bytes self.now)) }
         ensures err { OnErr result (TakesPrefix (bytes self.now) (W.taken out.old) (W.taken out.new)) }
         ensures failures { CountsFault (W.failures out.old) (W.failures out.new) result };
+}
+
+/// Bytes are kept as they are.
+impl Content for Vec<u8> {
+    ghost bytes = { λ v. v.items };
+
+    fn put<W: Sink>(&self, out: &mut W) -> Result<(), WriteFault> {
+        let mut block = OutputBuffer::new();
+        put_bytes(out, &mut block, self)?;
+        flush(out, &mut block)
+    }
 }
 
 /// What a desk holds is kept as its desk file.

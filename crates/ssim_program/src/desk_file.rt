@@ -1,10 +1,11 @@
 //! The desk in a file.
 
-ghost use Rattle.std.specs.Prelude.{◌≡◌, IfErr, IfOk, OnErr, OnOk, Some};
+ghost use Rattle.std.specs.Prelude.{◌≡◌, [], ◌∷◌, IfErr, IfOk, OnErr, OnOk};
 ghost use Rattle.ssim_held.specs.File.{desk_file};
 ghost use Rattle.ssim_program.specs.Desks.{ReadsDesk, RefusesDeskFile, RefusesKeep};
 ghost use Rattle.ssim_program.specs.Files.{with_kept};
 
+use crate::content::Content;
 use crate::data_set::load_parts;
 use crate::refusal::Refusal;
 use crate::store::{Store, StoreFault};
@@ -37,13 +38,30 @@ pub(crate) fn keep<S: Store>(
     store: &mut S,
 ) -> Result<(), Refusal>
     ensures kept { OnOk result (S.files store.new ≡ with_kept
-        (Some (name.now, desk_file holdings.now.base holdings.now.held)) (S.files store.old)) }
+        ((name.now, desk_file holdings.now.base holdings.now.held) ∷ []) (S.files store.old)) }
     ensures same { OnErr result (S.files store.new ≡ S.files store.old) }
     ensures counted { OnOk result (S.failures store.new ≡ S.failures store.old) }
     ensures why { IfErr result
         (RefusesKeep (S.failures store.old) (S.failures store.new) name.now) }
 {
-    match store.keep(name, holdings) {
+    keep_content(alloc, holdings, name, store)
+}
+
+/// Keeps a content under this name.
+pub(crate) fn keep_content<S: Store, C: Content>(
+    alloc: Global,
+    content: &C,
+    name: &str,
+    store: &mut S,
+) -> Result<(), Refusal>
+    ensures kept { OnOk result
+        (S.files store.new ≡ with_kept ((name.now, C.bytes content.now) ∷ []) (S.files store.old)) }
+    ensures same { OnErr result (S.files store.new ≡ S.files store.old) }
+    ensures counted { OnOk result (S.failures store.new ≡ S.failures store.old) }
+    ensures why { IfErr result
+        (RefusesKeep (S.failures store.old) (S.failures store.new) name.now) }
+{
+    match store.keep(name, content) {
         Ok(()) => Ok(()),
         Err(StoreFault::Memory) => Err(Refusal::Memory),
         Err(StoreFault::Fault) => Err(Refusal::of_file(alloc, name)),

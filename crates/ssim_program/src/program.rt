@@ -20,6 +20,7 @@ use crate::command::export::export;
 use crate::command::findings::findings;
 use crate::command::history::history;
 use crate::command::merge::merge;
+use crate::command::receive::receive;
 use crate::command::show::show_flight;
 use crate::command::start::start;
 use crate::command::take::take;
@@ -60,7 +61,7 @@ pub fn run<S: Store, O: Write, E: Write>(
         ⊎ IsNoCommand (map (λ w. w.now) words.now) }
 
     // A command that was done printed exactly what it makes of the files, and kept exactly its
-    // file; the store counted no failure. `err` holds the same bytes.
+    // files; the store counted no failure. `err` holds the same bytes.
     ensures done { (line : Line) → Names (map (λ w. w.now) words.now) line → result ≡ 0
         → IsDone line
         (world (S.files store.old) (S.failures store.old) (paper (O.contents out.old) 0))
@@ -68,8 +69,8 @@ pub fn run<S: Store, O: Write, E: Write>(
         × Keeps (E.contents err.old) (E.contents err.new) }
 
     // With some number of failed calls of each writer: a refused command printed nothing but the
-    // lines of `take`, unless a call of `out` failed; and its line is on `err`, unless a call of
-    // `err` failed.
+    // lines of `take` and `receive`, unless a call of `out` failed; and its line is on `err`, unless
+    // a call of `err` failed.
     ensures ends { (line : Line) → Names (map (λ w. w.now) words.now) line → result ≡ 1
         → (failed : ℕ) × (err_failed : ℕ)
         × EndsWithLine line
@@ -77,7 +78,8 @@ pub fn run<S: Store, O: Write, E: Write>(
         (world (S.files store.new) (S.failures store.new) (paper (O.contents out.new) failed))
         (paper (E.contents err.old) 0) (paper (E.contents err.new) err_failed) }
 
-    // Whatever its status, a command has kept the file of what it makes, or no file changed.
+    // Whatever its status, a command has kept the files of what it makes, or no file changed, or only
+    // the first of them was kept.
     ensures did { (line : Line) → Names (map (λ w. w.now) words.now) line
         → Did line (S.files store.old) (S.files store.new) }
 
@@ -146,21 +148,22 @@ pub fn run_on<S: Store, O: Write, E: Write>(
         ⊎ IsNoCommand (map (λ w. w.now) words.now) }
 
     // A command that was done printed exactly what it makes of the files, flushed it, and kept
-    // exactly its file; the store counted no failure. `err` is as it was.
+    // exactly its files; the store counted no failure. `err` is as it was.
     ensures done { (line : Line) → Names (map (λ w. w.now) words.now) line → result ≡ 0
         → IsDone line (world (S.files store.old) (S.failures store.old) out.old)
         (world (S.files store.new) (S.failures store.new) out.new)
         × (err.new ≡ err.old) }
 
     // A command is refused for one reason, whose line is printed on `err`. Unless that is 52, no
-    // file changed, and nothing was printed on `out` but the lines of `take`; if it is 52, a call
-    // of `out` failed, and it has taken a prefix of what the command prints. The store counted a
-    // failure exactly if it failed to keep the command's file.
+    // file changed but the refused texts of `receive`, and nothing was printed on `out` but the
+    // lines of `take` and `receive`; if it is 52, a call of `out` failed, and it has taken a prefix
+    // of what the command prints. The store counted a failure exactly if it failed to keep a file.
     ensures ends { (line : Line) → Names (map (λ w. w.now) words.now) line → result ≡ 1
         → EndsWithLine line (world (S.files store.old) (S.failures store.old) out.old)
         (world (S.files store.new) (S.failures store.new) out.new) err.old err.new }
 
-    // Whatever its status, a command has kept the file of what it makes, or no file changed.
+    // Whatever its status, a command has kept the files of what it makes, or no file changed, or only
+    // the first of them was kept.
     ensures did { (line : Line) → Names (map (λ w. w.now) words.now) line
         → Did line (S.files store.old) (S.files store.new) }
 
@@ -213,6 +216,9 @@ fn act<S: Store, O: Write>(
     match request {
         Request::Tidy(name) => tidy(alloc, name, store, out),
         Request::Take(desk, name, texts) => take(alloc, desk, name, texts, store, out),
+        Request::Receive(refused, desk, name, texts) => {
+            receive(alloc, *refused, desk, name, texts, store, out)
+        }
         Request::Export(desk) => export(alloc, desk, store, out),
         Request::Check(name) => print(check(alloc, name, store), out),
         Request::Start(dataset, stations, name) => {

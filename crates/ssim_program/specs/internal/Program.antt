@@ -2,7 +2,7 @@
 use Rattle.std.specs.Prelude.{Vec, ◌≡◌, ◌⊎◌, ℕ, true, [], ⊤, Option, None, Result, Ok, Err, false}
 use Rattle.ssim_program.specs.Effects.{Makes}
 use Rattle.ssim_program.specs.Files.{Files, Kept, with_kept}
-use Rattle.ssim_command_line.specs.Line.{Line, Tidy, Take, Export}
+use Rattle.ssim_command_line.specs.Line.{Line, Tidy, Take, Receive, Export}
 use Rattle.ssim_program.specs.print.Paper.{Paper}
 use Rattle.ssim_program.specs.print.Reasons.{PrintsRefusal}
 use Rattle.ssim_program.specs.declared.refusal.Refusal.{Refusal}
@@ -14,11 +14,12 @@ use Rattle.ssim_command_line.specs.declared.command_line.LineFault.TheVariants a
 use Rattle.ssim_program.specs.World.{World, world, paper, IsDone, Stops, IsRefused, EndsWithLine}
 use Rattle.ssim_program.specs.Help.{PrintsHelp, RefusesHelp, SaysWrong}
 
--- the commands that print all at once, after they have made it and kept their file
+-- the commands that print all at once, after they have made it and kept their files
 abbrev pub PrintsAtOnce : Line → Type 0
 PrintsAtOnce (Tidy name) = ⊥
 PrintsAtOnce (Export file) = ⊥
 PrintsAtOnce (Take file out names) = ⊥
+PrintsAtOnce (Receive refused file out names) = ⊥
 PrintsAtOnce _ = ⊤
 
 -- the files and the failures of a store, while no printer is used
@@ -29,14 +30,14 @@ stored files failures = world files failures (paper None 0)
 abbrev pub printing : World → Paper → World
 printing w out = world w.files w.failures out
 
--- A command that prints all at once makes its lines and keeps its file, or it stops and no file
+-- A command that prints all at once makes its lines and keeps its files, or it stops and no file
 -- changes.
 abbrev pub Prepares : {A : Type 0} → Line → World → World → Result (Vec ℕ A) Refusal → Type 0
 Prepares line before after (Ok text) =
     (kept : Kept) × Makes line before.files text.items kept × (after.files ≡ with_kept kept before.files)
     × (after.failures ≡ before.failures)
 Prepares line before after (Err refusal) =
-    Stops line before.files before.failures after.failures [] refusal × (after.files ≡ before.files)
+    Stops line before.files before.failures after.failures [] [] refusal × (after.files ≡ before.files)
 
 -- a command is done, or refused
 abbrev pub Does : Line → World → World → Result (Unit {0}) Refusal → Type 0

@@ -14,8 +14,9 @@ use Rattle.ssim_held.specs.Entries.{DeskSeen}
 use Rattle.ssim_desk.specs.Desk.{days_of_desk}
 use Rattle.ssim_program.specs.Desks.{ReadsDesk, RefusesDeskFile, RefusesFlight, RefusesMerge, RefusesTexts}
 use Rattle.ssim_program.specs.Files.{Files}
-use Rattle.ssim_command_line.specs.Line.{Line, Text, Check, Tidy, Start, Take, Merge, Withdraw, Texts}
-use Rattle.ssim_command_line.specs.Line.{Show, History, Calendar, Findings, Export, Rehearse, Explain}
+use Rattle.ssim_command_line.specs.Line.{Line, Text, Check, Tidy, Start, Take, Merge, Withdraw}
+use Rattle.ssim_command_line.specs.Line.{Receive, Texts, Show, History, Calendar, Findings, Export}
+use Rattle.ssim_command_line.specs.Line.{Rehearse, Explain}
 use Rattle.ssim_program.specs.Messages.{RefusesFlights}
 use Rattle.ssim_program.specs.Made.{ReadsFile, RefusesBase, RefusesFile, RefusesLoad}
 use Rattle.ssim_program.specs.Timetables.{ReadsTimetable, RefusesTimetable}
@@ -50,7 +51,7 @@ RefusesTake files file names printed refusal =
     ((printed ≡ []) × RefusesDeskFile files file refusal)
     ⊎ ((desk : DeskSeen) × ReadsDesk files file desk × RefusesTexts files names desk printed refusal)
 
--- Why a command is refused, other than that `out` failed or that its file was not kept, and what it
+-- Why a command is refused, other than that `out` failed or that a file was not kept, and what it
 -- has printed before, which is nothing but for `take`. The reason is a file that it reads, or what
 -- it makes of it.
 abbrev pub Refuses : Line → Option Files → List ℕ → Refusal → Type 0
@@ -63,6 +64,8 @@ Refuses (Tidy name) files printed refusal =
 Refuses (Start dataset stations out) files printed refusal =
     (printed ≡ []) × RefusesBase files dataset stations refusal
 Refuses (Take file out names) files printed refusal = RefusesTake files file names printed refusal
+Refuses (Receive texts file out names) files printed refusal =
+    (printed ≡ []) × (RefusesDeskFile files file refusal ⊎ (refusal ≡ refused.Memory))
 Refuses (Merge file other out) files printed refusal =
     (printed ≡ [])
     × (RefusesDeskFile files file refusal

@@ -91,7 +91,7 @@ fn take_one(desk: &mut Holdings, text: &[u8]) -> Result<(Took, Reference), DeskF
 }
 
 /// What became of a text, as it is printed.
-fn printed(took: Took, reference: Reference) -> Printed
+pub(crate) fn printed(took: Took, reference: Reference) -> Printed
     ensures { result ≡ took_printed took reference }
 {
     match took {

@@ -1,5 +1,5 @@
 -- The base is refused, or the steps are.
-use Rattle.std.proofs.Common.{rules, ◌≡◌, ◌∙◌, inl, inr, refl, Err, List, None, Option, subst}
+use Rattle.std.proofs.Common.{rules, ◌≡◌, ◌∙◌, inl, inr, refl, Err, List, [], Option, subst}
 use Rattle.std.specs.List.{flat_map}
 use Rattle.ssim_base.specs.BaseSeen.{BaseSeen, base_with}
 use Rattle.ssim_base.specs.SavedBase.{IsBaseRecords}
@@ -12,7 +12,7 @@ use Rattle.ssim_program.proofs.rehearse.rehearse.Goals as goal
 pub returns-in_err-data_set : goal.returns-in_err-data_set
 returns-in_err-data_set g c =
     let is : c.from_residual.result ≡ Err c.in_err-data_set.field-0.0 = search rules in
-    rw is (inl ((refl, inr (inl c.in_err-data_set.ensures.refused)), c.load_base.ensures.counted), c.load_base.ensures.same)
+    rw is (inl ((refl, inr (inl c.in_err-data_set.ensures.refused)), c.load_base.ensures.counted, refl), c.load_base.ensures.same)
 
 pub returns-in_err-count : goal.returns-in_err-count
 returns-in_err-count g c =
@@ -23,6 +23,7 @@ returns-in_err-count g c =
       inl (
         (refl, inr (inr ((base_with c.in_ok-data_set.data_set c.in_ok-data_set.stations, c.in_ok-data_set.ensures.read.0, c.in_ok-data_set.ensures.read.1), steps))),
         c.load_steps.ensures.counted ∙ c.load_base.ensures.counted,
+        refl,
       ),
       c.load_steps.ensures.same ∙ c.load_base.ensures.same,
     )
@@ -52,4 +53,4 @@ returns g c =
       rehearsed = rehearsed;
       printed = printed;
     } in
-    (None, (rehearses, refl), c.load_steps.ensures.same ∙ c.load_base.ensures.same, c.load_steps.ensures.counted ∙ c.load_base.ensures.counted)
+    ([], (rehearses, refl), c.load_steps.ensures.same ∙ c.load_base.ensures.same, c.load_steps.ensures.counted ∙ c.load_base.ensures.counted)

@@ -11,7 +11,7 @@ pub returns-in_err-holdings : goal.returns-in_err-holdings
 returns-in_err-holdings g c =
     let is : c.from_residual.result ≡ Err c.in_err-holdings.field-0.0 = search rules in
     rw is (stops_at_once (Export c.args.name.now) (g.S.Store.files c.args.store.now) (g.S.Store.failures c.args.store.now) (g.S.Store.files c.open_holdings.new.store) (g.S.Store.failures c.open_holdings.new.store) c.args.out.now c.in_err-holdings.field-0.0
-    (inl ((refl, inl c.in_err-holdings.ensures.refused), c.open_holdings.ensures.counted)) c.open_holdings.ensures.same)
+    (inl ((refl, inl c.in_err-holdings.ensures.refused), c.open_holdings.ensures.counted, refl)) c.open_holdings.ensures.same)
 
 pub returns : goal.returns
 returns g c =

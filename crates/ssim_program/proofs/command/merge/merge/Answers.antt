@@ -1,5 +1,5 @@
 -- Two desks are opened and merged, and the merged one is kept or not.
-use Rattle.std.proofs.Common.{◌≡◌, ◌∙◌, ℕ, List, length, Option, ap, subst, inl, inr, refl, rules, Err, Some}
+use Rattle.std.proofs.Common.{◌≡◌, ◌∙◌, ℕ, List, [], ◌∷◌, length, Option, ap, subst, inl, inr, refl, rules, Err}
 use Rattle.ssim_held.specs.File.{desk_file}
 use Rattle.ssim_held.specs.Entries.{AreRising, Entry}
 use Rattle.ssim_program.specs.Desks.{ReadsDesk, RefusesDeskFile, RefusesKeep, held_line}
@@ -11,7 +11,7 @@ returns-in_err-other g c =
     let is : c.from_residual-in_err-other.result ≡ Err c.in_err-other.field-0.0 = search rules in
     let why = subst (λ (f : Option Files). RefusesDeskFile f c.args.theirs.now c.in_err-other.field-0.0) c.open_holdings.ensures.same c.in_err-other.ensures.refused in
     rw is (
-      inl ((refl, inr (inl ((c.in_ok-desk.desk, c.in_ok-desk.ensures.read), why))), c.open_holdings-2.ensures.counted ∙ c.open_holdings.ensures.counted),
+      inl ((refl, inr (inl ((c.in_ok-desk.desk, c.in_ok-desk.ensures.read), why))), c.open_holdings-2.ensures.counted ∙ c.open_holdings.ensures.counted, refl),
       c.open_holdings-2.ensures.same ∙ c.open_holdings.ensures.same,
     )
 
@@ -21,6 +21,7 @@ returns-in-Err g c =
       inl (
         (refl, inr (inr (c.in_ok-desk.desk, c.in_ok-other.other, c.in_ok-desk.ensures.read, theirs, c.in-Err.ensures.why))),
         c.open_holdings-2.ensures.counted ∙ c.open_holdings.ensures.counted,
+        refl,
       ),
       c.open_holdings-2.ensures.same ∙ c.open_holdings.ensures.same,
     )
@@ -36,8 +37,10 @@ returns g c =
         made = c.in_ok-line.line.items;
         name = name;
         bytes = desk_file desk.base desk.held;
+        later = [];
         makes = (c.in_ok-desk.desk, c.in_ok-other.other, desk, c.in_ok-desk.ensures.read, theirs, c.in-Ok.ensures.merged, rising, line, refl);
         printed_is = refl;
+        kept_is = refl;
         why = subst (λ (n : ℕ). RefusesKeep n (g.S.Store.failures c.keep.new.store) name c.in-Err-keep.refusal)
             (c.open_holdings-2.ensures.counted ∙ c.open_holdings.ensures.counted) c.in-Err-keep.ensures.why;
       }),
@@ -47,7 +50,7 @@ returns g c =
 pub returns-in-Ok-keep : goal.returns-in-Ok-keep
 returns-in-Ok-keep g c =
     let desk = c.merge_desks.new.desk in
-    let kept = Some (c.args.name.now, desk_file desk.base desk.held) in
+    let kept = (c.args.name.now, desk_file desk.base desk.held) ∷ [] in
     let theirs = subst (λ (f : Option Files). ReadsDesk f c.args.theirs.now c.in_ok-other.other) c.open_holdings.ensures.same c.in_ok-other.ensures.read in
     let rising = subst AreRising c.held.ensures.value c.held.ensures.rising in
     let line = c.in_ok-line.ensures ∙ ap (λ (es : List Entry). held_line (length es)) c.held.ensures.value in (

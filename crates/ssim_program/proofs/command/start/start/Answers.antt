@@ -1,5 +1,5 @@
 -- The base is read, and its desk is kept or not.
-use Rattle.std.proofs.Common.{◌≡◌, ◌∙◌, ℕ, List, [], Option, ap, inl, inr, refl, rules, subst, Err, Some}
+use Rattle.std.proofs.Common.{◌≡◌, ◌∙◌, ℕ, List, [], ◌∷◌, Option, ap, inl, inr, refl, rules, subst, Err}
 use Rattle.ssim_base.specs.BaseSeen.{BaseSeen, base_with}
 use Rattle.ssim_base.specs.SavedBase.{IsBaseRecords}
 use Rattle.ssim_base.specs.declared.note.Note.{Note}
@@ -15,20 +15,20 @@ use Rattle.ssim_program.proofs.command.start.start.Goals as goal
 -- a desk of this base that holds nothing was made
 made : (files : Option Files) (dataset stations out : Text) (base : BaseSeen) (notes : List Note) (desk : DeskSeen) (printed : List ℕ) → ReadsBase files dataset stations base notes
     → desk ≡ record { base = base; held = []; applied = 0 } → IsBaseRecords desk.base.records → printed ≡ held_line 0
-    → Makes (Start dataset stations out) files printed (Some (out, desk_file desk.base desk.held))
+    → Makes (Start dataset stations out) files printed ((out, desk_file desk.base desk.held) ∷ [])
 made files dataset stations out base notes desk printed read is records line = (
   base,
   notes,
   read,
   subst (λ (d : DeskSeen). IsBaseRecords d.base.records) is records,
   line,
-  ap (λ (d : DeskSeen). Some (out, desk_file d.base d.held)) is,
+  ap (λ (d : DeskSeen). (out, desk_file d.base d.held) ∷ []) is,
 )
 
 pub returns-in_err-data_set : goal.returns-in_err-data_set
 returns-in_err-data_set g c =
     let is : c.from_residual.result ≡ Err c.in_err-data_set.field-0.0 = search rules in
-    rw is (inl ((refl, c.in_err-data_set.ensures.refused), c.load_base.ensures.counted), c.load_base.ensures.same)
+    rw is (inl ((refl, c.in_err-data_set.ensures.refused), c.load_base.ensures.counted, refl), c.load_base.ensures.same)
 
 pub returns-in_err-keep : goal.returns-in_err-keep
 returns-in_err-keep g c =
@@ -42,9 +42,11 @@ returns-in_err-keep g c =
         made = c.in_ok-line.line.items;
         name = name;
         bytes = desk_file desk.base desk.held;
+        later = [];
         makes = made (g.S.Store.files c.args.store.now) c.args.dataset.now c.args.stations.now name (base_with c.in_ok-data_set.data_set c.in_ok-data_set.stations) read.0 desk c.in_ok-line.line.items
             read.1 c.start-desk.ensures of_desk c.in_ok-line.ensures;
         printed_is = refl;
+        kept_is = refl;
         why = subst (λ (n : ℕ). RefusesKeep n (g.S.Store.failures c.keep.new.store) name refusal) c.load_base.ensures.counted c.in_err-keep.ensures.why;
       }),
       c.in_err-keep.ensures.same ∙ c.load_base.ensures.same,
@@ -53,7 +55,7 @@ returns-in_err-keep g c =
 pub returns : goal.returns
 returns g c =
     let desk = c.start-desk.result in let name = c.args.name.now in
-    let kept = Some (name, desk_file desk.base desk.held) in
+    let kept = (name, desk_file desk.base desk.held) ∷ [] in
     let read = c.in_ok-data_set.ensures.read in
     let of_desk = subst (λ (b : BaseSeen). IsBaseRecords b.records) c.base.ensures (subst IsBaseRecords c.records.ensures.value c.records.ensures.is_base) in (
       kept,

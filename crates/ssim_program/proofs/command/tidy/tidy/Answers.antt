@@ -10,7 +10,7 @@ pub returns-in_err-data_set : goal.returns-in_err-data_set
 returns-in_err-data_set g c =
     let is : c.from_residual.result ≡ Err c.in_err-data_set.field-0.0 = search rules in
     rw is (stops_at_once (Tidy c.args.name.now) (g.S.Store.files c.args.store.now) (g.S.Store.failures c.args.store.now) (g.S.Store.files c.load.new.store) (g.S.Store.failures c.load.new.store) c.args.out.now c.in_err-data_set.field-0.0
-    (inl ((refl, inl c.in_err-data_set.ensures.refused), c.load.ensures.counted)) c.load.ensures.same)
+    (inl ((refl, inl c.in_err-data_set.ensures.refused), c.load.ensures.counted, refl)) c.load.ensures.same)
 
 pub returns : goal.returns
 returns g c =

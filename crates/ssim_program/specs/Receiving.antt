@@ -1,0 +1,174 @@
+-- What becomes of the texts of mailbox files that a desk receives, and what is printed and kept of
+-- them.
+use Rattle.std.specs.Prelude.{◌≡◌, ◌⊎◌, ℕ, ◌+◌, ◌-◌, Bool, true, false, List, [], ◌∷◌, ◌++◌, Option}
+use Rattle.std.specs.Prelude.{Some, None, codes, length, nat_le, if◌then◌else◌}
+use Rattle.std.specs.Fmt.{decimal}
+use Rattle.std.specs.List.{count_by, flat_map}
+use Rattle.ssim_base.specs.BaseSeen.{BaseSeen}
+use Rattle.ssim_base.specs.Export.{line}
+use Rattle.ssim_base.specs.declared.place.Place.{Place}
+use Rattle.ssim_base.specs.declared.place.Place.TheVariants.{Line}
+use Rattle.ssim_text.specs.Message.{MessageValue}
+use Rattle.ssim_text.specs.declared.reference.Reference.{Reference}
+use Rattle.ssim_mailbox.specs.Texts.{MailText, texts_in}
+use Rattle.ssim_held.specs.Entries.{AreRising, DeskSeen, state_of}
+use Rattle.ssim_held.specs.File.{desk_file}
+use Rattle.ssim_held.specs.Held.{Says}
+use Rattle.ssim_held.specs.declared.fault.DeskFault.{DeskFault}
+use Rattle.ssim_desk.specs.Steps.{RefusesText}
+use Rattle.ssim_desk.specs.declared.desk.Took.{Took}
+use Rattle.ssim_desk.specs.declared.desk.Took.TheVariants as took
+use Rattle.ssim_command_line.specs.Line.{Text}
+use Rattle.ssim_program.specs.Desks.{IsTaken, ReadsDesk, took_printed}
+use Rattle.ssim_program.specs.Files.{Files, Kept, file_of}
+use Rattle.ssim_program.specs.Made.{HasFile, IsMissing, file_limit}
+use Rattle.ssim_program.specs.print.Names.{printed_name}
+use Rattle.ssim_program.specs.print.Printed.{printed_text}
+use Rattle.ssim_program.specs.print.Refusal.{place_text, refusal_head, refusal_of_desk, refusal_place}
+
+-- ---- what becomes of texts
+
+-- What became of a text: the desk took the text that begins on this line of the file, or held its
+-- message already; or it refused the text. Or the file cannot be read.
+pub data Receipt : Type 0 where
+  Accepted : Text → ℕ → Took → Reference → Receipt
+  Refused : Text → MailText → DeskFault → Receipt
+  Unread : Text → Receipt
+
+-- a text of the file of this name is tried: the desk takes it, or refuses it and stays as it is
+abbrev pub Tries : Text → DeskSeen → MailText → Receipt → DeskSeen → Type 0
+Tries file before text (Accepted name n answer reference) after =
+    (name ≡ file) × (n ≡ text.line) × IsTaken before text.bytes answer reference after
+Tries file before text (Refused name refused fault) after =
+    (name ≡ file) × (refused ≡ text) × RefusesText (state_of before) text.bytes fault × (after ≡ before)
+Tries file before text (Unread name) after = ⊥
+
+-- the texts of a file are tried one after another
+abbrev pub TriesEach : Text → DeskSeen → List MailText → List Receipt → DeskSeen → Type 0
+TriesEach file before [] receipts after = (receipts ≡ []) × (after ≡ before)
+TriesEach file before (text ∷ texts) receipts after =
+    (first : Receipt) × (later : List Receipt) × (between : DeskSeen)
+    × Tries file before text first between × TriesEach file between texts later after
+    × (receipts ≡ first ∷ later)
+
+-- the texts of the mailbox in the file of this name are tried; or there is no such file within the
+-- limit
+abbrev pub ReceivesFile : Option Files → Text → DeskSeen → List Receipt → DeskSeen → Type 0
+ReceivesFile files name before receipts after =
+    ((bytes : List ℕ) × HasFile files name bytes × TriesEach name before (texts_in bytes) receipts after)
+    ⊎ (IsMissing files name × (receipts ≡ Unread name ∷ []) × (after ≡ before))
+
+-- the files of these names are received one after another
+abbrev pub ReceivesEach : Option Files → List Text → DeskSeen → List Receipt → DeskSeen → Type 0
+ReceivesEach files [] before receipts after = (receipts ≡ []) × (after ≡ before)
+ReceivesEach files (name ∷ names) before receipts after =
+    (first : List Receipt) × (later : List Receipt) × (between : DeskSeen)
+    × ReceivesFile files name before first between × ReceivesEach files names between later after
+    × (receipts ≡ first ++ later)
+
+-- ---- what accepted texts say
+
+-- the texts of the mailbox in the file of this name; none if there is no such file within the limit
+abbrev pub texts_within : Option (List ℕ) → List MailText
+texts_within None = []
+texts_within (Some bytes) = if nat_le (length bytes) file_limit then texts_in bytes else []
+
+-- the texts of the mailboxes in the files of these names
+abbrev pub texts_received : Files → List Text → List MailText
+texts_received files names = flat_map (λ name. texts_within (file_of files name)) names
+
+-- A text that the desk took, or whose message it held already, says the message over the base. The
+-- receipts are those of the texts, in order, and of files that cannot be read.
+abbrev pub IsAccepted : BaseSeen → List MailText → List Receipt → Reference → MessageValue → Type 0
+IsAccepted base texts [] reference message = ⊥
+IsAccepted base texts (Unread file ∷ receipts) reference message =
+    IsAccepted base texts receipts reference message
+IsAccepted base [] (Accepted file n answer other ∷ receipts) reference message = ⊥
+IsAccepted base (text ∷ texts) (Accepted file n answer other ∷ receipts) reference message =
+    Says base text.bytes reference message ⊎ IsAccepted base texts receipts reference message
+IsAccepted base [] (Refused file refused fault ∷ receipts) reference message = ⊥
+IsAccepted base (text ∷ texts) (Refused file refused fault ∷ receipts) reference message =
+    IsAccepted base texts receipts reference message
+
+-- ---- what is printed
+
+-- the beginning of the line of a text: its file, and the line on which it begins
+abbrev pub beginning_text : Text → ℕ → List ℕ
+beginning_text file n = printed_name file ++ 58 ∷ decimal n ++ 32 ∷ []
+
+-- what a fault names of a text that begins on this line of its file: lines are counted from the
+-- file's first
+abbrev pub place_in_file : ℕ → Place → Place
+place_in_file first (Line n) = Line (first + n - 1)
+place_in_file first place = place
+
+-- the refusal of a text that begins on this line of its file
+abbrev pub refused_at : ℕ → DeskFault → List ℕ
+refused_at first fault =
+    refusal_head (refusal_of_desk fault)
+    ++ place_text (place_in_file first (refusal_place (refusal_of_desk fault)))
+
+-- the line of a text, or of a file that cannot be read, without its end
+abbrev pub receipt_text : Receipt → List ℕ
+receipt_text (Accepted file n answer reference) =
+    beginning_text file n ++ printed_text (took_printed answer reference)
+receipt_text (Refused file text fault) = beginning_text file text.line ++ refused_at text.line fault
+receipt_text (Unread file) = codes "refused 91 File " ++ printed_name file
+
+-- whether the message of a text was new
+abbrev pub is_taken : Receipt → Bool
+is_taken (Accepted file n took.Taken reference) = true
+is_taken _ = false
+
+-- whether the message of a text was held already
+abbrev pub is_repeated : Receipt → Bool
+is_repeated (Accepted file n took.Repeated reference) = true
+is_repeated _ = false
+
+-- whether a text was refused, or a file was not read
+abbrev pub is_refused : Receipt → Bool
+is_refused (Accepted file n answer reference) = false
+is_refused _ = true
+
+-- the last line, without its end: how many were taken, repeated and refused
+abbrev pub counts_text : ℕ → ℕ → ℕ → List ℕ
+counts_text taken repeated refused =
+    codes "taken " ++ decimal taken ++ codes " repeated " ++ decimal repeated
+    ++ codes " refused " ++ decimal refused
+
+-- the lines of receipts, in order, and the line that counts them
+abbrev pub receipt_lines : List Receipt → List ℕ
+receipt_lines receipts = flat_map (λ r. line (receipt_text r)) receipts
+    ++ line (counts_text (count_by is_taken receipts) (count_by is_repeated receipts)
+    (count_by is_refused receipts))
+
+-- ---- what is kept
+
+-- a refused text, and a line NNNN
+abbrev pub refused_text : Receipt → List ℕ
+refused_text (Refused file text fault) = text.bytes ++ codes "NNNN\n"
+refused_text _ = []
+
+-- the refused texts, in order, each of which NNNN ends
+abbrev pub refused_texts : List Receipt → List ℕ
+refused_texts receipts = flat_map refused_text receipts
+
+-- the file of the refused texts, if a name is given
+abbrev pub file_of_refused : Option Text → List ℕ → Kept
+file_of_refused None texts = []
+file_of_refused (Some name) texts = (name, texts) ∷ []
+
+-- The desk in a file receives the files of these names. The lines of all receipts are printed. The
+-- refused texts are kept, if a name is given, and then the desk with all that it took; its messages
+-- are in order of reference.
+pub record Receives (files : Option Files) (refused : Option Text) (file out : Text)
+    (names : List Text) (printed : List ℕ) (kept : Kept) : Type 0 where
+  pub before : DeskSeen
+  pub after : DeskSeen
+  pub reads : ReadsDesk files file before
+  pub receipts : List Receipt
+  pub received : ReceivesEach files names before receipts after
+  pub rising : AreRising after.held
+  pub printed_is : printed ≡ receipt_lines receipts
+  pub kept_is : kept ≡ file_of_refused refused (refused_texts receipts)
+      ++ (out, desk_file after.base after.held) ∷ []

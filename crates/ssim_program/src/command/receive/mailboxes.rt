@@ -1,0 +1,111 @@
+//! Mailbox files, whose texts are tried at a desk one after another.
+
+ghost use Rattle.std.specs.Prelude.{◌≡◌, ◌++◌, ℕ, List, IfNone, IfOk, IfSome, OnOk, map};
+ghost use Rattle.ssim_mailbox.specs.Mail.{mail_of};
+ghost use Rattle.ssim_mailbox.specs.Texts.{texts_in};
+ghost use Rattle.ssim_program.specs.Made.{HasFile, IsMissing};
+ghost use Rattle.ssim_program.specs.Receiving.{ReceivesEach, ReceivesFile, Tries, TriesEach};
+ghost use Rattle.ssim_program.specs.internal.Receive.{Adds, receipt_of, receipts_of};
+
+use crate::command::receive::receipt::Receipt;
+use crate::data_set::LIMIT;
+use crate::store::{Store, StoreFault};
+use ssim_desk::Holdings;
+use ssim_mailbox::{Text, texts};
+use ssim_values::Memory;
+use std::alloc::Global;
+
+/// The texts of the mailbox in the file of this name; none if there is no such file within the
+/// limit.
+fn load_mailbox<S: Store>(
+    alloc: Global,
+    name: &str,
+    store: &mut S,
+) -> Result<Option<Vec<Text>>, Memory>
+    ensures texts { IfOk result (λ loaded. IfSome loaded
+        (λ v. (bytes : List ℕ) × HasFile (S.files store.old) name.now bytes
+        × (map mail_of v.items ≡ texts_in bytes))) }
+    ensures missing { IfOk result
+        (λ loaded. IfNone loaded (IsMissing (S.files store.old) name.now)) }
+    ensures same { S.files store.new ≡ S.files store.old }
+    ensures counted { S.failures store.new ≡ S.failures store.old }
+{
+    match store.load(alloc, name, LIMIT) {
+        Ok(bytes) => Ok(Some(texts(alloc, &bytes)?)),
+        Err(StoreFault::Memory) => Err(Memory),
+        Err(StoreFault::Fault) => Ok(None),
+    }
+}
+
+/// Tries a text of a file.
+fn try_text<'n>(desk: &mut Holdings, file: &'n str, text: Text) -> Receipt<'n>
+    ensures { Tries file.now desk.old (mail_of text) (receipt_of result) desk.new }
+{
+    match desk.take(&text.bytes) {
+        Ok((took, reference)) => Receipt::Accepted {
+            file,
+            line: text.line,
+            took,
+            reference,
+        },
+        Err(fault) => Receipt::Refused { file, text, fault },
+    }
+}
+
+/// Tries the texts of a file, in order.
+fn try_texts<'n>(
+    desk: &mut Holdings,
+    file: &'n str,
+    texts: Vec<Text>,
+    receipts: &mut Vec<Receipt<'n>>,
+) -> Result<(), Memory>
+    ensures { OnOk result (Adds (λ before some after. TriesEach file.now before
+        (map mail_of texts.items) some after)
+        desk.old desk.new receipts.old.items receipts.new.items) }
+{
+    for text in texts {
+        receipts.push(try_text(desk, file, text))?;
+    }
+    Ok(())
+}
+
+/// Tries the texts of the mailbox in the file of this name.
+fn receive_file<'n, S: Store>(
+    alloc: Global,
+    desk: &mut Holdings,
+    file: &'n str,
+    store: &mut S,
+    receipts: &mut Vec<Receipt<'n>>,
+) -> Result<(), Memory>
+    ensures received { OnOk result (Adds (ReceivesFile (S.files store.old) file.now)
+        desk.old desk.new receipts.old.items receipts.new.items) }
+    ensures same { S.files store.new ≡ S.files store.old }
+    ensures counted { S.failures store.new ≡ S.failures store.old }
+{
+    match load_mailbox(alloc, file, store)? {
+        Some(texts) => try_texts(desk, file, texts, receipts),
+        None => {
+            receipts.push(Receipt::Unread { file })?;
+            Ok(())
+        }
+    }
+}
+
+/// Tries the texts of the mailboxes in the files of these names, in order.
+pub(crate) fn receive_files<'n, S: Store>(
+    alloc: Global,
+    desk: &mut Holdings,
+    names: &[&'n str],
+    store: &mut S,
+) -> Result<Vec<Receipt<'n>>, Memory>
+    ensures received { IfOk result (λ receipts. ReceivesEach (S.files store.old)
+        (map (λ t. t.now) names.now) desk.old (receipts_of receipts.items) desk.new) }
+    ensures same { S.files store.new ≡ S.files store.old }
+    ensures counted { S.failures store.new ≡ S.failures store.old }
+{
+    let mut receipts = Vec::new(alloc);
+    for name in names {
+        receive_file(alloc, desk, *name, store, &mut receipts)?;
+    }
+    Ok(receipts)
+}

@@ -1,0 +1,225 @@
+//! What became of the texts of mailbox files, the lines that say so, and the refused texts.
+
+ghost use Rattle.std.specs.Prelude.{◌≡◌, ◌++◌, IfOk, OnOk, Some};
+ghost use Rattle.std.specs.List.{count_by};
+ghost use Rattle.ssim_base.specs.Export.{line};
+ghost use Rattle.ssim_program.specs.Receiving.{beginning_text, counts_text, is_refused, is_repeated};
+ghost use Rattle.ssim_program.specs.Receiving.{is_taken, receipt_lines, receipt_text, refused_at};
+ghost use Rattle.ssim_program.specs.Receiving.{refused_text, refused_texts};
+ghost use Rattle.ssim_program.specs.internal.Receive.{receipt_of, receipts_of};
+
+use crate::command::take::printed;
+use crate::print::name::printed_name;
+use crate::print::printed::add_line;
+use crate::refusal::Refusal;
+use itoa::Buffer;
+use ssim_base::Place;
+use ssim_desk::{DeskFault, Took};
+use ssim_mailbox::Text;
+use ssim_text::Reference;
+use ssim_values::Memory;
+use std::alloc::Global;
+use std::fmt;
+
+/// What became of a text of a mailbox file, or of a file.
+#[derive(Drop)]
+pub(crate) enum Receipt<'n> {
+    /// The desk took the text that begins on this line of the file, or held its message already.
+    Accepted {
+        file: &'n str,
+        line: usize,
+        took: Took,
+        reference: Reference,
+    },
+    /// The desk refused the text.
+    Refused {
+        file: &'n str,
+        text: Text,
+        fault: DeskFault,
+    },
+    /// There is no such file within the limit.
+    Unread {
+        file: &'n str,
+    },
+}
+
+impl Receipt<'_> {
+    /// Whether the message of a text was new.
+    fn is_taken(&self) -> bool
+        ensures { result ≡ is_taken (receipt_of self.now) }
+    {
+        matches!(
+            self,
+            Receipt::Accepted {
+                took: Took::Taken,
+                ..
+            }
+        )
+    }
+
+    /// Whether the message of a text was held already.
+    fn is_repeated(&self) -> bool
+        ensures { result ≡ is_repeated (receipt_of self.now) }
+    {
+        matches!(
+            self,
+            Receipt::Accepted {
+                took: Took::Repeated,
+                ..
+            }
+        )
+    }
+
+    /// Whether a text was refused, or a file was not read.
+    fn is_refused(&self) -> bool
+        ensures { result ≡ is_refused (receipt_of self.now) }
+    {
+        !matches!(self, Receipt::Accepted { .. })
+    }
+}
+
+// ---- the lines
+
+/// The refusal of a text that begins on this line of its file.
+#[derive(Clone, Copy, Debug)]
+struct RefusedAt {
+    first: usize,
+    fault: DeskFault,
+}
+
+impl fmt::Display for RefusedAt {
+    ghost output = { λ r. Some (refused_at r.first r.fault) };
+
+    fn fmt<W: fmt::Write>(&self, f: &mut fmt::Formatter<W>) -> fmt::Result {
+        let refusal = Refusal::from(self.fault);
+        match refusal.place() {
+            Place::Line(line) => {
+                let number = refusal.number();
+                let name = refusal.name();
+                let line_in_file = (self.first as u128 + line as u128).saturating_sub(1);
+                write!(f, "refused {number} {name} line {line_in_file}")
+            }
+            _ => write!(f, "{refusal}"),
+        }
+    }
+}
+
+/// Adds the beginning of the line of a text: its file, and the line on which it begins.
+fn push_beginning(
+    alloc: Global,
+    lines: &mut Vec<u8>,
+    file: &str,
+    first: usize,
+) -> Result<(), Memory>
+    ensures { OnOk result
+        (lines.new.items ≡ lines.old.items ++ beginning_text file.now first) }
+{
+    let name = printed_name(alloc, file)?;
+    let mut digits = Buffer::new();
+    lines.extend_from_slice(name.as_bytes())?;
+    lines.push(b':')?;
+    lines.extend_from_slice(digits.format(first).as_bytes())?;
+    lines.push(b' ')?;
+    Ok(())
+}
+
+/// Adds the line of a receipt.
+fn push_line(alloc: Global, lines: &mut Vec<u8>, receipt: &Receipt) -> Result<(), Memory>
+    ensures { OnOk result
+        (lines.new.items ≡ lines.old.items ++ line (receipt_text (receipt_of receipt.now))) }
+{
+    match receipt {
+        Receipt::Accepted {
+            file,
+            line,
+            took,
+            reference,
+        } => {
+            push_beginning(alloc, lines, file, *line)?;
+            add_line(lines, &printed(*took, *reference))
+        }
+        Receipt::Refused { file, text, fault } => {
+            push_beginning(alloc, lines, file, text.line)?;
+            let refused = RefusedAt {
+                first: text.line,
+                fault: *fault,
+            };
+            add_line(lines, &refused)
+        }
+        Receipt::Unread { file } => {
+            let name = printed_name(alloc, file)?;
+            add_line(lines, &Refusal::File { name })
+        }
+    }
+}
+
+/// How many were taken, repeated and refused.
+#[derive(Clone, Copy, Debug)]
+struct Counts {
+    taken: usize,
+    repeated: usize,
+    refused: usize,
+}
+
+impl fmt::Display for Counts {
+    ghost output = { λ c. Some (counts_text c.taken c.repeated c.refused) };
+
+    fn fmt<W: fmt::Write>(&self, f: &mut fmt::Formatter<W>) -> fmt::Result {
+        let Counts {
+            taken,
+            repeated,
+            refused,
+        } = self;
+        write!(f, "taken {taken} repeated {repeated} refused {refused}")
+    }
+}
+
+/// The counts of receipts.
+fn count_of(receipts: &[Receipt]) -> Counts
+    ensures taken { result.taken ≡ count_by is_taken (receipts_of receipts.now) }
+    ensures repeated { result.repeated ≡ count_by is_repeated (receipts_of receipts.now) }
+    ensures refused { result.refused ≡ count_by is_refused (receipts_of receipts.now) }
+{
+    Counts {
+        taken: receipts.iter().filter(|r| r.is_taken()).count(),
+        repeated: receipts.iter().filter(|r| r.is_repeated()).count(),
+        refused: receipts.iter().filter(|r| r.is_refused()).count(),
+    }
+}
+
+/// The lines of receipts, and the line that counts them.
+pub(crate) fn lines_of(alloc: Global, receipts: &[Receipt]) -> Result<Vec<u8>, Memory>
+    ensures { IfOk result (λ lines. lines.items ≡ receipt_lines (receipts_of receipts.now)) }
+{
+    let mut lines = Vec::new(alloc);
+    for receipt in receipts {
+        push_line(alloc, &mut lines, receipt)?;
+    }
+    add_line(&mut lines, &count_of(receipts))?;
+    Ok(lines)
+}
+
+// ---- the refused texts
+
+/// Adds the text of a receipt, if it was refused, and a line `NNNN`.
+fn push_refused(texts: &mut Vec<u8>, receipt: &Receipt) -> Result<(), Memory>
+    ensures { OnOk result
+        (texts.new.items ≡ texts.old.items ++ refused_text (receipt_of receipt.now)) }
+{
+    if let Receipt::Refused { text, .. } = receipt {
+        texts.extend_from_slice(&text.bytes)?;
+        texts.extend_from_slice(b"NNNN\n")?;
+    }
+    Ok(())
+}
+
+/// The refused texts, each of which NNNN ends.
+pub(crate) fn refused_texts(alloc: Global, receipts: &[Receipt]) -> Result<Vec<u8>, Memory>
+    ensures { IfOk result (λ texts. texts.items ≡ refused_texts (receipts_of receipts.now)) }
+{
+    let mut texts = Vec::new(alloc);
+    for receipt in receipts {
+        push_refused(&mut texts, receipt)?;
+    }
+    Ok(texts)
+}
