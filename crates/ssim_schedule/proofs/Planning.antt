@@ -12,7 +12,8 @@ use Rattle.ssim_base.specs.Timetable.{Days, same_flight}
 use Rattle.ssim_base.specs.Export as refusal
 use Rattle.ssim_base.specs.Export.{ExportRefusal, Frame, flight_at, Piece, pieces, pieces_records, flight_records, flights_records, export_refusal, export_of, chapter7, chapter7_records, sections, unless_refused, result_map, export_bytes}
 use Rattle.ssim_schedule.specs.internal.Blocks.{joined}
-use Rattle.ssim_schedule.specs.internal.Plan.{IsRefusedAs, Planned, pieces_count, plan_bytes, plan_count, plan_of, plan_records, plan_refusal}
+use Rattle.ssim_schedule.specs.FlightPieces.{Divided}
+use Rattle.ssim_schedule.specs.internal.Plan.{IsRefusedAs, pieces_count, plan_bytes, plan_count, plan_of, plan_records, plan_refusal}
 use Rattle.ssim_schedule.specs.ExportResult.{Refuses}
 use Rattle.ssim_schedule.specs.internal.Table.{AreRising, Table, key_at, no_entry, table_days}
 use Rattle.ssim_base.specs.ReadBack as law
@@ -29,25 +30,25 @@ use Rattle.ssim_schedule.proofs.TableLemmas.{found_at}
 
 -- ---- flight by flight
 
-abbrev planned : FlightPeriods → Planned
+abbrev planned : FlightPeriods → Divided
 planned f = (f.flight, pieces f.periods.days)
 
 plan-append : (xs ys : Table) → plan_of (xs ++ ys) ≡ plan_of xs ++ plan_of ys
 plan-append [] ys = refl
-plan-append (x ∷ xs) ys = ap (λ (ps : List Planned). planned x ∷ ps) (plan-append xs ys)
+plan-append (x ∷ xs) ys = ap (λ (ps : List Divided). planned x ∷ ps) (plan-append xs ys)
 
 -- a flight is planned, of those that are left
-pub planned_left : (left rest : Table) (f : FlightPeriods) (plan new all : List Planned) (ps : List Piece) → left ≡ f ∷ rest → ps ≡ pieces f.periods.days → new ≡ plan ++ (f.flight, ps) ∷ []
+pub planned_left : (left rest : Table) (f : FlightPeriods) (plan new all : List Divided) (ps : List Piece) → left ≡ f ∷ rest → ps ≡ pieces f.periods.days → new ≡ plan ++ (f.flight, ps) ∷ []
     → plan ++ plan_of left ≡ all → new ++ plan_of rest ≡ all
 planned_left left rest f plan new all ps is its push before =
-    ap (λ (xs : List Planned). xs ++ plan_of rest) (push ∙ ap (λ (xs : List Piece). plan ++ (f.flight, xs) ∷ []) its) ∙ append_assoc plan (planned f ∷ []) (plan_of rest)
+    ap (λ (xs : List Divided). xs ++ plan_of rest) (push ∙ ap (λ (xs : List Piece). plan ++ (f.flight, xs) ∷ []) its) ∙ append_assoc plan (planned f ∷ []) (plan_of rest)
     ∙ ap (λ (xs : Table). plan ++ plan_of xs) (sym is) ∙ before
 
 -- a block is planned, of those that are left
-pub planned_block : (left rest : List Table) (b : Table) (plan new all : List Planned) → left ≡ b ∷ rest → new ≡ plan ++ plan_of b → plan ++ plan_of (joined left) ≡ all → new ++ plan_of (joined rest) ≡ all
+pub planned_block : (left rest : List Table) (b : Table) (plan new all : List Divided) → left ≡ b ∷ rest → new ≡ plan ++ plan_of b → plan ++ plan_of (joined left) ≡ all → new ++ plan_of (joined rest) ≡ all
 planned_block left rest b plan new all is added before =
-    ap (λ (xs : List Planned). xs ++ plan_of (joined rest)) added ∙ append_assoc plan (plan_of b) (plan_of (joined rest))
-    ∙ ap (λ (xs : List Planned). plan ++ xs) (sym (plan-append b (joined rest)) ∙ ap (λ (ts : List Table). plan_of (joined ts)) (sym is)) ∙ before
+    ap (λ (xs : List Divided). xs ++ plan_of (joined rest)) added ∙ append_assoc plan (plan_of b) (plan_of (joined rest))
+    ∙ ap (λ (xs : List Divided). plan ++ xs) (sym (plan-append b (joined rest)) ∙ ap (λ (ts : List Table). plan_of (joined ts)) (sym is)) ∙ before
 
 -- the flights of the current block exist, and those of the blocks after it
 pub block_exists : (G : Type 0) (left rest : List Table) (b : Table) → left ≡ b ∷ rest → All (λ f. IsFlight f.flight) b → (All (λ f. IsFlight f.flight) (joined left) → G)
@@ -55,7 +56,7 @@ pub block_exists : (G : Type 0) (left rest : List Table) (b : Table) → left �
 block_exists G left rest b is here all others =
     all (subst (λ (ts : List Table). All (λ f. IsFlight f.flight) (joined ts)) (sym is) (All-append (λ (f : FlightPeriods). IsFlight f.flight) b (joined rest) here others))
 
-abbrev Exists : FlightPeriods → Type 0
+abbrev pub Exists : FlightPeriods → Type 0
 Exists f = IsFlight f.flight
 
 -- ---- what can be written
@@ -74,10 +75,10 @@ room count ps less h = by (nat_lt 0 (length ps)) (nat_lt 999999 ((count + pieces
         let none : length ps ≡ 0 = grind (arith, nat_tests) in
         omega (arith, no_piece ps none)
 
-abbrev IsShort : Planned → Type 0
+abbrev IsShort : Divided → Type 0
 IsShort p = length p.1 ≤ 99
 
-fits_each : (count : ℕ) (plan : List Planned) → count < 999999 → plan_refusal count plan ≡ None → Each IsShort plan × (count + plan_count plan < 999999)
+fits_each : (count : ℕ) (plan : List Divided) → count < 999999 → plan_refusal count plan ≡ None → Each IsShort plan × (count + plan_count plan < 999999)
 fits_each count [] less h = (tt, omega arith)
 fits_each count (p ∷ plan) less h = by (nat_lt 99 (length p.1)) (nat_lt 0 (length p.1) && nat_lt 999999 ((count + pieces_count p.1) + 1)) refl refl (fits_each (count + pieces_count p.1) plan) h
   where
@@ -92,18 +93,18 @@ fits_each count (p ∷ plan) less h = by (nat_lt 99 (length p.1)) (nat_lt 0 (len
         let later = more (room count p.1 less f) k in
         ((short, later.0), omega (arith, later.1))
 
-pub fits : (plan : List Planned) → plan_refusal 2 plan ≡ None → All IsShort plan × (2 + plan_count plan < 999999)
+pub fits : (plan : List Divided) → plan_refusal 2 plan ≡ None → All IsShort plan × (2 + plan_count plan < 999999)
 fits plan h = let each = fits_each 2 plan (omega arith) h in (All-from_recursion IsShort plan each.0, each.1)
 
 -- ---- the definition at the flights of a schedule
 
-abbrev flights_in : Table → List FlightNumber
+abbrev pub flights_in : Table → List FlightNumber
 flights_in table = map (λ f. f.flight) table
 
-abbrev HasDays : (FlightNumber → Days) → FlightPeriods → Type 0
+abbrev pub HasDays : (FlightNumber → Days) → FlightPeriods → Type 0
 HasDays days f = days f.flight ≡ f.periods.days
 
-its_days : (table : Table) → AreRising table → Each (HasDays (table_days table)) table
+pub its_days : (table : Table) → AreRising table → Each (HasDays (table_days table)) table
 its_days table rising = recursion_from_All (HasDays (table_days table)) table (λ k d less.
     let f = get_or table k d in
     let same : get_or table k d ≡ get_or table k no_entry = get_or_default table k d no_entry less in
@@ -131,7 +132,7 @@ records-same a days (f ∷ table) each =
 rising_tail : (f : FlightPeriods) (table : Table) → AreRising (f ∷ table) → AreRising table
 rising_tail f table rising i j less within = rising (suc i) (suc j) (omega arith) (omega arith)
 
-rises : (low : ℕ) (table : Table) → AreRising table → Each Exists table → (0 < length table → low ≤ key_at table 0) → law.Rise low (flights_in table)
+pub rises : (low : ℕ) (table : Table) → AreRising table → Each Exists table → (0 < length table → low ≤ key_at table 0) → law.Rise low (flights_in table)
 rises low [] rising each from = tt
 rises low (f ∷ table) rising each from =
     (from (omega arith), each.0, rises (place_of f.flight + 1) table (rising_tail f table rising) each.1 (λ some. let next = rising 0 1 (omega arith) (omega arith) in omega (arith, next)))
@@ -152,7 +153,7 @@ absent (f ∷ table) g is each none = by (same_flight g f.flight) (nat_eq (place
         let same : same_flight g f.flight ≡ true = ap (λ (x : FlightNumber). same_flight g x) (sym one) ∙ same-self g in
         absurd cc
 
-no_other : (table : Table) → Each Exists table → NoOther (table_days table) (flights_in table)
+pub no_other : (table : Table) → Each Exists table → NoOther (table_days table) (flights_in table)
 no_other table each g is out =
     ap pieces (absent table g is each out) ∙ unflown (each_day (λ n. [])) (λ n l. let len = length-each_day (λ n. []) in at-each_day (λ n. []) n (omega arith))
 
@@ -169,20 +170,20 @@ exported frame table rising exist =
     ∙ ap (λ rs. result_map export_bytes (unless_refused (plan_refusal 2 (plan_of table)) (sections frame rs))) (records-same a (table_days table) table days)
 
 -- the export, if none of the flights is refused
-pub export_is : (frame : Frame) (table : Table) (plan : List Planned) → AreRising table → All Exists table → plan ≡ plan_of table → plan_refusal 2 plan ≡ None
+pub export_is : (frame : Frame) (table : Table) (plan : List Divided) → AreRising table → All Exists table → plan ≡ plan_of table → plan_refusal 2 plan ≡ None
     → chapter7 frame (table_days table) ≡ Ok (plan_bytes frame plan)
 unfolding plan_bytes
 export_is frame table plan rising exist is none =
     exported frame table rising exist
-    ∙ ap (λ (ps : List Planned). result_map export_bytes (unless_refused (plan_refusal 2 ps) (sections frame (plan_records frame.carrier.airline ps)))) (sym is)
+    ∙ ap (λ (ps : List Divided). result_map export_bytes (unless_refused (plan_refusal 2 ps) (sections frame (plan_records frame.carrier.airline ps)))) (sym is)
     ∙ ap (λ o. result_map export_bytes (unless_refused o (sections frame (plan_records frame.carrier.airline plan)))) none
 
 -- the refusal of the export, if a flight is refused
-pub refusal_is : (frame : Frame) (table : Table) (plan : List Planned) (r : ExportRefusal) → AreRising table → All Exists table → plan ≡ plan_of table → plan_refusal 2 plan ≡ Some r
+pub refusal_is : (frame : Frame) (table : Table) (plan : List Divided) (r : ExportRefusal) → AreRising table → All Exists table → plan ≡ plan_of table → plan_refusal 2 plan ≡ Some r
     → chapter7 frame (table_days table) ≡ Err r
 refusal_is frame table plan r rising exist is some =
     exported frame table rising exist
-    ∙ ap (λ (ps : List Planned). result_map export_bytes (unless_refused (plan_refusal 2 ps) (sections frame (plan_records frame.carrier.airline ps)))) (sym is)
+    ∙ ap (λ (ps : List Divided). result_map export_bytes (unless_refused (plan_refusal 2 ps) (sections frame (plan_records frame.carrier.airline ps)))) (sym is)
     ∙ ap (λ o. result_map export_bytes (unless_refused o (sections frame (plan_records frame.carrier.airline plan)))) some
 
 -- what was measured is what is returned

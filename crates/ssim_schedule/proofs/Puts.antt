@@ -14,7 +14,8 @@ use Rattle.ssim_records.specs.declared.record.Record.{Record}
 use Rattle.ssim_records.specs.declared.record.Record.TheVariants.{Header, Carrier, Leg, Trailer}
 use Rattle.ssim_base.specs.Timetable.{LegValue, Legs}
 use Rattle.ssim_base.specs.Export.{Piece, fill_count, frame_from, leg_records, line, numbered, pieces_records, section_bytes, tail_record, with_serial}
-use Rattle.ssim_schedule.specs.internal.Plan.{Planned, numbered_lines, pieces_count, plan_bytes, plan_count, plan_records}
+use Rattle.ssim_schedule.specs.FlightPieces.{Divided}
+use Rattle.ssim_schedule.specs.internal.Plan.{numbered_lines, pieces_count, plan_bytes, plan_count, plan_records}
 use Rattle.ssim_schedule.specs.internal.SharedLegs.{legs_count}
 use Rattle.ssim_schedule.proofs.Serials.{numbered_lines-append}
 
@@ -44,7 +45,7 @@ pieces-counted a f v (p ∷ pieces) =
     ∙ ap (λ (n : ℕ). n + length (pieces_records a f (v + 1) pieces)) (legs-counted a f v p.0 p.1)
     ∙ ap (λ (n : ℕ). legs_count p.1 + n) (pieces-counted a f (v + 1) pieces)
 
-pub plan-counted : (a : List ℕ) (plan : List Planned) → length (plan_records a plan) ≡ plan_count plan
+pub plan-counted : (a : List ℕ) (plan : List Divided) → length (plan_records a plan) ≡ plan_count plan
 plan-counted a [] = refl
 plan-counted a (p ∷ plan) =
     length-append (pieces_records a p.0 1 p.1) (plan_records a plan)
@@ -102,14 +103,14 @@ piece-split a f v n next p rest whole split count =
     lines-split n next (flat_map (leg_records a f v p.0) p.1) (pieces_records a f (v + 1) rest) _ (ap (λ (ps : List Piece). pieces_records a f v ps) split)
     (count ∙ ap (λ (k : ℕ). n + k) (sym (legs-counted a f v p.0 p.1)))
 
-pub flight-split : (a : List ℕ) (n next : ℕ) (p : Planned) (rest whole : List Planned) → whole ≡ p ∷ rest → next ≡ n + pieces_count p.1
+pub flight-split : (a : List ℕ) (n next : ℕ) (p : Divided) (rest whole : List Divided) → whole ≡ p ∷ rest → next ≡ n + pieces_count p.1
     → numbered_lines n (plan_records a whole) ≡ numbered_lines n (pieces_records a p.0 1 p.1) ++ numbered_lines next (plan_records a rest)
 flight-split a n next p rest whole split count =
-    lines-split n next (pieces_records a p.0 1 p.1) (plan_records a rest) _ (ap (λ (ps : List Planned). plan_records a ps) split)
+    lines-split n next (pieces_records a p.0 1 p.1) (plan_records a rest) _ (ap (λ (ps : List Divided). plan_records a ps) split)
     (count ∙ ap (λ (k : ℕ). n + k) (sym (pieces-counted a p.0 1 p.1)))
 
 -- the third section, and the bytes of all four
-pub body-split : (a : List ℕ) (plan : List Planned) (count : ℕ) → count ≡ plan_count plan
+pub body-split : (a : List ℕ) (plan : List Divided) (count : ℕ) → count ≡ plan_count plan
     → section_bytes (numbered 3 (plan_records a plan)) ≡ numbered_lines 3 (plan_records a plan) ++ flat_map line (replicate (fill_count count) fill)
 body-split a plan count is =
     ap (λ (k : ℕ). numbered_lines 3 (plan_records a plan) ++ flat_map line (replicate (fill_count k) fill)) (numbered-counted 3 (plan_records a plan) ∙ plan-counted a plan ∙ sym is)
@@ -123,7 +124,7 @@ carrier_at c n = record c { serial = n }
 abbrev pub trailer_at : TrailerFields → ℕ → ℕ → TrailerFields
 trailer_at t check n = record t { check = check; serial = n }
 
-pub four_sections : (header h : HeaderFields) (carrier c : CarrierFields) (trailer t : TrailerFields) (a : List ℕ) (plan : List Planned) (check next : ℕ)
+pub four_sections : (header h : HeaderFields) (carrier c : CarrierFields) (trailer t : TrailerFields) (a : List ℕ) (plan : List Divided) (check next : ℕ)
     → h ≡ header_at header 1 → c ≡ carrier_at carrier 2 → a ≡ carrier.airline → check ≡ 2 + plan_count plan → next ≡ 3 + plan_count plan → t ≡ trailer_at trailer check next
     → plan_bytes (frame_from header carrier trailer) plan
     ≡ section_bytes (Header h ∷ []) ++ (section_bytes (Carrier c ∷ []) ++ (section_bytes (numbered 3 (plan_records a plan)) ++ (section_bytes (Trailer t ∷ []) ++ [])))

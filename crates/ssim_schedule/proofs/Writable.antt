@@ -9,7 +9,8 @@ use Rattle.ssim_periods.specs.Days.{each_day}
 use Rattle.ssim_periods.specs.Pieces.{alone, held_on}
 use Rattle.ssim_base.specs.Timetable.{Days, Legs, on_day}
 use Rattle.ssim_base.specs.Export.{Piece, pieces, same_itinerary}
-use Rattle.ssim_schedule.specs.internal.Plan.{HasWritableLegs, HasWritablePieces, Planned, plan_of}
+use Rattle.ssim_schedule.specs.FlightPieces.{Divided}
+use Rattle.ssim_schedule.specs.internal.Plan.{HasWritableLegs, HasWritablePieces, plan_of}
 use Rattle.ssim_base.specs.ReadBack.{CanReadBack, IsTimetable, IsWritable, place_of}
 use Rattle.ssim_schedule.specs.internal.Table.{Table, table_days}
 use Rattle.ssim_base.proofs.Calendars.{at-each_day}
@@ -54,9 +55,9 @@ entries-writable [] n h = tt
 entries-writable (f ∷ table) n h = (day-writable f.periods.days n h.0, entries-writable table n h.1)
 
 -- what was written can be read back
-pub readable : (table : Table) (plan : List Planned) → plan ≡ plan_of table → All HasWritablePieces plan → IsTimetable (table_days table) → CanReadBack (table_days table)
+pub readable : (table : Table) (plan : List Divided) → plan ≡ plan_of table → All HasWritablePieces plan → IsTimetable (table_days table) → CanReadBack (table_days table)
 readable table plan is writable timetable =
-    let each = recursion_from_All HasWritablePieces (plan_of table) (subst (λ (ps : List Planned). All HasWritablePieces ps) is writable) in
+    let each = recursion_from_All HasWritablePieces (plan_of table) (subst (λ (ps : List Divided). All HasWritablePieces ps) is writable) in
     record {
       timetable = timetable;
       legs = λ g n exists within.

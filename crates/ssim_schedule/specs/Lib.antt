@@ -5,5 +5,6 @@ pub mod MessageColumns
 pub mod Effect
 pub mod Acts
 pub mod FlightDate
+pub mod FlightPieces
 pub mod examples
 pub mod internal

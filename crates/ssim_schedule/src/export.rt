@@ -9,8 +9,9 @@ ghost use Rattle.ssim_schedule.specs.Schedule.{days_in};
 ghost use Rattle.ssim_schedule.specs.internal.Table.{table_days};
 ghost use Rattle.ssim_base.specs.Timetable.{days_of};
 
+pub(crate) mod flights;
 mod lines;
-mod plan;
+pub(crate) mod plan;
 
 use crate::export::lines::put_export;
 use crate::export::plan::{divide, measure};

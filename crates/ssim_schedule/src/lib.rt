@@ -5,6 +5,9 @@
 //!   from a data set whose records are freed.
 //! - `Schedule::export` and `export_in`: write it as chapter 7 in the one canonical division, or
 //!   return an [`ExportFault`]. [`export_data_set`] does the same for the timetable of a data set.
+//! - `Schedule::into_flights`: all flights with their [`FlightPieces`], the periods of the same
+//!   division; `Schedule::pieces_of` gives those of some flights, which [`flights_in_order`] puts in
+//!   order.
 //! - `Schedule::apply_sub` and `apply_by`: a resolved sub-message acts on each date of its period
 //!   by itself; a [`Finding`] counts the dates by what happened on them.
 //!
@@ -25,6 +28,8 @@ mod schedule;
 mod timetable;
 
 pub use effect::flight_date::FlightDate;
+pub use export::flights::{flights_in_order, listed_flights_are_exported};
+pub use export::plan::FlightPieces;
 pub use export::{ExportFault, export_data_set};
 pub use finding::{Finding, Reason};
 pub use itinerary::Itinerary;

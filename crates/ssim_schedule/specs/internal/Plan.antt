@@ -1,23 +1,19 @@
 -- What is to be exported, flight by flight: pieces instead of days.
 use Rattle.std.specs.Prelude.{◌≡◌, ℕ, ◌+◌, ◌&&◌, nat_lt, if◌then◌else◌, List, [], ◌∷◌, map, length, Option, Some, None}
 use Rattle.std.specs.List.{flat_map, All}
-use Rattle.ssim_values.specs.Flight.{FlightNumber}
 use Rattle.ssim_records.specs.Record.{written}
 use Rattle.ssim_records.specs.declared.record.Record.{Record}
 use Rattle.ssim_base.specs.ReadBack.{IsWritable}
 use Rattle.ssim_schedule.specs.internal.SharedLegs.{legs_count}
 use Rattle.ssim_base.specs.Export as refusal
 use Rattle.ssim_base.specs.Export.{ExportRefusal, Frame, Piece, export_bytes, line, numbered, pieces, pieces_records, sections}
+use Rattle.ssim_schedule.specs.FlightPieces.{Divided}
 use Rattle.ssim_schedule.specs.internal.Table.{Table}
 use Rattle.ssim_schedule.specs.declared.export.ExportFault.{ExportFault}
 use Rattle.ssim_schedule.specs.declared.export.ExportFault.TheVariants.{Variations, Records, WriteFault, Memory}
 
--- a flight and its pieces
-abbrev pub Planned : Type 0
-Planned = FlightNumber × List Piece
-
 -- the flights of a schedule with their pieces
-abbrev pub plan_of : Table → List Planned
+abbrev pub plan_of : Table → List Divided
 plan_of table = map (λ f. (f.flight, pieces f.periods.days)) table
 
 -- ---- how many records there are
@@ -28,7 +24,7 @@ pieces_count [] = 0
 pieces_count (piece ∷ later) = legs_count piece.1 + pieces_count later
 
 -- the number of records of a plan
-abbrev pub plan_count : List Planned → ℕ
+abbrev pub plan_count : List Divided → ℕ
 plan_count [] = 0
 plan_count (p ∷ plan) = pieces_count p.1 + plan_count plan
 
@@ -39,18 +35,18 @@ abbrev pub HasWritableLegs : Piece → Type 0
 HasWritableLegs piece = All IsWritable piece.1
 
 -- each leg of all pieces of the flight can be written
-abbrev pub HasWritablePieces : Planned → Type 0
+abbrev pub HasWritablePieces : Divided → Type 0
 HasWritablePieces p = All HasWritableLegs p.1
 
 -- ---- the export of a plan
 
 -- the records of a plan, with serial 0
-abbrev pub plan_records : List ℕ → List Planned → List Record
+abbrev pub plan_records : List ℕ → List Divided → List Record
 plan_records airline plan = flat_map (λ p. pieces_records airline p.0 1 p.1) plan
 
 -- the refusal of the first flight of a plan that cannot be exported; `count` is the number of
 -- records before it
-abbrev pub plan_refusal : ℕ → List Planned → Option ExportRefusal
+abbrev pub plan_refusal : ℕ → List Divided → Option ExportRefusal
 plan_refusal count [] = None
 plan_refusal count (p ∷ plan) =
     let after = count + pieces_count p.1 in
@@ -63,7 +59,7 @@ abbrev pub numbered_lines : ℕ → List Record → List ℕ
 numbered_lines n records = flat_map (λ r. line (written r)) (numbered n records)
 
 -- the bytes of a plan's export
-unfoldable pub plan_bytes : Frame → List Planned → List ℕ
+unfoldable pub plan_bytes : Frame → List Divided → List ℕ
 plan_bytes frame plan = export_bytes (sections frame (plan_records frame.carrier.airline plan))
 
 -- ---- what the measure of a plan returns

@@ -1,11 +1,12 @@
 //! A set of flights.
 
-ghost use Rattle.std.specs.Prelude.{◌≡◌, false, length, vec_len, IfOk};
+ghost use Rattle.std.specs.Prelude.{◌≡◌, false, filter, length, vec_len, IfOk};
 ghost use Rattle.ssim_schedule.specs.internal.FlightSet.{is_marked, is_record_of};
+ghost use Rattle.ssim_base.specs.Export.{all_flights};
 ghost use Rattle.ssim_base.specs.Timetable.{is_among};
 ghost use Rattle.ssim_values.specs.Flight.{FlightNumber, IsFlight};
 
-use crate::timetable::flight_table::place;
+use crate::timetable::flight_table::{flight_at, place};
 use ssim_records::Record;
 use ssim_values::{Flight, Memory};
 use std::alloc::Global;
@@ -42,6 +43,20 @@ impl FlightSet {
             Record::Segment(segment) => self.has(segment.name().flight()),
             Record::Header(_) | Record::Carrier(_) | Record::Trailer(_) => false,
         }
+    }
+
+    /// The flights of the set, by number and suffix.
+    pub(crate) fn flights(&self, alloc: Global) -> Result<Vec<Flight>, Memory>
+        ensures { IfOk result
+            (λ flights. flights.items ≡ filter (is_marked self.now.marks.items) all_flights) }
+    {
+        let mut flights = Vec::new(alloc);
+        for place in 0..PLACES {
+            if self.marks[place] {
+                flights.push(flight_at(place as u32))?;
+            }
+        }
+        Ok(flights)
     }
 
     // Whether a flight is in the set.

@@ -3,6 +3,7 @@
 ghost use Rattle.std.specs.Prelude.{◌≡◌, ◌≤◌, ◌<◌, ◌+◌, ◌++◌, List, length, None, IfOk, IfErr, IfSome, IfNone, OnOk};
 ghost use Rattle.std.specs.List.{All};
 ghost use Rattle.ssim_values.specs.Flight.{IsFlight};
+ghost use Rattle.ssim_base.specs.Export.{pieces};
 ghost use Rattle.ssim_schedule.specs.internal.Blocks.{joined};
 ghost use Rattle.ssim_schedule.specs.internal.Plan.{IsRefusedAs, pieces_count, plan_of, plan_refusal};
 
@@ -10,33 +11,47 @@ use crate::export::ExportFault;
 use crate::itinerary::{Itinerary, MOST_RECORDS};
 use crate::timetable::flight_table::{FlightPeriods, FlightTable, place};
 use crate::timetable::shared::Shared;
+use ssim_periods::Periods;
 use ssim_values::{Flight, Memory, Period};
 use std::alloc::Global;
 use std::marker::Model;
 
-/// A flight and its pieces, in order of first day.
+/// A flight and its pieces: the periods of the canonical division of its dates in order of first
+/// day, each with the itinerary on these dates.
 #[derive(Drop)]
-pub(crate) struct FlightPieces {
+pub struct FlightPieces {
     flight: Flight,
     pieces: Vec<(Period, Itinerary)>,
 }
 
 impl Model for FlightPieces {
-    ghost use Rattle.ssim_schedule.specs.internal.Plan.{Planned};
+    ghost use Rattle.ssim_schedule.specs.FlightPieces.{Divided};
 
-    ghost Value = { Planned };
+    ghost Value = { Divided };
 
     ghost view = { λ p. (p.flight, p.pieces.items) };
 }
 
 impl FlightPieces {
-    pub(crate) fn flight(&self) -> Flight
+    /// A flight with the pieces of its itineraries.
+    pub(crate) fn of(flight: Flight, periods: &Periods<Itinerary>) -> Result<FlightPieces, Memory>
+        ensures { IfOk result (λ divided. divided ≡ (flight, pieces periods.now.days)) }
+    {
+        Ok(FlightPieces {
+            flight,
+            pieces: periods.pieces()?,
+        })
+    }
+
+    /// The flight.
+    pub fn flight(&self) -> Flight
         ensures { result ≡ self.now.0 }
     {
         self.flight
     }
 
-    pub(crate) fn pieces(&self) -> &[(Period, Itinerary)]
+    /// Its pieces. There are none if it flies on no date.
+    pub fn pieces(&self) -> &[(Period, Itinerary)]
         ensures { result.now ≡ self.now.1 }
     {
         &self.pieces

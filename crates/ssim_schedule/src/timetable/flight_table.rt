@@ -6,6 +6,7 @@ ghost use Rattle.ssim_values.specs.Calendar.{weekday};
 ghost use Rattle.ssim_values.specs.Flight.{FlightNumber, IsFlight};
 ghost use Rattle.ssim_periods.specs.Calendar.{holds};
 ghost use Rattle.ssim_periods.specs.Days.{AddsOnly, changed_on, counts_on};
+ghost use Rattle.ssim_base.specs.Export.{flight_at};
 ghost use Rattle.ssim_base.specs.ReadBack.{place_of};
 ghost use Rattle.ssim_base.specs.Timetable.{on_day};
 ghost use Rattle.ssim_schedule.specs.internal.Blocks.{IsBlock, block_of};
@@ -241,4 +242,16 @@ pub(crate) fn place(flight: Flight) -> u32
         letter => letter as u32 - 64,
     };
     27 * flight.number() as u32 + suffix
+}
+
+// The flight with this index among all flights.
+pub(crate) fn flight_at(place: u32) -> Flight
+    requires { place < 270000 }
+    ensures { result ≡ flight_at place }
+{
+    let suffix = match place % 27 {
+        0 => b' ',
+        letter => 64 + letter as u8,
+    };
+    Flight::new((place / 27) as u16, suffix).unwrap()
 }

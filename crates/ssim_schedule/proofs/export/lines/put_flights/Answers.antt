@@ -5,7 +5,8 @@ use Rattle.std.specs.Vec.Iter.{into_iter_items}
 use Rattle.std.proofs.lemmas.List.Elements.{recursion_from_All, All-from_recursion}
 use Rattle.ssim_values.specs.Flight.{FlightNumber}
 use Rattle.ssim_base.specs.Export.{Piece, pieces_records}
-use Rattle.ssim_schedule.specs.internal.Plan.{HasWritableLegs, HasWritablePieces, Planned, numbered_lines, pieces_count, plan_count, plan_records}
+use Rattle.ssim_schedule.specs.FlightPieces.{Divided}
+use Rattle.ssim_schedule.specs.internal.Plan.{HasWritableLegs, HasWritablePieces, numbered_lines, pieces_count, plan_count, plan_records}
 use Rattle.ssim_base.specs.Sinks.{TakesPrefix, TakesUpTo}
 use Rattle.ssim_base.proofs.Each.{all_left}
 use Rattle.ssim_schedule.proofs.Puts.{flight-split}
@@ -17,9 +18,9 @@ its_lines : (a : List ℕ) (n : ℕ) (f g : FlightNumber) (ps qs : List Piece) �
 its_lines a n f g ps qs flight pieces = ap (λ (x : FlightNumber). numbered_lines n (pieces_records a x 1 ps)) flight ∙ ap (λ (xs : List Piece). numbered_lines n (pieces_records a g 1 xs)) pieces
 
 -- the first of those that are left has few pieces, and so do the others
-few_left : (left rest : List Planned) (p : Planned) → left ≡ p ∷ rest → All (λ p. length p.1 ≤ 99) left → (length p.1 ≤ 99) × All (λ p. length p.1 ≤ 99) rest
+few_left : (left rest : List Divided) (p : Divided) → left ≡ p ∷ rest → All (λ p. length p.1 ≤ 99) left → (length p.1 ≤ 99) × All (λ p. length p.1 ≤ 99) rest
 few_left left rest p is few =
-    let each = recursion_from_All (λ p. length p.1 ≤ 99) (p ∷ rest) (subst (λ (ps : List Planned). All (λ p. length p.1 ≤ 99) ps) is few) in
+    let each = recursion_from_All (λ p. length p.1 ≤ 99) (p ∷ rest) (subst (λ (ps : List Divided). All (λ p. length p.1 ≤ 99) ps) is few) in
     (each.0, All-from_recursion (λ p. length p.1 ≤ 99) rest each.1)
 
 pub put_pieces-requires : goal.put_pieces-requires
