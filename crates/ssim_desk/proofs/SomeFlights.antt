@@ -7,7 +7,7 @@ use Rattle.std.specs.List.{list_any}
 use Rattle.ssim_periods.specs.Calendar.{holds}
 use Rattle.ssim_periods.specs.Days.{each_day}
 use Rattle.ssim_records.specs.declared.record.Record.{Record}
-use Rattle.ssim_base.proofs.Places.{same-self}
+use Rattle.ssim_base.proofs.Places.{same-self, same-true}
 use Rattle.ssim_schedule.specs.Acts.{after_on, finding_of}
 use Rattle.ssim_base.specs.BaseSeen.{BaseSeen}
 use Rattle.ssim_base.specs.Stations.{Row}
@@ -20,7 +20,7 @@ use Rattle.ssim_values.specs.Flight.{FlightNumber}
 use Rattle.ssim_held.specs.Entries.{Entry}
 use Rattle.ssim_desk.specs.Desk.{is_sub_of}
 use Rattle.ssim_desk.specs.Meaning.{Timetable, after_entries, after_entry, after_one, after_subs, entries_findings, found_by, subs_findings}
-use Rattle.ssim_desk.specs.internal.Changes.{flights_of}
+use Rattle.ssim_desk.specs.internal.Changes.{AgreeAt, flights_of}
 use Rattle.ssim_desk.proofs.Trails.{after_entries-++, findings-++}
 
 -- ---- at one flight
@@ -61,6 +61,22 @@ subs_other rows (sub ∷ subs) (dated ∷ dates) t g e =
     let both = both_false (same_flight dated.flight g) (list_any (is_sub_of g) dates) e in
     subs_other rows subs dates (after_one rows sub.action dated t) g both.1 ∙ one_other rows sub.action dated t g both.0
 
+-- a message that names none of some flights does not name one that is among them
+pub names_none : (flights : List FlightNumber) (dates : List ResolvedSub) (g : FlightNumber) → is_among flights g ≡ true → list_any (λ sub. is_among flights sub.flight) dates ≡ false
+    → list_any (is_sub_of g) dates ≡ false
+names_none flights [] g is none = refl
+names_none flights (sub ∷ dates) g is none =
+    by (same_flight sub.flight g) refl (both_false (is_among flights sub.flight) (list_any (λ x. is_among flights x.flight) dates) none) (names_none flights dates g is)
+  where
+    by : (b : Bool) → same_flight sub.flight g ≡ b → (is_among flights sub.flight ≡ false) × (list_any (λ (x : ResolvedSub). is_among flights x.flight) dates ≡ false)
+        → (list_any (λ (x : ResolvedSub). is_among flights x.flight) dates ≡ false → list_any (is_sub_of g) dates ≡ false)
+        → (b || list_any (is_sub_of g) dates) ≡ false
+    by true e both later =
+        let one : sub.flight ≡ g = same-true sub.flight g e in
+        let never : true ≡ false = sym is ∙ ap (is_among flights) (sym one) ∙ both.0 in
+        absurd (let clash : true ≡ false = never in cc)
+    by false e both later = later both.1
+
 -- ---- one more message
 
 module _ (rows : List Row) (es : List Entry) (k : ℕ) (e : Entry) (within : k < length es) (is : e ≡ get_or es k e) (before : Timetable) where
@@ -85,10 +101,6 @@ module _ (rows : List Row) (es : List Entry) (k : ℕ) (e : Entry) (within : k <
     other_more none = agrees ∙ sym (subs_other rows e.message.subs e.dates so_far g none) ∙ ap (λ (u : Timetable). u g) after_one_more
 
 -- ---- findings
-
--- the timetables agree at each of these flights
-abbrev AgreeAt : List FlightNumber → Timetable → Timetable → Type 0
-AgreeAt flights t u = (g : FlightNumber) → is_among flights g ≡ true → t g ≡ u g
 
 -- the flights of the sub-messages are among these
 abbrev AreAmong : List FlightNumber → List ResolvedSub → Type 0

@@ -1,20 +1,22 @@
 //! The flights that messages name, and the timetable of some flights after messages.
 
-ghost use Rattle.std.specs.Prelude.{◌≡◌, ◌++◌, map, IfOk, OnOk};
+ghost use Rattle.std.specs.Prelude.{◌≡◌, ◌++◌, map, true, IfOk, OnOk};
 ghost use Rattle.std.specs.List.{list_any};
 ghost use Rattle.ssim_periods.specs.Days.{each_day};
+ghost use Rattle.ssim_values.specs.Flight.{FlightNumber, IsFlight};
+ghost use Rattle.ssim_base.specs.Timetable.{is_among};
+ghost use Rattle.ssim_schedule.specs.FlightPieces.{divided_among};
 ghost use Rattle.ssim_schedule.specs.Schedule.{days_in};
-ghost use Rattle.ssim_desk.specs.Desk.{is_sub_of};
 ghost use Rattle.ssim_desk.specs.Meaning.{Timetable, after_entries, entries_findings, found_by};
 ghost use Rattle.ssim_desk.specs.Meaning.{left_by};
-ghost use Rattle.ssim_desk.specs.internal.Changes.{Shows, flights_of};
+ghost use Rattle.ssim_desk.specs.internal.Changes.{AgreeAt, Shows, flights_of};
 
 use crate::message_effect::act;
 use crate::replay::MessageFindings;
 use ssim_base::{Base, ResolvedSub, StationRow};
 use ssim_held::Held;
 use ssim_periods::Periods;
-use ssim_schedule::{Itinerary, PlacedLeg, Schedule, copy_legs};
+use ssim_schedule::{FlightPieces, Itinerary, PlacedLeg, Schedule, copy_legs, flights_in_order};
 use ssim_values::{Day, Flight, Memory};
 use std::alloc::Global;
 
@@ -62,8 +64,38 @@ fn schedule_after(
     // No effect at run time. The proof reads from these uses that the flight exists.
     let _ = flight.number();
     let _ = flight.suffix();
-    let mut schedule = Schedule::of_flights(base.data_set(), &[*flight])?;
-    act_on(alloc, base.rows(), &mut schedule, *flight, messages)?;
+    schedule_of(alloc, base, messages, &[*flight])
+}
+
+/// Some flights, in the order of the list, each with the pieces of what messages, in this order,
+/// leave of the timetable of a base.
+pub(crate) fn pieces_after(
+    alloc: Global,
+    base: &Base,
+    messages: &[Held],
+    flights: &[Flight],
+) -> Result<Vec<FlightPieces>, Memory>
+    ensures { IfOk result (λ divided. divided.items ≡ divided_among flights.now
+        (λ g. each_day (left_by base.now messages.now g))) }
+{
+    let ordered = flights_in_order(alloc, flights)?;
+    let schedule = schedule_of(alloc, base, messages, flights)?;
+    schedule.pieces_of(alloc, &ordered)
+}
+
+// The schedule of some flights that messages, in this order, leave of the timetable of a base. Of
+// this timetable only these flights are made, and only the messages that name one of them act.
+fn schedule_of(
+    alloc: Global,
+    base: &Base,
+    messages: &[Held],
+    flights: &[Flight],
+) -> Result<Schedule, Memory>
+    ensures { IfOk result (λ schedule. (g : FlightNumber) → IsFlight g → is_among flights.now g ≡ true
+        → days_in schedule g ≡ each_day (left_by base.now messages.now g)) }
+{
+    let mut schedule = Schedule::of_flights(base.data_set(), flights)?;
+    act_on(alloc, base.rows(), &mut schedule, flights, messages)?;
     Ok(schedule)
 }
 
@@ -119,29 +151,35 @@ fn act_all(
     Ok(found)
 }
 
-// Those messages that name the flight act in their order.
+// Those messages that name one of the flights act in their order.
 fn act_on(
     alloc: Global,
     rows: &[StationRow],
     schedule: &mut Schedule,
-    flight: Flight,
+    flights: &[Flight],
     messages: &[Held],
 ) -> Result<(), Memory>
     ensures { OnOk result ((before : Timetable) → Shows schedule.old before → (after : Timetable)
         × Shows schedule.new after
-        × (after flight ≡ after_entries rows.now messages.now before flight)) }
+        × AgreeAt flights.now after (after_entries rows.now messages.now before)) }
 {
     for held in messages {
-        if names(held, flight) {
+        if names_one(held, flights) {
             act(alloc, rows, schedule, held)?;
         }
     }
     Ok(())
 }
 
-// Whether a sub-message names the flight.
-fn names(held: &Held, flight: Flight) -> bool
-    ensures { result ≡ list_any (is_sub_of flight) held.now.dates }
+// Whether a sub-message names one of the flights.
+fn names_one(held: &Held, flights: &[Flight]) -> bool
+    ensures { result ≡ list_any (λ sub. is_among flights.now sub.flight) held.now.dates }
 {
-    held.dates().iter().any(|sub| sub.flight == flight)
+    held.dates().iter().any(|sub| is_among(sub.flight, flights))
+}
+
+fn is_among(flight: Flight, flights: &[Flight]) -> bool
+    ensures { result ≡ is_among flights.now flight }
+{
+    flights.iter().any(|other| flight == *other)
 }

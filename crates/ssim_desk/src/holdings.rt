@@ -6,6 +6,7 @@ ghost use Rattle.std.specs.Bool.{OnFalse};
 ghost use Rattle.std.specs.FinMap.{contains_key, remove};
 ghost use Rattle.std.specs.Io.KnownBytes.{Appends};
 ghost use Rattle.ssim_base.specs.BaseSeen.{base_with};
+ghost use Rattle.ssim_schedule.specs.FlightPieces.{divided_among, divided_flights};
 ghost use Rattle.ssim_schedule.specs.ExportResult.{ReadsBackBase, RefusesBase, WritesBase};
 ghost use Rattle.ssim_base.specs.Sinks.{CountsFault, TakesPrefix};
 ghost use Rattle.ssim_held.specs.File.{CanBeSaved, IsDeskFile, desk_file};
@@ -26,7 +27,7 @@ ghost use Rattle.ssim_desk.specs.Steps.{Merges, RefusesDesk, RefusesText, Takes}
 use crate::date_step::{DateHistory, history_of};
 use crate::desk::Took;
 use crate::finding_line::{FindingLine, push_lines};
-use crate::flights::{days_after, found_by, legs_after};
+use crate::flights::{days_after, found_by, legs_after, pieces_after};
 use crate::message_effect::act_in_order;
 use crate::offer::{Offer, offer_over};
 use ssim_base::{Base, DataSet, Stations, WriteFault};
@@ -35,7 +36,7 @@ use ssim_held::{
 };
 use ssim_periods::Periods;
 use ssim_records::{Parts, Sink};
-use ssim_schedule::{ExportFault, Itinerary, PlacedLeg, Schedule};
+use ssim_schedule::{ExportFault, FlightPieces, Itinerary, PlacedLeg, Schedule};
 use ssim_text::Reference;
 use ssim_values::{Day, Flight, Memory};
 use std::alloc::Global;
@@ -204,6 +205,29 @@ impl Holdings {
         ensures { IfOk result (λ itineraries. itineraries.days ≡ days_of_desk self.now flight.now) }
     {
         days_after(self.alloc, &self.base, &self.held, flight)
+    }
+
+    /// The flights of a list, by number and suffix, each once with its pieces: those that an export
+    /// has, without its limits. A flight that flies on no date has none. Reads all records of the
+    /// base.
+    pub fn pieces_of(&self, flights: &[Flight]) -> Result<Vec<FlightPieces>, Memory>
+        ensures { IfOk result (λ divided. divided.items
+            ≡ divided_among flights.now (days_of_desk self.now)) }
+    {
+        pieces_after(self.alloc, &self.base, &self.held, flights)
+    }
+
+    /// The flights that fly on some date, by number and suffix, each with its pieces: those that
+    /// `export` writes, without its limits. The records are freed while the timetable is made, so
+    /// it takes the memory of one of the two.
+    pub fn into_flights(self) -> Result<Vec<FlightPieces>, Memory>
+        ensures { IfOk result (λ flights. flights.items ≡ divided_flights (days_of_desk self)) }
+    {
+        let Holdings { base, held, alloc } = self;
+        let (data_set, stations) = base.into_parts();
+        let (mut schedule, _) = Schedule::of_data_set(data_set)?;
+        act_in_order(alloc, stations.rows(), &mut schedule, &held)?;
+        schedule.into_flights()
     }
 
     /// A line for each sub-message that is held, in order: what it found on the dates of its

@@ -1,12 +1,12 @@
 -- What a text or a merge changes in the messages that are held, and the schedules after them.
 use Rattle.std.specs.Prelude.{◌≡◌, ◌⊎◌, ℕ, ◌+◌, ◌*◌, ◌/◌, ◌%◌, ◌<◌, ◌≤◌, List, ◌∷◌, ◌++◌, length, take, map}
-use Rattle.std.specs.Prelude.{slice_get, Contains, IsTrue, IfSome}
+use Rattle.std.specs.Prelude.{slice_get, true, Contains, IsTrue, IfSome}
 use Rattle.std.specs.Prelude.{Option, None, Some}
 use Rattle.std.specs.FinMap.{get}
 use Rattle.std.specs.Prelude.{Vec, vec_capacity, vec_len}
 use Rattle.std.specs.List.{flat_map, list_any}
 use Rattle.ssim_periods.specs.Days.{each_day}
-use Rattle.ssim_base.specs.{BaseSeen.BaseSeen, Stations.Row}
+use Rattle.ssim_base.specs.{BaseSeen.BaseSeen, Stations.Row, Timetable.is_among}
 use Rattle.ssim_schedule.specs.{Schedule.{Flown, cuts_in, days_in}}
 use Rattle.ssim_base.specs.declared.sub_message.ResolvedSub.{ResolvedSub}
 use Rattle.ssim_text.specs.Message.{MessageValue}
@@ -51,6 +51,10 @@ IsChange mine theirs (Some change) = Brings mine theirs change.0 change.1.items
 -- the schedule has this timetable
 abbrev pub Shows : Flown → Timetable → Type 0
 Shows schedule timetable = (g : FlightNumber) → IsFlight g → days_in schedule g ≡ each_day (timetable g)
+
+-- the timetables agree at each of these flights
+abbrev pub AgreeAt : List FlightNumber → Timetable → Timetable → Type 0
+AgreeAt flights one other = (g : FlightNumber) → is_among flights g ≡ true → one g ≡ other g
 
 -- the flights of the sub-messages of messages
 abbrev pub flights_of : List Entry → List FlightNumber

@@ -1,28 +1,30 @@
--- A message that names the flight acts; another one leaves the flight as it is.
+-- A message that names one of the flights acts; another one leaves them as they are.
 use Rattle.std.proofs.Common.{◌∙◌, sym, subst}
 use Rattle.ssim_schedule.specs.Schedule.{Flown}
 use Rattle.ssim_desk.specs.Meaning.{after_entry}
 use Rattle.ssim_desk.specs.internal.Changes.{Shows}
-use Rattle.ssim_desk.proofs.SomeFlights.{named_more, other_more}
+use Rattle.ssim_desk.proofs.SomeFlights.{named_more, names_none, other_more}
 use Rattle.ssim_desk.proofs.flights.act_on.Goals as goal
-use Rattle.ssim_desk.proofs.flights.act_on.Goals.{then-names+in_ok-act, else-names}
+use Rattle.ssim_desk.proofs.flights.act_on.Goals.{then-names_one+in_ok-act, else-names_one}
 
 pub loop-held-preserved : goal.loop-held-preserved
 loop-held-preserved c = λ before shows.
     let rows = c.args.rows.now in
     let messages = c.args.messages.now in
+    let flights = c.args.flights.now in
     let k = c.loop-held.held-index in
     let e = c.held-item.result in
     let so_far = c.loop-held.invariant before shows in
-    elim c.if-names.branch [
-      | then-names+in_ok-act w ↦ (
+    elim c.if-names_one.branch [
+      | then-names_one+in_ok-act w ↦ (
         after_entry rows e so_far.0,
         subst (λ (s : Flown). Shows s (after_entry rows e so_far.0)) (sym w.schedule-is) (w.in_ok-act.ensures.shows so_far.0 so_far.1),
-        named_more rows messages k e c.loop-held-test.true c.held-item.is before so_far.0 c.args.flight so_far.2,
+        λ g is. named_more rows messages k e c.loop-held-test.true c.held-item.is before so_far.0 g (so_far.2 g is),
       )
-      | else-names w ↦ (
+      | else-names_one w ↦ (
         so_far.0,
         subst (λ (s : Flown). Shows s so_far.0) (sym w.schedule-is) so_far.1,
-        other_more rows messages k e c.loop-held-test.true c.held-item.is before so_far.0 c.args.flight so_far.2 (sym c.names.ensures ∙ w.if-names.false),
+        λ g is. other_more rows messages k e c.loop-held-test.true c.held-item.is before so_far.0 g (so_far.2 g is)
+            (names_none flights e.dates g is (sym c.names_one.ensures ∙ w.if-names_one.false)),
       )
     ]

@@ -1,0 +1,34 @@
+-- The messages have acted on the timetable of the data set.
+use Rattle.std.proofs.Common.{Result, Ok, Err, IfOk, ap, ◌∙◌}
+use Rattle.ssim_base.specs.BaseSeen.{BaseSeen, base_with}
+use Rattle.ssim_base.specs.Timetable.{itinerary}
+use Rattle.ssim_schedule.specs.FlightPieces.{divided_flights}
+use Rattle.ssim_schedule.specs.Schedule.{days_in}
+use Rattle.ssim_schedule.proofs.Divisions.{divided_flights_agree}
+use Rattle.ssim_held.specs.Entries.{DeskSeen}
+use Rattle.ssim_desk.specs.Desk.{days_of_desk}
+use Rattle.ssim_desk.proofs.Exports.{left}
+use Rattle.ssim_desk.proofs.holdings.Holdings.into_flights.Goals as goal
+
+if_ok : {T E : Type 0} {P Q : T → Type 0} (r : Result T E) → ((x : T) → P x → Q x) → IfOk r P → IfOk r Q
+if_ok (Ok x) f p = f x p
+if_ok (Err e) f p = p
+
+abbrev seen : BaseSeen → DeskSeen → DeskSeen
+seen base desk = record desk { base = base }
+
+pub returns : goal.returns
+returns c =
+    let i = c.self.inside in
+    let parts = c.into_parts-data_set.result in
+    let base = base_with parts.0 parts.1 in
+    let held = i.held.items in
+    let desk : DeskSeen = record { base = base; held = held; applied = 0 } in
+    let schedule = c.act_in_order.new.schedule in
+    let shows = left base held c.rows.result.now c.deref.result.now schedule c.rows.ensures c.deref.ensures.value (c.in_ok-act_in_order.ensures (itinerary parts.0) c.in_ok-schedule.ensures.days) in
+    if_ok c.into_flights.result
+    (λ flights is.
+    is ∙ divided_flights_agree (days_in schedule) (days_of_desk desk) shows
+    ∙ ap (λ (b : BaseSeen). divided_flights (days_of_desk (seen b desk))) c.into_parts-data_set.ensures
+    ∙ ap (λ (d : DeskSeen). divided_flights (days_of_desk d)) c.self.view_is)
+    c.into_flights.ensures
