@@ -1,13 +1,15 @@
-//! Bases over readers that fail, and exports into writers that do. What data sets and messages are
-//! is in the cases in plain text.
+//! Bases over readers that fail, exports into writers that do, and flights with their pieces. What
+//! data sets and messages are is in the cases in plain text.
 
 ghost use Rattle.std.specs.Prelude.{◌≤◌, None};
 
 use crate::data::data_set;
 use crate::pieces::in_pieces;
-use ssim_base::{Base, BaseFault, Stations};
+use ssim_base::{Base, BaseFault, DataSet, Stations};
+use ssim_desk::Holdings;
 use ssim_records::{DeviceFault, Sink, Source};
-use ssim_schedule::{ExportFault, Schedule};
+use ssim_schedule::{ExportFault, FlightPieces, Schedule, flights_in_order};
+use ssim_values::Memory;
 use ssim_vectors::HEADER;
 use std::alloc::Global;
 
@@ -114,4 +116,44 @@ fn all_fail_once(alloc: Global) -> bool {
 #[test]
 fn writers_that_fail(rt: HostRuntime) {
     assert!(rt; all_fail_once(rt.alloc()));
+}
+
+/// Whether there is one flight, with one piece.
+fn is_one_piece(flights: &[FlightPieces]) -> bool {
+    match flights.split_first() {
+        Some((flight, others)) => others.is_empty() && flight.pieces().len() == 1,
+        None => false,
+    }
+}
+
+/// Whether a schedule hands out the one flight of its base, by its name and among all.
+fn are_handed_out(alloc: Global, base: &Base) -> Result<bool, Memory> {
+    let schedule = Schedule::of(base)?;
+    let ordered = flights_in_order(alloc, base.flights())?;
+    let named = schedule.pieces_of(alloc, &ordered)?;
+    let all = schedule.into_flights()?;
+    Ok(is_one_piece(&named) && is_one_piece(&all))
+}
+
+/// The same of a desk that holds no message.
+fn are_handed_out_held(desk: Holdings) -> Result<bool, Memory> {
+    let named = desk.pieces_of(desk.data_set().flights())?;
+    let all = desk.into_flights()?;
+    Ok(is_one_piece(&named) && is_one_piece(&all))
+}
+
+#[test]
+fn flights_with_their_pieces(rt: HostRuntime) {
+    let alloc = rt.alloc();
+    let bytes = data_set();
+    let of_schedule = match read(alloc, &mut bytes.as_slice(), 804) {
+        Ok(base) => are_handed_out(alloc, &base),
+        Err(_) => Err(Memory),
+    };
+    assert!(rt; of_schedule == Ok(true));
+    let of_desk = match DataSet::read(alloc, &mut bytes.as_slice(), 804) {
+        Ok(set) => are_handed_out_held(Holdings::start(alloc, set, Stations::new(alloc))),
+        Err(_) => Err(Memory),
+    };
+    assert!(rt; of_desk == Ok(true));
 }
