@@ -54,14 +54,14 @@ def section(text, title):
 
 
 def entries(lines):
-    """The name and the text of each entry of a list of help. A text may go on on more lines."""
+    """The name and the text of each entry of a list of help. A text may go on on more lines; an option without a letter is indented."""
     found = []
     for line in lines:
-        if line.startswith(" "):
+        if line.startswith(" ") and not line.startswith("    --"):
             found[-1][1].append(line.strip())
         else:
-            name, _, text = line.partition("  ")
-            found.append([name, [text.strip()] if text.strip() else []])
+            name, _, text = line.strip().partition("  ")
+            found.append((name, [text.strip()] if text.strip() else []))
     return [(name, " ".join(text)) for name, text in found]
 
 
