@@ -283,7 +283,8 @@ class Devices:
         if answer.err == WRITE_FAULT or answer.err == b"" and left_beside:
             if answer.err and answer.out == whole.out:
                 return "all was printed, and it is told that it was not"
-            return None if files in (self.start, {**self.start, **self.kept_by(name)}) else "other files"
+            kept_first = not answer.err and self.is_half_kept(name, files)
+            return None if kept_first or files in (self.start, {**self.start, **self.kept_by(name)}) else "other files"
         if not answer.err.startswith(b"refused 91 File "):
             return "another line"
         if files != self.start and not (answer.err == file_fault(kept) and self.is_half_kept(name, files)):

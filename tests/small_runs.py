@@ -123,9 +123,9 @@ class Runs:
 
     def put_back(self, files):
         """Makes the files what they were before the first run."""
-        for name in files:
-            if name not in self.start:
-                os.unlink(os.path.join(self.folder, name))
+        for path in [os.path.join(self.folder, name) for name in files if name not in self.start]:
+            if os.path.exists(path):
+                os.unlink(path)
         self.write({name: data for name, data in self.start.items() if files.get(name) != data})
 
     def run(self, words, what="growths", first=NEVER, last=NEVER, error=0, given=b""):
