@@ -101,7 +101,7 @@ def table(times):
     sums = [sum(taken(name, part) for name in names) for part in PARTS]
     rows = [(f"`{name}`", str(times["functions"].get(name, "")), *[minutes(taken(name, part)) for part in PARTS]) for name in names]
     rows.append(("all of the prover", str(sum(times["functions"].values())), *map(minutes, sums)))
-    return [f"Processor minutes of a whole gate from nothing on {times['day']}, which took {times['wall'] / 60:.0f} minutes on "
+    return [f"Processor minutes of a gate on {times['day']}, which took {times['wall'] / 60:.0f} minutes on "
             f"{times['processors']} processors", f"and {times['all'] / 60:.0f} processor minutes, of them "
             f"{(times['all'] - sum(sums)) / 60:.0f} for {'' if sums[2] else 'wrong bodies, '}compilers, programs and scripts. It ended with `{times['last']}`.", "",
             "| Crate | Functions | Proof | Tests | Wrong bodies |", "|---|---|---|---|---|", *[f"| {' | '.join(row)} |" for row in rows]]
