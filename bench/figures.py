@@ -37,6 +37,11 @@ SHAPE_NAMES = {
     "sequence": "one flight, seven leg sequences on 34,000 dates, the last first, 238,003 records",
 }
 
+DESK_NAMES = {
+    "rising": "`rehearse`, texts in rising order of reference",
+    "falling": "`rehearse`, in falling order",
+}
+
 
 def rows_of(script, programs, folder):
     """The rows that a script prints: seconds and MiB of each program, by the row's name."""
@@ -93,7 +98,7 @@ def long_tables(figures):
     lines = ["| Figure | ssimdesk | Plain Rust | Ratio |", "|---|---|---|---|"]
     for name, (ours, other) in figures["instructions"].items():
         shape, command = name.split()
-        lines.append(row(f"{SHAPE_NAMES[shape].rsplit(',', 1)[0]}: `{command}`, instructions a record", ours, other, ",.0f"))
+        lines.append(row(f"{SHAPE_NAMES[shape].rsplit(', ', 1)[0]}: `{command}`, instructions a record", ours, other, ",.0f"))
     for name, (ours, other, *_) in figures["shapes"].items():
         shape, command = name.split()
         lines.append(row(f"{SHAPE_NAMES[shape]}: `{command}`, seconds", ours, other, ".3f"))
@@ -102,12 +107,14 @@ def long_tables(figures):
         lines.append(row(f"two legs and 43 records a flight, {int(size):,} records: `{command}`, seconds", ours, other, ".3f"))
     for script, names in (("measure", ["900000 check", "900000 tidy"]), ("shapes", ["dates tidy", "weeks tidy", "legs tidy"])):
         for name in names:
-            lines.append(row(f"most memory of {script} `{name}`, MiB", *figures[script][name][2:], ".0f"))
+            title, command = name.split()
+            of = SHAPE_NAMES.get(title) or f"{int(title):,} records"
+            lines.append(row(f"{of}: most memory of `{command}`, MiB", *figures[script][name][2:], ".0f"))
     lines += ["", "Commands on desk files, 900,020 records and 1,000 texts (`bench/desks.py`):", "",
               "| Command | Seconds | Plain Rust | Ratio | MiB | Plain Rust | Ratio |", "|---|---|---|---|---|---|---|"]
     for name, (ours, other, *peaks) in figures["desks"].items():
         memory = f" {peaks[0]:.0f} | {peaks[1]:.0f} | {peaks[0] / peaks[1]:.1f} |" if peaks else " | | |"
-        lines.append(row(f"`{name}`", ours, other, ".2f") + memory)
+        lines.append(row(DESK_NAMES.get(name, f"`{name}`"), ours, other, ".2f") + memory)
     return lines
 
 
