@@ -1,0 +1,6 @@
+pub mod Joining
+pub mod Grouping
+pub mod Dating
+pub mod GroupMaps
+pub mod IsoDates
+pub mod Heads

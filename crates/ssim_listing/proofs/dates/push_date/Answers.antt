@@ -1,0 +1,13 @@
+-- The line of one more leg.
+use Rattle.std.proofs.Common.{◌≡◌, ◌+◌, ◌++◌, ◌∷◌, [], take, arith}
+use Rattle.std.proofs.lemmas.Grind.{common_steps}
+use Rattle.ssim_listing.specs.Dates.{date_line}
+use Rattle.ssim_listing.proofs.Joining.{one_more}
+use Rattle.ssim_listing.proofs.dates.push_date.Goals as goal
+
+pub loop-leg-preserved : goal.loop-leg-preserved
+loop-leg-preserved c =
+    let i = c.loop-leg.leg-index in
+    let legs = c.args.legs.now in
+    let more : take (i + 1) legs ≡ take i legs ++ c.leg-item.result ∷ [] = grind (arith, common_steps) in
+    one_more (date_line c.args.name.now c.args.day) c.args.lines.now.items (take i legs) (take (i + 1) legs) c.leg-item.result more c.loop-leg.invariant c.in_ok-push_leg.ensures

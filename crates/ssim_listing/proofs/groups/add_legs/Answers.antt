@@ -1,0 +1,19 @@
+-- One more leg goes to its group.
+use Rattle.std.proofs.Common.{◌≡◌, ◌∙◌, ◌+◌, ◌++◌, ◌∷◌, [], sym, ap, append_assoc, take, arith}
+use Rattle.std.proofs.lemmas.Grind.{common_steps}
+use Rattle.ssim_base.specs.Timetable.{Legs}
+use Rattle.ssim_listing.specs.internal.Groups.{group_of, with_leg}
+use Rattle.ssim_listing.proofs.Grouping.{group_more}
+use Rattle.ssim_listing.proofs.groups.add_legs.Goals as goal
+
+pub loop-leg-preserved : goal.loop-leg-preserved
+loop-leg-preserved c = λ before h text.
+    let i = c.loop-leg.leg-index in
+    let legs = c.args.legs.now in
+    let leg = c.leg-item.result in
+    let more : take (i + 1) legs ≡ take i legs ++ leg ∷ [] = grind (arith, common_steps) in
+    c.in_ok-add_leg.ensures text
+    ∙ (ap (with_leg leg text) (c.loop-leg.invariant before h text)
+    ∙ (sym (group_more (before ++ take i legs) leg text)
+    ∙ ap (λ (ls : Legs). group_of ls text)
+    (append_assoc before (take i legs) (leg ∷ []) ∙ ap (λ (ls : Legs). before ++ ls) (sym more))))

@@ -1,0 +1,7 @@
+pub mod LegText
+pub mod Marks
+pub mod Lines
+pub mod Dates
+pub mod Rows
+pub mod internal
+pub mod examples

@@ -1,0 +1,24 @@
+-- The marks of legs that differ in what their lines do not show.
+use Rattle.std.specs.Prelude.{ℕ, Bool, not, ◌&&◌, if◌then◌else◌, List, [], ◌∷◌, ◌++◌, codes}
+use Rattle.std.specs.List.{list_any}
+use Rattle.std.specs.Str.{bytes_eq}
+use Rattle.ssim_base.specs.Export.{line, same_leg}
+use Rattle.ssim_base.specs.Timetable.{LegValue, Legs}
+use Rattle.ssim_listing.specs.LegText.{leg_text}
+
+-- whether two legs differ, but have the same line
+abbrev pub is_like : LegValue → LegValue → Bool
+is_like other leg = not (same_leg other leg) && bytes_eq (leg_text other) (leg_text leg)
+
+-- whether one of the legs differs from this one, but has the same line
+abbrev pub is_like_one : Legs → LegValue → Bool
+is_like_one legs leg = list_any (λ other. is_like other leg) legs
+
+-- the mark after the line of a leg, or nothing
+abbrev pub mark_text : Bool → List ℕ
+mark_text is_marked = if is_marked then codes " *" else []
+
+-- The line of a leg, two blanks before it, and a mark after it if one of the other legs differs from
+-- it, but has the same line.
+abbrev pub marked_line : Legs → LegValue → List ℕ
+marked_line others leg = line (32 ∷ 32 ∷ leg_text leg ++ mark_text (is_like_one others leg))

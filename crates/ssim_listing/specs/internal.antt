@@ -1,0 +1,5 @@
+-- Definitions that only private functions cite. No law and no public contract cites them, so nobody
+-- has to believe them.
+pub mod Groups
+pub mod FlightDates
+pub mod Written

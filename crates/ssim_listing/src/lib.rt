@@ -1,0 +1,30 @@
+//! The flights of a timetable as text: with their periods or date by date, as lines or as CSV.
+//!
+//! - [`listing`]: each flight with its periods, and a line for each leg of each period.
+//! - [`dated_listing`]: a line for each flight, date and leg.
+//! - [`csv_listing`], [`dated_csv_listing`]: the same as CSV, a row for each period or date and leg.
+//! - [`push_leg_text`]: a leg as one line, which shows some of its columns; [`is_like_one`]: whether
+//!   a leg differs from another one that has the same line.
+//!
+//! The flights are those that `ssim_schedule` gives, each with its pieces: the periods of the export.
+//! The only error is [`Memory`].
+//!
+//! **Promise.** Each piece and each date of a piece is there once, in order, with all its legs. CSV is
+//! what the crate `csv` writes of the fields.
+#![tactic(auto)]
+
+mod dates;
+mod groups;
+mod iso;
+mod leg_text;
+mod lines;
+mod marks;
+mod row_writer;
+mod rows;
+
+pub use dates::dated_listing;
+pub use leg_text::{push_leg_text, push_sequence, push_shown};
+pub use lines::{listing, push_period};
+pub use marks::{is_like, is_like_one, mark_of};
+pub use rows::{csv_listing, dated_csv_listing};
+pub use ssim_values::Memory;

@@ -1,0 +1,155 @@
+//! The flights of a timetable as lines: their periods, and the legs of each.
+
+ghost use Rattle.std.specs.Prelude.{◌≡◌, ◌++◌, ◌∷◌, IfOk, OnOk};
+ghost use Rattle.std.specs.List.{flat_map};
+ghost use Rattle.ssim_values.specs.Day.{day_text};
+ghost use Rattle.ssim_base.specs.Export.{line};
+ghost use Rattle.ssim_listing.specs.Lines.{flight_lines, flight_name, legs_of, listing, no_flight};
+ghost use Rattle.ssim_listing.specs.Lines.{period_text, piece_lines};
+ghost use Rattle.ssim_listing.specs.internal.Groups.{group_in, grouped_line, grouped_lines, is_mixed};
+
+use crate::groups::{Groups, are_mixed, groups_of};
+use crate::leg_text::{push_leg_text, push_shown};
+use crate::marks::mark_of;
+use arrayvec::ArrayVec;
+use ssim_schedule::{FlightPieces, Itinerary, PlacedLeg};
+use ssim_values::{Airline, Day, Designator, Flight, Memory, Period};
+use std::alloc::Global;
+
+/// The flights of an airline, each with its periods, and the legs of each period. A leg is marked if
+/// one of all legs of the flight differs from it, but has the same line.
+pub fn listing(alloc: Global, airline: Airline, flights: &[FlightPieces]) -> Result<Vec<u8>, Memory>
+    ensures { IfOk result (λ lines. lines.items ≡ listing airline flights.now) }
+{
+    let mut lines = Vec::new(alloc);
+    for flight in flights {
+        let name = name_of(airline, flight.flight());
+        push_flight(alloc, &mut lines, name.as_slice(), flight.pieces())?;
+    }
+    Ok(lines)
+}
+
+/// The designator of a flight of the airline.
+pub(crate) fn name_of(airline: Airline, flight: Flight) -> ArrayVec<u8, 8>
+    ensures { result.items ≡ flight_name airline flight }
+{
+    Designator { airline, flight }.write()
+}
+
+// Adds the lines of a flight with this name.
+fn push_flight(
+    alloc: Global,
+    lines: &mut Vec<u8>,
+    name: &[u8],
+    pieces: &[(Period, Itinerary)],
+) -> Result<(), Memory>
+    ensures { OnOk result (lines.new.items ≡ lines.old.items ++ flight_lines name.now pieces.now) }
+{
+    match pieces.split_first() {
+        None => push_no_flight(lines, name),
+        Some(_) => push_pieces(alloc, lines, name, pieces),
+    }
+}
+
+/// Adds the line of a flight that flies on no date.
+pub(crate) fn push_no_flight(lines: &mut Vec<u8>, name: &[u8]) -> Result<(), Memory>
+    ensures { OnOk result (lines.new.items ≡ lines.old.items ++ no_flight name.now) }
+{
+    lines.extend_from_slice(name)?;
+    lines.extend_from_slice(b" no flight\n")?;
+    Ok(())
+}
+
+// Adds the lines of the pieces of a flight.
+fn push_pieces(
+    alloc: Global,
+    lines: &mut Vec<u8>,
+    name: &[u8],
+    pieces: &[(Period, Itinerary)],
+) -> Result<(), Memory>
+    ensures { OnOk result (lines.new.items
+        ≡ lines.old.items ++ flat_map (piece_lines name.now (legs_of pieces.now)) pieces.now) }
+{
+    let groups = groups_of(alloc, pieces)?;
+    push_each(lines, name, &groups, pieces)
+}
+
+// Adds the lines of pieces, whose legs are marked by their groups.
+fn push_each(
+    lines: &mut Vec<u8>,
+    name: &[u8],
+    groups: &Groups<'_>,
+    pieces: &[(Period, Itinerary)],
+) -> Result<(), Memory>
+    ensures { OnOk result (lines.new.items ≡ lines.old.items
+        ++ flat_map (grouped_lines name.now (λ text. is_mixed (group_in groups.now text)))
+        pieces.now) }
+{
+    for piece in pieces {
+        push_piece(lines, name, groups, piece.0, piece.1.legs())?;
+    }
+    Ok(())
+}
+
+// Adds the lines of a piece.
+fn push_piece(
+    lines: &mut Vec<u8>,
+    name: &[u8],
+    groups: &Groups<'_>,
+    period: Period,
+    legs: &[PlacedLeg],
+) -> Result<(), Memory>
+    ensures { OnOk result (lines.new.items ≡ lines.old.items
+        ++ grouped_lines name.now (λ text. is_mixed (group_in groups.now text)) (period, legs.now)) }
+{
+    push_period(lines, name, period)?;
+    push_legs(lines, groups, legs)
+}
+
+/// Adds the line of a period of a flight with this name: its first and last day, and the days of
+/// operation in seven characters, with a full stop for each day without.
+pub fn push_period(lines: &mut Vec<u8>, name: &[u8], period: Period) -> Result<(), Memory>
+    ensures { OnOk result
+        (lines.new.items ≡ lines.old.items ++ line (name.now ++ 32 ∷ period_text period)) }
+{
+    lines.extend_from_slice(name)?;
+    push_day(lines, period.first())?;
+    push_day(lines, period.last())?;
+    push_shown(lines, &period.mask().write())?;
+    lines.push(b'\n')?;
+    Ok(())
+}
+
+/// Adds a blank and a day.
+pub(crate) fn push_day(lines: &mut Vec<u8>, day: Day) -> Result<(), Memory>
+    ensures { OnOk result (lines.new.items ≡ lines.old.items ++ 32 ∷ day_text day) }
+{
+    lines.push(b' ')?;
+    lines.extend_from_slice(&day.write())?;
+    Ok(())
+}
+
+// Adds a line for each leg.
+fn push_legs(lines: &mut Vec<u8>, groups: &Groups<'_>, legs: &[PlacedLeg]) -> Result<(), Memory>
+    ensures { OnOk result (lines.new.items ≡ lines.old.items
+        ++ flat_map (grouped_line (λ text. is_mixed (group_in groups.now text))) legs.now) }
+{
+    for leg in legs {
+        push_leg(lines, groups, leg)?;
+    }
+    Ok(())
+}
+
+// Adds the line of a leg, two blanks before it, and its mark.
+fn push_leg(lines: &mut Vec<u8>, groups: &Groups<'_>, leg: &PlacedLeg) -> Result<(), Memory>
+    ensures { OnOk result (lines.new.items ≡ lines.old.items
+        ++ grouped_line (λ text. is_mixed (group_in groups.now text)) leg.now) }
+{
+    lines.extend_from_slice(b"  ")?;
+    let begin = lines.len();
+    push_leg_text(lines, leg)?;
+    let marked = are_mixed(groups, &lines[begin..]);
+    lines.extend_from_slice(mark_of(marked))?;
+    lines.push(b'\n')?;
+    Ok(())
+}
