@@ -1,0 +1,6 @@
+pub mod Lists
+pub mod Ranked
+pub mod Times
+pub mod Near
+pub mod OnBoard
+pub mod InMinutes

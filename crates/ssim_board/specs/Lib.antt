@@ -1,0 +1,6 @@
+pub mod LocalTime
+pub mod LegTimes
+pub mod Movements
+pub mod InOrder
+pub mod examples
+pub mod internal

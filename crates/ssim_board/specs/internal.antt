@@ -1,0 +1,3 @@
+-- Cited by private functions alone.
+pub mod Ranks
+pub mod PieceMovements

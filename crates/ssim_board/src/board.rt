@@ -1,0 +1,266 @@
+//! What is on the board of a station on a date.
+
+ghost use Rattle.std.specs.Prelude.{◌≡◌, ◌<◌, ◌-◌, ◌++◌, [], ◌∷◌, if◌then◌else◌, IfOk, OnOk};
+ghost use Rattle.std.specs.List.{flat_map};
+ghost use Rattle.ssim_values.specs.Flight.{FlightNumber};
+ghost use Rattle.ssim_periods.specs.Calendar.{holds};
+ghost use Rattle.ssim_base.specs.Timetable.{Days};
+ghost use Rattle.ssim_schedule.specs.FlightPieces.{divided_flights};
+ghost use Rattle.ssim_board.specs.InOrder.{board_of};
+ghost use Rattle.ssim_board.specs.Movements.{arrival, arrives, departs, departure, leg_movements};
+ghost use Rattle.ssim_board.specs.internal.PieceMovements.{all_movements, date_from, date_end};
+ghost use Rattle.ssim_board.specs.internal.PieceMovements.{divided_movements, piece_movements};
+ghost use Rattle.ssim_board.specs.internal.PieceMovements.{on_date};
+
+use crate::in_order::in_order;
+use crate::leg_times::{arrival_time, departure_time, is_uncertain};
+use crate::movement::{Movement, MovementKind};
+use ssim_schedule::{FlightPieces, Itinerary, PlacedLeg};
+use ssim_values::{Day, Flight, Memory, Period, Station, TimeMode};
+use std::alloc::Global;
+
+/// A board: a station, a local date there, and the time mode of the timetable.
+#[derive(Debug, Drop)]
+pub struct Board {
+    pub station: Station,
+    /// The local date.
+    pub day: Day,
+    pub mode: TimeMode,
+}
+
+impl Board {
+    /// The departures and arrivals at the station on the local date, by time, departures first, then
+    /// by flight, date of origin and leg sequence. The flights are those of a timetable that fly on
+    /// some date, as `Schedule::into_flights` gives them.
+    pub fn movements(
+        &self,
+        alloc: Global,
+        flights: &[FlightPieces],
+    ) -> Result<Vec<Movement>, Memory>
+        ensures { (days : FlightNumber → Days) → flights.now ≡ divided_flights days
+            → IfOk result (λ movements. movements.items ≡ board_of self.now days) }
+    {
+        let mut movements = Vec::new(alloc);
+        self.push_flights(&mut movements, flights)?;
+        in_order(movements)
+    }
+
+    // Adds what these flights have on the board.
+    fn push_flights(
+        &self,
+        movements: &mut Vec<Movement>,
+        flights: &[FlightPieces],
+    ) -> Result<(), Memory>
+        ensures { OnOk result
+            (movements.new.items ≡ movements.old.items ++ all_movements self.now flights.now) }
+    {
+        for flight in flights {
+            self.push_flight(movements, flight)?;
+        }
+        Ok(())
+    }
+
+    // Adds what a flight has on the board. Only dates of origin from ten days before to a day after
+    // the board's date can have something on it.
+    fn push_flight(
+        &self,
+        movements: &mut Vec<Movement>,
+        flight: &FlightPieces,
+    ) -> Result<(), Memory>
+        ensures { OnOk result
+            (movements.new.items ≡ movements.old.items ++ divided_movements self.now flight.now) }
+    {
+        for number in self.date_from()..self.date_end() {
+            let Some(date) = Day::from_number(number) else {
+                unreachable!();
+            };
+            self.push_pieces(movements, flight.flight(), date, flight.pieces())?;
+        }
+        Ok(())
+    }
+
+    // The number of the first date of origin that can have something on the board.
+    fn date_from(&self) -> u16
+        ensures { result ≡ date_from self.now }
+    {
+        self.day.number().saturating_sub(10)
+    }
+
+    // The number after the last date of origin that can have something on the board.
+    fn date_end(&self) -> u16
+        ensures value { result ≡ date_end self.now }
+        ensures bound { result < 36526 }
+    {
+        if self.day.number() < 36_523 {
+            self.day.number() + 2
+        } else {
+            36_525
+        }
+    }
+
+    // Adds what those pieces of a flight that hold the date of origin have on the board.
+    fn push_pieces(
+        &self,
+        movements: &mut Vec<Movement>,
+        flight: Flight,
+        date: Day,
+        pieces: &[(Period, Itinerary)],
+    ) -> Result<(), Memory>
+        ensures { OnOk result (movements.new.items
+            ≡ movements.old.items ++ piece_movements self.now flight date pieces.now) }
+    {
+        for piece in pieces {
+            self.push_piece(movements, flight, date, piece)?;
+        }
+        Ok(())
+    }
+
+    // Adds what a piece has on the board, if it holds the date of origin.
+    fn push_piece(
+        &self,
+        movements: &mut Vec<Movement>,
+        flight: Flight,
+        date: Day,
+        piece: &(Period, Itinerary),
+    ) -> Result<(), Memory>
+        ensures { OnOk result (movements.new.items
+            ≡ movements.old.items ++ on_date self.now flight date piece.now) }
+    {
+        if holds(piece.0, date) {
+            self.push_legs(movements, flight, date, piece.1.legs())?;
+        }
+        Ok(())
+    }
+
+    // Adds what legs of a flight have on the board from a date of origin.
+    fn push_legs(
+        &self,
+        movements: &mut Vec<Movement>,
+        flight: Flight,
+        date: Day,
+        legs: &[PlacedLeg],
+    ) -> Result<(), Memory>
+        ensures { OnOk result (movements.new.items
+            ≡ movements.old.items ++ flat_map (leg_movements self.now flight date) legs.now) }
+    {
+        for leg in legs {
+            self.push_leg(movements, flight, date, leg)?;
+        }
+        Ok(())
+    }
+
+    // Adds the departure of a leg, and its arrival, if they are on the board.
+    #[tactic(auto, unfolding(crate::specs::Movements::leg_movements))]
+    fn push_leg(
+        &self,
+        movements: &mut Vec<Movement>,
+        flight: Flight,
+        date: Day,
+        leg: &PlacedLeg,
+    ) -> Result<(), Memory>
+        ensures { OnOk result (movements.new.items
+            ≡ movements.old.items ++ leg_movements self.now flight date leg.now) }
+    {
+        self.push_departure(movements, flight, date, leg)?;
+        self.push_arrival(movements, flight, date, leg)
+    }
+
+    fn push_departure(
+        &self,
+        movements: &mut Vec<Movement>,
+        flight: Flight,
+        date: Day,
+        leg: &PlacedLeg,
+    ) -> Result<(), Memory>
+        ensures { OnOk result (movements.new.items ≡ movements.old.items
+            ++ (if departs self.now date leg.now then departure self.now flight date leg.now ∷ []
+            else [])) }
+    {
+        if self.departs(date, leg) {
+            movements.push(self.departure(flight, date, leg))?;
+        }
+        Ok(())
+    }
+
+    fn push_arrival(
+        &self,
+        movements: &mut Vec<Movement>,
+        flight: Flight,
+        date: Day,
+        leg: &PlacedLeg,
+    ) -> Result<(), Memory>
+        ensures { OnOk result (movements.new.items ≡ movements.old.items
+            ++ (if arrives self.now date leg.now then arrival self.now flight date leg.now ∷ []
+            else [])) }
+    {
+        if self.arrives(date, leg) {
+            movements.push(self.arrival(flight, date, leg))?;
+        }
+        Ok(())
+    }
+
+    // Whether a leg departs from the station on its local date.
+    #[tactic(auto, unfolding(crate::specs::Movements::departs))]
+    fn departs(&self, date: Day, leg: &PlacedLeg) -> bool
+        ensures { result ≡ departs self.now date leg.now }
+    {
+        let columns = leg.columns();
+        columns.departure_station() == self.station
+            && departure_time(self.mode, date, &columns).days() == self.day.number() + 1
+    }
+
+    // Whether a leg arrives at the station on its local date.
+    #[tactic(auto, unfolding(crate::specs::Movements::arrives))]
+    fn arrives(&self, date: Day, leg: &PlacedLeg) -> bool
+        ensures { result ≡ arrives self.now date leg.now }
+    {
+        let columns = leg.columns();
+        columns.arrival_station() == self.station
+            && arrival_time(self.mode, date, &columns).days() == self.day.number() + 1
+    }
+
+    // The departure of a leg.
+    #[tactic(auto, unfolding(crate::specs::Movements::departure))]
+    fn departure(&self, flight: Flight, date: Day, leg: &PlacedLeg) -> Movement
+        ensures { result ≡ departure self.now flight date leg.now }
+    {
+        let columns = leg.columns();
+        Movement {
+            kind: MovementKind::Departure,
+            time: departure_time(self.mode, date, &columns),
+            flight,
+            date,
+            sequence: leg.sequence(),
+            aircraft_type: columns.aircraft_type(),
+            other_station: columns.arrival_station(),
+            other_time: arrival_time(self.mode, date, &columns),
+            is_uncertain: is_uncertain(self.mode, &columns),
+        }
+    }
+
+    // The arrival of a leg.
+    #[tactic(auto, unfolding(crate::specs::Movements::arrival))]
+    fn arrival(&self, flight: Flight, date: Day, leg: &PlacedLeg) -> Movement
+        ensures { result ≡ arrival self.now flight date leg.now }
+    {
+        let columns = leg.columns();
+        Movement {
+            kind: MovementKind::Arrival,
+            time: arrival_time(self.mode, date, &columns),
+            flight,
+            date,
+            sequence: leg.sequence(),
+            aircraft_type: columns.aircraft_type(),
+            other_station: columns.departure_station(),
+            other_time: departure_time(self.mode, date, &columns),
+            is_uncertain: is_uncertain(self.mode, &columns),
+        }
+    }
+}
+
+// Whether the period holds the date.
+fn holds(period: Period, date: Day) -> bool
+    ensures { result ≡ holds period date }
+{
+    period.holds(date)
+}

@@ -1,0 +1,84 @@
+//! When a leg of a flight departs and arrives.
+
+ghost use Rattle.std.specs.Prelude.{◌≡◌, ◌≤◌};
+ghost use Rattle.ssim_board.specs.LegTimes.{arrival_time, days_added, departure_time, has_unknown};
+ghost use Rattle.ssim_board.specs.LegTimes.{is_uncertain, is_unknown, lacks_variation};
+
+use crate::local_time::LocalTime;
+use ssim_records::LegColumns;
+use ssim_values::{Day, TimeMode, is_digit};
+
+/// The local time at which a leg departs, if its flight has this date of origin.
+pub(crate) fn departure_time(mode: TimeMode, date: Day, leg: &LegColumns) -> LocalTime
+    ensures { result ≡ departure_time mode date leg.now }
+{
+    let [variation, _] = leg.date_variations();
+    let days = date.number() + days_added(variation) + 1;
+    LocalTime::of(
+        mode,
+        leg.departure_variation(),
+        days,
+        leg.aircraft_departure_time(),
+    )
+}
+
+/// The local time at which a leg arrives, if its flight has this date of origin.
+pub(crate) fn arrival_time(mode: TimeMode, date: Day, leg: &LegColumns) -> LocalTime
+    ensures { result ≡ arrival_time mode date leg.now }
+{
+    let [_, variation] = leg.date_variations();
+    let days = date.number() + days_added(variation) + 1;
+    LocalTime::of(
+        mode,
+        leg.arrival_variation(),
+        days,
+        leg.aircraft_arrival_time(),
+    )
+}
+
+/// Whether a date variation of the leg is neither digit nor blank, or in UTC mode a UTC variation
+/// is blank.
+pub(crate) fn is_uncertain(mode: TimeMode, leg: &LegColumns) -> bool
+    ensures { result ≡ is_uncertain mode leg.now }
+{
+    has_unknown(leg) || lacks_variation(mode, leg)
+}
+
+// Whether a date variation of the leg is neither digit nor blank.
+fn has_unknown(leg: &LegColumns) -> bool
+    ensures { result ≡ has_unknown leg.now }
+{
+    let [departure, arrival] = leg.date_variations();
+    is_unknown(departure) || is_unknown(arrival)
+}
+
+// How many days a date variation adds: a digit adds itself, any other byte nothing.
+fn days_added(variation: u8) -> u16
+    ensures value { result ≡ days_added variation }
+    ensures bound { result ≤ 9 }
+{
+    if is_digit(variation) {
+        (variation - b'0') as u16
+    } else {
+        0
+    }
+}
+
+// Whether a date variation is neither digit nor blank.
+fn is_unknown(variation: u8) -> bool
+    ensures { result ≡ is_unknown variation }
+{
+    !(is_digit(variation) || variation == b' ')
+}
+
+// Whether a UTC variation that is needed is blank.
+fn lacks_variation(mode: TimeMode, leg: &LegColumns) -> bool
+    ensures { result ≡ lacks_variation mode leg.now }
+{
+    match mode {
+        TimeMode::Local => false,
+        TimeMode::Utc => {
+            leg.departure_variation().is_none() || leg.arrival_variation().is_none()
+        }
+    }
+}

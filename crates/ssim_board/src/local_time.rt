@@ -1,0 +1,116 @@
+//! Local times of departures and arrivals.
+
+ghost use Rattle.std.specs.Prelude.{◌≡◌, ◌<◌, ◌≤◌, ◌+◌, ◌*◌};
+ghost use Rattle.ssim_values.specs.Clock.{clock_text};
+ghost use Rattle.ssim_board.specs.LocalTime.{local_time, moment, moment_on, moved_by};
+
+use ssim_values::{Clock, TimeMode, Variation, write_two_digits};
+use std::marker::Model;
+
+/// The minutes of a day.
+const DAY: u32 = 1_440;
+
+/// A local time at a station: a day, and minutes from midnight. The day may be the one before the
+/// calendar or one of the first after it.
+#[derive(Clone, Copy, Debug, PartialEq, Eq)]
+pub struct LocalTime {
+    /// From 31 December 1999, which is 0.
+    days: u16,
+    /// From 0 to 1,439; 1,440 for 2400.
+    minutes: u16,
+}
+
+impl Model for LocalTime {
+    ghost use Rattle.std.specs.Prelude.{◌≤◌};
+    ghost use Rattle.ssim_board.specs.LocalTime.{Moment};
+
+    ghost Value = { Moment };
+
+    ghost view = { λ t. record { days = t.days; minutes = t.minutes } };
+
+    ghost invariant = { λ t. t.minutes ≤ 1440 };
+
+    ghost inverse = { λ m. record { days = m.days; minutes = m.minutes } };
+}
+
+impl LocalTime {
+    /// The local time of a time in a timetable of this mode, at a station with this UTC variation,
+    /// some days after 31 December 1999.
+    pub(crate) fn of(
+        mode: TimeMode,
+        variation: Option<Variation>,
+        days: u16,
+        time: Clock,
+    ) -> LocalTime
+        requires after { 0 < days }
+        requires small { days < 40000 }
+        ensures { result ≡ local_time mode variation days time }
+    {
+        match (mode, variation) {
+            (TimeMode::Utc, Some(variation)) => moved_by(variation, days, time),
+            _ => time_on(days, time),
+        }
+    }
+
+    /// The days from 31 December 1999, which is 0: one more than the number of a `Day`.
+    pub fn days(self) -> u16
+        ensures { result ≡ self.days }
+    {
+        self.days
+    }
+
+    /// The minutes from midnight, 0 to 1,439; 1,440 for 2400.
+    pub fn minutes(self) -> u16
+        ensures value { result ≡ self.minutes }
+        ensures bound { result ≤ 1440 }
+    {
+        self.minutes
+    }
+
+    /// Writes the time of day as `HHMM`.
+    pub fn write(self) -> [u8; 4]
+        ensures { result ≡ clock_text self.minutes }
+    {
+        let [h1, h2] = write_two_digits((self.minutes / 60) as u8);
+        let [m1, m2] = write_two_digits((self.minutes % 60) as u8);
+        [h1, h2, m1, m2]
+    }
+}
+
+// A time of day that is not moved.
+fn time_on(days: u16, time: Clock) -> LocalTime
+    ensures { result ≡ moment_on days time }
+{
+    LocalTime {
+        days,
+        minutes: time.minutes(),
+    }
+}
+
+// A UTC time as local time. A variation of 0 moves nothing, so that 2400 stays 2400.
+fn moved_by(variation: Variation, days: u16, time: Clock) -> LocalTime
+    requires after { 0 < days }
+    requires small { days < 40000 }
+    ensures { result ≡ moved_by variation days time }
+{
+    if variation.minutes() == 0 {
+        return time_on(days, time);
+    }
+    let utc = days as u32 * DAY + time.minutes() as u32;
+    if variation.is_negative() {
+        at_minute(utc - variation.minutes() as u32)
+    } else {
+        at_minute(utc + variation.minutes() as u32)
+    }
+}
+
+// The local time that is so many minutes after midnight of 31 December 1999.
+fn at_minute(minute: u32) -> LocalTime
+    requires { minute < 60000000 }
+    ensures { result ≡ moment minute }
+{
+    LocalTime {
+        days: (minute / DAY) as u16,
+        minutes: (minute % DAY) as u16,
+    }
+}
