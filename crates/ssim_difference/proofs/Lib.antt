@@ -1,0 +1,6 @@
+pub mod DateDifferences
+pub mod HeldPieces
+pub mod Between
+pub mod Pieces
+pub mod Listed
+pub mod DateCounts

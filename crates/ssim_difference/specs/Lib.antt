@@ -1,0 +1,4 @@
+pub mod Differences
+pub mod DifferenceLaws
+pub mod internal
+pub mod examples

@@ -1,0 +1,16 @@
+//! What the definition of differences means.
+
+ghost use Rattle.ssim_difference.specs.Differences.{NoneDiffer, PiecesHoldDifferences};
+// The worked examples, which are computed: a false one is an error in this file.
+ghost use Rattle.ssim_difference.specs.examples.Days;
+
+/// On each date on which a flight differs, exactly one of its pieces holds the date, with the two
+/// itineraries of the date; on other dates none does.
+pub fn pieces_hold_differences()
+    ensures { PiecesHoldDifferences }
+{}
+
+/// No flight differs if and only if each flight has the same itinerary on each date.
+pub fn equal_timetables_have_no_difference()
+    ensures { NoneDiffer }
+{}
