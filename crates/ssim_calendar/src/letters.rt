@@ -44,8 +44,8 @@ fn values_of<V: Value>(alloc: Global, days: &Periods<V>) -> Result<Vec<V>, Memor
     Ok(values)
 }
 
-// Adds a copy of the value if it is new.
-fn add_new<V: Value>(alloc: Global, values: &mut Vec<V>, value: &V) -> Result<(), Memory>
+/// Adds a copy of the value, if it is not the empty one and none of these.
+pub fn add_new<V: Value>(alloc: Global, values: &mut Vec<V>, value: &V) -> Result<(), Memory>
     ensures { OnOk result (values.new.items ≡ values.old.items ++ if_new V.alike V.nothing values.old.items (Some value.now)) }
 {
     if is_new(values, value) {
@@ -89,8 +89,8 @@ fn cell_of<V: Value>(values: &[V], value: &V) -> u8
     letter_at(place_of(values, value))
 }
 
-// The place of a value among these; their number if it is none of them.
-fn place_of<V: Value>(values: &[V], value: &V) -> usize
+/// The place of a value among these; their number if it is none of them.
+pub fn place_of<V: Value>(values: &[V], value: &V) -> usize
     ensures { result ≡ place_of V.alike values.now value.now }
 {
     for place in 0..values.len() {

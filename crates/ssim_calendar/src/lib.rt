@@ -1,6 +1,7 @@
 //! The calendar of a value for each day: on which days there is one, and where it changes.
 //!
-//! - [`Calendar`]: the different values by first day, and a letter for each day.
+//! - [`Calendar`]: the different values by first day, and a letter for each day. [`add_new`],
+//!   [`place_of`] and [`letter_at`] give the different ones of any values, and their letters.
 //! - [`push_picture`]: lines in which a column is a week and a row a weekday, with the letter of each
 //!   day.
 //! - [`push_legend`]: the number of dates of each letter, and texts that say what it stands for.
@@ -21,7 +22,7 @@ mod picture;
 mod week;
 
 pub use legend::push_legend;
-pub use letters::{Calendar, letter_at};
+pub use letters::{Calendar, add_new, letter_at, place_of};
 pub use picture::push_picture;
 pub use ssim_periods::Value;
 pub use ssim_values::Memory;
