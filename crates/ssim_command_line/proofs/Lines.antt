@@ -1,6 +1,6 @@
 -- A command line is taken, and the matches name it again: the names of the commands by computation,
 -- their values as variables.
-use Rattle.std.proofs.Common.{◌≡◌, ◌∙◌, inl, inr, true, refl, ap, ap₂, List, [], ◌∷◌, Option, Some}
+use Rattle.std.proofs.Common.{◌≡◌, ◌∙◌, inl, inr, Bool, true, false, refl, ap, ap₂, List, [], ◌∷◌, Option, Some}
 use Rattle.std.proofs.Common.{None, ℕ, ◌++◌, codes, sym, true≢false, subst}
 use Rattle.std.specs.List.{find, fold, list_all}
 use Rattle.std.specs.Prelude.{Box, is_some, option_map, unwrap_or}
@@ -26,11 +26,13 @@ use Rattle.ssim_command_line.specs.Line.{Line, Spells, Text, is_plain, is_whole,
 use Rattle.ssim_command_line.specs.Line.{Check, Tidy, Start, Take, Receive, Merge, Texts, Withdraw}
 use Rattle.ssim_command_line.specs.Line.{Show}
 use Rattle.ssim_command_line.specs.Line.{History}
-use Rattle.ssim_command_line.specs.Line.{Calendar, Findings, Export, Rehearse, Explain}
+use Rattle.ssim_command_line.specs.Line.{Calendar, Page, Findings, Export, Rehearse, Explain, Board}
+use Rattle.ssim_command_line.specs.Line.{Diff, Listing, form_words}
 use Rattle.ssim_command_line.specs.Commands.{whole_program, leaf, one_value, one_value_and_texts}
-use Rattle.ssim_command_line.specs.Commands.{three_values, two_values, two_values_and_texts}
+use Rattle.ssim_command_line.specs.Commands.{one_value_and_texts_in_form, three_values, two_values, two_values_and_texts}
 use Rattle.ssim_command_line.specs.Commands.{two_values_and_texts_or_refused}
-use Rattle.ssim_command_line.specs.Request.{line_at, with_flights, with_one, with_refused, with_texts}
+use Rattle.ssim_command_line.specs.Request.{line_at, with_flights, with_form, with_one, with_refused}
+use Rattle.ssim_command_line.specs.Request.{with_texts}
 use Rattle.ssim_command_line.specs.Request.{with_three, with_two}
 use Rattle.ssim_command_line.specs.Usage.{IsNoCommand, Names}
 use Rattle.ssim_command_line.proofs.Words.{Looks, at, looks}
@@ -43,6 +45,8 @@ use Rattle.ssim_command_line.proofs.TextForms.{any_value, form_level, form_read,
 use Rattle.ssim_command_line.proofs.TextForms.{kt}
 use Rattle.ssim_command_line.proofs.TextForms.{hr, kr, sr, receive_first, receive_more, receive_one}
 use Rattle.ssim_command_line.proofs.TextForms.{receive_second, receive_takes}
+use Rattle.ssim_command_line.proofs.TextForms.{hl, list_more, list_none, list_one, list_takes, list_value}
+use Rattle.ssim_command_line.proofs.TextForms.{plain_form, sl}
 use Rattle.ssim_command_line.proofs.TextForms.{one_leads, several_first, several_more, several_one}
 use Rattle.ssim_command_line.proofs.TextForms.{several_second, several_takes, sf, st, two_leads}
 use Rattle.ssim_command_line.proofs.TextWords.{TakesTexts, ends}
@@ -102,9 +106,25 @@ history_is : IsNamed (codes "history") (ready (leaf (codes "history") three_valu
 unfolding clap_on_literals
 history_is = record { met = refl; fits = refl; right = refl; found = refl }
 
+board_is : IsNamed (codes "board") (ready (leaf (codes "board") three_values))
+unfolding clap_on_literals
+board_is = record { met = refl; fits = refl; right = refl; found = refl }
+
+list_is : IsNamed (codes "list") (ready (leaf (codes "list") one_value_and_texts_in_form))
+unfolding clap_on_literals
+list_is = record { met = refl; fits = refl; right = refl; found = refl }
+
 calendar_is : IsNamed (codes "calendar") (ready (leaf (codes "calendar") two_values))
 unfolding clap_on_literals
 calendar_is = record { met = refl; fits = refl; right = refl; found = refl }
+
+page_is : IsNamed (codes "page") (ready (leaf (codes "page") one_value))
+unfolding clap_on_literals
+page_is = record { met = refl; fits = refl; right = refl; found = refl }
+
+diff_is : IsNamed (codes "diff") (ready (leaf (codes "diff") two_values))
+unfolding clap_on_literals
+diff_is = record { met = refl; fits = refl; right = refl; found = refl }
 
 findings_is : IsNamed (codes "findings") (ready (leaf (codes "findings") one_value))
 unfolding clap_on_literals
@@ -256,6 +276,34 @@ flights_answers a rest plain program =
         (λ (us : List Text) (w : Walk). EndsAs (sf name a) with_flights (Texts a us) w)
         (any_one name a) (any_more name a) t ts (looks t p.0) p.1
 
+-- the same for `list`, without its options
+plain_list_answers : (a : Text) (rest : List Text) → list_all is_plain (a ∷ rest) ≡ true
+    → (program : Text) → Answers (program ∷ codes "list" ∷ a ∷ rest) (Listing plain_form a rest)
+plain_list_answers a rest plain program =
+    let p = both _ _ plain in
+    let h = hl a in
+    let lead = one_leads sl a 2 h (looks a p.0) (list_value a) in
+    let kept = list_takes a in
+    texts_answers (Listing plain_form a rest) (codes "list") sl (a ∷ []) 2 h rest with_form refl refl list_is
+    lead kept p.1 (end rest p.1) (λ rows. refl) program
+  where
+    end : (ts : List Text) → list_all is_plain ts ≡ true
+        → EndsAs sl with_form (Listing plain_form a ts) (fold (walked sl.rules []) (at (hl a) idle 2) ts)
+    end [] e = list_none a
+    end (t ∷ ts) e =
+        let p = both _ _ e in
+        ends sl 2 (hl a) (list_takes a)
+        (λ (us : List Text) (w : Walk). EndsAs sl with_form (Listing plain_form a us) w)
+        (list_one a) (list_more a) t ts (looks t p.0) p.1
+
+list_answers : (csv dates : Bool) (a : Text) (rest : List Text)
+    → list_all is_plain (form_words (record { csv = csv; dates = dates }) ++ a ∷ rest) ≡ true → (program : Text)
+    → Answers (program ∷ codes "list" ∷ form_words (record { csv = csv; dates = dates }) ++ a ∷ rest)
+    (Listing (record { csv = csv; dates = dates }) a rest)
+list_answers true dates a rest e program = absurd (true≢false (sym e))
+list_answers false true a rest e program = absurd (true≢false (sym e))
+list_answers false false a rest e program = plain_list_answers a rest e program
+
 -- the one word of a list of plain ones
 one_plain : (a : Text) → list_all is_plain (a ∷ []) ≡ true → Looks a
 one_plain a e = looks a (both _ _ e).0
@@ -264,6 +312,7 @@ from_line : (program : Text) (line : Line) → is_whole line ≡ true → list_a
 from_line program (Check a) w e = one_answers (Check a) (codes "check") a Check refl refl check_is (one_plain a e) (λ rows. refl) program
 from_line program (Tidy a) w e = one_answers (Tidy a) (codes "tidy") a Tidy refl refl tidy_is (one_plain a e) (λ rows. refl) program
 from_line program (Findings a) w e = one_answers (Findings a) (codes "findings") a Findings refl refl findings_is (one_plain a e) (λ rows. refl) program
+from_line program (Page a) w e = one_answers (Page a) (codes "page") a Page refl refl page_is (one_plain a e) (λ rows. refl) program
 from_line program (Export a) w e = one_answers (Export a) (codes "export") a Export refl refl export_is (one_plain a e) (λ rows. refl) program
 from_line program (Explain a) w e = one_answers (Explain a) (codes "explain") a Explain refl refl explain_is (one_plain a e) (λ rows. refl) program
 from_line program (Start a b d) w e =
@@ -279,12 +328,27 @@ from_line program (Show a b d) w e =
 from_line program (History a b d) w e =
     let p = both _ _ e in let q = both _ _ p.1 in
     three_answers (History a b d) (codes "history") a b d History refl refl history_is (looks a p.0) (looks b q.0) (one_plain d q.1) (λ rows. refl) program
+from_line program (Board a b d) w e =
+    let p = both _ _ e in
+    let q = both _ _ p.1 in
+    let l = looks a p.0 in
+    let k = looks b q.0 in
+    let m = one_plain d q.1 in
+    let name = codes "board" in
+    three_answers (Board a b d) name a b d Board refl refl board_is l k m (λ rows. refl) program
+from_line program (Listing form a rest) w e = list_answers form.csv form.dates a rest e program
 from_line program (Calendar a b) w e =
     let p = both _ _ e in
     let l = looks a p.0 in
     let k = one_plain b p.1 in
     let name = codes "calendar" in
     two_answers (Calendar a b) name a b Calendar refl refl calendar_is l k (λ rows. refl) program
+from_line program (Diff a b) w e =
+    let p = both _ _ e in
+    let l = looks a p.0 in
+    let k = one_plain b p.1 in
+    let name = codes "diff" in
+    two_answers (Diff a b) name a b Diff refl refl diff_is l k (λ rows. refl) program
 from_line program (Rehearse a b d) w e =
     let p = both _ _ e in let q = both _ _ p.1 in
     three_answers (Rehearse a b d) (codes "rehearse") a b d Rehearse refl refl rehearse_is (looks a p.0) (looks b q.0) (one_plain d q.1) (λ rows. refl) program

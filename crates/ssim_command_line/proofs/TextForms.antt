@@ -9,10 +9,12 @@ use Rattle.clap.specs.Takes.{walk_passes}
 use Rattle.clap.specs.Walk.{Held, Row, Walk, arg_by_index, finished, idle, nothing_held, rows_after}
 use Rattle.clap.specs.Walk.{to_positional, value, walk, walked}
 use Rattle.clap.proofs.OnLiterals.{clap_on_literals}
-use Rattle.ssim_command_line.specs.Commands.{leaf, one_value_and_texts, two_values_and_texts}
+use Rattle.ssim_command_line.specs.Commands.{leaf, one_value_and_texts, one_value_and_texts_in_form}
+use Rattle.ssim_command_line.specs.Commands.{two_values_and_texts}
 use Rattle.ssim_command_line.specs.Commands.{two_values_and_texts_or_refused}
-use Rattle.ssim_command_line.specs.Line.{Line, Text, Receive, Texts, is_plain}
-use Rattle.ssim_command_line.specs.Request.{with_flights, with_refused, with_texts}
+use Rattle.ssim_command_line.specs.Line.{Line, Text, Listing, Receive, Texts, is_plain}
+use Rattle.ssim_command_line.specs.declared.command_line.ListForm.{ListForm}
+use Rattle.ssim_command_line.specs.Request.{with_flights, with_form, with_refused, with_texts}
 use Rattle.ssim_command_line.proofs.Levels.{ready}
 use Rattle.ssim_command_line.proofs.Right.{after_words, level_right, next_right, turn_right}
 use Rattle.ssim_command_line.proofs.TextWords.{TakesTexts, first_text, later_text, texts_pass}
@@ -133,6 +135,50 @@ module _ (name : Text) (a : Text) where
       → EndsAs sf with_flights (Texts a (seen ++ t ∷ [])) (later_text sf.rules 2 hf seen t)
   unfolding clap_on_literals
   any_more seen t = record { passes = refl; right = refl; made = refl }
+
+-- ---- the same with two options, which are not given
+
+abbrev pub sl : Shape
+sl = ready (leaf (codes "list") one_value_and_texts_in_form)
+
+-- the form without options
+abbrev pub plain_form : ListForm
+plain_form = record { csv = false; dates = false }
+
+module _ (a : Text) where
+  abbrev pub hl : Held
+  hl = (to_positional sl.rules (arg_by_index sl.rules 1) a (at nothing_held idle 1) nothing_held).held
+
+  pub list_value : TakesValue sl 1 nothing_held a 2 hl
+  unfolding clap_on_literals
+  list_value = record { is = refl; fits = refl; right = refl }
+
+  pub list_takes : TakesTexts sl 2 hl
+  unfolding clap_on_literals
+  list_takes = record {
+    first = λ t. refl;
+    second = λ t u. refl;
+    later = λ seen t u. refl;
+    fits = refl;
+    fits_second = λ t. refl;
+    fits_later = λ seen t. refl;
+    right = refl;
+    right_second = λ t. refl;
+    right_later = λ seen t. refl;
+  }
+
+  pub list_none : EndsAs sl with_form (Listing plain_form a []) (at hl idle 2)
+  unfolding clap_on_literals
+  list_none = record { passes = refl; right = refl; made = refl }
+
+  pub list_one : (t : Text) → EndsAs sl with_form (Listing plain_form a (t ∷ [])) (first_text sl.rules 2 hl t)
+  unfolding clap_on_literals
+  list_one t = record { passes = refl; right = refl; made = refl }
+
+  pub list_more : (seen : List Text) (t : Text)
+      → EndsAs sl with_form (Listing plain_form a (seen ++ t ∷ [])) (later_text sl.rules 2 hl seen t)
+  unfolding clap_on_literals
+  list_more seen t = record { passes = refl; right = refl; made = refl }
 
 -- ---- two values and one text or more
 

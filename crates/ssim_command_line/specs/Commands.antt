@@ -2,7 +2,7 @@
 use Rattle.std.specs.Prelude.{ℕ, true, List, [], ◌∷◌, ◌++◌, Some, codes}
 use Rattle.clap.specs.Words.{App, Rule, Shape, new_rule, with_subcommand}
 use Rattle.clap.specs.Simple.{new_shape}
-use Rattle.clap.specs.declared.builder.action.ArgAction.TheVariants.{Append}
+use Rattle.clap.specs.declared.builder.action.ArgAction.TheVariants.{Append, SetTrue}
 
 -- a value that has to be there
 abbrev pub needed : List ℕ → Rule
@@ -45,6 +45,15 @@ optional name = record (new_rule name) { long = Some name; value_names = 1 }
 abbrev pub two_values_and_texts_or_refused : List Rule
 two_values_and_texts_or_refused = two_values_and_texts ++ optional (codes "refused") ∷ []
 
+-- an option without a value
+abbrev pub flag : List ℕ → Rule
+flag name = record (new_rule name) { long = Some name; action = Some SetTrue }
+
+-- the values of `list`: one value and any number of texts, and two options
+abbrev pub one_value_and_texts_in_form : List Rule
+one_value_and_texts_in_form =
+    one_value_and_texts ++ flag (codes "csv") ∷ flag (codes "dates") ∷ []
+
 -- a command with these values and no subcommand
 abbrev pub leaf : List ℕ → List Rule → Shape
 leaf name rules = record (new_shape name) { rules = rules }
@@ -82,9 +91,16 @@ on_messages =
 abbrev pub on_dates : List Shape
 on_dates = leaf (codes "show") three_values ∷ leaf (codes "history") three_values ∷ []
 
--- the commands that print the timetable of a desk or a data set
+-- the commands that print flights of the timetable of a desk or a data set
 abbrev pub on_timetables : List Shape
-on_timetables = leaf (codes "calendar") two_values ∷ []
+on_timetables =
+    leaf (codes "list") one_value_and_texts_in_form
+    ∷ leaf (codes "board") three_values
+    ∷ leaf (codes "calendar") two_values ∷ []
+
+-- the commands that print how two timetables differ, or the page of one
+abbrev pub of_timetables : List Shape
+of_timetables = leaf (codes "diff") two_values ∷ leaf (codes "page") one_value ∷ []
 
 -- the commands that print what a desk has
 abbrev pub of_desks : List Shape
@@ -100,5 +116,6 @@ explanations = leaf (codes "explain") one_value ∷ []
 
 -- the program with all its commands
 abbrev pub whole_program : App
-whole_program = add_all (add_all (add_all (add_all (add_all (add_all (add_all (add_all bare_program
-    on_data_sets) on_desks) on_messages) on_dates) on_timetables) of_desks) rehearsals) explanations
+whole_program = add_all (add_all (add_all (add_all (add_all (add_all (add_all (add_all (add_all
+    bare_program on_data_sets) on_desks) on_messages) on_dates) on_timetables) of_timetables) of_desks)
+    rehearsals) explanations

@@ -1,7 +1,8 @@
 -- The command lines of the program.
 use Rattle.std.specs.Prelude.{◌≡◌, ◌==◌, ℕ, Bool, true, false, not, List, [], ◌∷◌, ◌++◌, Option, None}
-use Rattle.std.specs.Prelude.{Some, codes}
+use Rattle.std.specs.Prelude.{Some, codes, if◌then◌else◌}
 use Rattle.std.specs.List.{list_all}
+use Rattle.ssim_command_line.specs.declared.command_line.ListForm.{ListForm}
 
 -- a text as its bytes
 abbrev pub Text : Type 0
@@ -19,7 +20,11 @@ pub data Line : Type 0 where
   Withdraw : Text → Text → List Text → Line
   Show : Text → Text → Text → Line
   History : Text → Text → Text → Line
+  Board : Text → Text → Text → Line
+  Listing : ListForm → Text → List Text → Line
   Calendar : Text → Text → Line
+  Page : Text → Line
+  Diff : Text → Text → Line
   Findings : Text → Line
   Export : Text → Line
   Rehearse : Text → Text → Text → Line
@@ -37,7 +42,11 @@ name_of (Texts desk flights) = codes "texts"
 name_of (Withdraw desk out references) = codes "withdraw"
 name_of (Show desk flight date) = codes "show"
 name_of (History desk flight date) = codes "history"
+name_of (Board file station date) = codes "board"
+name_of (Listing form file flights) = codes "list"
 name_of (Calendar file flight) = codes "calendar"
+name_of (Page file) = codes "page"
+name_of (Diff from to) = codes "diff"
 name_of (Findings desk) = codes "findings"
 name_of (Export desk) = codes "export"
 name_of (Rehearse dataset stations script) = codes "rehearse"
@@ -47,6 +56,14 @@ name_of (Explain word) = codes "explain"
 abbrev pub option_words : Text → Option Text → List Text
 option_words name None = []
 option_words name (Some value) = name ∷ value ∷ []
+
+-- an option without a value, if it is given
+abbrev pub flag_words : Text → Bool → List Text
+flag_words name is_given = if is_given then name ∷ [] else []
+
+-- the options of `list` that are given
+abbrev pub form_words : ListForm → List Text
+form_words form = flag_words (codes "--csv") form.csv ++ flag_words (codes "--dates") form.dates
 
 -- the values of a line, in the order in which they are written; options come first
 abbrev pub values_of : Line → List Text
@@ -61,7 +78,11 @@ values_of (Texts desk flights) = desk ∷ flights
 values_of (Withdraw desk out references) = desk ∷ out ∷ references
 values_of (Show desk flight date) = desk ∷ flight ∷ date ∷ []
 values_of (History desk flight date) = desk ∷ flight ∷ date ∷ []
+values_of (Board file station date) = file ∷ station ∷ date ∷ []
+values_of (Listing form file flights) = form_words form ++ file ∷ flights
 values_of (Calendar file flight) = file ∷ flight ∷ []
+values_of (Page file) = file ∷ []
+values_of (Diff from to) = from ∷ to ∷ []
 values_of (Findings desk) = desk ∷ []
 values_of (Export desk) = desk ∷ []
 values_of (Rehearse dataset stations script) = dataset ∷ stations ∷ script ∷ []

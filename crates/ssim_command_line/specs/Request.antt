@@ -1,12 +1,13 @@
 -- The command line that the matches of a subcommand name.
-use Rattle.std.specs.Prelude.{List, [], Option, None, map, option_and_then, option_map, unwrap_or}
-use Rattle.std.specs.Prelude.{if◌then◌else◌, codes}
+use Rattle.std.specs.Prelude.{Bool, false, List, [], Option, None, map, option_and_then, option_map}
+use Rattle.std.specs.Prelude.{unwrap_or, if◌then◌else◌, codes}
+use Rattle.std.specs.Option.{option_map_or}
 use Rattle.std.specs.Str.{bytes_eq}
 use Rattle.clap.specs.Words.{Row, all_of, first_of}
 use Rattle.ssim_command_line.specs.Line.{Line, Text, Check, Tidy, Start, Take, Merge, Texts, Show}
-use Rattle.ssim_command_line.specs.Line.{History}
-use Rattle.ssim_command_line.specs.Line.{Receive, Withdraw, Calendar, Findings, Export, Rehearse}
-use Rattle.ssim_command_line.specs.Line.{Explain}
+use Rattle.ssim_command_line.specs.Line.{History, Board, Receive, Withdraw, Calendar, Findings, Export}
+use Rattle.ssim_command_line.specs.Line.{Rehearse, Explain, Page, Diff, Listing}
+use Rattle.ssim_command_line.specs.declared.command_line.ListForm.{ListForm}
 use Rattle.ssim_command_line.specs.declared.command_line.Request.{Request}
 use Rattle.ssim_command_line.specs.declared.command_line.Request.TheVariants as request
 
@@ -24,7 +25,11 @@ line_of (request.Withdraw desk out references) =
     Withdraw desk.now out.now (map (λ r. r.now) references.items)
 line_of (request.Show desk flight date) = Show desk.now flight.now date.now
 line_of (request.History desk flight date) = History desk.now flight.now date.now
+line_of (request.Board file station date) = Board file.now station.now date.now
+line_of (request.List form file flights) = Listing form file.now (map (λ t. t.now) flights.items)
 line_of (request.Calendar file flight) = Calendar file.now flight.now
+line_of (request.Page file) = Page file.now
+line_of (request.Diff from to) = Diff from.now to.now
 line_of (request.Findings desk) = Findings desk.now
 line_of (request.Export desk) = Export desk.now
 line_of (request.Rehearse dataset stations script) = Rehearse dataset.now stations.now script.now
@@ -76,6 +81,19 @@ texts_of rows = unwrap_or (all_of (codes "texts") rows) []
 abbrev pub with_flights : List Row → Option Line
 with_flights rows = option_map (λ desk. Texts desk (texts_of rows)) (first_of (codes "first") rows)
 
+-- whether an option without a value is given
+abbrev pub is_given : Text → List Row → Bool
+is_given name rows = option_map_or (λ text. bytes_eq text (codes "true")) (first_of name rows) false
+
+-- which of the options of `list` are given
+abbrev pub form_of : List Row → ListForm
+form_of rows = record { csv = is_given (codes "csv") rows; dates = is_given (codes "dates") rows }
+
+-- the `list` line of a file and any number of flights, if the file is given
+abbrev pub with_form : List Row → Option Line
+with_form rows =
+    option_map (λ file. Listing (form_of rows) file (texts_of rows)) (first_of (codes "first") rows)
+
 -- what a subcommand's name and matches name, if they name a command with its values
 abbrev pub line_at : Text → List Row → Option Line
 line_at name rows =
@@ -89,9 +107,13 @@ line_at name rows =
     else (if bytes_eq name (codes "withdraw") then with_texts Withdraw rows
     else (if bytes_eq name (codes "show") then with_three Show rows
     else (if bytes_eq name (codes "history") then with_three History rows
+    else (if bytes_eq name (codes "board") then with_three Board rows
+    else (if bytes_eq name (codes "list") then with_form rows
     else (if bytes_eq name (codes "calendar") then with_two Calendar rows
+    else (if bytes_eq name (codes "page") then with_one Page rows
+    else (if bytes_eq name (codes "diff") then with_two Diff rows
     else (if bytes_eq name (codes "findings") then with_one Findings rows
     else (if bytes_eq name (codes "export") then with_one Export rows
     else (if bytes_eq name (codes "rehearse") then with_three Rehearse rows
     else (if bytes_eq name (codes "explain") then with_one Explain rows
-    else None))))))))))))))
+    else None))))))))))))))))))

@@ -4,7 +4,8 @@ ghost use Rattle.clap.specs.Words.{all_of, app_of, first_of, found_of, rows_of};
 ghost use Rattle.ssim_command_line.specs.Commands.{whole_program};
 ghost use Rattle.ssim_command_line.specs.Line.{Line, Spells, Take, Withdraw};
 ghost use Rattle.ssim_command_line.specs.Request.{line_at, line_of, three_of, two_and_texts_of};
-ghost use Rattle.ssim_command_line.specs.Request.{two_of, with_flights, with_refused, with_texts};
+ghost use Rattle.ssim_command_line.specs.Request.{form_of, is_given, two_of, with_flights, with_form};
+ghost use Rattle.ssim_command_line.specs.Request.{with_refused, with_texts};
 ghost use Rattle.ssim_command_line.specs.Usage.{IsFaultOf, Names};
 
 use crate::commands::command;
@@ -12,9 +13,18 @@ use clap::error::ErrorKind;
 use clap::{ArgMatches, Error};
 use std::alloc::{AllocError, Global};
 
-/// A command with its values: names of files, but for the flights of `Texts`, the references of
-/// `Withdraw`, the flight and the date of `Show` and of `History`, the flight of `Calendar`, and the
-/// word of `Explain`.
+/// How `list` prints its flights.
+#[derive(Clone, Copy, Debug, PartialEq, Eq)]
+pub struct ListForm {
+    /// As CSV.
+    pub csv: bool,
+    /// Date by date.
+    pub dates: bool,
+}
+
+/// A command with its values: names of files, but for the flights of `Texts` and of `List`, the
+/// references of `Withdraw`, the flight and the date of `Show` and of `History`, the station and the
+/// date of `Board`, the flight of `Calendar`, and the word of `Explain`.
 #[derive(Debug, Drop)]
 pub enum Request<'a> {
     /// Print the notes on a data set and a summary.
@@ -38,8 +48,16 @@ pub enum Request<'a> {
     Show(&'a str, &'a str, &'a str),
     /// Print what the messages of a desk did with a flight on a date.
     History(&'a str, &'a str, &'a str),
+    /// Print the departures and arrivals of a desk or a data set at a station on a local date.
+    Board(&'a str, &'a str, &'a str),
+    /// Print the periods or the dates of the flights of a desk or a data set: of all, or of these.
+    List(ListForm, &'a str, Vec<&'a str>),
     /// Print on which dates a flight of a desk or a data set operates.
     Calendar(&'a str, &'a str),
+    /// Print the timetable of a desk or a data set as a page of HTML.
+    Page(&'a str),
+    /// Print on which dates flights differ in two timetables, of desks or of data sets.
+    Diff(&'a str, &'a str),
     /// Print what the sub-messages of a desk found.
     Findings(&'a str),
     /// Export a desk.
@@ -167,6 +185,40 @@ fn showing_texts<'a>(
     Ok(Some(Request::Texts(desk, flights.to_vec(alloc)?)))
 }
 
+/// Whether an option without a value is given.
+fn is_given(inner: &ArgMatches<'_>, name: &str) -> bool
+    ensures { result ≡ is_given name.now (rows_of (found_of inner.now)) }
+{
+    match value_at(inner, name) {
+        Some(text) => text == "true",
+        None => false,
+    }
+}
+
+/// Which of the options of `list` are given.
+fn form_of(inner: &ArgMatches<'_>) -> ListForm
+    ensures { result ≡ form_of (rows_of (found_of inner.now)) }
+{
+    ListForm {
+        csv: is_given(inner, "csv"),
+        dates: is_given(inner, "dates"),
+    }
+}
+
+/// The request that the matches of `list` make.
+fn listing<'a>(alloc: Global, inner: &ArgMatches<'a>) -> Result<Option<Request<'a>>, AllocError>
+    ensures { IfOk result (λ r. option_map line_of r ≡ with_form (rows_of (found_of inner.now))) }
+{
+    let Some(file) = one(inner) else {
+        return Ok(None);
+    };
+    let form = form_of(inner);
+    let Some(flights) = texts_at(inner) else {
+        return Ok(Some(Request::List(form, file, Vec::new(alloc))));
+    };
+    Ok(Some(Request::List(form, file, flights.to_vec(alloc)?)))
+}
+
 /// The request that a subcommand's matches make.
 fn read<'a>(
     alloc: Global,
@@ -206,8 +258,20 @@ fn read<'a>(
     if name == "history" {
         return Ok(three(inner).map(|(a, b, c)| Request::History(a, b, c)));
     }
+    if name == "board" {
+        return Ok(three(inner).map(|(a, b, c)| Request::Board(a, b, c)));
+    }
+    if name == "list" {
+        return listing(alloc, inner);
+    }
     if name == "calendar" {
         return Ok(two(inner).map(|(a, b)| Request::Calendar(a, b)));
+    }
+    if name == "page" {
+        return Ok(one(inner).map(Request::Page));
+    }
+    if name == "diff" {
+        return Ok(two(inner).map(|(a, b)| Request::Diff(a, b)));
     }
     if name == "findings" {
         return Ok(one(inner).map(Request::Findings));

@@ -1,10 +1,11 @@
 //! The commands as `clap` sees them.
 ghost use Rattle.std.specs.Prelude.{◌≡◌, IfOk, codes, false};
 ghost use Rattle.clap.specs.Words.{app_of, rule_of};
-ghost use Rattle.ssim_command_line.specs.Commands.{add_all, any_texts, explanations, leaf, needed};
-ghost use Rattle.ssim_command_line.specs.Commands.{of_desks, on_data_sets, on_dates, on_desks};
-ghost use Rattle.ssim_command_line.specs.Commands.{on_messages, on_timetables, one_value};
-ghost use Rattle.ssim_command_line.specs.Commands.{one_value_and_texts, optional, rehearsals};
+ghost use Rattle.ssim_command_line.specs.Commands.{add_all, any_texts, explanations, flag, leaf};
+ghost use Rattle.ssim_command_line.specs.Commands.{needed, of_desks, on_data_sets, on_dates, on_desks};
+ghost use Rattle.ssim_command_line.specs.Commands.{of_timetables, on_messages, on_timetables, one_value};
+ghost use Rattle.ssim_command_line.specs.Commands.{one_value_and_texts, one_value_and_texts_in_form};
+ghost use Rattle.ssim_command_line.specs.Commands.{optional, rehearsals};
 ghost use Rattle.ssim_command_line.specs.Commands.{several_texts};
 ghost use Rattle.ssim_command_line.specs.Commands.{three_values, two_values, two_values_and_texts};
 ghost use Rattle.ssim_command_line.specs.Commands.{two_values_and_texts_or_refused, whole_program};
@@ -59,6 +60,17 @@ fn optional<'a>(alloc: Global, name: &'a str, shown: &'a str, about: &'a str) ->
     Arg::new(alloc, name)
         .long(name)
         .value_name(shown)
+        .help(about)
+}
+
+/// An option without a value.
+fn flag<'a>(alloc: Global, name: &'a str, about: &'a str) -> Arg<'a>
+    ensures rule { rule_of result ≡ flag name.entry.now }
+    ensures local { result.global ≡ false }
+{
+    Arg::new(alloc, name)
+        .long(name)
+        .action(ArgAction::SetTrue)
         .help(about)
 }
 
@@ -135,15 +147,28 @@ fn receive<'a>(alloc: Global) -> Result<Command<'a>, AllocError>
     command.arg(optional(alloc, "refused", "FILE", help::REFUSED))
 }
 
-/// The command `texts`, with one value and any number of flights.
-fn texts_of_desk<'a>(alloc: Global) -> Result<Command<'a>, AllocError>
-    ensures { IfOk result (IsLeaf (leaf (codes "texts") one_value_and_texts)) }
+/// A command with a file and any number of flights.
+fn with_flights<'a>(
+    alloc: Global,
+    name: &'a str,
+    about: &'a str,
+    example: &'a str,
+    first: &'a str,
+) -> Result<Command<'a>, AllocError>
+    ensures { IfOk result (IsLeaf (leaf name.entry.now one_value_and_texts)) }
 {
-    let command = Command::new(alloc, "texts")
-        .about(help::TEXTS)
-        .after_help(help::TEXTS_EXAMPLE);
-    let command = command.arg(value(alloc, "first", "DESK"))?;
+    let command = Command::new(alloc, name).about(about).after_help(example);
+    let command = command.arg(value(alloc, "first", first))?;
     command.arg(any_texts(alloc, "FLIGHT"))
+}
+
+/// The command `list`, with a file and any number of flights, and options for CSV and dates.
+fn list<'a>(alloc: Global) -> Result<Command<'a>, AllocError>
+    ensures { IfOk result (IsLeaf (leaf (codes "list") one_value_and_texts_in_form)) }
+{
+    let command = with_flights(alloc, "list", help::LIST, help::LIST_EXAMPLE, "FILE")?;
+    let command = command.arg(flag(alloc, "csv", help::CSV))?;
+    command.arg(flag(alloc, "dates", help::DATES))
 }
 
 /// The commands on data sets.
@@ -178,7 +203,7 @@ fn with_desks<'a>(alloc: Global, program: Command<'a>) -> Result<Command<'a>, Al
 fn with_messages<'a>(alloc: Global, program: Command<'a>) -> Result<Command<'a>, AllocError>
     ensures { IfOk result (λ c. app_of c ≡ add_all (app_of program.entry) on_messages) }
 {
-    let texts = texts_of_desk(alloc)?;
+    let texts = with_flights(alloc, "texts", help::TEXTS, help::TEXTS_EXAMPLE, "DESK")?;
     let about = help::WITHDRAW;
     let withdraw = with_texts(
         alloc,
@@ -201,14 +226,30 @@ fn with_dates<'a>(alloc: Global, program: Command<'a>) -> Result<Command<'a>, Al
     program.subcommand(show)?.subcommand(history)
 }
 
-/// The commands that print the timetable of a desk or a data set.
+/// The commands that print flights of the timetable of a desk or a data set.
 fn with_timetables<'a>(alloc: Global, program: Command<'a>) -> Result<Command<'a>, AllocError>
     ensures { IfOk result (λ c. app_of c ≡ add_all (app_of program.entry) on_timetables) }
 {
+    let shown = ["FILE", "STATION", "DATE"];
+    let board = with_three(alloc, "board", help::BOARD, help::BOARD_EXAMPLE, shown)?;
+    let list = list(alloc)?;
     let about = help::CALENDAR;
     let shown = ["FILE", "FLIGHT"];
     let calendar = with_two(alloc, "calendar", about, help::CALENDAR_EXAMPLE, shown)?;
-    program.subcommand(calendar)
+    program
+        .subcommand(list)?
+        .subcommand(board)?
+        .subcommand(calendar)
+}
+
+/// The commands that print how two timetables differ, or the page of one.
+fn with_whole_timetables<'a>(alloc: Global, program: Command<'a>) -> Result<Command<'a>, AllocError>
+    ensures { IfOk result (λ c. app_of c ≡ add_all (app_of program.entry) of_timetables) }
+{
+    let shown = ["FROM", "TO"];
+    let diff = with_two(alloc, "diff", help::DIFF, help::DIFF_EXAMPLE, shown)?;
+    let page = with_one(alloc, "page", help::PAGE, help::PAGE_EXAMPLE, "FILE")?;
+    program.subcommand(diff)?.subcommand(page)
 }
 
 /// The commands that print what a desk has.
@@ -259,6 +300,7 @@ pub fn command<'a>(alloc: Global) -> Result<Command<'a>, AllocError>
     let program = with_messages(alloc, program)?;
     let program = with_dates(alloc, program)?;
     let program = with_timetables(alloc, program)?;
+    let program = with_whole_timetables(alloc, program)?;
     let program = with_prints(alloc, program)?;
     let program = with_rehearsal(alloc, program)?;
     with_explanations(alloc, program)

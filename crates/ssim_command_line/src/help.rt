@@ -160,6 +160,49 @@ if its line is that of one before:
 Exit status: 0; 1 if the desk file is refused, FLIGHT is no designator (6), DATE is no
 date (1), or the airline is another one (41).";
 
+pub(crate) const BOARD: &str = "\
+Read a desk file or a data set, and print the departures and arrivals at a station on a
+local date";
+
+pub(crate) const BOARD_EXAMPLE: &str = "\
+Example:
+  ssimdesk board fdh.desk FDH 15JUN27
+prints by local time, departures first: the time, 'dep' or 'arr', the flight, its date of
+origin, the leg sequence and the aircraft type, with . for each blank; the other station
+and its local time; and how many days its local date is from DATE, if not 0:
+  0630 dep Z7101    15JUN27 01 E90 HAM 0755
+  ...
+  2145 arr Z7104    15JUN27 01 AT7 HAM 1955
+  2230 dep Z7401    15JUN27 01 320 DXB 0640 +1
+Times are the aircraft's. A line ends in ' ?' if a date variation is neither a digit nor
+blank, or in UTC mode a UTC variation is blank: both count as 0.
+Exit status: 0, also with 'no flight'; 1 if the file is refused, STATION is no station
+(3), or DATE is no date (1).";
+
+pub(crate) const LIST: &str = "\
+Read a desk file or a data set, and print the periods of each flight, or of these flights,
+and the legs of each period";
+
+pub(crate) const LIST_EXAMPLE: &str = "\
+Example:
+  ssimdesk list fdh.desk Z7341
+prints for each period the flight, the first and the last date and the days of operation,
+with . for a day without, and a line for each leg as in 'show':
+  Z7341 28MAR27 02JUL27 1.3.567
+    01 HAM 0540 0540 +0200 PMI 0825 0825 +0200 00 J 320
+  ...
+A leg that differs from another leg of the flight with the same line ends in ' *'. The
+periods are those of the export. The line of a flight without dates is 'Z7999 no flight'.
+  ssimdesk list --dates fdh.desk Z7341
+prints a line for each date and leg:
+  Z7341 28MAR27 01 HAM 0540 0540 +0200 PMI 0825 0825 +0200 00 J 320
+Exit status: 0; 1 if the file is refused, FLIGHT is no designator (6), or the airline is
+another one (41).";
+
+pub(crate) const CSV: &str = "Print CSV: the names of the columns, and a row for each leg";
+
+pub(crate) const DATES: &str = "Print each date by itself, and no periods";
+
 pub(crate) const CALENDAR: &str = "\
 Read a desk file or a data set, and print a picture of the dates on which a flight
 operates, and of where it changes";
@@ -179,6 +222,39 @@ for each letter the number of dates and the legs:
   B  13 01 HAM 0540 0540 +0200 PMI 0825 0825 +0200 00 J 32N
 Exit status: 0, also if there is no flight; 1 if the file is refused, FLIGHT is no
 designator (6), or the airline is another one (41).";
+
+pub(crate) const PAGE: &str = "\
+Read a desk file or a data set, and print its timetable as one page of HTML, to be looked
+at in a browser";
+
+pub(crate) const PAGE_EXAMPLE: &str = "\
+Example:
+  ssimdesk page fdh.desk > fdh.html
+writes a page that needs no other file: for each flight its dates as squares, in the colour
+of its itinerary, and a row for each period: a letter for the itinerary, as in 'calendar',
+the first and the last day, the days of operation, the route with the times of the aircraft,
+and the aircraft type. A box hides the flights that lack a flight number or a station.
+Exit status: 0; 1 if the file is refused or cannot be read.";
+
+pub(crate) const DIFF: &str = "\
+Read two files, each a desk file or a data set, and print on which dates flights differ,
+in periods, with the old and the new legs";
+
+pub(crate) const DIFF_EXAMPLE: &str = "\
+Example:
+  ssimdesk diff season.ssim fdh.desk
+prints for each period on which a flight differs a line with the flight, the first and the
+last date and the days of operation, and its legs by sequence: '-' before a leg of FROM,
+'+' before one of TO, two blanks before a leg that both have. The last line has the number
+of flights that differ and of their dates, or is 'same':
+  Z7341 03JUL27 31JUL27 .....67
+  - 01 HAM 0540 0540 +0200 PMI 0825 0825 +0200 00 J 320
+  + 01 HAM 0540 0540 +0200 PMI 0825 0825 +0200 00 J 32N
+  ...
+  different flights 13 dates 101
+Legs of one sequence that differ although their lines are equal end in ' *'.
+Exit status: 0, also if they differ; 1 if a file is refused, or the airline or the time
+mode is another one (61).";
 
 pub(crate) const FINDINGS: &str = "\
 Read a desk file, and print for each sub-message that it holds on how many dates it acted,
@@ -242,7 +318,7 @@ pub(crate) fn about_value(shown: &str) -> &'static str {
     if shown == "STATIONS" {
         return "The station table: lines such as ZRH 30MAR25 25OCT25 +0200; - is standard input";
     }
-    if shown == "FILE" {
+    if shown == "FILE" || shown == "FROM" || shown == "TO" {
         return "A desk file, or a data set's file; - is standard input";
     }
     if shown == "DESK" || shown == "OTHER" {
@@ -257,11 +333,14 @@ pub(crate) fn about_value(shown: &str) -> &'static str {
     if shown == "REFERENCE" {
         return "The references of one or more messages, each as one word, as 'take' prints it";
     }
+    if shown == "STATION" {
+        return "A station such as ZRH";
+    }
     if shown == "FLIGHT" {
         return "A flight designator such as LX544";
     }
     if shown == "DATE" {
-        return "A date of origin such as 07JUL25";
+        return "A date such as 07JUL25";
     }
     if shown == "WORD" {
         return "The number of a refusal, such as 12, or a file; - is standard input";

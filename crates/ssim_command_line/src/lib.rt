@@ -10,4 +10,4 @@ mod command_line;
 mod commands;
 mod help;
 
-pub use command_line::{LineFault, Request, parse};
+pub use command_line::{LineFault, ListForm, Request, parse};

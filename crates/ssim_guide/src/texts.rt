@@ -14,10 +14,15 @@ const UNSUPPORTED: &str = "not supported: split the flight's periods, or write w
 const TOO_LARGE: &str =
     "a chapter 7 data set cannot say it: combine the flight's single dates, or divide the data set";
 
-pub(crate) const TABLE: [Explanation; 38] = [
+pub(crate) const TABLE: [Explanation; 39] = [
     Explanation {
         number: 1,
         meaning: "the date is not DDMMMYY, or no day of the calendar",
+        remedy: "correct the word",
+    },
+    Explanation {
+        number: 3,
+        meaning: "the station is not three letters, A to Z",
         remedy: "correct the word",
     },
     Explanation {
@@ -182,8 +187,8 @@ pub(crate) const TABLE: [Explanation; 38] = [
     },
     Explanation {
         number: 61,
-        meaning: "the two desks have different data sets or station tables",
-        remedy: "merge desks of one season only",
+        meaning: "the two desks have different data sets or station tables. For diff the airlines or time modes differ",
+        remedy: "merge desks of one season, and compare timetables of one airline",
     },
     Explanation {
         number: 62,

@@ -2,7 +2,8 @@
 -- their files last.
 use Rattle.std.proofs.Common.{◌≡◌, ◌∙◌, inl, inr, ℕ, zero, suc, ◌≤◌, List, [], ◌∷◌, ◌++◌, length, Option, Some, None, refl, ap, arith, length-append}
 use Rattle.ssim_command_line.specs.Line.{Line, Text, Check, Tidy, Start, Take, Receive, Merge, Withdraw}
-use Rattle.ssim_command_line.specs.Line.{Texts, Show, History, Calendar, Findings, Export, Rehearse, Explain}
+use Rattle.ssim_command_line.specs.Line.{Texts, Show, History, Calendar, Findings, Export, Rehearse}
+use Rattle.ssim_command_line.specs.Line.{Explain, Page, Board, Diff, Listing}
 use Rattle.ssim_command_line.specs.Usage.{Names}
 use Rattle.ssim_held.specs.File.{desk_file}
 use Rattle.ssim_program.specs.Effects.{Begins, Makes}
@@ -25,7 +26,11 @@ begun (Withdraw file out references) old new printed kept begins files = inl (pr
 begun (Texts file flights) old new printed kept begins files = inl (printed, kept, begins, files)
 begun (Show file flight date) old new printed kept begins files = inl (printed, kept, begins, files)
 begun (History file flight date) old new printed kept begins files = inl (printed, kept, begins, files)
+begun (Board file station date) old new printed kept begins files = inl (printed, kept, begins, files)
+begun (Listing form file flights) old new printed kept begins files = inl (printed, kept, begins, files)
 begun (Calendar file flight) old new printed kept begins files = inl (printed, kept, begins, files)
+begun (Page file) old new printed kept begins files = inl (printed, kept, begins, files)
+begun (Diff from to) old new printed kept begins files = inl (printed, kept, begins, files)
 begun (Findings file) old new printed kept begins files = inl (printed, kept, begins, files)
 begun (Export file) old new printed kept begins files = inl (printed, kept, begins, files)
 begun (Rehearse dataset stations script) old new printed kept begins files = inl (printed, kept, begins, files)
@@ -50,7 +55,11 @@ two_files (Withdraw file out references) files printed kept m = omega (arith, ap
 two_files (Texts file flights) files printed kept m = omega (arith, ap length m.3)
 two_files (Show file flight date) files printed kept m = omega (arith, ap length m.3)
 two_files (History file flight date) files printed kept m = omega (arith, ap length m.3)
+two_files (Board file station date) files printed kept m = omega (arith, ap length m.3)
+two_files (Listing form file flights) files printed kept m = omega (arith, ap length m.3)
 two_files (Calendar file flight) files printed kept m = omega (arith, ap length m.3)
+two_files (Page file) files printed kept m = omega (arith, ap length m.3)
+two_files (Diff from to) files printed kept m = omega (arith, ap length m.5)
 two_files (Findings file) files printed kept m = omega (arith, ap length m.3)
 two_files (Export file) files printed kept m = omega (arith, ap length m.3)
 two_files (Rehearse dataset stations script) files printed kept m = omega (arith, ap length m.1)

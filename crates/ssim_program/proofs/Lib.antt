@@ -2,7 +2,6 @@ pub mod Printers
 pub mod Doing
 pub mod Exporting
 pub mod Again
-pub mod Joining
 pub mod Texts
 pub mod Received
 pub mod Keeping

@@ -3,6 +3,7 @@ use Rattle.std.proofs.Common.{◌≡◌, ◌∙◌, ◌<◌, ◌^◌, ℕ, List,
 use Rattle.ssim_values.proofs.DesignatorLemmas.{SpellsDesignator-unique}
 use Rattle.ssim_text.specs.Reference.{OneReference}
 use Rattle.ssim_values.specs.declared.designator.Designator.{Designator}
+use Rattle.ssim_base.specs.Base.{airline_of}
 use Rattle.ssim_base.specs.BaseSeen.{BaseSeen, base_with}
 use Rattle.ssim_base.specs.Reading.{SameBytesSameBase}
 use Rattle.ssim_records.specs.declared.record.Record.{Record}
@@ -12,16 +13,24 @@ use Rattle.ssim_base.specs.Timetable.{itinerary}
 use Rattle.ssim_desk.specs.DateSteps.{steps_on}
 use Rattle.ssim_desk.specs.Desk.{days_of_desk, entry_lines}
 use Rattle.ssim_desk.specs.Meaning.{found_by, left_by}
-use Rattle.ssim_command_line.specs.Line.{Text, Texts, Withdraw, Show, History, Calendar, Findings, Export}
+use Rattle.ssim_command_line.specs.Line.{Text, Texts, Withdraw, Show, History, Board, Calendar}
+use Rattle.ssim_command_line.specs.Line.{Findings, Export, Listing}
 use Rattle.ssim_program.specs.Desks.{ReadsDesk}
 use Rattle.ssim_program.specs.Files.{Files}
 use Rattle.ssim_program.specs.Made.{IsExport, file_limit}
+use Rattle.ssim_command_line.specs.declared.command_line.ListForm.{ListForm}
+use Rattle.ssim_program.specs.Listing.{chosen}
 use Rattle.ssim_program.specs.Messages.{SpellEach, message_texts, messages_on}
 use Rattle.ssim_program.specs.Offices.{IsSameFile, PrintsTheSame}
 use Rattle.ssim_program.specs.Timetables.{HasTimetable, ReadsTimetable, timetable_kind}
 use Rattle.ssim_program.specs.declared.explain.file_kind.FileKind.{FileKind}
 use Rattle.ssim_program.specs.declared.explain.file_kind.FileKind.TheVariants as kind
+use Rattle.ssim_base.specs.Base.{airline_of}
+use Rattle.ssim_program.specs.Boards.{board_at}
+use Rattle.ssim_board.specs.InOrder.{board_of}
+use Rattle.ssim_program.specs.print.Board.{board_lines}
 use Rattle.ssim_program.specs.print.Calendar.{calendar_lines}
+use Rattle.ssim_program.specs.print.Listing.{printed_list}
 use Rattle.ssim_program.specs.print.Shown.{findings_lines, history_lines, shown_flight}
 use Rattle.ssim_program.specs.Withdrawing.{Withdraws}
 use Rattle.ssim_program.proofs.Again.{one_export}
@@ -109,6 +118,22 @@ module _ (no_two : NoTwoDesks) where
   same_timetable same_base files others name another desk other (bytes, here, there) (mine, has, is) (theirs, has_too, are) =
       let same : theirs ≡ mine = same_some theirs mine (sym has_too.1 ∙ there ∙ sym here ∙ has.1) in
       one_timetable same_base (timetable_kind mine) mine desk other (omega (arith, has.0)) is (subst (λ (bs : List ℕ). HasTimetable (timetable_kind bs) bs other) same are)
+
+  pub board_same : SameBytesSameBase → (station date : Text) → PrintsTheSame (λ file. Board file station date)
+  board_same same_base station date files others name another printed again kept also same (desk, read, is, _) (other, reads, are, _) =
+      let one = same_timetable same_base files others name another desk other same read reads in
+      let day : is.day ≡ are.day = same_some is.day are.day (sym is.dated ∙ are.dated) in
+      is.printed_is
+      ∙ (λ i. board_lines (airline_of (one.0 i).records) (day i) (board_of (board_at (one.0 i).records station (day i)) (days_of_desk (seen (one.0 i) (one.1 i)))))
+      ∙ sym are.printed_is
+
+  pub list_same : SameBytesSameBase → (form : ListForm) (flights : List Text) → PrintsTheSame (λ file. Listing form file flights)
+  list_same same_base form words files others name another printed again kept also same (desk, read, is, _) (other, reads, are, _) =
+      let one = same_timetable same_base files others name another desk other same read reads in
+      let flights = spell_once words is.flights are.flights is.named.spelled are.named.spelled in
+      is.printed_is
+      ∙ (λ i. printed_list form (airline_of (one.0 i).records) (chosen (seen (one.0 i) (one.1 i)) (flights i)))
+      ∙ sym are.printed_is
 
   pub calendar_same : SameBytesSameBase → (flight : Text) → PrintsTheSame (λ file. Calendar file flight)
   calendar_same same_base flight files others name another printed again kept also same (desk, read, is, _) (other, reads, are, _) =

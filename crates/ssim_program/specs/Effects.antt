@@ -13,9 +13,13 @@ use Rattle.ssim_program.specs.Explained.{Explains}
 use Rattle.ssim_program.specs.Files.{Files, Kept}
 use Rattle.ssim_command_line.specs.Line.{Line, Check, Tidy, Start, Take, Merge, Withdraw, Receive}
 use Rattle.ssim_command_line.specs.Line.{Texts, Show, History, Calendar, Findings, Export, Rehearse}
-use Rattle.ssim_command_line.specs.Line.{Explain}
+use Rattle.ssim_command_line.specs.Line.{Page, Explain, Board, Diff, Listing}
+use Rattle.ssim_program.specs.Boards.{ShowsBoard}
 use Rattle.ssim_program.specs.Calendars.{ShowsCalendar}
+use Rattle.ssim_program.specs.Differences.{PrintsDifferences}
+use Rattle.ssim_program.specs.Listing.{Lists}
 use Rattle.ssim_program.specs.Messages.{ShowsTexts}
+use Rattle.ssim_program.specs.Pages.{ShowsPage}
 use Rattle.ssim_program.specs.Receiving.{Receives}
 use Rattle.ssim_program.specs.Made.{AreLinesOn, IsExportOf, ReadsBase, ReadsFile}
 use Rattle.ssim_program.specs.Withdrawing.{WithdrawsFrom}
@@ -56,8 +60,18 @@ Makes (Show file flight date) files printed kept =
     (desk : DeskSeen) × ReadsDesk files file desk × Shows desk flight date printed × (kept ≡ [])
 Makes (History file flight date) files printed kept =
     (desk : DeskSeen) × ReadsDesk files file desk × ShowsHistory desk flight date printed × (kept ≡ [])
+Makes (Board file station date) files printed kept =
+    (desk : DeskSeen) × ReadsTimetable files file desk × ShowsBoard desk station date printed
+    × (kept ≡ [])
+Makes (Listing form file flights) files printed kept =
+    (desk : DeskSeen) × ReadsTimetable files file desk × Lists desk form flights printed × (kept ≡ [])
 Makes (Calendar file flight) files printed kept =
     (desk : DeskSeen) × ReadsTimetable files file desk × ShowsCalendar desk flight printed × (kept ≡ [])
+Makes (Page file) files printed kept =
+    (desk : DeskSeen) × ReadsTimetable files file desk × ShowsPage desk printed × (kept ≡ [])
+Makes (Diff from to) files printed kept =
+    (old : DeskSeen) × (new : DeskSeen) × ReadsTimetable files from old × ReadsTimetable files to new
+    × PrintsDifferences old new printed × (kept ≡ [])
 Makes (Findings file) files printed kept =
     (desk : DeskSeen) × ReadsDesk files file desk × (printed ≡ findings_lines (finding_lines desk))
     × (kept ≡ [])

@@ -2,7 +2,11 @@ pub mod Files
 pub mod print
 pub mod Made
 pub mod Desks
+pub mod Boards
+pub mod Listing
 pub mod Calendars
+pub mod Pages
+pub mod Differences
 pub mod Messages
 pub mod Withdrawing
 pub mod Receiving

@@ -8,3 +8,4 @@ pub mod Explain
 pub mod DataSet
 pub mod Rehearse
 pub mod Print
+pub mod Diff

@@ -1,8 +1,9 @@
 //! What holds of the bytes that the commands write, and of desk files after any commands.
 
 ghost use Rattle.std.specs.Prelude.{List};
-ghost use Rattle.ssim_command_line.specs.Line.{Calendar, Export, Findings, History, Show, Text};
-ghost use Rattle.ssim_command_line.specs.Line.{Texts, Withdraw};
+ghost use Rattle.ssim_command_line.specs.Line.{Board, Calendar, Export, Findings, History, Show, Text};
+ghost use Rattle.ssim_command_line.specs.Line.{Texts, Withdraw, Listing};
+ghost use Rattle.ssim_command_line.specs.declared.command_line.ListForm.{ListForm};
 ghost use Rattle.ssim_program.specs.Again.{TidiesOnce};
 ghost use Rattle.ssim_program.specs.Offices.{HoldsWhatWasBrought, OfficesAgree, PrintsTheSame};
 ghost use Rattle.ssim_program.specs.rehearse.Verdict.{EndsWithSame};
@@ -39,9 +40,10 @@ pub fn offices_agree()
     same_bytes_same_rows();
 }
 
-/// Of two equal desk files `texts`, `show`, `history`, `calendar`, `findings` and `export` print the
-/// same: the messages, each flight on each date, which message did what to it, its calendar, what each
-/// sub-message found, and the chapter 7 data set, byte for byte. So does `calendar` of two equal data
+/// Of two equal desk files `texts`, `show`, `history`, `list`, `board`, `calendar`, `findings` and
+/// `export` print the same: the messages, each flight on each date, which message did what to it, the
+/// periods or the dates of each flight, what is on a board, its calendar, what each sub-message found,
+/// and the chapter 7 data set, byte for byte. So do `list`, `board` and `calendar` of two equal data
 /// sets, and `withdraw` of two equal desk files: what became of each reference.
 pub fn equal_files_print_the_same()
     ensures texts { (flights : List Text) → PrintsTheSame (λ file. Texts file flights) }
@@ -49,6 +51,9 @@ pub fn equal_files_print_the_same()
         → PrintsTheSame (λ file. Withdraw file out references) }
     ensures show { (flight date : Text) → PrintsTheSame (λ file. Show file flight date) }
     ensures history { (flight date : Text) → PrintsTheSame (λ file. History file flight date) }
+    ensures board { (station date : Text) → PrintsTheSame (λ file. Board file station date) }
+    ensures list { (form : ListForm) (flights : List Text)
+        → PrintsTheSame (λ file. Listing form file flights) }
     ensures calendar { (flight : Text) → PrintsTheSame (λ file. Calendar file flight) }
     ensures findings { PrintsTheSame Findings }
     ensures export { PrintsTheSame Export }

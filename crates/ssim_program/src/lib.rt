@@ -38,5 +38,5 @@ pub use print::printed::Printed;
 pub use print::printer::Printer;
 pub use program::{run, run_on};
 pub use refusal::Refusal;
-pub use ssim_command_line::{LineFault, Request, parse};
+pub use ssim_command_line::{LineFault, ListForm, Request, parse};
 pub use store::{Store, StoreFault};

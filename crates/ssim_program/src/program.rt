@@ -14,12 +14,16 @@ ghost use Rattle.ssim_program.specs.World.{EndsWithLine, IsDone, World, paper, w
 ghost use Rattle.ssim_program.specs.declared.refusal.Refusal.TheVariants as refused;
 ghost use Rattle.clap.specs.Words.{kind_of};
 
+use crate::command::board::board;
 use crate::command::calendar::calendar;
 use crate::command::check::check;
+use crate::command::diff::diff;
 use crate::command::export::export;
 use crate::command::findings::findings;
 use crate::command::history::history;
+use crate::command::list::list;
 use crate::command::merge::merge;
+use crate::command::page::page;
 use crate::command::receive::receive;
 use crate::command::show::show_flight;
 use crate::command::start::start;
@@ -235,7 +239,11 @@ fn act<S: Store, O: Write>(
         Request::History(desk, flight, date) => {
             print(history(alloc, desk, flight, date, store), out)
         }
+        Request::Board(file, station, date) => print(board(alloc, file, station, date, store), out),
+        Request::List(form, file, flights) => print(list(alloc, *form, file, flights, store), out),
         Request::Calendar(file, flight) => print(calendar(alloc, file, flight, store), out),
+        Request::Page(file) => print(page(alloc, file, store), out),
+        Request::Diff(from, to) => print(diff(alloc, from, to, store), out),
         Request::Findings(desk) => print(findings(alloc, desk, store), out),
         Request::Rehearse(dataset, stations, script) => {
             print(rehearse(alloc, dataset, stations, script, store), out)

@@ -13,10 +13,12 @@ use Rattle.ssim_values.specs.Flight.{FlightNumber}
 use Rattle.ssim_held.specs.Entries.{DeskSeen}
 use Rattle.ssim_desk.specs.Desk.{days_of_desk}
 use Rattle.ssim_program.specs.Desks.{ReadsDesk, RefusesDeskFile, RefusesFlight, RefusesMerge, RefusesTexts}
+use Rattle.ssim_program.specs.Boards.{RefusesBoard}
+use Rattle.ssim_program.specs.Differences.{RefusesComparison}
 use Rattle.ssim_program.specs.Files.{Files}
 use Rattle.ssim_command_line.specs.Line.{Line, Text, Check, Tidy, Start, Take, Merge, Withdraw}
 use Rattle.ssim_command_line.specs.Line.{Receive, Texts, Show, History, Calendar, Findings, Export}
-use Rattle.ssim_command_line.specs.Line.{Rehearse, Explain}
+use Rattle.ssim_command_line.specs.Line.{Rehearse, Explain, Page, Board, Diff, Listing}
 use Rattle.ssim_program.specs.Messages.{RefusesFlights}
 use Rattle.ssim_program.specs.Made.{ReadsFile, RefusesBase, RefusesFile, RefusesLoad}
 use Rattle.ssim_program.specs.Timetables.{ReadsTimetable, RefusesTimetable}
@@ -85,10 +87,24 @@ Refuses (Show file flight date) files printed refusal =
 Refuses (History file flight date) files printed refusal =
     (printed ≡ []) × (RefusesDeskFile files file refusal
     ⊎ ((desk : DeskSeen) × ReadsDesk files file desk × RefusesFlight desk flight date refusal))
+Refuses (Board file station date) files printed refusal =
+    (printed ≡ []) × (RefusesTimetable files file refusal
+    ⊎ (((desk : DeskSeen) × ReadsTimetable files file desk) × RefusesBoard station date refusal))
+Refuses (Listing form file flights) files printed refusal =
+    (printed ≡ []) × (RefusesTimetable files file refusal
+    ⊎ ((desk : DeskSeen) × ReadsTimetable files file desk
+    × RefusesFlights (airline_of desk.base.records) flights refusal))
 Refuses (Calendar file flight) files printed refusal =
     (printed ≡ []) × (RefusesTimetable files file refusal
     ⊎ ((desk : DeskSeen) × ReadsTimetable files file desk
     × RefusesFlights (airline_of desk.base.records) (flight ∷ []) refusal))
+Refuses (Page file) files printed refusal =
+    (printed ≡ []) × (RefusesTimetable files file refusal ⊎ (refusal ≡ refused.Memory))
+Refuses (Diff from to) files printed refusal =
+    (printed ≡ []) × (RefusesTimetable files from refusal
+    ⊎ (((old : DeskSeen) × ReadsTimetable files from old) × RefusesTimetable files to refusal)
+    ⊎ ((old : DeskSeen) × (new : DeskSeen) × ReadsTimetable files from old × ReadsTimetable files to new
+    × RefusesComparison old new refusal))
 Refuses (Findings file) files printed refusal =
     (printed ≡ []) × (RefusesDeskFile files file refusal ⊎ (refusal ≡ refused.Memory))
 Refuses (Export file) files printed refusal =

@@ -1,43 +1,21 @@
 -- What a desk has, as it is printed: a flight on a date, and what its sub-messages found.
-use Rattle.std.specs.Prelude.{ℕ, ◌==◌, Bool, true, false, not, ◌&&◌, if◌then◌else◌, List, [], ◌∷◌, ◌++◌, map, codes}
+use Rattle.std.specs.Prelude.{ℕ, Bool, true, false, if◌then◌else◌, List, [], ◌∷◌, ◌++◌, codes}
 use Rattle.std.specs.Fmt.{decimal}
-use Rattle.std.specs.List.{flat_map, list_any}
-use Rattle.std.specs.Str.{bytes_eq}
-use Rattle.ssim_values.specs.Characters.{two_digits}
+use Rattle.std.specs.List.{flat_map}
 use Rattle.ssim_values.specs.Day.{day_text}
 use Rattle.ssim_values.specs.Designator.{designator_text}
 use Rattle.ssim_values.specs.declared.designator.Designator.{Designator}
-use Rattle.ssim_records.specs.Leg.{leg_columns}
 use Rattle.ssim_text.specs.Lines.{identifier_text}
 use Rattle.ssim_text.specs.Reference.{printed_reference}
-use Rattle.ssim_base.specs.Export.{line, same_leg}
+use Rattle.ssim_base.specs.Export.{line}
 use Rattle.ssim_base.specs.Timetable.{LegValue, Legs}
 use Rattle.ssim_schedule.specs.declared.finding.Reason.{Reason}
 use Rattle.ssim_schedule.specs.declared.finding.Reason.TheVariants.{Acted, Absent, Present, Leg, Station}
 use Rattle.ssim_desk.specs.declared.date_step.DateStep.{DateStep}
 use Rattle.ssim_desk.specs.declared.finding_line.FindingLine.{FindingLine}
+pub use Rattle.ssim_listing.specs.LegText.{leg_text}
+pub use Rattle.ssim_listing.specs.Marks.{is_like_one, mark_text, marked_line}
 use Rattle.ssim_program.specs.print.Printed.{finding_text}
-
--- columns with a full stop in place of each blank
-abbrev pub dotted : List ℕ → List ℕ
-dotted bytes = map (λ b. if b == 32 then 46 else b) bytes
-
--- a blank, and columns first to last of a leg, counted as in its record
-abbrev pub shown : ℕ → ℕ → List ℕ → List ℕ
-shown first last columns = 32 ∷ dotted (leg_columns first last columns)
-
--- The departure station, passenger time, aircraft time and UTC variation; the arrival station,
--- aircraft time, passenger time and UTC variation; the date variations; the service type; the
--- aircraft type.
-abbrev pub columns_text : List ℕ → List ℕ
-columns_text d =
-    shown 37 39 d ++ shown 40 43 d ++ shown 44 47 d ++ shown 48 52 d ++ shown 55 57 d ++ shown 58 61 d
-    ++ shown 62 65 d ++ shown 66 70 d
-    ++ shown 193 194 d ++ shown 14 14 d ++ shown 73 75 d
-
--- the leg sequence and the columns
-abbrev pub leg_text : LegValue → List ℕ
-leg_text leg = two_digits leg.sequence ++ columns_text leg.columns
 
 -- the line of a leg
 abbrev pub leg_line : LegValue → List ℕ
@@ -52,26 +30,7 @@ leg_lines (leg ∷ legs) = flat_map leg_line (leg ∷ legs)
 abbrev pub shown_flight : Designator → ℕ → Legs → List ℕ
 shown_flight designator day legs = line (designator_text designator ++ 32 ∷ day_text day) ++ leg_lines legs
 
--- ---- legs that differ in what is not shown
-
--- whether two legs differ, but have the same line
-abbrev pub is_like : LegValue → LegValue → Bool
-is_like other leg = not (same_leg other leg) && bytes_eq (leg_text other) (leg_text leg)
-
--- whether one of the legs differs from this one, but has the same line
-abbrev pub is_like_one : Legs → LegValue → Bool
-is_like_one legs leg = list_any (λ other. is_like other leg) legs
-
--- the mark after the line of a leg, or nothing
-abbrev pub mark_text : Bool → List ℕ
-mark_text is_marked = if is_marked then codes " *" else []
-
 -- ---- the history of a flight on a date
-
--- The line of a leg, two blanks before it, and a mark after it if one of the legs before differs
--- from it, but has the same line.
-abbrev pub marked_line : Legs → LegValue → List ℕ
-marked_line before leg = line (32 ∷ 32 ∷ leg_text leg ++ mark_text (is_like_one before leg))
 
 -- a line for each leg, or the line `no flight`, two blanks before it
 abbrev pub indented_lines : Legs → Legs → List ℕ

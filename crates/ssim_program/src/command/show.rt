@@ -1,29 +1,21 @@
 //! The command `show`: a flight of a desk on a date.
 
-ghost use Rattle.std.specs.Prelude.{◌≡◌, ◌++◌, ◌<◌, ◌∷◌, None, Some, IfErr, IfOk, IsTrue, OnOk};
+ghost use Rattle.std.specs.Prelude.{◌≡◌, ◌++◌, ◌∷◌, None, Some, IfErr, IfOk, OnOk};
 ghost use Rattle.ssim_base.specs.Export.{line};
-ghost use Rattle.ssim_records.specs.Leg.{is_own};
 ghost use Rattle.ssim_text.specs.Lines.{day_in};
-ghost use Rattle.ssim_values.specs.Characters.{two_digits};
 ghost use Rattle.ssim_values.specs.Day.{day_text};
 ghost use Rattle.ssim_values.specs.Designator.{designator_text};
 ghost use Rattle.ssim_program.specs.Desks.{NamesDate, RefusesFlight, Shows};
 ghost use Rattle.ssim_command_line.specs.Line.{Show};
 ghost use Rattle.ssim_program.specs.internal.Program.{Prepares, stored};
-ghost use Rattle.ssim_program.specs.print.Shown.{columns_text, dotted, leg_line, leg_text, shown};
-ghost use Rattle.ssim_program.specs.print.Shown.{shown_flight};
+ghost use Rattle.ssim_program.specs.print.Shown.{leg_line, shown_flight};
 
 use crate::desk_file::open_holdings;
 use crate::refusal::Refusal;
 use crate::store::Store;
 use ssim_base::ResolveFault;
 use ssim_desk::{DeskFault, Holdings};
-use ssim_records::leg_fields::{
-    AIRCRAFT_ARRIVAL, AIRCRAFT_DEPARTURE, AIRCRAFT_TYPE, ARRIVAL_STATION, ARRIVAL_VARIATION,
-    DATE_VARIATIONS, DEPARTURE_STATION, DEPARTURE_VARIATION, PASSENGER_ARRIVAL,
-    PASSENGER_DEPARTURE, SERVICE_TYPE,
-};
-use ssim_records::{Field, LegColumns};
+pub(crate) use ssim_listing::push_leg_text;
 use ssim_schedule::PlacedLeg;
 use ssim_values::{Day, Designator, Fault, Memory};
 use std::alloc::Global;
@@ -73,7 +65,7 @@ pub(crate) fn flight_date(
 }
 
 /// The day that the word spells.
-fn day_in(date: &str) -> Result<Day, Fault>
+pub(crate) fn day_in(date: &str) -> Result<Day, Fault>
     ensures ok { IfOk result (λ day. day_in date.now ≡ Some day) }
     ensures err { IfErr result (λ fault. (fault ≡ Fault.BadDate) × (day_in date.now ≡ None)) }
 {
@@ -125,60 +117,5 @@ fn push_leg(lines: &mut Vec<u8>, leg: &PlacedLeg) -> Result<(), Memory>
 {
     push_leg_text(lines, leg)?;
     lines.push(b'\n')?;
-    Ok(())
-}
-
-/// Adds the leg sequence and the columns of a leg that are shown.
-pub(crate) fn push_leg_text(lines: &mut Vec<u8>, leg: &PlacedLeg) -> Result<(), Memory>
-    ensures { OnOk result (lines.new.items ≡ lines.old.items ++ leg_text leg.now) }
-{
-    push_sequence(lines, leg.sequence())?;
-    push_columns(lines, &leg.columns())?;
-    Ok(())
-}
-
-fn push_sequence(lines: &mut Vec<u8>, sequence: u8) -> Result<(), Memory>
-    requires { sequence < 100 }
-    ensures { OnOk result (lines.new.items ≡ lines.old.items ++ two_digits sequence) }
-{
-    lines.push(b'0' + sequence / 10)?;
-    lines.push(b'0' + sequence % 10)?;
-    Ok(())
-}
-
-/// Adds the columns of a leg that are shown.
-fn push_columns(lines: &mut Vec<u8>, leg: &LegColumns) -> Result<(), Memory>
-    ensures { OnOk result (lines.new.items ≡ lines.old.items ++ columns_text leg.now) }
-{
-    push_field(lines, leg, DEPARTURE_STATION)?;
-    push_field(lines, leg, PASSENGER_DEPARTURE)?;
-    push_field(lines, leg, AIRCRAFT_DEPARTURE)?;
-    push_field(lines, leg, DEPARTURE_VARIATION)?;
-    push_field(lines, leg, ARRIVAL_STATION)?;
-    push_field(lines, leg, AIRCRAFT_ARRIVAL)?;
-    push_field(lines, leg, PASSENGER_ARRIVAL)?;
-    push_field(lines, leg, ARRIVAL_VARIATION)?;
-    push_field(lines, leg, DATE_VARIATIONS)?;
-    push_field(lines, leg, SERVICE_TYPE)?;
-    push_field(lines, leg, AIRCRAFT_TYPE)
-}
-
-/// Adds a blank and a field of a leg, with a full stop for each blank.
-fn push_field(lines: &mut Vec<u8>, leg: &LegColumns, field: Field) -> Result<(), Memory>
-    requires { IsTrue (is_own field) }
-    ensures { OnOk result
-        (lines.new.items ≡ lines.old.items ++ shown field.first field.last leg.now) }
-{
-    push_shown(lines, leg.text(field))
-}
-
-/// Adds a blank and the columns, with a full stop for each blank.
-fn push_shown(lines: &mut Vec<u8>, columns: &[u8]) -> Result<(), Memory>
-    ensures { OnOk result (lines.new.items ≡ lines.old.items ++ 32 ∷ dotted columns.now) }
-{
-    lines.push(b' ')?;
-    for byte in columns {
-        lines.push(if *byte == b' ' { b'.' } else { *byte })?;
-    }
     Ok(())
 }

@@ -38,6 +38,7 @@ fn of_record(number: u8) -> Option<Refusal>
 {
     let fault = match number {
         1 => return Some(Refusal::Value(Fault::BadDate)),
+        3 => return Some(Refusal::Value(Fault::BadStation)),
         6 => return Some(Refusal::Value(Fault::BadDesignator)),
         10 => RecordFault::Short { record: 75 },
         11 => RecordFault::BadType { record: 3 },

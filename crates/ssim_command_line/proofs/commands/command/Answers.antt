@@ -3,7 +3,7 @@ use Rattle.std.proofs.Common.{rules, ◌≡◌, IfOk, ap, subst, ◌∙◌}
 use Rattle.clap.specs.Words.{App, app_of}
 use Rattle.ssim_command_line.specs.Commands.{add_all, bare_program, explanations, of_desks}
 use Rattle.ssim_command_line.specs.Commands.{on_data_sets, on_dates, on_desks, on_messages}
-use Rattle.ssim_command_line.specs.Commands.{on_timetables, rehearsals}
+use Rattle.ssim_command_line.specs.Commands.{of_timetables, on_timetables, rehearsals}
 use Rattle.ssim_command_line.proofs.commands.command.Goals as goal
 
 pub returns : goal.returns
@@ -14,7 +14,8 @@ returns c =
     let third = c.in_ok-program-3.ensures ∙ ap (λ (a : App). add_all a on_messages) second in
     let fourth = c.in_ok-program-4.ensures ∙ ap (λ (a : App). add_all a on_dates) third in
     let fifth = c.in_ok-program-5.ensures ∙ ap (λ (a : App). add_all a on_timetables) fourth in
-    let sixth = c.in_ok-program-6.ensures ∙ ap (λ (a : App). add_all a of_desks) fifth in
-    let seventh = c.in_ok-program-7.ensures ∙ ap (λ (a : App). add_all a rehearsals) sixth in
+    let sixth = c.in_ok-program-6.ensures ∙ ap (λ (a : App). add_all a of_timetables) fifth in
+    let seventh = c.in_ok-program-7.ensures ∙ ap (λ (a : App). add_all a of_desks) sixth in
+    let eighth = c.in_ok-program-8.ensures ∙ ap (λ (a : App). add_all a rehearsals) seventh in
     let whole = λ (a : App). IfOk c.with_explanations.result (λ p. app_of p ≡ add_all a explanations) in
-    subst whole seventh c.with_explanations.ensures
+    subst whole eighth c.with_explanations.ensures

@@ -1,6 +1,7 @@
 -- The request is the command's.
 use Rattle.std.proofs.Common.{Bor, List, ℕ, map, sym, subst}
-use Rattle.ssim_command_line.specs.Line.{Check, Start, Merge, Withdraw, Texts, Show, History, Calendar, Findings, Rehearse, Explain}
+use Rattle.ssim_command_line.specs.Line.{Check, Start, Merge, Withdraw, Texts, Show, History, Calendar}
+use Rattle.ssim_command_line.specs.Line.{Page, Findings, Rehearse, Explain, Board, Diff, Listing}
 use Rattle.ssim_command_line.specs.Request.{line_of}
 use Rattle.ssim_program.specs.World.{world}
 use Rattle.ssim_program.specs.internal.Program.{Does, Prepares, stored}
@@ -60,12 +61,42 @@ returns-in-History g c =
     (stored (g.S.Store.files c.args.store.now) (g.S.Store.failures c.args.store.now))
     (stored (g.S.Store.files c.history.new.store) (g.S.Store.failures c.history.new.store)) tt c.history.ensures)
 
+pub returns-in-Board : goal.returns-in-Board
+returns-in-Board g c =
+    subst (λ (r : Request). Does (line_of r) (world (g.S.Store.files c.args.store.now) (g.S.Store.failures c.args.store.now) c.args.out.now) (world (g.S.Store.files c.board.new.store) (g.S.Store.failures c.board.new.store) c.print-in-Board.new.out) c.print-in-Board.result)
+    (sym c.in-Board.is) (c.print-in-Board.ensures (Board c.in-Board.file.now c.in-Board.station.now c.in-Board.date.now)
+    (stored (g.S.Store.files c.args.store.now) (g.S.Store.failures c.args.store.now))
+    (stored (g.S.Store.files c.board.new.store) (g.S.Store.failures c.board.new.store)) tt c.board.ensures)
+
+pub returns-in-List : goal.returns-in-List
+returns-in-List g c =
+    let before = stored (g.S.Store.files c.args.store.now) (g.S.Store.failures c.args.store.now) in
+    let after = stored (g.S.Store.files c.list.new.store) (g.S.Store.failures c.list.new.store) in
+    let form = c.in-List.form in let file = c.in-List.file.now in
+    subst (λ (r : Request). Does (line_of r) (world (g.S.Store.files c.args.store.now) (g.S.Store.failures c.args.store.now) c.args.out.now) (world (g.S.Store.files c.list.new.store) (g.S.Store.failures c.list.new.store) c.print-in-List.new.out) c.print-in-List.result)
+    (sym c.in-List.is) (c.print-in-List.ensures (Listing form file (map (λ t. t.now) c.in-List.flights.items)) before after tt
+    (subst (λ (words : List (Bor (List ℕ))). Prepares (Listing form file (map (λ t. t.now) words)) before after c.list.result) c.deref-in-List.ensures.value c.list.ensures))
+
 pub returns-in-Calendar : goal.returns-in-Calendar
 returns-in-Calendar g c =
     subst (λ (r : Request). Does (line_of r) (world (g.S.Store.files c.args.store.now) (g.S.Store.failures c.args.store.now) c.args.out.now) (world (g.S.Store.files c.calendar.new.store) (g.S.Store.failures c.calendar.new.store) c.print-in-Calendar.new.out) c.print-in-Calendar.result)
     (sym c.in-Calendar.is) (c.print-in-Calendar.ensures (Calendar c.in-Calendar.file.now c.in-Calendar.flight.now)
     (stored (g.S.Store.files c.args.store.now) (g.S.Store.failures c.args.store.now))
     (stored (g.S.Store.files c.calendar.new.store) (g.S.Store.failures c.calendar.new.store)) tt c.calendar.ensures)
+
+pub returns-in-Page : goal.returns-in-Page
+returns-in-Page g c =
+    subst (λ (r : Request). Does (line_of r) (world (g.S.Store.files c.args.store.now) (g.S.Store.failures c.args.store.now) c.args.out.now) (world (g.S.Store.files c.page.new.store) (g.S.Store.failures c.page.new.store) c.print-in-Page.new.out) c.print-in-Page.result)
+    (sym c.in-Page.is) (c.print-in-Page.ensures (Page c.in-Page.file.now)
+    (stored (g.S.Store.files c.args.store.now) (g.S.Store.failures c.args.store.now))
+    (stored (g.S.Store.files c.page.new.store) (g.S.Store.failures c.page.new.store)) tt c.page.ensures)
+
+pub returns-in-Diff : goal.returns-in-Diff
+returns-in-Diff g c =
+    subst (λ (r : Request). Does (line_of r) (world (g.S.Store.files c.args.store.now) (g.S.Store.failures c.args.store.now) c.args.out.now) (world (g.S.Store.files c.diff.new.store) (g.S.Store.failures c.diff.new.store) c.print-in-Diff.new.out) c.print-in-Diff.result)
+    (sym c.in-Diff.is) (c.print-in-Diff.ensures (Diff c.in-Diff.from.now c.in-Diff.to.now)
+    (stored (g.S.Store.files c.args.store.now) (g.S.Store.failures c.args.store.now))
+    (stored (g.S.Store.files c.diff.new.store) (g.S.Store.failures c.diff.new.store)) tt c.diff.ensures)
 
 pub returns-in-Findings : goal.returns-in-Findings
 returns-in-Findings g c =

@@ -2,7 +2,7 @@
 use Rattle.std.proofs.Common.{◌≡◌, ◌+◌, ◌++◌, ◌∷◌, [], take, arith}
 use Rattle.std.proofs.lemmas.Grind.{common_steps}
 use Rattle.ssim_program.specs.print.Shown.{leg_line}
-use Rattle.ssim_program.proofs.Joining.{one_more}
+use Rattle.ssim_listing.proofs.Joining.{one_more}
 use Rattle.ssim_program.proofs.command.show.lines_of.Goals as goal
 
 pub loop-leg-preserved : goal.loop-leg-preserved

@@ -1,9 +1,0 @@
--- The columns of the field, as the leg has them.
-use Rattle.std.proofs.Common.{◌≡◌, ℕ, List, ◌++◌, ◌∷◌, OnOk, subst}
-use Rattle.ssim_program.specs.print.Shown.{dotted}
-use Rattle.ssim_program.proofs.command.show.push_field.Goals as goal
-
-pub returns : goal.returns
-returns c =
-    subst (λ (bs : List ℕ). OnOk c.push_shown.result (c.push_shown.new.lines.items ≡ c.args.lines.now.items ++ 32 ∷ dotted bs))
-    c.text.ensures.value c.push_shown.ensures
