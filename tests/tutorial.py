@@ -1,7 +1,7 @@
 #!/usr/bin/env python3
 """Types every command line of docs/TUTORIAL.md and compares what is printed: tutorial.py PROGRAM [PAGE..]
 
-In the code blocks of a PAGE (docs/TUTORIAL.md if none is named), a line after `$` is typed and the lines up to the next
+In the code blocks of a PAGE (docs/TUTORIAL.md and tests/samples.md if none is named), a line after `$` is typed and the lines up to the next
 one are what it has to print, on standard output and standard error together, with the empty lines between two of them. The
 lines of a page run one after another in a new copy of samples/, where `ssimdesk` is PROGRAM; `$?` is the exit status of the
 line before. The last line is 'N passed, M failed'.
@@ -14,6 +14,7 @@ import tempfile
 
 TOP = os.path.dirname(os.path.dirname(os.path.abspath(__file__)))
 INDENT = "    "
+PAGES = [("docs", "TUTORIAL.md"), ("tests", "samples.md")]
 
 
 def typed_lines(page):
@@ -67,7 +68,7 @@ def main():
     if len(sys.argv) < 2:
         sys.exit(__doc__)
     program = os.path.abspath(sys.argv[1])
-    pages = [os.path.abspath(page) for page in sys.argv[2:]] or [os.path.join(TOP, "docs", "TUTORIAL.md")]
+    pages = [os.path.abspath(page) for page in sys.argv[2:]] or [os.path.join(TOP, *page) for page in PAGES]
     counts = [run_page(page, program) for page in pages]
     passed, failed = (sum(count[place] for count in counts) for place in (0, 1))
     print(f"{passed} passed, {failed} failed")
