@@ -1,0 +1,327 @@
+"""The timetable of a data set as a plain list of flight dates, and what `list`, `board`, `calendar`, `page` and `diff` print of it.
+
+It reads only what `tidy` and `export` write, where equal legs have equal columns. Nothing here knows of periods but
+`divided`, which divides the dates anew.
+"""
+import collections
+import datetime
+
+from chapter7 import FILL, date
+from messages import day_of
+
+WEEKDAYS = "1234567"
+HEADER = ("flight,first,last,days,leg,from,passenger_departure,departure,departure_utc_variation,to,arrival,passenger_arrival,"
+          "arrival_utc_variation,departure_date_variation,arrival_date_variation,service,aircraft,bookings,configuration,"
+          "departure_terminal,arrival_terminal")
+
+
+class Leg:
+    """A leg on a date: its columns from 1 on, and the segment records with it."""
+
+    def __init__(self, record):
+        self.record, self.segments = record, []
+
+    def at(self, first, last):
+        return self.record[first - 1 : last]
+
+    @property
+    def sequence(self):
+        return self.at(12, 13)
+
+    @property
+    def key(self):
+        """What makes two legs equal: all but variation, period and serial."""
+        return self.at(1, 9) + self.at(12, 14) + self.at(36, 194), tuple(self.segments)
+
+    @property
+    def line(self):
+        """The line of `show`."""
+        fields = [(12, 13), (37, 39), (40, 43), (44, 47), (48, 52), (55, 57), (58, 61), (62, 65), (66, 70), (193, 194), (14, 14), (73, 75)]
+        return " ".join(self.at(*field).replace(" ", ".") for field in fields)
+
+
+class Timetable:
+    """The airline, the time mode, the season, and for each flight, by number and suffix, its legs on each date."""
+
+    def __init__(self, data):
+        records = [line.decode("latin-1") for line in data.split(b"\n") if line and line != FILL]
+        carrier = next(line for line in records if line[0] == "2")
+        self.mode, self.airline, self.season = carrier[1], carrier[2:5].strip(), carrier[10:13]
+        found = collections.defaultdict(lambda: collections.defaultdict(list))
+        for record in records:
+            flight = (int(record[5:9]), record[1]) if record[0] in "34" else None
+            if record[0] == "3":
+                leg = Leg(record)
+                for day in dates_of(record):
+                    found[flight][day].append(leg)
+            elif record[0] == "4":
+                leg.segments.append(record[:9] + record[11:194])
+        self.flights = {flight: found[flight] for flight in sorted(found)}
+
+    def designator(self, flight):
+        number, suffix = flight
+        return f"{self.airline}{number:03}{suffix.strip()}"
+
+
+def dates_of(record):
+    """The dates of a leg record."""
+    first, last = day_of(record[14:21]), day_of(record[21:28])
+    days = (first + datetime.timedelta(days=place) for place in range((last - first).days + 1))
+    return [day for day in days if WEEKDAYS[day.weekday()] in record[28:35]]
+
+
+def key_of(legs):
+    return tuple(leg.key for leg in legs)
+
+
+# ---- periods
+
+def cover(days):
+    """The periods of a set of dates, as (first, last, weekdays): each from the first date that is left, as far as the
+    weekdays of its first seven days say which dates there are."""
+    left, found = sorted(days), []
+    while left:
+        first, all_left = left[0], set(left)
+        weekdays = {day.weekday() for day in left if (day - first).days < 7}
+        end = first
+        while (end in all_left) == (end.weekday() in weekdays) and end <= left[-1]:
+            end += datetime.timedelta(days=1)
+        here = [day for day in left if day < end]
+        found.append((first, here[-1], weekdays))
+        left = left[len(here):]
+    return found
+
+
+def divided(values):
+    """The dates divided by their values: (first, last, weekdays) and a date of each, by first date. `values` has a value for
+    each date that has one."""
+    dates = collections.defaultdict(list)
+    for day in sorted(values):
+        dates[values[day]].append(day)
+    periods = [(period, days[0]) for days in dates.values() for period in cover(days)]
+    return sorted(periods, key=lambda found: found[0][0])
+
+
+def period_line(designator, period):
+    first, last, weekdays = period
+    days = "".join(digit if place in weekdays else "." for place, digit in enumerate(WEEKDAYS))
+    return f"{designator} {date(first)} {date(last)} {days}"
+
+
+# ---- list
+
+def is_marked(leg, others):
+    return any(other.key != leg.key and other.line == leg.line for other in others)
+
+
+def listed(table, flights=None):
+    """The lines of `list`, of all flights or of those given."""
+    lines = []
+    for flight in sorted(set(flights)) if flights is not None else table.flights:
+        days = table.flights.get(flight, {})
+        if not days:
+            lines.append(f"{table.designator(flight)} no flight")
+        all_legs = {leg.key: leg for legs in days.values() for leg in legs}.values()
+        for period, day in divided({day: key_of(legs) for day, legs in days.items()}):
+            lines.append(period_line(table.designator(flight), period))
+            lines += [f"  {leg.line}" + " *" * is_marked(leg, all_legs) for leg in days[day]]
+    return lines
+
+
+def listed_dates(table, flights=None):
+    """The lines of `list --dates`."""
+    lines = []
+    for flight in sorted(set(flights)) if flights is not None else table.flights:
+        days = table.flights.get(flight, {})
+        if not days:
+            lines.append(f"{table.designator(flight)} no flight")
+        lines += [f"{table.designator(flight)} {date(day)} {leg.line}" for day in sorted(days) for leg in days[day]]
+    return lines
+
+
+def rows(table, flights=None, dates=False):
+    """The lines of `list --csv`, with or without `--dates`."""
+    lines = [HEADER]
+    for flight in sorted(set(flights)) if flights is not None else table.flights:
+        days = table.flights.get(flight, {})
+        periods = [((day, day, {day.weekday()}), day) for day in sorted(days)]
+        if not dates:
+            periods = divided({day: key_of(legs) for day, legs in days.items()})
+        lines += [row(table.designator(flight), period, leg) for period, day in periods for leg in days[day]]
+    return lines
+
+
+def row(designator, period, leg):
+    first, last, weekdays = period
+    days = "".join(digit for place, digit in enumerate(WEEKDAYS) if place in weekdays)
+    fields = [designator, first.isoformat(), last.isoformat(), days, leg.sequence, leg.at(37, 39), clock(leg.at(40, 43)), clock(leg.at(44, 47)),
+              leg.at(48, 52), leg.at(55, 57), clock(leg.at(58, 61)), clock(leg.at(62, 65)), leg.at(66, 70), leg.at(193, 193), leg.at(194, 194),
+              leg.at(14, 14), leg.at(73, 75), leg.at(76, 95), leg.at(173, 192), leg.at(53, 54), leg.at(71, 72)]
+    return ",".join(quoted(field.strip(" ")) for field in fields)
+
+
+def clock(time):
+    return f"{time[:2]}:{time[2:]}" if time.strip() else ""
+
+
+def quoted(field):
+    return '"' + field.replace('"', '""') + '"' if any(byte in field for byte in ',"\r\n') else field
+
+
+# ---- board
+
+def movement(table, leg, day, arrives):
+    """The station, local date and local time at which a leg departs or arrives, and whether this is in doubt."""
+    station, time, variation, shift = (55, 58, 66, 194) if arrives else (37, 44, 48, 193)
+    later, zone = leg.at(shift, shift), leg.at(variation, variation + 4)
+    doubt = not (later.isdigit() or later == " ") or not zone.strip() and table.mode == "U"
+    local = leg.at(time, time + 3)
+    days = int(later) if later.isdigit() else 0
+    moved = (int(zone[1:3]) * 60 + int(zone[3:])) * (-1 if zone[0] == "-" else 1) if zone.strip() and table.mode == "U" else 0
+    if moved:
+        more, minute = divmod(int(local[:2]) * 60 + int(local[2:]) + moved, 1440)
+        days, local = days + more, f"{minute // 60:02}{minute % 60:02}"
+    return leg.at(station, station + 2), day + datetime.timedelta(days=days), local, doubt
+
+
+def board(table, station, day):
+    """The lines of `board`."""
+    found = []
+    for flight, days in table.flights.items():
+        for origin, legs in days.items():
+            if not -1 <= (day - origin).days <= 10:
+                continue
+            for leg in legs:
+                ends = [movement(table, leg, origin, arrives) for arrives in (False, True)]
+                found += [board_entry(table, flight, origin, leg, ends, arrives, day)
+                          for arrives in (False, True) if ends[arrives][:2] == (station, day)]
+    return [line for _, line in sorted(found)] or ["no flight"]
+
+
+def board_entry(table, flight, origin, leg, ends, arrives, day):
+    here, there = ends[arrives], ends[not arrives]
+    apart = (there[1] - day).days
+    line = (f"{here[2]} {'arr' if arrives else 'dep'} {table.designator(flight):8} {date(origin)} {leg.sequence} "
+            f"{leg.at(73, 75).replace(' ', '.')} {there[0]} {there[2]}")
+    line += (f" {apart:+}" if apart else "") + " ?" * (here[3] or there[3])
+    return (here[2], arrives, flight, origin, leg.sequence), line
+
+
+# ---- calendar
+
+LETTERS = "ABCDEFGHIJKLMNOPQRSTUVWXYZabcdefghijklmnopqrstuvwxyz"
+EARLIEST = datetime.date(2000, 1, 1)
+WEEKS = 53
+DAY = datetime.timedelta(days=1)
+
+
+def calendar(table, flight):
+    """The lines of `calendar`."""
+    days = table.flights.get(flight, {})
+    if not days:
+        return [f"{table.designator(flight)} no flight"]
+    itineraries = list(dict.fromkeys(key_of(days[day]) for day in sorted(days)))
+    letters = {key: LETTERS[place] if place < len(LETTERS) else "#" for place, key in enumerate(itineraries)}
+    cells = {day: letters[key_of(legs)] for day, legs in days.items()}
+    first, last = min(days), max(days)
+    monday, lines = first - first.weekday() * DAY, []
+    while monday <= last:
+        weeks = min(WEEKS, (last - monday).days // 7 + 1)
+        lines += block_lines(table.designator(flight), cells, monday, weeks, first, last)
+        monday += 7 * weeks * DAY
+    return lines + legend_lines(days, cells)
+
+
+def block_lines(designator, cells, monday, weeks, first, last):
+    """The picture of some weeks from a Monday on."""
+    mondays = [monday + 7 * week * DAY for week in range(weeks)]
+    shown = [max(day, EARLIEST) for day in mondays]
+    named = [week for week in range(weeks) if week == 0 or shown[week].month != shown[week - 1].month]
+    months = [" "] * (weeks + 3)
+    for week, later in zip(named, named[1:] + [weeks + 4]):
+        if later - week >= 4:
+            months[week : week + 3] = date(shown[week])[2:5]
+    lines = [f"{designator} {date(max(first, monday))} {date(min(last, mondays[-1] + 6 * DAY))}", "  " + "".join(months)]
+    lines += ["  " + "".join(f"{day.day:02}"[place] for day in shown) for place in (0, 1)]
+    for weekday, digit in enumerate(WEEKDAYS):
+        dates = [day + weekday * DAY for day in mondays]
+        lines.append(f"{digit} " + "".join(cells.get(day, "." if first <= day <= last else " ") for day in dates))
+    return [line.rstrip() for line in lines] + [""]
+
+
+def legend_lines(days, cells):
+    """Each letter with the number of its dates and its legs."""
+    counts = collections.Counter(cells.values())
+    width = len(str(max(count for letter, count in counts.items() if letter != "#")))
+    legs_of = {cells[day]: days[day] for day in reversed(sorted(days))}
+    all_legs = {leg.key: leg for legs in days.values() for leg in legs}.values()
+    lines = []
+    for letter in filter(counts.get, LETTERS):
+        head = f"{letter} {counts[letter]:{width}}"
+        for leg in legs_of[letter]:
+            lines.append(f"{head} {leg.line}" + " *" * is_marked(leg, all_legs))
+            head = " " * len(head)
+    return lines + [f"# {counts['#']} more"] * bool(counts["#"])
+
+
+# ---- page
+
+def page_lines(table):
+    """The lines of `page` that are not how it looks: its title, the flights and their rows."""
+    mode = "UTC" if table.mode == "U" else "local times"
+    lines = [f"<h1>{table.airline} {escaped(table.season)}, {mode}</h1>"]
+    for flight, days in table.flights.items():
+        lines.append(f"<section><h2>{table.designator(flight)}</h2><table>")
+        periods = divided({day: key_of(legs) for day, legs in days.items()})
+        letters = {key: LETTERS[place] if place < len(LETTERS) else "#"
+                   for place, key in enumerate(dict.fromkeys(key_of(days[day]) for _, day in periods))}
+        lines += [table_row(letters[key_of(days[day])], period, days[day]) for period, day in periods]
+        lines.append("</table></section>")
+    return lines
+
+
+def table_row(letter, period, legs):
+    first, last, weekdays = period
+    boxes = "".join(f"<b>{digit}</b>" if place in weekdays else "<i>.</i>" for place, digit in enumerate(WEEKDAYS))
+    routes = "".join(f"<div>{leg.at(37, 39)} {leg.at(44, 47)}{days_later(leg.at(193, 193))} "
+                     f"{leg.at(55, 57)} {leg.at(58, 61)}{days_later(leg.at(194, 194))}</div>" for leg in legs)
+    aircraft = "".join(f"<div>{escaped(leg.at(73, 75))}</div>" for leg in legs)
+    return "<tr>" + "".join(f"<td>{cell}</td>" for cell in (letter, date(first), date(last), boxes, routes, aircraft)) + "</tr>"
+
+
+def days_later(variation):
+    return "" if variation in "0 " else " +" + escaped(variation)
+
+
+def escaped(text):
+    return "".join({"&": "&amp;", "<": "&lt;", ">": "&gt;"}.get(byte, byte if byte < "\x7f" else f"&#{ord(byte)};") for byte in text)
+
+
+# ---- diff
+
+def differing(old, new):
+    """The lines of `diff`."""
+    lines, flights, dates = [], 0, 0
+    for flight in sorted(set(old.flights) | set(new.flights)):
+        before, after = old.flights.get(flight, {}), new.flights.get(flight, {})
+        values = {day: (key_of(before.get(day, [])), key_of(after.get(day, []))) for day in set(before) | set(after)}
+        values = {day: pair for day, pair in values.items() if pair[0] != pair[1]}
+        flights, dates = flights + bool(values), dates + len(values)
+        for period, day in divided(values):
+            lines.append(period_line(old.designator(flight), period))
+            lines += change_lines(before.get(day, []), after.get(day, []))
+    return lines + [f"different flights {flights} dates {dates}" if dates else "same"]
+
+
+def change_lines(old, new):
+    before, after = ({leg.sequence: leg for leg in legs} for legs in (old, new))
+    lines = [] if old else ["- no flight"]
+    for sequence in sorted(set(before) | set(after)):
+        first, second = before.get(sequence), after.get(sequence)
+        if first and second and first.key == second.key:
+            lines.append("  " + first.line)
+            continue
+        mark = " *" if first and second and first.line == second.line else ""
+        lines += [f"- {first.line}{mark}"] if first else []
+        lines += [f"+ {second.line}{mark}"] if second else []
+    return lines + ([] if new else ["+ no flight"])
