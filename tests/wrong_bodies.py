@@ -1,23 +1,20 @@
 #!/usr/bin/env python3
 """Tries wrong bodies, each of which the prover must refuse: wrong_bodies.py [--beside LOG] [CRATE..]
 
-A wrong body is a file crates/CRATE/wrong_bodies/NAME.edit with lines
+A wrong body is an edit of the code, which names functions (tests/edits.py): the prover checks these in a copy of the crate that
+is changed so. It is refused if each of these functions has a goal that is not proved. An edit that does not compile, or that a
+proof file no longer fits, is refused for another reason, and counts as a failure.
+First the named functions of each crate as it is are proved, all at once, and wrong bodies are tried over what that check keeps.
 
-    function: PATH    a function that must be refused, by its path below the crate; there may be several
-    file: src/..      a file of the code
-    old: TEXT         a text that the file has exactly once
-    new: TEXT         the text in its place
-
-A file may have several pairs of old and new, and several files. Each is tried alone: the prover checks the named functions
-of a copy of the crate with these texts. The wrong body is refused if each of these functions has a goal that is not proved.
-An edit that does not compile, or that a proof file no longer fits, is refused for another reason, and counts as a failure.
-First the named functions of each crate as it is are proved, all at once, and each wrong body is tried over what that check keeps.
+One check tries several wrong bodies of a crate, since each check reads all libraries first. Such a group changes only bodies of
+functions that are named, no two of them the same. A function is checked against the contracts of others, not their bodies, so each
+wrong body is judged by the goals of its own functions. One that is not found refused so is tried again alone, and that decides.
 
 It takes the libraries below a crate from crates/*/out/rlib, where `rt ci` builds them. With --beside it runs beside `rt ci`, and
 waits for each library until LOG, what `rt ci` prints, says that it is proved. The last line is 'N passed, M failed'.
 """
+import collections
 import concurrent.futures
-import dataclasses
 import os
 import re
 import shutil
@@ -26,96 +23,22 @@ import sys
 import tempfile
 import time
 
-TOP = os.path.dirname(os.path.dirname(os.path.abspath(__file__)))
+from edits import TOP, edits_of, groups_of
+
 PARTS = ("src", "specs", "proofs")
 
 # How many checks run side by side: half of the processors, since proofs run beside them.
 AT_ONCE = max(1, len(os.sched_getaffinity(0)) // 2)
 
-# What a check says of a function whose proof it refuses; of a goal of the code that is not proved, or an answer that does not
-# prove its goal; and of an answer that only names what the code no longer has. `ENDED` is the last line of `rt ci`.
-REFUSED = re.compile(r"^fn (\w+)::(\S+): (?:not proved|no proof)", re.MULTILINE)
+# What a check says of a function whose proof it refuses, and what is said on that line of a goal that no answer was found for; of a
+# goal of the code that is not proved, or an answer that does not prove its goal; of such an answer in the files of a function's
+# proof; and of an answer that only names what the code no longer has. `ENDED` is the last line of `rt ci`.
+REFUSED = re.compile(r"^fn \w+::(\S+): (?:not proved|no proof)(.*)", re.MULTILINE)
+NOT_FOUND = "`search` did not prove `"
 GOAL = re.compile(r"^(?:note: )?(?:src/\S+: (?:error: )?it is not proved that|(?:\./)?proofs/\S+: error: ).*", re.MULTILINE)
-ENDED = re.compile(r"^\d+ passed, \d+ failed", re.MULTILINE)
+WRONG_ANSWER = re.compile(r"^(?:note: )?(?:\./)?proofs/(?:(\S+)/)?\w+\.antt:\S+: error: .*", re.MULTILINE)
 UNFIT = re.compile(r"is not in scope|has no field|has no `|was not admitted|is no name")
-
-
-@dataclasses.dataclass
-class Edit:
-    """A wrong body."""
-    name: str
-    functions: list
-    pairs: list
-
-    def apply(self, folder):
-        """Changes the files of a crate's copy. Returns what is wrong with the edit, if anything is."""
-        for path, old, new in self.pairs:
-            path = os.path.join(folder, path)
-            with open(path, encoding="utf-8") as file:
-                text = file.read()
-            if text.count(old) != 1:
-                return f"the text '{old}' is in {path} {text.count(old)} times"
-            with open(path, "w", encoding="utf-8") as file:
-                file.write(text.replace(old, new))
-        return None if self.pairs and self.functions else "it names no function, or changes nothing"
-
-
-def read_edit(path):
-    """The wrong body in a file."""
-    edit, file, old = Edit(os.path.basename(path).removesuffix(".edit"), [], []), "", ""
-    with open(path, encoding="utf-8") as lines:
-        for line in lines.read().split("\n"):
-            word, _, text = line.partition(":")
-            text = text.removeprefix(" ")
-            if word == "function":
-                edit.functions.append(text)
-            elif word == "file":
-                file = text
-            elif word == "old":
-                old = text
-            elif word == "new":
-                edit.pairs.append((file, old, text))
-            elif line:
-                raise ValueError(f"{path}: the line '{line}' has none of the words")
-    return edit
-
-
-def edits_of(crate):
-    """The wrong bodies of a crate."""
-    folder = os.path.join(TOP, "crates", crate, "wrong_bodies")
-    names = sorted(os.listdir(folder)) if os.path.isdir(folder) else []
-    return [read_edit(os.path.join(folder, name)) for name in names]
-
-
-def texts_of(folder):
-    """The texts of the files below a folder."""
-    for parent, _, names in os.walk(folder):
-        for name in names:
-            with open(os.path.join(parent, name), encoding="utf-8") as file:
-                yield file.read()
-
-
-def is_there(crate, function):
-    """Whether the module that a function's path names is there, and the crate has a function of this name."""
-    *modules, name = [part for part in function.split("::") if part[:1].islower()]
-    folder = os.path.join(TOP, "crates", crate, "src")
-    word = re.compile(rf"\bfn {re.escape(name)}\b")
-    return os.path.isfile(os.path.join(folder, *modules) + ".rt") and any(word.search(text) for text in texts_of(folder))
-
-
-def unfit():
-    """For each wrong body of the repository: None, or why it cannot be tried. Nothing is proved."""
-    found = []
-    for crate in sorted(os.listdir(os.path.join(TOP, "crates"))):
-        for edit in edits_of(crate):
-            with tempfile.TemporaryDirectory() as folder:
-                for path in {path for path, _, _ in edit.pairs}:
-                    os.makedirs(os.path.join(folder, os.path.dirname(path)), exist_ok=True)
-                    shutil.copy(os.path.join(TOP, "crates", crate, path), os.path.join(folder, path))
-                why = edit.apply(folder)
-            why = why or next((f"there is no function {name}" for name in edit.functions if not is_there(crate, name)), None)
-            found.append(f"{crate}: {edit.name}: {why}" if why else None)
-    return found
+ENDED = re.compile(r"^\d+ passed, \d+ failed", re.MULTILINE)
 
 
 class Crates:
@@ -188,6 +111,18 @@ def linked(kept, to):
     shutil.copytree(kept, to, copy_function=link)
 
 
+def refused_among(functions, said):
+    """Which of these functions a check refuses for their meaning: each has a goal of its own that is not proved, and no answer that
+    does not fit the code. It is told of none if any other proof file has an error, since goals of these may rest on it."""
+    wrong = collections.defaultdict(list)
+    for found in WRONG_ANSWER.finditer(said):
+        wrong[(found[1] or "").replace("/", "::")].append(found[0])
+    if not wrong.keys() <= functions:
+        return set()
+    refused = {name for name, rest in REFUSED.findall(said) if wrong[name] or NOT_FOUND in rest}
+    return {name for name in refused if not any(map(UNFIT.search, wrong[name]))}
+
+
 class Tries:
     """The wrong bodies of a crate, and a folder that keeps what is proved of their functions as they are."""
 
@@ -197,30 +132,43 @@ class Tries:
         self.kept = os.path.join(self.room.name, "kept")
 
     def why_not_proved(self):
-        """Why the functions that the wrong bodies name are not proved as they are; or None."""
+        """A list of one: why the functions that the wrong bodies name are not proved as they are; or None."""
         functions = sorted({name for edit in self.edits for name in edit.functions})
         folder = os.path.join(self.room.name, "as_it_is")
         copied(self.crate, folder)
         said, status = self.crates.checked(self.crate, folder, functions, self.kept)
-        return None if status == 0 else f"{self.crate}: its functions are not proved as they are:\n{said[-3000:]}"
+        return [None if status == 0 else f"{self.crate}: its functions are not proved as they are:\n{said[-3000:]}"]
+
+    def tried(self, group):
+        """What a check of a copy with some wrong bodies prints, and its status; or what is wrong with one of them, and None."""
+        with tempfile.TemporaryDirectory(dir=self.room.name) as room:
+            folder, kept = os.path.join(room, "crate"), os.path.join(room, "kept")
+            copied(self.crate, folder)
+            linked(self.kept, kept)
+            for edit in group:
+                wrong = edit.apply(folder)
+                if wrong:
+                    return wrong, None
+            return self.crates.checked(self.crate, folder, [name for edit in group for name in edit.functions], kept)
 
     def why_not_refused(self, edit):
-        """Why a wrong body is not refused for its meaning; or None."""
-        room = os.path.join(self.room.name, edit.name)
-        folder, kept = os.path.join(room, "crate"), os.path.join(room, "kept")
-        copied(self.crate, folder)
-        linked(self.kept, kept)
-        wrong = edit.apply(folder)
-        if wrong:
-            return f"{self.crate}: {edit.name}: {wrong}"
-        said, status = self.crates.checked(self.crate, folder, edit.functions, kept)
-        shutil.rmtree(room)
-        refused = {name for _, name in REFUSED.findall(said)}
+        """Why a wrong body that is tried alone is not refused for its meaning; or None."""
+        said, status = self.tried([edit])
+        refused = {name for name, _ in REFUSED.findall(said)}
         goals = [it for it in GOAL.findall(said) if not UNFIT.search(it)]
         if status == 1 and goals and refused.issuperset(edit.functions):
             return None
-        what = "it is proved" if status == 0 else f"it is refused for another reason, with status {status}"
+        what = {None: "it does not fit", 0: "it is proved"}.get(status, f"it is refused for another reason, with status {status}")
         return f"{self.crate}: {edit.name}: {what}:\n{said[:6000]}"
+
+    def why_not_all_refused(self, group):
+        """For each wrong body of a group: None, or why it is not refused for its meaning."""
+        refused = set()
+        if len(group) > 1:
+            said, status = self.tried(group)
+            functions = {name for edit in group for name in edit.functions}
+            refused = refused_among(functions, said) if status == 1 else refused
+        return [None if refused.issuperset(edit.functions) else self.why_not_refused(edit) for edit in group]
 
 
 def verdicts(crates, found):
@@ -237,10 +185,10 @@ def verdicts(crates, found):
             ended = crates.has_ended()
             time.sleep(1)
             for it in [it for it in running if it.done()]:
-                tries, why = running.pop(it), it.result()
-                results.append(why)
-                if tries and not why:
-                    running.update({pool.submit(tries.why_not_refused, edit): None for edit in tries.edits})
+                tries, whys = running.pop(it), it.result()
+                results += whys
+                if tries and whys == [None]:
+                    running.update({pool.submit(tries.why_not_all_refused, group): None for group in groups_of(tries.crate)})
     return results
 
 
