@@ -17,7 +17,7 @@ import tempfile
 
 TOP = os.path.dirname(os.path.dirname(os.path.abspath(__file__)))
 
-# The first line of a function. As `rt fmt` lays it out, the line that begins its body and the one that ends it have its indentation.
+# The first line of a function. As `rt fmt` lays it out, the lines on which its body begins and ends have its indentation.
 FUNCTION = re.compile(r"^( *)(?:pub(?:\([^)]*\))? )?fn (\w+)", re.MULTILINE)
 
 
@@ -91,7 +91,8 @@ def edits_of(crate):
 
 
 def groups_of(crate):
-    """The wrong bodies of a crate in groups, each tried in one check: no two of a group touch one function."""
+    """The wrong bodies of a crate in groups, each tried in one check: no two of a group touch one function, and one that changes
+    more than bodies of functions that it names is alone."""
     groups = []
     for edit in edits_of(crate):
         touched = edit.touched(os.path.join(TOP, "crates", crate))

@@ -23,7 +23,7 @@ import sys
 import tempfile
 import time
 
-from edits import TOP, edits_of, groups_of
+from edits import TOP, groups_of
 
 PARTS = ("src", "specs", "proofs")
 
@@ -111,6 +111,11 @@ def linked(kept, to):
     shutil.copytree(kept, to, copy_function=link)
 
 
+def functions_of(group):
+    """The functions that some wrong bodies name."""
+    return [name for edit in group for name in edit.functions]
+
+
 def refused_among(functions, said):
     """Which of these functions a check refuses for their meaning: each has a goal of its own that is not proved, and no answer that
     does not fit the code. It is told of none if any other proof file has an error, since goals of these may rest on it."""
@@ -124,16 +129,16 @@ def refused_among(functions, said):
 
 
 class Tries:
-    """The wrong bodies of a crate, and a folder that keeps what is proved of their functions as they are."""
+    """The wrong bodies of a crate in groups, and a folder that keeps what is proved of their functions as they are."""
 
-    def __init__(self, crates, crate, edits):
-        self.crates, self.crate, self.edits = crates, crate, edits
+    def __init__(self, crates, crate, groups):
+        self.crates, self.crate, self.groups = crates, crate, groups
         self.room = tempfile.TemporaryDirectory()
         self.kept = os.path.join(self.room.name, "kept")
 
     def why_not_proved(self):
         """A list of one: why the functions that the wrong bodies name are not proved as they are; or None."""
-        functions = sorted({name for edit in self.edits for name in edit.functions})
+        functions = sorted({name for group in self.groups for name in functions_of(group)})
         folder = os.path.join(self.room.name, "as_it_is")
         copied(self.crate, folder)
         said, status = self.crates.checked(self.crate, folder, functions, self.kept)
@@ -149,7 +154,7 @@ class Tries:
                 wrong = edit.apply(folder)
                 if wrong:
                     return wrong, None
-            return self.crates.checked(self.crate, folder, [name for edit in group for name in edit.functions], kept)
+            return self.crates.checked(self.crate, folder, functions_of(group), kept)
 
     def why_not_refused(self, edit):
         """Why a wrong body that is tried alone is not refused for its meaning; or None."""
@@ -163,16 +168,15 @@ class Tries:
 
     def why_not_all_refused(self, group):
         """For each wrong body of a group: None, or why it is not refused for its meaning."""
-        refused = set()
-        if len(group) > 1:
-            said, status = self.tried(group)
-            functions = {name for edit in group for name in edit.functions}
-            refused = refused_among(functions, said) if status == 1 else refused
+        if len(group) == 1:
+            return [self.why_not_refused(group[0])]
+        said, status = self.tried(group)
+        refused = refused_among(set(functions_of(group)), said) if status == 1 else set()
         return [None if refused.issuperset(edit.functions) else self.why_not_refused(edit) for edit in group]
 
 
 def verdicts(crates, found):
-    """What each check comes to: None, or why it fails. A crate begins once the libraries below it are proved."""
+    """For the functions of each crate and each wrong body: None, or why it fails. A crate begins once those below it are proved."""
     results, running, ended = [], {}, False
     with concurrent.futures.ThreadPoolExecutor(AT_ONCE) as pool:
         while found or running:
@@ -188,7 +192,7 @@ def verdicts(crates, found):
                 tries, whys = running.pop(it), it.result()
                 results += whys
                 if tries and whys == [None]:
-                    running.update({pool.submit(tries.why_not_all_refused, group): None for group in groups_of(tries.crate)})
+                    running.update({pool.submit(tries.why_not_all_refused, group): None for group in tries.groups})
     return results
 
 
@@ -197,9 +201,9 @@ def main(names):
     names = names[2:] if log else names
     crates, found = Crates(log), []
     for crate in names or crates.uses:
-        edits = edits_of(crate)
-        if edits:
-            found.append(Tries(crates, crate, edits))
+        groups = groups_of(crate)
+        if groups:
+            found.append(Tries(crates, crate, groups))
     results = verdicts(crates, found)
     failed = [why for why in results if why]
     for why in failed:
