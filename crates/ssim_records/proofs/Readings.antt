@@ -10,7 +10,7 @@ use Rattle.ssim_records.specs.declared.record.Record.{Record}
 use Rattle.ssim_columns.specs.Columns.{first_fault}
 use Rattle.ssim_records.specs.internal.Blocks.{GivesOther}
 use Rattle.ssim_records.specs.Record.{Spells, HasSpelt, fault_of, fault_by, column_fault, table_of}
-use Rattle.ssim_records.specs.Reading.{Reading, IsAhead, Returns, Counts, GivesNext, given, IsRefused, HasNumber, FailsAs, NeverEnds, HoldsFew}
+use Rattle.ssim_records.specs.Reading.{Reading, IsAhead, Returns, Counts, GivesNext, GivesNextBlock, given, IsRefused, HasNumber, FailsAs, NeverEnds, HoldsFew}
 
 -- ---- the faults of a block
 
@@ -121,3 +121,30 @@ pub gives_never_ends : (old new : Reading) (l l' : Option (List ℕ)) (n : ℕ) 
 gives_never_ends old new None l' n g = tt
 gives_never_ends old new (Some x) None n g = g
 gives_never_ends old new (Some x) (Some y) n g = (g.0, λ blocks rest h. let t = g.1 blocks rest h in ((t.0, t.1), t.2))
+
+-- ---- blocks
+
+pub block_end : (old new : Reading) (l l' : Option (List ℕ)) → Gives old l new l' (Ok None) → GivesNextBlock old l new l' (Ok None)
+block_end old new None l' g = tt
+block_end old new (Some x) None g = g
+block_end old new (Some x) (Some y) g = (g.0, λ blocks rest h. let t = g.1 blocks rest h in ((t.0, t.1), t.2, t.3))
+
+pub block_found : (old new : Reading) (l l' : Option (List ℕ)) (block : List ℕ) → new.limit ≡ old.limit → Gives old l new l' (Ok (Some block)) → GivesNextBlock old l new l' (Ok (Some (new.number, block)))
+block_found old new None l' block same g = tt
+block_found old new (Some x) None block same g = g
+block_found old new (Some x) (Some y) block same g = (g.0, λ blocks rest h. let t = g.1 blocks rest h in (t.0, (t.1, t.2), refl, rw same t.3))
+
+pub block_short : (old new : Reading) (l l' : Option (List ℕ)) (n : ℕ) → Gives old l new l' (Err stop.Short) → GivesNextBlock old l new l' (Err (Short n))
+block_short old new None l' n g = tt
+block_short old new (Some x) None n g = g
+block_short old new (Some x) (Some y) n g = (g.0, λ blocks rest h. let t = g.1 blocks rest h in ((t.0, t.1), t.2, t.3, t.4))
+
+pub block_read_fault : (old new : Reading) (l l' : Option (List ℕ)) (n : ℕ) → Gives old l new l' (Err stop.ReadFault) → GivesNextBlock old l new l' (Err (ReadFault n))
+block_read_fault old new None l' n g = tt
+block_read_fault old new (Some x) None n g = g
+block_read_fault old new (Some x) (Some y) n g = (g.0, λ blocks rest h. let t = g.1 blocks rest h in (t.0, t.1, t.2))
+
+pub block_never_ends : (old new : Reading) (l l' : Option (List ℕ)) (n : ℕ) → Gives old l new l' (Err stop.ReaderNeverEnds) → GivesNextBlock old l new l' (Err (ReaderNeverEnds n))
+block_never_ends old new None l' n g = tt
+block_never_ends old new (Some x) None n g = g
+block_never_ends old new (Some x) (Some y) n g = (g.0, λ blocks rest h. let t = g.1 blocks rest h in ((t.0, t.1), t.2))

@@ -140,3 +140,62 @@ abbrev pub ending_of : Answer → Option Ending
 ending_of (Ok None) = Some End
 ending_of (Ok (Some found)) = None
 ending_of (Err fault) = Some (Refused fault)
+
+-- ---- the blocks, whether they spell records or not
+
+-- what a call for the next block returns: the block with its number, the end, or a fault
+abbrev pub BlockAnswer : Type 0
+BlockAnswer = Result (Option (ℕ × List ℕ)) RecordFault
+
+-- The result of reading the next block, if these blocks and this rest are ahead: the next block
+-- other than fill, with its number; the blocks after it satisfy `After`. The end and the faults are
+-- those of records, but that no block is invalid.
+abbrev pub ReturnsBlock : Reading → List ℕ → List (List ℕ) → List ℕ → Reading → (List (List ℕ) → Type 0) → BlockAnswer → Type 0
+ReturnsBlock old left blocks rest new After (Ok None) = Returns old left blocks rest new After (Ok None)
+ReturnsBlock old left blocks rest new After (Ok (Some found)) =
+    (later : List (List ℕ)) × IsNext old blocks new found.1 later × (found.0 ≡ new.number) × After later
+ReturnsBlock old left blocks rest new After (Err (Short n)) = Returns old left blocks rest new After (Err (Short n))
+ReturnsBlock old left blocks rest new After (Err (BadType n)) = ⊥
+ReturnsBlock old left blocks rest new After (Err (BadColumn n column)) = ⊥
+ReturnsBlock old left blocks rest new After (Err (ReadFault n)) = Returns old left blocks rest new After (Err (ReadFault n))
+ReturnsBlock old left blocks rest new After (Err (ReaderNeverEnds n)) = Returns old left blocks rest new After (Err (ReaderNeverEnds n))
+
+-- The result is right for whatever blocks and rest are ahead. Nothing is said if the reader does
+-- not report its bytes.
+abbrev pub GivesNextBlock : Reading → Option (List ℕ) → Reading → Option (List ℕ) → BlockAnswer → Type 0
+GivesNextBlock old None new left' result = Unit {0}
+GivesNextBlock old (Some left) new None result = ⊥
+GivesNextBlock old (Some left) new (Some left') result =
+    (new.came + length left' ≡ old.came + length left)
+    × ((blocks : List (List ℕ)) → (rest : List ℕ) → IsAhead old left blocks rest
+    → ReturnsBlock old left blocks rest new (λ later. IsAhead new left' later rest) result)
+
+-- what a call for a block returns, as one for a record would that found none
+abbrev pub without_block : BlockAnswer → Answer
+without_block (Ok found) = Ok None
+without_block (Err fault) = Err fault
+
+-- a returned block is counted, and its 200 bytes are within the limit
+abbrev pub CountsBlock : Reading → Reading → BlockAnswer → Type 0
+CountsBlock old new (Ok None) = Unit {0}
+CountsBlock old new (Ok (Some found)) = (old.number < new.number) × (200 * new.number ≤ new.limit + 1) × (found.0 ≡ new.number)
+CountsBlock old new (Err fault) = Unit {0}
+
+-- the faults are 10, 13 and 14
+abbrev pub IsNoBlockFault : RecordFault → Type 0
+IsNoBlockFault (Short n) = Unit {0}
+IsNoBlockFault (BadType n) = ⊥
+IsNoBlockFault (BadColumn n column) = ⊥
+IsNoBlockFault (ReadFault n) = Unit {0}
+IsNoBlockFault (ReaderNeverEnds n) = Unit {0}
+
+-- what each call for a block returns after the end
+abbrev pub last_block : Ending → BlockAnswer
+last_block End = Ok None
+last_block (Refused fault) = Err fault
+
+-- the end that the result of a call for a block means, if it is one
+abbrev pub block_ending : BlockAnswer → Option Ending
+block_ending (Ok None) = Some End
+block_ending (Ok (Some found)) = None
+block_ending (Err fault) = Some (Refused fault)

@@ -1,9 +1,10 @@
 //! The records of a stream, one after another.
 
-ghost use Rattle.std.specs.Prelude.{◌≡◌, ◌≤◌, ◌<◌, ◌+◌, ◌*◌, [], IfNone, IfSome, IfOk, OnOk};
+ghost use Rattle.std.specs.Prelude.{◌≡◌, ◌≤◌, ◌<◌, ◌+◌, ◌*◌, [], IfNone, IfSome, IfErr, IfOk, OnOk};
 ghost use Rattle.std.specs.Io.KnownBytes.{IsAtEnd};
 ghost use Rattle.ssim_records.specs.Blocks.{CameOn, CountsOn};
 ghost use Rattle.ssim_records.specs.Reading.{Counts, FailsAs, FetchesNext, GivesNext, HasNumber, HoldsFew, NeverEnds, RestFails, given, last_answer, ending_of};
+ghost use Rattle.ssim_records.specs.Reading.{CountsBlock, GivesNextBlock, IsNoBlockFault, block_ending, last_block, without_block};
 
 use crate::blocks::{Stop, next_other, skip_rest};
 use crate::device::Source;
@@ -214,6 +215,85 @@ impl Records {
             None => Ok(None),
         }
     }
+
+    // Returns what `next_block` returns before the end.
+    fn block<R: Source>(&mut self, reader: &mut R) -> Result<Option<(u64, [u8; 200])>, RecordFault>
+        ensures limit { self.new.limit ≡ self.old.limit }
+        ensures record { GivesNextBlock self.old (R.left reader.old) self.new (R.left reader.new) result }
+        ensures counts { CountsBlock self.old self.new result }
+        ensures number { HasNumber self.new.number (without_block result) }
+        ensures never_ends { NeverEnds self.new (without_block result) }
+        ensures fault { FailsAs (R.failures reader.old) (R.failures reader.new) (without_block result) }
+        ensures count { CountsOn (R.left reader.old) (R.left reader.new) (R.came reader.old) (R.came reader.new) self.old.came self.new.came }
+        ensures stops { IfErr result IsNoBlockFault }
+    {
+        match next_other(
+            &mut self.window,
+            &mut self.came,
+            &mut self.number,
+            self.limit,
+            reader,
+        ) {
+            Ok(false) => Ok(None),
+            Ok(true) => {
+                let block = *self.window.front();
+                self.window.skip();
+                Ok(Some((self.number, block)))
+            }
+            Err(Stop::Short) => Err(RecordFault::Short {
+                record: self.number + 1,
+            }),
+            Err(Stop::ReadFault) => Err(RecordFault::ReadFault {
+                record: self.number + 1,
+            }),
+            Err(Stop::ReaderNeverEnds) => Err(RecordFault::ReaderNeverEnds {
+                record: self.number + 1,
+            }),
+        }
+    }
+
+    /// The next block that is not fill, and its number, whether it spells a record or not: an
+    /// invalid block does not end the reading. After the end, and after a refusal, each call returns
+    /// the same. A refusal is 10 `Short`, 13 `ReadFault` or 14 `ReaderNeverEnds`.
+    pub fn next_block<R: Source>(
+        &mut self,
+        reader: &mut R,
+    ) -> Result<Option<(u64, [u8; 200])>, RecordFault>
+        // After an end the same result is returned, and nothing else happens.
+        ensures again { IfSome self.old.ended (λ e. (result ≡ last_block e) × (self.new ≡ self.old) × (reader.new ≡ reader.old)) }
+        ensures ended { self.new.ended ≡ block_ending result }
+        ensures limit { self.new.limit ≡ self.old.limit }
+
+        // At most one byte more than the limit is ever fetched.
+        ensures within { self.new.came ≤ self.new.limit + 1 }
+
+        // If the contract knows the reader's bytes, the result is the next block of the bytes
+        // ahead.
+        ensures record { IfNone self.old.ended (GivesNextBlock self.old (R.left reader.old) self.new (R.left reader.new) result) }
+        ensures counts { IfNone self.old.ended (CountsBlock self.old self.new result) }
+        ensures number { IfNone self.old.ended (HasNumber self.new.number (without_block result)) }
+
+        // 13 is returned if the reader failed, 14 after the limit, and no fault of a block. The
+        // bytes that came are those of the reader.
+        ensures stops { IfNone self.old.ended (IfErr result IsNoBlockFault) }
+        ensures fault { IfNone self.old.ended (FailsAs (R.failures reader.old) (R.failures reader.new) (without_block result)) }
+        ensures never_ends { IfNone self.old.ended (NeverEnds self.new (without_block result)) }
+        ensures count { IfNone self.old.ended (CountsOn (R.left reader.old) (R.left reader.new) (R.came reader.old) (R.came reader.new) self.old.came self.new.came) }
+    {
+        match self.ended {
+            Some(Ending::End) => return Ok(None),
+            Some(Ending::Refused(fault)) => return Err(fault),
+            None => {}
+        }
+        let answer = self.block(reader);
+        self.ended = match &answer {
+            Ok(Some(_)) => None,
+            Ok(None) => Some(Ending::End),
+            Err(fault) => Some(Ending::Refused(*fault)),
+        };
+        answer
+    }
+
     /// Fetches the bytes that are left, and uses neither these nor those that are held. 13 is
     /// returned if the reader failed, 14 if more bytes came than the limit.
     pub fn skip_rest<R: Source>(&mut self, reader: &mut R) -> Result<(), RecordFault>
