@@ -243,6 +243,14 @@ leg-refused old heading r p earlier before is s flight met =
     let overlap : list_any (overlaps r.name p) earlier ≡ true = sym (overlaps-met old.legs r.name p earlier flight is.legs) ∙ met in
     own-leg heading r p earlier here s ∙ rw overlap refl
 
+pub leg-allowed : (old : Acceptance) (heading : CarrierTerms) (r : LegFields) (p : DayRange) (earlier : List Record) → old.expected ≡ expected.Legs heading → HasAccepted old earlier → AcceptsLeg heading r p
+    → IsFlight r.name.flight → have_common_date (holds p) (uses_date (legs_at old.legs (place_of r.name.flight)) r.name.sequence) ≡ false
+    → refusal_at earlier (Leg r) ≡ None
+leg-allowed old heading r p earlier before is s flight met =
+    let here : IsExpectedAfter (expected.Legs heading) earlier = subst (λ q. IsExpectedAfter q earlier) before is.is_expected in
+    let free : list_any (overlaps r.name p) earlier ≡ false = sym (overlaps-met old.legs r.name p earlier flight is.legs) ∙ met in
+    own-leg heading r p earlier here s ∙ rw free refl
+
 pub stood-leg : (old new : Acceptance) (heading : CarrierTerms) (r : LegFields) (p : DayRange) (earlier : List Record) → old.expected ≡ expected.Legs heading → HasAccepted old earlier → AcceptsLeg heading r p
     → IsFlight r.name.flight → have_common_date (holds p) (uses_date (legs_at old.legs (place_of r.name.flight)) r.name.sequence) ≡ false
     → AddsRecord old.records new.records (Leg (kept_leg r p.last)) → new.expected ≡ expected.Legs heading
@@ -250,10 +258,9 @@ pub stood-leg : (old new : Acceptance) (heading : CarrierTerms) (r : LegFields) 
     → AcceptsNext new earlier (Leg r)
 stood-leg old new heading r p earlier before is s flight met records at legs =
     let here : IsExpectedAfter (expected.Legs heading) earlier = subst (λ q. IsExpectedAfter q earlier) before is.is_expected in
-    let free : list_any (overlaps r.name p) earlier ≡ false = sym (overlaps-met old.legs r.name p earlier flight is.legs) ∙ met in
     let end : p.last ≡ unwrap_or r.last (carrier_end earlier) = s.last_is ∙ ap (unwrap_or r.last) here.2 in
     record {
-      valid = own-leg heading r p earlier here s ∙ rw free refl;
+      valid = leg-allowed old heading r p earlier before is s flight met;
       is_kept = subst (λ l. HasAccepted new (Leg (kept_leg r l) ∷ earlier)) end (record {
         records = records earlier is.records;
         is_expected = subst (λ q. IsExpectedAfter q (Leg (kept_leg r p.last) ∷ earlier)) (sym at) (more-follow earlier (Leg (kept_leg r p.last)) false here.0 refl, here.1, here.2);

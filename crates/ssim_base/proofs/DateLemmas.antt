@@ -147,21 +147,75 @@ word-none (suc k) (suc n) = word-none k n
 pub no-bits : (k n : ℕ) → has_date (replicate k 0) n ≡ false
 no-bits k n = rw (word-none k (n / 64), bit_at-zero) refl
 
--- the dates of a period before a day were added to a set, and one of them was there or not
-pub record Added (p : DayRange) (day : ℕ) (old new : List ℕ) (met : Bool) : Type 0 where
-  pub added : (n : ℕ) → has_date new n ≡ ((holds p n && nat_lt n day) || has_date old n)
-  pub found : met ≡ true → have_common_date (holds p) (has_date old) ≡ true
-  pub none : met ≡ false → (n : ℕ) → n < day → (holds p n && has_date old n) ≡ false
-
 below-itself : (day : ℕ) → nat_lt day day ≡ false
 below-itself day = grind (arith, nat_tests)
 
-pub added-first : (p : DayRange) (words : List ℕ) → Added p p.first words words false
-added-first p words = record {
-  added = λ n. by n (nat_lt n p.first) refl;
+-- ---- whether a date of a period is in a set, date after date
+
+-- whether one of the dates of a period before a day is in a set
+pub record Met (p : DayRange) (day : ℕ) (words : List ℕ) (met : Bool) : Type 0 where
+  pub found : met ≡ true → have_common_date (holds p) (has_date words) ≡ true
+  pub none : met ≡ false → (n : ℕ) → n < day → (holds p n && has_date words n) ≡ false
+
+pub met-first : (p : DayRange) (words : List ℕ) → Met p p.first words false
+met-first p words = record {
   found = λ h. absurd cc;
   none = λ h n l. let early : nat_le p.first n ≡ false = grind (arith, nat_tests) in rw early refl;
 }
+
+pub met-day : (p : DayRange) (day : ℕ) (words : List ℕ) (met had : Bool) → holds p day ≡ true → day < 36525 → had ≡ has_date words day → Met p day words met → Met p (day + 1) words (met || had)
+met-day p day words met had is within own so = record {
+  found = by_found met refl had refl;
+  none = λ h n l. by_none n l h (nat_eq n day) refl;
+}
+  where
+    by_found : (x : Bool) → met ≡ x → (y : Bool) → had ≡ y → (x || y) ≡ true → have_common_date (holds p) (has_date words) ≡ true
+    by_found true e y f h = so.found e
+    by_found false e y f h =
+        let held : has_date words day ≡ true = sym own ∙ f ∙ h in
+        common-date (holds p) (has_date words) day within (rw (is, held) refl)
+
+    by_none : (n : ℕ) → n < day + 1 → (met || had) ≡ false → (b : Bool) → nat_eq n day ≡ b → (holds p n && has_date words n) ≡ false
+    by_none n l h true e =
+        let same : n ≡ day = grind (arith, nat_tests) in
+        let free : has_date words n ≡ false = ap (has_date words) same ∙ sym own ∙ (or-false met had h).1 in
+        rw free (and-false (holds p n))
+    by_none n l h false e =
+        let other : n ≢ day = grind (arith, nat_tests) in
+        so.none (or-false met had h).0 n (omega arith)
+
+pub met-none : (p : DayRange) (day : ℕ) (words : List ℕ) (met : Bool) → holds p day ≡ false → Met p day words met → Met p (day + 1) words met
+met-none p day words met is so = record {
+  found = so.found;
+  none = λ h n l. by h n l (nat_eq n day) refl;
+}
+  where
+    by : met ≡ false → (n : ℕ) → n < day + 1 → (b : Bool) → nat_eq n day ≡ b → (holds p n && has_date words n) ≡ false
+    by h n l true e = let same : n ≡ day = grind (arith, nat_tests) in let none : holds p n ≡ false = ap (holds p) same ∙ is in rw none refl
+    by h n l false e = let other : n ≢ day = grind (arith, nat_tests) in so.none h n (omega arith)
+
+late : (p : DayRange) (n : ℕ) → nat_lt n (p.last + 1) ≡ false → holds p n ≡ false
+late p n e = let after : nat_le n p.last ≡ false = grind (arith, nat_tests) in rw (after, and-false) refl
+
+-- all dates of a period were looked for
+pub met-last : (p : DayRange) (words : List ℕ) (met : Bool) → Met p (p.last + 1) words met → met ≡ have_common_date (holds p) (has_date words)
+met-last p words met so = by met refl
+  where
+    by : (b : Bool) → met ≡ b → b ≡ have_common_date (holds p) (has_date words)
+    by true e = sym (so.found e)
+    by false e = sym (no-common-date (holds p) (has_date words) (λ n l. none n (nat_lt n (p.last + 1)) refl e))
+      where
+        none : (n : ℕ) (b : Bool) → nat_lt n (p.last + 1) ≡ b → met ≡ false → (holds p n && has_date words n) ≡ false
+        none n true f e = let below : n < p.last + 1 = grind (arith, nat_tests) in so.none e n below
+        none n false f e = rw (late p n f) refl
+
+-- the dates of a period before a day were added to a set, and one of them was there or not
+pub record Added (p : DayRange) (day : ℕ) (old new : List ℕ) (met : Bool) : Type 0 where
+  pub added : (n : ℕ) → has_date new n ≡ ((holds p n && nat_lt n day) || has_date old n)
+  pub meets : Met p day old met
+
+pub added-first : (p : DayRange) (words : List ℕ) → Added p p.first words words false
+added-first p words = record { added = λ n. by n (nat_lt n p.first) refl; meets = met-first p words }
   where
     by : (n : ℕ) (b : Bool) → nat_lt n p.first ≡ b → has_date words n ≡ ((holds p n && nat_lt n p.first) || has_date words n)
     by n true e = let early : nat_le p.first n ≡ false = grind (arith, nat_tests) in rw early refl
@@ -172,61 +226,29 @@ pub added-day : (p : DayRange) (day : ℕ) (old new more : List ℕ) (met had : 
     → Added p day old new met → Added p (day + 1) old more (met || had)
 added-day p day old new more met had is within added here so = record {
   added = λ n. added n ∙ ap (λ b. nat_eq n day || b) (so.added n) ∙ dates-more p day n (has_date old n) is;
-  found = by_found met refl had refl;
-  none = λ h n l. by_none n l h (nat_eq n day) refl;
+  meets = met-day p day old met had is within own so.meets;
 }
   where
     own : had ≡ has_date old day
     own = here ∙ so.added day ∙ ap (λ b. (holds p day && b) || has_date old day) (below-itself day) ∙ ap (λ b. b || has_date old day) (and-false (holds p day))
 
-    by_found : (x : Bool) → met ≡ x → (y : Bool) → had ≡ y → (x || y) ≡ true → have_common_date (holds p) (has_date old) ≡ true
-    by_found true e y f h = so.found e
-    by_found false e y f h =
-        let held : has_date old day ≡ true = sym own ∙ f ∙ h in
-        common-date (holds p) (has_date old) day within (rw (is, held) refl)
-
-    by_none : (n : ℕ) → n < day + 1 → (met || had) ≡ false → (b : Bool) → nat_eq n day ≡ b → (holds p n && has_date old n) ≡ false
-    by_none n l h true e =
-        let same : n ≡ day = grind (arith, nat_tests) in
-        let free : has_date old n ≡ false = ap (has_date old) same ∙ sym own ∙ (or-false met had h).1 in
-        rw free (and-false (holds p n))
-    by_none n l h false e =
-        let other : n ≢ day = grind (arith, nat_tests) in
-        so.none (or-false met had h).0 n (omega arith)
-
 pub added-none : (p : DayRange) (day : ℕ) (old new : List ℕ) (met : Bool) → holds p day ≡ false → Added p day old new met → Added p (day + 1) old new met
 added-none p day old new met is so = record {
   added = λ n. so.added n ∙ ap (λ b. b || has_date old n) (dates-same p day n is);
-  found = so.found;
-  none = λ h n l. by h n l (nat_eq n day) refl;
+  meets = met-none p day old met is so.meets;
 }
-  where
-    by : met ≡ false → (n : ℕ) → n < day + 1 → (b : Bool) → nat_eq n day ≡ b → (holds p n && has_date old n) ≡ false
-    by h n l true e = let same : n ≡ day = grind (arith, nat_tests) in let none : holds p n ≡ false = ap (holds p) same ∙ is in rw none refl
-    by h n l false e = let other : n ≢ day = grind (arith, nat_tests) in so.none h n (omega arith)
 
 -- all dates of a period were added
 pub added-last : (p : DayRange) (old new : List ℕ) (met : Bool) → Added p (p.last + 1) old new met
     → ((n : ℕ) → has_date new n ≡ (holds p n || has_date old n)) × (met ≡ have_common_date (holds p) (has_date old))
-added-last p old new met so = (λ n. so.added n ∙ ap (λ b. b || has_date old n) (all n), by met refl)
+added-last p old new met so = (λ n. so.added n ∙ ap (λ b. b || has_date old n) (all n), met-last p old met so.meets)
   where
-    late : (n : ℕ) → nat_lt n (p.last + 1) ≡ false → holds p n ≡ false
-    late n e = let after : nat_le n p.last ≡ false = grind (arith, nat_tests) in rw (after, and-false) refl
-
     all : (n : ℕ) → (holds p n && nat_lt n (p.last + 1)) ≡ holds p n
     all n = cases (nat_lt n (p.last + 1)) refl
       where
         cases : (b : Bool) → nat_lt n (p.last + 1) ≡ b → (holds p n && b) ≡ holds p n
         cases true e = and-true (holds p n)
-        cases false e = and-false (holds p n) ∙ sym (late n e)
-
-    by : (b : Bool) → met ≡ b → b ≡ have_common_date (holds p) (has_date old)
-    by true e = sym (so.found e)
-    by false e = sym (no-common-date (holds p) (has_date old) (λ n l. none n (nat_lt n (p.last + 1)) refl e))
-      where
-        none : (n : ℕ) (b : Bool) → nat_lt n (p.last + 1) ≡ b → met ≡ false → (holds p n && has_date old n) ≡ false
-        none n true f e = let below : n < p.last + 1 = grind (arith, nat_tests) in so.none e n below
-        none n false f e = rw (late n f) refl
+        cases false e = and-false (holds p n) ∙ sym (late p n e)
 
 pub or-flip : (x y : Bool) → (x || y) ≡ (y || x)
 or-flip true true = refl

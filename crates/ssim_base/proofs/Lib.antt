@@ -26,6 +26,9 @@ pub mod AcceptanceLemmas
 mod NotedReads
 pub mod ReadingBack
 pub mod ReadingLemmas
+pub mod ProblemChecks
+pub mod ProblemLemmas
+pub mod ProblemsOnce
 pub mod FrameLemmas
 pub mod SavedBases
 pub mod SavedLines

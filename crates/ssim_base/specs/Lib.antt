@@ -9,6 +9,7 @@ pub mod Stations
 pub mod BaseSeen
 pub mod Reading
 pub mod Summary
+pub mod Problems
 pub mod SavedBase
 pub mod Resolve
 pub mod Fault

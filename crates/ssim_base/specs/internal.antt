@@ -8,3 +8,4 @@ pub mod DataSetReader
 pub mod StationRows
 pub mod SavedLines
 pub mod Reading
+pub mod Problems

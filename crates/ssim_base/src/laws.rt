@@ -1,5 +1,6 @@
 //! Laws of exports, of bases, and of messages resolved against bases.
 ghost use Rattle.ssim_base.specs.Base.{NamesTheEnd, NamesTheFirst};
+ghost use Rattle.ssim_base.specs.Problems.{SameBytesSameProblems};
 ghost use Rattle.ssim_base.specs.ReadBack.{BasesExport, BytesReadBack, ExportsAreOne};
 ghost use Rattle.ssim_base.specs.Reading.{IsReadBack, SameBytesSameBase};
 ghost use Rattle.ssim_base.specs.Resolve.{HasOneOutcome};
@@ -54,6 +55,13 @@ pub fn saved_records_are_read()
 /// The bytes of a data set are read as one base with one list of notes, whatever the limits are.
 pub fn same_bytes_same_base()
     ensures { SameBytesSameBase }
+{
+    frames_are_one();
+}
+
+/// The bytes of a data set have one list of problems.
+pub fn same_bytes_same_problems()
+    ensures { SameBytesSameProblems }
 {
     frames_are_one();
 }

@@ -67,6 +67,15 @@ impl LegTable {
         number < self.numbers.len() && has_in(&self.numbers[number], suffix, name)
     }
 
+    /// Whether a leg record of the same flight and leg sequence has one of the dates of a period.
+    pub(crate) fn meets(&self, name: LegName, period: &Period) -> bool
+        ensures value { result ≡ have_common_date (holds period.now) (uses_date (legs_at self.now (place_of name.flight)) name.sequence) }
+        ensures flight { IsFlight name.flight }
+    {
+        let (number, suffix) = indexes(name.flight());
+        number < self.numbers.len() && meets_in(&self.numbers[number], suffix, name, period)
+    }
+
     /// The flights of the leg records, each once, by number and suffix.
     pub(crate) fn flights(&self) -> Result<Vec<Flight>, Memory>
         ensures { IfOk result (λ flights. flights.items ≡ flights_in self.now) }
@@ -180,6 +189,14 @@ fn has_in(flights: &[FlightLegs], suffix: usize, name: LegName) -> bool
     ensures { result ≡ names_leg (legs_in flights.now suffix) name.sequence name.variation }
 {
     suffix < flights.len() && flights[suffix].has(name.sequence(), name.variation())
+}
+
+// Whether a leg record of the flight at an index, and of the leg sequence of this name, has one of
+// the dates of a period.
+fn meets_in(flights: &[FlightLegs], suffix: usize, name: LegName, period: &Period) -> bool
+    ensures { result ≡ have_common_date (holds period.now) (uses_date (legs_in flights.now suffix) name.sequence) }
+{
+    suffix < flights.len() && flights[suffix].meets(name.sequence(), period)
 }
 
 // Pushes the flights of all numbers.

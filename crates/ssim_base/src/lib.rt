@@ -9,6 +9,7 @@
 //! - [`read_saved`]: the data set whose records the next lines of a file are, or a [`SavedFault`].
 //! - [`Summary`]: how many records and flights a data set has, and its notes. It is read as a base
 //!   is, but no record is stored.
+//! - [`Problems`]: every invalid record of a data set, not only the first.
 //! - [`BaseFrame`]: the header, the carrier record and the trailer of a base. Messages resolve by
 //!   it, and a timetable is exported in it.
 //! - [`resolve`] and `BaseFrame::resolve`: resolve a message against a base: its reference with its
@@ -32,6 +33,7 @@ mod leg_table;
 mod note;
 mod output_buffer;
 mod place;
+mod problems;
 mod resolution;
 mod stations;
 mod sub_message;
@@ -47,6 +49,7 @@ pub use output_buffer::{
     OutputBuffer, WriteFault, flush, put_bytes, put_fill, put_leg, put_record, put_segment,
 };
 pub use place::Place;
+pub use problems::Problems;
 pub use resolution::{ResolveFault, ResolvedText, resolve};
 pub use stations::{StationFault, StationRow, Stations, variation_at};
 pub use sub_message::{Resolved, ResolvedSub};

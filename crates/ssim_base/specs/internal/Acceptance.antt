@@ -80,6 +80,23 @@ IsRefused number earlier r fault.Memory = Unit {0}
 IsRefused number earlier r (fault.Read f) = ⊥
 IsRefused number earlier r (fault.Refused n refusal) = (n ≡ number) × (refusal_at earlier r ≡ Some refusal)
 
+-- the refusal is the record's own, and the state still has the earlier records; or memory ran out
+abbrev pub IsLeft : Acceptance → ℕ → List Record → Record → BaseFault → Type 0
+IsLeft new number earlier r fault.Memory = Unit {0}
+IsLeft new number earlier r (fault.Read f) = ⊥
+IsLeft new number earlier r (fault.Refused n refusal) = (n ≡ number) × (refusal_at earlier r ≡ Some refusal) × HasAccepted new earlier
+
+-- whether a record is a leg, where legs are expected
+abbrev pub is_next_leg : Expected → Record → Bool
+is_next_leg (expected.Legs heading) (Leg r) = true
+is_next_leg _ _ = false
+
+-- the state stays as it was at a refusal, but for a leg, which may be in the table
+abbrev pub Stays : Bool → Acceptance → Acceptance → BaseFault → Type 0
+Stays leg old new fault.Memory = Unit {0}
+Stays leg old new (fault.Read f) = Unit {0}
+Stays leg old new (fault.Refused n refusal) = leg ≡ false → new ≡ old
+
 -- the airline, overflow, rate and end of a leg record are valid, and its period is this one
 pub record AcceptsLeg (heading : CarrierTerms) (r : LegFields) (period : DayRange) : Type 0 where
   pub airline : bytes_eq r.name.airline heading.airline ≡ true

@@ -1,11 +1,13 @@
 //! The records accepted so far, and whether the next one is allowed after them.
 
-ghost use Rattle.std.specs.Prelude.{◌≡◌, [], List, IfErr, IfOk, OnOk};
+ghost use Rattle.std.specs.Prelude.{◌≡◌, [], false, List, None, IfErr, IfOk, OnOk};
 ghost use Rattle.std.specs.Str.{bytes_eq};
 ghost use Rattle.ssim_records.specs.declared.record.Record.{Record};
-ghost use Rattle.ssim_base.specs.Base.{end_of, is_overflow, is_rate, missing};
+ghost use Rattle.ssim_base.specs.Base.{end_of, is_overflow, is_rate, missing, refusal_at};
+ghost use Rattle.ssim_base.specs.Problems.{alone_refusal, is_at_heading};
 ghost use Rattle.ssim_base.specs.internal.AcceptedRecords.{AddsRecord, AreAccepted, keeps};
 ghost use Rattle.ssim_base.specs.internal.Acceptance.{Accepts, HasAccepted, IsExpectedAfter, IsRefused, AcceptsLeg, AcceptsNext};
+ghost use Rattle.ssim_base.specs.internal.Acceptance.{IsLeft, Stays, is_next_leg};
 ghost use Rattle.ssim_base.specs.declared.data_set.acceptance.Expected.TheVariants as expected;
 
 use crate::data_set::accepted_records::AcceptedRecords;
@@ -66,6 +68,7 @@ impl Acceptance {
         ensures accepted { OnOk result ((earlier : List Record) → HasAccepted self.old earlier → AcceptsNext self.new earlier one.old) }
         ensures keeps { OnOk result (keeps self.new.records ≡ keeps self.old.records) }
         ensures err { IfErr result (λ e. (earlier : List Record) → HasAccepted self.old earlier → IsRefused number earlier one.old e) }
+        ensures stays { IfErr result (Stays (is_next_leg self.old.expected one.old) self.old self.new) }
     {
         match self.expected {
             Expected::Header => self.put_header(number, one),
@@ -88,6 +91,7 @@ impl Acceptance {
         ensures accepted { OnOk result ((earlier : List Record) → HasAccepted self.old earlier → AcceptsNext self.new earlier one.old) }
         ensures keeps { OnOk result (keeps self.new.records ≡ keeps self.old.records) }
         ensures err { IfErr result (λ e. (earlier : List Record) → HasAccepted self.old earlier → IsRefused number earlier one.old e) }
+        ensures stays { IfErr result (Stays (is_next_leg self.old.expected one.old) self.old self.new) }
     {
         match one {
             Record::Leg(leg) => self.close_leg(number, heading, leg)?,
@@ -99,6 +103,48 @@ impl Acceptance {
         }
         self.records.push(one)?;
         Ok(())
+    }
+
+    /// Does what `put` does, and stays as it was if the record is refused. An overlap is looked for
+    /// before the leg is added.
+    pub(crate) fn offer(&mut self, number: u64, one: &mut Record) -> Result<(), BaseFault>
+        ensures accepted { OnOk result ((earlier : List Record) → HasAccepted self.old earlier → AcceptsNext self.new earlier one.old) }
+        ensures err { IfErr result (λ e. (earlier : List Record) → HasAccepted self.old earlier → IsLeft self.new number earlier one.old e) }
+    {
+        if let Expected::Legs(heading) = self.expected {
+            if let Record::Leg(leg) = &*one {
+                self.refuse_overlap(number, heading, leg)?;
+            }
+        }
+        self.put(number, one)
+    }
+
+    // Refuses a leg that is invalid after the records so far.
+    fn refuse_overlap(
+        &self,
+        number: u64,
+        heading: CarrierTerms,
+        leg: &LegRecord,
+    ) -> Result<(), BaseFault>
+        requires { self.now.expected ≡ expected.Legs heading }
+        ensures ok { OnOk result ((earlier : List Record) → HasAccepted self.now earlier → refusal_at earlier (Record.Leg leg.now) ≡ None) }
+        ensures err { IfErr result (λ e. (earlier : List Record) → HasAccepted self.now earlier → IsLeft self.now number earlier (Record.Leg leg.now) e) }
+    {
+        let period = leg_period(number, heading, leg)?;
+        if self.legs.meets(leg.name(), &period) {
+            return Err(BaseFault::Refused(number, BaseRefusal::Overlap));
+        }
+        Ok(())
+    }
+
+    /// Whether the next record is expected to be the header or the carrier.
+    pub(crate) fn is_at_heading(&self) -> bool
+        ensures { (earlier : List Record) → HasAccepted self.now earlier → result ≡ is_at_heading earlier }
+    {
+        match self.expected {
+            Expected::Header | Expected::Carrier => true,
+            Expected::Legs(_) | Expected::End => false,
+        }
     }
 
     /// What is missing if no record follows.
@@ -130,6 +176,7 @@ impl Acceptance {
         ensures accepted { OnOk result ((earlier : List Record) → HasAccepted self.old earlier → AcceptsNext self.new earlier one.now) }
         ensures keeps { OnOk result (keeps self.new.records ≡ keeps self.old.records) }
         ensures err { IfErr result (λ e. (earlier : List Record) → HasAccepted self.old earlier → IsRefused number earlier one.now e) }
+        ensures stays { IfErr result (Stays false self.old self.new) }
     {
         match one {
             Record::Header(header) => {
@@ -145,6 +192,7 @@ impl Acceptance {
         ensures accepted { OnOk result ((earlier : List Record) → HasAccepted self.old earlier → AcceptsNext self.new earlier one.now) }
         ensures keeps { OnOk result (keeps self.new.records ≡ keeps self.old.records) }
         ensures err { IfErr result (λ e. (earlier : List Record) → HasAccepted self.old earlier → IsRefused number earlier one.now e) }
+        ensures stays { IfErr result (Stays false self.old self.new) }
     {
         match one {
             Record::Carrier(carrier) => {
@@ -218,6 +266,7 @@ impl Acceptance {
         ensures accepted { OnOk result ((earlier : List Record) → HasAccepted self.old earlier → AcceptsNext self.new earlier (Record.Trailer trailer.now)) }
         ensures keeps { OnOk result (keeps self.new.records ≡ keeps self.old.records) }
         ensures err { IfErr result (λ e. (earlier : List Record) → HasAccepted self.old earlier → IsRefused number earlier (Record.Trailer trailer.now) e) }
+        ensures stays { IfErr result (Stays false self.old self.new) }
     {
         if !same_airline(trailer.airline(), heading.airline) {
             return Err(BaseFault::Refused(number, BaseRefusal::OtherAirline));
@@ -250,6 +299,24 @@ fn leg_period(number: u64, heading: CarrierTerms, leg: &LegRecord) -> Result<Per
     match Period::new(leg.first(), last, leg.days()) {
         Ok(period) => Ok(period),
         Err(_) => Err(BaseFault::Refused(number, BaseRefusal::OpenEnd)),
+    }
+}
+
+/// Why a record is invalid after any others, by its own columns alone.
+pub(crate) fn alone_refusal(one: &Record) -> Option<BaseRefusal>
+    ensures { result ≡ alone_refusal one.now }
+{
+    match one {
+        Record::Header(_) | Record::Carrier(_) => None,
+        Record::Leg(leg) if is_overflow(leg.overflow()) => Some(BaseRefusal::Overflow),
+        Record::Leg(leg) if !is_rate(leg.rate()) => Some(BaseRefusal::Frequency),
+        Record::Leg(_) => None,
+        Record::Segment(segment) if is_overflow(segment.overflow()) => Some(BaseRefusal::Overflow),
+        Record::Segment(_) => None,
+        Record::Trailer(trailer) => match trailer.code() {
+            EndCode::Continuation => Some(BaseRefusal::Continuation),
+            EndCode::End => None,
+        },
     }
 }
 

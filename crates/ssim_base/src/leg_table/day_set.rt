@@ -47,6 +47,23 @@ impl DaySet {
         met
     }
 
+    /// Whether one of the dates of a period is in the set.
+    pub(crate) fn meets(&self, period: &Period) -> bool
+        ensures { result ≡ have_common_date (holds period.now) (has_date self.now.words.items) }
+    {
+        let first = period.first().number() as usize;
+        let end = period.last().number() as usize + 1;
+        let weekdays = period.mask().days();
+        let mut met = false;
+        for day in first..end {
+            let weekday = weekday_of(day as u32);
+            if weekdays[weekday] {
+                met |= self.has(day);
+            }
+        }
+        met
+    }
+
     // Whether a date is in the set.
     fn has(&self, day: usize) -> bool
         requires { day < 36525 }

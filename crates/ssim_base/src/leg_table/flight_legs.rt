@@ -57,6 +57,14 @@ impl FlightLegs {
         index < self.entries.len() && self.entries[index].has(variation)
     }
 
+    /// Whether a leg record of this leg sequence has one of the dates of a period.
+    pub(crate) fn meets(&self, sequence: u8, period: &Period) -> bool
+        ensures { result ≡ have_common_date (holds period.now) (uses_date self.now.entries.items sequence) }
+    {
+        let index = self.index_of(sequence);
+        index < self.entries.len() && self.entries[index].meets(period)
+    }
+
     /// Whether there is a leg record.
     pub(crate) fn has_legs(&self) -> bool
         ensures { result ≡ has_legs self.now.entries.items }

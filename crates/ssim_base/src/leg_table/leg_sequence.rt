@@ -52,6 +52,13 @@ impl LegSequence {
         self.dates.take(alloc, period)
     }
 
+    /// Whether a leg record has one of the dates of a period.
+    pub(crate) fn meets(&self, period: &Period) -> bool
+        ensures { result ≡ have_common_date (holds period.now) (is_used self.now.dates) }
+    {
+        self.dates.meets(period)
+    }
+
     /// Whether a leg record has this itinerary variation.
     pub(crate) fn has(&self, variation: u8) -> bool
         requires { variation < 128 }

@@ -67,8 +67,8 @@ impl PeriodList {
         self.periods.len() < most
     }
 
-    // Whether a period has a date in common with one of the list.
-    fn meets_any(&self, period: &Period) -> bool
+    /// Whether a period has a date in common with one of the list.
+    pub(crate) fn meets_any(&self, period: &Period) -> bool
         ensures { result ≡ have_common_date (holds period.now) (is_in self.now.periods.items) }
     {
         if self.ends_before(period) {

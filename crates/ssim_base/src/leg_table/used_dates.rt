@@ -47,6 +47,18 @@ impl UsedDates {
         self.take_in_next_form(alloc, period)
     }
 
+    /// Whether one of the dates of a period is used.
+    pub(crate) fn meets(&self, period: &Period) -> bool
+        ensures { result ≡ have_common_date (holds period.now) (is_used self.now) }
+    {
+        match self {
+            UsedDates::Empty => false,
+            UsedDates::One(first) => meets(period, first),
+            UsedDates::Few(periods) => periods.meets_any(period),
+            UsedDates::Many(set) => set.meets(period),
+        }
+    }
+
     // Does what `take` does if the dates change their form or are already a set. It is a function
     // of its own so that `take` stays short.
     #[inline(never)]

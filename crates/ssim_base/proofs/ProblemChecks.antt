@@ -1,0 +1,82 @@
+-- The check of one more record: after the valid ones before it, or by itself.
+use Rattle.std.proofs.Common.{◌≡◌, ◌∙◌, ℕ, Bool, true, false, ◌||◌, List, [], ◌∷◌, ◌++◌, Option, Some, None, Ok, Err, true≢false, refl, sym, ap, subst}
+use Rattle.ssim_records.specs.declared.record.Record.{Record}
+use Rattle.ssim_records.specs.declared.fault.RecordFault.{RecordFault}
+use Rattle.ssim_base.specs.Base.{refusal_at}
+use Rattle.ssim_records.specs.Record.{Spells, fault_of}
+use Rattle.ssim_base.specs.Problems.{Alone, After, Item, Says, Standing, alone_refusal, after_invalid, after_item, is_at_heading, numbered, problem_in}
+use Rattle.ssim_base.specs.internal.Acceptance.{AcceptsNext, HasAccepted, IsLeft, IsRefused, Stays}
+use Rattle.ssim_base.specs.internal.Problems.{Finds, Passes, Stands, after_any_invalid, listed}
+use Rattle.ssim_base.specs.declared.data_set.acceptance.Acceptance.{Acceptance}
+use Rattle.ssim_base.specs.declared.fault.BaseFault.{BaseFault}
+use Rattle.ssim_base.specs.declared.fault.BaseFault.TheVariants as fault
+use Rattle.ssim_base.specs.declared.fault.BaseFault.TheVariants.{Read, Refused}
+use Rattle.ssim_base.specs.declared.fault.BaseRefusal.{BaseRefusal}
+use Rattle.ssim_base.specs.declared.problems.Checks.{Checks}
+
+-- ---- a record that is offered
+
+-- a refused record leaves the state: a leg is refused before it is added
+pub left-by-put : (leg : Bool) (old new : Acceptance) (number : ℕ) (earlier : List Record) (r : Record) (e : BaseFault) → HasAccepted old earlier → IsRefused number earlier r e → Stays leg old new e
+    → (leg ≡ true → refusal_at earlier r ≡ None) → IsLeft new number earlier r e
+left-by-put leg old new number earlier r fault.Memory has is stays valid = tt
+left-by-put leg old new number earlier r (Read f) has is stays valid = absurd is
+left-by-put true old new number earlier r (Refused n refusal) has is stays valid = let none = valid refl in let some = is.1 in absurd cc
+left-by-put false old new number earlier r (Refused n refusal) has is stays valid = (is.0, is.1, subst (λ a. HasAccepted a earlier) (sym (stays refl)) has)
+
+-- ---- the checks
+
+-- after an invalid record
+pub passes : (old new : Checks) → new.accepted ≡ old.accepted → (heading : Bool) → ((earlier : List Record) → HasAccepted old.accepted earlier → heading ≡ is_at_heading earlier)
+    → new.alone ≡ (old.alone || heading) → Passes old new
+passes old new same heading heads alone Alone is = alone ∙ ap (λ b. b || heading) is
+passes old new same heading heads alone (After earlier) is =
+    let now : new.alone ≡ is_at_heading earlier = alone ∙ ap (λ b. b || heading) is.0 ∙ heads earlier is.1 in
+    by earlier (is_at_heading earlier) refl now (subst (λ a. HasAccepted a earlier) (sym same) is.1)
+  where
+    by : (earlier : List Record) (b : Bool) → is_at_heading earlier ≡ b → new.alone ≡ is_at_heading earlier → HasAccepted new.accepted earlier → Stands new (after_invalid earlier)
+    by earlier true e now has = rw e (now ∙ e)
+    by earlier false e now has = rw e (now ∙ e, has)
+
+-- a record is checked by itself
+pub found-alone : (old new : Checks) (number : ℕ) (one : Record) (problem : Option BaseFault) → new ≡ old → old.alone ≡ true → listed problem ≡ numbered number (alone_refusal one) → Finds old new number one problem
+found-alone old new number one problem same alone is Alone stands = (ap (λ c. c.alone) same ∙ alone, is)
+found-alone old new number one problem same alone is (After earlier) stands = absurd (true≢false (sym alone ∙ stands.0))
+
+-- a record is valid after those before it
+pub found-none : (old new : Checks) (number : ℕ) (one : Record) → old.alone ≡ false → new.alone ≡ false
+    → ((earlier : List Record) → HasAccepted old.accepted earlier → AcceptsNext new.accepted earlier one) → Finds old new number one None
+found-none old new number one alone still accepts Alone stands = absurd (true≢false (sym stands ∙ alone))
+found-none old new number one alone still accepts (After earlier) stands =
+    let a = accepts earlier stands.1 in
+    rw a.valid ((still, a.is_kept), refl)
+
+-- a record is refused after those before it
+pub found-some : (old mid new : Checks) (number : ℕ) (one : Record) (n : ℕ) (refusal : BaseRefusal) → old.alone ≡ false → mid.alone ≡ false
+    → ((earlier : List Record) → HasAccepted old.accepted earlier → IsLeft mid.accepted number earlier one (Refused n refusal)) → Passes mid new → Finds old new number one (Some (Refused n refusal))
+found-some old mid new number one n refusal alone still left passed Alone stands = absurd (true≢false (sym stands ∙ alone))
+found-some old mid new number one n refusal alone still left passed (After earlier) stands =
+    let l = left earlier stands.1 in
+    rw (l.1) (passed (After earlier) (still, l.2), ap (λ k. Refused k refusal ∷ []) l.0)
+
+-- ---- a block that is taken
+
+-- the problem of a block is added, if it has one
+abbrev Adds : Checks → Checks → List BaseFault → List BaseFault → ℕ → List ℕ → Type 0
+Adds old new before now number block =
+    (x : Item) × Says number block x × ((standing : Standing) → Stands old standing → Stands new (after_item standing x) × (now ≡ before ++ problem_in standing (number, x)))
+
+-- it spells a record
+pub takes-record : (old new : Checks) (before now : List BaseFault) (number : ℕ) (block : List ℕ) (r : Record) (problem : Option BaseFault) → Spells r block → Finds old new number r problem
+    → now ≡ before ++ listed problem → Adds old new before now number block
+takes-record old new before now number block r problem spells finds faults =
+    (Ok r, spells, λ standing is. let f = finds standing is in (f.0, faults ∙ ap (λ fs. before ++ fs) f.1))
+
+-- it spells none
+pub takes-fault : (old new : Checks) (before now : List BaseFault) (number : ℕ) (block : List ℕ) (e : RecordFault) → fault_of number block ≡ Some e → Passes old new
+    → now ≡ before ++ Read e ∷ [] → Adds old new before now number block
+takes-fault old new before now number block e why passed faults = (Err e, why, λ standing is. (by standing is, faults))
+  where
+    by : (standing : Standing) → Stands old standing → Stands new (after_item standing (Err e))
+    by Alone is = passed Alone is
+    by (After earlier) is = passed (After earlier) is

@@ -1,0 +1,90 @@
+-- From block to block, by the lemmas on what was read so far.
+use Rattle.std.proofs.Common.{rules, ◌≡◌, ◌∙◌, ℕ, ◌+◌, ◌*◌, ◌≤◌, ◌<◌, Some, None, Ok, Err, [], ◌∷◌, ◌++◌, refl, sym, ap, subst, arith}
+use Rattle.ssim_records.specs.Blocks.{CountsOn}
+use Rattle.ssim_records.specs.Reading.{BlockAnswer, CountsBlock, FailsAs, GivesNextBlock, HasNumber, NeverEnds, Reading, block_ending, without_block}
+use Rattle.ssim_records.specs.declared.fault.RecordFault.TheVariants.{Short}
+use Rattle.ssim_records.proofs.Framing.{counts_none, counts_twice}
+use Rattle.ssim_base.specs.Problems.{missing_in, numbered}
+use Rattle.ssim_base.specs.declared.fault.BaseFault.TheVariants.{Read}
+use Rattle.ssim_base.proofs.ProblemLemmas.{ToldBlocks, none-so-far, one-so-far, problems-cut, problems-end, told-block, told-none}
+use Rattle.ssim_base.proofs.ReadingLemmas.{while-open}
+use Rattle.ssim_base.proofs.problems.Problems.read.Goals as goal
+
+pub loop-next-init : goal.loop-next-init
+loop-next-init g c =
+    let fresh = c.new-blocks.ensures in
+    let limit = c.args.limit in
+    let left = g.R.Source.left c.args.reader.now in
+    let number : c.new-blocks.result.number ≡ 0 = ap (λ (r : Reading). r.number) fresh in
+    let few = c.new-found.ensures.records_are in
+    record {
+      limit_is = ap (λ (r : Reading). r.limit) fresh;
+      open' = ap (λ (r : Reading). r.ended) fresh;
+      counted = omega (arith, number);
+      few = omega (arith, number, few);
+      blocks = [];
+      so_far = none-so-far c.new-found.result c.new-found.ensures;
+      told = subst (λ (r : Reading). ToldBlocks limit left left r []) (sym fresh) (told-none limit left c.frames_are_one.ensures.exist);
+      counts = subst (λ (r : Reading). CountsOn left left (g.R.Source.came c.args.reader.now) (g.R.Source.came c.args.reader.now) 0 r.came) (sym fresh)
+          (counts_none left (g.R.Source.came c.args.reader.now) 0);
+      no_failure = refl;
+    }
+
+pub loop-next-preserved : goal.loop-next-preserved
+loop-next-preserved g c =
+    let i = c.loop-next.invariant in
+    let old = c.loop-next.blocks in
+    let new = c.next_block.new.self in
+    let number = c.in-Ok-Some.next.0 in
+    let block = c.in-Ok-Some.next.1 in
+    let answer : c.next_block.result ≡ Ok (Some (number, block)) = search rules in
+    let gives = subst (λ (a : BlockAnswer). GivesNextBlock old (g.R.Source.left c.loop-next.reader) new (g.R.Source.left c.next_block.new.reader) a) answer (while-open old.ended i.open' c.next_block.ensures.record) in
+    let counts = subst (λ (a : BlockAnswer). CountsBlock old new a) answer (while-open old.ended i.open' c.next_block.ensures.counts) in
+    let fault = subst (λ (a : BlockAnswer). FailsAs (g.R.Source.failures c.loop-next.reader) (g.R.Source.failures c.next_block.new.reader) (without_block a)) answer (while-open old.ended i.open' c.next_block.ensures.fault) in
+    let more = counts.0 in
+    let within = counts.1 in
+    let same = c.next_block.ensures.limit in
+    let limit = i.limit_is in
+    let records = c.take.ensures.records in
+    let few = i.few in
+    record {
+      limit_is = same ∙ limit;
+      open' = c.next_block.ensures.ended ∙ ap block_ending answer;
+      counted = omega (arith, within, same, limit);
+      few = omega (arith, records, few, more);
+      blocks = i.blocks ++ (number, block) ∷ [];
+      so_far = one-so-far c.loop-next.found c.take.new.self i.blocks number block i.so_far c.in_ok-take-in-Ok-Some.ensures.takes records c.take.ensures.trailer;
+      told = told-block c.args.limit (g.R.Source.left c.args.reader.now) (g.R.Source.left c.loop-next.reader) (g.R.Source.left c.next_block.new.reader) old new i.blocks number block i.told gives;
+      counts = counts_twice _ _ _ _ _ _ _ _ _ i.counts (while-open old.ended i.open' c.next_block.ensures.count);
+      no_failure = fault ∙ i.no_failure;
+    }
+
+pub returns-in-Ok-None-clause-ok : goal.returns-in-Ok-None-clause-ok
+returns-in-Ok-None-clause-ok g c =
+    let i = c.loop-next.invariant in
+    let old = c.loop-next.blocks in
+    let new = c.next_block.new.self in
+    let found = c.loop-next.found in
+    let p = c.in_ok-problems-in-Ok-None.problems in
+    let so = i.so_far in
+    let answer : c.next_block.result ≡ Ok None = search rules in
+    let gives = subst (λ (a : BlockAnswer). GivesNextBlock old (g.R.Source.left c.loop-next.reader) new (g.R.Source.left c.next_block.new.reader) a) answer (while-open old.ended i.open' c.next_block.ensures.record) in
+    let faults = c.in_ok-problems-in-Ok-None.ensures.faults so.standing so.stands in
+    problems-end c.args.limit (g.R.Source.left c.args.reader.now) (g.R.Source.left c.loop-next.reader) (g.R.Source.left c.next_block.new.reader) old new i.blocks found p i.limit_is so i.told gives
+    c.in_ok-problems-in-Ok-None.ensures.records
+    (subst (λ (n : ℕ). p.faults.items ≡ found.faults.items ++ numbered (n + 1) (missing_in so.standing found.trailer)) c.number.ensures.value faults)
+
+pub returns-in-Err-Short-clause-ok : goal.returns-in-Err-Short-clause-ok
+returns-in-Err-Short-clause-ok g c =
+    let i = c.loop-next.invariant in
+    let old = c.loop-next.blocks in
+    let new = c.next_block.new.self in
+    let n = c.in-Err-Short.record in
+    let found = c.loop-next.found in
+    let done = c.in_ok-problems-in-Err-Short in
+    let faults : done.problems.faults.items ≡ found.faults.items ++ Read (Short n) ∷ [] = rw c.in-Err-Short.field-0-is at done.ensures.faults in
+    let answer : c.next_block.result ≡ Err (Short n) = search rules in
+    let gives = subst (λ (a : BlockAnswer). GivesNextBlock old (g.R.Source.left c.loop-next.reader) new (g.R.Source.left c.next_block.new.reader) a) answer (while-open old.ended i.open' c.next_block.ensures.record) in
+    let number = subst (λ (a : BlockAnswer). HasNumber new.number (without_block a)) answer (while-open old.ended i.open' c.next_block.ensures.number) in
+    problems-cut c.args.limit (g.R.Source.left c.args.reader.now) (g.R.Source.left c.loop-next.reader) (g.R.Source.left c.next_block.new.reader) old new i.blocks found done.problems n i.limit_is i.so_far i.told gives number
+    done.ensures.records faults
