@@ -23,11 +23,11 @@ pub fn tidied_once()
     written_bases_are_read();
 }
 
-/// Two offices begin their desks by `start` from the same data set and the same station table. If
-/// the same messages are brought to both desks, by texts or by merges, in any order and however
-/// often, both have the same desk file, byte for byte. Each desk file that can be read holds the
-/// messages that were brought to it, and no others. A message that `withdraw` took out of a desk
-/// file is not brought to it until it is brought again.
+/// Two offices have the same desk file, byte for byte, if their desks began by `start` from the same
+/// data set and the same station table and the same messages were brought to both, by texts that
+/// `take` took or `receive` accepted or by `merge`, in any order and however often. Each desk file
+/// that can be read holds the messages that were brought to it, and no others. A message that
+/// `withdraw` took out of a desk file does not count as brought to it until it is brought again.
 pub fn offices_agree()
     ensures agree { OfficesAgree }
     ensures holds { HoldsWhatWasBrought }
