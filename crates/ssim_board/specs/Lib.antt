@@ -2,5 +2,6 @@ pub mod LocalTime
 pub mod LegTimes
 pub mod Movements
 pub mod InOrder
+pub mod Lines
 pub mod examples
 pub mod internal

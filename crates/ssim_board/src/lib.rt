@@ -1,29 +1,32 @@
 //! The board of a station on a date: which flights depart and arrive, by local time.
 //!
-//! - [`Board`]: a station, a local date, and the time mode of the timetable. `Board::movements` gives
-//!   what is on it.
+//! - [`Board`]: a station, a local date, and the time mode of the timetable. `Board::movements`
+//!   gives what is on it.
 //! - [`Movement`]: a departure or an arrival of a leg ([`MovementKind`]), with its local time, its
 //!   flight, and the other station of the leg.
+//! - [`board_lines`]: a line for each departure and arrival on a board.
 //! - [`LocalTime`]: a day and a time of day at a station. The day may be beside the calendar.
 //! - [`laws`]: only dates of origin near the date of a board have something on it.
 //!
-//! A leg departs on the date of origin plus its date variation of departure, and arrives on the date
-//! of origin plus that of arrival. In UTC mode the times are moved by the UTC variation of their
-//! station. The only error is [`Memory`].
+//! A leg departs on the date of origin plus its date variation of departure, and arrives on the
+//! date of origin plus that of arrival. In UTC mode the times are moved by the UTC variation of
+//! their station. The only error is [`Memory`].
 //!
-//! **Promise.** A board has each departure and each arrival of any flight at the station whose local
-//! date is that of the board, and nothing else, by time, departures first, then by flight, date of
-//! origin and leg sequence.
+//! **Promise.** A board has each departure and each arrival of any flight at the station whose
+//! local date is that of the board, and nothing else, by time, departures first, then by flight,
+//! date of origin and leg sequence.
 #![tactic(auto)]
 
 mod board;
 mod in_order;
 pub mod laws;
 mod leg_times;
+mod lines;
 mod local_time;
 mod movement;
 
 pub use board::Board;
+pub use lines::board_lines;
 pub use local_time::LocalTime;
 pub use movement::{Movement, MovementKind};
 pub use ssim_values::Memory;
