@@ -17,8 +17,10 @@ use Rattle.ssim_records.specs.Leg.{leg_columns}
 use Rattle.ssim_base.specs.Timetable.{LegValue, on_day}
 use Rattle.ssim_board.specs.LegTimes.{arrival_time, date_variation, days_added, departure_time, time_in, variation_in}
 use Rattle.ssim_board.specs.LocalTime.{Moment, local_time, moment, moment_on, moved_by}
-use Rattle.ssim_board.specs.Movements.{OnlyNearDates, arrival, arrives, departs, departure, leg_movements}
+use Rattle.ssim_board.specs.Movements.{OnlyNearDates, is_there, leg_movements, movement, station_of, time_of}
 use Rattle.ssim_board.specs.declared.board.Board.{Board}
+use Rattle.ssim_board.specs.declared.movement.MovementKind.{MovementKind}
+use Rattle.ssim_board.specs.declared.movement.MovementKind.TheVariants.{Departure, Arrival}
 use Rattle.ssim_board.proofs.Lists.{none_made}
 
 -- a local time is on this day, the day before or the next, and its minutes are at most those of 2400
@@ -75,15 +77,19 @@ offset_small text = variation_small (list_all is_blank text) (variation_of text)
 few_days : (b : ℕ) → days_added b ≤ 9
 few_days b = grind (arith, nat_tests)
 
-pub departure_near : (mode : TimeMode) (date : ℕ) (columns : List ℕ) → IsNear (date + days_added (date_variation 0 columns) + 1) (departure_time mode date columns)
+departure_near : (mode : TimeMode) (date : ℕ) (columns : List ℕ) → IsNear (date + days_added (date_variation 0 columns) + 1) (departure_time mode date columns)
 unfolding departure_time
 departure_near mode date columns =
     local_near mode (variation_in 48 52 columns) (date + days_added (date_variation 0 columns) + 1) (time_in 44 47 columns) (clock_small (leg_columns 44 47 columns)) (offset_small (leg_columns 48 52 columns))
 
-pub arrival_near : (mode : TimeMode) (date : ℕ) (columns : List ℕ) → IsNear (date + days_added (date_variation 1 columns) + 1) (arrival_time mode date columns)
+arrival_near : (mode : TimeMode) (date : ℕ) (columns : List ℕ) → IsNear (date + days_added (date_variation 1 columns) + 1) (arrival_time mode date columns)
 unfolding arrival_time
 arrival_near mode date columns =
     local_near mode (variation_in 66 70 columns) (date + days_added (date_variation 1 columns) + 1) (time_in 58 61 columns) (clock_small (leg_columns 58 61 columns)) (offset_small (leg_columns 66 70 columns))
+
+pub end_near : (mode : TimeMode) (date : ℕ) (columns : List ℕ) (kind : MovementKind) → (time_of mode date columns kind).minutes ≤ 1440
+end_near mode date columns Departure = (departure_near mode date columns).within
+end_near mode date columns Arrival = (arrival_near mode date columns).within
 
 -- ---- dates of origin that are far from the date of a board
 
@@ -98,23 +104,29 @@ and_false : (b c : Bool) → c ≡ false → (b && c) ≡ false
 and_false true c e = e
 and_false false c e = refl
 
-not_departs : (board : Board) (date : ℕ) (leg : LegValue) → IsFar board date → departs board date leg ≡ false
-unfolding departs
-not_departs board date leg far =
-    and_false (bytes_eq (leg_columns 37 39 leg.columns) board.station) (nat_eq (departure_time board.mode date leg.columns).days (board.day + 1))
-    (other_day board.day date (days_added (date_variation 0 leg.columns)) (departure_time board.mode date leg.columns) (few_days (date_variation 0 leg.columns)) (departure_near board.mode date leg.columns) far)
-
-not_arrives : (board : Board) (date : ℕ) (leg : LegValue) → IsFar board date → arrives board date leg ≡ false
-unfolding arrives
-not_arrives board date leg far =
-    and_false (bytes_eq (leg_columns 55 57 leg.columns) board.station) (nat_eq (arrival_time board.mode date leg.columns).days (board.day + 1))
-    (other_day board.day date (days_added (date_variation 1 leg.columns)) (arrival_time board.mode date leg.columns) (few_days (date_variation 1 leg.columns)) (arrival_near board.mode date leg.columns) far)
+not_there : (board : Board) (date : ℕ) (leg : LegValue) (kind : MovementKind) → IsFar board date
+    → is_there board date leg kind ≡ false
+unfolding is_there
+not_there board date leg kind far =
+    and_false (bytes_eq (station_of leg.columns kind) board.station)
+    (nat_eq (time_of board.mode date leg.columns kind).days (board.day + 1)) (on_other_day kind)
+  where
+    on_other_day : (kind : MovementKind)
+        → nat_eq (time_of board.mode date leg.columns kind).days (board.day + 1) ≡ false
+    on_other_day Departure =
+        other_day board.day date (days_added (date_variation 0 leg.columns))
+        (departure_time board.mode date leg.columns) (few_days (date_variation 0 leg.columns))
+        (departure_near board.mode date leg.columns) far
+    on_other_day Arrival =
+        other_day board.day date (days_added (date_variation 1 leg.columns))
+        (arrival_time board.mode date leg.columns) (few_days (date_variation 1 leg.columns))
+        (arrival_near board.mode date leg.columns) far
 
 none_far : (board : Board) (flight : FlightNumber) (date : ℕ) (leg : LegValue) → IsFar board date → leg_movements board flight date leg ≡ []
 unfolding leg_movements
 none_far board flight date leg far =
-    ap₂ (λ (a b : Bool). (if a then departure board flight date leg ∷ [] else []) ++ (if b then arrival board flight date leg ∷ [] else []))
-    (not_departs board date leg far) (not_arrives board date leg far)
+    ap₂ (λ (a b : Bool). (if a then movement board flight date leg Departure ∷ [] else []) ++ (if b then movement board flight date leg Arrival ∷ [] else []))
+    (not_there board date leg Departure far) (not_there board date leg Arrival far)
 
 pub only_near : OnlyNearDates
 only_near board flight days date far = none_made (leg_movements board flight date) (on_day days date) (λ leg. none_far board flight date leg far)

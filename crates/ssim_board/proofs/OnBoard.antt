@@ -10,12 +10,13 @@ use Rattle.ssim_base.specs.Export.{Piece, all_flights, pieces, same_itinerary}
 use Rattle.ssim_base.specs.Timetable.{Days, Legs, on_day}
 use Rattle.ssim_base.proofs.Pieces.{itinerary_pieces}
 use Rattle.ssim_schedule.specs.FlightPieces.{Divided, divided, divided_flights, flies}
-use Rattle.ssim_board.specs.Movements.{arrival, arrives, date_movements, departs, departure, flight_movements, leg_movements, movements}
+use Rattle.ssim_board.specs.Movements.{date_movements, end_movements, flight_movements, is_there, leg_movements, movement, movements}
 use Rattle.ssim_board.specs.internal.PieceMovements.{all_movements, date_end, date_from, divided_movements, on_date, piece_movements}
 use Rattle.ssim_board.specs.declared.board.Board.{Board}
 use Rattle.ssim_board.specs.declared.movement.Movement.{Movement}
+use Rattle.ssim_board.specs.declared.movement.MovementKind.TheVariants.{Departure, Arrival}
 use Rattle.ssim_board.proofs.Lists.{every_append, every_made, none_made, same_made, window}
-use Rattle.ssim_board.proofs.Near.{arrival_near, departure_near, only_near}
+use Rattle.ssim_board.proofs.Near.{end_near, only_near}
 
 module _ (board : Board) (flight : FlightNumber) (date : ℕ) where
   abbrev legs_on : Legs → List Movement
@@ -94,11 +95,11 @@ abbrev pub IsTimed : Movement → Type 0
 IsTimed movement = movement.time.minutes ≤ 1440
 
 leg_timed : (board : Board) (flight : FlightNumber) (date : ℕ) → (leg : _) → Every IsTimed (leg_movements board flight date leg)
-unfolding leg_movements departure arrival
+unfolding leg_movements movement
 leg_timed board flight date leg =
-    every_append IsTimed (if departs board date leg then departure board flight date leg ∷ [] else []) (if arrives board date leg then arrival board flight date leg ∷ [] else [])
-    (one (departs board date leg) (departure board flight date leg) (departure_near board.mode date leg.columns).within)
-    (one (arrives board date leg) (arrival board flight date leg) (arrival_near board.mode date leg.columns).within)
+    every_append IsTimed (end_movements board flight date leg Departure) (end_movements board flight date leg Arrival)
+    (one (is_there board date leg Departure) (movement board flight date leg Departure) (end_near board.mode date leg.columns Departure))
+    (one (is_there board date leg Arrival) (movement board flight date leg Arrival) (end_near board.mode date leg.columns Arrival))
   where
     one : (b : Bool) (m : Movement) → IsTimed m → Every IsTimed (if b then m ∷ [] else [])
     one true m h = (h, tt)

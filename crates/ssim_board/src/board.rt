@@ -1,19 +1,19 @@
 //! What is on the board of a station on a date.
 
-ghost use Rattle.std.specs.Prelude.{◌≡◌, ◌<◌, ◌-◌, ◌++◌, [], ◌∷◌, if◌then◌else◌, IfOk, OnOk};
+ghost use Rattle.std.specs.Prelude.{◌≡◌, ◌<◌, ◌-◌, ◌++◌, IfOk, OnOk};
 ghost use Rattle.std.specs.List.{flat_map};
 ghost use Rattle.ssim_values.specs.Flight.{FlightNumber};
 ghost use Rattle.ssim_periods.specs.Calendar.{holds};
 ghost use Rattle.ssim_base.specs.Timetable.{Days};
 ghost use Rattle.ssim_schedule.specs.FlightPieces.{divided_flights};
 ghost use Rattle.ssim_board.specs.InOrder.{board_of};
-ghost use Rattle.ssim_board.specs.Movements.{arrival, arrives, departs, departure, leg_movements};
+ghost use Rattle.ssim_board.specs.Movements.{end_movements, is_there, leg_movements, movement};
 ghost use Rattle.ssim_board.specs.internal.PieceMovements.{all_movements, date_from, date_end};
 ghost use Rattle.ssim_board.specs.internal.PieceMovements.{divided_movements, piece_movements};
 ghost use Rattle.ssim_board.specs.internal.PieceMovements.{on_date};
 
 use crate::in_order::in_order;
-use crate::leg_times::{arrival_time, departure_time, is_uncertain};
+use crate::leg_times::{is_uncertain, station_of, time_of};
 use crate::movement::{Movement, MovementKind};
 use ssim_schedule::{FlightPieces, Itinerary, PlacedLeg};
 use ssim_values::{Day, Flight, Memory, Period, Station, TimeMode};
@@ -29,9 +29,9 @@ pub struct Board {
 }
 
 impl Board {
-    /// The departures and arrivals at the station on the local date, by time, departures first, then
-    /// by flight, date of origin and leg sequence. The flights are those of a timetable that fly on
-    /// some date, as `Schedule::into_flights` gives them.
+    /// The departures and arrivals at the station on the local date, by time, departures first,
+    /// then by flight, date of origin and leg sequence. The flights are those of a timetable that
+    /// fly on some date, as `Schedule::into_flights` gives them.
     pub fn movements(
         &self,
         alloc: Global,
@@ -161,98 +161,53 @@ impl Board {
         ensures { OnOk result (movements.new.items
             ≡ movements.old.items ++ leg_movements self.now flight date leg.now) }
     {
-        self.push_departure(movements, flight, date, leg)?;
-        self.push_arrival(movements, flight, date, leg)
+        self.push_end(movements, flight, date, leg, MovementKind::Departure)?;
+        self.push_end(movements, flight, date, leg, MovementKind::Arrival)
     }
 
-    fn push_departure(
+    // Adds the departure or the arrival of a leg, if it is on the board.
+    fn push_end(
         &self,
         movements: &mut Vec<Movement>,
         flight: Flight,
         date: Day,
         leg: &PlacedLeg,
+        kind: MovementKind,
     ) -> Result<(), Memory>
-        ensures { OnOk result (movements.new.items ≡ movements.old.items
-            ++ (if departs self.now date leg.now then departure self.now flight date leg.now ∷ []
-            else [])) }
+        ensures { OnOk result (movements.new.items
+            ≡ movements.old.items ++ end_movements self.now flight date leg.now kind) }
     {
-        if self.departs(date, leg) {
-            movements.push(self.departure(flight, date, leg))?;
+        if self.is_there(date, leg, kind) {
+            movements.push(self.movement(flight, date, leg, kind))?;
         }
         Ok(())
     }
 
-    fn push_arrival(
-        &self,
-        movements: &mut Vec<Movement>,
-        flight: Flight,
-        date: Day,
-        leg: &PlacedLeg,
-    ) -> Result<(), Memory>
-        ensures { OnOk result (movements.new.items ≡ movements.old.items
-            ++ (if arrives self.now date leg.now then arrival self.now flight date leg.now ∷ []
-            else [])) }
-    {
-        if self.arrives(date, leg) {
-            movements.push(self.arrival(flight, date, leg))?;
-        }
-        Ok(())
-    }
-
-    // Whether a leg departs from the station on its local date.
-    #[tactic(auto, unfolding(crate::specs::Movements::departs))]
-    fn departs(&self, date: Day, leg: &PlacedLeg) -> bool
-        ensures { result ≡ departs self.now date leg.now }
+    // Whether an end of a leg is at the station on its local date.
+    #[tactic(auto, unfolding(crate::specs::Movements::is_there))]
+    fn is_there(&self, date: Day, leg: &PlacedLeg, kind: MovementKind) -> bool
+        ensures { result ≡ is_there self.now date leg.now kind }
     {
         let columns = leg.columns();
-        columns.departure_station() == self.station
-            && departure_time(self.mode, date, &columns).days() == self.day.number() + 1
+        station_of(&columns, kind) == self.station
+            && time_of(self.mode, date, &columns, kind).days() == self.day.number() + 1
     }
 
-    // Whether a leg arrives at the station on its local date.
-    #[tactic(auto, unfolding(crate::specs::Movements::arrives))]
-    fn arrives(&self, date: Day, leg: &PlacedLeg) -> bool
-        ensures { result ≡ arrives self.now date leg.now }
-    {
-        let columns = leg.columns();
-        columns.arrival_station() == self.station
-            && arrival_time(self.mode, date, &columns).days() == self.day.number() + 1
-    }
-
-    // The departure of a leg.
-    #[tactic(auto, unfolding(crate::specs::Movements::departure))]
-    fn departure(&self, flight: Flight, date: Day, leg: &PlacedLeg) -> Movement
-        ensures { result ≡ departure self.now flight date leg.now }
+    // The departure or the arrival of a leg.
+    #[tactic(auto, unfolding(crate::specs::Movements::movement))]
+    fn movement(&self, flight: Flight, date: Day, leg: &PlacedLeg, kind: MovementKind) -> Movement
+        ensures { result ≡ movement self.now flight date leg.now kind }
     {
         let columns = leg.columns();
         Movement {
-            kind: MovementKind::Departure,
-            time: departure_time(self.mode, date, &columns),
+            kind,
+            time: time_of(self.mode, date, &columns, kind),
             flight,
             date,
             sequence: leg.sequence(),
             aircraft_type: columns.aircraft_type(),
-            other_station: columns.arrival_station(),
-            other_time: arrival_time(self.mode, date, &columns),
-            is_uncertain: is_uncertain(self.mode, &columns),
-        }
-    }
-
-    // The arrival of a leg.
-    #[tactic(auto, unfolding(crate::specs::Movements::arrival))]
-    fn arrival(&self, flight: Flight, date: Day, leg: &PlacedLeg) -> Movement
-        ensures { result ≡ arrival self.now flight date leg.now }
-    {
-        let columns = leg.columns();
-        Movement {
-            kind: MovementKind::Arrival,
-            time: arrival_time(self.mode, date, &columns),
-            flight,
-            date,
-            sequence: leg.sequence(),
-            aircraft_type: columns.aircraft_type(),
-            other_station: columns.departure_station(),
-            other_time: departure_time(self.mode, date, &columns),
+            other_station: station_of(&columns, kind.other_end()),
+            other_time: time_of(self.mode, date, &columns, kind.other_end()),
             is_uncertain: is_uncertain(self.mode, &columns),
         }
     }

@@ -1,15 +1,37 @@
-//! When a leg of a flight departs and arrives.
+//! Where and when a leg of a flight departs and arrives.
 
 ghost use Rattle.std.specs.Prelude.{◌≡◌, ◌≤◌};
 ghost use Rattle.ssim_board.specs.LegTimes.{arrival_time, days_added, departure_time, has_unknown};
 ghost use Rattle.ssim_board.specs.LegTimes.{is_uncertain, is_unknown, lacks_variation};
+ghost use Rattle.ssim_board.specs.Movements.{station_of, time_of};
 
 use crate::local_time::LocalTime;
+use crate::movement::MovementKind;
 use ssim_records::LegColumns;
-use ssim_values::{Day, TimeMode, is_digit};
+use ssim_values::{Day, Station, TimeMode, is_digit};
 
-/// The local time at which a leg departs, if its flight has this date of origin.
-pub(crate) fn departure_time(mode: TimeMode, date: Day, leg: &LegColumns) -> LocalTime
+/// The station of an end of a leg.
+pub(crate) fn station_of(leg: &LegColumns, kind: MovementKind) -> Station
+    ensures { result ≡ station_of leg.now kind }
+{
+    match kind {
+        MovementKind::Departure => leg.departure_station(),
+        MovementKind::Arrival => leg.arrival_station(),
+    }
+}
+
+/// The local time of an end of a leg, if its flight has this date of origin.
+pub(crate) fn time_of(mode: TimeMode, date: Day, leg: &LegColumns, kind: MovementKind) -> LocalTime
+    ensures { result ≡ time_of mode date leg.now kind }
+{
+    match kind {
+        MovementKind::Departure => departure_time(mode, date, leg),
+        MovementKind::Arrival => arrival_time(mode, date, leg),
+    }
+}
+
+// The local time at which a leg departs.
+fn departure_time(mode: TimeMode, date: Day, leg: &LegColumns) -> LocalTime
     ensures { result ≡ departure_time mode date leg.now }
 {
     let [variation, _] = leg.date_variations();
@@ -22,8 +44,8 @@ pub(crate) fn departure_time(mode: TimeMode, date: Day, leg: &LegColumns) -> Loc
     )
 }
 
-/// The local time at which a leg arrives, if its flight has this date of origin.
-pub(crate) fn arrival_time(mode: TimeMode, date: Day, leg: &LegColumns) -> LocalTime
+// The local time at which a leg arrives.
+fn arrival_time(mode: TimeMode, date: Day, leg: &LegColumns) -> LocalTime
     ensures { result ≡ arrival_time mode date leg.now }
 {
     let [_, variation] = leg.date_variations();

@@ -1,6 +1,7 @@
 //! A departure or an arrival.
 
 ghost use Rattle.std.specs.Prelude.{◌≡◌};
+ghost use Rattle.ssim_board.specs.Movements.{other_end};
 ghost use Rattle.ssim_board.specs.internal.Ranks.{rank};
 
 use crate::local_time::LocalTime;
@@ -11,6 +12,18 @@ use ssim_values::{Day, Flight, Station};
 pub enum MovementKind {
     Departure,
     Arrival,
+}
+
+impl MovementKind {
+    /// The other end of a leg.
+    pub(crate) fn other_end(self) -> MovementKind
+        ensures { result ≡ other_end self }
+    {
+        match self {
+            MovementKind::Departure => MovementKind::Arrival,
+            MovementKind::Arrival => MovementKind::Departure,
+        }
+    }
 }
 
 /// A departure or an arrival of a leg at the station of a board.

@@ -1,6 +1,9 @@
 -- Small examples of times and boards, checked by computation.
 use Rattle.std.specs.Prelude.{◌≡◌, ℕ, true, false, List, [], ◌∷◌, ◌++◌, replicate, codes, refl}
+use Rattle.std.specs.Fmt.{decimal}
+use Rattle.ssim_values.specs.Calendar.{day_of_month, month_of, year_of}
 use Rattle.ssim_values.specs.Clock.{clock_of}
+use Rattle.ssim_values.specs.Day.{day_text}
 use Rattle.ssim_values.specs.Flight.{FlightNumber}
 use Rattle.ssim_values.specs.Variation.{variation_of}
 use Rattle.ssim_values.specs.declared.time_mode.TimeMode.TheVariants.{Utc, Local}
@@ -9,12 +12,15 @@ use Rattle.ssim_base.specs.Timetable.{LegValue}
 use Rattle.ssim_board.specs.InOrder.{by_time, minute_count}
 use Rattle.ssim_board.specs.LegTimes.{arrival_time, departure_time, is_uncertain}
 use Rattle.ssim_board.specs.LocalTime.{moment_on}
-use Rattle.ssim_board.specs.Movements.{arrives, departs, departure, arrival, leg_movements}
+use Rattle.ssim_board.specs.Lines.{board_lines, shift_text}
+use Rattle.ssim_board.specs.Movements.{is_there, leg_movements, movement}
 use Rattle.ssim_board.specs.declared.board.Board.{Board}
+use Rattle.ssim_board.specs.declared.movement.MovementKind.TheVariants.{Departure, Arrival}
 
 -- the columns of a leg: 14; 37 to 75 as given; blanks to 192; 193 and 194 as given
 abbrev columns_of : List ℕ → List ℕ → List ℕ
-columns_of middle variations = codes "J" ++ middle ++ replicate 52 32 ++ replicate 64 32 ++ variations
+columns_of middle variations =
+    codes "J" ++ middle ++ replicate 52 32 ++ replicate 64 32 ++ variations
 
 -- 0630 in summer at Friedrichshafen, 0755 at Hamburg
 abbrev morning : List ℕ
@@ -76,7 +82,8 @@ no_variation = columns_of (codes "FDH22302230       DXB06400640+0400  320") (cod
 
 -- a blank UTC variation is uncertain in UTC mode alone
 uncertain_ones : is_uncertain Local lettered ∷ is_uncertain Local no_variation
-    ∷ is_uncertain Utc no_variation ∷ is_uncertain Utc morning ∷ [] ≡ true ∷ false ∷ true ∷ false ∷ []
+    ∷ is_uncertain Utc no_variation ∷ is_uncertain Utc morning ∷ []
+    ≡ true ∷ false ∷ true ∷ false ∷ []
 unfolding is_uncertain utc_variation_of variation_of
 uncertain_ones = refl
 
@@ -101,27 +108,51 @@ abbrev overnight : LegValue
 overnight = leg (columns_of (codes "DXB23002300+0400  FDH06300630+0200  320") (codes "01"))
 
 -- the flight of the day departs, but not that of the day before
-on_its_day : departs fdh 10027 (leg morning) ∷ departs fdh 10026 (leg morning)
-    ∷ arrives fdh 10027 (leg morning) ∷ []
+on_its_day : is_there fdh 10027 (leg morning) Departure ∷ is_there fdh 10026 (leg morning) Departure
+    ∷ is_there fdh 10027 (leg morning) Arrival ∷ []
     ≡ true ∷ false ∷ false ∷ []
-unfolding departs arrives departure_time arrival_time
+unfolding is_there departure_time arrival_time
 on_its_day = refl
 
 -- the flight of the day before arrives
-from_the_day_before : arrives fdh 10026 overnight ∷ arrives fdh 10027 overnight ∷ []
+from_the_day_before : is_there fdh 10026 overnight Arrival
+    ∷ is_there fdh 10027 overnight Arrival ∷ []
     ≡ true ∷ false ∷ []
-unfolding arrives arrival_time
+unfolding is_there arrival_time
 from_the_day_before = refl
 
 both_ends : leg_movements fdh (flight 5) 10027 round
-    ≡ departure fdh (flight 5) 10027 round ∷ arrival fdh (flight 5) 10027 round ∷ []
-unfolding leg_movements departs arrives departure_time arrival_time
+    ≡ movement fdh (flight 5) 10027 round Departure
+    ∷ movement fdh (flight 5) 10027 round Arrival ∷ []
+unfolding leg_movements is_there departure_time arrival_time
 both_ends = refl
 
 -- departures before arrivals of the same minute, then as they come
-their_order : by_time (arrival fdh (flight 1) 10026 overnight ∷ departure fdh (flight 5) 10027 round
-    ∷ arrival fdh (flight 5) 10027 round ∷ departure fdh (flight 7) 10027 (leg morning) ∷ [])
-    ≡ departure fdh (flight 5) 10027 round ∷ departure fdh (flight 7) 10027 (leg morning)
-    ∷ arrival fdh (flight 1) 10026 overnight ∷ arrival fdh (flight 5) 10027 round ∷ []
-unfolding by_time minute_count departure arrival departure_time arrival_time clock_of
+their_order : by_time (movement fdh (flight 1) 10026 overnight Arrival
+    ∷ movement fdh (flight 5) 10027 round Departure ∷ movement fdh (flight 5) 10027 round Arrival
+    ∷ movement fdh (flight 7) 10027 (leg morning) Departure ∷ [])
+    ≡ movement fdh (flight 5) 10027 round Departure
+    ∷ movement fdh (flight 7) 10027 (leg morning) Departure
+    ∷ movement fdh (flight 1) 10026 overnight Arrival
+    ∷ movement fdh (flight 5) 10027 round Arrival ∷ []
+unfolding by_time minute_count movement departure_time arrival_time clock_of
 their_order = refl
+
+-- ---- lines
+
+-- 0630 departs to Hamburg, where it is 0755 of the same day
+its_line : board_lines (codes "ZZ ") 10027
+    (movement fdh (flight 7) 10027 (leg morning) Departure ∷ [])
+    ≡ codes "0630 dep ZZ007    15JUN27 01 E90 HAM 0755\n"
+unfolding movement is_uncertain departure_time arrival_time clock_of
+    day_text day_of_month month_of year_of
+its_line = refl
+
+-- 2300 of the day before, where 0630 arrives from: day 10,027 of local times
+the_day_before : shift_text 10027 (movement fdh (flight 1) 10026 overnight Arrival).other_time.days
+    ≡ codes " -" ++ decimal 1
+unfolding movement departure_time
+the_day_before = refl
+
+no_line : board_lines (codes "ZZ ") 10027 [] ≡ codes "no flight\n"
+no_line = refl
