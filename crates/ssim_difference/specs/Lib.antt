@@ -1,4 +1,5 @@
 pub mod Differences
+pub mod Lines
 pub mod DifferenceLaws
 pub mod internal
 pub mod examples

@@ -1,2 +1,3 @@
 -- Computed examples.
 pub mod Days
+pub mod Lines

@@ -1,0 +1,255 @@
+//! The differences of two timetables as lines.
+
+ghost use Rattle.std.specs.Prelude.{◌≡◌, ◌++◌, IfOk, OnOk};
+ghost use Rattle.std.specs.List.{flat_map};
+ghost use Rattle.std.specs.Option.{option_map};
+ghost use Rattle.ssim_values.specs.Flight.{FlightNumber};
+ghost use Rattle.ssim_base.specs.Timetable.{Days};
+ghost use Rattle.ssim_schedule.specs.FlightPieces.{divided_flights};
+ghost use Rattle.ssim_difference.specs.Lines.{both_lines, changed_legs, changed_lines};
+ghost use Rattle.ssim_difference.specs.Lines.{difference_legs, difference_lines, flight_lines};
+ghost use Rattle.ssim_difference.specs.Lines.{last_line, leg_at, listed_lines, none_line};
+ghost use Rattle.ssim_difference.specs.Lines.{pair_lines, piece_lines, sequence_lines, sequences};
+ghost use Rattle.ssim_difference.specs.Lines.{signed_line};
+
+use crate::dates::date_count;
+use crate::difference::Difference;
+use crate::flight_difference::FlightDifference;
+use crate::timetable_difference::differences;
+use ssim_listing::{is_like, mark_of, push_leg_text, push_period};
+use ssim_schedule::{FlightPieces, PlacedLeg};
+use ssim_values::{Airline, Designator, Memory, Period};
+use std::alloc::Global;
+use std::io::Write;
+
+/// The lines of two timetables of an airline: those of the flights that differ, each with the
+/// periods on which it does and the old and new legs of each; and a last line, with the number of
+/// these flights and of their dates. The two lists are those of [`differences`].
+pub fn difference_lines(
+    alloc: Global,
+    airline: Airline,
+    old: &[FlightPieces],
+    new: &[FlightPieces],
+) -> Result<Vec<u8>, Memory>
+    ensures { (before after : FlightNumber → Days)
+        → old.now ≡ divided_flights before → new.now ≡ divided_flights after
+        → IfOk result (λ lines. lines.items ≡ difference_lines airline before after) }
+{
+    let flights = differences(alloc, old, new)?;
+    let dates = date_count(alloc, &flights)?;
+    let lines = listed(alloc, airline, &flights, dates)?;
+    Ok(lines)
+}
+
+// The lines of some flights, and the last line.
+fn listed(
+    alloc: Global,
+    airline: Airline,
+    flights: &[FlightDifference],
+    dates: u64,
+) -> Result<Vec<u8>, Memory>
+    ensures { IfOk result (λ lines. lines.items ≡ listed_lines airline flights.now dates) }
+{
+    let mut lines = Vec::new(alloc);
+    push_flights(alloc, &mut lines, airline, flights)?;
+    push_last(&mut lines, flights, dates)?;
+    Ok(lines)
+}
+
+// Adds the last line: `same`, or the number of flights that differ and of their dates.
+fn push_last(lines: &mut Vec<u8>, flights: &[FlightDifference], dates: u64) -> Result<(), Memory>
+    ensures { OnOk result (lines.new.items ≡ lines.old.items ++ last_line flights.now dates) }
+{
+    let count = flights.len();
+    if count == 0 {
+        lines.extend_from_slice(b"same\n")?;
+        return Ok(());
+    }
+    match writeln!(lines, "different flights {count} dates {dates}") {
+        Ok(()) => Ok(()),
+        Err(_) => Err(Memory),
+    }
+}
+
+// Adds the lines of the flights that differ.
+fn push_flights(
+    alloc: Global,
+    lines: &mut Vec<u8>,
+    airline: Airline,
+    flights: &[FlightDifference],
+) -> Result<(), Memory>
+    ensures { OnOk result
+        (lines.new.items ≡ lines.old.items ++ flat_map (flight_lines airline) flights.now) }
+{
+    for flight in flights {
+        push_flight(alloc, lines, airline, flight)?;
+    }
+    Ok(())
+}
+
+// Adds the lines of a flight that differs.
+fn push_flight(
+    alloc: Global,
+    lines: &mut Vec<u8>,
+    airline: Airline,
+    flight: &FlightDifference,
+) -> Result<(), Memory>
+    ensures { OnOk result (lines.new.items ≡ lines.old.items ++ flight_lines airline flight.now) }
+{
+    let designator = Designator {
+        airline,
+        flight: flight.flight(),
+    };
+    push_pieces(alloc, lines, designator.write().as_slice(), flight.pieces())
+}
+
+// Adds the lines of the periods on which a flight with this name differs.
+fn push_pieces(
+    alloc: Global,
+    lines: &mut Vec<u8>,
+    name: &[u8],
+    pieces: &[(Period, Difference)],
+) -> Result<(), Memory>
+    ensures { OnOk result
+        (lines.new.items ≡ lines.old.items ++ flat_map (piece_lines name.now) pieces.now) }
+{
+    for piece in pieces {
+        push_piece(alloc, lines, name, piece)?;
+    }
+    Ok(())
+}
+
+// Adds the lines of a period on which a flight with this name differs.
+fn push_piece(
+    alloc: Global,
+    lines: &mut Vec<u8>,
+    name: &[u8],
+    piece: &(Period, Difference),
+) -> Result<(), Memory>
+    ensures { OnOk result (lines.new.items ≡ lines.old.items ++ piece_lines name.now piece.now) }
+{
+    push_period(lines, name, piece.0)?;
+    push_difference(alloc, lines, &piece.1)?;
+    Ok(())
+}
+
+// Adds the lines of the old and the new itinerary.
+fn push_difference(
+    alloc: Global,
+    lines: &mut Vec<u8>,
+    difference: &Difference,
+) -> Result<(), Memory>
+    ensures { OnOk result (lines.new.items ≡ lines.old.items ++ difference_legs difference.now) }
+{
+    let old = difference.old.legs();
+    let new = difference.new.legs();
+    push_changed_legs(alloc, lines, old, new)
+}
+
+// Adds the lines of old and new legs, and a line if there are none.
+fn push_changed_legs(
+    alloc: Global,
+    lines: &mut Vec<u8>,
+    old: &[PlacedLeg],
+    new: &[PlacedLeg],
+) -> Result<(), Memory>
+    ensures { OnOk result (lines.new.items ≡ lines.old.items ++ changed_legs old.now new.now) }
+{
+    push_none(lines, b"- no flight", old)?;
+    push_legs(alloc, lines, old, new)?;
+    push_none(lines, b"+ no flight", new)
+}
+
+// Adds a line if there are no legs.
+fn push_none(lines: &mut Vec<u8>, text: &[u8], legs: &[PlacedLeg]) -> Result<(), Memory>
+    ensures { OnOk result (lines.new.items ≡ lines.old.items ++ none_line text.now legs.now) }
+{
+    if legs.is_empty() {
+        lines.extend_from_slice(text)?;
+        lines.push(b'\n')?;
+    }
+    Ok(())
+}
+
+// Adds the lines of old and new legs, by sequence.
+fn push_legs(
+    alloc: Global,
+    lines: &mut Vec<u8>,
+    old: &[PlacedLeg],
+    new: &[PlacedLeg],
+) -> Result<(), Memory>
+    ensures { OnOk result (lines.new.items
+        ≡ lines.old.items ++ flat_map (sequence_lines old.now new.now) sequences) }
+{
+    for sequence in 1..100 {
+        push_pair(alloc, lines, leg_at(old, sequence), leg_at(new, sequence))?;
+    }
+    Ok(())
+}
+
+// The leg with a sequence.
+fn leg_at(legs: &[PlacedLeg], sequence: u8) -> Option<&PlacedLeg>
+    ensures { option_map (λ leg. leg.now) result ≡ leg_at legs.now sequence }
+{
+    legs.iter().find(|leg| leg.sequence() == sequence)
+}
+
+// Adds the lines of the old and the new leg of one sequence.
+fn push_pair(
+    alloc: Global,
+    lines: &mut Vec<u8>,
+    old: Option<&PlacedLeg>,
+    new: Option<&PlacedLeg>,
+) -> Result<(), Memory>
+    ensures { OnOk result (lines.new.items ≡ lines.old.items ++ pair_lines
+        (option_map (λ leg. leg.now) old.entry) (option_map (λ leg. leg.now) new.entry)) }
+{
+    match (old, new) {
+        (None, None) => Ok(()),
+        (Some(old), None) => push_signed(lines, b"- ", old, b""),
+        (None, Some(new)) => push_signed(lines, b"+ ", new, b""),
+        (Some(old), Some(new)) => push_both(alloc, lines, old, new),
+    }
+}
+
+// Adds the line of an old and a new leg that are equal, or the lines of both.
+fn push_both(
+    alloc: Global,
+    lines: &mut Vec<u8>,
+    old: &PlacedLeg,
+    new: &PlacedLeg,
+) -> Result<(), Memory>
+    ensures { OnOk result (lines.new.items ≡ lines.old.items ++ both_lines old.now new.now) }
+{
+    if old.same(new) {
+        return push_signed(lines, b"  ", old, b"");
+    }
+    push_changed(alloc, lines, old, new)
+}
+
+// Adds the lines of an old and a new leg that differ.
+fn push_changed(
+    alloc: Global,
+    lines: &mut Vec<u8>,
+    old: &PlacedLeg,
+    new: &PlacedLeg,
+) -> Result<(), Memory>
+    ensures { OnOk result (lines.new.items ≡ lines.old.items ++ changed_lines old.now new.now) }
+{
+    let marked = is_like(alloc, old, new)?;
+    let mark = mark_of(marked);
+    push_signed(lines, b"- ", old, mark)?;
+    push_signed(lines, b"+ ", new, mark)
+}
+
+// Adds the line of a leg, after two characters and before a mark.
+fn push_signed(lines: &mut Vec<u8>, sign: &[u8], leg: &PlacedLeg, mark: &[u8]) -> Result<(), Memory>
+    ensures { OnOk result
+        (lines.new.items ≡ lines.old.items ++ signed_line sign.now leg.now mark.now) }
+{
+    lines.extend_from_slice(sign)?;
+    push_leg_text(lines, leg)?;
+    lines.extend_from_slice(mark)?;
+    lines.push(b'\n')?;
+    Ok(())
+}
