@@ -1,7 +1,7 @@
--- On which dates two timetables differ: for each flight the periods of the dates that differ, each with
--- the old and the new itinerary.
-use Rattle.std.specs.Prelude.{◌≡◌, ◌↔◌, ℕ, ◌<◌, Bool, not, ◌&&◌, nat_lt, if◌then◌else◌, List, [], ◌∷◌}
-use Rattle.std.specs.Prelude.{filter, length, map}
+-- On which dates two timetables differ: for each flight the periods of the dates that differ, each
+-- with the old and the new itinerary.
+use Rattle.std.specs.Prelude.{◌≡◌, ◌↔◌, ℕ, ◌<◌, Bool, not, ◌&&◌, nat_lt, if◌then◌else◌}
+use Rattle.std.specs.Prelude.{List, [], ◌∷◌, filter, length, map}
 use Rattle.std.specs.List.{count_by, range_with_len, sum_by}
 use Rattle.ssim_values.specs.Flight.{FlightNumber}
 use Rattle.ssim_values.specs.Period.{DayRange}
@@ -77,14 +77,15 @@ date_count old new = sum_by (λ flight. differing_dates (old flight) (new flight
 
 -- ---- laws
 
--- The law of differences. On each date of the calendar on which a flight differs, exactly one of its
--- pieces holds the date, with the two itineraries of the date. No piece holds another date.
+-- The law of differences. On each date of the calendar on which a flight differs, exactly one of
+-- its pieces holds the date, with the two itineraries of the date. No piece holds another date.
 abbrev pub PiecesHoldDifferences : Type 0
 PiecesHoldDifferences = (old new : Days) (n : ℕ) → n < day_count
     → held_on (difference_pieces old new) n
     ≡ (if differs_on old new n then pair (on_day old n) (on_day new n) ∷ [] else [])
 
--- The law of equal timetables. No flight differs if and only if each flight has the same itinerary on
--- each date.
+-- The law of equal timetables. No flight differs if and only if each flight has the same itinerary
+-- on each date.
 abbrev pub NoneDiffer : Type 0
-NoneDiffer = (old new : FlightNumber → Days) → (differences old new ≡ []) ↔ HaveSameItineraries old new
+NoneDiffer = (old new : FlightNumber → Days)
+    → (differences old new ≡ []) ↔ HaveSameItineraries old new

@@ -42,7 +42,8 @@ pub fn date_count(alloc: Global, listed: &[FlightDifference]) -> Result<u64, Mem
 
 // The number of dates of the pieces of flights.
 fn dates_of_flights(alloc: Global, flights: &[FlightDifference]) -> Result<u64, Memory>
-    ensures { IfOk result (λ count. all_dates flights.now < 2 ^ 64 → count ≡ all_dates flights.now) }
+    ensures { IfOk result
+        (λ count. all_dates flights.now < 2 ^ 64 → count ≡ all_dates flights.now) }
 {
     let mut count: u64 = 0;
     for flight in flights {

@@ -14,8 +14,8 @@ use ssim_values::{Flight, Memory, Period};
 use std::alloc::Global;
 use std::marker::Model;
 
-/// A flight that differs, and the periods on which it does: the canonical division of these dates in
-/// order of first day, each period with the old and the new itinerary of its dates.
+/// A flight that differs, and the periods on which it does: the canonical division of these dates
+/// in order of first day, each period with the old and the new itinerary of its dates.
 #[derive(Drop)]
 pub struct FlightDifference {
     flight: Flight,

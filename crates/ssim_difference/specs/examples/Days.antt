@@ -1,5 +1,6 @@
 -- Small examples of differences, checked by computation.
-use Rattle.std.specs.Prelude.{◌≡◌, ℕ, Bool, true, false, nat_eq, nat_lt, if◌then◌else◌, List, [], ◌∷◌, map, refl}
+use Rattle.std.specs.Prelude.{◌≡◌, ℕ, Bool, true, false, nat_eq, nat_lt, if◌then◌else◌}
+use Rattle.std.specs.Prelude.{List, [], ◌∷◌, map, refl}
 use Rattle.std.specs.List.{range_with_len}
 use Rattle.ssim_values.specs.Period.{DayRange}
 use Rattle.ssim_periods.specs.Pieces.{held_on, pieces_of}
@@ -28,7 +29,10 @@ changed = refl
 cancelled : difference (flown 65) [] ≡ pair (flown 65) []
 cancelled = refl
 
-another_tail : difference (flown 65) (record (leg 65) { tails = (66 ∷ []) ∷ [] } ∷ []) ≡ pair (flown 65) (record (leg 65) { tails = (66 ∷ []) ∷ [] } ∷ [])
+abbrev tailed : Legs
+tailed = record (leg 65) { tails = (66 ∷ []) ∷ [] } ∷ []
+
+another_tail : difference (flown 65) tailed ≡ pair (flown 65) tailed
 another_tail = refl
 
 -- ---- fourteen days, of which day 0 is a Saturday
@@ -39,7 +43,9 @@ old_on n = flown 65
 
 -- the new one has another leg from day 1 to day 9, but none on day 4, a Wednesday
 abbrev new_on : ℕ → Legs
-new_on n = if nat_eq n 4 then [] else (if nat_eq n 0 then flown 65 else (if nat_lt n 10 then flown 66 else flown 65))
+new_on n =
+    if nat_eq n 4 then []
+    else (if nat_eq n 0 then flown 65 else (if nat_lt n 10 then flown 66 else flown 65))
 
 abbrev fourteen_days : List Difference
 fourteen_days = map (λ n. difference (old_on n) (new_on n)) (range_with_len 0 14)
@@ -58,7 +64,9 @@ abbrev wednesday : List Bool
 wednesday = false ∷ false ∷ true ∷ false ∷ false ∷ false ∷ false ∷ []
 
 -- two periods, each with its two itineraries
-two_periods : found ≡ (on_days 1 9 no_wednesday, pair (flown 65) (flown 66)) ∷ (on_days 4 4 wednesday, pair (flown 65) []) ∷ []
+two_periods : found
+    ≡ (on_days 1 9 no_wednesday, pair (flown 65) (flown 66))
+    ∷ (on_days 4 4 wednesday, pair (flown 65) []) ∷ []
 two_periods = refl
 
 on_wednesday : held_on found 4 ≡ pair (flown 65) [] ∷ []
@@ -72,5 +80,6 @@ on_an_equal_day = refl
 abbrev pieces_so_far : List Piece
 pieces_so_far = (on_days 1 9 no_wednesday, flown 66) ∷ (on_days 4 4 wednesday, flown 67) ∷ []
 
-what_is_held : (held pieces_so_far 3 ∷ held pieces_so_far 4 ∷ held pieces_so_far 10 ∷ []) ≡ flown 66 ∷ flown 67 ∷ [] ∷ []
+what_is_held : (held pieces_so_far 3 ∷ held pieces_so_far 4 ∷ held pieces_so_far 10 ∷ [])
+    ≡ flown 66 ∷ flown 67 ∷ [] ∷ []
 what_is_held = refl
