@@ -3,8 +3,8 @@ use Rattle.std.specs.Prelude.{ℕ, ◌==◌, nat_lt, if◌then◌else◌, List, 
 use Rattle.std.specs.Fmt.{decimal}
 use Rattle.std.specs.List.{flat_map}
 
--- A byte as text: the characters that mean something else in HTML have names, and a byte above 126 is
--- the character with its number, so that the page is ASCII.
+-- A byte as text: the characters that mean something else in HTML have names, and a byte above 126
+-- is the character with its number, so that the page is ASCII.
 abbrev pub escaped_byte : ℕ → List ℕ
 escaped_byte b =
     if b == 38 then codes "&amp;"

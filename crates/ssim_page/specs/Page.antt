@@ -1,12 +1,10 @@
 -- A timetable as a page of HTML: a section for each flight, with a row for each of its periods.
-use Rattle.std.specs.Prelude.{◌≡◌, ℕ, ◌==◌, ◌||◌, if◌then◌else◌, List, [], ◌∷◌, ◌++◌, codes, length, map}
-use Rattle.std.specs.Prelude.{slice_index}
+use Rattle.std.specs.Prelude.{◌≡◌, ℕ, ◌==◌, ◌||◌, if◌then◌else◌, List, [], ◌∷◌, ◌++◌, codes}
+use Rattle.std.specs.Prelude.{length, map, slice_index}
 use Rattle.std.specs.List.{flat_map}
 use Rattle.ssim_values.specs.Airline.{airline_text}
 use Rattle.ssim_values.specs.Day.{day_text}
 use Rattle.ssim_values.specs.DayMask.{places_of}
-use Rattle.ssim_values.specs.Designator.{designator_text}
-use Rattle.ssim_values.specs.Flight.{FlightNumber}
 use Rattle.ssim_values.specs.Period.{DayRange}
 use Rattle.ssim_values.specs.declared.time_mode.TimeMode.{TimeMode}
 use Rattle.ssim_values.specs.declared.time_mode.TimeMode.TheVariants.{Utc, Local}
@@ -14,6 +12,7 @@ use Rattle.ssim_records.specs.Leg.{leg_columns}
 use Rattle.ssim_base.specs.Export.{Piece, same_itinerary}
 use Rattle.ssim_base.specs.Timetable.{LegValue, Legs}
 use Rattle.ssim_schedule.specs.FlightPieces.{Divided}
+use Rattle.ssim_listing.specs.Lines.{flight_name}
 use Rattle.ssim_calendar.specs.Letters.{letter_at, new_values, place_of}
 use Rattle.ssim_page.specs.Html.{cell, cell_line, escaped, escaped_byte}
 use Rattle.ssim_page.specs.declared.heading.Heading.{Heading}
@@ -31,7 +30,8 @@ later_at place columns = later_text (slice_index (leg_columns 193 194 columns) p
 
 -- columns first to last, a blank, and columns from to
 abbrev pub end_text : ℕ → ℕ → ℕ → ℕ → List ℕ → List ℕ
-end_text first last from to columns = leg_columns first last columns ++ 32 ∷ leg_columns from to columns
+end_text first last from to columns =
+    leg_columns first last columns ++ 32 ∷ leg_columns from to columns
 
 -- the stations of a leg with these columns, each with the time of the aircraft
 unfoldable pub route_text : List ℕ → List ℕ
@@ -99,13 +99,10 @@ section_title name = codes "<section><h2>" ++ name ++ codes "</h2><table>\n"
 unfoldable pub section : List ℕ → List Piece → List ℕ
 section name pieces = section_title name ++ rows pieces ++ codes "</table></section>\n"
 
--- a flight of an airline as its designator
-abbrev pub flight_name : List ℕ → FlightNumber → List ℕ
-flight_name airline flight = designator_text (record { airline = airline; flight = flight })
-
 -- the sections of an airline's flights
 abbrev pub sections : List ℕ → List Divided → List ℕ
-sections airline flights = flat_map (λ flight. section (flight_name airline flight.0) flight.1) flights
+sections airline flights =
+    flat_map (λ flight. section (flight_name airline flight.0) flight.1) flights
 
 -- ---- the page
 
@@ -123,8 +120,8 @@ title heading =
 -- the title of the document
 unfoldable pub document_title : Heading → List ℕ
 document_title heading =
-    codes "<!DOCTYPE html>\n<html lang=\"en\">\n<head>\n<meta charset=\"utf-8\">\n<title>" ++ title heading
-    ++ codes "</title>\n"
+    codes "<!DOCTYPE html>\n<html lang=\"en\">\n<head>\n<meta charset=\"utf-8\">\n<title>"
+    ++ title heading ++ codes "</title>\n"
 
 -- the same as the first line that is shown
 unfoldable pub shown_title : Heading → List ℕ
@@ -141,5 +138,5 @@ pub record IsPage (heading : Heading) (flights : List Divided) (bytes : List ℕ
   pub words : List ℕ
   pub script : List ℕ
   pub bytes_are : bytes
-      ≡ document_title heading ++ style ++ shown_title heading ++ words ++ sections heading.airline flights
-      ++ script ++ document_end
+      ≡ document_title heading ++ style ++ shown_title heading ++ words
+      ++ sections heading.airline flights ++ script ++ document_end

@@ -22,8 +22,9 @@ pub(crate) const BOX: &str = "\
 <p><input id='words' placeholder='flight or station' autofocus> <span id='count'></span></p>
 ";
 
-/// Draws for each flight a square for each date, a column for each week, in the colour of the date's
-/// itinerary, as soon as the flight is in sight; and hides the flights that lack what is in the box.
+/// Draws for each flight a square for each date, a column for each week, in the colour of the
+/// date's itinerary, as soon as the flight is in sight; and hides the flights that lack what is in
+/// the box.
 pub(crate) const SCRIPT: &str = "\
 <script>
 'use strict';
@@ -31,9 +32,11 @@ const MONTHS = 'JANFEBMARAPRMAYJUNJULAUGSEPOCTNOVDEC';
 const SIDE = 7;
 const dayOf = text => Date.UTC(2000 + Number(text.slice(5)), MONTHS.indexOf(text.slice(2, 5)) / 3,
   Number(text.slice(0, 2))) / 864e5;
-const colourOf = letter => letter === '#' ? '#999' : `hsl(${((letter.charCodeAt(0) - 65) * 137 + 212) % 360} 55% 58%)`;
+const colourOf = letter => letter === '#' ? '#999' : \
+  `hsl(${((letter.charCodeAt(0) - 65) * 137 + 212) % 360} 55% 58%)`;
 function draw(section) {
-  const rows = [...section.querySelectorAll('tr')].map(row => [...row.cells].map(cell => cell.textContent));
+  const rows = [...section.querySelectorAll('tr')].map(row => \
+    [...row.cells].map(cell => cell.textContent));
   if (rows.length === 0) return;
   const first = Math.min(...rows.map(row => dayOf(row[1])));
   const last = Math.max(...rows.map(row => dayOf(row[2])));

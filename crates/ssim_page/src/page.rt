@@ -2,8 +2,9 @@
 
 ghost use Rattle.std.specs.Prelude.{◌≡◌, ◌++◌, IfOk, OnOk};
 ghost use Rattle.std.specs.List.{flat_map};
-ghost use Rattle.ssim_page.specs.Page.{IsPage, document_end, document_title, flight_name, letter_of};
-ghost use Rattle.ssim_page.specs.Page.{row, rows, section, section_title, sections, shown_title};
+ghost use Rattle.ssim_listing.specs.Lines.{flight_name};
+ghost use Rattle.ssim_page.specs.Page.{IsPage, document_end, document_title, letter_of, row, rows};
+ghost use Rattle.ssim_page.specs.Page.{section, section_title, sections, shown_title};
 
 use crate::heading::{Heading, push_title};
 use crate::itineraries::{itineraries, letter_of};
@@ -14,8 +15,8 @@ use ssim_schedule::{FlightPieces, Itinerary};
 use ssim_values::{Airline, Designator, Flight, Memory, Period};
 use std::alloc::Global;
 
-/// The page of the flights of an airline: a section for each flight, in order, with a row for each of
-/// its pieces.
+/// The page of the flights of an airline: a section for each flight, in order, with a row for each
+/// of its pieces.
 pub fn page_of(
     alloc: Global,
     heading: &Heading,
