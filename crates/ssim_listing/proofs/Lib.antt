@@ -1,6 +1,7 @@
 pub mod Joining
 pub mod Grouping
 pub mod Dating
+pub mod LegDates
 pub mod GroupMaps
 pub mod IsoDates
 pub mod Heads

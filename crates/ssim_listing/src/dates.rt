@@ -2,12 +2,12 @@
 
 ghost use Rattle.std.specs.Prelude.{◌≡◌, ◌++◌, ◌+◌, ◌<◌, ◌≤◌, IfOk, OnOk, filter, map};
 ghost use Rattle.std.specs.List.{flat_map, range_with_len};
-ghost use Rattle.ssim_periods.specs.Calendar.{holds};
-ghost use Rattle.ssim_listing.specs.Dates.{date_line, date_lines, dated_lines, dated_listing};
-ghost use Rattle.ssim_listing.specs.Dates.{dates_of, dates_on};
-ghost use Rattle.ssim_listing.specs.internal.FlightDates.{meets_days};
+ghost use Rattle.ssim_periods.specs.Calendar.{day_count, holds};
+ghost use Rattle.ssim_listing.specs.Dates.{date_lines, dated_lines, dated_listing, dates_of};
+ghost use Rattle.ssim_listing.specs.Dates.{dates_on};
+ghost use Rattle.ssim_listing.specs.internal.FlightDates.{leg_texts, lines_on, meets_days, text_line};
 
-use crate::leg_text::push_leg_text;
+use crate::leg_text::text_of;
 use crate::lines::{name_of, push_day, push_no_flight};
 use ssim_periods::{Value, weekday_of};
 use ssim_schedule::{FlightPieces, Itinerary, PlacedLeg};
@@ -22,6 +22,9 @@ const DAYS: u16 = 75;
 
 /// A date of a flight, with the legs on it.
 pub(crate) type FlightDate = (Day, Itinerary);
+
+/// A leg as text, with its period.
+type LegText = (Period, Vec<u8>);
 
 /// The flights of an airline date by date, a line for each leg.
 pub fn dated_listing(
@@ -54,7 +57,7 @@ fn push_flight(
     }
 }
 
-// Adds the lines of the dates of a flight.
+// Adds the lines of the dates of a flight. Each leg is made text once, for all dates of its period.
 fn push_dates(
     alloc: Global,
     lines: &mut Vec<u8>,
@@ -64,40 +67,99 @@ fn push_dates(
     ensures { OnOk result (lines.new.items
         ≡ lines.old.items ++ flat_map (date_lines name.now) (dates_of pieces.now)) }
 {
-    let dates = dates_of(alloc, pieces)?;
-    push_each(lines, name, &dates)
+    let texts = texts_of(alloc, pieces)?;
+    push_texts(alloc, lines, name, &texts)
 }
 
-// Adds the lines of dates.
-fn push_each(lines: &mut Vec<u8>, name: &[u8], dates: &[FlightDate]) -> Result<(), Memory>
-    ensures { OnOk result (lines.new.items
-        ≡ lines.old.items ++ flat_map (date_lines name.now) dates.now) }
+// The legs of pieces as texts, each with the period of its piece.
+fn texts_of(alloc: Global, pieces: &[(Period, Itinerary)]) -> Result<Vec<LegText>, Memory>
+    ensures { IfOk result
+        (λ texts. map (λ t. (t.0, t.1.items)) texts.items ≡ flat_map leg_texts pieces.now) }
 {
-    for date in dates {
-        push_date(lines, name, date.0, date.1.legs())?;
+    let mut texts = Vec::new(alloc);
+    for piece in pieces {
+        add_texts(alloc, &mut texts, piece.0, piece.1.legs())?;
+    }
+    Ok(texts)
+}
+
+// Adds the legs of a piece as texts.
+fn add_texts(
+    alloc: Global,
+    texts: &mut Vec<LegText>,
+    period: Period,
+    legs: &[PlacedLeg],
+) -> Result<(), Memory>
+    ensures { OnOk result (map (λ t. (t.0, t.1.items)) texts.new.items
+        ≡ map (λ t. (t.0, t.1.items)) texts.old.items ++ leg_texts (period, legs.now)) }
+{
+    for leg in legs {
+        let text = text_of(alloc, leg)?;
+        texts.push((period, text))?;
     }
     Ok(())
 }
 
-// Adds a line for each leg on a date.
-fn push_date(lines: &mut Vec<u8>, name: &[u8], day: Day, legs: &[PlacedLeg]) -> Result<(), Memory>
-    ensures { OnOk result
-        (lines.new.items ≡ lines.old.items ++ flat_map (date_line name.now day) legs.now) }
+// Adds a line for each day and each text whose period holds it. The calendar is cut into parts, as
+// in `dates_of`.
+fn push_texts(
+    alloc: Global,
+    lines: &mut Vec<u8>,
+    name: &[u8],
+    texts: &[LegText],
+) -> Result<(), Memory>
+    ensures { OnOk result (lines.new.items ≡ lines.old.items
+        ++ flat_map (lines_on name.now texts.now) (range_with_len 0 day_count)) }
 {
-    for leg in legs {
-        push_leg(lines, name, day, leg)?;
+    for part in 0..PARTS {
+        let near = near_part(alloc, texts, DAYS * part)?;
+        push_part(lines, name, &near, DAYS * part)?;
+    }
+    Ok(())
+}
+
+// Adds the lines of a part of the calendar, from this day on.
+fn push_part(lines: &mut Vec<u8>, name: &[u8], near: &[&LegText], from: u16) -> Result<(), Memory>
+    requires { from + 75 ≤ 36525 }
+    ensures { OnOk result (lines.new.items ≡ lines.old.items
+        ++ flat_map (lines_on name.now (map (λ t. t.now) near.now)) (range_with_len from 75)) }
+{
+    for day in from..from + DAYS {
+        push_on_day(lines, name, near, day)?;
+    }
+    Ok(())
+}
+
+// Adds the lines of a day: one for each text whose period holds it.
+fn push_on_day(
+    lines: &mut Vec<u8>,
+    name: &[u8],
+    near: &[&LegText],
+    number: u16,
+) -> Result<(), Memory>
+    requires { number < 36525 }
+    ensures { OnOk result (lines.new.items
+        ≡ lines.old.items ++ lines_on name.now (map (λ t. t.now) near.now) number) }
+{
+    let Some(day) = Day::from_number(number) else {
+        unreachable!();
+    };
+    for text in near {
+        if holds(text.0, number) {
+            push_line(lines, name, day, text.1.as_slice())?;
+        }
     }
     Ok(())
 }
 
 // Adds the flight, the date and a leg.
-fn push_leg(lines: &mut Vec<u8>, name: &[u8], day: Day, leg: &PlacedLeg) -> Result<(), Memory>
-    ensures { OnOk result (lines.new.items ≡ lines.old.items ++ date_line name.now day leg.now) }
+fn push_line(lines: &mut Vec<u8>, name: &[u8], day: Day, leg: &[u8]) -> Result<(), Memory>
+    ensures { OnOk result (lines.new.items ≡ lines.old.items ++ text_line name.now day leg.now) }
 {
     lines.extend_from_slice(name)?;
     push_day(lines, day)?;
     lines.push(b' ')?;
-    push_leg_text(lines, leg)?;
+    lines.extend_from_slice(leg)?;
     lines.push(b'\n')?;
     Ok(())
 }
@@ -119,11 +181,11 @@ pub(crate) fn dates_of(
 }
 
 // The pieces that may hold a day of the part of the calendar from this day on.
-fn near_part<'a>(
+fn near_part<'a, V>(
     alloc: Global,
-    pieces: &'a [(Period, Itinerary)],
+    pieces: &'a [(Period, V)],
     from: u16,
-) -> Result<Vec<&'a (Period, Itinerary)>, Memory>
+) -> Result<Vec<&'a (Period, V)>, Memory>
     requires { from + 75 < 65536 }
     ensures { IfOk result
         (λ near. map (λ p. p.now) near.items ≡ filter (λ piece. meets_days from piece.0) pieces.now) }

@@ -4,5 +4,5 @@ use Rattle.ssim_listing.specs.internal.FlightDates.{meets_days}
 use Rattle.ssim_listing.proofs.dates.near_part.Given as goal
 
 abbrev pub invariant-loop-piece : goal.invariant-loop-piece
-invariant-loop-piece l =
+invariant-loop-piece g l =
     map (λ p. p.now) l.near.items ≡ filter (λ piece. meets_days l.from piece.0) (take l.piece-index l.pieces)

@@ -1,10 +1,10 @@
--- The dates of the pieces.
-use Rattle.std.proofs.Common.{◌≡◌, ◌∙◌, ◌++◌, List, OnOk, subst}
-use Rattle.std.specs.List.{flat_map}
-use Rattle.ssim_listing.specs.Dates.{FlightDate, date_lines}
+-- The lines of the texts are those of the legs.
+use Rattle.std.proofs.Common.{◌≡◌, ◌∙◌, ◌++◌, List, ℕ, OnOk, ap, map, subst}
+use Rattle.ssim_listing.proofs.LegDates.{all_lines}
 use Rattle.ssim_listing.proofs.dates.push_dates.Goals as goal
 
 pub returns : goal.returns
 returns c =
-    subst (λ (dates : List FlightDate). OnOk c.push_each.result (c.push_each.new.lines.items ≡ c.args.lines.now.items ++ flat_map (date_lines c.args.name.now) dates))
-    (c.deref.ensures.value ∙ c.in_ok-dates.ensures) c.push_each.ensures
+    subst (λ (bytes : List ℕ). OnOk c.push_texts.result (c.push_texts.new.lines.items ≡ c.args.lines.now.items ++ bytes))
+    (all_lines c.args.name.now c.args.pieces.now c.deref.result.now (ap (map (λ t. (t.0, t.1.items))) c.deref.ensures.value ∙ c.in_ok-texts.ensures))
+    c.push_texts.ensures
