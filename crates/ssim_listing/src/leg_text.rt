@@ -15,11 +15,14 @@ use ssim_schedule::PlacedLeg;
 use ssim_values::Memory;
 use std::alloc::Global;
 
+/// How many bytes the line of a leg has.
+const LINE: usize = 51;
+
 /// The line of a leg, without its end.
 pub(crate) fn text_of(alloc: Global, leg: &PlacedLeg) -> Result<Vec<u8>, Memory>
     ensures { IfOk result (λ text. text.items ≡ leg_text leg.now) }
 {
-    let mut text = Vec::new(alloc);
+    let mut text = Vec::with_capacity(alloc, LINE)?;
     push_leg_text(&mut text, leg)?;
     Ok(text)
 }

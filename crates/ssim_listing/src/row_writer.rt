@@ -1,12 +1,16 @@
 //! Rows of CSV, as the crate `csv` writes them into memory.
 
 ghost use Rattle.std.specs.Prelude.{◌≡◌, ◌++◌, ℕ, [], List, IfOk, OnOk, map};
+ghost use Rattle.csv.specs.Records.{fields_of};
 ghost use Rattle.ssim_listing.specs.Rows.{row};
 ghost use Rattle.ssim_listing.specs.internal.Written.{HasWritten};
 
 use csv::{ByteRecord, Writer};
 use ssim_values::Memory;
 use std::alloc::Global;
+
+/// How many bytes a row has room for at first. Mostly it has fewer.
+const ROOM: usize = 256;
 
 /// A writer of rows that writes into memory.
 pub(crate) type RowWriter = Writer<Vec<u8>>;
@@ -23,12 +27,23 @@ pub(crate) fn put_row(alloc: Global, rows: &mut RowWriter, fields: &[&[u8]]) -> 
     ensures { OnOk result ((before : List ℕ) → HasWritten rows.old before
         → HasWritten rows.new (before ++ row (map (λ f. f.now) fields.now))) }
 {
-    let mut record = ByteRecord::from_fields(alloc, fields)?;
-    record.trim()?;
-    match rows.write_byte_record(&record) {
+    let mut row = row_of(alloc, fields)?;
+    row.trim()?;
+    match rows.write_byte_record(&row) {
         Ok(()) => Ok(()),
         Err(_) => Err(Memory),
     }
+}
+
+// A row of these fields, not yet written.
+fn row_of(alloc: Global, fields: &[&[u8]]) -> Result<ByteRecord, Memory>
+    ensures { IfOk result (λ r. fields_of r ≡ map (λ f. f.now) fields.now) }
+{
+    let mut row = ByteRecord::with_capacity(alloc, ROOM, fields.len())?;
+    for field in fields {
+        row.push_field(field)?;
+    }
+    Ok(row)
 }
 
 /// The rows that were written.
