@@ -28,7 +28,7 @@ use Rattle.ssim_program.specs.declared.explain.file_kind.FileKind.TheVariants as
 use Rattle.ssim_base.specs.Base.{airline_of}
 use Rattle.ssim_program.specs.Boards.{board_at}
 use Rattle.ssim_board.specs.InOrder.{board_of}
-use Rattle.ssim_program.specs.print.Board.{board_lines}
+use Rattle.ssim_board.specs.Lines.{board_lines}
 use Rattle.ssim_program.specs.print.Calendar.{calendar_lines}
 use Rattle.ssim_program.specs.print.Listing.{printed_list}
 use Rattle.ssim_program.specs.print.Shown.{findings_lines, history_lines, shown_flight}

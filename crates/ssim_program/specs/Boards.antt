@@ -14,7 +14,7 @@ use Rattle.ssim_desk.specs.Desk.{days_of_desk}
 use Rattle.ssim_board.specs.InOrder.{board_of}
 use Rattle.ssim_board.specs.declared.board.Board.{Board}
 use Rattle.ssim_command_line.specs.Line.{Text}
-use Rattle.ssim_program.specs.print.Board.{board_lines}
+use Rattle.ssim_board.specs.Lines.{board_lines}
 use Rattle.ssim_program.specs.declared.refusal.Refusal.{Refusal}
 use Rattle.ssim_program.specs.declared.refusal.Refusal.TheVariants as refused
 

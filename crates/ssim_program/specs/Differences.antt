@@ -7,7 +7,7 @@ use Rattle.ssim_base.specs.ReadBack.{HasFrame}
 use Rattle.ssim_held.specs.Entries.{DeskSeen}
 use Rattle.ssim_held.specs.declared.fault.DeskFault.TheVariants as desk_fault
 use Rattle.ssim_desk.specs.Desk.{days_of_desk}
-use Rattle.ssim_program.specs.print.Difference.{difference_lines}
+use Rattle.ssim_difference.specs.Lines.{difference_lines}
 use Rattle.ssim_program.specs.declared.refusal.Refusal.{Refusal}
 use Rattle.ssim_program.specs.declared.refusal.Refusal.TheVariants as refused
 

@@ -3,9 +3,7 @@ pub mod Names
 pub mod Refusal
 pub mod Printed
 pub mod Shown
-pub mod Board
 pub mod Listing
 pub mod Calendar
-pub mod Difference
 pub mod Paper
 pub mod Reasons

@@ -1,34 +1,22 @@
 //! The command `diff`: on which dates the timetables of two files differ.
 
-ghost use Rattle.std.specs.Prelude.{◌≡◌, ◌≢◌, ◌⊎◌, ◌++◌, IfErr, IfOk, OnOk, false, true};
-ghost use Rattle.std.specs.List.{flat_map};
-ghost use Rattle.std.specs.Option.{option_map};
-ghost use Rattle.ssim_values.specs.Flight.{FlightNumber};
-ghost use Rattle.ssim_base.specs.Timetable.{Days};
+ghost use Rattle.std.specs.Prelude.{◌≡◌, ◌≢◌, ◌⊎◌, IfErr, IfOk, false, true};
 ghost use Rattle.ssim_held.specs.Entries.{DeskSeen};
-ghost use Rattle.ssim_schedule.specs.FlightPieces.{divided_flights};
 ghost use Rattle.ssim_command_line.specs.Line.{Diff};
 ghost use Rattle.ssim_program.specs.Differences.{PrintsDifferences, RefusesComparison};
 ghost use Rattle.ssim_program.specs.Timetables.{ReadsTimetable, RefusesTimetable};
 ghost use Rattle.ssim_program.specs.internal.Diff.{HasCarrier, HasFlights};
 ghost use Rattle.ssim_program.specs.internal.Program.{Prepares, stored};
-ghost use Rattle.ssim_program.specs.print.Difference.{both_lines, changed_legs, changed_lines};
-ghost use Rattle.ssim_program.specs.print.Difference.{difference_legs, difference_lines, flight_lines};
-ghost use Rattle.ssim_program.specs.print.Difference.{last_line, leg_at, listed_lines, none_line};
-ghost use Rattle.ssim_program.specs.print.Difference.{pair_lines, piece_lines, sequence_lines, sequences};
-ghost use Rattle.ssim_program.specs.print.Difference.{signed_line};
 
 use crate::refusal::Refusal;
 use crate::store::Store;
 use crate::timetable_file::open_timetable;
 use ssim_desk::{DeskFault, Holdings};
-use ssim_difference::{Difference, FlightDifference, date_count, differences};
-use ssim_listing::{is_like, mark_of, push_leg_text, push_period};
+use ssim_difference::difference_lines;
 use ssim_records::Carrier;
-use ssim_schedule::{FlightPieces, PlacedLeg};
-use ssim_values::{Airline, Designator, Memory, Period};
+use ssim_schedule::FlightPieces;
+use ssim_values::Memory;
 use std::alloc::Global;
-use std::io::Write;
 
 /// The carrier record of a data set, and the flights of a timetable over it.
 #[derive(Drop)]
@@ -97,7 +85,7 @@ fn compared(alloc: Global, old: &Timetable, desk: Holdings) -> Result<Vec<u8>, R
 {
     let new = flights_of(desk)?;
     if are_comparable(&old.carrier, &new.carrier) {
-        let lines = lines_of(alloc, old.carrier.airline(), &old.flights, &new.flights)?;
+        let lines = difference_lines(alloc, old.carrier.airline(), &old.flights, &new.flights)?;
         return Ok(lines);
     }
     Err(Refusal::from(DeskFault::OtherBase))
@@ -111,235 +99,4 @@ fn are_comparable(old: &Carrier, new: &Carrier) -> bool
         → (new.now.airline ≢ old.now.airline) ⊎ (new.now.time_mode ≢ old.now.time_mode) }
 {
     new.airline() == old.airline() && new.time_mode() == old.time_mode()
-}
-
-/// The lines of the flights that differ, and the last line.
-fn lines_of(
-    alloc: Global,
-    airline: Airline,
-    old: &[FlightPieces],
-    new: &[FlightPieces],
-) -> Result<Vec<u8>, Memory>
-    ensures { (before after : FlightNumber → Days)
-        → old.now ≡ divided_flights before → new.now ≡ divided_flights after
-        → IfOk result (λ lines. lines.items ≡ difference_lines airline before after) }
-{
-    let flights = differences(alloc, old, new)?;
-    let dates = date_count(alloc, &flights)?;
-    let lines = listed(alloc, airline, &flights, dates)?;
-    Ok(lines)
-}
-
-/// The lines of some flights, and the last line.
-fn listed(
-    alloc: Global,
-    airline: Airline,
-    flights: &[FlightDifference],
-    dates: u64,
-) -> Result<Vec<u8>, Memory>
-    ensures { IfOk result (λ lines. lines.items ≡ listed_lines airline flights.now dates) }
-{
-    let mut lines = Vec::new(alloc);
-    push_flights(alloc, &mut lines, airline, flights)?;
-    push_last(&mut lines, flights, dates)?;
-    Ok(lines)
-}
-
-/// Adds the last line: `same`, or the number of flights that differ and of their dates.
-fn push_last(lines: &mut Vec<u8>, flights: &[FlightDifference], dates: u64) -> Result<(), Memory>
-    ensures { OnOk result (lines.new.items ≡ lines.old.items ++ last_line flights.now dates) }
-{
-    let count = flights.len();
-    if count == 0 {
-        lines.extend_from_slice(b"same\n")?;
-        return Ok(());
-    }
-    match writeln!(lines, "different flights {count} dates {dates}") {
-        Ok(()) => Ok(()),
-        Err(_) => Err(Memory),
-    }
-}
-
-/// Adds the lines of the flights that differ.
-fn push_flights(
-    alloc: Global,
-    lines: &mut Vec<u8>,
-    airline: Airline,
-    flights: &[FlightDifference],
-) -> Result<(), Memory>
-    ensures { OnOk result
-        (lines.new.items ≡ lines.old.items ++ flat_map (flight_lines airline) flights.now) }
-{
-    for flight in flights {
-        push_flight(alloc, lines, airline, flight)?;
-    }
-    Ok(())
-}
-
-/// Adds the lines of a flight that differs.
-fn push_flight(
-    alloc: Global,
-    lines: &mut Vec<u8>,
-    airline: Airline,
-    flight: &FlightDifference,
-) -> Result<(), Memory>
-    ensures { OnOk result (lines.new.items ≡ lines.old.items ++ flight_lines airline flight.now) }
-{
-    let number = flight.flight();
-    let designator = Designator {
-        airline,
-        flight: number,
-    };
-    push_pieces(alloc, lines, &designator, flight.pieces())
-}
-
-/// Adds the lines of the periods on which a flight differs.
-fn push_pieces(
-    alloc: Global,
-    lines: &mut Vec<u8>,
-    designator: &Designator,
-    pieces: &[(Period, Difference)],
-) -> Result<(), Memory>
-    ensures { OnOk result
-        (lines.new.items ≡ lines.old.items ++ flat_map (piece_lines designator.now) pieces.now) }
-{
-    for piece in pieces {
-        push_piece(alloc, lines, designator, piece)?;
-    }
-    Ok(())
-}
-
-/// Adds the lines of a period on which a flight differs.
-fn push_piece(
-    alloc: Global,
-    lines: &mut Vec<u8>,
-    designator: &Designator,
-    piece: &(Period, Difference),
-) -> Result<(), Memory>
-    ensures { OnOk result (lines.new.items ≡ lines.old.items ++ piece_lines designator.now piece.now) }
-{
-    push_period(lines, designator.write().as_slice(), piece.0)?;
-    push_difference(alloc, lines, &piece.1)?;
-    Ok(())
-}
-
-/// Adds the lines of the old and the new itinerary.
-fn push_difference(
-    alloc: Global,
-    lines: &mut Vec<u8>,
-    difference: &Difference,
-) -> Result<(), Memory>
-    ensures { OnOk result (lines.new.items ≡ lines.old.items ++ difference_legs difference.now) }
-{
-    let old = difference.old.legs();
-    let new = difference.new.legs();
-    push_changed_legs(alloc, lines, old, new)
-}
-
-/// Adds the lines of old and new legs, and a line if there are none.
-fn push_changed_legs(
-    alloc: Global,
-    lines: &mut Vec<u8>,
-    old: &[PlacedLeg],
-    new: &[PlacedLeg],
-) -> Result<(), Memory>
-    ensures { OnOk result (lines.new.items ≡ lines.old.items ++ changed_legs old.now new.now) }
-{
-    push_none(lines, b"- no flight", old)?;
-    push_legs(alloc, lines, old, new)?;
-    push_none(lines, b"+ no flight", new)
-}
-
-/// Adds a line if there are no legs.
-fn push_none(lines: &mut Vec<u8>, text: &[u8], legs: &[PlacedLeg]) -> Result<(), Memory>
-    ensures { OnOk result (lines.new.items ≡ lines.old.items ++ none_line text.now legs.now) }
-{
-    if legs.is_empty() {
-        lines.extend_from_slice(text)?;
-        lines.push(b'\n')?;
-    }
-    Ok(())
-}
-
-/// Adds the lines of old and new legs, by sequence.
-fn push_legs(
-    alloc: Global,
-    lines: &mut Vec<u8>,
-    old: &[PlacedLeg],
-    new: &[PlacedLeg],
-) -> Result<(), Memory>
-    ensures { OnOk result (lines.new.items
-        ≡ lines.old.items ++ flat_map (sequence_lines old.now new.now) sequences) }
-{
-    for sequence in 1..100 {
-        push_pair(alloc, lines, leg_at(old, sequence), leg_at(new, sequence))?;
-    }
-    Ok(())
-}
-
-/// The leg with a sequence.
-fn leg_at(legs: &[PlacedLeg], sequence: u8) -> Option<&PlacedLeg>
-    ensures { option_map (λ leg. leg.now) result ≡ leg_at legs.now sequence }
-{
-    legs.iter().find(|leg| leg.sequence() == sequence)
-}
-
-/// Adds the lines of the old and the new leg of one sequence.
-fn push_pair(
-    alloc: Global,
-    lines: &mut Vec<u8>,
-    old: Option<&PlacedLeg>,
-    new: Option<&PlacedLeg>,
-) -> Result<(), Memory>
-    ensures { OnOk result (lines.new.items ≡ lines.old.items
-        ++ pair_lines (option_map (λ leg. leg.now) old.entry) (option_map (λ leg. leg.now) new.entry)) }
-{
-    match (old, new) {
-        (None, None) => Ok(()),
-        (Some(old), None) => push_signed(lines, b"- ", old, b""),
-        (None, Some(new)) => push_signed(lines, b"+ ", new, b""),
-        (Some(old), Some(new)) => push_both(alloc, lines, old, new),
-    }
-}
-
-/// Adds the line of an old and a new leg that are equal, or the lines of both.
-fn push_both(
-    alloc: Global,
-    lines: &mut Vec<u8>,
-    old: &PlacedLeg,
-    new: &PlacedLeg,
-) -> Result<(), Memory>
-    ensures { OnOk result (lines.new.items ≡ lines.old.items ++ both_lines old.now new.now) }
-{
-    if old.same(new) {
-        return push_signed(lines, b"  ", old, b"");
-    }
-    push_changed(alloc, lines, old, new)
-}
-
-/// Adds the lines of an old and a new leg that differ.
-fn push_changed(
-    alloc: Global,
-    lines: &mut Vec<u8>,
-    old: &PlacedLeg,
-    new: &PlacedLeg,
-) -> Result<(), Memory>
-    ensures { OnOk result (lines.new.items ≡ lines.old.items ++ changed_lines old.now new.now) }
-{
-    let marked = is_like(alloc, old, new)?;
-    let mark = mark_of(marked);
-    push_signed(lines, b"- ", old, mark)?;
-    push_signed(lines, b"+ ", new, mark)
-}
-
-/// Adds the line of a leg, after two characters and before a mark.
-fn push_signed(lines: &mut Vec<u8>, sign: &[u8], leg: &PlacedLeg, mark: &[u8]) -> Result<(), Memory>
-    ensures { OnOk result
-        (lines.new.items ≡ lines.old.items ++ signed_line sign.now leg.now mark.now) }
-{
-    lines.extend_from_slice(sign)?;
-    push_leg_text(lines, leg)?;
-    lines.extend_from_slice(mark)?;
-    lines.push(b'\n')?;
-    Ok(())
 }

@@ -5,7 +5,7 @@ use Rattle.ssim_desk.specs.Desk.{days_of_desk}
 use Rattle.ssim_board.specs.InOrder.{board_of}
 use Rattle.ssim_board.specs.declared.board.Board.{Board}
 use Rattle.ssim_program.specs.Boards.{board_at}
-use Rattle.ssim_program.specs.print.Board.{board_lines}
+use Rattle.ssim_board.specs.Lines.{board_lines}
 use Rattle.ssim_program.proofs.command.board.shown.Goals as goal
 
 pub returns-clause-ok : goal.returns-clause-ok

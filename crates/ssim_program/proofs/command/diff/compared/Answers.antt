@@ -6,7 +6,7 @@ use Rattle.ssim_base.specs.Base.{airline_of}
 use Rattle.ssim_desk.specs.Desk.{days_of_desk}
 use Rattle.ssim_held.specs.Entries.{DeskSeen}
 use Rattle.ssim_program.specs.internal.Diff.{HasCarrier}
-use Rattle.ssim_program.specs.print.Difference.{difference_lines}
+use Rattle.ssim_difference.specs.Lines.{difference_lines}
 use Rattle.ssim_program.proofs.command.diff.compared.Goals as goal
 
 -- two carrier records have different airlines or different time modes
