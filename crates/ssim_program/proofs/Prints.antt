@@ -6,7 +6,9 @@ use Rattle.ssim_values.specs.declared.designator.Designator.{Designator}
 use Rattle.ssim_base.specs.Base.{airline_of}
 use Rattle.ssim_base.specs.BaseSeen.{BaseSeen, base_with}
 use Rattle.ssim_base.specs.Reading.{SameBytesSameBase}
+use Rattle.ssim_records.specs.Carrier.{CarrierFields}
 use Rattle.ssim_records.specs.declared.record.Record.{Record}
+use Rattle.ssim_records.specs.declared.record.Record.TheVariants.{Header, Carrier}
 use Rattle.ssim_held.specs.Entries.{DeskSeen, Entry, map_of}
 use Rattle.ssim_held.specs.File.{IsDeskFile, NoTwoDesks}
 use Rattle.ssim_base.specs.Timetable.{itinerary}
@@ -22,10 +24,9 @@ use Rattle.ssim_command_line.specs.declared.command_line.ListForm.{ListForm}
 use Rattle.ssim_program.specs.Listing.{chosen}
 use Rattle.ssim_program.specs.Messages.{SpellEach, message_texts, messages_on}
 use Rattle.ssim_program.specs.Offices.{IsSameFile, PrintsTheSame}
-use Rattle.ssim_program.specs.Timetables.{HasTimetable, ReadsTimetable, timetable_kind}
+use Rattle.ssim_program.specs.Timetables.{HasCarrier, HasTimetable, ReadsTimetable, timetable_kind}
 use Rattle.ssim_program.specs.declared.explain.file_kind.FileKind.{FileKind}
 use Rattle.ssim_program.specs.declared.explain.file_kind.FileKind.TheVariants as kind
-use Rattle.ssim_base.specs.Base.{airline_of}
 use Rattle.ssim_program.specs.Boards.{board_at}
 use Rattle.ssim_board.specs.InOrder.{board_of}
 use Rattle.ssim_board.specs.Lines.{board_lines}
@@ -50,6 +51,14 @@ spell_once [] [] (e ∷ others) one other = absurd other
 spell_once [] (d ∷ flights) others one other = absurd one
 spell_once (word ∷ words) [] others one other = absurd one
 spell_once (word ∷ words) (d ∷ flights) [] one other = absurd other
+
+carrier_in : CarrierFields → List Record → CarrierFields
+carrier_in other (Header header ∷ Carrier carrier ∷ later) = carrier
+carrier_in other _ = other
+
+-- equal bases have one carrier record
+one_carrier : (base other : List Record) (carrier that : CarrierFields) → base ≡ other → HasCarrier base carrier → HasCarrier other that → carrier ≡ that
+one_carrier base other carrier that same (header, later, is) (head, rest, are) = ap (carrier_in carrier) (sym is ∙ same ∙ are)
 
 module _ (no_two : NoTwoDesks) where
   -- equal files are read as one desk
@@ -123,8 +132,9 @@ module _ (no_two : NoTwoDesks) where
   board_same same_base station date files others name another printed again kept also same (desk, read, is, _) (other, reads, are, _) =
       let one = same_timetable same_base files others name another desk other same read reads in
       let day : is.day ≡ are.day = same_some is.day are.day (sym is.dated ∙ are.dated) in
+      let carrier = one_carrier desk.base.records other.base.records is.carrier are.carrier (ap (λ (b : BaseSeen). b.records) one.0) is.has_carrier are.has_carrier in
       is.printed_is
-      ∙ (λ i. board_lines (airline_of (one.0 i).records) (day i) (board_of (board_at (one.0 i).records station (day i)) (days_of_desk (seen (one.0 i) (one.1 i)))))
+      ∙ (λ i. board_lines (carrier i).airline (day i) (board_of (board_at (carrier i).time_mode station (day i)) (days_of_desk (seen (one.0 i) (one.1 i)))))
       ∙ sym are.printed_is
 
   pub list_same : SameBytesSameBase → (form : ListForm) (flights : List Text) → PrintsTheSame (λ file. Listing form file flights)

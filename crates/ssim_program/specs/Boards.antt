@@ -1,44 +1,35 @@
 -- The board of a station on a date, of a desk or a data set.
-use Rattle.std.specs.Prelude.{◌≡◌, ◌⊎◌, ℕ, List, [], ◌∷◌, IsTrue, false, None, Some}
+use Rattle.std.specs.Prelude.{◌≡◌, ◌⊎◌, ℕ, List, IsTrue, false, None, Some}
 use Rattle.ssim_values.specs.Station.{is_station}
 use Rattle.ssim_values.specs.declared.fault.Fault.TheVariants as value_fault
 use Rattle.ssim_values.specs.declared.time_mode.TimeMode.{TimeMode}
-use Rattle.ssim_values.specs.declared.time_mode.TimeMode.TheVariants as mode
-use Rattle.ssim_records.specs.declared.record.Record.{Record}
-use Rattle.ssim_records.specs.declared.record.Record.TheVariants.{Header, Carrier, Leg, Segment}
-use Rattle.ssim_records.specs.declared.record.Record.TheVariants.{Trailer}
-use Rattle.ssim_base.specs.Base.{airline_of}
+use Rattle.ssim_records.specs.Carrier.{CarrierFields}
 use Rattle.ssim_text.specs.Lines.{day_in}
 use Rattle.ssim_held.specs.Entries.{DeskSeen}
 use Rattle.ssim_desk.specs.Desk.{days_of_desk}
 use Rattle.ssim_board.specs.InOrder.{board_of}
+use Rattle.ssim_board.specs.Lines.{board_lines}
 use Rattle.ssim_board.specs.declared.board.Board.{Board}
 use Rattle.ssim_command_line.specs.Line.{Text}
-use Rattle.ssim_board.specs.Lines.{board_lines}
+use Rattle.ssim_program.specs.Timetables.{HasCarrier}
 use Rattle.ssim_program.specs.declared.refusal.Refusal.{Refusal}
 use Rattle.ssim_program.specs.declared.refusal.Refusal.TheVariants as refused
 
--- the time mode of the carrier record
-abbrev pub mode_of : List Record → TimeMode
-mode_of [] = mode.Local
-mode_of (Carrier r ∷ records) = r.time_mode
-mode_of (Header r ∷ records) = mode_of records
-mode_of (Leg r ∷ records) = mode_of records
-mode_of (Segment r ∷ records) = mode_of records
-mode_of (Trailer r ∷ records) = mode_of records
+-- the board of a station on a local date, of a timetable whose times are in this mode
+abbrev pub board_at : TimeMode → List ℕ → ℕ → Board
+board_at mode station day = record { station = station; day = day; mode = mode }
 
--- the board of a station on a local date, of a timetable whose times are in the mode of these records
-abbrev pub board_at : List Record → List ℕ → ℕ → Board
-board_at records station day = record { station = station; day = day; mode = mode_of records }
-
--- One word is a station, the other names a date, and the lines are the departures and arrivals of the
--- desk's flights at that station on that local date.
+-- One word is a station, the other names a date, and the lines are the departures and arrivals of
+-- the desk's flights at that station on that local date. The airline and the time mode are those of
+-- the carrier record.
 pub record ShowsBoard (desk : DeskSeen) (station date : Text) (printed : List ℕ) : Type 0 where
   pub is_station : IsTrue (is_station station)
   pub day : ℕ
   pub dated : day_in date ≡ Some day
-  pub printed_is : printed ≡ board_lines (airline_of desk.base.records) day
-      (board_of (board_at desk.base.records station day) (days_of_desk desk))
+  pub carrier : CarrierFields
+  pub has_carrier : HasCarrier desk.base.records carrier
+  pub printed_is : printed ≡ board_lines carrier.airline day
+      (board_of (board_at carrier.time_mode station day) (days_of_desk desk))
 
 -- Why no board is shown. Memory ran out. Or the first word is no station (3). Or the first word is a
 -- station, and the second no date (1).

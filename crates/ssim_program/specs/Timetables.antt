@@ -1,10 +1,13 @@
 -- The timetable in a file: that of a desk, or of a data set.
-use Rattle.std.specs.Prelude.{◌≡◌, ◌⊎◌, List, [], ℕ, Option, Ok, if◌then◌else◌, codes, nat_eq}
+use Rattle.std.specs.Prelude.{◌≡◌, ◌⊎◌, List, [], ◌∷◌, ℕ, Option, Ok, if◌then◌else◌, codes, nat_eq}
 use Rattle.std.specs.List.{starts_with}
 use Rattle.ssim_base.specs.BaseSeen.{base_with}
 use Rattle.ssim_base.specs.Reading.{IsReadAs}
 use Rattle.ssim_base.specs.declared.note.Note.{Note}
+use Rattle.ssim_records.specs.Carrier.{CarrierFields}
+use Rattle.ssim_records.specs.Header.{HeaderFields}
 use Rattle.ssim_records.specs.declared.record.Record.{Record}
+use Rattle.ssim_records.specs.declared.record.Record.TheVariants.{Header, Carrier}
 use Rattle.ssim_held.specs.Entries.{DeskSeen}
 use Rattle.ssim_held.specs.File.{IsDeskFile}
 use Rattle.ssim_command_line.specs.Line.{Text}
@@ -34,9 +37,15 @@ abbrev pub ReadsTimetable : Option Files → Text → DeskSeen → Type 0
 ReadsTimetable files name desk =
     (bytes : List ℕ) × HasFile files name bytes × HasTimetable (timetable_kind bytes) bytes desk
 
--- why no timetable is read of a file: the file is not loaded; or it is no desk file (62), or no data
--- set
+-- why no timetable is read of a file: the file is not loaded; or it is no desk file (62), or no
+-- data set
 abbrev pub RefusesTimetable : Option Files → Text → Refusal → Type 0
 RefusesTimetable files name refusal =
     RefusesLoad files name refusal
     ⊎ ((bytes : List ℕ) × HasFile files name bytes × IsInvalid (timetable_kind bytes) bytes refusal)
+
+-- a base begins with a header and this carrier record
+abbrev pub HasCarrier : List Record → CarrierFields → Type 0
+HasCarrier base carrier =
+    (header : HeaderFields) × (later : List Record)
+    × (base ≡ Header header ∷ Carrier carrier ∷ later)

@@ -1,10 +1,10 @@
-//! The timetable in a file: that of a desk, or of a data set.
+//! The timetable in a file, that of a desk or of a data set, and its carrier record.
 
 ghost use Rattle.std.specs.Prelude.{◌≡◌, ◌⊎◌, ◌≤◌, IfErr, IfOk, length};
 ghost use Rattle.ssim_program.specs.Explained.{IsInvalid};
 ghost use Rattle.ssim_program.specs.Made.{file_limit};
-ghost use Rattle.ssim_program.specs.Timetables.{HasTimetable, ReadsTimetable, RefusesTimetable};
-ghost use Rattle.ssim_program.specs.Timetables.{timetable_kind};
+ghost use Rattle.ssim_program.specs.Timetables.{HasCarrier, HasTimetable, ReadsTimetable};
+ghost use Rattle.ssim_program.specs.Timetables.{RefusesTimetable, timetable_kind};
 ghost use Rattle.ssim_program.specs.declared.explain.file_kind.FileKind.TheVariants as kind;
 ghost use Rattle.ssim_program.specs.declared.refusal.Refusal.TheVariants as refused;
 
@@ -13,7 +13,7 @@ use crate::refusal::Refusal;
 use crate::store::Store;
 use ssim_base::{DataSet, Stations};
 use ssim_desk::Holdings;
-use ssim_records::Parts;
+use ssim_records::{Carrier, Parts};
 use std::alloc::Global;
 
 /// The desk whose timetable the file of this name has. A data set is read as a desk that holds no
@@ -67,4 +67,12 @@ fn read_data_set(alloc: Global, mut parts: Parts) -> Result<Holdings, Refusal>
         Ok(data_set) => Ok(Holdings::start(alloc, data_set, Stations::new(alloc))),
         Err(fault) => Err(Refusal::from(fault)),
     }
+}
+
+/// The carrier record of the desk's data set.
+pub(crate) fn carrier_of(desk: &Holdings) -> Carrier
+    ensures { HasCarrier desk.now.base.records result }
+{
+    let (_, carrier, _) = desk.data_set().frame().records();
+    *carrier
 }

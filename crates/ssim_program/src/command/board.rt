@@ -4,16 +4,16 @@ ghost use Rattle.std.specs.Prelude.{◌≡◌, None, Some, false, IfErr, IfOk, I
 ghost use Rattle.ssim_values.specs.Station.{is_station};
 ghost use Rattle.ssim_text.specs.Lines.{day_in};
 ghost use Rattle.ssim_command_line.specs.Line.{Board as BoardLine};
-ghost use Rattle.ssim_program.specs.Boards.{RefusesBoard, ShowsBoard, mode_of};
+ghost use Rattle.ssim_program.specs.Boards.{RefusesBoard, ShowsBoard};
 ghost use Rattle.ssim_program.specs.internal.Program.{Prepares, stored};
 
 use crate::command::show::day_in;
 use crate::refusal::Refusal;
 use crate::store::Store;
-use crate::timetable_file::open_timetable;
+use crate::timetable_file::{carrier_of, open_timetable};
 use ssim_board::{Board, board_lines};
 use ssim_desk::Holdings;
-use ssim_values::{Fault, Station, TimeMode};
+use ssim_values::{Fault, Station};
 use std::alloc::Global;
 
 /// The board of a station on a date, of the desk, or of the data set, in a file.
@@ -39,12 +39,15 @@ fn shown(alloc: Global, desk: Holdings, station: &str, date: &str) -> Result<Vec
 {
     let station = station_in(station)?;
     let day = day_in(date)?;
-    let airline = desk.data_set().airline();
-    let mode = time_mode(&desk);
+    let carrier = carrier_of(&desk);
     let flights = desk.into_flights()?;
-    let board = Board { station, day, mode };
+    let board = Board {
+        station,
+        day,
+        mode: carrier.time_mode(),
+    };
     let movements = board.movements(alloc, &flights)?;
-    let lines = board_lines(alloc, airline, day, &movements)?;
+    let lines = board_lines(alloc, carrier.airline(), day, &movements)?;
     Ok(lines)
 }
 
@@ -58,12 +61,4 @@ fn station_in(word: &str) -> Result<Station, Fault>
         Some(text) => Station::parse(text),
         None => Err(Fault::BadStation),
     }
-}
-
-/// The time mode of the desk's data set.
-fn time_mode(desk: &Holdings) -> TimeMode
-    ensures { result ≡ mode_of desk.now.base.records }
-{
-    let (_, carrier, _) = desk.data_set().frame().records();
-    carrier.time_mode()
 }

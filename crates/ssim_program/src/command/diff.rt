@@ -5,12 +5,12 @@ ghost use Rattle.ssim_held.specs.Entries.{DeskSeen};
 ghost use Rattle.ssim_command_line.specs.Line.{Diff};
 ghost use Rattle.ssim_program.specs.Differences.{PrintsDifferences, RefusesComparison};
 ghost use Rattle.ssim_program.specs.Timetables.{ReadsTimetable, RefusesTimetable};
-ghost use Rattle.ssim_program.specs.internal.Diff.{HasCarrier, HasFlights};
+ghost use Rattle.ssim_program.specs.internal.Diff.{HasFlights};
 ghost use Rattle.ssim_program.specs.internal.Program.{Prepares, stored};
 
 use crate::refusal::Refusal;
 use crate::store::Store;
-use crate::timetable_file::open_timetable;
+use crate::timetable_file::{carrier_of, open_timetable};
 use ssim_desk::{DeskFault, Holdings};
 use ssim_difference::difference_lines;
 use ssim_records::Carrier;
@@ -64,14 +64,6 @@ fn flights_of(desk: Holdings) -> Result<Timetable, Memory>
     let carrier = carrier_of(&desk);
     let flights = desk.into_flights()?;
     Ok(Timetable { carrier, flights })
-}
-
-/// The carrier record of a desk.
-fn carrier_of(desk: &Holdings) -> Carrier
-    ensures { HasCarrier desk.now result }
-{
-    let (_, carrier, _) = desk.data_set().frame().records();
-    *carrier
 }
 
 /// The dates on which the timetable of a desk differs from an old one.

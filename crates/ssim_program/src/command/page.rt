@@ -1,17 +1,15 @@
 //! The command `page`: a timetable as one page of HTML.
 
 ghost use Rattle.std.specs.Prelude.{◌≡◌};
-ghost use Rattle.ssim_base.specs.Export.{Frame};
-ghost use Rattle.ssim_base.specs.ReadBack.{HasFrame};
 ghost use Rattle.ssim_command_line.specs.Line.{Page};
 ghost use Rattle.ssim_program.specs.Pages.{heading_of};
 ghost use Rattle.ssim_program.specs.internal.Program.{Prepares, stored};
 
 use crate::refusal::Refusal;
 use crate::store::Store;
-use crate::timetable_file::open_timetable;
-use ssim_desk::Holdings;
+use crate::timetable_file::{carrier_of, open_timetable};
 use ssim_page::{Heading, page_of};
+use ssim_records::Carrier;
 use std::alloc::Global;
 
 /// The page of the timetable of the desk, or of the data set, in a file.
@@ -21,18 +19,16 @@ pub(crate) fn page<S: Store>(alloc: Global, file: &str, store: &mut S) -> Result
         (stored (S.files store.new) (S.failures store.new)) result }
 {
     let desk = open_timetable(alloc, file, store)?;
-    let heading = heading_of(&desk);
+    let heading = heading_of(&carrier_of(&desk));
     let flights = desk.into_flights()?;
     let page = page_of(alloc, &heading, &flights)?;
     Ok(page)
 }
 
-/// What the page of a desk is of.
-fn heading_of(desk: &Holdings) -> Heading
-    ensures { (frame : Frame) × HasFrame frame desk.now.base.records
-        × (result ≡ heading_of frame.carrier) }
+/// What the page of a data set with this carrier record is of.
+fn heading_of(carrier: &Carrier) -> Heading
+    ensures { result ≡ heading_of carrier.now }
 {
-    let (_, carrier, _) = desk.data_set().frame().records();
     Heading {
         airline: carrier.airline(),
         season: carrier.season(),

@@ -1,11 +1,10 @@
 -- The station and the date that the words are, and the board of the desk's timetable.
 use Rattle.std.proofs.Common.{◌≡◌, ◌∙◌, ap}
-use Rattle.ssim_base.specs.Base.{airline_of}
 use Rattle.ssim_desk.specs.Desk.{days_of_desk}
 use Rattle.ssim_board.specs.InOrder.{board_of}
+use Rattle.ssim_board.specs.Lines.{board_lines}
 use Rattle.ssim_board.specs.declared.board.Board.{Board}
 use Rattle.ssim_program.specs.Boards.{board_at}
-use Rattle.ssim_board.specs.Lines.{board_lines}
 use Rattle.ssim_program.proofs.command.board.shown.Goals as goal
 
 pub returns-clause-ok : goal.returns-clause-ok
@@ -13,13 +12,25 @@ returns-clause-ok c =
     let desk = c.args.desk in
     let day = c.in_ok-day.day in
     let days = days_of_desk desk in
-    let airline : c.airline-airline.result ≡ airline_of desk.base.records = c.airline-airline.ensures ∙ ap airline_of c.data_set.ensures in
-    let movements = c.deref-2.ensures.value ∙ c.in_ok-movements.ensures days (c.deref.ensures.value ∙ c.in_ok-flights.ensures) in
-    let board : record { station = c.in_ok-station.station; day = day; mode = c.time_mode-mode.result } ≡ board_at desk.base.records c.args.station.now day =
-    λ i. record { station = c.in_ok-station.ensures.ok.0 i; day = day; mode = c.time_mode-mode.ensures i } in
+    let carrier = c.carrier_of-carrier.result in
+    let station = c.args.station.now in
+    let movements = c.deref-2.ensures.value
+    ∙ c.in_ok-movements.ensures days (c.deref.ensures.value ∙ c.in_ok-flights.ensures) in
+    let board
+    : record { station = c.in_ok-station.station; day = day; mode = c.time_mode.result }
+    ≡ board_at carrier.time_mode station day =
+    λ i. record {
+      station = c.in_ok-station.ensures.ok.0 i;
+      day = day;
+      mode = c.time_mode.ensures i;
+    } in
     record {
       is_station = c.in_ok-station.ensures.ok.1;
       day = day;
       dated = c.in_ok-day.ensures.ok;
-      printed_is = c.in_ok-lines.ensures ∙ (λ i. board_lines (airline i) day (movements i)) ∙ ap (λ (b : Board). board_lines (airline_of desk.base.records) day (board_of b days)) board;
+      carrier = carrier;
+      has_carrier = c.carrier_of-carrier.ensures;
+      printed_is = c.in_ok-lines.ensures
+          ∙ (λ i. board_lines (c.airline.ensures i) day (movements i))
+          ∙ ap (λ (b : Board). board_lines carrier.airline day (board_of b days)) board;
     }
