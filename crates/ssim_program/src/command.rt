@@ -9,7 +9,6 @@ pub(crate) mod export;
 pub(crate) mod findings;
 pub(crate) mod history;
 pub(crate) mod list;
-pub(crate) mod marks;
 pub(crate) mod merge;
 pub(crate) mod named_flights;
 pub(crate) mod page;

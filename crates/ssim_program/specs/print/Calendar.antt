@@ -8,7 +8,8 @@ use Rattle.ssim_base.specs.Timetable.{LegValue, Legs}
 use Rattle.ssim_calendar.specs.Legend.{legend}
 use Rattle.ssim_calendar.specs.Letters.{cells, different}
 use Rattle.ssim_calendar.specs.Picture.{picture}
-use Rattle.ssim_program.specs.print.Shown.{is_like_one, leg_text, mark_text}
+use Rattle.ssim_listing.specs.LegText.{leg_text}
+use Rattle.ssim_listing.specs.Marks.{is_like_one, mark_text}
 
 -- whether a leg of one of the itineraries differs from this leg, but has the same line
 abbrev pub is_like_any : List Legs → LegValue → Bool

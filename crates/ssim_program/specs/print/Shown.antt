@@ -13,8 +13,8 @@ use Rattle.ssim_schedule.specs.declared.finding.Reason.{Reason}
 use Rattle.ssim_schedule.specs.declared.finding.Reason.TheVariants.{Acted, Absent, Present, Leg, Station}
 use Rattle.ssim_desk.specs.declared.date_step.DateStep.{DateStep}
 use Rattle.ssim_desk.specs.declared.finding_line.FindingLine.{FindingLine}
-pub use Rattle.ssim_listing.specs.LegText.{leg_text}
-pub use Rattle.ssim_listing.specs.Marks.{is_like_one, mark_text, marked_line}
+use Rattle.ssim_listing.specs.LegText.{leg_text}
+use Rattle.ssim_listing.specs.Marks.{marked_line}
 use Rattle.ssim_program.specs.print.Printed.{finding_text}
 
 -- the line of a leg

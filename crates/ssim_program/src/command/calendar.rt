@@ -12,14 +12,13 @@ ghost use Rattle.ssim_program.specs.internal.Program.{Prepares, stored};
 ghost use Rattle.ssim_program.specs.print.Calendar.{calendar_lines, drawn, drawn_or_none};
 ghost use Rattle.ssim_program.specs.print.Calendar.{is_like_any, legend_text, lettered};
 
-use crate::command::marks::{is_like_one, mark_of};
 use crate::command::named_flights::named_flight;
-use crate::command::show::push_leg_text;
 use crate::refusal::Refusal;
 use crate::store::Store;
 use crate::timetable_file::open_timetable;
 use ssim_calendar::{push_legend, push_picture};
 use ssim_desk::Holdings;
+use ssim_listing::{is_like_one, mark_of, push_leg_text};
 use ssim_periods::Periods;
 use ssim_schedule::{Itinerary, PlacedLeg};
 use ssim_values::{Designator, Memory};

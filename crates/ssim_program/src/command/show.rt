@@ -15,7 +15,7 @@ use crate::refusal::Refusal;
 use crate::store::Store;
 use ssim_base::ResolveFault;
 use ssim_desk::{DeskFault, Holdings};
-pub(crate) use ssim_listing::push_leg_text;
+use ssim_listing::push_leg_text;
 use ssim_schedule::PlacedLeg;
 use ssim_values::{Day, Designator, Fault, Memory};
 use std::alloc::Global;

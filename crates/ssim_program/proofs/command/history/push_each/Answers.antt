@@ -1,7 +1,7 @@
 -- The line of one more leg.
 use Rattle.std.proofs.Common.{◌≡◌, ◌+◌, ◌++◌, ◌∷◌, [], take, arith}
 use Rattle.std.proofs.lemmas.Grind.{common_steps}
-use Rattle.ssim_program.specs.print.Shown.{marked_line}
+use Rattle.ssim_listing.specs.Marks.{marked_line}
 use Rattle.ssim_listing.proofs.Joining.{one_more}
 use Rattle.ssim_program.proofs.command.history.push_each.Goals as goal
 

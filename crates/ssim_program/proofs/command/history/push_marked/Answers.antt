@@ -1,6 +1,6 @@
 -- Two blanks, the leg, its mark and the line end, one after another.
 use Rattle.std.proofs.Common.{◌∙◌, ◌++◌, ◌∷◌, [], Bool, List, ℕ, if◌then◌else◌, codes, ap}
-use Rattle.ssim_program.specs.print.Shown.{leg_text}
+use Rattle.ssim_listing.specs.LegText.{leg_text}
 use Rattle.ssim_listing.proofs.Joining.{joined}
 use Rattle.ssim_program.proofs.command.history.push_marked.Goals as goal
 
