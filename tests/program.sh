@@ -249,7 +249,7 @@ desks_written
 desks_refused
 desks_printed
 long_files
-for name in check tidy start take merge withdraw receive texts show history list board calendar diff page findings export rehearse explain; do
+for name in check problems tidy start take merge withdraw receive texts show history list board calendar diff page findings export rehearse explain; do
     expect "help of $name" 0 @ "" "$name" --help
     expect "$name without its words" 2 "" @ "$name"
 done

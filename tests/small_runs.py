@@ -38,6 +38,8 @@ DESKS = ("start season stations base", "take base desk first second", "take base
 
 COMMANDS = [
     ("check", ["check", "season"], None),
+    ("problems", ["problems", "season"], None),
+    ("problems of an invalid data set", ["problems", "stations"], None),
     ("tidy", ["tidy", "season"], None),
     ("start", ["start", "season", "stations", "old"], "old"),
     ("take", ["take", "desk", "desk", "earlier", "first", "later"], "desk"),

@@ -26,7 +26,7 @@ use Rattle.ssim_command_line.specs.Line.{Line, Spells, Text, is_plain, is_whole,
 use Rattle.ssim_command_line.specs.Line.{Check, Tidy, Start, Take, Receive, Merge, Texts, Withdraw}
 use Rattle.ssim_command_line.specs.Line.{Show}
 use Rattle.ssim_command_line.specs.Line.{History}
-use Rattle.ssim_command_line.specs.Line.{Calendar, Page, Findings, Export, Rehearse, Explain, Board}
+use Rattle.ssim_command_line.specs.Line.{Calendar, Page, Problems, Findings, Export, Rehearse, Explain, Board}
 use Rattle.ssim_command_line.specs.Line.{Diff, Listing, form_words}
 use Rattle.ssim_command_line.specs.Commands.{whole_program, leaf, one_value, one_value_and_texts}
 use Rattle.ssim_command_line.specs.Commands.{one_value_and_texts_in_form, three_values, two_values, two_values_and_texts}
@@ -69,6 +69,10 @@ record IsNamed (name : Text) (s : Shape) : Type 0 where
 check_is : IsNamed (codes "check") (ready (leaf (codes "check") one_value))
 unfolding clap_on_literals
 check_is = record { met = refl; fits = refl; right = refl; found = refl }
+
+problems_is : IsNamed (codes "problems") (ready (leaf (codes "problems") one_value))
+unfolding clap_on_literals
+problems_is = record { met = refl; fits = refl; right = refl; found = refl }
 
 tidy_is : IsNamed (codes "tidy") (ready (leaf (codes "tidy") one_value))
 unfolding clap_on_literals
@@ -310,6 +314,7 @@ one_plain a e = looks a (both _ _ e).0
 
 from_line : (program : Text) (line : Line) → is_whole line ≡ true → list_all is_plain (values_of line) ≡ true → Answers (program ∷ name_of line ∷ values_of line) line
 from_line program (Check a) w e = one_answers (Check a) (codes "check") a Check refl refl check_is (one_plain a e) (λ rows. refl) program
+from_line program (Problems a) w e = one_answers (Problems a) (codes "problems") a Problems refl refl problems_is (one_plain a e) (λ rows. refl) program
 from_line program (Tidy a) w e = one_answers (Tidy a) (codes "tidy") a Tidy refl refl tidy_is (one_plain a e) (λ rows. refl) program
 from_line program (Findings a) w e = one_answers (Findings a) (codes "findings") a Findings refl refl findings_is (one_plain a e) (λ rows. refl) program
 from_line program (Page a) w e = one_answers (Page a) (codes "page") a Page refl refl page_is (one_plain a e) (λ rows. refl) program

@@ -73,7 +73,13 @@ add_all a (s ∷ rest) = add_all (with_subcommand a s) rest
 -- the commands on a data set
 abbrev pub on_data_sets : List Shape
 on_data_sets =
-    leaf (codes "check") one_value ∷ leaf (codes "tidy") one_value ∷ leaf (codes "start") three_values ∷ []
+    leaf (codes "check") one_value
+    ∷ leaf (codes "problems") one_value
+    ∷ leaf (codes "tidy") one_value ∷ []
+
+-- the command that makes a desk
+abbrev pub beginnings : List Shape
+beginnings = leaf (codes "start") three_values ∷ []
 
 -- the commands that change a desk
 abbrev pub on_desks : List Shape
@@ -116,6 +122,6 @@ explanations = leaf (codes "explain") one_value ∷ []
 
 -- the program with all its commands
 abbrev pub whole_program : App
-whole_program = add_all (add_all (add_all (add_all (add_all (add_all (add_all (add_all (add_all
-    bare_program on_data_sets) on_desks) on_messages) on_dates) on_timetables) of_timetables) of_desks)
+whole_program = add_all (add_all (add_all (add_all (add_all (add_all (add_all (add_all (add_all (add_all
+    bare_program on_data_sets) beginnings) on_desks) on_messages) on_dates) on_timetables) of_timetables) of_desks)
     rehearsals) explanations

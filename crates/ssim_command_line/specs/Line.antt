@@ -11,6 +11,7 @@ Text = List ℕ
 -- a command with its values
 pub data Line : Type 0 where
   Check : Text → Line
+  Problems : Text → Line
   Tidy : Text → Line
   Start : Text → Text → Text → Line
   Take : Text → Text → List Text → Line
@@ -33,6 +34,7 @@ pub data Line : Type 0 where
 -- the name of the command of a line
 abbrev pub name_of : Line → Text
 name_of (Check dataset) = codes "check"
+name_of (Problems dataset) = codes "problems"
 name_of (Tidy dataset) = codes "tidy"
 name_of (Start dataset stations out) = codes "start"
 name_of (Take desk out texts) = codes "take"
@@ -68,6 +70,7 @@ form_words form = flag_words (codes "--csv") form.csv ++ flag_words (codes "--da
 -- the values of a line, in the order in which they are written; options come first
 abbrev pub values_of : Line → List Text
 values_of (Check dataset) = dataset ∷ []
+values_of (Problems dataset) = dataset ∷ []
 values_of (Tidy dataset) = dataset ∷ []
 values_of (Start dataset stations out) = dataset ∷ stations ∷ out ∷ []
 values_of (Take desk out texts) = desk ∷ out ∷ texts

@@ -4,7 +4,7 @@ use Rattle.std.specs.Prelude.{unwrap_or, if◌then◌else◌, codes}
 use Rattle.std.specs.Option.{option_map_or}
 use Rattle.std.specs.Str.{bytes_eq}
 use Rattle.clap.specs.Words.{Row, all_of, first_of}
-use Rattle.ssim_command_line.specs.Line.{Line, Text, Check, Tidy, Start, Take, Merge, Texts, Show}
+use Rattle.ssim_command_line.specs.Line.{Line, Text, Check, Problems, Tidy, Start, Take, Merge, Texts, Show}
 use Rattle.ssim_command_line.specs.Line.{History, Board, Receive, Withdraw, Calendar, Findings, Export}
 use Rattle.ssim_command_line.specs.Line.{Rehearse, Explain, Page, Diff, Listing}
 use Rattle.ssim_command_line.specs.declared.command_line.ListForm.{ListForm}
@@ -14,6 +14,7 @@ use Rattle.ssim_command_line.specs.declared.command_line.Request.TheVariants as 
 -- the command line of a request
 abbrev pub line_of : Request → Line
 line_of (request.Check dataset) = Check dataset.now
+line_of (request.Problems dataset) = Problems dataset.now
 line_of (request.Tidy dataset) = Tidy dataset.now
 line_of (request.Start dataset stations out) = Start dataset.now stations.now out.now
 line_of (request.Take desk out texts) = Take desk.now out.now (map (λ t. t.now) texts.items)
@@ -98,6 +99,7 @@ with_form rows =
 abbrev pub line_at : Text → List Row → Option Line
 line_at name rows =
     if bytes_eq name (codes "check") then with_one Check rows
+    else (if bytes_eq name (codes "problems") then with_one Problems rows
     else (if bytes_eq name (codes "tidy") then with_one Tidy rows
     else (if bytes_eq name (codes "start") then with_three Start rows
     else (if bytes_eq name (codes "take") then with_texts Take rows
@@ -116,4 +118,4 @@ line_at name rows =
     else (if bytes_eq name (codes "export") then with_one Export rows
     else (if bytes_eq name (codes "rehearse") then with_three Rehearse rows
     else (if bytes_eq name (codes "explain") then with_one Explain rows
-    else None))))))))))))))))))
+    else None)))))))))))))))))))

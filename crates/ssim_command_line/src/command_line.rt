@@ -29,6 +29,8 @@ pub struct ListForm {
 pub enum Request<'a> {
     /// Print the notes on a data set and a summary.
     Check(&'a str),
+    /// Print every invalid record of a data set.
+    Problems(&'a str),
     /// Export a data set.
     Tidy(&'a str),
     /// Write the desk file of a data set and a station table.
@@ -230,6 +232,9 @@ fn read<'a>(
 {
     if name == "check" {
         return Ok(one(inner).map(Request::Check));
+    }
+    if name == "problems" {
+        return Ok(one(inner).map(Request::Problems));
     }
     if name == "tidy" {
         return Ok(one(inner).map(Request::Tidy));

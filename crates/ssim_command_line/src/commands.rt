@@ -1,7 +1,7 @@
 //! The commands as `clap` sees them.
 ghost use Rattle.std.specs.Prelude.{◌≡◌, IfOk, codes, false};
 ghost use Rattle.clap.specs.Words.{app_of, rule_of};
-ghost use Rattle.ssim_command_line.specs.Commands.{add_all, any_texts, explanations, flag, leaf};
+ghost use Rattle.ssim_command_line.specs.Commands.{add_all, any_texts, beginnings, explanations, flag, leaf};
 ghost use Rattle.ssim_command_line.specs.Commands.{needed, of_desks, on_data_sets, on_dates, on_desks};
 ghost use Rattle.ssim_command_line.specs.Commands.{of_timetables, on_messages, on_timetables, one_value};
 ghost use Rattle.ssim_command_line.specs.Commands.{one_value_and_texts, one_value_and_texts_in_form};
@@ -176,13 +176,22 @@ fn with_data_sets<'a>(alloc: Global, program: Command<'a>) -> Result<Command<'a>
     ensures { IfOk result (λ c. app_of c ≡ add_all (app_of program.entry) on_data_sets) }
 {
     let check = with_one(alloc, "check", help::CHECK, help::CHECK_EXAMPLE, "DATASET")?;
+    let about = help::PROBLEMS;
+    let problems = with_one(alloc, "problems", about, help::PROBLEMS_EXAMPLE, "DATASET")?;
     let tidy = with_one(alloc, "tidy", help::TIDY, help::TIDY_EXAMPLE, "DATASET")?;
-    let shown = ["DATASET", "STATIONS", "OUT"];
-    let start = with_three(alloc, "start", help::START, help::START_EXAMPLE, shown)?;
     program
         .subcommand(check)?
-        .subcommand(tidy)?
-        .subcommand(start)
+        .subcommand(problems)?
+        .subcommand(tidy)
+}
+
+/// The command that makes a desk.
+fn with_beginnings<'a>(alloc: Global, program: Command<'a>) -> Result<Command<'a>, AllocError>
+    ensures { IfOk result (λ c. app_of c ≡ add_all (app_of program.entry) beginnings) }
+{
+    let shown = ["DATASET", "STATIONS", "OUT"];
+    let start = with_three(alloc, "start", help::START, help::START_EXAMPLE, shown)?;
+    program.subcommand(start)
 }
 
 /// The commands that change a desk.
@@ -296,6 +305,7 @@ pub fn command<'a>(alloc: Global) -> Result<Command<'a>, AllocError>
         .after_help(help::EXAMPLES)
         .subcommand_required(true);
     let program = with_data_sets(alloc, program)?;
+    let program = with_beginnings(alloc, program)?;
     let program = with_desks(alloc, program)?;
     let program = with_messages(alloc, program)?;
     let program = with_dates(alloc, program)?;

@@ -11,6 +11,11 @@ Example:
   ssimdesk export fdh.desk > summer.ssim
 The files of the examples are in samples/.
 
+The commands by what they are for:
+  a data set: check, problems, tidy, explain
+  a desk:     start, take, receive, withdraw, merge, export, rehearse
+  looking:    show, list, board, calendar, diff, page, history, texts, findings
+
 For each file that is read, - is standard input.
 Exit status: 0 if the command was done; 1 if it was refused, with a line 'refused', the
 number, the name and the place on standard error ('ssimdesk explain NUMBER' says more);
@@ -27,6 +32,20 @@ Example:
 prints, if nothing is wrong, the number of records, of flights and of notes:
   ok records 75 flights 41 notes 0
 Exit status: 0, also with notes; 1 if the data set is refused or cannot be read.";
+
+pub(crate) const PROBLEMS: &str = "\
+Read a chapter 7 data set, and print every invalid record, not only the first";
+
+pub(crate) const PROBLEMS_EXAMPLE: &str = "\
+Example:
+  ssimdesk problems broken.ssim
+prints what 'check' would refuse at each record if the invalid ones before it were not
+there, and then the number of records and of problems:
+  12 BadColumn record 7 column 37
+  34 Overlap record 12
+  records 75 problems 2
+After an invalid header or carrier record, each record is checked by its own columns only.
+Exit status: 0, also with problems; 1 if the data set cannot be read.";
 
 pub(crate) const TIDY: &str = "\
 Read a chapter 7 data set, and print it with the periods of each flight divided anew, in

@@ -1,7 +1,7 @@
 -- A command that was cut off has made all that it makes, but for `take` and `receive`, which keep
 -- their files last.
 use Rattle.std.proofs.Common.{◌≡◌, ◌∙◌, inl, inr, ℕ, zero, suc, ◌≤◌, List, [], ◌∷◌, ◌++◌, length, Option, Some, None, refl, ap, arith, length-append}
-use Rattle.ssim_command_line.specs.Line.{Line, Text, Check, Tidy, Start, Take, Receive, Merge, Withdraw}
+use Rattle.ssim_command_line.specs.Line.{Line, Text, Check, Problems, Tidy, Start, Take, Receive, Merge, Withdraw}
 use Rattle.ssim_command_line.specs.Line.{Texts, Show, History, Calendar, Findings, Export, Rehearse}
 use Rattle.ssim_command_line.specs.Line.{Explain, Page, Board, Diff, Listing}
 use Rattle.ssim_command_line.specs.Usage.{Names}
@@ -17,6 +17,7 @@ use Rattle.ssim_program.proofs.Saying.{Says}
 
 begun : (line : Line) (old new : Option Files) (printed : List ℕ) (kept : Kept) → Begins line old printed kept → new ≡ with_kept kept old → Did line old new
 begun (Check name) old new printed kept begins files = inl (printed, kept, begins, files)
+begun (Problems name) old new printed kept begins files = inl (printed, kept, begins, files)
 begun (Tidy name) old new printed kept begins files = inl (printed, kept, begins, files)
 begun (Start dataset stations out) old new printed kept begins files = inl (printed, kept, begins, files)
 begun (Take file out names) old new printed kept begins files = inr (inl (files ∙ ap (λ (k : Kept). with_kept k old) begins.5))
@@ -42,6 +43,7 @@ did_done line before after done = inl (done.printed, done.kept, done.makes, done
 -- a command keeps two files at most
 two_files : (line : Line) (files : Option Files) (printed : List ℕ) (kept : Kept) → Makes line files printed kept → length kept ≤ 2
 two_files (Check name) files printed kept m = omega (arith, ap length m.4)
+two_files (Problems name) files printed kept m = omega (arith, ap length m.3)
 two_files (Tidy name) files printed kept m = omega (arith, ap length m.4)
 two_files (Start dataset stations out) files printed kept m = omega (arith, ap length m.5)
 two_files (Take file out names) files printed kept m = omega (arith, ap length m.5)

@@ -3,7 +3,7 @@ use Rattle.std.proofs.Common.{◌≡◌, inl, inr, ℕ, Vec, List, [], Option, R
 use Rattle.ssim_program.specs.Again.{PrintsItself}
 use Rattle.ssim_program.specs.Effects.{Begins, Makes}
 use Rattle.ssim_program.specs.Files.{Files, Kept, with_kept}
-use Rattle.ssim_command_line.specs.Line.{Line, Check, Tidy, Start, Take, Merge, Withdraw, Receive}
+use Rattle.ssim_command_line.specs.Line.{Line, Check, Problems, Tidy, Start, Take, Merge, Withdraw, Receive}
 use Rattle.ssim_command_line.specs.Line.{Texts, Show, History, Calendar, Findings, Export, Rehearse}
 use Rattle.ssim_command_line.specs.Line.{Explain, Page, Board, Diff, Listing}
 use Rattle.ssim_program.specs.print.Paper.{Paper}
@@ -19,6 +19,7 @@ use Rattle.ssim_program.proofs.Printers.{nothing}
 
 itself : (line : Line) (t u : Option (List ℕ)) → PrintsAtOnce line → PrintsItself line t u
 itself (Check name) t u at_once = tt
+itself (Problems name) t u at_once = tt
 itself (Tidy name) t u at_once = absurd at_once
 itself (Start dataset stations out) t u at_once = tt
 itself (Take file out names) t u at_once = absurd at_once
@@ -40,6 +41,7 @@ itself (Explain word) t u at_once = tt
 
 begins : (line : Line) (files : Option Files) (text : List ℕ) (kept : Kept) → PrintsAtOnce line → Makes line files text kept → Begins line files text kept
 begins (Check name) files text kept at_once made = made
+begins (Problems name) files text kept at_once made = made
 begins (Tidy name) files text kept at_once made = made
 begins (Start dataset stations out) files text kept at_once made = made
 begins (Take file out names) files text kept at_once made = absurd at_once
@@ -97,6 +99,7 @@ prepared line old n new m P Q (Err refusal) made why same counted ok err = (inl 
 -- memory ran out before anything was done
 pub memory_refuses : (line : Line) (files : Option Files) → Refuses line files [] refused.Memory
 memory_refuses (Check name) files = (refl, inl (inl refl))
+memory_refuses (Problems name) files = (refl, inl refl)
 memory_refuses (Tidy name) files = (refl, inl (inl (inl refl)))
 memory_refuses (Start dataset stations out) files = (refl, inl (inl refl))
 memory_refuses (Take file out names) files = inl (refl, inl (inl refl))

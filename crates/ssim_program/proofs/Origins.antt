@@ -8,7 +8,7 @@ use Rattle.ssim_held.specs.Entries.{AreRising, DeskSeen}
 use Rattle.ssim_held.specs.File.{desk_file}
 use Rattle.ssim_program.specs.Desks.{IsMergeOf, ReadsDesk, TakesTexts}
 use Rattle.ssim_program.specs.Files.{Files, Kept, file_of, with_kept}
-use Rattle.ssim_command_line.specs.Line.{Line, Text, Check, Tidy, Start, Take, Merge, Withdraw}
+use Rattle.ssim_command_line.specs.Line.{Line, Text, Check, Problems, Tidy, Start, Take, Merge, Withdraw}
 use Rattle.ssim_command_line.specs.Line.{Receive, Texts, Show, History, Calendar, Findings, Export}
 use Rattle.ssim_command_line.specs.Line.{Rehearse, Explain, Page, Board, Diff, Listing}
 use Rattle.ssim_program.specs.Made.{ReadsBase}
@@ -77,6 +77,7 @@ with_file out bytes kept old new some is = same_some new ((out, bytes) ∷ old) 
 
 done_comes : (line : Line) (old new : Files) (name : Text) → Leaves (Done line) old new → Comes (origin_of (Done line) name) old (file_of new name)
 done_comes (Check file) old new name (printed, kept, makes, is) = unchanged name kept old new makes.4 is
+done_comes (Problems file) old new name (printed, kept, makes, is) = unchanged name kept old new makes.3 is
 done_comes (Tidy file) old new name (printed, kept, makes, is) = unchanged name kept old new makes.4 is
 done_comes (Start dataset stations out) old new name (printed, kept, makes, is) =
     let bytes = desk_file makes.0 [] in

@@ -1,11 +1,13 @@
 -- Equal files are of one desk, so commands print the same of them.
-use Rattle.std.proofs.Common.{◌≡◌, ◌∙◌, ◌<◌, ◌^◌, ℕ, List, [], ◌∷◌, Some, length, refl, ap, ap₂, sym, subst, arith}
+use Rattle.std.proofs.Common.{◌≡◌, ◌∙◌, ◌<◌, ◌^◌, ℕ, List, [], ◌∷◌, ◌++◌, Option, Some, length, refl, ap, ap₂, sym, subst, arith}
 use Rattle.ssim_values.proofs.DesignatorLemmas.{SpellsDesignator-unique}
 use Rattle.ssim_text.specs.Reference.{OneReference}
 use Rattle.ssim_values.specs.declared.designator.Designator.{Designator}
 use Rattle.ssim_base.specs.Base.{airline_of}
 use Rattle.ssim_base.specs.BaseSeen.{BaseSeen, base_with}
+use Rattle.ssim_base.specs.Problems.{HasProblems, SameBytesSameProblems}
 use Rattle.ssim_base.specs.Reading.{SameBytesSameBase}
+use Rattle.ssim_base.specs.declared.fault.BaseFault.{BaseFault}
 use Rattle.ssim_records.specs.Carrier.{CarrierFields}
 use Rattle.ssim_records.specs.declared.record.Record.{Record}
 use Rattle.ssim_records.specs.declared.record.Record.TheVariants.{Header, Carrier}
@@ -16,10 +18,14 @@ use Rattle.ssim_desk.specs.DateSteps.{steps_on}
 use Rattle.ssim_desk.specs.Desk.{days_of_desk, entry_lines}
 use Rattle.ssim_desk.specs.Meaning.{found_by, left_by}
 use Rattle.ssim_command_line.specs.Line.{Text, Texts, Withdraw, Show, History, Board, Calendar}
-use Rattle.ssim_command_line.specs.Line.{Findings, Export, Listing}
+use Rattle.ssim_command_line.specs.Line.{Findings, Export, Listing, Problems}
 use Rattle.ssim_program.specs.Desks.{ReadsDesk}
 use Rattle.ssim_program.specs.Files.{Files}
-use Rattle.ssim_program.specs.Made.{IsExport, file_limit}
+use Rattle.std.specs.List.{flat_map}
+use Rattle.ssim_base.specs.Export.{line}
+use Rattle.ssim_program.specs.Made.{IsExport, file_limit, problem_line}
+use Rattle.ssim_program.specs.print.Printed.{printed_text}
+use Rattle.ssim_program.specs.declared.print.printed.Printed.TheVariants as printed_line
 use Rattle.ssim_command_line.specs.declared.command_line.ListForm.{ListForm}
 use Rattle.ssim_program.specs.Listing.{chosen}
 use Rattle.ssim_program.specs.Messages.{SpellEach, message_texts, messages_on}
@@ -52,7 +58,7 @@ spell_once [] (d ∷ flights) others one other = absurd one
 spell_once (word ∷ words) [] others one other = absurd one
 spell_once (word ∷ words) (d ∷ flights) [] one other = absurd other
 
-carrier_in : CarrierFields → List Record → CarrierFields
+abbrev carrier_in : CarrierFields → List Record → CarrierFields
 carrier_in other (Header header ∷ Carrier carrier ∷ later) = carrier
 carrier_in other _ = other
 
@@ -152,3 +158,17 @@ module _ (no_two : NoTwoDesks) where
       is.printed_is
       ∙ (λ i. calendar_lines (designator i) (days_of_desk (seen (one.0 i) (one.1 i)) (designator i).flight))
       ∙ sym are.printed_is
+
+-- the lines of some problems of so many records
+abbrev lines_of : ℕ → List BaseFault → List ℕ
+lines_of records faults = flat_map problem_line faults ++ line (printed_text (printed_line.ProblemCount records (length faults)))
+
+-- equal files have the same problems
+pub problems_same : SameBytesSameProblems → PrintsTheSame Problems
+problems_same one files others name another printed again kept also (bytes, here, there) (p, (mine, (has, at, left), found), is, _) (q, (theirs, (has_too, at_too, left_too), also_found), are, _) =
+    let same : has ≡ bytes = same_some has bytes (sym at ∙ here) in
+    let same_too : has_too ≡ bytes = same_some has_too bytes (sym at_too ∙ there) in
+    let first = subst (λ (l : Option (List ℕ)). HasProblems file_limit l p) (left ∙ ap Some same) found in
+    let second = subst (λ (l : Option (List ℕ)). HasProblems file_limit l q) (left_too ∙ ap Some same_too) also_found in
+    let equal = one bytes p q first.1 second.1 in
+    is ∙ ap₂ (λ (n : ℕ) (fs : List BaseFault). lines_of n fs) equal.0 equal.1 ∙ sym are

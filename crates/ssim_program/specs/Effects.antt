@@ -4,6 +4,7 @@ use Rattle.ssim_records.specs.declared.record.Record.{Record}
 use Rattle.ssim_base.specs.BaseSeen.{BaseSeen}
 use Rattle.ssim_base.specs.SavedBase.{IsBaseRecords}
 use Rattle.ssim_base.specs.declared.note.Note.{Note}
+use Rattle.ssim_base.specs.declared.problems.Problems.{Problems as DataSetProblems}
 use Rattle.ssim_held.specs.File.{desk_file}
 use Rattle.ssim_held.specs.Entries.{AreRising, DeskSeen}
 use Rattle.ssim_desk.specs.Desk.{finding_lines}
@@ -11,7 +12,7 @@ use Rattle.ssim_program.specs.Desks.{IsExportOfDesk, IsMergeOf, ReadsDesk, Shows
 use Rattle.ssim_program.specs.Desks.{held_line}
 use Rattle.ssim_program.specs.Explained.{Explains}
 use Rattle.ssim_program.specs.Files.{Files, Kept}
-use Rattle.ssim_command_line.specs.Line.{Line, Check, Tidy, Start, Take, Merge, Withdraw, Receive}
+use Rattle.ssim_command_line.specs.Line.{Line, Check, Problems, Tidy, Start, Take, Merge, Withdraw, Receive}
 use Rattle.ssim_command_line.specs.Line.{Texts, Show, History, Calendar, Findings, Export, Rehearse}
 use Rattle.ssim_command_line.specs.Line.{Page, Explain, Board, Diff, Listing}
 use Rattle.ssim_program.specs.Boards.{ShowsBoard}
@@ -21,7 +22,8 @@ use Rattle.ssim_program.specs.Listing.{Lists}
 use Rattle.ssim_program.specs.Messages.{ShowsTexts}
 use Rattle.ssim_program.specs.Pages.{ShowsPage}
 use Rattle.ssim_program.specs.Receiving.{Receives}
-use Rattle.ssim_program.specs.Made.{AreLinesOn, IsExportOf, ReadsBase, ReadsFile}
+use Rattle.ssim_program.specs.Made.{AreLinesOn, FindsProblems, IsExportOf, ReadsBase, ReadsFile}
+use Rattle.ssim_program.specs.Made.{problem_lines}
 use Rattle.ssim_program.specs.Withdrawing.{WithdrawsFrom}
 use Rattle.ssim_program.specs.rehearse.Rehearsal.{RehearsesFiles}
 use Rattle.ssim_program.specs.Timetables.{ReadsTimetable}
@@ -34,6 +36,9 @@ abbrev pub Makes : Line → Option Files → List ℕ → Kept → Type 0
 Makes (Check name) files printed kept =
     (base : List Record) × (notes : List Note) × ReadsFile files name (Ok (base, notes))
     × AreLinesOn base notes printed × (kept ≡ [])
+Makes (Problems name) files printed kept =
+    (problems : DataSetProblems) × FindsProblems files name problems
+    × (printed ≡ problem_lines problems) × (kept ≡ [])
 Makes (Tidy name) files printed kept =
     (base : List Record) × (notes : List Note) × ReadsFile files name (Ok (base, notes))
     × IsExportOf base printed × (kept ≡ [])

@@ -4,7 +4,8 @@ use Rattle.std.specs.List.{flat_map}
 use Rattle.ssim_values.specs.Flight.{FlightNumber}
 use Rattle.ssim_records.specs.declared.fault.RecordFault.TheVariants as record_fault
 use Rattle.ssim_records.specs.declared.record.Record.{Record}
-use Rattle.ssim_base.specs.Base.{Outcome}
+use Rattle.ssim_base.specs.Base.{Outcome, base_fault_number}
+use Rattle.ssim_base.specs.Fault.{base_fault_name, base_fault_place}
 use Rattle.ssim_base.specs.BaseSeen.{AreFlights, BaseSeen}
 use Rattle.ssim_base.specs.Export.{Frame, chapter7, line}
 use Rattle.ssim_base.specs.ReadBack.{HasFrame}
@@ -15,12 +16,15 @@ use Rattle.ssim_base.specs.declared.fault.BaseFault.{BaseFault}
 use Rattle.ssim_base.specs.declared.fault.BaseFault.TheVariants as base
 use Rattle.ssim_base.specs.declared.note.Note.{Note}
 use Rattle.ssim_base.specs.declared.note.Note.TheVariants as note
+use Rattle.ssim_base.specs.Problems.{HasProblems}
+use Rattle.ssim_base.specs.declared.problems.Problems.{Problems}
 use Rattle.ssim_base.specs.declared.stations.StationFault.{StationFault}
 use Rattle.ssim_text.specs.Left.{lines_left}
 use Rattle.ssim_program.specs.Files.{Files, IsOpened, file_of}
 use Rattle.ssim_command_line.specs.Line.{Text}
 use Rattle.ssim_program.specs.print.Printed.{printed_text}
-use Rattle.ssim_program.specs.print.Refusal.{IsOfFile, refusal_of_base, refusal_of_stations}
+use Rattle.ssim_program.specs.print.Refusal.{IsOfFile, fault_text, refusal_of_base}
+use Rattle.ssim_program.specs.print.Refusal.{refusal_of_stations}
 use Rattle.ssim_program.specs.declared.refusal.Refusal.{Refusal}
 use Rattle.ssim_program.specs.declared.refusal.Refusal.TheVariants as refused
 use Rattle.ssim_program.specs.declared.print.printed.Printed.{Printed}
@@ -56,6 +60,17 @@ abbrev pub AreLinesOn : List Record → List Note → List ℕ → Type 0
 AreLinesOn base notes bytes = (flights : List FlightNumber) × AreFlights base flights
     × (bytes ≡ summary_lines (length base) (length flights) notes)
 
+-- the line of a problem: its number, its name and its place
+abbrev pub problem_line : BaseFault → List ℕ
+problem_line fault =
+    line (fault_text (base_fault_number fault) (base_fault_name fault) (base_fault_place fault))
+
+-- a line for each problem, in order, and the numbers of records other than fill and of problems
+abbrev pub problem_lines : Problems → List ℕ
+problem_lines problems =
+    flat_map problem_line problems.faults.items
+    ++ line (printed_text (printed.ProblemCount problems.records (length problems.faults.items)))
+
 -- ---- from a file
 
 -- the most bytes that a file may have
@@ -79,6 +94,12 @@ abbrev pub IsOfBytes : BaseFault → Type 0
 IsOfBytes (base.Read (record_fault.ReadFault n)) = ⊥
 IsOfBytes (base.Read (record_fault.ReaderNeverEnds n)) = ⊥
 IsOfBytes _ = Unit {0}
+
+-- The file of this name is within the limit, and has these problems as a data set. If the contract
+-- cannot see the files, nothing is said.
+abbrev pub FindsProblems : Option Files → Text → Problems → Type 0
+FindsProblems files name problems =
+    (left : Option (List ℕ)) × IsOpened files name left × HasProblems file_limit left problems
 
 -- there is no file of this name within the limit, if the contract can see the files
 abbrev pub IsMissing : Option Files → Text → Type 0

@@ -12,6 +12,7 @@ pub(crate) mod list;
 pub(crate) mod merge;
 pub(crate) mod named_flights;
 pub(crate) mod page;
+pub(crate) mod problems;
 pub(crate) mod receive;
 pub(crate) mod show;
 pub(crate) mod start;

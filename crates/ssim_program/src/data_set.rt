@@ -8,13 +8,13 @@ ghost use Rattle.ssim_base.specs.Reading.{IsReadAs};
 ghost use Rattle.ssim_base.specs.declared.fault.BaseFault.TheVariants as base_fault;
 ghost use Rattle.ssim_base.specs.declared.note.Note.{Note};
 ghost use Rattle.ssim_program.specs.Files.{IsOpened};
-ghost use Rattle.ssim_program.specs.Made.{HasFile, IsOfBytes, ReadsBase, ReadsFile, RefusesBase};
-ghost use Rattle.ssim_program.specs.Made.{RefusesFile, RefusesLoad, file_limit};
+ghost use Rattle.ssim_program.specs.Made.{FindsProblems, HasFile, IsOfBytes, ReadsBase, ReadsFile};
+ghost use Rattle.ssim_program.specs.Made.{RefusesBase, RefusesFile, RefusesLoad, file_limit};
 ghost use Rattle.ssim_program.specs.internal.DataSet.{SumsFile, IsUnread};
 
 use crate::refusal::Refusal;
 use crate::store::{Store, StoreFault};
-use ssim_base::{BaseFault, DataSet, Stations, Summary};
+use ssim_base::{BaseFault, DataSet, Problems, Stations, Summary};
 use ssim_records::{Parts, RecordFault};
 use std::alloc::Global;
 
@@ -168,6 +168,28 @@ pub(crate) fn load_summary<S: Store>(
         Ok(Ok(summary)) => Ok(summary),
         Ok(Err(fault)) => Err(Refusal::from(fault)),
         Err(refusal) => Err(refusal),
+    }
+}
+
+/// Reads all problems of the data set in the file of this name. Returns 91 if there is no such file
+/// within the limit.
+pub(crate) fn load_problems<S: Store>(
+    alloc: Global,
+    name: &str,
+    store: &mut S,
+) -> Result<Problems, Refusal>
+    ensures found { IfOk result (FindsProblems (S.files store.old) name.now) }
+    ensures refused { IfErr result (RefusesLoad (S.files store.old) name.now) }
+    ensures same { S.files store.new ≡ S.files store.old }
+    ensures counted { S.failures store.new ≡ S.failures store.old }
+{
+    let mut file = open_file(alloc, name, store)?;
+    match Problems::read(alloc, &mut file, LIMIT) {
+        Ok(problems) => Ok(problems),
+        Err(fault) => match unread(alloc, name, &fault) {
+            Some(refusal) => Err(refusal),
+            None => unreachable!(),
+        },
     }
 }
 

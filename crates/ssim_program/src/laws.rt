@@ -2,7 +2,7 @@
 
 ghost use Rattle.std.specs.Prelude.{List};
 ghost use Rattle.ssim_command_line.specs.Line.{Board, Calendar, Export, Findings, History, Show, Text};
-ghost use Rattle.ssim_command_line.specs.Line.{Texts, Withdraw, Listing};
+ghost use Rattle.ssim_command_line.specs.Line.{Texts, Withdraw, Listing, Problems};
 ghost use Rattle.ssim_command_line.specs.declared.command_line.ListForm.{ListForm};
 ghost use Rattle.ssim_program.specs.Again.{TidiesOnce};
 ghost use Rattle.ssim_program.specs.Offices.{HoldsWhatWasBrought, OfficesAgree, PrintsTheSame};
@@ -11,7 +11,9 @@ ghost use Rattle.ssim_program.specs.rehearse.Verdict.{EndsWithSame};
 ghost use Rattle.ssim_program.specs.examples.Histories;
 ghost use Rattle.ssim_program.specs.examples.Scripts;
 
-use ssim_base::laws::{same_bytes_same_base, same_bytes_same_rows, written_bases_are_read};
+use ssim_base::laws::{
+    same_bytes_same_base, same_bytes_same_problems, same_bytes_same_rows, written_bases_are_read,
+};
 use ssim_desk::laws::{any_two_desks_agree, no_two_desks_have_one_file};
 use ssim_text::laws::{canonical_reads_back, one_message, one_reference};
 
@@ -43,8 +45,8 @@ pub fn offices_agree()
 /// Of two equal desk files `texts`, `show`, `history`, `list`, `board`, `calendar`, `findings` and
 /// `export` print the same: the messages, each flight on each date, which message did what to it, the
 /// periods or the dates of each flight, what is on a board, its calendar, what each sub-message found,
-/// and the chapter 7 data set, byte for byte. So do `list`, `board` and `calendar` of two equal data
-/// sets, and `withdraw` of two equal desk files: what became of each reference.
+/// and the chapter 7 data set, byte for byte. So do `list`, `board`, `calendar` and `problems` of two
+/// equal data sets, and `withdraw` of two equal desk files: what became of each reference.
 pub fn equal_files_print_the_same()
     ensures texts { (flights : List Text) → PrintsTheSame (λ file. Texts file flights) }
     ensures withdraw { (out : Text) (references : List Text)
@@ -55,12 +57,14 @@ pub fn equal_files_print_the_same()
     ensures list { (form : ListForm) (flights : List Text)
         → PrintsTheSame (λ file. Listing form file flights) }
     ensures calendar { (flight : Text) → PrintsTheSame (λ file. Calendar file flight) }
+    ensures problems { PrintsTheSame Problems }
     ensures findings { PrintsTheSame Findings }
     ensures export { PrintsTheSame Export }
 {
     one_reference();
     no_two_desks_have_one_file();
     same_bytes_same_base();
+    same_bytes_same_problems();
 }
 
 /// A script runs texts and merges on several desks. If the same messages reached all of them, by

@@ -1,5 +1,6 @@
 //! What is printed: lines, names of files, the line of a refusal, and the printer that takes them.
 
+pub(crate) mod fault_line;
 pub(crate) mod name;
 pub(crate) mod printed;
 pub(crate) mod printer;

@@ -24,6 +24,7 @@ use crate::command::history::history;
 use crate::command::list::list;
 use crate::command::merge::merge;
 use crate::command::page::page;
+use crate::command::problems::problems;
 use crate::command::receive::receive;
 use crate::command::show::show_flight;
 use crate::command::start::start;
@@ -225,6 +226,7 @@ fn act<S: Store, O: Write>(
         }
         Request::Export(desk) => export(alloc, desk, store, out),
         Request::Check(name) => print(check(alloc, name, store), out),
+        Request::Problems(name) => print(problems(alloc, name, store), out),
         Request::Start(dataset, stations, name) => {
             print(start(alloc, dataset, stations, name, store), out)
         }

@@ -8,6 +8,7 @@ ghost use Rattle.ssim_program.specs.print.Refusal.{refusal_of_export};
 ghost use Rattle.ssim_program.specs.print.Refusal.{refusal_of_stations, refusal_of_value};
 ghost use Rattle.ssim_program.specs.print.Refusal.{refusal_place, refusal_text};
 
+use crate::print::fault_line::FaultLine;
 use crate::print::name::printed_name;
 use crate::print::printed::line_of;
 use ssim_base::{BaseFault, Place, StationFault};
@@ -135,18 +136,16 @@ impl fmt::Display for Refusal {
         if let Some(file) = self.file() {
             return write!(f, "refused {number} {name} {file}");
         }
-        match self.place() {
-            Place::Nowhere => write!(f, "refused {number} {name}"),
-            Place::Record(record) => write!(f, "refused {number} {name} record {record}"),
-            Place::Column { record, column } => {
-                write!(f, "refused {number} {name} record {record} column {column}")
+        let place = self.place();
+        write!(
+            f,
+            "refused {}",
+            FaultLine {
+                number,
+                name,
+                place
             }
-            Place::Line(line) => write!(f, "refused {number} {name} line {line}"),
-            Place::SubMessage(sub) => write!(f, "refused {number} {name} sub {sub}"),
-            Place::Offset(offset) => write!(f, "refused {number} {name} offset {offset}"),
-            Place::Flight(flight) => write!(f, "refused {number} {name} flight {flight}"),
-            Place::Message(reference) => write!(f, "refused {number} {name} {reference}"),
-        }
+        )
     }
 }
 

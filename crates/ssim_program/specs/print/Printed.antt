@@ -10,13 +10,16 @@ use Rattle.ssim_program.specs.declared.print.printed.Printed.{Printed}
 use Rattle.ssim_program.specs.declared.print.printed.Printed.TheVariants as printed
 
 -- the text of a line: a note on a record's serial or check reference; the summary of records,
--- flights and notes; what became of a text; what became of a reference; how many messages a desk holds
+-- flights and notes; the number of records and problems; what became of a text; what became of a
+-- reference; how many messages a desk holds
 abbrev pub printed_text : Printed → List ℕ
 printed_text (printed.SerialNote n) = codes "note Serial record " ++ decimal n
 printed_text (printed.CheckReferenceNote n) = codes "note CheckReference record " ++ decimal n
 printed_text (printed.Summary records flights notes) =
     codes "ok records " ++ decimal records ++ codes " flights " ++ decimal flights ++ codes " notes "
     ++ decimal notes
+printed_text (printed.ProblemCount records problems) =
+    codes "records " ++ decimal records ++ codes " problems " ++ decimal problems
 printed_text (printed.Taken reference) = codes "taken " ++ printed_reference reference
 printed_text (printed.Repeated reference) = codes "repeated " ++ printed_reference reference
 printed_text (printed.Withdrawn reference) = codes "withdrawn " ++ printed_reference reference

@@ -16,7 +16,7 @@ use Rattle.ssim_program.specs.Desks.{ReadsDesk, RefusesDeskFile, RefusesFlight, 
 use Rattle.ssim_program.specs.Boards.{RefusesBoard}
 use Rattle.ssim_program.specs.Differences.{RefusesComparison}
 use Rattle.ssim_program.specs.Files.{Files}
-use Rattle.ssim_command_line.specs.Line.{Line, Text, Check, Tidy, Start, Take, Merge, Withdraw}
+use Rattle.ssim_command_line.specs.Line.{Line, Text, Check, Problems, Tidy, Start, Take, Merge, Withdraw}
 use Rattle.ssim_command_line.specs.Line.{Receive, Texts, Show, History, Calendar, Findings, Export}
 use Rattle.ssim_command_line.specs.Line.{Rehearse, Explain, Page, Board, Diff, Listing}
 use Rattle.ssim_program.specs.Messages.{RefusesFlights}
@@ -58,6 +58,7 @@ RefusesTake files file names printed refusal =
 -- it makes of it.
 abbrev pub Refuses : Line → Option Files → List ℕ → Refusal → Type 0
 Refuses (Check name) files printed refusal = (printed ≡ []) × RefusesFile files name refusal
+Refuses (Problems name) files printed refusal = (printed ≡ []) × RefusesLoad files name refusal
 Refuses (Tidy name) files printed refusal =
     (printed ≡ [])
     × (RefusesFile files name refusal

@@ -82,6 +82,10 @@ place_text (Offset n) = codes " offset " ++ decimal n
 place_text (Flight flight) = codes " flight " ++ designator_text flight
 place_text (Message reference) = 32 ∷ printed_reference reference
 
+-- a fault by its number, its name and its place, as: 12 BadColumn record 3 column 37
+abbrev pub fault_text : ℕ → List ℕ → Place → List ℕ
+fault_text number name place = decimal number ++ 32 ∷ name ++ place_text place
+
 -- the file or the place that is named
 abbrev pub named_text : Option (List ℕ) → Place → List ℕ
 named_text (Some file) place = 32 ∷ file

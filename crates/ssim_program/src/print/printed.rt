@@ -26,6 +26,11 @@ pub enum Printed {
         flights: usize,
         notes: usize,
     },
+    /// How many records other than fill there are, and problems.
+    ProblemCount {
+        records: u64,
+        problems: usize,
+    },
     /// The message of a text was new, and is held.
     Taken {
         reference: Reference,
@@ -62,6 +67,9 @@ impl fmt::Display for Printed {
                 flights,
                 notes,
             } => write!(f, "ok records {records} flights {flights} notes {notes}"),
+            Printed::ProblemCount { records, problems } => {
+                write!(f, "records {records} problems {problems}")
+            }
             Printed::Taken { reference } => write!(f, "taken {reference}"),
             Printed::Repeated { reference } => write!(f, "repeated {reference}"),
             Printed::Withdrawn { reference } => write!(f, "withdrawn {reference}"),

@@ -1,7 +1,7 @@
 -- The request is the command's.
 use Rattle.std.proofs.Common.{Bor, List, ℕ, map, sym, subst}
 use Rattle.ssim_command_line.specs.Line.{Check, Start, Merge, Withdraw, Texts, Show, History, Calendar}
-use Rattle.ssim_command_line.specs.Line.{Page, Findings, Rehearse, Explain, Board, Diff, Listing}
+use Rattle.ssim_command_line.specs.Line.{Page, Problems, Findings, Rehearse, Explain, Board, Diff, Listing}
 use Rattle.ssim_command_line.specs.Request.{line_of}
 use Rattle.ssim_program.specs.World.{world}
 use Rattle.ssim_program.specs.internal.Program.{Does, Prepares, stored}
@@ -83,6 +83,13 @@ returns-in-Calendar g c =
     (sym c.in-Calendar.is) (c.print-in-Calendar.ensures (Calendar c.in-Calendar.file.now c.in-Calendar.flight.now)
     (stored (g.S.Store.files c.args.store.now) (g.S.Store.failures c.args.store.now))
     (stored (g.S.Store.files c.calendar.new.store) (g.S.Store.failures c.calendar.new.store)) tt c.calendar.ensures)
+
+pub returns-in-Problems : goal.returns-in-Problems
+returns-in-Problems g c =
+    subst (λ (r : Request). Does (line_of r) (world (g.S.Store.files c.args.store.now) (g.S.Store.failures c.args.store.now) c.args.out.now) (world (g.S.Store.files c.problems.new.store) (g.S.Store.failures c.problems.new.store) c.print-in-Problems.new.out) c.print-in-Problems.result)
+    (sym c.in-Problems.is) (c.print-in-Problems.ensures (Problems c.in-Problems.name.now)
+    (stored (g.S.Store.files c.args.store.now) (g.S.Store.failures c.args.store.now))
+    (stored (g.S.Store.files c.problems.new.store) (g.S.Store.failures c.problems.new.store)) tt c.problems.ensures)
 
 pub returns-in-Page : goal.returns-in-Page
 returns-in-Page g c =
