@@ -1,0 +1,4 @@
+pub mod Reach
+pub mod Sayable
+pub mod internal
+pub mod examples
