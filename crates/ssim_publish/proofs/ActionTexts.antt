@@ -139,7 +139,7 @@ few : (test : ℕ → Bool) (low : ℕ) (text own : List ℕ) → is_text_of tes
     → text ≡ own → length own ≤ 20
 few test low text own h same =
     let p = and_parts (nat_le low (length text) && nat_le (length text) 20) (list_all test text)
-        h in
+    h in
     let q = and_parts (nat_le low (length text)) (nat_le (length text) 20) p.0 in
     subst (λ (x : List ℕ). length x ≤ 20) same (leb-true (length text) 20 q.1)
 
@@ -232,12 +232,12 @@ points_three : (text : List ℕ) (points : List ℕ × List ℕ) → points_of t
     → AreThree points
 points_three text points h =
     let p = only_else (bytes_eq text (codes "QQQQQQ"))
-        (station_in (take 3 text) >>= λ b. station_in (drop 3 text) >>= λ o. Some (two b o))
-        points h in
+    (station_in (take 3 text) >>= λ b. station_in (drop 3 text) >>= λ o. Some (two b o))
+    points h in
     let board = bound (station_in (take 3 text))
-        (λ (b : List ℕ). station_in (drop 3 text) >>= λ o. Some (two b o)) points p.1 in
+    (λ (b : List ℕ). station_in (drop 3 text) >>= λ o. Some (two b o)) points p.1 in
     let off = bound (station_in (drop 3 text)) (λ (o : List ℕ). Some (two board.0 o)) points
-        board.2 in
+    board.2 in
     subst AreThree (some_same (two board.0 off.0) points off.2)
     (station_three (take 3 text) board.0 board.1, station_three (drop 3 text) off.0 off.1)
 
@@ -245,7 +245,7 @@ data_short : (text own : List ℕ) → segment_text_of text ≡ Some own → len
 data_short [] own h = absurd (none_some own h)
 data_short (b ∷ text) own h =
     let p = only_if ((b == 47) && nat_le 1 (length text) && nat_le (length text) 155) (Some text)
-        own h in
+    own h in
     let q = and_parts ((b == 47) && nat_le 1 (length text)) (nat_le (length text) 155) p.0 in
     subst (λ (x : List ℕ). length x ≤ 155) (some_same text own p.1) (leb-true (length text) 155 q.1)
 
@@ -364,7 +364,7 @@ message_good : (action : Action) → CanAct action
 message_good action can =
     let body = body_parts action in
     let rest = all_both IsGood (body ++ []) [] (all_both IsGood body [] (body_good action can) tt)
-        tt in (
+    tt in (
       record { reads = kind_reads; short = omega arith },
       (
         record { reads = mode_reads; short = omega arith },

@@ -209,31 +209,31 @@ equipment_last e t d len =
     let x = with_times t d in
     let c = times_changed t d len in
     let same : (first last : ℕ) → 65 < first → first ≤ last → last ≤ 127
-        → leg_columns first last x ≡ leg_columns first last d =
+    → leg_columns first last x ≡ leg_columns first last d =
     λ first last low le high. same_columns (spread x) (spread d) 65 127 first last
-        c.columns_66_to_127 low le high in
+    c.columns_66_to_127 low le high in
     let front = cut_front (spread x) in
     let terminal = same 66 72 (lit< tt) (lit≤ tt) (lit≤ tt) in
     let rest = same 96 127 (lit< tt) (lit≤ tt) (lit≤ tt) in
     let meals = same_columns (spread x) (spread d) 128 192 129 172 c.columns_129_to_192
-        (lit< tt) (lit≤ tt) (lit≤ tt) in
+    (lit< tt) (lit≤ tt) (lit≤ tt) in
     let behind : List ℕ = filled 3 e.aircraft_type
-        ++ (filled 20 e.booking_designators
-        ++ (leg_columns 96 127 d
-        ++ (leg_columns 129 172 d ++ (filled 20 e.configuration ++ (date_variations t ++ []))))) in
+    ++ (filled 20 e.booking_designators
+    ++ (leg_columns 96 127 d
+    ++ (leg_columns 129 172 d ++ (filled 20 e.configuration ++ (date_variations t ++ []))))) in
     (λ i. filled 1 (e.service_type ∷ [])
-        ++ (front i
-        ++ (filled 3 e.aircraft_type
-        ++ (filled 20 e.booking_designators
-        ++ (rest i
-        ++ (meals i ++ (filled 20 e.configuration ++ (c.date_variations i ++ []))))))))
+    ++ (front i
+    ++ (filled 3 e.aircraft_type
+    ++ (filled 20 e.booking_designators
+    ++ (rest i
+    ++ (meals i ++ (filled 20 e.configuration ++ (c.date_variations i ++ []))))))))
     ∙ (λ i. filled 1 (e.service_type ∷ [])
-        ++ ((c.columns_37_to_39 i
-        ++ (c.passenger_departure i
-        ++ (c.aircraft_departure i
-        ++ (c.columns_48_to_57 i
-        ++ (c.aircraft_arrival i ++ (c.passenger_arrival i ++ terminal i))))))
-        ++ behind))
+    ++ ((c.columns_37_to_39 i
+    ++ (c.passenger_departure i
+    ++ (c.aircraft_departure i
+    ++ (c.columns_48_to_57 i
+    ++ (c.aircraft_arrival i ++ (c.passenger_arrival i ++ terminal i))))))
+    ++ behind))
     ∙ ap (λ (y : List ℕ). filled 1 (e.service_type ∷ []) ++ y)
     (joined_seven (leg_columns 37 39 d) (clock_text t.passenger_departure)
     (clock_text t.aircraft_departure) (leg_columns 48 57 d) (clock_text t.aircraft_arrival)
@@ -246,36 +246,36 @@ times_last e t d len =
     let x = with_equipment e d in
     let c = equipment_changed e d len in
     let same : (first last : ℕ) → 36 < first → first ≤ last → last ≤ 72
-        → leg_columns first last x ≡ leg_columns first last d =
+    → leg_columns first last x ≡ leg_columns first last d =
     λ first last low le high. same_columns (spread x) (spread d) 36 72 first last
-        c.columns_37_to_72 low le high in
+    c.columns_37_to_72 low le high in
     let departure = same 37 39 (lit< tt) (lit≤ tt) (lit≤ tt) in
     let between = same 48 57 (lit< tt) (lit≤ tt) (lit≤ tt) in
     let terminal = same 66 72 (lit< tt) (lit≤ tt) (lit≤ tt) in
     let middle = cut_middle (spread x) in
     let tail = slice_cut (spread x) 128 172 192 (lit≤ tt) (lit≤ tt) in
     let front : List ℕ → List ℕ = λ y. filled 1 (e.service_type ∷ [])
-        ++ (leg_columns 37 39 d
-        ++ (clock_text t.passenger_departure
-        ++ (clock_text t.aircraft_departure
-        ++ (leg_columns 48 57 d
-        ++ (clock_text t.aircraft_arrival ++ (clock_text t.passenger_arrival ++ y)))))) in
+    ++ (leg_columns 37 39 d
+    ++ (clock_text t.passenger_departure
+    ++ (clock_text t.aircraft_departure
+    ++ (leg_columns 48 57 d
+    ++ (clock_text t.aircraft_arrival ++ (clock_text t.passenger_arrival ++ y)))))) in
     let behind : List ℕ = leg_columns 129 172 d
-        ++ (filled 20 e.configuration ++ (date_variations t ++ [])) in
+    ++ (filled 20 e.configuration ++ (date_variations t ++ [])) in
     (λ i. c.service_type i
-        ++ (departure i
-        ++ (clock_text t.passenger_departure
-        ++ (clock_text t.aircraft_departure
-        ++ (between i
-        ++ (clock_text t.aircraft_arrival
-        ++ (clock_text t.passenger_arrival
-        ++ (middle i ++ (tail i ++ (date_variations t ++ []))))))))))
+    ++ (departure i
+    ++ (clock_text t.passenger_departure
+    ++ (clock_text t.aircraft_departure
+    ++ (between i
+    ++ (clock_text t.aircraft_arrival
+    ++ (clock_text t.passenger_arrival
+    ++ (middle i ++ (tail i ++ (date_variations t ++ []))))))))))
     ∙ (λ i. front ((terminal i
-        ++ (c.aircraft_type i ++ (c.booking_designators i ++ c.columns_96_to_127 i)))
-        ++ ((c.columns_129_to_172 i ++ c.configuration i) ++ (date_variations t ++ []))))
+    ++ (c.aircraft_type i ++ (c.booking_designators i ++ c.columns_96_to_127 i)))
+    ++ ((c.columns_129_to_172 i ++ c.configuration i) ++ (date_variations t ++ []))))
     ∙ ap (λ (y : List ℕ). front ((leg_columns 66 72 d
-        ++ (filled 3 e.aircraft_type
-        ++ (filled 20 e.booking_designators ++ leg_columns 96 127 d))) ++ y))
+    ++ (filled 3 e.aircraft_type
+    ++ (filled 20 e.booking_designators ++ leg_columns 96 127 d))) ++ y))
     (append_assoc (leg_columns 129 172 d) (filled 20 e.configuration) (date_variations t ++ []))
     ∙ ap front (joined_four (leg_columns 66 72 d) (filled 3 e.aircraft_type)
     (filled 20 e.booking_designators) (leg_columns 96 127 d) behind)

@@ -68,7 +68,7 @@ equipped_from v e new i [] h = refl
 equipped_from v e new i (line ∷ lines) h =
     let here = v line.departure.station in let there = v line.arrival.station in
     (λ k. joined (leg_equipped e here there i line new h.0 k)
-        (equipped_from v e new (i + 1) lines h.1 k))
+    (equipped_from v e new (i + 1) lines h.1 k))
     ∙ joined_map (equipped e) (leg_at here there i line new) (legs_from v new (i + 1) lines)
 
 -- ---- a leg line in place of another
@@ -97,7 +97,7 @@ record HaveSame (line other : LegLine) : Type 0 where
 have_same : (line other : LegLine) → same_stations line other ≡ true → HaveSame line other
 have_same line other h =
     let p = and_parts (bytes_eq other.departure.station line.departure.station)
-        (bytes_eq other.arrival.station line.arrival.station) h in
+    (bytes_eq other.arrival.station line.arrival.station) h in
     record {
       departure = (bytes_eq-Decides other.departure.station line.departure.station).0 p.0;
       arrival = (bytes_eq-Decides other.arrival.station line.arrival.station).0 p.1;
@@ -169,7 +169,7 @@ place_chosen : (off : List ℕ) (line other : LegLine) (others : List LegLine) (
     ≡ position (λ l. bytes_eq l.arrival.station off) (other ∷ others)
 place_chosen off line other others b e =
     ap (λ (c : Bool). position (λ l. bytes_eq l.arrival.station off)
-        (first_chosen line other others c)) (sym e)
+    (first_chosen line other others c)) (sym e)
     ∙ position_replaced off line (other ∷ others)
 
 pub pair_replaced : (board off : List ℕ) (n : ℕ) (line : LegLine) (lines : List LegLine)
@@ -247,7 +247,7 @@ fits_new here there i line other e tails h =
     let s = stations_of here there other in
     let are = stations_are here there other h in
     λ k. bytes_eq (new_departure s (times_of other) (equipment_of e) are k) line.departure.station
-        && bytes_eq (new_arrival s (times_of other) (equipment_of e) are k) line.arrival.station
+    && bytes_eq (new_arrival s (times_of other) (equipment_of e) are k) line.arrival.station
 
 -- the first leg with its tests: with the times of the line if it fits, else as it is
 abbrev first_tested : LegLine → Bool → LegValue → Legs → Legs
@@ -280,7 +280,7 @@ first_replaced line other new (Some here) (Some there) i (Some legs) h same e =
     let tails = tails_for i new.legs new.segments in
     let leg = made i (new_columns here there other new.equipment) tails in
     (λ k. Some (made i (columns_retimed here there line other new.equipment h same k)
-        (tails_replaced i line new.legs new.segments k) ∷ legs))
+    (tails_replaced i line new.legs new.segments k) ∷ legs))
     ∙ ap (λ (b : Bool). Some (first_tested line b leg legs))
     (sym (fits_new here there i line other new.equipment tails h ∙ e))
 
@@ -314,11 +314,11 @@ replaced_from v line new i (other ∷ others) h =
     by true e later =
         let same = have_same line other e in
         (λ k. joined (leg_at (v (sym same.departure k)) (v (sym same.arrival k)) i line
-            (replaced_new line new)) (legs_same v line new (i + 1) others k))
+        (replaced_new line new)) (legs_same v line new (i + 1) others k))
         ∙ first_replaced line other new (v other.departure.station) (v other.arrival.station) i
         (legs_from v new (i + 1) others) h.0 same e
     by false e later =
         (λ k. joined (leg_same line new (v other.departure.station) (v other.arrival.station) i
-            other k) (later k))
+        other k) (later k))
         ∙ first_stays line other new (v other.departure.station) (v other.arrival.station) i
         (legs_from v new (i + 1) others) h.0 e

@@ -111,9 +111,9 @@ said_can_act action said =
     let parts = parts_spelled text.parts (texts (lines_left said.text)) text.spelled lines in
     let whole = subst (AllByRecursion IsSpelled) text.has_parts.whole parts in
     let rest = all_right IsSpelled text.has_parts.heading (subs_parts m.subs ++ free_parts m.free)
-        whole in
+    whole in
     let subs = subs_spelled m.subs
-        (all_left IsSpelled (subs_parts m.subs) (free_parts m.free) rest) in
+    (all_left IsSpelled (subs_parts m.subs) (free_parts m.free) rest) in
     let c = said.contained in
     let body = element IsBodySpelled m.subs said.sub c.0 c.1 c.2 subs in
     let allowed = element (IsSub m.kind) m.subs said.sub c.0 c.1 c.2 text.shape.subs in

@@ -1,11 +1,27 @@
-//! What schedule messages can say: which itineraries they can make of an itinerary.
+//! What schedule messages can say: which itineraries they can make of an itinerary, and by which
+//! sub-messages.
 //!
-//! - [`laws`]: some list of sub-messages makes the new itinerary of a date of the old one if and
-//!   only if the new one is none, a whole new one, or the old one with other equipment and other
-//!   times.
+//! - [`say`]: the actions of sub-messages that make the new itinerary of a flight on a date of the
+//!   old one: none, `CNL`, `NEW`, `TIM`, `EQT`, `RPL`, or `EQT` and then `TIM`.
+//! - [`laws`]: whatever list of sub-messages comes, the itinerary of a date is then none, a whole
+//!   new one, or the old one with other equipment and other times.
 //!
 //! The actions act by the rows of a station table, which gives the UTC variations of the new legs
-//! of `NEW` and `RPL`.
+//! of `NEW` and `RPL`. The only error is [`Memory`].
+//!
+//! **Promise.** Each action that `say` returns is one that a text can have, and the actions, one
+//! after another, make exactly the new itinerary. This is tested at run time by the effect of
+//! sub-messages itself, so that no way of finding actions can make it false. It is not proved that
+//! `say` finds actions if there are any.
 #![tactic(auto)]
 
+mod action_text;
+mod candidates;
+mod date_actions;
 pub mod laws;
+#[cfg(test)]
+mod tests;
+mod trial;
+
+pub use date_actions::say;
+pub use ssim_values::Memory;
