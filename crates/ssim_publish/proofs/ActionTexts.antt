@@ -4,7 +4,7 @@
 use Rattle.std.proofs.Common.{◌≡◌, ◌≤◌, ◌+◌, ◌*◌, ◌&&◌, ◌∙◌, ℕ, Bool, true, false, if◌then◌else◌}
 use Rattle.std.proofs.Common.{List, [], ◌∷◌, ◌++◌, map, length, refl, sym, ap, subst, arith, codes}
 use Rattle.std.proofs.Common.{length-append, Some, None, leb-true, ◌/◌, ◌%◌, suc, IsTrue, bytes_eq}
-use Rattle.std.proofs.Common.{take, drop}
+use Rattle.std.proofs.Common.{append-nil, take, drop}
 use Rattle.std.specs.Prelude.{◌==◌, nat_lt, nat_le}
 use Rattle.std.specs.List.{AllByRecursion, AllZip, list_all}
 use Rattle.std.proofs.lemmas.Bool.{and_parts}
@@ -27,7 +27,8 @@ use Rattle.ssim_text.specs.Grammar.{ActionPart, EquipmentPart, FlightPart, IsBod
 use Rattle.ssim_text.specs.Grammar.{LegPart, ModePart, Part, PeriodPart, ReferencePart, SegmentPart}
 use Rattle.ssim_text.specs.Grammar.{Spells}
 use Rattle.ssim_text.specs.Grammar.{IsNewLegs, body_parts, identifier_of, new_parts}
-use Rattle.ssim_text.specs.Lines.{configuration_of, designators_of, numbers_of, period_of}
+use Rattle.ssim_text.specs.Lines.{configuration_of, designators_of, identifier_text, numbers_of}
+use Rattle.ssim_text.specs.Lines.{period_of}
 use Rattle.ssim_text.specs.Lines.{points_of, reference_of, segment_text_of, station_in}
 use Rattle.ssim_text.specs.Spelling.{SpellsMessage}
 use Rattle.ssim_text.specs.Values.{EquipmentValue}
@@ -56,7 +57,7 @@ use Rattle.ssim_text.proofs.Words.{bound, only_else, only_if}
 use Rattle.ssim_columns.proofs.lemmas.CarriedTexts.{length_station}
 use Rattle.ssim_publish.specs.Reach.{IsSaid}
 use Rattle.ssim_publish.specs.Sayable.{AreNewLegs, IsEquipment, IsLegLine, IsSpelled, IsTextLine}
-use Rattle.ssim_publish.specs.internal.ActionTexts.{message_of}
+use Rattle.ssim_publish.specs.internal.ActionTexts.{heading, message_of}
 use Rattle.ssim_publish.proofs.Said.{CanAct, all_both}
 
 -- ---- the message
@@ -461,3 +462,25 @@ said_if_allowed action body can = record {
   contained = (0, omega arith, refl);
   action_is = refl;
 }
+
+-- ---- the heading
+
+two_nil : (parts : List Part) → (parts ++ []) ++ [] ≡ parts
+two_nil parts = append-nil (parts ++ []) ∙ append-nil parts
+
+-- the canonical text is the heading and the lines of the action
+pub heading_is : (action : Action)
+    → canonical (message_of action)
+    ≡ heading (identifier_text (identifier_of action)) ++ written (body_parts action)
+unfolding day_text day_number leap_years months_length year_of month_of day_of_month
+heading_is (New new) =
+    ap (λ (parts : List Part). heading (codes "NEW") ++ written parts) (two_nil (new_parts new))
+heading_is Cnl = ap (λ (parts : List Part). heading (codes "CNL") ++ written parts) (two_nil [])
+heading_is (Rpl new) =
+    ap (λ (parts : List Part). heading (codes "RPL") ++ written parts) (two_nil (new_parts new))
+heading_is (Eqt e) =
+    ap (λ (parts : List Part). heading (codes "EQT") ++ written parts)
+    (two_nil (EquipmentPart e ∷ []))
+heading_is (Tim lines) =
+    ap (λ (parts : List Part). heading (codes "TIM") ++ written parts)
+    (two_nil (map LegPart lines))

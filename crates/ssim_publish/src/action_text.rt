@@ -3,6 +3,9 @@
 //! The flight, the dates and the reference are the same in all of them: only the action counts. A
 //! text may be one that spells no message, if the columns have what messages cannot say.
 
+ghost use Rattle.std.specs.Prelude.{◌≡◌, IfOk};
+ghost use Rattle.ssim_publish.specs.internal.ActionTexts.{heading};
+
 use ssim_records::leg_fields::{
     AIRCRAFT_ARRIVAL, AIRCRAFT_DEPARTURE, AIRCRAFT_TYPE, ARRIVAL_STATION, BOOKING_DESIGNATORS,
     CONFIGURATION, DATE_VARIATIONS, DEPARTURE_STATION, PASSENGER_ARRIVAL, PASSENGER_DEPARTURE,
@@ -18,7 +21,9 @@ use std::alloc::Global;
 pub(crate) const MOST_LEGS: usize = 20;
 
 /// The text of a sub-message with this action identifier, up to the lines of the action.
-pub(crate) fn begun(alloc: Global, identifier: &[u8]) -> Result<Vec<u8>, Memory> {
+pub(crate) fn begun(alloc: Global, identifier: &[u8]) -> Result<Vec<u8>, Memory>
+    ensures { IfOk result (λ text. text.items ≡ heading identifier.now) }
+{
     let mut text = Vec::new(alloc);
     text.extend_from_slice(b"SSM\nUTC\n01JUN00001E001\n")?;
     text.extend_from_slice(identifier)?;

@@ -2,9 +2,13 @@
 //! make. Each is an action of a message that a text spells; whether they make the itinerary is not
 //! known here.
 
-ghost use Rattle.std.specs.Prelude.{IfOk, IfSome, OnOk};
+ghost use Rattle.std.specs.Prelude.{◌≡◌, ◌++◌, ◌∷◌, [], Some, IfOk, IfSome, OnOk};
 ghost use Rattle.std.specs.List.{AllByRecursion};
+ghost use Rattle.ssim_text.specs.Spelling.{SpellsMessage};
+ghost use Rattle.ssim_text.specs.declared.action.Action.{Action};
+ghost use Rattle.ssim_text.specs.declared.action.Action.TheVariants.{Cnl};
 ghost use Rattle.ssim_publish.specs.Reach.{IsSaid};
+ghost use Rattle.ssim_publish.specs.internal.ActionTexts.{message_of};
 
 use crate::action_text::{MOST_LEGS, begun, equipment_text, legs_text, times_text};
 use ssim_schedule::PlacedLeg;
@@ -14,7 +18,8 @@ use std::alloc::Global;
 
 /// `CNL`.
 pub(crate) fn cancellation(alloc: Global) -> Result<Vec<Action>, Memory>
-    ensures { IfOk result (λ actions. AllByRecursion IsSaid actions.items) }
+    ensures said { IfOk result (λ actions. AllByRecursion IsSaid actions.items) }
+    ensures found { IfOk result (λ actions. actions.items ≡ Cnl ∷ []) }
 {
     let text = begun(alloc, b"CNL")?;
     only_action(alloc, &text)
@@ -67,7 +72,9 @@ pub(crate) fn push_times(
 
 // The action of a text; none if the text spells no message.
 fn only_action(alloc: Global, text: &[u8]) -> Result<Vec<Action>, Memory>
-    ensures { IfOk result (λ actions. AllByRecursion IsSaid actions.items) }
+    ensures said { IfOk result (λ actions. AllByRecursion IsSaid actions.items) }
+    ensures found { (action : Action) → SpellsMessage (message_of action) text.now
+        → IfOk result (λ actions. actions.items ≡ action ∷ []) }
 {
     let mut actions = Vec::new(alloc);
     push_action(alloc, &mut actions, text)?;
@@ -77,7 +84,9 @@ fn only_action(alloc: Global, text: &[u8]) -> Result<Vec<Action>, Memory>
 // Adds the action of a text, if the text spells a message.
 fn push_action(alloc: Global, actions: &mut Vec<Action>, text: &[u8]) -> Result<(), Memory>
     requires { AllByRecursion IsSaid actions.old.items }
-    ensures { OnOk result (AllByRecursion IsSaid actions.new.items) }
+    ensures said { OnOk result (AllByRecursion IsSaid actions.new.items) }
+    ensures found { (action : Action) → SpellsMessage (message_of action) text.now
+        → OnOk result (actions.new.items ≡ actions.old.items ++ action ∷ []) }
 {
     if let Some(action) = action_of(alloc, text)? {
         actions.push(action)?;
@@ -87,7 +96,9 @@ fn push_action(alloc: Global, actions: &mut Vec<Action>, text: &[u8]) -> Result<
 
 // The first action of a text, if the text spells a message.
 fn action_of(alloc: Global, text: &[u8]) -> Result<Option<Action>, Memory>
-    ensures { IfOk result (λ read. IfSome read IsSaid) }
+    ensures said { IfOk result (λ read. IfSome read IsSaid) }
+    ensures found { (action : Action) → SpellsMessage (message_of action) text.now
+        → IfOk result (λ read. read ≡ Some action) }
 {
     match decode(alloc, text) {
         Ok(message) => first_action(&message),
@@ -98,7 +109,9 @@ fn action_of(alloc: Global, text: &[u8]) -> Result<Option<Action>, Memory>
 
 // The action of the first sub-message.
 fn first_action(message: &Message) -> Result<Option<Action>, Memory>
-    ensures { IfOk result (λ read. IfSome read IsSaid) }
+    ensures said { IfOk result (λ read. IfSome read IsSaid) }
+    ensures found { (action : Action) → message.now ≡ message_of action
+        → IfOk result (λ read. read ≡ Some action) }
 {
     // No effect at run time. The proof reads from it that a text spells the message.
     let _ = message.text();

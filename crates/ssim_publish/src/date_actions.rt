@@ -1,8 +1,8 @@
 //! The actions that make the new itinerary of a date of the old one.
 
-ghost use Rattle.std.specs.Prelude.{◌≡◌, [], IfOk, IfSome};
+ghost use Rattle.std.specs.Prelude.{◌≡◌, [], IfOk, IfSome, IsSome};
 ghost use Rattle.std.specs.List.{AllByRecursion};
-ghost use Rattle.ssim_publish.specs.Reach.{IsSaid, Leads};
+ghost use Rattle.ssim_publish.specs.Reach.{IsSaid, Leads, after_all};
 
 use crate::candidates::{cancellation, equipment, push_times, whole_legs};
 use crate::trial::do_lead;
@@ -29,6 +29,10 @@ pub fn say(
 ) -> Result<Option<Vec<Action>>, Memory>
     ensures said { IfOk result
         (λ said. IfSome said (λ actions. Leads rows.now day actions.items old.now new.now)) }
+
+    // Equal itineraries need no action, and a flight can always be cancelled.
+    ensures same { old.now ≡ new.now → IfOk result (λ said. IsSome said) }
+    ensures cancels { new.now ≡ [] → IfOk result (λ said. IsSome said) }
 {
     if old.same(new) {
         return Ok(Some(Vec::new(alloc)));
@@ -100,8 +104,10 @@ fn if_they_lead(
     new: &Itinerary,
 ) -> Result<Option<Vec<Action>>, Memory>
     requires { AllByRecursion IsSaid actions.items }
-    ensures { IfOk result
+    ensures said { IfOk result
         (λ said. IfSome said (λ actions. Leads rows.now day actions.items old.now new.now)) }
+    ensures found { after_all rows.now day actions.items old.now ≡ new.now
+        → IfOk result (λ said. IsSome said) }
 {
     if do_lead(alloc, rows, day, &actions, old, new)? {
         Ok(Some(actions))

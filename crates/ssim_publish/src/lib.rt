@@ -11,8 +11,9 @@
 //!
 //! **Promise.** Each action that `say` returns is one that a text can have, and the actions, one
 //! after another, make exactly the new itinerary. This is tested at run time by the effect of
-//! sub-messages itself, so that no way of finding actions can make it false. It is not proved that
-//! `say` finds actions if there are any.
+//! sub-messages itself, so that no way of finding actions can make it false. Actions are always
+//! found if the itineraries are equal or the new one is none. For other itineraries it is not
+//! proved that `say` finds actions if there are any.
 #![tactic(auto)]
 
 mod action_text;
