@@ -2,11 +2,11 @@
 
 ghost use Rattle.std.specs.Prelude.{◌≡◌, ◌≤◌, ◌<◌, ◌+◌, ◌*◌, ◌++◌, length, map, OnOk};
 ghost use Rattle.std.specs.List.{flat_map, range_with_len};
-ghost use Rattle.ssim_calendar.specs.Picture.{begins_month, begins_within, block, blocks, digit_above};
-ghost use Rattle.ssim_calendar.specs.Picture.{digits_line};
-ghost use Rattle.ssim_calendar.specs.Picture.{first_date, is_beside_name, is_named, last_date, mark};
-ghost use Rattle.ssim_calendar.specs.Picture.{earlier, later, months_line, name_above, picture};
-ghost use Rattle.ssim_calendar.specs.Picture.{row_line, title_line, trimmed_line, weeks};
+ghost use Rattle.ssim_calendar.specs.Picture.{begins_month, begins_within, block, blocks};
+ghost use Rattle.ssim_calendar.specs.Picture.{digit_above, digits_line, earlier, first_date};
+ghost use Rattle.ssim_calendar.specs.Picture.{is_beside_name, is_named, last_date, later, mark};
+ghost use Rattle.ssim_calendar.specs.Picture.{months_line, name_above, picture, row_line};
+ghost use Rattle.ssim_calendar.specs.Picture.{title_line, trimmed_line, weeks};
 
 use crate::week::{text_above, text_of};
 use ssim_text::without_end;
@@ -15,6 +15,26 @@ use std::alloc::Global;
 
 /// The most weeks of a block.
 const WEEKS: usize = 53;
+
+/// Cells, and the first and the last day that has a letter.
+#[derive(Clone, Copy)]
+struct Dates<'a> {
+    cells: &'a [u8],
+    first: usize,
+    last: usize,
+    ghost few: { length cells.now ≤ 36525 },
+    ghost first_small: { first < 36525 },
+    ghost last_within: { last < length cells.now },
+}
+
+/// The weeks from one up to another, which is not among them.
+#[derive(Clone, Copy)]
+struct WeekRange {
+    from: usize,
+    end: usize,
+    ghost some: { from < end },
+    ghost small: { end < 5220 },
+}
 
 /// Adds the picture of cells, each of which is a letter, or a full stop for a day without one. Each
 /// block begins with the title and its first and last day. Nothing is added if no day has a letter.
@@ -32,9 +52,15 @@ pub fn push_picture(
         return Ok(());
     }
     let last = last_date(cells);
-    let from = (first + 5) / 7;
-    let end = (last + 5) / 7 + 1;
-    push_blocks(alloc, lines, title, cells, first, last, from, end)
+    let dates = Dates { cells, first, last };
+    push_blocks(
+        alloc,
+        lines,
+        title,
+        dates,
+        (first + 5) / 7,
+        (last + 5) / 7 + 1,
+    )
 }
 
 // The first day that has a letter; the number of days if there is none.
@@ -65,54 +91,47 @@ fn last_date(cells: &[u8]) -> usize
     0
 }
 
-// Adds the blocks of the weeks from `from` up to `end`, of cells with these first and last dates.
+// Adds the blocks of the weeks from `from` up to `end`.
 fn push_blocks(
     alloc: Global,
     lines: &mut Vec<u8>,
     title: &[u8],
-    cells: &[u8],
-    first: usize,
-    last: usize,
+    dates: Dates<'_>,
     from: usize,
     end: usize,
 ) -> Result<(), Memory>
-    requires first { first < 36525 }
-    requires last { last < length cells.now }
-    requires small { length cells.now ≤ 36525 }
-    requires end { end < 5220 }
-    ensures { OnOk result (lines.new.items ≡ lines.old.items ++ blocks title.now cells.now first last from end) }
+    requires { end < 5220 }
+    ensures { OnOk result (lines.new.items ≡ lines.old.items ++ blocks title.now
+        dates.entry.cells.now dates.entry.first dates.entry.last from end) }
 {
     for number in 0..(end.saturating_sub(from) + 52) / WEEKS {
         let start = from + WEEKS * number;
         let next = earlier(end, start + WEEKS);
-        push_block(alloc, lines, title, cells, first, last, start, next)?;
+        let weeks = WeekRange {
+            from: start,
+            end: next,
+        };
+        push_block(alloc, lines, title, dates, weeks)?;
     }
     Ok(())
 }
 
-// Adds the block of the weeks from `from` up to `end`.
+// Adds a block.
 fn push_block(
     alloc: Global,
     lines: &mut Vec<u8>,
     title: &[u8],
-    cells: &[u8],
-    first: usize,
-    last: usize,
-    from: usize,
-    end: usize,
+    dates: Dates<'_>,
+    weeks: WeekRange,
 ) -> Result<(), Memory>
-    requires first { first < 36525 }
-    requires last { last < length cells.now }
-    requires small { length cells.now ≤ 36525 }
-    requires end { end < 5220 }
-    requires ordered { from < end }
-    ensures { OnOk result (lines.new.items ≡ lines.old.items ++ block title.now cells.now first last from end) }
+    ensures { OnOk result (lines.new.items ≡ lines.old.items ++ block title.now
+        dates.entry.cells.now dates.entry.first dates.entry.last weeks.from weeks.end) }
 {
-    push_title(lines, title, first, last, from, end)?;
-    push_months(alloc, lines, from, end)?;
-    push_digits(lines, from, end, 0)?;
-    push_digits(lines, from, end, 1)?;
-    push_rows(alloc, lines, cells, first, last, from, end)?;
+    push_title(lines, title, dates, weeks)?;
+    push_months(alloc, lines, weeks)?;
+    push_digits(lines, weeks, 0)?;
+    push_digits(lines, weeks, 1)?;
+    push_rows(alloc, lines, dates, weeks)?;
     lines.push(b'\n')?;
     Ok(())
 }
@@ -121,22 +140,17 @@ fn push_block(
 fn push_title(
     lines: &mut Vec<u8>,
     title: &[u8],
-    first: usize,
-    last: usize,
-    from: usize,
-    end: usize,
+    dates: Dates<'_>,
+    weeks: WeekRange,
 ) -> Result<(), Memory>
-    requires first { first < 36525 }
-    requires last { last < 36525 }
-    requires end { end < 5220 }
-    requires ordered { from < end }
-    ensures { OnOk result (lines.new.items ≡ lines.old.items ++ title_line title.now first last from end) }
+    ensures { OnOk result (lines.new.items ≡ lines.old.items
+        ++ title_line title.now dates.entry.first dates.entry.last weeks.from weeks.end) }
 {
     lines.extend_from_slice(title)?;
     lines.push(b' ')?;
-    lines.extend_from_slice(&text_of(later(first, (7 * from).saturating_sub(5))))?;
+    lines.extend_from_slice(&text_of(later(dates.first, (7 * weeks.from).saturating_sub(5))))?;
     lines.push(b' ')?;
-    lines.extend_from_slice(&text_of(earlier(last, 7 * end - 6)))?;
+    lines.extend_from_slice(&text_of(earlier(dates.last, 7 * weeks.end - 6)))?;
     lines.push(b'\n')?;
     Ok(())
 }
@@ -156,74 +170,69 @@ fn earlier(day: usize, other: usize) -> usize
 }
 
 // Adds the names of the months above a block.
-fn push_months(alloc: Global, lines: &mut Vec<u8>, from: usize, end: usize) -> Result<(), Memory>
-    requires end { end < 5220 }
-    requires ordered { from < end }
-    ensures { OnOk result (lines.new.items ≡ lines.old.items ++ months_line from end) }
+fn push_months(alloc: Global, lines: &mut Vec<u8>, weeks: WeekRange) -> Result<(), Memory>
+    ensures { OnOk result
+        (lines.new.items ≡ lines.old.items ++ months_line weeks.from weeks.end) }
 {
     let mut row = Vec::from_slice(alloc, b"  ")?;
-    push_names(&mut row, from, end)?;
+    push_names(&mut row, weeks)?;
     push_trimmed(lines, &row)
 }
 
 // Adds what is above each week.
-fn push_names(row: &mut Vec<u8>, from: usize, end: usize) -> Result<(), Memory>
-    requires end { end < 5220 }
-    requires ordered { from < end }
-    ensures { OnOk result (row.new.items ≡ row.old.items ++ flat_map (name_above from end) (weeks from end)) }
+fn push_names(row: &mut Vec<u8>, shown: WeekRange) -> Result<(), Memory>
+    ensures { OnOk result (row.new.items ≡ row.old.items
+        ++ flat_map (name_above shown.from shown.end) (weeks shown.from shown.end)) }
 {
-    for week in from..end {
-        push_name(row, from, end, week)?;
+    for week in shown.from..shown.end {
+        push_name(row, shown, week)?;
     }
     Ok(())
 }
 
 // Adds what is above a week: the name of its month, nothing beside a name, or a blank.
-fn push_name(row: &mut Vec<u8>, from: usize, end: usize, week: usize) -> Result<(), Memory>
-    requires end { end < 5220 }
-    requires from { from ≤ week }
-    requires to { week < end }
-    ensures { OnOk result (row.new.items ≡ row.old.items ++ name_above from end week) }
+fn push_name(row: &mut Vec<u8>, weeks: WeekRange, week: usize) -> Result<(), Memory>
+    requires from { weeks.from ≤ week }
+    requires to { week < weeks.end }
+    ensures { OnOk result
+        (row.new.items ≡ row.old.items ++ name_above weeks.from weeks.end week) }
 {
-    if is_named(from, end, week) {
+    if is_named(weeks, week) {
         row.extend_from_slice(&text_above(week)[2..5])?;
-    } else if !is_beside_name(from, end, week) {
+    } else if !is_beside_name(weeks, week) {
         row.push(b' ')?;
     }
     Ok(())
 }
 
 // Whether the name of the month is above the week.
-fn is_named(from: usize, end: usize, week: usize) -> bool
-    requires end { end < 5220 }
-    requires from { from ≤ week }
-    requires to { week < end }
-    ensures { result ≡ is_named from end week }
+fn is_named(weeks: WeekRange, week: usize) -> bool
+    requires from { weeks.from ≤ week }
+    requires to { week < weeks.end }
+    ensures { result ≡ is_named weeks.from weeks.end week }
 {
-    begins_month(from, week)
-        && !(begins_within(from, end, week + 1)
-            || begins_within(from, end, week + 2)
-            || begins_within(from, end, week + 3))
+    begins_month(weeks.from, week)
+        && !(begins_within(weeks, week + 1)
+            || begins_within(weeks, week + 2)
+            || begins_within(weeks, week + 3))
 }
 
 // Whether the name of a month, which begins above an earlier week, is also above this one.
-fn is_beside_name(from: usize, end: usize, week: usize) -> bool
-    requires end { end < 5220 }
-    requires from { from ≤ week }
-    requires to { week < end }
-    ensures { result ≡ is_beside_name from end week }
+fn is_beside_name(weeks: WeekRange, week: usize) -> bool
+    requires from { weeks.from ≤ week }
+    requires to { week < weeks.end }
+    ensures { result ≡ is_beside_name weeks.from weeks.end week }
 {
-    (from < week && is_named(from, end, week - 1))
-        || (from + 1 < week && is_named(from, end, week - 2))
+    (weeks.from < week && is_named(weeks, week - 1))
+        || (weeks.from + 1 < week && is_named(weeks, week - 2))
 }
 
 // Whether the week is one of the block, and begins a month.
-fn begins_within(from: usize, end: usize, week: usize) -> bool
-    requires end { end < 5220 }
-    requires from { from ≤ week }
-    ensures { result ≡ begins_within from end week }
+fn begins_within(weeks: WeekRange, week: usize) -> bool
+    requires { weeks.from ≤ week }
+    ensures { result ≡ begins_within weeks.from weeks.end week }
 {
-    week < end && begins_month(from, week)
+    week < weeks.end && begins_month(weeks.from, week)
 }
 
 // Whether the week is the first of the block, or has another month than the week before.
@@ -236,25 +245,23 @@ fn begins_month(from: usize, week: usize) -> bool
 }
 
 // Adds a digit of the day above each week.
-fn push_digits(lines: &mut Vec<u8>, from: usize, end: usize, place: usize) -> Result<(), Memory>
-    requires end { end < 5220 }
-    requires ordered { from < end }
-    requires place { place < 7 }
-    ensures { OnOk result (lines.new.items ≡ lines.old.items ++ digits_line from end place) }
+fn push_digits(lines: &mut Vec<u8>, weeks: WeekRange, place: usize) -> Result<(), Memory>
+    requires { place < 7 }
+    ensures { OnOk result
+        (lines.new.items ≡ lines.old.items ++ digits_line weeks.from weeks.end place) }
 {
     lines.extend_from_slice(b"  ")?;
-    push_each_digit(lines, from, end, place)?;
+    push_each_digit(lines, weeks, place)?;
     lines.push(b'\n')?;
     Ok(())
 }
 
-fn push_each_digit(lines: &mut Vec<u8>, from: usize, end: usize, place: usize) -> Result<(), Memory>
-    requires end { end < 5220 }
-    requires ordered { from < end }
-    requires place { place < 7 }
-    ensures { OnOk result (lines.new.items ≡ lines.old.items ++ map (digit_above place) (weeks from end)) }
+fn push_each_digit(lines: &mut Vec<u8>, shown: WeekRange, place: usize) -> Result<(), Memory>
+    requires { place < 7 }
+    ensures { OnOk result (lines.new.items
+        ≡ lines.old.items ++ map (digit_above place) (weeks shown.from shown.end)) }
 {
-    for week in from..end {
+    for week in shown.from..shown.end {
         lines.push(text_above(week)[place])?;
     }
     Ok(())
@@ -264,21 +271,15 @@ fn push_each_digit(lines: &mut Vec<u8>, from: usize, end: usize, place: usize) -
 fn push_rows(
     alloc: Global,
     lines: &mut Vec<u8>,
-    cells: &[u8],
-    first: usize,
-    last: usize,
-    from: usize,
-    end: usize,
+    dates: Dates<'_>,
+    weeks: WeekRange,
 ) -> Result<(), Memory>
-    requires last { last < length cells.now }
-    requires small { length cells.now ≤ 36525 }
-    requires first { first < 36525 }
-    requires end { end < 5220 }
-    requires ordered { from < end }
-    ensures { OnOk result (lines.new.items ≡ lines.old.items ++ flat_map (row_line cells.now first last from end) (range_with_len 0 7)) }
+    ensures { OnOk result (lines.new.items ≡ lines.old.items ++ flat_map (row_line
+        dates.entry.cells.now dates.entry.first dates.entry.last weeks.from weeks.end)
+        (range_with_len 0 7)) }
 {
     for weekday in 0..7 {
-        push_row(alloc, lines, cells, first, last, from, end, weekday)?;
+        push_row(alloc, lines, dates, weeks, weekday)?;
     }
     Ok(())
 }
@@ -287,64 +288,48 @@ fn push_rows(
 fn push_row(
     alloc: Global,
     lines: &mut Vec<u8>,
-    cells: &[u8],
-    first: usize,
-    last: usize,
-    from: usize,
-    end: usize,
+    dates: Dates<'_>,
+    weeks: WeekRange,
     weekday: usize,
 ) -> Result<(), Memory>
-    requires last { last < length cells.now }
-    requires small { length cells.now ≤ 36525 }
-    requires first { first < 36525 }
-    requires end { end < 5220 }
-    requires ordered { from < end }
-    requires weekday { weekday < 7 }
-    ensures { OnOk result (lines.new.items ≡ lines.old.items ++ row_line cells.now first last from end weekday) }
+    requires { weekday < 7 }
+    ensures { OnOk result (lines.new.items ≡ lines.old.items ++ row_line
+        dates.entry.cells.now dates.entry.first dates.entry.last weeks.from weeks.end weekday) }
 {
     let mut row = Vec::new(alloc);
     row.push(b'1' + weekday as u8)?;
     row.push(b' ')?;
-    push_marks(&mut row, cells, first, last, from, end, weekday)?;
+    push_marks(&mut row, dates, weeks, weekday)?;
     push_trimmed(lines, &row)
 }
 
 // Adds the cell of a weekday in each week.
 fn push_marks(
     row: &mut Vec<u8>,
-    cells: &[u8],
-    first: usize,
-    last: usize,
-    from: usize,
-    end: usize,
+    dates: Dates<'_>,
+    shown: WeekRange,
     weekday: usize,
 ) -> Result<(), Memory>
-    requires last { last < length cells.now }
-    requires small { length cells.now ≤ 36525 }
-    requires first { first < 36525 }
-    requires end { end < 5220 }
-    requires ordered { from < end }
-    requires weekday { weekday < 7 }
-    ensures { OnOk result (row.new.items ≡ row.old.items ++ map (mark cells.now first last weekday) (weeks from end)) }
+    requires { weekday < 7 }
+    ensures { OnOk result (row.new.items ≡ row.old.items ++ map
+        (mark dates.entry.cells.now dates.entry.first dates.entry.last weekday)
+        (weeks shown.from shown.end)) }
 {
-    for week in from..end {
-        row.push(mark(cells, first, last, weekday, week))?;
+    for week in shown.from..shown.end {
+        row.push(mark(dates, weekday, week))?;
     }
     Ok(())
 }
 
 // The cell of a weekday in a week; a blank before the first date and after the last.
-fn mark(cells: &[u8], first: usize, last: usize, weekday: usize, week: usize) -> u8
-    requires last { last < length cells.now }
-    requires small { length cells.now ≤ 36525 }
-    requires first { first < 36525 }
+fn mark(dates: Dates<'_>, weekday: usize, week: usize) -> u8
     requires week { week < 5220 }
     requires weekday { weekday < 7 }
-    ensures { result ≡ mark cells.now first last weekday week }
+    ensures { result ≡ mark dates.entry.cells.now dates.entry.first dates.entry.last weekday week }
 {
     let day = 7 * week + weekday;
-    if first + 5 <= day && day <= last + 5 {
-        cells[day - 5]
+    if dates.first + 5 <= day && day <= dates.last + 5 {
+        dates.cells[day - 5]
     } else {
         b' '
     }

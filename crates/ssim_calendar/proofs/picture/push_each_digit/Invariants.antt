@@ -6,6 +6,7 @@ use Rattle.ssim_calendar.proofs.picture.push_each_digit.Given as goal
 
 abbrev pub invariant-loop-week : goal.invariant-loop-week
 invariant-loop-week l = record {
-  begun : l.from ≤ l.week;
-  so_far : l.lines.items ≡ l.initial.lines.items ++ map (digit_above l.place) (range_with_len l.from (l.week - l.from));
+  begun : l.fn.shown.from ≤ l.week;
+  so_far : l.lines.items ≡ l.initial.lines.items
+      ++ map (digit_above l.place) (range_with_len l.fn.shown.from (l.week - l.fn.shown.from));
 }

@@ -6,6 +6,8 @@ use Rattle.ssim_calendar.proofs.picture.push_marks.Given as goal
 
 abbrev pub invariant-loop-week : goal.invariant-loop-week
 invariant-loop-week l = record {
-  begun : l.from ≤ l.week;
-  so_far : l.row.items ≡ l.initial.row.items ++ map (mark l.cells l.first l.last l.weekday) (range_with_len l.from (l.week - l.from));
+  begun : l.fn.shown.from ≤ l.week;
+  so_far : l.row.items ≡ l.initial.row.items
+      ++ map (mark l.dates.cells.now l.dates.first l.dates.last l.weekday)
+      (range_with_len l.fn.shown.from (l.week - l.fn.shown.from));
 }

@@ -6,6 +6,8 @@ use Rattle.ssim_calendar.proofs.picture.push_names.Given as goal
 
 abbrev pub invariant-loop-week : goal.invariant-loop-week
 invariant-loop-week l = record {
-  begun : l.from ≤ l.week;
-  so_far : l.row.items ≡ l.initial.row.items ++ flat_map (name_above l.from l.end) (range_with_len l.from (l.week - l.from));
+  begun : l.shown.from ≤ l.week;
+  so_far : l.row.items ≡ l.initial.row.items
+      ++ flat_map (name_above l.shown.from l.shown.end)
+      (range_with_len l.shown.from (l.week - l.shown.from));
 }

@@ -5,4 +5,7 @@ use Rattle.ssim_calendar.specs.Picture.{row_line}
 use Rattle.ssim_calendar.proofs.picture.push_rows.Given as goal
 
 abbrev pub invariant-loop-weekday : goal.invariant-loop-weekday
-invariant-loop-weekday l = l.lines.items ≡ l.initial.lines.items ++ flat_map (row_line l.cells l.first l.last l.from l.end) (range_with_len 0 l.weekday)
+invariant-loop-weekday l =
+    l.lines.items ≡ l.initial.lines.items
+    ++ flat_map (row_line l.dates.cells.now l.dates.first l.dates.last l.weeks.from l.weeks.end)
+    (range_with_len 0 l.weekday)
