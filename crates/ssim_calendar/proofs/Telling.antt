@@ -1,6 +1,6 @@
 -- Equal letters are those of equal values: the place of a value among the different ones is that of a
 -- value equal to it.
-use Rattle.std.proofs.Common.{◌≡◌, ◌∙◌, ℕ, suc, ◌+◌, ◌<◌, ◌≤◌, Bool, true, false, not, ◌||◌, nat_lt, if◌then◌else◌, List, [], ◌∷◌, take, length, get_or, slice_index_or, inl, inr, refl, sym, ap, subst, arith}
+use Rattle.std.proofs.Common.{◌≡◌, ◌∙◌, ℕ, suc, ◌+◌, ◌<◌, ◌≤◌, Bool, true, false, not, ◌||◌, if◌then◌else◌, List, [], ◌∷◌, take, length, get_or, slice_index_or, refl, sym, ap, subst, arith}
 use Rattle.std.specs.Prelude.{◌≢◌, ◌↔◌, IsTrue}
 use Rattle.std.specs.List.{list_any, position_or_len}
 use Rattle.std.proofs.lemmas.Bool.Decides.{nat_tests}
@@ -9,7 +9,7 @@ use Rattle.std.proofs.lemmas.List.Folds.{list_any_at}
 use Rattle.std.proofs.lemmas.List.Sums.{passes_at_first}
 use Rattle.ssim_periods.specs.Calendar.{day_count}
 use Rattle.ssim_periods.proofs.PieceLaw.{alike-self}
-use Rattle.ssim_calendar.specs.Letters.{LettersTellValues, cell, different, has_value, letter_at, place_of}
+use Rattle.ssim_calendar.specs.Letters.{LettersTellValues, cell, different, letter_at, place_of}
 use Rattle.ssim_calendar.proofs.NewValues.{known}
 
 -- if one passes, the first that passes is there

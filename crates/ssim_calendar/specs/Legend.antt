@@ -1,5 +1,6 @@
 -- The legend of a calendar: the number of dates and the lines of each letter.
-use Rattle.std.specs.Prelude.{Vec, ℕ, zero, suc, ◌-◌, ◌==◌, nat_lt, if◌then◌else◌, List, [], ◌∷◌, ◌++◌, length, map, replicate}
+use Rattle.std.specs.Prelude.{Vec, ℕ, zero, suc, ◌-◌, ◌==◌, nat_lt, if◌then◌else◌, List, [], ◌∷◌}
+use Rattle.std.specs.Prelude.{◌++◌, length, map, replicate}
 use Rattle.std.specs.Prelude.{slice_index_or, codes}
 use Rattle.std.specs.Fmt.{decimal}
 use Rattle.std.specs.List.{count_by, flat_map, range_with_len}
@@ -42,11 +43,13 @@ entry_lines head (text ∷ later) =
 
 -- the line with the number of dates that have no letter of their own, if there is one
 abbrev pub more_line : ℕ → List ℕ
-more_line dates = if nat_lt 0 dates then codes "# " ++ decimal dates ++ codes " more" ++ 10 ∷ [] else []
+more_line dates =
+    if nat_lt 0 dates then codes "# " ++ decimal dates ++ codes " more" ++ 10 ∷ [] else []
 
 -- the texts of each letter, and then the dates without a letter of their own
 abbrev pub legend : List (List (List ℕ)) → List ℕ → List ℕ
 legend entries cells =
     let width = length (decimal (most_dates cells (length entries))) in
-    flat_map (λ place. entry_lines (head_of cells width place) (slice_index_or entries place [])) (range_with_len 0 (length entries))
+    flat_map (λ place. entry_lines (head_of cells width place) (slice_index_or entries place []))
+    (range_with_len 0 (length entries))
     ++ more_line (dates_of cells 35)

@@ -1,5 +1,6 @@
 -- The different values of a list of one value a day, and the letter of each day.
-use Rattle.std.specs.Prelude.{◌≡◌, ◌≢◌, ◌↔◌, ◌<◌, false, length, ℕ, ◌+◌, Bool, not, ◌&&◌, nat_lt, if◌then◌else◌, List, [], ◌∷◌, take, slice_get}
+use Rattle.std.specs.Prelude.{◌≡◌, ◌≢◌, ◌↔◌, ◌<◌, false, length, ℕ, ◌+◌, Bool, not, ◌&&◌, nat_lt}
+use Rattle.std.specs.Prelude.{if◌then◌else◌, List, [], ◌∷◌, take, slice_get}
 use Rattle.std.specs.Prelude.{slice_index_or, Option, Some, None}
 use Rattle.std.specs.List.{flat_map, list_any, position_or_len, range_with_len}
 use Rattle.ssim_periods.specs.Calendar.{day_count}
@@ -45,14 +46,16 @@ cell alike nothing values v = if alike v nothing then 46 else letter_at (place_o
 -- the letter of each day
 abbrev pub cells : {V : Type 0} → (V → V → Bool) → V → List V → List ℕ
 cells alike nothing days =
-    each_day (λ n. cell alike nothing (different alike nothing days) (slice_index_or days n nothing))
+    let values = different alike nothing days in
+    each_day (λ n. cell alike nothing values (slice_index_or days n nothing))
 
 -- ---- what the letters tell
 
 -- Two days with values other than the empty one have the same letter if and only if they have the
 -- same value, if the letter is not #.
 abbrev pub LettersTellValues : {V : Type 0} → (V → V → Bool) → V → Type 0
-LettersTellValues {V} alike nothing = (days : List V) (m n : ℕ) → length days ≡ day_count → m < day_count → n < day_count
+LettersTellValues {V} alike nothing =
+    (days : List V) (m n : ℕ) → length days ≡ day_count → m < day_count → n < day_count
     → let v = slice_index_or days m nothing in let w = slice_index_or days n nothing in
     alike v nothing ≡ false → alike w nothing ≡ false
     → let letter = cell alike nothing (different alike nothing days) in

@@ -1,8 +1,9 @@
 -- The picture of a calendar: a column for each week, a row for each weekday, in blocks of 53 weeks.
 -- Weeks are counted from 0, that of 01JAN00, a Saturday: its Monday would be the day five before.
 -- A cell is the letter of a day, or a full stop if the day has none.
-use Rattle.std.specs.Prelude.{ℕ, ◌+◌, ◌-◌, ◌*◌, ◌/◌, Bool, not, ◌&&◌, ◌||◌, ◌==◌, nat_eq, nat_le, nat_lt}
-use Rattle.std.specs.Prelude.{if◌then◌else◌, List, [], ◌∷◌, ◌++◌, map, take, drop, length, slice_index, slice_index_or}
+use Rattle.std.specs.Prelude.{ℕ, ◌+◌, ◌-◌, ◌*◌, ◌/◌, Bool, not, ◌&&◌, ◌||◌, ◌==◌, nat_eq, nat_le}
+use Rattle.std.specs.Prelude.{nat_lt, if◌then◌else◌, List, [], ◌∷◌, ◌++◌, map, take, drop, length}
+use Rattle.std.specs.Prelude.{slice_index, slice_index_or}
 use Rattle.std.specs.List.{flat_map, list_any, range_with_len}
 use Rattle.std.specs.Str.{bytes_eq}
 use Rattle.ssim_values.specs.Day.{day_text}
@@ -49,7 +50,8 @@ trimmed_line bytes = without_end bytes ++ 10 ∷ []
 -- the title, and the first and the last day of the block from the first date to the last
 abbrev pub title_line : List ℕ → ℕ → ℕ → ℕ → ℕ → List ℕ
 title_line title first last from end =
-    title ++ 32 ∷ day_text (later first (monday from)) ++ 32 ∷ day_text (earlier last (7 * end - 6)) ++ 10 ∷ []
+    title ++ 32 ∷ day_text (later first (monday from)) ++ 32 ∷ day_text (earlier last (7 * end - 6))
+    ++ 10 ∷ []
 
 -- the three letters of the month above a week
 abbrev pub month_above : ℕ → List ℕ
@@ -57,7 +59,8 @@ month_above week = take 3 (drop 2 (day_text (monday week)))
 
 -- whether the week is the first of the block, or has another month than the week before
 abbrev pub begins_month : ℕ → ℕ → Bool
-begins_month from week = nat_eq week from || not (bytes_eq (month_above week) (month_above (week - 1)))
+begins_month from week =
+    nat_eq week from || not (bytes_eq (month_above week) (month_above (week - 1)))
 
 -- whether a week of the block begins a month
 abbrev pub begins_within : ℕ → ℕ → ℕ → Bool
@@ -66,12 +69,14 @@ begins_within from end week = nat_lt week end && begins_month from week
 -- whether the month is named above the week: it begins a month, and none of the next three does
 abbrev pub is_named : ℕ → ℕ → ℕ → Bool
 is_named from end week =
-    begins_month from week && not (list_any (begins_within from end) ((week + 1) ∷ (week + 2) ∷ (week + 3) ∷ []))
+    begins_month from week
+    && not (list_any (begins_within from end) ((week + 1) ∷ (week + 2) ∷ (week + 3) ∷ []))
 
 -- whether the name of a month, which has three letters, is also above this week
 abbrev pub is_beside_name : ℕ → ℕ → ℕ → Bool
 is_beside_name from end week =
-    (nat_lt from week && is_named from end (week - 1)) || (nat_lt (from + 1) week && is_named from end (week - 2))
+    (nat_lt from week && is_named from end (week - 1))
+    || (nat_lt (from + 1) week && is_named from end (week - 2))
 
 -- what begins above a week: the name of its month, nothing within a name, or a blank
 abbrev pub name_above : ℕ → ℕ → ℕ → List ℕ
@@ -105,7 +110,8 @@ row_line cells first last from end weekday =
 -- a block, which an empty line ends
 abbrev pub block : List ℕ → List ℕ → ℕ → ℕ → ℕ → ℕ → List ℕ
 block title cells first last from end =
-    title_line title first last from end ++ months_line from end ++ digits_line from end 0 ++ digits_line from end 1
+    title_line title first last from end ++ months_line from end ++ digits_line from end 0
+    ++ digits_line from end 1
     ++ flat_map (row_line cells first last from end) (range_with_len 0 7) ++ 10 ∷ []
 
 -- ---- the whole
@@ -120,4 +126,5 @@ blocks title cells first last from end =
 abbrev pub picture : List ℕ → List ℕ → List ℕ
 picture title cells =
     let first = first_date cells in let last = last_date cells in
-    if nat_lt first (length cells) then blocks title cells first last (week_of first) (week_of last + 1) else []
+    if nat_lt first (length cells)
+    then blocks title cells first last (week_of first) (week_of last + 1) else []

@@ -1,25 +1,27 @@
 //! The legend of a calendar: the number of dates and the texts of each letter.
 
-ghost use Rattle.std.specs.Prelude.{◌≡◌, ◌++◌, ◌≤◌, length, map, replicate, slice_index_or, [], IfOk, OnOk};
+ghost use Rattle.std.specs.Prelude.{◌≡◌, ◌++◌, ◌≤◌, length, map, replicate, slice_index_or};
+ghost use Rattle.std.specs.Prelude.{[], IfOk, OnOk};
 ghost use Rattle.std.specs.Fmt.{decimal};
 ghost use Rattle.std.specs.List.{flat_map, range_with_len};
-ghost use Rattle.ssim_calendar.specs.Legend.{aligned, dates_of, entry_lines, head_of, larger, legend};
-ghost use Rattle.ssim_calendar.specs.Legend.{more_line, most_dates, text_after, texts_of};
+ghost use Rattle.ssim_calendar.specs.Legend.{aligned, dates_of, entry_lines, head_of, larger};
+ghost use Rattle.ssim_calendar.specs.Legend.{legend, more_line, most_dates, text_after, texts_of};
 
 use crate::letters::letter_at;
 use ssim_values::Memory;
 use std::alloc::Global;
 use std::io::Write;
 
-/// Adds the legend of cells: for each letter the number of its dates, aligned right, and its texts, the
-/// second and later ones in lines of their own; then the number of dates of #, if there are any.
+/// Adds the legend of cells: for each letter the number of its dates, aligned right, and its texts,
+/// the second and later ones in lines of their own; then the number of dates of #, if there are any.
 pub fn push_legend(
     alloc: Global,
     lines: &mut Vec<u8>,
     entries: &[Vec<Vec<u8>>],
     cells: &[u8],
 ) -> Result<(), Memory>
-    ensures { OnOk result (lines.new.items ≡ lines.old.items ++ legend (map (λ texts. texts_of texts.items) entries.now) cells.now) }
+    ensures { OnOk result (lines.new.items ≡ lines.old.items
+        ++ legend (map (λ texts. texts_of texts.items) entries.now) cells.now) }
 {
     let width = decimal_of(alloc, most_dates(cells, entries.len()))?.len();
     push_entries(alloc, lines, entries, cells, width)?;
@@ -34,7 +36,10 @@ fn push_entries(
     cells: &[u8],
     width: usize,
 ) -> Result<(), Memory>
-    ensures { OnOk result (lines.new.items ≡ lines.old.items ++ flat_map (λ place. entry_lines (head_of cells.now width place) (slice_index_or (map (λ texts. texts_of texts.items) entries.now) place [])) (range_with_len 0 (length entries.now))) }
+    ensures { OnOk result (lines.new.items ≡ lines.old.items ++ flat_map
+        (λ place. entry_lines (head_of cells.now width place)
+        (slice_index_or (map (λ texts. texts_of texts.items) entries.now) place []))
+        (range_with_len 0 (length entries.now))) }
 {
     for place in 0..entries.len() {
         let head = head_of(alloc, cells, width, place)?;
@@ -50,7 +55,8 @@ fn push_entry(
     head: &[u8],
     texts: &[Vec<u8>],
 ) -> Result<(), Memory>
-    ensures { OnOk result (lines.new.items ≡ lines.old.items ++ entry_lines head.now (texts_of texts.now)) }
+    ensures { OnOk result
+        (lines.new.items ≡ lines.old.items ++ entry_lines head.now (texts_of texts.now)) }
 {
     match texts.split_first() {
         None => Ok(()),
@@ -65,7 +71,8 @@ fn push_entry(
 
 // Adds a line for each text.
 fn push_later(lines: &mut Vec<u8>, head: &[u8], texts: &[Vec<u8>]) -> Result<(), Memory>
-    ensures { OnOk result (lines.new.items ≡ lines.old.items ++ flat_map (text_after head.now) (texts_of texts.now)) }
+    ensures { OnOk result (lines.new.items
+        ≡ lines.old.items ++ flat_map (text_after head.now) (texts_of texts.now)) }
 {
     for text in texts {
         push_text_after(lines, head, text)?;

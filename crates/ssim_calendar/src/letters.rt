@@ -2,7 +2,8 @@
 
 ghost use Rattle.std.specs.Prelude.{◌≡◌, ◌++◌, Some, slice_index_or, IfOk, OnOk};
 ghost use Rattle.ssim_periods.specs.Days.{each_day};
-ghost use Rattle.ssim_calendar.specs.Letters.{cell, cells, different, has_value, if_new, is_new, letter_at, place_of};
+ghost use Rattle.ssim_calendar.specs.Letters.{cell, cells, different, has_value, if_new, is_new};
+ghost use Rattle.ssim_calendar.specs.Letters.{letter_at, place_of};
 
 use crate::week::day_at;
 use ssim_periods::{Periods, Value};
@@ -24,8 +25,10 @@ pub struct Calendar<V: Value> {
 impl<V: Value> Calendar<V> {
     /// The calendar of a value for each day.
     pub fn of(alloc: Global, days: &Periods<V>) -> Result<Calendar<V>, Memory>
-        ensures values { IfOk result (λ calendar. calendar.values.items ≡ different V.alike V.nothing days.now.days) }
-        ensures cells { IfOk result (λ calendar. calendar.cells.items ≡ cells V.alike V.nothing days.now.days) }
+        ensures values { IfOk result
+            (λ calendar. calendar.values.items ≡ different V.alike V.nothing days.now.days) }
+        ensures cells { IfOk result
+            (λ calendar. calendar.cells.items ≡ cells V.alike V.nothing days.now.days) }
     {
         let values = values_of(alloc, days)?;
         let cells = cells_of(alloc, days, &values)?;
@@ -46,7 +49,8 @@ fn values_of<V: Value>(alloc: Global, days: &Periods<V>) -> Result<Vec<V>, Memor
 
 /// Adds a copy of the value, if it is not the empty one and none of these.
 pub fn add_new<V: Value>(alloc: Global, values: &mut Vec<V>, value: &V) -> Result<(), Memory>
-    ensures { OnOk result (values.new.items ≡ values.old.items ++ if_new V.alike V.nothing values.old.items (Some value.now)) }
+    ensures { OnOk result (values.new.items ≡ values.old.items
+        ++ if_new V.alike V.nothing values.old.items (Some value.now)) }
 {
     if is_new(values, value) {
         values.push(value.copy(alloc)?)?;
@@ -70,7 +74,8 @@ fn has_value<V: Value>(values: &[V], value: &V) -> bool
 
 // The letter of each day.
 fn cells_of<V: Value>(alloc: Global, days: &Periods<V>, values: &[V]) -> Result<Vec<u8>, Memory>
-    ensures { IfOk result (λ cells. cells.items ≡ each_day (λ n. cell V.alike V.nothing values.now (slice_index_or days.now.days n V.nothing))) }
+    ensures { IfOk result (λ cells. cells.items ≡ each_day
+        (λ n. cell V.alike V.nothing values.now (slice_index_or days.now.days n V.nothing))) }
 {
     let mut cells = Vec::new(alloc);
     for number in 0..DAYS {

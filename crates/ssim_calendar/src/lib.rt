@@ -2,8 +2,8 @@
 //!
 //! - [`Calendar`]: the different values by first day, and a letter for each day. [`add_new`],
 //!   [`place_of`] and [`letter_at`] give the different ones of any values, and their letters.
-//! - [`push_picture`]: lines in which a column is a week and a row a weekday, with the letter of each
-//!   day.
+//! - [`push_picture`]: lines in which a column is a week and a row a weekday, with the letter of
+//!   each day.
 //! - [`push_legend`]: the number of dates of each letter, and texts that say what it stands for.
 //! - [`laws`]: two days have the same letter if and only if they have the same value.
 //!
