@@ -1,9 +1,11 @@
 -- The lines of legs that were made text once: on each day they are the lines of the legs.
-use Rattle.std.proofs.Common.{◌≡◌, ◌∙◌, ℕ, ◌+◌, ◌≤◌, ◌<◌, Bool, true, false, cond, List, [], ◌∷◌, ◌++◌, map, filter, refl, sym, ap, ap₂, append_assoc, append-nil}
+use Rattle.std.proofs.Common.{◌≡◌, ◌∙◌, ℕ, Bool, true, false, cond, List, [], ◌∷◌, ◌++◌, map, refl, sym, ap}
+use Rattle.std.proofs.Common.{ap₂, append_assoc}
 use Rattle.std.proofs.lemmas.Grind.{flat_map-append}
 use Rattle.std.proofs.lemmas.List.{flat_map_more, map-append}
 use Rattle.std.proofs.lemmas.List.Folds.{flat_map-map}
 use Rattle.std.specs.Prelude.{Vec}
+use Rattle.std.specs.Borrow.{Bor}
 use Rattle.std.specs.List.{flat_map, range_with_len}
 use Rattle.ssim_values.specs.Period.{DayRange}
 use Rattle.ssim_periods.specs.Calendar.{day_count, holds}
@@ -12,8 +14,9 @@ use Rattle.ssim_base.specs.Export.{Piece}
 use Rattle.ssim_base.specs.Timetable.{LegValue, Legs}
 use Rattle.ssim_listing.specs.Dates.{date_lines, dates_of, dates_on}
 use Rattle.ssim_listing.specs.LegText.{leg_text}
-use Rattle.ssim_listing.specs.internal.FlightDates.{leg_texts, lines_on, meets_days, text_line}
-use Rattle.ssim_listing.proofs.Dating.{held_append, held_more, held_near, same_days}
+use Rattle.ssim_listing.specs.internal.FlightDates.{leg_texts, seen_dates, text_line}
+use Rattle.ssim_listing.proofs.Dating.{held_append}
+use Rattle.ssim_listing.proofs.Ranges.{same_in}
 
 -- what the lists of some values make
 flat_twice : {A B C : Type 0} (f : B → List C) (g : A → List B) (xs : List A) → flat_map f (flat_map g xs) ≡ flat_map (λ x. flat_map f (g x)) xs
@@ -66,39 +69,39 @@ module _ {A : Type 0} where
   abbrev pub AreTexts : List Piece → List (DayRange × Vec ℕ A) → Type 0
   AreTexts pieces texts = map (λ t. (t.0, t.1.items)) texts ≡ flat_map leg_texts pieces
 
-  -- the lines on a day are those of the legs
-  day_lines : (name : List ℕ) (pieces : List Piece) (texts : List (DayRange × Vec ℕ A)) (n : ℕ) → AreTexts pieces texts → lines_on name texts n ≡ flat_map (date_lines name) (dates_on pieces n)
+  -- the lines of the texts on a day
+  abbrev lines_on : List ℕ → List (DayRange × Vec ℕ A) → ℕ → List ℕ
+  lines_on name texts n = flat_map (λ v. text_line name n v.items) (held_on texts n)
+
+  -- they are those of the legs
+  day_lines : (name : List ℕ) (pieces : List Piece) (texts : List (DayRange × Vec ℕ A)) (n : ℕ) → AreTexts pieces texts
+      → lines_on name texts n ≡ flat_map (date_lines name) (dates_on pieces n)
   day_lines name pieces texts n are =
       sym (flat_map-map (text_line name n) (λ v. v.items) (held_on texts n))
       ∙ (ap (flat_map (text_line name n))
       (sym (held_mapped (λ v. v.items) texts n) ∙ (ap (λ (ps : List (DayRange × List ℕ)). held_on ps n) are ∙ held_texts pieces n))
       ∙ lines_of name n (held_on pieces n))
 
-  -- the lines of all dates
-  pub all_lines : (name : List ℕ) (pieces : List Piece) (texts : List (DayRange × Vec ℕ A)) → AreTexts pieces texts
-      → flat_map (lines_on name texts) (range_with_len 0 day_count) ≡ flat_map (date_lines name) (dates_of pieces)
+  -- the line of a date and its text
+  abbrev dated : List ℕ → ℕ × Vec ℕ A → List ℕ
+  dated name date = text_line name date.0 date.1.items
+
+  -- the lines of all dates of the texts are those of the legs
+  all_lines : (name : List ℕ) (pieces : List Piece) (texts : List (DayRange × Vec ℕ A)) → AreTexts pieces texts
+      → flat_map (dated name) (dates_of texts) ≡ flat_map (date_lines name) (dates_of pieces)
   all_lines name pieces texts are =
-      same_days (lines_on name texts) (λ n. flat_map (date_lines name) (dates_on pieces n)) 0 day_count (λ n low high. day_lines name pieces texts n are)
-      ∙ sym (flat_twice (date_lines name) (dates_on pieces) (range_with_len 0 day_count))
+      flat_twice (dated name) (dates_on texts) (range_with_len 0 day_count)
+      ∙ (same_in (λ n. flat_map (dated name) (dates_on texts n)) (λ n. flat_map (date_lines name) (dates_on pieces n)) 0 day_count
+      (λ n low high. flat_map-map (dated name) (λ v. (n, v)) (held_on texts n) ∙ day_lines name pieces texts n are)
+      ∙ sym (flat_twice (date_lines name) (dates_on pieces) (range_with_len 0 day_count)))
 
-  -- one more text, if its period holds the day
-  pub one_more_line : (name old now next : List ℕ) (before all : List (DayRange × Vec ℕ A)) (text : DayRange × Vec ℕ A) (n : ℕ) (b : Bool) → holds text.0 n ≡ b → all ≡ before ++ text ∷ []
-      → now ≡ old ++ lines_on name before n → next ≡ now ++ cond b (text_line name n text.1.items) [] → next ≡ old ++ lines_on name all n
-  one_more_line name old now next before all text n b is more so_far after =
-      after
-      ∙ (ap (λ (bs : List ℕ). bs ++ cond b (text_line name n text.1.items) []) so_far
-      ∙ (append_assoc old (lines_on name before n) (cond b (text_line name n text.1.items) [])
-      ∙ ap (λ (bs : List ℕ). old ++ bs)
-      (ap (λ (bs : List ℕ). lines_on name before n ++ bs) (one b)
-      ∙ (sym (flat_map-append (λ v. text_line name n v.items) (held_on before n) (cond b (text.1 ∷ []) [])) ∙ ap (flat_map (λ v. text_line name n v.items)) (sym (held_more before all text n b is more))))))
-    where
-      one : (b : Bool) → cond b (text_line name n text.1.items) [] ≡ flat_map (λ v. text_line name n v.items) (cond b (text.1 ∷ []) [])
-      one true = sym (append-nil (text_line name n text.1.items))
-      one false = refl
-
-  -- the lines of a part of the calendar are those of the texts that meet it
-  pub near_lines : (name : List ℕ) (texts : List (DayRange × Vec ℕ A)) (from n : ℕ) → from ≤ n → n < from + 75 → lines_on name (filter (λ t. meets_days from t.0) texts) n ≡ lines_on name texts n
-  near_lines name texts from n low high = ap (flat_map (λ v. text_line name n v.items)) (held_near texts from n low high)
+  -- the same of dates whose texts are behind references
+  pub seen_lines : (name : List ℕ) (pieces : List Piece) (texts : List (DayRange × Vec ℕ A)) (dates : List (ℕ × Bor (Vec ℕ A)))
+      → AreTexts pieces texts → seen_dates dates ≡ dates_of texts
+      → flat_map (λ date. text_line name date.0 date.1.now.items) dates ≡ flat_map (date_lines name) (dates_of pieces)
+  seen_lines name pieces texts dates are same =
+      sym (flat_map-map (dated name) (λ date. (date.0, date.1.now)) dates)
+      ∙ (ap (flat_map (dated name)) same ∙ all_lines name pieces texts are)
 
 -- the texts of one more piece
 pub more_texts : (pieces all : List Piece) (piece : Piece) (now next : List (DayRange × List ℕ)) → all ≡ pieces ++ piece ∷ [] → now ≡ flat_map leg_texts pieces → next ≡ now ++ leg_texts piece

@@ -1,4 +1,5 @@
 pub mod Joining
+pub mod Ranges
 pub mod Grouping
 pub mod Dating
 pub mod LegDates

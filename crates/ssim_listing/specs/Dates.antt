@@ -2,6 +2,7 @@
 use Rattle.std.specs.Prelude.{ℕ, List, [], ◌∷◌, ◌++◌, map}
 use Rattle.std.specs.List.{flat_map, range_with_len}
 use Rattle.ssim_values.specs.Day.{day_text}
+use Rattle.ssim_values.specs.Period.{DayRange}
 use Rattle.ssim_periods.specs.Calendar.{day_count}
 use Rattle.ssim_periods.specs.Pieces.{held_on}
 use Rattle.ssim_base.specs.Export.{Piece, line}
@@ -14,13 +15,13 @@ use Rattle.ssim_listing.specs.Lines.{flight_name, no_flight}
 abbrev pub FlightDate : Type 0
 FlightDate = ℕ × Legs
 
--- The dates of a flight with these pieces on a day: one for each piece that holds the day. By the law
--- of pieces that is the piece with the legs of the day, or none if the flight does not fly.
-abbrev pub dates_on : List Piece → ℕ → List FlightDate
-dates_on pieces day = map (λ legs. (day, legs)) (held_on pieces day)
+-- The dates of pieces on a day: one for each piece that holds the day, with its value. By the law of
+-- pieces that is the piece with the legs of the day, or none if the flight does not fly.
+abbrev pub dates_on : {V : Type 0} → List (DayRange × V) → ℕ → List (ℕ × V)
+dates_on pieces day = map (λ value. (day, value)) (held_on pieces day)
 
--- the dates of a flight with these pieces
-abbrev pub dates_of : List Piece → List FlightDate
+-- the dates of pieces
+abbrev pub dates_of : {V : Type 0} → List (DayRange × V) → List (ℕ × V)
 dates_of pieces = flat_map (dates_on pieces) (range_with_len 0 day_count)
 
 -- the flight, the date and a leg on it

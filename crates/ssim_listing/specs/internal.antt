@@ -2,4 +2,5 @@
 -- has to believe them.
 pub mod Groups
 pub mod FlightDates
+pub mod Divisions
 pub mod Written

@@ -1,17 +1,17 @@
-//! The flights of a timetable date by date, as lines.
+//! The dates of a flight, and their lines.
 
 ghost use Rattle.std.specs.Prelude.{◌≡◌, ◌++◌, ◌+◌, ◌<◌, ◌≤◌, IfOk, OnOk, filter, map};
 ghost use Rattle.std.specs.List.{flat_map, range_with_len};
-ghost use Rattle.ssim_periods.specs.Calendar.{day_count, holds};
-ghost use Rattle.ssim_listing.specs.Dates.{date_lines, dated_lines, dated_listing, dates_of};
-ghost use Rattle.ssim_listing.specs.Dates.{dates_on};
-ghost use Rattle.ssim_listing.specs.internal.FlightDates.{leg_texts, lines_on, meets_days, text_line};
+ghost use Rattle.ssim_periods.specs.Calendar.{holds};
+ghost use Rattle.ssim_listing.specs.Dates.{date_lines, dates_of, dates_on};
+ghost use Rattle.ssim_listing.specs.internal.FlightDates.{leg_texts, meets_days, seen_dates};
+ghost use Rattle.ssim_listing.specs.internal.FlightDates.{text_line};
 
 use crate::leg_text::text_of;
-use crate::lines::{name_of, push_day, push_no_flight};
-use ssim_periods::{Value, weekday_of};
-use ssim_schedule::{FlightPieces, Itinerary, PlacedLeg};
-use ssim_values::{Airline, Day, Memory, Period};
+use crate::lines::push_day;
+use ssim_periods::weekday_of;
+use ssim_schedule::{Itinerary, PlacedLeg};
+use ssim_values::{Day, Memory, Period};
 use std::alloc::Global;
 
 /// The calendar is cut into this many parts.
@@ -20,45 +20,11 @@ const PARTS: u16 = 487;
 /// How many days a part of the calendar has.
 const DAYS: u16 = 75;
 
-/// A date of a flight, with the legs on it.
-pub(crate) type FlightDate = (Day, Itinerary);
-
 /// A leg as text, with its period.
 type LegText = (Period, Vec<u8>);
 
-/// The flights of an airline date by date, a line for each leg.
-pub fn dated_listing(
-    alloc: Global,
-    airline: Airline,
-    flights: &[FlightPieces],
-) -> Result<Vec<u8>, Memory>
-    ensures { IfOk result (λ lines. lines.items ≡ dated_listing airline flights.now) }
-{
-    let mut lines = Vec::new(alloc);
-    for flight in flights {
-        let name = name_of(airline, flight.flight());
-        push_flight(alloc, &mut lines, name.as_slice(), flight.pieces())?;
-    }
-    Ok(lines)
-}
-
-// Adds the lines of a flight with this name.
-fn push_flight(
-    alloc: Global,
-    lines: &mut Vec<u8>,
-    name: &[u8],
-    pieces: &[(Period, Itinerary)],
-) -> Result<(), Memory>
-    ensures { OnOk result (lines.new.items ≡ lines.old.items ++ dated_lines name.now pieces.now) }
-{
-    match pieces.split_first() {
-        None => push_no_flight(lines, name),
-        Some(_) => push_dates(alloc, lines, name, pieces),
-    }
-}
-
-// Adds the lines of the dates of a flight. Each leg is made text once, for all dates of its period.
-fn push_dates(
+/// Adds the lines of the dates of a flight. Each leg is made text once, for all dates of its period.
+pub(crate) fn push_dates(
     alloc: Global,
     lines: &mut Vec<u8>,
     name: &[u8],
@@ -68,7 +34,8 @@ fn push_dates(
         ≡ lines.old.items ++ flat_map (date_lines name.now) (dates_of pieces.now)) }
 {
     let texts = texts_of(alloc, pieces)?;
-    push_texts(alloc, lines, name, &texts)
+    let dates = dates_of(alloc, &texts)?;
+    push_lines(lines, name, &dates)
 }
 
 // The legs of pieces as texts, each with the period of its piece.
@@ -100,54 +67,13 @@ fn add_texts(
     Ok(())
 }
 
-// Adds a line for each day and each text whose period holds it. The calendar is cut into parts, as
-// in `dates_of`.
-fn push_texts(
-    alloc: Global,
-    lines: &mut Vec<u8>,
-    name: &[u8],
-    texts: &[LegText],
-) -> Result<(), Memory>
+// Adds a line for each date and its text.
+fn push_lines(lines: &mut Vec<u8>, name: &[u8], dates: &[(Day, &Vec<u8>)]) -> Result<(), Memory>
     ensures { OnOk result (lines.new.items ≡ lines.old.items
-        ++ flat_map (lines_on name.now texts.now) (range_with_len 0 day_count)) }
+        ++ flat_map (λ date. text_line name.now date.0 date.1.now.items) dates.now) }
 {
-    for part in 0..PARTS {
-        let near = near_part(alloc, texts, DAYS * part)?;
-        push_part(lines, name, &near, DAYS * part)?;
-    }
-    Ok(())
-}
-
-// Adds the lines of a part of the calendar, from this day on.
-fn push_part(lines: &mut Vec<u8>, name: &[u8], near: &[&LegText], from: u16) -> Result<(), Memory>
-    requires { from + 75 ≤ 36525 }
-    ensures { OnOk result (lines.new.items ≡ lines.old.items
-        ++ flat_map (lines_on name.now (map (λ t. t.now) near.now)) (range_with_len from 75)) }
-{
-    for day in from..from + DAYS {
-        push_on_day(lines, name, near, day)?;
-    }
-    Ok(())
-}
-
-// Adds the lines of a day: one for each text whose period holds it.
-fn push_on_day(
-    lines: &mut Vec<u8>,
-    name: &[u8],
-    near: &[&LegText],
-    number: u16,
-) -> Result<(), Memory>
-    requires { number < 36525 }
-    ensures { OnOk result (lines.new.items
-        ≡ lines.old.items ++ lines_on name.now (map (λ t. t.now) near.now) number) }
-{
-    let Some(day) = Day::from_number(number) else {
-        unreachable!();
-    };
-    for text in near {
-        if holds(text.0, number) {
-            push_line(lines, name, day, text.1.as_slice())?;
-        }
+    for date in dates {
+        push_line(lines, name, date.0, date.1.as_slice())?;
     }
     Ok(())
 }
@@ -164,18 +90,18 @@ fn push_line(lines: &mut Vec<u8>, name: &[u8], day: Day, leg: &[u8]) -> Result<(
     Ok(())
 }
 
-/// The dates of a flight with these pieces, in order. The calendar is cut into parts, so that a day is
-/// compared only to the pieces that meet its part.
-pub(crate) fn dates_of(
+/// The dates of pieces in order, each with the value of the piece that holds it. The calendar is cut
+/// into parts, so that a day is compared only to the pieces that meet its part.
+pub(crate) fn dates_of<'a, V>(
     alloc: Global,
-    pieces: &[(Period, Itinerary)],
-) -> Result<Vec<FlightDate>, Memory>
-    ensures { IfOk result (λ dates. dates.items ≡ dates_of pieces.now) }
+    pieces: &'a [(Period, V)],
+) -> Result<Vec<(Day, &'a V)>, Memory>
+    ensures { IfOk result (λ dates. seen_dates dates.items ≡ dates_of pieces.now) }
 {
     let mut dates = Vec::new(alloc);
     for part in 0..PARTS {
         let near = near_part(alloc, pieces, DAYS * part)?;
-        add_part(alloc, &mut dates, &near, DAYS * part)?;
+        add_part(&mut dates, &near, DAYS * part)?;
     }
     Ok(dates)
 }
@@ -208,39 +134,40 @@ fn meets_days(period: Period, from: u16) -> bool
 }
 
 // Adds the dates of a part of the calendar, from this day on.
-fn add_part(
-    alloc: Global,
-    dates: &mut Vec<FlightDate>,
-    near: &[&(Period, Itinerary)],
+fn add_part<'a, V>(
+    dates: &mut Vec<(Day, &'a V)>,
+    near: &[&'a (Period, V)],
     from: u16,
 ) -> Result<(), Memory>
     requires { from + 75 ≤ 36525 }
-    ensures { OnOk result (dates.new.items ≡ dates.old.items
+    ensures { OnOk result (seen_dates dates.new.items ≡ seen_dates dates.old.items
         ++ flat_map (dates_on (map (λ p. p.now) near.now)) (range_with_len from 75)) }
 {
     for number in from..from + DAYS {
-        add_day(alloc, dates, near, number)?;
+        add_day(dates, near, number)?;
     }
     Ok(())
 }
 
 // Adds the dates on a day: one for each piece that holds it.
-fn add_day(
-    alloc: Global,
-    dates: &mut Vec<FlightDate>,
-    near: &[&(Period, Itinerary)],
+fn add_day<'a, V>(
+    dates: &mut Vec<(Day, &'a V)>,
+    near: &[&'a (Period, V)],
     number: u16,
 ) -> Result<(), Memory>
     requires { number < 36525 }
-    ensures { OnOk result (dates.new.items
-        ≡ dates.old.items ++ dates_on (map (λ p. p.now) near.now) number) }
+    ensures { OnOk result (seen_dates dates.new.items
+        ≡ seen_dates dates.old.items ++ dates_on (map (λ p. p.now) near.now) number) }
 {
     let Some(day) = Day::from_number(number) else {
         unreachable!();
     };
     for piece in near {
         if holds(piece.0, number) {
-            dates.push((day, piece.1.copy(alloc)?))?;
+            match dates.push((day, &piece.1)) {
+                Ok(()) => {}
+                Err(_) => return Err(Memory),
+            }
         }
     }
     Ok(())

@@ -3,6 +3,7 @@
 //! - [`listing`]: each flight with its periods, and a line for each leg of each period.
 //! - [`dated_listing`]: a line for each flight, date and leg.
 //! - [`csv_listing`], [`dated_csv_listing`]: the same as CSV, a row for each period or date and leg.
+//! - [`name_of`]: a flight as its designator.
 //! - [`push_leg_text`]: a leg as one line, which shows some of its columns; [`is_like_one`]: whether
 //!   a leg differs from another one that has the same line.
 //!
@@ -14,6 +15,7 @@
 #![tactic(auto)]
 
 mod dates;
+mod division;
 mod groups;
 mod iso;
 mod leg_text;
@@ -22,9 +24,8 @@ mod marks;
 mod row_writer;
 mod rows;
 
-pub use dates::dated_listing;
 pub use leg_text::{push_leg_text, push_sequence, push_shown};
-pub use lines::{listing, push_period};
+pub use lines::{dated_listing, listing, name_of, push_period};
 pub use marks::{is_like, is_like_one, mark_of};
 pub use rows::{csv_listing, dated_csv_listing};
 pub use ssim_values::Memory;

@@ -1,13 +1,18 @@
-//! The flights of a timetable as lines: their periods, and the legs of each.
+//! The flights of a timetable as lines: their periods with the legs of each, or date by date.
 
 ghost use Rattle.std.specs.Prelude.{◌≡◌, ◌++◌, ◌∷◌, IfOk, OnOk};
 ghost use Rattle.std.specs.List.{flat_map};
 ghost use Rattle.ssim_values.specs.Day.{day_text};
 ghost use Rattle.ssim_base.specs.Export.{line};
-ghost use Rattle.ssim_listing.specs.Lines.{flight_lines, flight_name, legs_of, listing, no_flight};
-ghost use Rattle.ssim_listing.specs.Lines.{period_text, piece_lines};
-ghost use Rattle.ssim_listing.specs.internal.Groups.{group_in, grouped_line, grouped_lines, is_mixed};
+ghost use Rattle.ssim_listing.specs.Dates.{dated_listing};
+ghost use Rattle.ssim_listing.specs.Lines.{flight_name, legs_of, listing, no_flight, period_text};
+ghost use Rattle.ssim_listing.specs.Lines.{piece_lines};
+ghost use Rattle.ssim_listing.specs.internal.Divisions.{divided_lines, divided_listing, part_lines};
+ghost use Rattle.ssim_listing.specs.internal.Groups.{group_in, grouped_line, grouped_lines};
+ghost use Rattle.ssim_listing.specs.internal.Groups.{is_mixed};
 
+use crate::dates::push_dates;
+use crate::division::Division;
 use crate::groups::{Groups, are_mixed, groups_of};
 use crate::leg_text::{push_leg_text, push_shown};
 use crate::marks::mark_of;
@@ -21,16 +26,45 @@ use std::alloc::Global;
 pub fn listing(alloc: Global, airline: Airline, flights: &[FlightPieces]) -> Result<Vec<u8>, Memory>
     ensures { IfOk result (λ lines. lines.items ≡ listing airline flights.now) }
 {
+    lines_of(alloc, airline, flights, Division::Periods)
+}
+
+/// The flights of an airline date by date, a line for each leg.
+pub fn dated_listing(
+    alloc: Global,
+    airline: Airline,
+    flights: &[FlightPieces],
+) -> Result<Vec<u8>, Memory>
+    ensures { IfOk result (λ lines. lines.items ≡ dated_listing airline flights.now) }
+{
+    lines_of(alloc, airline, flights, Division::Dates)
+}
+
+// The lines of the flights of an airline.
+fn lines_of(
+    alloc: Global,
+    airline: Airline,
+    flights: &[FlightPieces],
+    division: Division,
+) -> Result<Vec<u8>, Memory>
+    ensures { IfOk result (λ lines. lines.items ≡ divided_listing division airline flights.now) }
+{
     let mut lines = Vec::new(alloc);
     for flight in flights {
         let name = name_of(airline, flight.flight());
-        push_flight(alloc, &mut lines, name.as_slice(), flight.pieces())?;
+        push_flight(
+            alloc,
+            &mut lines,
+            name.as_slice(),
+            flight.pieces(),
+            division,
+        )?;
     }
     Ok(lines)
 }
 
 /// The designator of a flight of the airline.
-pub(crate) fn name_of(airline: Airline, flight: Flight) -> ArrayVec<u8, 8>
+pub fn name_of(airline: Airline, flight: Flight) -> ArrayVec<u8, 8>
     ensures { result.items ≡ flight_name airline flight }
 {
     Designator { airline, flight }.write()
@@ -42,17 +76,36 @@ fn push_flight(
     lines: &mut Vec<u8>,
     name: &[u8],
     pieces: &[(Period, Itinerary)],
+    division: Division,
 ) -> Result<(), Memory>
-    ensures { OnOk result (lines.new.items ≡ lines.old.items ++ flight_lines name.now pieces.now) }
+    ensures { OnOk result
+        (lines.new.items ≡ lines.old.items ++ divided_lines division name.now pieces.now) }
 {
     match pieces.split_first() {
         None => push_no_flight(lines, name),
-        Some(_) => push_pieces(alloc, lines, name, pieces),
+        Some(_) => push_parts(alloc, lines, name, pieces, division),
     }
 }
 
-/// Adds the line of a flight that flies on no date.
-pub(crate) fn push_no_flight(lines: &mut Vec<u8>, name: &[u8]) -> Result<(), Memory>
+// Adds the lines of the pieces or of the dates of a flight.
+fn push_parts(
+    alloc: Global,
+    lines: &mut Vec<u8>,
+    name: &[u8],
+    pieces: &[(Period, Itinerary)],
+    division: Division,
+) -> Result<(), Memory>
+    ensures { OnOk result
+        (lines.new.items ≡ lines.old.items ++ part_lines division name.now pieces.now) }
+{
+    match division {
+        Division::Periods => push_pieces(alloc, lines, name, pieces),
+        Division::Dates => push_dates(alloc, lines, name, pieces),
+    }
+}
+
+// Adds the line of a flight that flies on no date.
+fn push_no_flight(lines: &mut Vec<u8>, name: &[u8]) -> Result<(), Memory>
     ensures { OnOk result (lines.new.items ≡ lines.old.items ++ no_flight name.now) }
 {
     lines.extend_from_slice(name)?;

@@ -1,15 +1,15 @@
 //! The flights of a timetable as CSV.
 
-ghost use Rattle.std.specs.Prelude.{◌≡◌, ◌++◌, ◌+◌, ◌∷◌, [], ℕ, List, IfOk, IsTrue, OnOk, length, map};
+ghost use Rattle.std.specs.Prelude.{◌≡◌, ◌++◌, ◌+◌, ℕ, List, IfOk, IsTrue, OnOk, map};
 ghost use Rattle.std.specs.List.{flat_map};
 ghost use Rattle.ssim_records.specs.Leg.{is_own};
-ghost use Rattle.ssim_listing.specs.Dates.{dates_of};
-ghost use Rattle.ssim_listing.specs.Lines.{flight_name};
 ghost use Rattle.ssim_listing.specs.Rows.{csv_listing, date_rows, dated_csv_listing, header};
 ghost use Rattle.ssim_listing.specs.Rows.{leg_row, piece_rows, row, time_field};
+ghost use Rattle.ssim_listing.specs.internal.Divisions.{divided_csv_listing, divided_rows};
 ghost use Rattle.ssim_listing.specs.internal.Written.{HasWritten};
 
-use crate::dates::{FlightDate, dates_of};
+use crate::dates::dates_of;
+use crate::division::Division;
 use crate::iso::{iso_date, iso_time};
 use crate::lines::name_of;
 use crate::row_writer::{RowWriter, into_bytes, new_writer, put_row};
@@ -56,12 +56,7 @@ pub fn csv_listing(
 ) -> Result<Vec<u8>, Memory>
     ensures { IfOk result (λ rows. rows.items ≡ csv_listing airline flights.now) }
 {
-    let mut rows = headed_writer(alloc)?;
-    for flight in flights {
-        let name = name_of(airline, flight.flight());
-        put_pieces(alloc, &mut rows, name.as_slice(), flight.pieces())?;
-    }
-    into_bytes(rows)
+    rows_of(alloc, airline, flights, Division::Periods)
 }
 
 /// The flights of an airline as CSV: the names of the columns, and a row for each date and leg.
@@ -72,11 +67,23 @@ pub fn dated_csv_listing(
 ) -> Result<Vec<u8>, Memory>
     ensures { IfOk result (λ rows. rows.items ≡ dated_csv_listing airline flights.now) }
 {
+    rows_of(alloc, airline, flights, Division::Dates)
+}
+
+// The names of the columns, and the rows of the flights of an airline.
+fn rows_of(
+    alloc: Global,
+    airline: Airline,
+    flights: &[FlightPieces],
+    division: Division,
+) -> Result<Vec<u8>, Memory>
+    ensures { IfOk result
+        (λ rows. rows.items ≡ divided_csv_listing division airline flights.now) }
+{
     let mut rows = headed_writer(alloc)?;
     for flight in flights {
         let name = name_of(airline, flight.flight());
-        let dates = dates_of(alloc, flight.pieces())?;
-        put_dates(alloc, &mut rows, name.as_slice(), &dates)?;
+        put_flight(alloc, &mut rows, name.as_slice(), flight.pieces(), division)?;
     }
     into_bytes(rows)
 }
@@ -88,6 +95,26 @@ fn headed_writer(alloc: Global) -> Result<RowWriter, Memory>
     let mut rows = new_writer(alloc);
     put_row(alloc, &mut rows, &HEADER)?;
     Ok(rows)
+}
+
+// Writes the rows of a flight with this name.
+fn put_flight(
+    alloc: Global,
+    rows: &mut RowWriter,
+    name: &[u8],
+    pieces: &[(Period, Itinerary)],
+    division: Division,
+) -> Result<(), Memory>
+    ensures { OnOk result ((before : List ℕ) → HasWritten rows.old before
+        → HasWritten rows.new (before ++ divided_rows division name.now pieces.now)) }
+{
+    match division {
+        Division::Periods => put_pieces(alloc, rows, name, pieces),
+        Division::Dates => {
+            let dates = dates_of(alloc, pieces)?;
+            put_dates(alloc, rows, name, &dates)
+        }
+    }
 }
 
 // Writes the rows of the pieces of a flight.
@@ -128,10 +155,10 @@ fn put_dates(
     alloc: Global,
     rows: &mut RowWriter,
     name: &[u8],
-    dates: &[FlightDate],
+    dates: &[(Day, &Itinerary)],
 ) -> Result<(), Memory>
-    ensures { OnOk result ((before : List ℕ) → HasWritten rows.old before
-        → HasWritten rows.new (before ++ flat_map (date_rows name.now) dates.now)) }
+    ensures { OnOk result ((before : List ℕ) → HasWritten rows.old before → HasWritten rows.new
+        (before ++ flat_map (λ date. date_rows name.now (date.0, date.1.now)) dates.now)) }
 {
     for date in dates {
         put_date(alloc, rows, name, date.0, date.1.legs())?;

@@ -2,9 +2,10 @@
 use Rattle.std.proofs.Common.{◌≡◌, ◌++◌, ◌-◌, map}
 use Rattle.std.specs.List.{flat_map, range_with_len}
 use Rattle.ssim_listing.specs.Dates.{dates_on}
+use Rattle.ssim_listing.specs.internal.FlightDates.{seen_dates}
 use Rattle.ssim_listing.proofs.dates.add_part.Given as goal
 
 abbrev pub invariant-loop-number : goal.invariant-loop-number
-invariant-loop-number l =
-    l.dates.items ≡ l.initial.dates.items
+invariant-loop-number g l =
+    seen_dates l.dates.items ≡ seen_dates l.initial.dates.items
     ++ flat_map (dates_on (map (λ p. p.now) l.near)) (range_with_len l.from (l.number - l.from))

@@ -8,4 +8,4 @@ use Rattle.ssim_listing.proofs.rows.put_dates.Given as goal
 abbrev pub invariant-loop-date : goal.invariant-loop-date
 invariant-loop-date l =
     (before : List ℕ) → HasWritten l.initial.rows before
-    → HasWritten l.rows (before ++ flat_map (date_rows l.name) (take l.date-index l.dates))
+    → HasWritten l.rows (before ++ flat_map (λ date. date_rows l.name (date.0, date.1.now)) (take l.date-index l.dates))
