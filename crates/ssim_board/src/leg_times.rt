@@ -1,14 +1,15 @@
 //! Where and when a leg of a flight departs and arrives.
 
-ghost use Rattle.std.specs.Prelude.{◌≡◌, ◌≤◌};
-ghost use Rattle.ssim_board.specs.LegTimes.{arrival_time, days_added, departure_time, has_unknown};
-ghost use Rattle.ssim_board.specs.LegTimes.{is_uncertain, is_unknown, lacks_variation};
+ghost use Rattle.std.specs.Prelude.{◌≡◌, ◌≤◌, ◌+◌};
+ghost use Rattle.ssim_board.specs.LegTimes.{days_added, has_unknown, is_uncertain, is_unknown};
+ghost use Rattle.ssim_board.specs.LegTimes.{lacks_variation};
+ghost use Rattle.ssim_board.specs.LocalTime.{local_time};
 ghost use Rattle.ssim_board.specs.Movements.{station_of, time_of};
 
 use crate::local_time::LocalTime;
 use crate::movement::MovementKind;
 use ssim_records::LegColumns;
-use ssim_values::{Day, Station, TimeMode, is_digit};
+use ssim_values::{Clock, Day, Station, TimeMode, Variation, is_digit};
 
 /// The station of an end of a leg.
 pub(crate) fn station_of(leg: &LegColumns, kind: MovementKind) -> Station
@@ -24,38 +25,37 @@ pub(crate) fn station_of(leg: &LegColumns, kind: MovementKind) -> Station
 pub(crate) fn time_of(mode: TimeMode, date: Day, leg: &LegColumns, kind: MovementKind) -> LocalTime
     ensures { result ≡ time_of mode date leg.now kind }
 {
+    let [departure, arrival] = leg.date_variations();
     match kind {
-        MovementKind::Departure => departure_time(mode, date, leg),
-        MovementKind::Arrival => arrival_time(mode, date, leg),
+        MovementKind::Departure => time_at(
+            mode,
+            date,
+            departure,
+            leg.departure_variation(),
+            leg.aircraft_departure_time(),
+        ),
+        MovementKind::Arrival => time_at(
+            mode,
+            date,
+            arrival,
+            leg.arrival_variation(),
+            leg.aircraft_arrival_time(),
+        ),
     }
 }
 
-// The local time at which a leg departs.
-fn departure_time(mode: TimeMode, date: Day, leg: &LegColumns) -> LocalTime
-    ensures { result ≡ departure_time mode date leg.now }
+// The local time of a time of day, on a date plus what a date variation adds.
+fn time_at(
+    mode: TimeMode,
+    date: Day,
+    date_variation: u8,
+    variation: Option<Variation>,
+    time: Clock,
+) -> LocalTime
+    ensures { result ≡ local_time mode variation (date + days_added date_variation + 1) time }
 {
-    let [variation, _] = leg.date_variations();
-    let days = date.number() + days_added(variation) + 1;
-    LocalTime::of(
-        mode,
-        leg.departure_variation(),
-        days,
-        leg.aircraft_departure_time(),
-    )
-}
-
-// The local time at which a leg arrives.
-fn arrival_time(mode: TimeMode, date: Day, leg: &LegColumns) -> LocalTime
-    ensures { result ≡ arrival_time mode date leg.now }
-{
-    let [_, variation] = leg.date_variations();
-    let days = date.number() + days_added(variation) + 1;
-    LocalTime::of(
-        mode,
-        leg.arrival_variation(),
-        days,
-        leg.aircraft_arrival_time(),
-    )
+    let days = date.number() + days_added(date_variation) + 1;
+    LocalTime::of(mode, variation, days, time)
 }
 
 /// Whether a date variation of the leg is neither digit nor blank, or in UTC mode a UTC variation
