@@ -1,8 +1,9 @@
 -- Lists made of the elements of another list, or of the numbers of a range.
-use Rattle.std.proofs.Common.{◌≡◌, ◌∙◌, ◌⊎◌, inl, inr, ℕ, zero, suc, ◌+◌, ◌-◌, ◌<◌, ◌≤◌, nat_lt, Bool, true, false, List, [], ◌∷◌, ◌++◌, refl, sym, ap, ap₂, append_assoc, append-nil, arith}
+use Rattle.std.proofs.Common.{◌≡◌, ◌∙◌, ◌⊎◌, inl, inr, ℕ, zero, suc, ◌+◌, ◌-◌, ◌<◌, ◌≤◌, nat_lt}
+use Rattle.std.proofs.Common.{Bool, true, false, List, [], ◌∷◌, ◌++◌, refl, sym, ap, ap₂, append-nil, arith}
 use Rattle.std.specs.List.{AllByRecursion as Every, flat_map, range_with_len}
 use Rattle.std.proofs.lemmas.Bool.Decides.{nat_tests}
-use Rattle.std.proofs.lemmas.List.{flat_map_more}
+use Rattle.ssim_listing.proofs.Ranges.{split_at}
 
 -- ---- a property of each element, by recursion
 
@@ -26,33 +27,10 @@ none_made f (x ∷ xs) h = ap₂ (λ ys zs. ys ++ zs) (h x) (none_made f xs h)
 
 -- ---- what functions make of a range
 
-next : (a k : ℕ) → suc a + k ≡ a + suc k
-next a k = omega arith
-
-one_on : (a : ℕ) → a + 1 ≡ suc a
-one_on a = omega arith
-
-pub same_in : {Y : Type 0} (f g : ℕ → List Y) (a n : ℕ) → ((k : ℕ) → a ≤ k → k < a + n → f k ≡ g k) → flat_map f (range_with_len a n) ≡ flat_map g (range_with_len a n)
-same_in f g a zero h = refl
-same_in f g a (suc n) h =
-    ap₂ (λ ys zs. ys ++ zs) (h a (omega arith) (omega arith)) (same_in f g (a + 1) n (λ k from to. h k (omega arith) (omega arith)))
-
 pub none_in : {Y : Type 0} (f : ℕ → List Y) (a n : ℕ) → ((k : ℕ) → a ≤ k → k < a + n → f k ≡ []) → flat_map f (range_with_len a n) ≡ []
 none_in f a zero h = refl
 none_in f a (suc n) h =
     ap₂ (λ ys zs. ys ++ zs) (h a (omega arith) (omega arith)) (none_in f (a + 1) n (λ k from to. h k (omega arith) (omega arith)))
-
--- a range in two parts
-pub split_at : {Y : Type 0} (f : ℕ → List Y) (a m n all b : ℕ) → m + n ≡ all → a + m ≡ b
-    → flat_map f (range_with_len a all) ≡ flat_map f (range_with_len a m) ++ flat_map f (range_with_len b n)
-split_at f a zero n all b e s =
-    let whole : all ≡ n = omega arith in
-    let from : a ≡ b = omega arith in
-    ap₂ (λ (k c : ℕ). flat_map f (range_with_len c k)) whole from
-split_at f a (suc m) n zero b e s = absurd (omega (arith, e))
-split_at f a (suc m) n (suc all) b e s =
-    let ih = split_at f (a + 1) m n all b (omega (arith, e)) (omega (arith, s)) in
-    ap (λ ys. f a ++ ys) ih ∙ sym (append_assoc (f a) (flat_map f (range_with_len (a + 1) m)) (flat_map f (range_with_len b n)))
 
 -- A function that makes nothing of the numbers before `from` and of those from `end` on makes of all
 -- numbers what it makes of those between.
@@ -77,32 +55,6 @@ window {Y} f from end count within outside = by (nat_lt end from) refl
         let none_before = none_in f 0 from (λ k low to. outside k (omega arith) (inl (omega (arith, to)))) in
         let none_after = none_in f end (count - end) (λ k low to. outside k (omega arith) (inr low)) in
         first ∙ ap₂ (λ ys zs. ys ++ zs) none_before (second ∙ ap (λ zs. flat_map f (range_with_len from (end - from)) ++ zs) none_after ∙ append-nil _)
-
--- a range with one number more
-pub range_more : {Y : Type 0} (f : ℕ → List Y) (a j : ℕ) → a ≤ j → flat_map f (range_with_len a (j + 1 - a)) ≡ flat_map f (range_with_len a (j - a)) ++ f j
-range_more f a j h =
-    split_at f a (j - a) 1 (j + 1 - a) j (omega arith) (omega arith)
-    ∙ ap (λ ys. flat_map f (range_with_len a (j - a)) ++ ys) (append-nil (f j))
-
--- a list with what the numbers so far make, and then what one more makes
-pub added_next : {Y : Type 0} (f : ℕ → List Y) (old now next : List Y) (a j : ℕ) → a ≤ j → now ≡ old ++ flat_map f (range_with_len a (j - a)) → next ≡ now ++ f j
-    → next ≡ old ++ flat_map f (range_with_len a (j + 1 - a))
-added_next f old now next a j h so_far is =
-    is ∙ ap (λ ys. ys ++ f j) so_far ∙ append_assoc old (flat_map f (range_with_len a (j - a))) (f j)
-    ∙ ap (λ ys. old ++ ys) (sym (range_more f a j h))
-
--- nothing yet
-pub none_yet : {Y : Type 0} (f : ℕ → List Y) (old : List Y) (a : ℕ) → old ≡ old ++ flat_map f (range_with_len a (a - a))
-none_yet f old a = sym (append-nil old) ∙ ap (λ (n : ℕ). old ++ flat_map f (range_with_len a n)) (same a)
-  where
-    same : (a : ℕ) → 0 ≡ a - a
-    same a = omega arith
-
--- a list with what some values make, and then what one more makes
-pub one_more : {X Y : Type 0} (f : X → List Y) (old now next : List Y) (xs all : List X) (x : X) → all ≡ xs ++ x ∷ [] → now ≡ old ++ flat_map f xs → next ≡ now ++ f x
-    → next ≡ old ++ flat_map f all
-one_more f old now next xs all x is so_far more =
-    more ∙ ap (λ ys. ys ++ f x) so_far ∙ flat_map_more f old xs x ∙ ap (λ ys. old ++ flat_map f ys) (sym is)
 
 -- one number more of a range is not past its end
 pub within_next : (n from end : ℕ) → from ≤ n → n < end → n + 1 - from ≤ end - from

@@ -8,7 +8,8 @@ use Rattle.std.specs.Ordering.{is_lt, nat_cmp}
 use Rattle.std.proofs.lemmas.Bool.Decides.{nat_tests}
 use Rattle.std.proofs.lemmas.Fn.{always_returns_same}
 use denote.Param.Members.{Mut}
-use Rattle.ssim_board.proofs.Lists.{none_in, same_in, split_at}
+use Rattle.ssim_listing.proofs.Ranges.{same_in, split_at}
+use Rattle.ssim_board.proofs.Lists.{none_in}
 
 module _ {X : Type 0} (rank : X → ℕ) where
   -- the elements of a rank

@@ -8,8 +8,8 @@ ghost use Rattle.ssim_board.specs.Lines.{warning_text};
 
 use crate::local_time::LocalTime;
 use crate::movement::{Movement, MovementKind};
-use ssim_listing::{push_sequence, push_shown};
-use ssim_values::{Airline, Day, Designator, Memory};
+use ssim_listing::{name_of, push_sequence, push_shown};
+use ssim_values::{Airline, Day, Memory};
 use std::alloc::Global;
 use std::io::Write;
 
@@ -53,15 +53,12 @@ fn push_movement(
 fn push_flight(lines: &mut Vec<u8>, airline: Airline, movement: &Movement) -> Result<(), Memory>
     ensures { OnOk result (lines.new.items ≡ lines.old.items ++ flight_text airline movement.now) }
 {
-    let designator = Designator {
-        airline,
-        flight: movement.flight,
-    };
+    let name = name_of(airline, movement.flight);
     lines.extend_from_slice(&movement.time.write())?;
     lines.push(b' ')?;
     lines.extend_from_slice(kind_text(movement.kind))?;
     lines.push(b' ')?;
-    push_padded(lines, designator.write().as_slice())?;
+    push_padded(lines, name.as_slice())?;
     lines.push(b' ')?;
     lines.extend_from_slice(&movement.date.write())?;
     Ok(())

@@ -2,7 +2,8 @@
 use Rattle.std.proofs.Common.{◌∙◌, ◌≤◌, ◌<◌, ◌++◌, ℕ, List, subst, arith}
 use Rattle.ssim_board.specs.internal.PieceMovements.{date_end, date_from, piece_movements}
 use Rattle.ssim_board.specs.declared.movement.Movement.{Movement}
-use Rattle.ssim_board.proofs.Lists.{added_next, within_next}
+use Rattle.ssim_listing.proofs.Ranges.{added_next}
+use Rattle.ssim_board.proofs.Lists.{within_next}
 use Rattle.ssim_board.proofs.board.Board.push_flight.Goals as goal
 
 pub loop-number-preserved : goal.loop-number-preserved
