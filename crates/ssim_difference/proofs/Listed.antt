@@ -6,7 +6,7 @@ use Rattle.std.proofs.Common.{Some, None, refl, sym, ap, ap₂, subst, arith, ap
 use Rattle.std.proofs.lemmas.List.{append-nil}
 use Rattle.std.specs.List.{range_with_len}
 use Rattle.std.specs.Cmp.{nat_cmp_is}
-use Rattle.std.specs.Ordering.{nat_cmp, ordering_then}
+use Rattle.std.specs.Ordering.{nat_cmp, ordering_reverse, ordering_then}
 use Rattle.std.specs.declared.cmp.Ordering.{Ordering}
 use Rattle.std.specs.declared.cmp.Ordering.TheVariants.{Less, Equal, Greater}
 use Rattle.std.proofs.lemmas.Bool.Decides.{nat_tests}
@@ -42,9 +42,6 @@ less_number a b e = grind (arith, nat_tests)
 less : (x y : ℕ) → x < y → nat_cmp x y ≡ Less
 less x y h = sym (nat_cmp_is x y Less h)
 
-greater : (x y : ℕ) → y < x → nat_cmp x y ≡ Greater
-greater x y h = sym (nat_cmp_is x y Greater h)
-
 equal : (x y : ℕ) → x ≡ y → nat_cmp x y ≡ Equal
 equal x y h = sym (nat_cmp_is x y Equal h)
 
@@ -63,15 +60,9 @@ flight_less a b h = by (nat_lt (a / 27) (b / 27)) refl
         (less (flight_at a).suffix (flight_at b).suffix (suffix_less (a % 27) (b % 27) same.1))
 
 pub flight_greater : (a b : ℕ) → a < b → flight_cmp (flight_at b) (flight_at a) ≡ Greater
-flight_greater a b h = by (nat_lt (a / 27) (b / 27)) refl
-  where
-    by : (t : Bool) → nat_lt (a / 27) (b / 27) ≡ t → flight_cmp (flight_at b) (flight_at a) ≡ Greater
-    by true e = ap (λ (o : Ordering). two o (nat_cmp (flight_at b).suffix (flight_at a).suffix))
-        (greater (b / 27) (a / 27) (less_number a b e))
-    by false e =
-        let same = same_number a b h e in
-        ap₂ two (equal (b / 27) (a / 27) (sym same.0))
-        (greater (flight_at b).suffix (flight_at a).suffix (suffix_less (a % 27) (b % 27) same.1))
+flight_greater a b h =
+    nat_list_cmp_total.antisymm (flight_order (flight_at b)) (flight_order (flight_at a))
+    ∙ ap ordering_reverse (flight_less a b h)
 
 -- ---- flights from a rank on
 
@@ -89,6 +80,19 @@ pub no_element : {A : Type 0} (xs : List A) → nat_lt 0 (length xs) ≡ false �
 no_element [] h = refl
 no_element (x ∷ xs) h = absurd (grind (arith, nat_tests))
 
+-- a list with an element is not empty
+filled : {A : Type 0} (x : A) (xs : List A) → x ∷ xs ≡ [] → ⊥
+filled x xs e = cc
+
+-- the flights with some ranks, by the first of them
+flying_first : (days : FlightNumber → Days) (a count : ℕ) (b : Bool)
+    → flies (divided days (flight_at a)) ≡ b
+    → flying days a (suc count)
+    ≡ (if b then divided days (flight_at a) ∷ flying days (a + 1) count else flying days (a + 1) count)
+flying_first days a count b e =
+    let first = divided days (flight_at a) in let rest = flying days (a + 1) count in
+    ap (λ (t : Bool). if t then first ∷ rest else rest) e
+
 -- the first of them, and its rank
 record IsFrom (a : ℕ) (flight : FlightNumber) : Type 0 where
   rank : ℕ
@@ -97,21 +101,11 @@ record IsFrom (a : ℕ) (flight : FlightNumber) : Type 0 where
 
 first_rank : (days : FlightNumber → Days) (a count : ℕ) (first : Divided) (later : List Divided)
     → flying days a count ≡ first ∷ later → IsFrom a first.0
-first_rank days a zero first later h = absurd (empty_not first later h)
-  where
-    empty_not : (x : Divided) (xs : List Divided) → [] ≡ x ∷ xs → ⊥
-    empty_not x xs e = cc
+first_rank days a zero first later h = absurd (filled first later (sym h))
 first_rank days a (suc count) first later h =
     by (flies (divided days (flight_at a))) refl
-    (λ e. first_rank days (a + 1) count first later (sym (here false e) ∙ h))
+    (λ e. first_rank days (a + 1) count first later (sym (flying_first days a count false e) ∙ h))
   where
-    rest : List Divided
-    rest = flying days (a + 1) count
-
-    here : (b : Bool) → flies (divided days (flight_at a)) ≡ b
-        → flying days a (suc count) ≡ (if b then divided days (flight_at a) ∷ rest else rest)
-    here b e = ap (λ (t : Bool). if t then divided days (flight_at a) ∷ rest else rest) e
-
     heads : (x y : Divided) (xs ys : List Divided) → x ∷ xs ≡ y ∷ ys → y ≡ x
     heads x y xs ys e = cc
 
@@ -119,7 +113,8 @@ first_rank days a (suc count) first later h =
         → (flies (divided days (flight_at a)) ≡ false → IsFrom (a + 1) first.0) → IsFrom a first.0
     by true e next_one =
         let same : first ≡ divided days (flight_at a) = heads
-        (divided days (flight_at a)) first rest later (sym (here true e) ∙ h) in
+        (divided days (flight_at a)) first (flying days (a + 1) count) later
+        (sym (flying_first days a count true e) ∙ h) in
         record { rank = a; from = omega arith; is = ap (λ (d : Divided). d.0) same }
     by false e next_one =
         let found = next_one e in
@@ -302,18 +297,9 @@ module _ (before after : FlightNumber → Days) where
   none_left a zero h k = refl
   none_left a (suc count) h k =
       by (flies (divided before (flight_at a))) (flies (divided after (flight_at a))) refl refl
-      (λ e g. none_left (a + 1) count (sym (here before false e) ∙ h) (sym (here after false g) ∙ k))
+      (λ e g. none_left (a + 1) count (sym (flying_first before a count false e) ∙ h)
+      (sym (flying_first after a count false g) ∙ k))
     where
-      filled : (x : Divided) (xs : List Divided) → x ∷ xs ≡ [] → ⊥
-      filled x xs e = cc
-
-      here : (days : FlightNumber → Days) (b : Bool) → flies (divided days (flight_at a)) ≡ b
-          → flying days a (suc count)
-          ≡ (if b then divided days (flight_at a) ∷ flying days (a + 1) count else flying days
-          (a + 1) count)
-      here days b e = ap (λ (t : Bool). if t then divided days (flight_at a) ∷ flying days
-          (a + 1) count else flying days (a + 1) count) e
-
       by : (x y : Bool) → flies (divided before (flight_at a)) ≡ x
           → flies (divided after (flight_at a)) ≡ y
           → (flies (divided before (flight_at a)) ≡ false → flies (divided after (flight_at a)) ≡ false
@@ -321,10 +307,10 @@ module _ (before after : FlightNumber → Days) where
           → differing before after a (suc count) ≡ []
       by true y e g go_on = absurd
           (filled (divided before (flight_at a)) (flying before (a + 1) count)
-          (sym (here before true e) ∙ h))
+          (sym (flying_first before a count true e) ∙ h))
       by false true e g go_on = absurd
-          (filled (divided after (flight_at a)) (flying after (a + 1) count) (sym (here after true g)
-          ∙ k))
+          (filled (divided after (flight_at a)) (flying after (a + 1) count)
+          (sym (flying_first after a count true g) ∙ k))
       by false false e g go_on =
           let silent = quiet_flight before after (flight_at a)
           (no_element (pieces (before (flight_at a))) e)
@@ -424,9 +410,6 @@ not_listed before after a (suc count) k h from to =
     (λ e above. not_listed before after (a + 1) count k
     (sym (differs_first before after a count false e) ∙ h) above (omega arith))
   where
-    filled : (x : Compared) (xs : List Compared) → x ∷ xs ≡ [] → ⊥
-    filled x xs e = cc
-
     by : (b : Bool) → differs (compared before after (flight_at a)) ≡ b → (t : Bool) → nat_eq a k ≡ t
         → (differs (compared before after (flight_at a)) ≡ false → a + 1 ≤ k
         → differs (compared before after (flight_at k)) ≡ false)
