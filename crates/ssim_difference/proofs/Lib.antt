@@ -4,4 +4,3 @@ pub mod Between
 pub mod Pieces
 pub mod Listed
 pub mod DateCounts
-pub mod Ranges

@@ -16,9 +16,9 @@ use crate::dates::date_count;
 use crate::difference::Difference;
 use crate::flight_difference::FlightDifference;
 use crate::timetable_difference::differences;
-use ssim_listing::{is_like, mark_of, push_leg_text, push_period};
+use ssim_listing::{is_like, mark_of, name_of, push_leg_text, push_period};
 use ssim_schedule::{FlightPieces, PlacedLeg};
-use ssim_values::{Airline, Designator, Memory, Period};
+use ssim_values::{Airline, Memory, Period};
 use std::alloc::Global;
 use std::io::Write;
 
@@ -96,11 +96,8 @@ fn push_flight(
 ) -> Result<(), Memory>
     ensures { OnOk result (lines.new.items ≡ lines.old.items ++ flight_lines airline flight.now) }
 {
-    let designator = Designator {
-        airline,
-        flight: flight.flight(),
-    };
-    push_pieces(alloc, lines, designator.write().as_slice(), flight.pieces())
+    let name = name_of(airline, flight.flight());
+    push_pieces(alloc, lines, name.as_slice(), flight.pieces())
 }
 
 // Adds the lines of the periods on which a flight with this name differs.

@@ -13,6 +13,6 @@ returns c =
     (λ added. added
     ∙ ap₂ (λ (name : List ℕ) (ps : List DifferencePiece).
     c.args.lines.now.items ++ flat_map (piece_lines name) ps)
-    (c.as_slice.ensures.value ∙ (c.write.ensures.value
+    (c.as_slice.ensures.value ∙ (c.name_of-name.ensures
     ∙ ap (flight_name c.args.airline) c.flight.ensures)) c.pieces.ensures)
     c.push_pieces.ensures

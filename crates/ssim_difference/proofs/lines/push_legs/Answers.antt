@@ -1,19 +1,17 @@
 -- The lines of one sequence more, up to 99.
-use Rattle.std.proofs.Common.{◌≡◌, ◌∙◌, ◌-◌, ◌+◌, ◌++◌, List, ℕ, Option, ap, ap₂, arith}
+use Rattle.std.proofs.Common.{◌≡◌, ◌∙◌, ◌-◌, ◌++◌, List, ℕ, Option, ap, ap₂, arith}
 use Rattle.std.specs.List.{flat_map, range_with_len}
 use Rattle.ssim_base.specs.Timetable.{LegValue}
-use Rattle.ssim_listing.proofs.Joining.{one_more}
+use Rattle.ssim_listing.proofs.Ranges.{added_next}
 use Rattle.ssim_difference.specs.Lines.{pair_lines, sequence_lines, sequences}
-use Rattle.ssim_difference.proofs.Ranges.{next_number}
 use Rattle.ssim_difference.proofs.lines.push_legs.Goals as goal
 
 pub loop-sequence-preserved : goal.loop-sequence-preserved
 loop-sequence-preserved c =
     let so_far = c.loop-sequence.lines.items in
     let n = c.loop-sequence.sequence in
-    one_more (sequence_lines c.args.old.now c.args.new.now) c.args.lines.now.items
-    (range_with_len 1 (n - 1)) (range_with_len 1 (n + 1 - 1)) n
-    (next_number 1 n c.loop-sequence.auto.sequence) c.loop-sequence.invariant
+    added_next (sequence_lines c.args.old.now c.args.new.now) c.args.lines.now.items so_far
+    c.push_pair.new.lines.items 1 n c.loop-sequence.auto.sequence c.loop-sequence.invariant
     (c.in_ok-push_pair.ensures
     ∙ ap₂ (λ (old new : Option LegValue). so_far ++ pair_lines old new) c.leg_at.ensures
     c.leg_at-in-loop-sequence.ensures)
