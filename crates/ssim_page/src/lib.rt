@@ -1,8 +1,8 @@
 //! A timetable as one page of HTML, complete in itself: it names no other file.
 //!
 //! - [`page_of`]: the page of an airline's flights. Each flight has a section with a row for each
-//!   of its periods: a letter for its itinerary, the first and the last day, seven boxes for the days
-//!   of operation, the route with its times, and the aircraft types.
+//!   of its periods: a letter for its itinerary, the first and the last day, seven boxes for the
+//!   days of operation, the route with its times, and the aircraft types.
 //! - [`Heading`]: the airline, the season and the time mode, which are the page's title.
 //!
 //! The flights are those that `ssim_schedule` gives, each with its pieces: the periods of the

@@ -2,7 +2,6 @@
 
 ghost use Rattle.std.specs.Prelude.{◌≡◌, ◌++◌, IfOk, OnOk};
 ghost use Rattle.std.specs.List.{flat_map};
-ghost use Rattle.ssim_listing.specs.Lines.{flight_name};
 ghost use Rattle.ssim_page.specs.Page.{IsPage, document_end, document_title, letter_of, row, rows};
 ghost use Rattle.ssim_page.specs.Page.{section, section_title, sections, shown_title};
 
@@ -10,9 +9,9 @@ use crate::heading::{Heading, push_title};
 use crate::itineraries::{itineraries, letter_of};
 use crate::look::{BOX, SCRIPT, STYLE};
 use crate::row::push_row;
-use arrayvec::ArrayVec;
+use ssim_listing::name_of;
 use ssim_schedule::{FlightPieces, Itinerary};
-use ssim_values::{Airline, Designator, Flight, Memory, Period};
+use ssim_values::{Airline, Memory, Period};
 use std::alloc::Global;
 
 /// The page of the flights of an airline: a section for each flight, in order, with a row for each
@@ -82,13 +81,6 @@ fn push_sections(
         push_section(alloc, page, name.as_slice(), flight.pieces())?;
     }
     Ok(())
-}
-
-// The designator of a flight of the airline.
-fn name_of(airline: Airline, flight: Flight) -> ArrayVec<u8, 8>
-    ensures { result.items ≡ flight_name airline flight }
-{
-    Designator { airline, flight }.write()
 }
 
 // Adds the section of a flight with this designator.

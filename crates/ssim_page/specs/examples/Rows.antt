@@ -1,8 +1,7 @@
 -- Texts, boxes and letters, checked by computation.
-use Rattle.std.specs.Prelude.{◌≡◌, ℕ, List, [], ◌∷◌, codes, refl}
-use Rattle.ssim_values.specs.Period.{DayRange}
+use Rattle.std.specs.Prelude.{◌≡◌, [], codes, refl}
 use Rattle.ssim_page.specs.Html.{escaped}
-use Rattle.ssim_page.specs.Page.{day_boxes, later_text}
+use Rattle.ssim_page.specs.Page.{later_text}
 
 signs : escaped (codes "<A&B>") ≡ codes "&lt;A&amp;B&gt;"
 signs = refl
