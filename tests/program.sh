@@ -199,6 +199,24 @@ desks_printed() {
     expect "a desk file may be as long as the limit" 1 "" $'refused 62 DeskFile offset 0\n' export longest.ssim
 }
 
+# A file that may be a desk file or a data set is looked at first, and read once.
+either_printed() {
+    input=divided.ssim expect "a data set comes from standard input" 0 $'same\n' "" diff - divided.ssim
+    input=desk expect "a desk comes from standard input" 0 $'same\n' "" diff divided.ssim -
+    mkfifo pipe
+    cat divided.ssim > pipe &
+    expect "a data set comes from a pipe" 0 $'same\n' "" diff pipe desk
+    cat desk > pipe &
+    expect "a desk comes from a pipe" 0 $'same\n' "" diff divided.ssim pipe
+    wait
+    rm pipe
+    printf 'SSIMDESK' > short
+    expect "a data set is shorter than the first word of a desk file" 1 "" $'refused 10 Short record 1\n' list short
+    expect "a file is too long for a desk or a data set" 1 "" $'refused 91 File too_long.ssim\n' list too_long.ssim
+    expect "a missing file is not listed" 1 "" $'refused 91 File missing.ssim\n' list missing.ssim
+    expect "a folder is not listed" 1 "" $'refused 91 File folder\n' list folder
+}
+
 explained="refused 12 BadColumn record 3 column 37
 BadColumn: the field that begins there is invalid
 what to do: compare it with the field's row in docs/FORMATS.md
@@ -248,6 +266,7 @@ desk_inputs
 desks_written
 desks_refused
 desks_printed
+either_printed
 long_files
 for name in check problems tidy start take merge withdraw receive texts show history list board calendar diff page findings export rehearse explain; do
     expect "help of $name" 0 @ "" "$name" --help

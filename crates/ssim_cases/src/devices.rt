@@ -4,7 +4,7 @@ ghost use Rattle.std.specs.Prelude.{None};
 ghost use Rattle.ssim_program.specs.Files.{CountsKeep};
 
 use crate::memory_store::MemoryStore;
-use ssim_program::{Content, Store, StoreFault};
+use ssim_program::{Content, Peeked, Store, StoreFault};
 use ssim_records::{DeviceFault, Parts, Source};
 use std::alloc::Global;
 
@@ -83,6 +83,18 @@ pub struct BrokenStore<'a> {
     pub room: usize,
 }
 
+impl BrokenStore<'_> {
+    /// A file of these bytes.
+    fn broken(&self, bytes: Parts) -> BrokenFile {
+        BrokenFile {
+            bytes,
+            room: self.room,
+            came: 0,
+            failures: 0,
+        }
+    }
+}
+
 impl Store for BrokenStore<'_> {
     type File = BrokenFile;
 
@@ -90,12 +102,20 @@ impl Store for BrokenStore<'_> {
 
     fn open(&mut self, alloc: Global, name: &str) -> Result<BrokenFile, StoreFault> {
         let bytes = self.store.open(alloc, name)?;
-        Ok(BrokenFile {
-            bytes,
-            room: self.room,
-            came: 0,
-            failures: 0,
-        })
+        Ok(self.broken(bytes))
+    }
+
+    fn peek(
+        &mut self,
+        alloc: Global,
+        name: &str,
+        beginning: &[u8],
+        limit: u64,
+    ) -> Result<Peeked<BrokenFile>, StoreFault> {
+        match self.store.peek(alloc, name, beginning, limit)? {
+            Peeked::Loaded(parts) => Ok(Peeked::Loaded(parts)),
+            Peeked::Opened(bytes) => Ok(Peeked::Opened(self.broken(bytes))),
+        }
     }
 
     fn load(&mut self, alloc: Global, name: &str, limit: u64) -> Result<Vec<u8>, StoreFault> {

@@ -96,6 +96,11 @@ pub prepared : {A : Type 0} (line : Line) (old : Option Files) (n : ℕ) (new : 
 prepared line old n new m P Q (Ok v) made why same counted ok err = ([], made v.items ok, same, counted)
 prepared line old n new m P Q (Err refusal) made why same counted ok err = (inl (why refusal err, counted, refl), same)
 
+-- a command that keeps no file is refused before it has made anything
+pub refused_before : {A : Type 0} (line : Line) (old : Option Files) (n : ℕ) (new : Option Files) (m : ℕ) (refusal : Refusal) (r : Result (Vec ℕ A) Refusal)
+    → r ≡ Err refusal → Refuses line old [] refusal → new ≡ old → m ≡ n → Prepares line (stored old n) (stored new m) r
+refused_before line old n new m refusal r is why same counted = rw is (inl (why, counted, refl), same)
+
 -- memory ran out before anything was done
 pub memory_refuses : (line : Line) (files : Option Files) → Refuses line files [] refused.Memory
 memory_refuses (Check name) files = (refl, inl (inl refl))

@@ -24,3 +24,4 @@ pub mod Offices
 pub mod Prints
 pub mod Verdict
 pub mod Did
+pub mod Timetables

@@ -1,12 +1,13 @@
 -- Equal files are of one desk, so commands print the same of them.
-use Rattle.std.proofs.Common.{◌≡◌, ◌∙◌, ◌<◌, ◌^◌, ℕ, List, [], ◌∷◌, ◌++◌, Option, Some, length, refl, ap, ap₂, sym, subst, arith}
+use Rattle.std.proofs.Common.{◌≡◌, ◌∙◌, ℕ, List, [], ◌∷◌, ◌++◌, Option, Some, Ok, length, refl, ap, ap₂, sym, subst, inl, inr, arith}
+use Rattle.std.specs.Prelude.{IfSome}
 use Rattle.ssim_values.proofs.DesignatorLemmas.{SpellsDesignator-unique}
 use Rattle.ssim_text.specs.Reference.{OneReference}
 use Rattle.ssim_values.specs.declared.designator.Designator.{Designator}
 use Rattle.ssim_base.specs.Base.{airline_of}
 use Rattle.ssim_base.specs.BaseSeen.{BaseSeen, base_with}
 use Rattle.ssim_base.specs.Problems.{HasProblems, SameBytesSameProblems}
-use Rattle.ssim_base.specs.Reading.{SameBytesSameBase}
+use Rattle.ssim_base.specs.Reading.{IsWholeOf, SameBytesSameBase}
 use Rattle.ssim_base.specs.declared.fault.BaseFault.{BaseFault}
 use Rattle.ssim_records.specs.Carrier.{CarrierFields}
 use Rattle.ssim_records.specs.declared.record.Record.{Record}
@@ -30,7 +31,7 @@ use Rattle.ssim_command_line.specs.declared.command_line.ListForm.{ListForm}
 use Rattle.ssim_program.specs.Listing.{chosen}
 use Rattle.ssim_program.specs.Messages.{SpellEach, message_texts, messages_on}
 use Rattle.ssim_program.specs.Offices.{IsSameFile, PrintsTheSame}
-use Rattle.ssim_program.specs.Timetables.{HasCarrier, HasTimetable, ReadsTimetable, timetable_kind}
+use Rattle.ssim_program.specs.Timetables.{BeginsAs, HasCarrier, ReadsAsDesk, ReadsTimetable, timetable_kind}
 use Rattle.ssim_program.specs.declared.explain.file_kind.FileKind.{FileKind}
 use Rattle.ssim_program.specs.declared.explain.file_kind.FileKind.TheVariants as kind
 use Rattle.ssim_program.specs.Boards.{board_at}
@@ -116,23 +117,33 @@ module _ (no_two : NoTwoDesks) where
       ∙ (λ i. history_lines (designator i) (day i) (itinerary (one.0 i).records (designator i).flight (day i)) (steps_on (seen (one.0 i) (one.1 i)) (designator i).flight (day i)))
       ∙ sym are.printed_is
 
-  -- the bytes of a file have one timetable
-  one_timetable : SameBytesSameBase → (kind : FileKind) (bytes : List ℕ) (desk other : DeskSeen) → length bytes < 2 ^ 64 → HasTimetable kind bytes desk → HasTimetable kind bytes other
-      → (desk.base ≡ other.base) × (desk.held ≡ other.held)
-  one_timetable same_base kind.Desk bytes desk other within is are = no_two bytes desk.base other.base desk.held other.held within is are
-  one_timetable same_base kind.DataSet bytes desk other within (records, notes, read, base, held) (these, noted, reads, base_too, none) =
-      let same = same_base bytes file_limit file_limit records these notes noted read reads in
-      (base ∙ ap (λ (rs : List Record). base_with rs []) same.0 ∙ sym base_too, held ∙ sym none)
-  one_timetable same_base kind.Script bytes desk other within is are = absurd is
-  one_timetable same_base kind.Message bytes desk other within is are = absurd is
-  one_timetable same_base kind.Stations bytes desk other within is are = absurd is
+  -- the bytes of a file are of one kind
+  one_kind : (files others : Files) (name another : Text) (k other : FileKind) → IsSameFile files name others another → BeginsAs k (Some files) name → BeginsAs other (Some others) another → k ≡ other
+  one_kind files others name another k other (bytes, here, there) is are =
+      let mine : timetable_kind bytes ≡ k = subst (λ (f : Option (List ℕ)). IfSome f (λ b. timetable_kind b ≡ k)) here is in
+      let theirs : timetable_kind bytes ≡ other = subst (λ (f : Option (List ℕ)). IfSome f (λ b. timetable_kind b ≡ other)) there are in
+      sym mine ∙ theirs
+
+  -- a data set is read as one desk
+  one_data_set : SameBytesSameBase → (files others : Files) (name another : Text) (desk other : DeskSeen) → IsSameFile files name others another → ReadsAsDesk (Some files) name desk
+      → ReadsAsDesk (Some others) another other → (desk.base ≡ other.base) × (desk.held ≡ other.held)
+  one_data_set same_base files others name another desk other (bytes, here, there) (records, notes, (_, (mine, at, left), read), base, held) (these, noted, (_, (theirs, at_too, left_too), reads), base_too, none) =
+      let same : mine ≡ bytes = same_some mine bytes (sym at ∙ here) in
+      let same_too : theirs ≡ bytes = same_some theirs bytes (sym at_too ∙ there) in
+      let first = subst (λ (l : Option (List ℕ)). IsWholeOf file_limit l (Ok (records, notes))) (left ∙ ap Some same) read in
+      let second = subst (λ (l : Option (List ℕ)). IsWholeOf file_limit l (Ok (these, noted))) (left_too ∙ ap Some same_too) reads in
+      let equal = same_base bytes file_limit file_limit records these notes noted first.0 second.0 in
+      (base ∙ ap (λ (rs : List Record). base_with rs []) equal.0 ∙ sym base_too, held ∙ sym none)
 
   -- equal files have one timetable
   same_timetable : SameBytesSameBase → (files others : Files) (name another : Text) (desk other : DeskSeen) → IsSameFile files name others another → ReadsTimetable (Some files) name desk
       → ReadsTimetable (Some others) another other → (desk.base ≡ other.base) × (desk.held ≡ other.held)
-  same_timetable same_base files others name another desk other (bytes, here, there) (mine, has, is) (theirs, has_too, are) =
-      let same : theirs ≡ mine = same_some theirs mine (sym has_too.1 ∙ there ∙ sym here ∙ has.1) in
-      one_timetable same_base (timetable_kind mine) mine desk other (omega (arith, has.0)) is (subst (λ (bs : List ℕ). HasTimetable (timetable_kind bs) bs other) same are)
+  same_timetable same_base files others name another desk other same (inl (begins, is)) (inl (begins_too, are)) = one_desk files others name another desk other same is are
+  same_timetable same_base files others name another desk other same (inl (begins, is)) (inr (begins_too, are)) =
+      let no = one_kind files others name another kind.Desk kind.DataSet same begins begins_too in absurd cc
+  same_timetable same_base files others name another desk other same (inr (begins, is)) (inl (begins_too, are)) =
+      let no = one_kind files others name another kind.DataSet kind.Desk same begins begins_too in absurd cc
+  same_timetable same_base files others name another desk other same (inr (begins, is)) (inr (begins_too, are)) = one_data_set same_base files others name another desk other same is are
 
   pub board_same : SameBytesSameBase → (station date : Text) → PrintsTheSame (λ file. Board file station date)
   board_same same_base station date files others name another printed again kept also same (desk, read, is, _) (other, reads, are, _) =

@@ -1,12 +1,14 @@
 -- What a data set in a file is read as, if the file is opened and read to its end.
-use Rattle.std.proofs.Common.{◌≡◌, ◌≤◌, ◌<◌, ◌+◌, ◌⊎◌, ℕ, List, [], length, Option, Some, None, Err, subst, sym, ap, inl, inr, refl, arith}
+use Rattle.std.proofs.Common.{◌≡◌, ◌≤◌, ◌<◌, ◌+◌, ◌⊎◌, ℕ, List, [], length, Option, Some, None, Result, Ok, Err, IfOk, IfErr, subst, sym, ap, inl, inr, refl, arith}
 use Rattle.std.specs.Prelude.{IfSome}
 use Rattle.ssim_records.specs.declared.fault.RecordFault.TheVariants.{Short, BadType, BadColumn, ReadFault, ReaderNeverEnds}
+use Rattle.ssim_records.specs.declared.record.Record.{Record}
 use Rattle.ssim_base.specs.Base.{Outcome}
 use Rattle.ssim_base.specs.Reading.{Came, FailsAs, IsReadAs, NeverEnds, RefusesWhole}
 use Rattle.ssim_base.specs.declared.fault.BaseFault.{BaseFault}
 use Rattle.ssim_base.specs.declared.fault.BaseFault.TheVariants as fault
 use Rattle.ssim_base.specs.declared.fault.BaseFault.TheVariants.{Read, Refused}
+use Rattle.ssim_base.specs.declared.note.Note.{Note}
 use Rattle.ssim_program.specs.Files.{Files, IsOpened, file_of}
 use Rattle.ssim_program.specs.Made.{HasFile, IsMissing, IsOfBytes, ReadsFile, RefusesLoad, file_limit}
 use Rattle.ssim_command_line.specs.Line.{Text}
@@ -83,6 +85,14 @@ has_file None name outcome read = ([], (omega arith, tt))
 has_file (Some all) name outcome read =
     let bytes = read.1.0 in
     (bytes, (subst (λ (o : Option (List ℕ)). IfSome o (λ b. length b ≤ file_limit)) read.1.2 read.2.1, read.1.1))
+
+-- the file of this name is within the limit, if its bytes were read or refused
+pub read_within : (files : Option Files) (name : Text) (result : Result (Result (List Record) BaseFault) Refusal)
+    → IfOk result (λ read. IfOk read (λ set. (notes : List Note) × ReadsFile files name (Ok (set, notes)))) → IfOk result (λ read. IfErr read (λ e. IsOfBytes e × ReadsFile files name (Err e)))
+    → IfOk result (λ read. (bytes : List ℕ) × HasFile files name bytes)
+read_within files name (Ok (Ok set)) read fault = has_file files name (Ok (set, read.0)) read.1
+read_within files name (Ok (Err e)) read fault = has_file files name (Err e) fault.1
+read_within files name (Err refusal) read fault = tt
 
 -- ---- bytes in memory
 

@@ -9,3 +9,4 @@ pub mod DataSet
 pub mod Rehearse
 pub mod Print
 pub mod Diff
+pub mod Timetables

@@ -1,13 +1,14 @@
 //! Files of the store: any file, the data set in a file, and a base from a data set and a station
 //! table.
 
-ghost use Rattle.std.specs.Prelude.{◌≡◌, ◌⊎◌, ◌≤◌, ℕ, List, IfErr, IfOk, Ok, Err, length};
+ghost use Rattle.std.specs.Prelude.{◌≡◌, ◌⊎◌, ◌≤◌, ℕ, List, Option, IfErr, IfOk, IfSome};
+ghost use Rattle.std.specs.Prelude.{Ok, Err, length};
 ghost use Rattle.ssim_records.specs.declared.record.Record.{Record};
 ghost use Rattle.ssim_base.specs.BaseSeen.{base_with};
 ghost use Rattle.ssim_base.specs.Reading.{IsReadAs};
 ghost use Rattle.ssim_base.specs.declared.fault.BaseFault.TheVariants as base_fault;
 ghost use Rattle.ssim_base.specs.declared.note.Note.{Note};
-ghost use Rattle.ssim_program.specs.Files.{IsOpened};
+ghost use Rattle.ssim_program.specs.Files.{Files, IsOpened};
 ghost use Rattle.ssim_program.specs.Made.{FindsProblems, HasFile, IsOfBytes, ReadsBase, ReadsFile};
 ghost use Rattle.ssim_program.specs.Made.{RefusesBase, RefusesFile, RefusesLoad, file_limit};
 ghost use Rattle.ssim_program.specs.internal.DataSet.{SumsFile, IsUnread};
@@ -15,7 +16,7 @@ ghost use Rattle.ssim_program.specs.internal.DataSet.{SumsFile, IsUnread};
 use crate::refusal::Refusal;
 use crate::store::{Store, StoreFault};
 use ssim_base::{BaseFault, DataSet, Problems, Stations, Summary};
-use ssim_records::{Parts, RecordFault};
+use ssim_records::{Parts, RecordFault, Source};
 use std::alloc::Global;
 
 /// The most bytes that a file may have.
@@ -104,7 +105,26 @@ fn read_file<S: Store>(
     ensures same { S.files store.new ≡ S.files store.old }
     ensures counted { S.failures store.new ≡ S.failures store.old }
 {
-    let mut file = open_file(alloc, name, store)?;
+    let file = open_file(alloc, name, store)?;
+    read_opened(alloc, name, file)
+}
+
+/// Reads the data set in a file that was opened under this name, to be exported: its records, or
+/// the fault of its bytes. Returns 91 if the file has more bytes than the limit, or fails.
+pub(crate) fn read_opened<F: Source + Drop>(
+    alloc: Global,
+    name: &str,
+    mut file: F,
+) -> Result<Result<DataSet, BaseFault>, Refusal>
+    ensures read { (files : Option Files) → IsOpened files name.now (F.left file)
+        → IfOk result (λ read. IfOk read
+        (λ set. (notes : List Note) × ReadsFile files name.now (Ok (set, notes)))) }
+    ensures fault { (files : Option Files) → IsOpened files name.now (F.left file)
+        → IfOk result (λ read. IfErr read (λ e. IsOfBytes e × ReadsFile files name.now (Err e))) }
+    ensures refused { (files : Option Files) → IsOpened files name.now (F.left file)
+        → IfSome files (λ _. (other : F) → F.failures other ≡ 0)
+        → IfErr result (RefusesLoad files name.now) }
+{
     match DataSet::read(alloc, &mut file, LIMIT) {
         Ok(data_set) => Ok(Ok(data_set)),
         Err(fault) => match unread(alloc, name, &fault) {

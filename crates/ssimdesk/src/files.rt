@@ -1,10 +1,12 @@
 //! A store whose files are the system's, with `-` as the standard input.
 
+ghost use Rattle.std.specs.Prelude.{◌≡◌};
+
 use crate::draft::fault_of;
 use crate::open_file::OpenFile;
-use crate::reading::{read_parts_within, read_within};
+use crate::reading::{Begun, begun, peek_within, read_parts_within, read_within};
 use crate::whole_file::write_whole;
-use ssim_program::{Content, Store, StoreFault};
+use ssim_program::{Content, Peeked, Store, StoreFault};
 use ssim_records::Parts;
 use std::alloc::{AllocError, Global};
 use std::fs;
@@ -43,19 +45,28 @@ impl<'r, R> FileStore<'r, R> {
             failures: 0,
         })
     }
+
+    /// How much larger than the least size the parts of a file are that is loaded now.
+    fn next_more(&mut self) -> usize
+        ensures { self.new.failures ≡ self.old.failures }
+    {
+        let more = self.more;
+        self.more = more.saturating_add(MORE);
+        more
+    }
 }
 
 impl<R: Files + Input> Store for FileStore<'_, R> {
-    type File = OpenFile<R::File, R::Reader>;
+    type File = OpenFile<Begun<R::File>, Begun<R::Reader>>;
 
     ghost failures = { λ s. s.failures };
 
-    fn open(&mut self, _alloc: Global, name: &str) -> Result<Self::File, StoreFault> {
+    fn open(&mut self, alloc: Global, name: &str) -> Result<Self::File, StoreFault> {
         if name == "-" {
-            return Ok(OpenFile::standard(self.rt.reader()));
+            return Ok(OpenFile::standard(begun(alloc, self.rt.reader())));
         }
         match fs::open(self.rt, name) {
-            Ok(file) => Ok(OpenFile::named(file)),
+            Ok(file) => Ok(OpenFile::named(begun(alloc, file))),
             Err(error) => Err(fault_of(&error)),
         }
     }
@@ -77,14 +88,38 @@ impl<R: Files + Input> Store for FileStore<'_, R> {
     }
 
     fn load_parts(&mut self, alloc: Global, name: &str, limit: u64) -> Result<Parts, StoreFault> {
-        let more = self.more;
-        self.more = more.saturating_add(MORE);
+        let more = self.next_more();
         if name == "-" {
             return read_parts_within(alloc, self.rt.reader(), &mut self.chunk, more, limit);
         }
         match fs::open(self.rt, name) {
             Ok(file) => read_parts_within(alloc, file, &mut self.chunk, more, limit),
             Err(error) => Err(fault_of(&error)),
+        }
+    }
+
+    fn peek(
+        &mut self,
+        alloc: Global,
+        name: &str,
+        beginning: &[u8],
+        limit: u64,
+    ) -> Result<Peeked<Self::File>, StoreFault> {
+        let more = self.next_more();
+        if name == "-" {
+            let input = self.rt.reader();
+            return match peek_within(alloc, input, beginning, &mut self.chunk, more, limit)? {
+                Peeked::Loaded(parts) => Ok(Peeked::Loaded(parts)),
+                Peeked::Opened(input) => Ok(Peeked::Opened(OpenFile::standard(input))),
+            };
+        }
+        let file = match fs::open(self.rt, name) {
+            Ok(file) => file,
+            Err(error) => return Err(fault_of(&error)),
+        };
+        match peek_within(alloc, file, beginning, &mut self.chunk, more, limit)? {
+            Peeked::Loaded(parts) => Ok(Peeked::Loaded(parts)),
+            Peeked::Opened(file) => Ok(Peeked::Opened(OpenFile::named(file))),
         }
     }
 
