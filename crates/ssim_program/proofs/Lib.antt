@@ -24,4 +24,5 @@ pub mod Offices
 pub mod Prints
 pub mod Verdict
 pub mod Did
+pub mod FirstProblem
 pub mod Timetables

@@ -8,6 +8,7 @@ pub mod Calendars
 pub mod Pages
 pub mod Differences
 pub mod Messages
+pub mod Problems
 pub mod Withdrawing
 pub mod Receiving
 pub mod Effects

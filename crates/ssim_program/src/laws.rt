@@ -6,6 +6,7 @@ ghost use Rattle.ssim_command_line.specs.Line.{Texts, Withdraw, Listing, Problem
 ghost use Rattle.ssim_command_line.specs.declared.command_line.ListForm.{ListForm};
 ghost use Rattle.ssim_program.specs.Again.{TidiesOnce};
 ghost use Rattle.ssim_program.specs.Offices.{HoldsWhatWasBrought, OfficesAgree, PrintsTheSame};
+ghost use Rattle.ssim_program.specs.Problems.{RefusalIsFirstProblem};
 ghost use Rattle.ssim_program.specs.rehearse.Verdict.{EndsWithSame};
 // The worked examples, which are computed: a false one is an error in this file.
 ghost use Rattle.ssim_program.specs.examples.Histories;
@@ -15,6 +16,7 @@ use ssim_base::laws::{
     same_bytes_same_base, same_bytes_same_problems, same_bytes_same_rows, written_bases_are_read,
 };
 use ssim_desk::laws::{any_two_desks_agree, no_two_desks_have_one_file};
+use ssim_records::frames_are_one;
 use ssim_text::laws::{canonical_reads_back, one_message, one_reference};
 
 /// Of a file that is the export of its own base, as all that `tidy` wrote is, `tidy` makes the same
@@ -75,4 +77,12 @@ pub fn rehearsals_end_with_same()
 {
     one_message();
     any_two_desks_agree();
+}
+
+/// The refusal that `check` prints of a data set is the first problem that `problems` prints. Of a
+/// valid data set `problems` prints none.
+pub fn refusal_is_first_problem()
+    ensures { RefusalIsFirstProblem }
+{
+    frames_are_one();
 }

@@ -7,7 +7,8 @@
 //! - [`Refusal`]: why a command was refused, as its line; [`Printed`]: the lines that commands
 //!   print.
 //! - [`laws`]: offices to whose desks the same messages were brought have the same desk file; a
-//!   rehearsal of such desks ends with `same`; what `tidy` wrote is tidied to itself.
+//!   rehearsal of such desks ends with `same`; what `tidy` wrote is tidied to itself; the refusal of
+//!   a data set is its first problem.
 //!
 //! **Promise.** The words of a command are no fault of the command line. With status 0 a command
 //! has written exactly what its definition makes of the files that it names, and kept exactly the
