@@ -53,6 +53,7 @@ def rows_of(flight):
         (["list", "--dates", "dates.ssim"], tidy, 1, 1.3),
         (["diff", "dates.ssim", "dates.ssim"], tidy, 2, 1.3),
         (["diff", "dates.ssim", "changed.ssim"], tidy, 2, 1.3),
+        (["board", "dates.ssim", "ABX", "01JUL25"], show, 1, 1.0),
         (["board", "dates.desk", "ABX", "01JUL25"], show, 1, 1.0),
         (["calendar", "dates.desk", flight], show, 1, 1.0),
         (["history", "dates.desk", flight, "01JUL25"], show, 1, 1.0),
