@@ -29,7 +29,7 @@ def part_of(words):
     if os.path.basename(words[0]) != "rattle" or "--crate-name" not in words or "--crate-checked" in words:
         return None
     crate = words[words.index("--crate-name") + 1]
-    return crate, "tests" if "--test" in words else "wrong bodies" if "--incremental" in words else "proof"
+    return crate, "tests" if "--test" in words else "wrong bodies" if "--only" in words else "proof"
 
 
 def fields_of(pid):

@@ -4,7 +4,7 @@
 A wrong body is an edit of the code, which names functions (tests/edits.py): the prover checks these in a copy of the crate that
 is changed so. It is refused if each of these functions has a goal that is not proved. An edit that does not compile, or that a
 proof file no longer fits, is refused for another reason, and counts as a failure.
-First the named functions of each crate as it is are proved, all at once, and wrong bodies are tried over what that check keeps.
+That the functions as they are can be proved is what `rt ci` says, so a wrong body of a crate that `rt ci` did not prove fails.
 
 One check tries several wrong bodies of a crate, since each check reads all libraries first. Such a group changes only bodies of
 functions that are named, no two of them the same. A function is checked against the contracts of others, not their bodies, so each
@@ -70,17 +70,17 @@ class Crates:
         with open(self.log, encoding="utf-8", errors="replace") as file:
             return file.read()
 
-    def are_built(self, crate):
-        """Whether the libraries below a crate are proved."""
+    def are_proved(self, names):
+        """Whether `rt ci` says that these crates are proved, if it runs."""
         said = self.said()
-        return not self.log or all(re.search(rf"^rt: {name} (proved|is kept)", said, re.MULTILINE) for name in self.below(crate))
+        return not self.log or all(re.search(rf"^rt: {name} (proved|is kept)", said, re.MULTILINE) for name in names)
 
     def has_ended(self):
         """Whether `rt ci` has printed its last line."""
         return bool(ENDED.search(self.said()))
 
-    def checked(self, crate, folder, functions, kept):
-        """What a check of some functions of a crate's copy prints, and its status. It begins with what the folder `kept` holds."""
+    def checked(self, crate, folder, functions):
+        """What a check of some functions of a crate's copy prints, and its status."""
         rlib = {name: f"{TOP}/crates/{name}/out/rlib" for name in self.below(crate)}
         words = [f"{self.kit}/bin/rattle", "check", "--crate-name", crate, "src/lib.rt"]
         for name in ["std", *self.uses[crate]]:
@@ -88,7 +88,7 @@ class Crates:
         for place in [f"{self.kit}/rlibs", *rlib.values()]:
             words += ["-L", f"dependency={place}"]
         words += ["--antt-project", f"{self.kit}/rattle/logic/antt-project.json", "--logic-built", f"{self.kit}/logic_built"]
-        words += ["--jobs", "1", "--incremental", kept]
+        words += ["--jobs", "1"]
         for function in functions:
             words += ["--only", function]
         done = subprocess.run(words, cwd=folder, stdin=subprocess.DEVNULL, stdout=subprocess.PIPE, stderr=subprocess.STDOUT,
@@ -101,14 +101,6 @@ def copied(crate, folder):
     for part in PARTS:
         if os.path.isdir(os.path.join(TOP, "crates", crate, part)):
             shutil.copytree(os.path.join(TOP, "crates", crate, part), os.path.join(folder, part))
-
-
-def linked(kept, to):
-    """Copies what a check kept. A check replaces the file of a proof, and changes none, so these are linked."""
-    def link(one, other):
-        (os.link if one.endswith(".oantt") else shutil.copy2)(one, other)
-
-    shutil.copytree(kept, to, copy_function=link)
 
 
 def functions_of(group):
@@ -129,32 +121,20 @@ def refused_among(functions, said):
 
 
 class Tries:
-    """The wrong bodies of a crate in groups, and a folder that keeps what is proved of their functions as they are."""
+    """The tries of wrong bodies of a crate."""
 
-    def __init__(self, crates, crate, groups):
-        self.crates, self.crate, self.groups = crates, crate, groups
-        self.room = tempfile.TemporaryDirectory()
-        self.kept = os.path.join(self.room.name, "kept")
-
-    def why_not_proved(self):
-        """A list of one: why the functions that the wrong bodies name are not proved as they are; or None."""
-        functions = sorted({name for group in self.groups for name in functions_of(group)})
-        folder = os.path.join(self.room.name, "as_it_is")
-        copied(self.crate, folder)
-        said, status = self.crates.checked(self.crate, folder, functions, self.kept)
-        return [None if status == 0 else f"{self.crate}: its functions are not proved as they are:\n{said[-3000:]}"]
+    def __init__(self, crates, crate):
+        self.crates, self.crate = crates, crate
 
     def tried(self, group):
         """What a check of a copy with some wrong bodies prints, and its status; or what is wrong with one of them, and None."""
-        with tempfile.TemporaryDirectory(dir=self.room.name) as room:
-            folder, kept = os.path.join(room, "crate"), os.path.join(room, "kept")
+        with tempfile.TemporaryDirectory() as folder:
             copied(self.crate, folder)
-            linked(self.kept, kept)
             for edit in group:
                 wrong = edit.apply(folder)
                 if wrong:
                     return wrong, None
-            return self.crates.checked(self.crate, folder, functions_of(group), kept)
+            return self.crates.checked(self.crate, folder, functions_of(group))
 
     def why_not_refused(self, edit):
         """Why a wrong body that is tried alone is not refused for its meaning; or None."""
@@ -176,35 +156,28 @@ class Tries:
 
 
 def verdicts(crates, found):
-    """For the functions of each crate and each wrong body: None, or why it fails. A crate begins once those below it are proved."""
-    results, running, ended = [], {}, False
+    """For each crate, and each of its wrong bodies: None, or why it fails. A crate's turn comes once those below it are proved."""
+    left, tried, ended = list(found), [], False
     with concurrent.futures.ThreadPoolExecutor(AT_ONCE) as pool:
-        while found or running:
-            for tries in [it for it in found if crates.are_built(it.crate)]:
-                found.remove(tries)
-                running[pool.submit(tries.why_not_proved)] = tries
-            if ended:
-                results += [f"{it.crate}: a library below it is not proved" for it in found]
-                found.clear()
+        while left and not ended:
             ended = crates.has_ended()
+            for crate in [it for it in left if crates.are_proved(crates.below(it))]:
+                left.remove(crate)
+                tried += [pool.submit(Tries(crates, crate).why_not_all_refused, group) for group in groups_of(crate)]
             time.sleep(1)
-            for it in [it for it in running if it.done()]:
-                tries, whys = running.pop(it), it.result()
-                results += whys
-                if tries and whys == [None]:
-                    running.update({pool.submit(tries.why_not_all_refused, group): None for group in tries.groups})
-    return results
+    results = [f"{crate}: a library below it is not proved" for crate in left]
+    for it in tried:
+        results += it.result()
+    while not crates.has_ended() and crates.log:
+        time.sleep(1)
+    return results + [None if crates.are_proved([crate]) else f"{crate}: as it is, it is not proved" for crate in found]
 
 
 def main(names):
     log = names[1] if names[:1] == ["--beside"] else None
     names = names[2:] if log else names
-    crates, found = Crates(log), []
-    for crate in names or crates.uses:
-        groups = groups_of(crate)
-        if groups:
-            found.append(Tries(crates, crate, groups))
-    results = verdicts(crates, found)
+    crates = Crates(log)
+    results = verdicts(crates, [crate for crate in names or crates.uses if groups_of(crate)])
     failed = [why for why in results if why]
     for why in failed:
         print(f"wrong bodies: {why}", flush=True)
