@@ -95,27 +95,42 @@ abbrev pub with_form : List Row → Option Line
 with_form rows =
     option_map (λ file. Listing (form_of rows) file (texts_of rows)) (first_of (codes "first") rows)
 
+-- what a subcommand's name and matches name of the commands that look at dates and flights
+abbrev pub view_at : Text → List Row → Option Line
+view_at name rows =
+    if bytes_eq name (codes "show") then with_three Show rows
+    else (if bytes_eq name (codes "history") then with_three History rows
+    else (if bytes_eq name (codes "board") then with_three Board rows
+    else (if bytes_eq name (codes "list") then with_form rows
+    else (if bytes_eq name (codes "calendar") then with_two Calendar rows
+    else None))))
+
+-- what they name of the commands that look at all that a desk or a timetable has, or of these
+abbrev pub whole_view_at : Text → List Row → Option Line
+whole_view_at name rows =
+    if bytes_eq name (codes "page") then with_one Page rows
+    else (if bytes_eq name (codes "diff") then with_two Diff rows
+    else (if bytes_eq name (codes "texts") then with_flights rows
+    else (if bytes_eq name (codes "findings") then with_one Findings rows
+    else view_at name rows)))
+
+-- what they name of the commands on a desk, or of these
+abbrev pub desk_line_at : Text → List Row → Option Line
+desk_line_at name rows =
+    if bytes_eq name (codes "take") then with_texts Take rows
+    else (if bytes_eq name (codes "receive") then with_refused rows
+    else (if bytes_eq name (codes "merge") then with_three Merge rows
+    else (if bytes_eq name (codes "withdraw") then with_texts Withdraw rows
+    else (if bytes_eq name (codes "export") then with_one Export rows
+    else whole_view_at name rows))))
+
 -- what a subcommand's name and matches name, if they name a command with its values
 abbrev pub line_at : Text → List Row → Option Line
 line_at name rows =
     if bytes_eq name (codes "check") then with_one Check rows
     else (if bytes_eq name (codes "problems") then with_one Problems rows
     else (if bytes_eq name (codes "tidy") then with_one Tidy rows
-    else (if bytes_eq name (codes "start") then with_three Start rows
-    else (if bytes_eq name (codes "take") then with_texts Take rows
-    else (if bytes_eq name (codes "receive") then with_refused rows
-    else (if bytes_eq name (codes "merge") then with_three Merge rows
-    else (if bytes_eq name (codes "texts") then with_flights rows
-    else (if bytes_eq name (codes "withdraw") then with_texts Withdraw rows
-    else (if bytes_eq name (codes "show") then with_three Show rows
-    else (if bytes_eq name (codes "history") then with_three History rows
-    else (if bytes_eq name (codes "board") then with_three Board rows
-    else (if bytes_eq name (codes "list") then with_form rows
-    else (if bytes_eq name (codes "calendar") then with_two Calendar rows
-    else (if bytes_eq name (codes "page") then with_one Page rows
-    else (if bytes_eq name (codes "diff") then with_two Diff rows
-    else (if bytes_eq name (codes "findings") then with_one Findings rows
-    else (if bytes_eq name (codes "export") then with_one Export rows
-    else (if bytes_eq name (codes "rehearse") then with_three Rehearse rows
     else (if bytes_eq name (codes "explain") then with_one Explain rows
-    else None)))))))))))))))))))
+    else (if bytes_eq name (codes "start") then with_three Start rows
+    else (if bytes_eq name (codes "rehearse") then with_three Rehearse rows
+    else desk_line_at name rows)))))

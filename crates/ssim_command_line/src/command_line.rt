@@ -3,7 +3,8 @@ ghost use Rattle.std.specs.Prelude.{◌≡◌, IfErr, IfOk, MatchResult, Option,
 ghost use Rattle.clap.specs.Words.{all_of, app_of, first_of, found_of, rows_of};
 ghost use Rattle.ssim_command_line.specs.Commands.{whole_program};
 ghost use Rattle.ssim_command_line.specs.Line.{Line, Spells, Take, Withdraw};
-ghost use Rattle.ssim_command_line.specs.Request.{line_at, line_of, three_of, two_and_texts_of};
+ghost use Rattle.ssim_command_line.specs.Request.{desk_line_at, line_at, line_of, three_of, two_and_texts_of};
+ghost use Rattle.ssim_command_line.specs.Request.{view_at, whole_view_at};
 ghost use Rattle.ssim_command_line.specs.Request.{form_of, is_given, two_of, with_flights, with_form};
 ghost use Rattle.ssim_command_line.specs.Request.{with_refused, with_texts};
 ghost use Rattle.ssim_command_line.specs.Usage.{IsFaultOf, Names};
@@ -239,9 +240,27 @@ fn read<'a>(
     if name == "tidy" {
         return Ok(one(inner).map(Request::Tidy));
     }
+    if name == "explain" {
+        return Ok(one(inner).map(Request::Explain));
+    }
     if name == "start" {
         return Ok(three(inner).map(|(a, b, c)| Request::Start(a, b, c)));
     }
+    if name == "rehearse" {
+        return Ok(three(inner).map(|(a, b, c)| Request::Rehearse(a, b, c)));
+    }
+    on_desk(alloc, name, inner)
+}
+
+/// The request on a desk, or one that looks at a desk or a timetable.
+fn on_desk<'a>(
+    alloc: Global,
+    name: &str,
+    inner: &ArgMatches<'a>,
+) -> Result<Option<Request<'a>>, AllocError>
+    ensures { IfOk result
+        (λ r. option_map line_of r ≡ desk_line_at name.now (rows_of (found_of inner.now))) }
+{
     if name == "take" {
         return taking(alloc, inner);
     }
@@ -251,12 +270,48 @@ fn read<'a>(
     if name == "merge" {
         return Ok(three(inner).map(|(a, b, c)| Request::Merge(a, b, c)));
     }
-    if name == "texts" {
-        return showing_texts(alloc, inner);
-    }
     if name == "withdraw" {
         return withdrawing(alloc, inner);
     }
+    if name == "export" {
+        return Ok(one(inner).map(Request::Export));
+    }
+    whole_view(alloc, name, inner)
+}
+
+/// The request that looks at all that a desk or a timetable has, or at dates or flights.
+fn whole_view<'a>(
+    alloc: Global,
+    name: &str,
+    inner: &ArgMatches<'a>,
+) -> Result<Option<Request<'a>>, AllocError>
+    ensures { IfOk result
+        (λ r. option_map line_of r ≡ whole_view_at name.now (rows_of (found_of inner.now))) }
+{
+    if name == "page" {
+        return Ok(one(inner).map(Request::Page));
+    }
+    if name == "diff" {
+        return Ok(two(inner).map(|(a, b)| Request::Diff(a, b)));
+    }
+    if name == "texts" {
+        return showing_texts(alloc, inner);
+    }
+    if name == "findings" {
+        return Ok(one(inner).map(Request::Findings));
+    }
+    view(alloc, name, inner)
+}
+
+/// The request that looks at dates or flights.
+fn view<'a>(
+    alloc: Global,
+    name: &str,
+    inner: &ArgMatches<'a>,
+) -> Result<Option<Request<'a>>, AllocError>
+    ensures { IfOk result
+        (λ r. option_map line_of r ≡ view_at name.now (rows_of (found_of inner.now))) }
+{
     if name == "show" {
         return Ok(three(inner).map(|(a, b, c)| Request::Show(a, b, c)));
     }
@@ -271,24 +326,6 @@ fn read<'a>(
     }
     if name == "calendar" {
         return Ok(two(inner).map(|(a, b)| Request::Calendar(a, b)));
-    }
-    if name == "page" {
-        return Ok(one(inner).map(Request::Page));
-    }
-    if name == "diff" {
-        return Ok(two(inner).map(|(a, b)| Request::Diff(a, b)));
-    }
-    if name == "findings" {
-        return Ok(one(inner).map(Request::Findings));
-    }
-    if name == "export" {
-        return Ok(one(inner).map(Request::Export));
-    }
-    if name == "rehearse" {
-        return Ok(three(inner).map(|(a, b, c)| Request::Rehearse(a, b, c)));
-    }
-    if name == "explain" {
-        return Ok(one(inner).map(Request::Explain));
     }
     Ok(None)
 }

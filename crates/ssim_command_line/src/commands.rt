@@ -1,6 +1,6 @@
 //! The commands as `clap` sees them.
 ghost use Rattle.std.specs.Prelude.{◌≡◌, IfOk, codes, false};
-ghost use Rattle.clap.specs.Words.{app_of, rule_of};
+ghost use Rattle.clap.specs.Words.{Shape, app_of, rule_of, with_subcommand};
 ghost use Rattle.ssim_command_line.specs.Commands.{add_all, any_texts, beginnings, explanations, flag, leaf};
 ghost use Rattle.ssim_command_line.specs.Commands.{needed, of_desks, on_data_sets, on_dates, on_desks};
 ghost use Rattle.ssim_command_line.specs.Commands.{of_timetables, on_messages, on_timetables, one_value};
@@ -99,8 +99,7 @@ fn with_two<'a>(
     ensures { IfOk result (IsLeaf (leaf name.entry.now two_values)) }
 {
     let [first, second] = shown;
-    let command = Command::new(alloc, name).about(about).after_help(example);
-    let command = command.arg(value(alloc, "first", first))?;
+    let command = with_one(alloc, name, about, example, first)?;
     command.arg(value(alloc, "second", second))
 }
 
@@ -115,9 +114,7 @@ fn with_three<'a>(
     ensures { IfOk result (IsLeaf (leaf name.entry.now three_values)) }
 {
     let [first, second, third] = shown;
-    let command = Command::new(alloc, name).about(about).after_help(example);
-    let command = command.arg(value(alloc, "first", first))?;
-    let command = command.arg(value(alloc, "second", second))?;
+    let command = with_two(alloc, name, about, example, [first, second])?;
     command.arg(value(alloc, "third", third))
 }
 
@@ -131,9 +128,7 @@ fn with_texts<'a>(
 ) -> Result<Command<'a>, AllocError>
     ensures { IfOk result (IsLeaf (leaf name.entry.now two_values_and_texts)) }
 {
-    let command = Command::new(alloc, name).about(about).after_help(example);
-    let command = command.arg(value(alloc, "first", "DESK"))?;
-    let command = command.arg(value(alloc, "second", "OUT"))?;
+    let command = with_two(alloc, name, about, example, ["DESK", "OUT"])?;
     command.arg(texts(alloc, shown))
 }
 
@@ -157,8 +152,7 @@ fn with_flights<'a>(
 ) -> Result<Command<'a>, AllocError>
     ensures { IfOk result (IsLeaf (leaf name.entry.now one_value_and_texts)) }
 {
-    let command = Command::new(alloc, name).about(about).after_help(example);
-    let command = command.arg(value(alloc, "first", first))?;
+    let command = with_one(alloc, name, about, example, first)?;
     command.arg(any_texts(alloc, "FLIGHT"))
 }
 
@@ -171,18 +165,28 @@ fn list<'a>(alloc: Global) -> Result<Command<'a>, AllocError>
     command.arg(flag(alloc, "dates", help::DATES))
 }
 
+/// The program with one more command, if there was memory for it.
+fn with<'a>(
+    program: Command<'a>,
+    command: Result<Command<'a>, AllocError>,
+) -> Result<Command<'a>, AllocError>
+    ensures { (shape : Shape) → IfOk command.entry (IsLeaf shape)
+        → IfOk result (λ c. app_of c ≡ with_subcommand (app_of program.entry) shape) }
+{
+    program.subcommand(command?)
+}
+
 /// The commands on data sets.
 fn with_data_sets<'a>(alloc: Global, program: Command<'a>) -> Result<Command<'a>, AllocError>
     ensures { IfOk result (λ c. app_of c ≡ add_all (app_of program.entry) on_data_sets) }
 {
-    let check = with_one(alloc, "check", help::CHECK, help::CHECK_EXAMPLE, "DATASET")?;
+    let check = with_one(alloc, "check", help::CHECK, help::CHECK_EXAMPLE, "DATASET");
+    let program = with(program, check)?;
     let about = help::PROBLEMS;
-    let problems = with_one(alloc, "problems", about, help::PROBLEMS_EXAMPLE, "DATASET")?;
-    let tidy = with_one(alloc, "tidy", help::TIDY, help::TIDY_EXAMPLE, "DATASET")?;
-    program
-        .subcommand(check)?
-        .subcommand(problems)?
-        .subcommand(tidy)
+    let problems = with_one(alloc, "problems", about, help::PROBLEMS_EXAMPLE, "DATASET");
+    let program = with(program, problems)?;
+    let tidy = with_one(alloc, "tidy", help::TIDY, help::TIDY_EXAMPLE, "DATASET");
+    with(program, tidy)
 }
 
 /// The command that makes a desk.
@@ -190,38 +194,32 @@ fn with_beginnings<'a>(alloc: Global, program: Command<'a>) -> Result<Command<'a
     ensures { IfOk result (λ c. app_of c ≡ add_all (app_of program.entry) beginnings) }
 {
     let shown = ["DATASET", "STATIONS", "OUT"];
-    let start = with_three(alloc, "start", help::START, help::START_EXAMPLE, shown)?;
-    program.subcommand(start)
+    let start = with_three(alloc, "start", help::START, help::START_EXAMPLE, shown);
+    with(program, start)
 }
 
 /// The commands that change a desk.
 fn with_desks<'a>(alloc: Global, program: Command<'a>) -> Result<Command<'a>, AllocError>
     ensures { IfOk result (λ c. app_of c ≡ add_all (app_of program.entry) on_desks) }
 {
-    let take = with_texts(alloc, "take", help::TAKE, help::TAKE_EXAMPLE, "TEXT")?;
+    let take = with_texts(alloc, "take", help::TAKE, help::TAKE_EXAMPLE, "TEXT");
+    let program = with(program, take)?;
+    let program = with(program, receive(alloc))?;
     let shown = ["DESK", "OTHER", "OUT"];
-    let merge = with_three(alloc, "merge", help::MERGE, help::MERGE_EXAMPLE, shown)?;
-    let receive = receive(alloc)?;
-    program
-        .subcommand(take)?
-        .subcommand(receive)?
-        .subcommand(merge)
+    let merge = with_three(alloc, "merge", help::MERGE, help::MERGE_EXAMPLE, shown);
+    with(program, merge)
 }
 
 /// The commands on the messages that a desk holds.
 fn with_messages<'a>(alloc: Global, program: Command<'a>) -> Result<Command<'a>, AllocError>
     ensures { IfOk result (λ c. app_of c ≡ add_all (app_of program.entry) on_messages) }
 {
-    let texts = with_flights(alloc, "texts", help::TEXTS, help::TEXTS_EXAMPLE, "DESK")?;
+    let texts = with_flights(alloc, "texts", help::TEXTS, help::TEXTS_EXAMPLE, "DESK");
+    let program = with(program, texts)?;
     let about = help::WITHDRAW;
-    let withdraw = with_texts(
-        alloc,
-        "withdraw",
-        about,
-        help::WITHDRAW_EXAMPLE,
-        "REFERENCE",
-    )?;
-    program.subcommand(texts)?.subcommand(withdraw)
+    let example = help::WITHDRAW_EXAMPLE;
+    let withdraw = with_texts(alloc, "withdraw", about, example, "REFERENCE");
+    with(program, withdraw)
 }
 
 /// The commands that print a flight of a desk on a date.
@@ -229,26 +227,25 @@ fn with_dates<'a>(alloc: Global, program: Command<'a>) -> Result<Command<'a>, Al
     ensures { IfOk result (λ c. app_of c ≡ add_all (app_of program.entry) on_dates) }
 {
     let shown = ["DESK", "FLIGHT", "DATE"];
-    let show = with_three(alloc, "show", help::SHOW, help::SHOW_EXAMPLE, shown)?;
+    let show = with_three(alloc, "show", help::SHOW, help::SHOW_EXAMPLE, shown);
+    let program = with(program, show)?;
     let about = help::HISTORY;
-    let history = with_three(alloc, "history", about, help::HISTORY_EXAMPLE, shown)?;
-    program.subcommand(show)?.subcommand(history)
+    let history = with_three(alloc, "history", about, help::HISTORY_EXAMPLE, shown);
+    with(program, history)
 }
 
 /// The commands that print flights of the timetable of a desk or a data set.
 fn with_timetables<'a>(alloc: Global, program: Command<'a>) -> Result<Command<'a>, AllocError>
     ensures { IfOk result (λ c. app_of c ≡ add_all (app_of program.entry) on_timetables) }
 {
+    let program = with(program, list(alloc))?;
     let shown = ["FILE", "STATION", "DATE"];
-    let board = with_three(alloc, "board", help::BOARD, help::BOARD_EXAMPLE, shown)?;
-    let list = list(alloc)?;
+    let board = with_three(alloc, "board", help::BOARD, help::BOARD_EXAMPLE, shown);
+    let program = with(program, board)?;
     let about = help::CALENDAR;
     let shown = ["FILE", "FLIGHT"];
-    let calendar = with_two(alloc, "calendar", about, help::CALENDAR_EXAMPLE, shown)?;
-    program
-        .subcommand(list)?
-        .subcommand(board)?
-        .subcommand(calendar)
+    let calendar = with_two(alloc, "calendar", about, help::CALENDAR_EXAMPLE, shown);
+    with(program, calendar)
 }
 
 /// The commands that print how two timetables differ, or the page of one.
@@ -256,24 +253,21 @@ fn with_whole_timetables<'a>(alloc: Global, program: Command<'a>) -> Result<Comm
     ensures { IfOk result (λ c. app_of c ≡ add_all (app_of program.entry) of_timetables) }
 {
     let shown = ["FROM", "TO"];
-    let diff = with_two(alloc, "diff", help::DIFF, help::DIFF_EXAMPLE, shown)?;
-    let page = with_one(alloc, "page", help::PAGE, help::PAGE_EXAMPLE, "FILE")?;
-    program.subcommand(diff)?.subcommand(page)
+    let diff = with_two(alloc, "diff", help::DIFF, help::DIFF_EXAMPLE, shown);
+    let program = with(program, diff)?;
+    let page = with_one(alloc, "page", help::PAGE, help::PAGE_EXAMPLE, "FILE");
+    with(program, page)
 }
 
 /// The commands that print what a desk has.
 fn with_prints<'a>(alloc: Global, program: Command<'a>) -> Result<Command<'a>, AllocError>
     ensures { IfOk result (λ c. app_of c ≡ add_all (app_of program.entry) of_desks) }
 {
-    let findings = with_one(
-        alloc,
-        "findings",
-        help::FINDINGS,
-        help::FINDINGS_EXAMPLE,
-        "DESK",
-    )?;
-    let export = with_one(alloc, "export", help::EXPORT, help::EXPORT_EXAMPLE, "DESK")?;
-    program.subcommand(findings)?.subcommand(export)
+    let about = help::FINDINGS;
+    let findings = with_one(alloc, "findings", about, help::FINDINGS_EXAMPLE, "DESK");
+    let program = with(program, findings)?;
+    let export = with_one(alloc, "export", help::EXPORT, help::EXPORT_EXAMPLE, "DESK");
+    with(program, export)
 }
 
 /// The rehearsal.
@@ -282,8 +276,8 @@ fn with_rehearsal<'a>(alloc: Global, program: Command<'a>) -> Result<Command<'a>
 {
     let shown = ["DATASET", "STATIONS", "SCRIPT"];
     let about = help::REHEARSE;
-    let rehearse = with_three(alloc, "rehearse", about, help::REHEARSE_EXAMPLE, shown)?;
-    program.subcommand(rehearse)
+    let rehearse = with_three(alloc, "rehearse", about, help::REHEARSE_EXAMPLE, shown);
+    with(program, rehearse)
 }
 
 /// The command that explains refusals.
@@ -291,8 +285,8 @@ fn with_explanations<'a>(alloc: Global, program: Command<'a>) -> Result<Command<
     ensures { IfOk result (λ c. app_of c ≡ add_all (app_of program.entry) explanations) }
 {
     let about = help::EXPLAIN;
-    let explain = with_one(alloc, "explain", about, help::EXPLAIN_EXAMPLE, "WORD")?;
-    program.subcommand(explain)
+    let explain = with_one(alloc, "explain", about, help::EXPLAIN_EXAMPLE, "WORD");
+    with(program, explain)
 }
 
 /// The program with its commands.
