@@ -24,6 +24,7 @@ import tempfile
 import time
 
 from edits import TOP, groups_of
+from prover import Prover
 
 PARTS = ("src", "specs", "proofs")
 
@@ -41,59 +42,27 @@ UNFIT = re.compile(r"is not in scope|has no field|has no `|was not admitted|is n
 ENDED = re.compile(r"^\d+ passed, \d+ failed", re.MULTILINE)
 
 
-class Crates:
-    """The crates of the repository, and the command that checks functions of one. `log` is what `rt ci` prints, if it runs."""
+class Log:
+    """What `rt ci` prints to a file, if it runs."""
 
-    def __init__(self, log):
-        self.log = log
-        page = subprocess.run(["rt", "doc"], stdout=subprocess.PIPE, text=True, check=True).stdout.strip()
-        self.kit = os.path.dirname(page)
-        self.uses = {}
-        with open(os.path.join(TOP, "crates.txt"), encoding="utf-8") as file:
-            for line in file:
-                name, found, words = line.partition("#")[0].partition(":")
-                if found:
-                    self.uses[name.split()[0]] = words.split()
-
-    def below(self, crate):
-        """The crates of the repository that a crate uses, and those that these use."""
-        found = {}
-        for name in self.uses[crate]:
-            if name in self.uses:
-                found.update({name: None, **dict.fromkeys(self.below(name))})
-        return list(found)
+    def __init__(self, path):
+        self.path = path
 
     def said(self):
-        """What `rt ci` has printed so far, if it runs."""
-        if not self.log:
+        """What it has printed so far."""
+        if not self.path:
             return ""
-        with open(self.log, encoding="utf-8", errors="replace") as file:
+        with open(self.path, encoding="utf-8", errors="replace") as file:
             return file.read()
 
-    def are_proved(self, names):
-        """Whether `rt ci` says that these crates are proved, if it runs."""
+    def are_proved(self, crates):
+        """Whether it says that these crates are proved, if it runs."""
         said = self.said()
-        return not self.log or all(re.search(rf"^rt: {name} (proved|is kept)", said, re.MULTILINE) for name in names)
+        return not self.path or all(re.search(rf"^rt: {name} (proved|is kept)", said, re.MULTILINE) for name in crates)
 
     def has_ended(self):
-        """Whether `rt ci` has printed its last line."""
-        return bool(ENDED.search(self.said()))
-
-    def checked(self, crate, folder, functions):
-        """What a check of some functions of a crate's copy prints, and its status."""
-        rlib = {name: f"{TOP}/crates/{name}/out/rlib" for name in self.below(crate)}
-        words = [f"{self.kit}/bin/rattle", "check", "--crate-name", crate, "src/lib.rt"]
-        for name in ["std", *self.uses[crate]]:
-            words += ["--extern", f"{name}={rlib[name] if name in rlib else self.kit + '/rlibs'}/{name}.rlib"]
-        for place in [f"{self.kit}/rlibs", *rlib.values()]:
-            words += ["-L", f"dependency={place}"]
-        words += ["--antt-project", f"{self.kit}/rattle/logic/antt-project.json", "--logic-built", f"{self.kit}/logic_built"]
-        words += ["--jobs", "1"]
-        for function in functions:
-            words += ["--only", function]
-        done = subprocess.run(words, cwd=folder, stdin=subprocess.DEVNULL, stdout=subprocess.PIPE, stderr=subprocess.STDOUT,
-                              errors="replace", check=False)
-        return done.stdout, done.returncode
+        """Whether it has printed its last line, or does not run."""
+        return not self.path or bool(ENDED.search(self.said()))
 
 
 def copied(crate, folder):
@@ -123,8 +92,8 @@ def refused_among(functions, said):
 class Tries:
     """The tries of wrong bodies of a crate."""
 
-    def __init__(self, crates, crate):
-        self.crates, self.crate = crates, crate
+    def __init__(self, prover, crate):
+        self.prover, self.crate = prover, crate
 
     def tried(self, group):
         """What a check of a copy with some wrong bodies prints, and its status; or what is wrong with one of them, and None."""
@@ -134,7 +103,12 @@ class Tries:
                 wrong = edit.apply(folder)
                 if wrong:
                     return wrong, None
-            return self.crates.checked(self.crate, folder, functions_of(group))
+            command = [*self.prover.command(self.crate), "--jobs", "1"]
+            for name in functions_of(group):
+                command += ["--only", name]
+            done = subprocess.run(command, cwd=folder, stdin=subprocess.DEVNULL, stdout=subprocess.PIPE, stderr=subprocess.STDOUT,
+                                  errors="replace", check=False)
+            return done.stdout, done.returncode
 
     def why_not_refused(self, edit):
         """Why a wrong body that is tried alone is not refused for its meaning; or None."""
@@ -155,29 +129,30 @@ class Tries:
         return [None if refused.issuperset(edit.functions) else self.why_not_refused(edit) for edit in group]
 
 
-def verdicts(crates, found):
-    """For each crate, and each of its wrong bodies: None, or why it fails. A crate's turn comes once those below it are proved."""
-    left, tried, ended = list(found), [], False
+def verdicts(prover, log, crates):
+    """For each wrong body of these crates, and each of these crates: None, or why it fails. A crate's turn comes once those below it
+    are proved."""
+    left, tried, ended = list(crates), [], False
     with concurrent.futures.ThreadPoolExecutor(AT_ONCE) as pool:
         while left and not ended:
-            ended = crates.has_ended()
-            for crate in [it for it in left if crates.are_proved(crates.below(it))]:
+            ended = log.has_ended()
+            for crate in [it for it in left if log.are_proved(prover.below(it))]:
                 left.remove(crate)
-                tried += [pool.submit(Tries(crates, crate).why_not_all_refused, group) for group in groups_of(crate)]
+                tried += [pool.submit(Tries(prover, crate).why_not_all_refused, group) for group in groups_of(crate)]
             time.sleep(1)
     results = [f"{crate}: a library below it is not proved" for crate in left]
     for it in tried:
         results += it.result()
-    while not crates.has_ended() and crates.log:
+    while not log.has_ended():
         time.sleep(1)
-    return results + [None if crates.are_proved([crate]) else f"{crate}: as it is, it is not proved" for crate in found]
+    return results + [None if log.are_proved([crate]) else f"{crate}: as it is, it is not proved" for crate in crates]
 
 
 def main(names):
-    log = names[1] if names[:1] == ["--beside"] else None
-    names = names[2:] if log else names
-    crates = Crates(log)
-    results = verdicts(crates, [crate for crate in names or crates.uses if groups_of(crate)])
+    log = Log(names[1] if names[:1] == ["--beside"] else None)
+    names = names[2:] if log.path else names
+    prover = Prover()
+    results = verdicts(prover, log, [crate for crate in names or prover.uses if groups_of(crate)])
     failed = [why for why in results if why]
     for why in failed:
         print(f"wrong bodies: {why}", flush=True)
