@@ -14,7 +14,7 @@ use Rattle.ssim_held.specs.Held.{DeskState, HasReference, Holds, IsDesk, no_desk
 use Rattle.ssim_held.proofs.References.{reference_apart, reference_total}
 use Rattle.ssim_desk.specs.Agreement.{AnyTwoDesksAgree, AreAgreed, BeganAlike, BeganFrom, Run, SameMessagesSameDesk}
 use Rattle.ssim_desk.specs.Meaning.{Exports, Means, Timetable}
-use Rattle.ssim_desk.specs.Reach.{Brings, by_text, from_start, from_step}
+use Rattle.ssim_desk.specs.Deliveries.{Brings, by_text, from_start, from_step}
 use Rattle.ssim_desk.specs.Steps.{MergesOne, desk_at}
 use Rattle.ssim_desk.specs.declared.steps.Answer.TheVariants.{Merged}
 use Rattle.ssim_desk.proofs.Meanings.{has_export, has_meaning, has_one_export, has_one_meaning}

@@ -14,7 +14,7 @@ use Rattle.ssim_text.specs.declared.reference.Reference.{Reference}
 use Rattle.ssim_held.specs.Held.{DeskState, HeldMessages, Holds, Says}
 use Rattle.ssim_held.specs.declared.fault.DeskFault.TheVariants.{Memory, Text, Resolve, Conflict, OtherBase, Read, File}
 use Rattle.ssim_desk.specs.Agreement.{AreApart, IsThere, NoConflict, OfferedIsReached}
-use Rattle.ssim_desk.specs.Reach.{Brings, by_text, from_start, from_step, is_accepted}
+use Rattle.ssim_desk.specs.Deliveries.{Brings, by_text, from_start, from_step, is_accepted}
 use Rattle.ssim_desk.specs.Steps.{Acts, IsInRange, IsUnspelt, MergesOne, Takes, desk_at}
 use Rattle.ssim_desk.specs.declared.steps.Answer.{Answer}
 use Rattle.ssim_desk.specs.declared.steps.Answer.TheVariants.{Taken, Repeated, Merged, Refused}

@@ -8,7 +8,7 @@ use Rattle.ssim_text.specs.Grammar.{OneMessage}
 use Rattle.ssim_text.specs.Message.{MessageValue}
 use Rattle.ssim_text.specs.declared.reference.Reference.{Reference}
 use Rattle.ssim_held.specs.Held.{DeskState}
-use Rattle.ssim_desk.specs.Reach.{Brings, HoldsWhatReached, IsStep, Reached, by_text, from_start, from_step, is_accepted}
+use Rattle.ssim_desk.specs.Deliveries.{Brings, HoldsWhatReached, IsStep, Reached, by_text, from_start, from_step, is_accepted}
 use Rattle.ssim_desk.specs.Steps.{Acts, IsInRange, Runs}
 use Rattle.ssim_desk.specs.declared.steps.Answer.{Answer}
 use Rattle.ssim_desk.specs.declared.steps.Answer.TheVariants.{Merged}

@@ -8,7 +8,7 @@ use Rattle.ssim_text.specs.Grammar.{OneMessage}
 use Rattle.ssim_text.specs.Message.{MessageValue}
 use Rattle.ssim_text.specs.declared.reference.Reference.{Reference}
 use Rattle.ssim_held.specs.Held.{DeskState, HeldMessages, Holds, Says, no_desk}
-use Rattle.ssim_desk.specs.Reach.{is_accepted}
+use Rattle.ssim_desk.specs.Deliveries.{is_accepted}
 use Rattle.ssim_desk.specs.Steps.{Acts, IsInRange, MergesOne, TakesAt, desk_at, with_held}
 use Rattle.ssim_desk.specs.declared.steps.Answer.{Answer}
 use Rattle.ssim_desk.specs.declared.steps.Answer.TheVariants.{Merged}

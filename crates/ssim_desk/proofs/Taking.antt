@@ -14,7 +14,7 @@ use Rattle.ssim_held.specs.Held.{DeskState, HeldMessages, Says, reference_cmp}
 use Rattle.ssim_held.proofs.MapLemmas.{get-union, or_else}
 use Rattle.ssim_held.proofs.References.{reference_apart, reference_total}
 use Rattle.ssim_held.proofs.Resolving.{one_reference}
-use Rattle.ssim_desk.specs.Reach.{is_accepted}
+use Rattle.ssim_desk.specs.Deliveries.{is_accepted}
 use Rattle.ssim_desk.specs.Steps.{Merges, Takes}
 use Rattle.ssim_desk.specs.declared.steps.Answer.{Answer}
 use Rattle.ssim_desk.specs.declared.steps.Answer.TheVariants.{Taken, Repeated, Merged, Refused}

@@ -12,7 +12,7 @@ use Rattle.ssim_text.specs.{Message.MessageValue, declared.reference.Reference.R
 use Rattle.ssim_held.specs.Held.{DeskState, Holds, IsDesk}
 use Rattle.ssim_held.specs.declared.fault.DeskFault.TheVariants.{Memory, Conflict}
 use Rattle.ssim_desk.specs.Meaning.{Exports, Means, Timetable}
-use Rattle.ssim_desk.specs.Reach.{IsStep, Reached, SaysTo}
+use Rattle.ssim_desk.specs.Deliveries.{IsStep, Reached, SaysTo}
 use Rattle.ssim_desk.specs.Steps.{IsInRange, Runs, desk_at}
 use Rattle.ssim_desk.specs.declared.steps.Answer.{Answer}
 use Rattle.ssim_desk.specs.declared.steps.Answer.TheVariants.{Refused}

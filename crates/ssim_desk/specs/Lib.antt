@@ -1,7 +1,7 @@
 pub mod Meaning
 pub mod Steps
 pub mod Merging
-pub mod Reach
+pub mod Deliveries
 pub mod Agreement
 pub mod Desk
 pub mod internal

@@ -5,7 +5,7 @@ ghost use Rattle.ssim_desk.specs.Agreement.{SameMessagesSameDesk};
 ghost use Rattle.ssim_desk.specs.Meaning.{HasExport, HasMeaning, HasOneExport, HasOneMeaning};
 ghost use Rattle.ssim_desk.specs.Merging.{MergesAreDetermined, MergesAssociate, MergesCommute};
 ghost use Rattle.ssim_desk.specs.Merging.{MergesRepeat, TakesAreDetermined, ThreeDesksMerge};
-ghost use Rattle.ssim_desk.specs.Reach.{HoldsWhatReached};
+ghost use Rattle.ssim_desk.specs.Deliveries.{HoldsWhatReached};
 // The worked examples, which are computed: a false one is an error in this file.
 ghost use Rattle.ssim_desk.specs.examples.Desks;
 

@@ -18,7 +18,7 @@
 //!
 //! What a desk holds, the position of a message in it, and the desk file are in the crate
 //! `ssim_held`, whose definitions these contracts cite, too. The other definitions are in `specs/`:
-//! `Meaning` (what each flight has on each date), `Steps` (what texts and merges do), `Reach`
+//! `Meaning` (what each flight has on each date), `Steps` (what texts and merges do), `Deliveries`
 //! (which messages reach which desks), `Agreement` and `Merging` (the laws) and `Desk` (what the
 //! calls of a desk return). Those in `specs/internal/` are cited by private functions alone.
 //! Computed examples are in `specs/examples/`.

@@ -14,7 +14,7 @@ use Rattle.ssim_held.specs.Entries.{DeskSeen, map_of, state_of}
 use Rattle.ssim_held.specs.Held.{Says}
 use Rattle.ssim_desk.proofs.Taking.{take_holds}
 use Rattle.ssim_desk.specs.Desk.{take_answer}
-use Rattle.ssim_desk.specs.Reach.{is_accepted}
+use Rattle.ssim_desk.specs.Deliveries.{is_accepted}
 use Rattle.ssim_desk.specs.declared.desk.Took.{Took}
 use Rattle.ssim_desk.specs.declared.desk.Took.TheVariants as took
 use Rattle.ssim_command_line.specs.Line.{Text}

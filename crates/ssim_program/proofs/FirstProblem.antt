@@ -21,7 +21,7 @@ use Rattle.ssim_base.specs.declared.fault.BaseRefusal.TheVariants as refused
 use Rattle.ssim_base.specs.declared.note.Note.{Note}
 use Rattle.ssim_base.specs.declared.problems.Problems.{Problems}
 use Rattle.ssim_program.specs.Made.{IsOfBytes, ReadsFile, file_limit}
-use Rattle.ssim_program.specs.Problems.{RefusalIsFirstProblem}
+use Rattle.ssim_program.specs.FirstProblem.{RefusalIsFirstProblem}
 use Rattle.ssim_program.proofs.Origins.{same_some}
 
 -- ---- blocks that begin with `5`

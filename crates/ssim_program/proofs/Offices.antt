@@ -17,7 +17,7 @@ use Rattle.ssim_held.specs.Held.{DeskState, HeldMessages, Says}
 use Rattle.ssim_desk.proofs.Agreeing.{same_desk}
 use Rattle.ssim_desk.proofs.Taking.{merge_holds, take_holds}
 use Rattle.ssim_desk.specs.Desk.{take_answer}
-use Rattle.ssim_desk.specs.Reach.{is_accepted}
+use Rattle.ssim_desk.specs.Deliveries.{is_accepted}
 use Rattle.ssim_desk.specs.declared.steps.Answer.TheVariants.{Merged}
 use Rattle.ssim_command_line.specs.Line.{Text}
 use Rattle.ssim_program.specs.Desks.{ReadsDesk, TakesText, TakesTexts}

@@ -30,7 +30,7 @@ use Rattle.ssim_held.specs.File.{CanBeSaved, IsRow, IsSpelled, counted, desk_fil
 use Rattle.ssim_held.specs.Held.{DeskState, HasReference, HeldMessages, Says, reference_cmp}
 use Rattle.ssim_desk.proofs.HeldEntries.{each_entry}
 use Rattle.ssim_desk.proofs.Taking.{merge_holds, take_holds}
-use Rattle.ssim_desk.specs.Reach.{is_accepted}
+use Rattle.ssim_desk.specs.Deliveries.{is_accepted}
 use Rattle.ssim_desk.specs.Steps.{Merges, Takes}
 use Rattle.ssim_desk.specs.declared.steps.Answer.{Answer}
 use Rattle.ssim_desk.specs.declared.steps.Answer.TheVariants.{Merged}

@@ -8,7 +8,7 @@ pub mod Calendars
 pub mod Pages
 pub mod Differences
 pub mod Messages
-pub mod Problems
+pub mod FirstProblem
 pub mod Withdrawing
 pub mod Receiving
 pub mod Effects

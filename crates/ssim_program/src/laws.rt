@@ -6,7 +6,7 @@ ghost use Rattle.ssim_command_line.specs.Line.{Texts, Withdraw, Listing, Problem
 ghost use Rattle.ssim_command_line.specs.declared.command_line.ListForm.{ListForm};
 ghost use Rattle.ssim_program.specs.Again.{TidiesOnce};
 ghost use Rattle.ssim_program.specs.Offices.{HoldsWhatWasBrought, OfficesAgree, PrintsTheSame};
-ghost use Rattle.ssim_program.specs.Problems.{RefusalIsFirstProblem};
+ghost use Rattle.ssim_program.specs.FirstProblem.{RefusalIsFirstProblem};
 ghost use Rattle.ssim_program.specs.rehearse.Verdict.{EndsWithSame};
 // The worked examples, which are computed: a false one is an error in this file.
 ghost use Rattle.ssim_program.specs.examples.Histories;

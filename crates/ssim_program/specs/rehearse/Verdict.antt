@@ -5,7 +5,7 @@ use Rattle.ssim_schedule.specs.declared.export.ExportFault.TheVariants as export
 use Rattle.ssim_text.specs.Message.{MessageValue}
 use Rattle.ssim_text.specs.declared.reference.Reference.{Reference}
 use Rattle.ssim_held.specs.Held.{DeskState}
-use Rattle.ssim_desk.specs.Reach.{Reached}
+use Rattle.ssim_desk.specs.Deliveries.{Reached}
 use Rattle.ssim_desk.specs.declared.steps.Answer.{Answer}
 use Rattle.ssim_desk.specs.declared.steps.Step.{Step}
 use Rattle.ssim_command_line.specs.Line.{Text}
