@@ -124,7 +124,7 @@ equipment_reads e h = equipment_again e h.line h.spells (a_line h.line h.is_line
 leg_reads : (line : LegLine) → IsLegLine line → ReadsAgain (LegPart line)
 leg_reads line h = leg_again line h.line h.spells
 
-segment_reads : (s : SegmentLine) → IsSpelled (SegmentPart s) → ReadsAgain (SegmentPart s)
+pub segment_reads : (s : SegmentLine) → IsSpelled (SegmentPart s) → ReadsAgain (SegmentPart s)
 segment_reads s h = segment_again s h.line h.spells (a_line h.line h.is_line)
 
 -- ---- no line is longer than 170 bytes
@@ -216,22 +216,22 @@ leg_short line h =
     (end_short line.departure (end_sound (word h.line) line.departure s.departure).station.long)
     (end_short line.arrival (end_sound (after_word h.line) line.arrival s.arrival).station.long)
 
-abbrev two : List ℕ → List ℕ → List ℕ × List ℕ
+abbrev pub two : List ℕ → List ℕ → List ℕ × List ℕ
 two board off = (board, off)
 
-station_three : (text station : List ℕ) → station_in text ≡ Some station → length station ≡ 3
-station_three text station h =
+station_valid : (text station : List ℕ) → station_in text ≡ Some station
+    → IsTrue (is_station station)
+station_valid text station h =
     let p = only_if (length text == 3) (if is_station text then Some text else None) station h in
     let q = only_if (is_station text) (Some text) station p.1 in
-    length_station station
-    (subst (λ (x : List ℕ). IsTrue (is_station x)) (some_same text station q.1) q.0)
+    subst (λ (x : List ℕ). IsTrue (is_station x)) (some_same text station q.1) q.0
 
-abbrev AreThree : List ℕ × List ℕ → Type 0
-AreThree points = (length points.0 ≡ 3) × (length points.1 ≡ 3)
+abbrev pub AreValid : List ℕ × List ℕ → Type 0
+AreValid points = IsTrue (is_station points.0) × IsTrue (is_station points.1)
 
-points_three : (text : List ℕ) (points : List ℕ × List ℕ) → points_of text ≡ Some points
-    → AreThree points
-points_three text points h =
+pub points_valid : (text : List ℕ) (points : List ℕ × List ℕ) → points_of text ≡ Some points
+    → AreValid points
+points_valid text points h =
     let p = only_else (bytes_eq text (codes "QQQQQQ"))
     (station_in (take 3 text) >>= λ b. station_in (drop 3 text) >>= λ o. Some (two b o))
     points h in
@@ -239,8 +239,8 @@ points_three text points h =
     (λ (b : List ℕ). station_in (drop 3 text) >>= λ o. Some (two b o)) points p.1 in
     let off = bound (station_in (drop 3 text)) (λ (o : List ℕ). Some (two board.0 o)) points
     board.2 in
-    subst AreThree (some_same (two board.0 off.0) points off.2)
-    (station_three (take 3 text) board.0 board.1, station_three (drop 3 text) off.0 off.1)
+    subst AreValid (some_same (two board.0 off.0) points off.2)
+    (station_valid (take 3 text) board.0 board.1, station_valid (drop 3 text) off.0 off.1)
 
 data_short : (text own : List ℕ) → segment_text_of text ≡ Some own → length own ≤ 155
 data_short [] own h = absurd (none_some own h)
@@ -274,9 +274,10 @@ line_short a b c d board off number text =
 segment_short : (s : SegmentLine) → IsSpelled (SegmentPart s) → IsShort (SegmentPart s)
 segment_short s h =
     let r = segment_sound h.line s h.spells in
-    let points = points_three (word h.line) (two s.board s.off) r.points in
+    let points = points_valid (word h.line) (two s.board s.off) r.points in
     let n = s.identifier in
-    line_short s.board s.off (short_digits n) s.text points.0 points.1
+    line_short s.board s.off (short_digits n) s.text (length_station s.board points.0)
+    (length_station s.off points.1)
     (digits_short (nat_lt n 10) (nat_lt n 100) (48 + n % 10) (48 + n / 10 % 10)
     (48 + n / 100 % 10)) (data_short (from 47 (after_word h.line)) s.text r.text)
 

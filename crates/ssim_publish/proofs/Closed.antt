@@ -12,7 +12,7 @@ use Rattle.ssim_text.specs.declared.action.NewLegs.{NewLegs}
 use Rattle.ssim_text.specs.declared.leg.LegLine.{LegLine}
 use Rattle.ssim_text.proofs.LegsAgain.{end_sound, leg_sound}
 use Rattle.ssim_base.specs.Stations.{Row}
-use Rattle.ssim_base.specs.Timetable.{LegValue, Legs}
+use Rattle.ssim_base.specs.Timetable.{Legs}
 use Rattle.ssim_schedule.specs.Acts.{after_on}
 use Rattle.ssim_schedule.specs.Effect.{cancel, create, equipped, new_legs, replace, retime}
 use Rattle.ssim_schedule.specs.Effect.{variation_on, with_line, with_lines}
@@ -22,12 +22,12 @@ use Rattle.ssim_publish.specs.Sayable.{IsSayable, IsWhole, equipped_by}
 use Rattle.ssim_publish.proofs.NewLegs.{HasStations, all_replaced, allowed_replaced, equipped_from}
 use Rattle.ssim_publish.proofs.NewLegs.{equipped_new, replaced_from, replaced_new}
 use Rattle.ssim_publish.proofs.OldLegs.{equip_is, equipped_lines, equipped_long, equipped_twice}
-use Rattle.ssim_publish.proofs.OldLegs.{lines_after, lines_long, retime_is}
+use Rattle.ssim_publish.proofs.OldLegs.{lines_after, retime_is}
 use Rattle.ssim_publish.proofs.Said.{CanAct, all_both, said_can_act}
 
 -- ---- a whole new itinerary
 
-line_stations : (line : LegLine) → IsLegLine line → HasStations line
+pub line_stations : (line : LegLine) → IsLegLine line → HasStations line
 line_stations line h =
     let leg = leg_sound h.line line h.spells in (
       (end_sound (word h.line) line.departure leg.departure).station.valid,
@@ -88,7 +88,7 @@ equipped_once : (e : EquipmentValue) (before : Option EquipmentValue) (old : Leg
 equipped_once e None old h = refl
 equipped_once e (Some f) old h = equipped_twice e f old h
 
-by_long : (e : Option EquipmentValue) (old : Legs) → HaveColumns old
+pub by_long : (e : Option EquipmentValue) (old : Legs) → HaveColumns old
     → HaveColumns (equipped_by e old)
 by_long None old h = h
 by_long (Some e) old h = equipped_long e old h

@@ -5,3 +5,11 @@ pub mod Said
 pub mod Closed
 pub mod ActionTexts
 pub mod Reached
+pub mod JoinedLines
+pub mod TextLines
+pub mod Retimed
+pub mod Tried
+pub mod SegmentTexts
+pub mod Grouped
+pub mod WholeTexts
+pub mod Found

@@ -2,14 +2,12 @@
 -- that the two act on their own columns in either order.
 use Rattle.std.proofs.Common.{◌≡◌, ◌⊎◌, ◌&&◌, ◌∙◌, ℕ, Bool, true, false, if◌then◌else◌}
 use Rattle.std.proofs.Common.{List, [], ◌∷◌, ◌++◌, map, length, bytes_eq, refl, sym, ap, inl, inr}
-use Rattle.std.specs.List.{AllByRecursion}
-use Rattle.ssim_columns.specs.Leg.{leg_columns}
 use Rattle.ssim_text.specs.Values.{EquipmentValue}
 use Rattle.ssim_text.specs.declared.leg.LegLine.{LegLine}
 use Rattle.ssim_base.specs.Timetable.{LegValue, Legs}
 use Rattle.ssim_schedule.specs.Effect.{equip, equipped, fits, have_legs, retime, retimed, with_line}
 use Rattle.ssim_schedule.specs.Effect.{with_lines}
-use Rattle.ssim_schedule.specs.MessageColumns.{equipment_of, times_of, with_equipment, with_times}
+use Rattle.ssim_schedule.specs.MessageColumns.{equipment_of, times_of}
 use Rattle.ssim_publish.specs.Sayable.{HaveColumns}
 use Rattle.ssim_publish.proofs.Columns.{arrival_equipped, departure_equipped, either_order}
 use Rattle.ssim_publish.proofs.Columns.{equipment_twice, length_equipment, length_times}
@@ -26,7 +24,7 @@ equipped_long e [] h = tt
 equipped_long e (leg ∷ legs) h =
     (length_equipment (equipment_of e) leg.columns h.0, equipped_long e legs h.1)
 
-line_long : (line : LegLine) (legs : Legs) → HaveColumns legs → HaveColumns (with_line line legs)
+pub line_long : (line : LegLine) (legs : Legs) → HaveColumns legs → HaveColumns (with_line line legs)
 line_long line [] h = tt
 line_long line (leg ∷ legs) h = by (fits line leg) (line_long line legs h.1)
   where

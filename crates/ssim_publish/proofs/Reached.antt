@@ -9,10 +9,10 @@ use Rattle.ssim_text.specs.declared.action.Action.{Action}
 use Rattle.ssim_text.specs.declared.action.Action.TheVariants.{New, Cnl, Eqt, Tim}
 use Rattle.ssim_text.specs.declared.leg.LegLine.{LegLine}
 use Rattle.ssim_base.specs.Stations.{Row}
-use Rattle.ssim_base.specs.Timetable.{LegValue, Legs}
+use Rattle.ssim_base.specs.Timetable.{Legs}
 use Rattle.ssim_schedule.specs.Effect.{create, equipped, fits, has_leg, new_legs, retime, retimed}
 use Rattle.ssim_schedule.specs.Effect.{variation_on, with_line, with_lines}
-use Rattle.ssim_publish.specs.Reach.{IsSaid, Leads, Reach, after_all}
+use Rattle.ssim_publish.specs.Reach.{IsSaid, Reach, after_all}
 use Rattle.ssim_publish.specs.Sayable.{ArePartsOf, IsEquipment, IsLegLine, IsSayable, IsWhole}
 use Rattle.ssim_publish.specs.Sayable.{MessagesReach, equipped_by}
 use Rattle.ssim_publish.proofs.ActionTexts.{said_if_allowed}

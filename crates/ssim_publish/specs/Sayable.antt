@@ -1,5 +1,6 @@
 -- The three kinds of itinerary that messages can make of an itinerary on one date: none, a whole
--- new one, and the old one with other equipment and other times.
+-- new one, and the old one with other equipment and other times. Messages make no others, and `say`
+-- returns actions for each of these.
 use Rattle.std.specs.Prelude.{◌≡◌, ◌⊎◌, ◌↔◌, ℕ, ◌≤◌, true, List, [], map, length, Option, Some}
 use Rattle.std.specs.Prelude.{None, IfSome}
 use Rattle.std.specs.List.{AllByRecursion, list_all}
@@ -10,7 +11,7 @@ use Rattle.ssim_text.specs.Values.{EquipmentValue}
 use Rattle.ssim_text.specs.declared.action.NewLegs.{NewLegs}
 use Rattle.ssim_text.specs.declared.leg.LegLine.{LegLine}
 use Rattle.ssim_base.specs.Stations.{Row}
-use Rattle.ssim_base.specs.Timetable.{LegValue, Legs}
+use Rattle.ssim_base.specs.Timetable.{Legs}
 use Rattle.ssim_schedule.specs.Effect.{equipped, new_legs, variation_on, with_lines}
 use Rattle.ssim_publish.specs.Reach.{Reach}
 
@@ -64,7 +65,7 @@ pub record ArePartsOf (old new : Legs) : Type 0 where
 abbrev pub IsSayable : List Row → ℕ → Legs → Legs → Type 0
 IsSayable rows day old new = (new ≡ []) ⊎ IsWhole rows day new ⊎ ArePartsOf old new
 
--- each leg has its 158 columns
+-- each leg has its 158 columns, as the legs of every `Itinerary` have
 abbrev pub HaveColumns : Legs → Type 0
 HaveColumns = AllByRecursion (λ leg. length leg.columns ≡ 158)
 

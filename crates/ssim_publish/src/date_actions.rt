@@ -2,24 +2,27 @@
 
 ghost use Rattle.std.specs.Prelude.{◌≡◌, [], IfOk, IfSome, IsSome};
 ghost use Rattle.std.specs.List.{AllByRecursion};
-ghost use Rattle.ssim_publish.specs.Reach.{IsSaid, Leads, after_all};
+ghost use Rattle.ssim_publish.specs.Reach.{Leads, Reach};
+ghost use Rattle.ssim_publish.specs.Sayable.{HaveColumns};
+ghost use Rattle.ssim_publish.specs.internal.Candidates.{AnyMakes};
 
-use crate::candidates::{cancellation, equipment, push_times, whole_legs};
+use crate::candidates::{Candidate, actions_of, cancellation};
 use crate::trial::do_lead;
 use ssim_base::StationRow;
 use ssim_periods::Value;
-use ssim_schedule::Itinerary;
+use ssim_schedule::{Itinerary, PlacedLeg};
 use ssim_text::Action;
 use ssim_values::{Day, Memory};
 use std::alloc::Global;
 
 /// The actions of sub-messages, in order, that make the new itinerary of a flight on a day of the
-/// old one, by these rows of a station table; none if no such actions were found.
+/// old one, by these rows of a station table; none if no sub-messages make it.
 ///
 /// Equal itineraries need no action. A flight that flies no more is cancelled (`CNL`), and one that
 /// did not fly is new (`NEW`). Otherwise it gets other times (`TIM`) or other equipment (`EQT`) if
 /// one of them is enough; otherwise it is replaced (`RPL`), or, if that would change more, gets
-/// both (`EQT`, `TIM`).
+/// both (`EQT`, `TIM`). Apart from equal itineraries and `CNL`, the actions are tried on the old
+/// itinerary before they are returned.
 pub fn say(
     alloc: Global,
     rows: &[StationRow],
@@ -30,88 +33,61 @@ pub fn say(
     ensures said { IfOk result
         (λ said. IfSome said (λ actions. Leads rows.now day actions.items old.now new.now)) }
 
-    // Equal itineraries need no action, and a flight can always be cancelled.
-    ensures same { old.now ≡ new.now → IfOk result (λ said. IsSome said) }
-    ensures cancels { new.now ≡ [] → IfOk result (λ said. IsSome said) }
+    // Actions are found if some list of sub-messages makes the new itinerary.
+    ensures finds { Reach rows.now day old.now new.now → IfOk result (λ said. IsSome said) }
 {
+    have_columns(old.legs());
     if old.same(new) {
         return Ok(Some(Vec::new(alloc)));
     }
     if new.is_empty() {
-        let actions = cancellation(alloc)?;
-        return if_they_lead(alloc, rows, day, actions, old, new);
+        return Ok(Some(cancellation(alloc)?));
     }
     if old.is_empty() {
-        let actions = whole_legs(alloc, b"NEW", new.legs())?;
-        return if_they_lead(alloc, rows, day, actions, old, new);
+        return first_that_leads(alloc, rows, day, &[Candidate::NewFlight], old, new);
     }
-    change(alloc, rows, day, old, new)
+    let candidates = [
+        Candidate::Times,
+        Candidate::Equipment,
+        Candidate::Replacement,
+        Candidate::EquipmentAndTimes,
+    ];
+    first_that_leads(alloc, rows, day, &candidates, old, new)
 }
 
-// The actions that change a flight that flies.
-fn change(
-    alloc: Global,
-    rows: &[StationRow],
-    day: Day,
-    old: &Itinerary,
-    new: &Itinerary,
-) -> Result<Option<Vec<Action>>, Memory>
-    ensures { IfOk result
-        (λ said. IfSome said (λ actions. Leads rows.now day actions.items old.now new.now)) }
+// No effect at run time. The proof reads from it that each leg has its 158 columns.
+fn have_columns(legs: &[PlacedLeg])
+    ensures { HaveColumns legs.now }
 {
-    let mut times = Vec::new(alloc);
-    push_times(alloc, &mut times, old.legs(), new.legs())?;
-    let said = if_they_lead(alloc, rows, day, times, old, new)?;
-    if said.is_some() {
-        return Ok(said);
+    if let Some((leg, later)) = legs.split_first() {
+        let _ = leg.columns().bytes();
+        have_columns(later);
     }
-    let types = equipment(alloc, new.legs())?;
-    let said = if_they_lead(alloc, rows, day, types, old, new)?;
-    if said.is_some() {
-        return Ok(said);
-    }
-    replacement(alloc, rows, day, old, new)
 }
 
-// `RPL`, or `EQT` and `TIM`.
-fn replacement(
+// The actions of the first candidate that makes the new itinerary of the old one.
+fn first_that_leads(
     alloc: Global,
     rows: &[StationRow],
     day: Day,
+    candidates: &[Candidate],
     old: &Itinerary,
     new: &Itinerary,
 ) -> Result<Option<Vec<Action>>, Memory>
-    ensures { IfOk result
-        (λ said. IfSome said (λ actions. Leads rows.now day actions.items old.now new.now)) }
-{
-    let whole = whole_legs(alloc, b"RPL", new.legs())?;
-    let said = if_they_lead(alloc, rows, day, whole, old, new)?;
-    if said.is_some() {
-        return Ok(said);
-    }
-    let mut both = equipment(alloc, new.legs())?;
-    push_times(alloc, &mut both, old.legs(), new.legs())?;
-    if_they_lead(alloc, rows, day, both, old, new)
-}
-
-// The actions, if they make the new itinerary of the old one.
-fn if_they_lead(
-    alloc: Global,
-    rows: &[StationRow],
-    day: Day,
-    actions: Vec<Action>,
-    old: &Itinerary,
-    new: &Itinerary,
-) -> Result<Option<Vec<Action>>, Memory>
-    requires { AllByRecursion IsSaid actions.items }
     ensures said { IfOk result
         (λ said. IfSome said (λ actions. Leads rows.now day actions.items old.now new.now)) }
-    ensures found { after_all rows.now day actions.items old.now ≡ new.now
+    ensures found { HaveColumns old.now → AnyMakes rows.now day candidates.now old.now new.now
         → IfOk result (λ said. IsSome said) }
 {
-    if do_lead(alloc, rows, day, &actions, old, new)? {
-        Ok(Some(actions))
-    } else {
-        Ok(None)
+    match candidates.split_first() {
+        None => Ok(None),
+        Some((candidate, later)) => {
+            let actions = actions_of(alloc, *candidate, old.legs(), new.legs())?;
+            if do_lead(alloc, rows, day, &actions, old, new)? {
+                Ok(Some(actions))
+            } else {
+                first_that_leads(alloc, rows, day, later, old, new)
+            }
+        }
     }
 }

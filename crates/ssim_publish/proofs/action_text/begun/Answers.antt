@@ -1,5 +1,5 @@
 -- The identifier between two literal texts.
-use Rattle.std.proofs.Common.{◌≡◌, ◌∙◌, ◌++◌, ◌∷◌, [], ℕ, List, append_assoc, ap, codes, sym}
+use Rattle.std.proofs.Common.{◌∙◌, ◌++◌, ◌∷◌, [], ℕ, List, append_assoc, ap, codes, sym}
 use Rattle.ssim_text.specs.examples.Texts.{text_of}
 use Rattle.ssim_publish.proofs.action_text.begun.Goals as goal
 

@@ -1,5 +1,5 @@
 -- A text that spells the message is decoded to it, and is not refused.
-use Rattle.std.proofs.Common.{◌≡◌, sym, subst}
+use Rattle.std.proofs.Common.{sym, subst}
 use Rattle.ssim_text.specs.Decoder.{NoMessage}
 use Rattle.ssim_publish.specs.internal.ActionTexts.{message_of}
 use Rattle.ssim_publish.proofs.candidates.action_of.Goals as goal

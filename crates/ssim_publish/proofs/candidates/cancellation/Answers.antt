@@ -1,5 +1,5 @@
 -- The text is the canonical text of a message that cancels.
-use Rattle.std.proofs.Common.{◌≡◌, ◌∙◌, ℕ, List, [], append-nil, codes, sym, subst}
+use Rattle.std.proofs.Common.{◌∙◌, ℕ, List, append-nil, codes, sym, subst}
 use Rattle.ssim_text.specs.Spelling.{SpellsMessage}
 use Rattle.ssim_text.specs.declared.action.Action.TheVariants.{Cnl}
 use Rattle.ssim_publish.specs.internal.ActionTexts.{heading, message_of}

@@ -1,9 +1,10 @@
--- Equal itineraries need no action, and CNL leaves none.
-use Rattle.std.proofs.Common.{◌≡◌, ◌∙◌, Bool, List, [], true, false, ap, sym, subst}
+-- Equal itineraries need no action. Others that messages reach are made by one of the candidates.
+use Rattle.std.proofs.Common.{◌≡◌, ◌∙◌, List, [], sym, subst}
 use Rattle.ssim_text.specs.declared.action.Action.{Action}
 use Rattle.ssim_base.specs.ItineraryLaws.{exact_itinerary}
-use Rattle.ssim_publish.specs.Reach.{Leads, after_all}
-use Rattle.ssim_publish.proofs.Closed.{cancel_is}
+use Rattle.ssim_publish.specs.Reach.{Leads}
+use Rattle.ssim_publish.specs.Sayable.{HaveColumns}
+use Rattle.ssim_publish.proofs.Found.{change_found, new_found, none_tested}
 use Rattle.ssim_publish.proofs.date_actions.say.Goals as goal
 
 pub returns-then-same-clause-said : goal.returns-then-same-clause-said
@@ -17,15 +18,19 @@ returns-then-same-clause-said c =
     subst (λ (actions : List Action). Leads rows day actions old new) (sym c.new.ensures.items)
     none
 
-pub returns-then-is_empty-clause-cancels : goal.returns-then-is_empty-clause-cancels
-returns-then-is_empty-clause-cancels c = λ none.
-    let rows = c.args.rows.now in let day = c.args.day in let old = c.args.old.now in
-    c.if_they_lead.ensures.found
-    (ap (λ (actions : List Action). after_all rows day actions old)
-    c.in_ok-actions.ensures.found ∙ cancel_is old ∙ sym none)
+pub returns-then-is_empty-2-clause-finds : goal.returns-then-is_empty-2-clause-finds
+returns-then-is_empty-2-clause-finds c = λ reach.
+    let long = subst HaveColumns c.legs.ensures c.have_columns.ensures in
+    c.first_that_leads.ensures.found long
+    (new_found c.args.rows.now c.args.day c.args.old.now c.args.new.now long reach
+    (c.is_empty-2.ensures.0 c.if-is_empty-2.true)
+    (none_tested c.is_empty.result (c.args.new.now ≡ []) c.is_empty.ensures.1 c.if-is_empty.false))
 
-pub returns-clause-same : goal.returns-clause-same
-returns-clause-same c = λ same.
-    let equal = (exact_itinerary c.args.old.now c.args.new.now).1 same in
-    let bad : true ≡ false = sym (c.same.ensures ∙ equal) ∙ c.if-same.false in
-    absurd cc
+pub returns-clause-finds : goal.returns-clause-finds
+returns-clause-finds c = λ reach.
+    let long = subst HaveColumns c.legs.ensures c.have_columns.ensures in
+    c.first_that_leads-2.ensures.found long
+    (change_found c.args.rows.now c.args.day c.args.old.now c.args.new.now long reach
+    (none_tested c.is_empty-2.result (c.args.old.now ≡ []) c.is_empty-2.ensures.1
+    c.if-is_empty-2.false)
+    (none_tested c.is_empty.result (c.args.new.now ≡ []) c.is_empty.ensures.1 c.if-is_empty.false))
