@@ -35,13 +35,13 @@ const MOST_LEGS: usize = 20;
 pub(crate) enum Candidate {
     /// `NEW`.
     NewFlight,
-    /// `TIM`, one or more.
+    /// `TIM`, as many as the leg lines need.
     Times,
     /// `EQT`.
     Equipment,
     /// `RPL`.
     Replacement,
-    /// `EQT`, and then `TIM`, one or more.
+    /// `EQT`, and then `TIM`, as many as the leg lines need.
     EquipmentAndTimes,
 }
 

@@ -1,7 +1,6 @@
 //! The actions that make the new itinerary of a date of the old one.
 
-ghost use Rattle.std.specs.Prelude.{◌≡◌, [], IfOk, IfSome, IsSome};
-ghost use Rattle.std.specs.List.{AllByRecursion};
+ghost use Rattle.std.specs.Prelude.{IfOk, IfSome, IsSome};
 ghost use Rattle.ssim_publish.specs.Reach.{Leads, Reach};
 ghost use Rattle.ssim_publish.specs.Sayable.{HaveColumns};
 ghost use Rattle.ssim_publish.specs.internal.Candidates.{AnyMakes};

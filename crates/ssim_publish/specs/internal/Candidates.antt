@@ -10,7 +10,7 @@ use Rattle.ssim_publish.specs.Sayable.{ArePartsOf, IsWhole}
 use Rattle.ssim_publish.specs.declared.candidates.Candidate.{Candidate}
 use Rattle.ssim_publish.specs.declared.candidates.Candidate.TheVariants as candidate
 
--- the actions are TIM, one or more, which have these leg lines in order
+-- the actions are TIM, which together have these leg lines in order
 abbrev pub AreTimes : List LegLine → List Action → Type 0
 AreTimes lines [] = lines ≡ []
 AreTimes lines (action ∷ actions) =
@@ -23,7 +23,8 @@ pub record AddsTimes (lines : List LegLine) (before after : List Action) : Type 
   pub added : after ≡ before ++ more
   pub times : AreTimes lines more
 
--- the candidate makes the new itinerary of the old one
+-- The candidate makes the new itinerary of the old one. EQT alone is EQT and then no TIM, so nothing
+-- is said of it here. RPL and EQT change a flight that flies.
 abbrev pub Makes : List Row → ℕ → Candidate → Legs → Legs → Type 0
 Makes rows day candidate.NewFlight old new = (old ≡ []) × IsWhole rows day new
 Makes rows day candidate.Times old new = (p : ArePartsOf old new) × (p.equipment ≡ None)
