@@ -11,7 +11,9 @@ use Rattle.ssim_publish.specs.Sayable.{ArePartsOf, HaveColumns, IsSayable, IsWho
 use Rattle.ssim_publish.specs.internal.Candidates.{AnyMakes}
 use Rattle.ssim_publish.specs.declared.candidates.Candidate.{Candidate}
 use Rattle.ssim_publish.specs.declared.candidates.Candidate.TheVariants as candidate
+use Rattle.ssim_publish.specs.internal.ColumnLines.{same_route}
 use Rattle.ssim_publish.proofs.Closed.{reached_is_sayable}
+use Rattle.ssim_publish.proofs.Route.{parts_same_route}
 
 -- what would make a test hold is not so if the test fails
 pub none_tested : (b : Bool) (P : Type 0) → (P → IsTrue b) → b ≡ false → P → ⊥
@@ -72,3 +74,26 @@ pub change_found : (rows : List Row) (day : ℕ) (old new : Legs) → HaveColumn
     → AnyMakes rows day changes old new
 change_found rows day old new long reach flies some =
     sayable_found rows day old new flies some (reached_is_sayable rows day old new long reach)
+
+-- ---- of a flight that flies another route
+
+other_sayable : (rows : List Row) (day : ℕ) (old new : Legs) → HaveColumns old → (new ≡ [] → ⊥)
+    → same_route old new ≡ false → IsSayable rows day old new → IsWhole rows day new
+other_sayable rows day old new long some other (inl gone) = absurd (some gone)
+other_sayable rows day old new long some other (inr (inl w)) = w
+other_sayable rows day old new long some other (inr (inr p)) =
+    let bad : true ≡ false = sym (parts_same_route old new long p) ∙ other in
+    absurd cc
+
+replaced : (rows : List Row) (day : ℕ) (old new : Legs) → (old ≡ [] → ⊥) → IsWhole rows day new
+    → AnyMakes rows day (candidate.Replacement ∷ []) old new
+replaced rows day [] new flies w = absurd (flies refl)
+replaced rows day (leg ∷ legs) new flies w = inl w
+
+pub route_found : (rows : List Row) (day : ℕ) (old new : Legs) → HaveColumns old
+    → Reach rows day old new → (old ≡ [] → ⊥) → (new ≡ [] → ⊥) → same_route old new ≡ false
+    → AnyMakes rows day (candidate.Replacement ∷ []) old new
+route_found rows day old new long reach flies some other =
+    replaced rows day old new flies
+    (other_sayable rows day old new long some other
+    (reached_is_sayable rows day old new long reach))

@@ -9,6 +9,7 @@ pub mod JoinedLines
 pub mod TextLines
 pub mod Retimed
 pub mod Tried
+pub mod Route
 pub mod SegmentTexts
 pub mod Grouped
 pub mod WholeTexts

@@ -137,7 +137,7 @@ after_added rows day before after lines old legs long fit made adds =
 
 -- ---- the old itinerary with other equipment and times
 
-parts_changed : (old new : Legs) (p : ArePartsOf old new) → HaveColumns old
+pub parts_changed : (old new : Legs) (p : ArePartsOf old new) → HaveColumns old
     → Changed [] (equipped_by p.equipment old) new
 parts_changed old new p h =
     let legs = equipped_by p.equipment old in

@@ -6,6 +6,7 @@ ghost use Rattle.ssim_publish.specs.Sayable.{HaveColumns};
 ghost use Rattle.ssim_publish.specs.internal.Candidates.{AnyMakes};
 
 use crate::candidates::{Candidate, actions_of, cancellation};
+use crate::retimed_legs::have_same_route;
 use crate::trial::do_lead;
 use ssim_base::StationRow;
 use ssim_periods::Value;
@@ -17,11 +18,12 @@ use std::alloc::Global;
 /// The actions of sub-messages, in order, that make the new itinerary of a flight on a day of the
 /// old one, by these rows of a station table; none if no sub-messages make it.
 ///
-/// Equal itineraries need no action. A flight that flies no more is cancelled (`CNL`), and one that
-/// did not fly is new (`NEW`). Otherwise it gets other times (`TIM`) or other equipment (`EQT`) if
-/// one of them is enough; otherwise it is replaced (`RPL`), or, if that would change more, gets
-/// both (`EQT`, `TIM`). Apart from equal itineraries and `CNL`, the actions are tried on the old
-/// itinerary before they are returned.
+/// Equal itineraries need no action. A flight that flies no more is cancelled (`CNL`), one that did
+/// not fly is new (`NEW`), and one whose leg sequences or stations change is replaced (`RPL`).
+/// Otherwise the flight gets other times (`TIM`) or other equipment (`EQT`) if one of them is
+/// enough; otherwise it is replaced, or, if that would change more, gets both (`EQT`, `TIM`). Apart
+/// from equal itineraries and `CNL`, the actions are tried on the old itinerary before they are
+/// returned.
 pub fn say(
     alloc: Global,
     rows: &[StationRow],
@@ -44,6 +46,9 @@ pub fn say(
     }
     if old.is_empty() {
         return first_that_leads(alloc, rows, day, &[Candidate::NewFlight], old, new);
+    }
+    if !have_same_route(old.legs(), new.legs()) {
+        return first_that_leads(alloc, rows, day, &[Candidate::Replacement], old, new);
     }
     let candidates = [
         Candidate::Times,

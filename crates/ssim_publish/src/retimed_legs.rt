@@ -1,14 +1,17 @@
-//! The legs whose times are not those of the old legs.
+//! The legs whose times are not those of the old legs, and whether other times can make the new legs
+//! of the old ones.
 
 ghost use Rattle.std.specs.Prelude.{◌≡◌, ◌++◌, IfOk, IsTrue, OnOk};
 ghost use Rattle.std.specs.Str.{bytes_eq};
 ghost use Rattle.ssim_columns.specs.Leg.{is_own, leg_columns};
-ghost use Rattle.ssim_publish.specs.internal.ColumnLines.{retimed_columns, same_times};
+ghost use Rattle.ssim_publish.specs.internal.ColumnLines.{retimed_columns, same_route};
+ghost use Rattle.ssim_publish.specs.internal.ColumnLines.{same_stations, same_times};
 
 use ssim_columns::Field;
 use ssim_records::LegColumns;
 use ssim_records::leg_fields::{
-    AIRCRAFT_ARRIVAL, AIRCRAFT_DEPARTURE, DATE_VARIATIONS, PASSENGER_ARRIVAL, PASSENGER_DEPARTURE,
+    AIRCRAFT_ARRIVAL, AIRCRAFT_DEPARTURE, ARRIVAL_STATION, DATE_VARIATIONS, DEPARTURE_STATION,
+    PASSENGER_ARRIVAL, PASSENGER_DEPARTURE,
 };
 use ssim_schedule::PlacedLeg;
 use ssim_values::Memory;
@@ -49,6 +52,29 @@ fn push_retimed(
             }
         },
     }
+}
+
+/// Whether two itineraries have legs with the same leg sequences between the same stations.
+pub(crate) fn have_same_route(old: &[PlacedLeg], new: &[PlacedLeg]) -> bool
+    ensures { result ≡ same_route old.now new.now }
+{
+    match old.split_first() {
+        None => new.is_empty(),
+        Some((old_leg, old)) => match new.split_first() {
+            None => false,
+            Some((new_leg, new)) => have_same_stations(old_leg, new_leg)
+                && have_same_route(old, new),
+        },
+    }
+}
+
+// Whether two legs have the same leg sequence and the same stations.
+fn have_same_stations(old: &PlacedLeg, new: &PlacedLeg) -> bool
+    ensures { result ≡ same_stations old.now new.now }
+{
+    (old.sequence() == new.sequence())
+        & have_same(&old.columns(), &new.columns(), DEPARTURE_STATION)
+        & have_same(&old.columns(), &new.columns(), ARRIVAL_STATION)
 }
 
 // Whether the times and the date variations of two legs are the same.

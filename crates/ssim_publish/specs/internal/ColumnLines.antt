@@ -1,13 +1,13 @@
 -- The canonical lines of a text by the columns of legs and tails.
 use Rattle.std.specs.Prelude.{ℕ, ◌==◌, if◌then◌else◌, List, [], ◌∷◌, ◌++◌, slice_index_or}
-use Rattle.std.specs.Prelude.{◌&&◌, Bool}
+use Rattle.std.specs.Prelude.{◌&&◌, Bool, true, false, nat_eq}
 use Rattle.std.specs.List.{flat_map}
 use Rattle.std.specs.Str.{bytes_eq}
 use Rattle.ssim_text.specs.Canonical.{unless_empty}
 use Rattle.ssim_text.specs.Left.{without_end}
 use Rattle.ssim_columns.specs.Leg.{leg_columns}
 use Rattle.ssim_columns.specs.Segment.{tail_columns}
-use Rattle.ssim_base.specs.Timetable.{Legs}
+use Rattle.ssim_base.specs.Timetable.{LegValue, Legs}
 
 -- ---- leg lines
 
@@ -48,6 +48,20 @@ retimed_columns (old ∷ olds) [] = []
 retimed_columns (old ∷ olds) (new ∷ news) =
     if same_times old.columns new.columns then retimed_columns olds news
     else new.columns ∷ retimed_columns olds news
+
+-- whether two legs have the same leg sequence and the same stations
+abbrev pub same_stations : LegValue → LegValue → Bool
+same_stations old new =
+    (nat_eq old.sequence new.sequence
+    && bytes_eq (leg_columns 37 39 old.columns) (leg_columns 37 39 new.columns))
+    && bytes_eq (leg_columns 55 57 old.columns) (leg_columns 55 57 new.columns)
+
+-- whether two itineraries have such legs, one after another
+abbrev pub same_route : Legs → Legs → Bool
+same_route [] [] = true
+same_route [] (new ∷ news) = false
+same_route (old ∷ olds) [] = false
+same_route (old ∷ olds) (new ∷ news) = same_stations old new && same_route olds news
 
 -- ---- equipment lines
 
