@@ -1,0 +1,3 @@
+pub mod Messages
+pub mod examples
+pub mod internal

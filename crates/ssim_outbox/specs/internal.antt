@@ -1,0 +1,2 @@
+-- Definitions that only private functions cite, so nobody has to believe them.
+pub mod Texts

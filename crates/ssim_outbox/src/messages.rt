@@ -1,0 +1,124 @@
+//! The messages that send sub-messages.
+
+ghost use Rattle.std.specs.Prelude.{◌≡◌, ◌≤◌, ◌∷◌, [], List, drop, length, IfErr, IfOk};
+ghost use Rattle.std.specs.List.{AllByRecursion};
+ghost use Rattle.ssim_text.specs.Canonical.{canonical, written};
+ghost use Rattle.ssim_text.specs.Grammar.{Divider, sub_parts};
+ghost use Rattle.ssim_text.specs.Message.{MessageValue};
+ghost use Rattle.ssim_outbox.specs.Messages.{IsAlone, IsFirst, RefusesSubs, Send, headed};
+ghost use Rattle.ssim_outbox.specs.internal.Texts.{IsFullText};
+// The worked examples, which are computed: a false one is an error in this file.
+ghost use Rattle.ssim_outbox.specs.examples.Texts;
+
+use crate::fault::OutboxFault;
+use crate::heading_lines::heading_lines;
+use crate::sub_lines::{push_line, push_sub};
+use ssim_text::{Message, Sub, TextFault, decode};
+use ssim_values::Memory;
+use std::alloc::Global;
+
+/// The messages that send sub-messages, in order. The heading is that of a message: its originator,
+/// kind and time mode, and its reference, but that the group serial counts up by one for each
+/// message. Each message has as many sub-messages as a text can have.
+///
+/// The errors are 90, and 65 if the group serial would pass 99999.
+pub fn messages_of(
+    alloc: Global,
+    heading: &Message,
+    subs: &[Sub],
+) -> Result<Vec<Message>, OutboxFault>
+    requires { AllByRecursion (IsAlone heading.now) subs.now }
+    ensures ok { IfOk result
+        (λ messages. Send heading.now heading.now.reference.group subs.now messages.items) }
+    ensures only { IfOk result
+        (λ messages. (other : List MessageValue)
+        → Send heading.now heading.now.reference.group subs.now other
+        → other ≡ messages.items) }
+    ensures err { IfErr result (RefusesSubs heading.now subs.now) }
+{
+    let mut messages = Vec::new(alloc);
+    let mut group = heading.reference().group;
+    let mut left = subs;
+    while let Some((first, later)) = left.split_first() {
+        if group > 99_999 {
+            return Err(OutboxFault::References);
+        }
+        let message = next_message(alloc, heading, group, first, later)?;
+        left = after(left, message.subs().len());
+        messages.push(message)?;
+        group += 1;
+    }
+    Ok(messages)
+}
+
+// The sub-messages after the first ones.
+fn after(subs: &[Sub], count: usize) -> &[Sub]
+    requires { count ≤ length subs.now }
+    ensures { result.now ≡ drop count subs.now }
+{
+    &subs[count..]
+}
+
+// The message with as many of the sub-messages as a text can have.
+fn next_message(
+    alloc: Global,
+    heading: &Message,
+    group: u32,
+    first: &Sub,
+    later: &[Sub],
+) -> Result<Message, Memory>
+    requires group { group ≤ 99999 }
+    requires first { IsAlone heading.now first.now }
+    requires later { AllByRecursion (IsAlone heading.now) later.now }
+    ensures { IfOk result (IsFirst heading.now group (first.now ∷ later.now)) }
+{
+    let text = full_text(alloc, heading, group, first, later)?;
+    match decode(alloc, &text) {
+        Ok(message) => Ok(message),
+        Err(TextFault::Memory) => Err(Memory),
+        Err(TextFault::Refused { .. }) => unreachable!(),
+    }
+}
+
+// The text of that message.
+fn full_text(
+    alloc: Global,
+    heading: &Message,
+    group: u32,
+    first: &Sub,
+    later: &[Sub],
+) -> Result<Vec<u8>, Memory>
+    requires { IsAlone heading.now first.now }
+    ensures { IfOk result
+        (λ text. IsFullText heading.now group (first.now ∷ later.now) text.items) }
+{
+    let mut text = first_text(alloc, heading, group, first)?;
+    for (at, sub) in later.iter().enumerate() {
+        let lines = later_lines(alloc, sub)?;
+        if at == 249 || text.len() + lines.len() > 65_536 {
+            return Ok(text);
+        }
+        text.extend_from_slice(&lines)?;
+    }
+    Ok(text)
+}
+
+// The text of a message with one sub-message.
+fn first_text(alloc: Global, heading: &Message, group: u32, first: &Sub) -> Result<Vec<u8>, Memory>
+    ensures { IfOk result
+        (λ text. text.items ≡ canonical (headed heading.now group (first.now ∷ []))) }
+{
+    let mut text = heading_lines(alloc, heading, group)?;
+    push_sub(&mut text, first)?;
+    Ok(text)
+}
+
+// The lines of a sub-message after another one.
+fn later_lines(alloc: Global, sub: &Sub) -> Result<Vec<u8>, Memory>
+    ensures { IfOk result (λ lines. lines.items ≡ written (Divider ∷ sub_parts sub.now)) }
+{
+    let mut lines = Vec::new(alloc);
+    push_line(&mut lines, b"//")?;
+    push_sub(&mut lines, sub)?;
+    Ok(lines)
+}
