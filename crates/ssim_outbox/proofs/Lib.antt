@@ -5,3 +5,4 @@ pub mod TextLines
 pub mod OneFirst
 pub mod Sending
 pub mod FullTexts
+pub mod LastReference

@@ -101,7 +101,7 @@ line_kept (a ∷ b ∷ c ∷ d ∷ []) n code serial creator g l h = absurd (ome
 line_kept (a ∷ b ∷ c ∷ d ∷ e ∷ f ∷ xs) n code serial creator g l h = absurd (omega (arith, l))
 
 -- the date of a reference that reads again has five bytes
-date_five : (r : GivenReference) → ReadsAgain (ReferencePart r) → length (month_day_text r.date) ≡ 5
+pub date_five : (r : GivenReference) → ReadsAgain (ReferencePart r) → length (month_day_text r.date) ≡ 5
 date_five r h =
     let line = line_of (month_day_text r.date) r.group r.code r.serial (creator_text r.creator) in
     let n = (reference_sound line r h.spelled).numbers in

@@ -37,7 +37,7 @@ mode_again Utc =
 mode_again Local =
     record { spelled = refl; line = record { some = omega arith; printable = refl; ended = refl } }
 
-action_again : (a : ActionIdentifier) → ReadsAgain (ActionPart a)
+pub action_again : (a : ActionIdentifier) → ReadsAgain (ActionPart a)
 action_again identifier.New =
     record { spelled = refl; line = record { some = omega arith; printable = refl; ended = refl } }
 action_again identifier.Cnl =

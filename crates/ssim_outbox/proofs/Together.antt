@@ -8,9 +8,10 @@ use Rattle.std.specs.Str.{bytes_eq}
 use Rattle.std.proofs.lemmas.Slice.Eq.{bytes_eq-Decides}
 use Rattle.ssim_text.specs.Canonical.{canonical, canonical_parts, originator_parts, part_text}
 use Rattle.ssim_text.specs.Grammar.{IsOriginatorPart, IsSub, KindPart, ModePart}
-use Rattle.ssim_text.specs.Grammar.{OriginatorPart, Part, ReferencePart, Spells}
+use Rattle.ssim_text.specs.Grammar.{OriginatorPart, Part, ReferencePart, Spells, free_parts}
 use Rattle.ssim_text.specs.Grammar.{later_parts, sub_parts, subs_parts}
 use Rattle.ssim_text.specs.Message.{MessageValue}
+use Rattle.ssim_text.specs.Spelling.{SpellsMessage}
 use Rattle.ssim_text.specs.Values.{no_originator}
 use Rattle.ssim_text.specs.declared.action.Sub.{Sub}
 use Rattle.ssim_text.specs.declared.kind.Kind.{Kind}
@@ -23,9 +24,9 @@ use Rattle.ssim_outbox.proofs.OtherGroup.{other_group}
 use Rattle.ssim_outbox.proofs.PartsAgain.{all_both, divider_again, kind_again, mode_again, spelled_again}
 
 -- a sub-message whose parts read again, in a message of this kind
-record IsGood (kind : Kind) (sub : Sub) : Type 0 where
-  again : AllByRecursion ReadsAgain (sub_parts sub)
-  allowed : IsSub kind sub
+pub record IsGood (kind : Kind) (sub : Sub) : Type 0 where
+  pub again : AllByRecursion ReadsAgain (sub_parts sub)
+  pub allowed : IsSub kind sub
 
 good : (h : MessageValue) (sub : Sub) → IsAlone h sub → IsGood h.kind sub
 good h sub alone =
@@ -77,25 +78,25 @@ choice_again false originator parts e (inl w) k =
     absurd (false_true (sym e ∙ (bytes_eq-Decides originator no_originator).1 w.0))
 choice_again false originator parts e (inr w) k = subst (AllByRecursion ReadsAgain) w k
 
-heading_again : (h : MessageValue) (g : ℕ) (sub : Sub) → g ≤ 99999 → IsAlone h sub
-    → AllByRecursion ReadsAgain (heading_parts h g)
-heading_again h g sub few alone =
-    let m = headed h h.reference.group (sub ∷ []) in
-    let has = alone.spelled.has_parts in
+-- a heading of a text reads again, with any group serial
+pub heading_again : (m : MessageValue) (text : List ℕ) (g : ℕ) → g ≤ 99999 → SpellsMessage m text
+    → AllByRecursion ReadsAgain (heading_parts m g)
+heading_again m text g few spelled =
+    let has = spelled.spelled.has_parts in
     let f = has.is_heading in
-    let last = f.mode_parts ++ ReferencePart h.reference ∷ [] in
-    let whole = subst (AllByRecursion ReadsAgain) has.whole (spelled_again m (canonical m) alone) in
+    let last = f.mode_parts ++ ReferencePart m.reference ∷ [] in
+    let whole = subst (AllByRecursion ReadsAgain) has.whole (spelled_again m text spelled) in
     let heading = subst (AllByRecursion ReadsAgain) f.whole
-    (all_left ReadsAgain has.heading (subs_parts (sub ∷ []) ++ []) whole) in
-    let own = all_left ReadsAgain f.originator_parts (KindPart h.kind ∷ last) heading in
-    let middle = all_right ReadsAgain f.originator_parts (KindPart h.kind ∷ last) heading in
-    let reference = all_right ReadsAgain f.mode_parts (ReferencePart h.reference ∷ []) middle.1 in
-    let changed = record h.reference { group = g } in
-    all_both ReadsAgain (originator_parts h.originator)
-    (KindPart h.kind ∷ ModePart h.mode ∷ ReferencePart changed ∷ [])
-    (choice_again (bytes_eq h.originator no_originator) h.originator f.originator_parts refl
+    (all_left ReadsAgain has.heading (subs_parts m.subs ++ free_parts m.free) whole) in
+    let own = all_left ReadsAgain f.originator_parts (KindPart m.kind ∷ last) heading in
+    let middle = all_right ReadsAgain f.originator_parts (KindPart m.kind ∷ last) heading in
+    let reference = all_right ReadsAgain f.mode_parts (ReferencePart m.reference ∷ []) middle.1 in
+    let changed = record m.reference { group = g } in
+    all_both ReadsAgain (originator_parts m.originator)
+    (KindPart m.kind ∷ ModePart m.mode ∷ ReferencePart changed ∷ [])
+    (choice_again (bytes_eq m.originator no_originator) m.originator f.originator_parts refl
     f.is_originator own)
-    (kind_again h.kind, (mode_again h.mode, (other_group h.reference g few reference.0, tt)))
+    (kind_again m.kind, (mode_again m.mode, (other_group m.reference g few reference.0, tt)))
 
 -- ---- the text
 
@@ -109,18 +110,18 @@ own_spelled : (parts : List Part) → AllByRecursion ReadsAgain parts
 own_spelled [] h = tt
 own_spelled (p ∷ parts) h = (h.0.spelled, own_spelled parts h.1)
 
-pub together : (h : MessageValue) (g : ℕ) (first : Sub) (later : List Sub) → g ≤ 99999
-    → IsAlone h first → AllByRecursion (IsAlone h) later → length (first ∷ later) ≤ 250
-    → length (canonical (headed h g (first ∷ later))) ≤ 65536 → IsText (headed h g (first ∷ later))
-together h g first later few alone each count short =
+-- a text can have sub-messages of a message's kind whose parts read again, under its heading
+pub text_of : (h : MessageValue) (g : ℕ) (first : Sub) (later : List Sub)
+    → AllByRecursion ReadsAgain (heading_parts h g) → AllByRecursion (IsGood h.kind) (first ∷ later)
+    → length (first ∷ later) ≤ 250 → length (canonical (headed h g (first ∷ later))) ≤ 65536
+    → IsText (headed h g (first ∷ later))
+text_of h g first later heading goods count short =
     let subs = first ∷ later in
     let m = headed h g subs in
     let parts = canonical_parts m in
-    let goods : AllByRecursion (IsGood h.kind) subs = (good h first alone, all_good h later each) in
     let own = originator_parts h.originator in
     let changed = record h.reference { group = g } in
     let three = KindPart h.kind ∷ ModePart h.mode ∷ ReferencePart changed ∷ [] in
-    let heading = heading_again h g first few alone in
     let rest = all_both ReadsAgain (subs_parts subs) [] (subs_again h.kind subs goods) tt in
     let again : AllByRecursion ReadsAgain parts =
     all_both ReadsAgain own (three ++ (subs_parts subs ++ [])) (all_left ReadsAgain own three heading)
@@ -143,3 +144,11 @@ together h g first later few alone each count short =
       };
       canonical_short = short;
     }
+
+pub together : (h : MessageValue) (g : ℕ) (first : Sub) (later : List Sub) → g ≤ 99999
+    → IsAlone h first → AllByRecursion (IsAlone h) later → length (first ∷ later) ≤ 250
+    → length (canonical (headed h g (first ∷ later))) ≤ 65536 → IsText (headed h g (first ∷ later))
+together h g first later few alone each =
+    let one = headed h h.reference.group (first ∷ []) in
+    text_of h g first later (heading_again one (canonical one) g few alone)
+    (good h first alone, all_good h later each)

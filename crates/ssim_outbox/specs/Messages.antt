@@ -5,7 +5,7 @@ use Rattle.ssim_text.specs.Message.{MessageValue, with_sub}
 use Rattle.ssim_text.specs.Spelling.{SpellsMessage}
 use Rattle.ssim_text.specs.declared.action.Sub.{Sub}
 use Rattle.ssim_outbox.specs.declared.fault.OutboxFault.{OutboxFault}
-use Rattle.ssim_outbox.specs.declared.fault.OutboxFault.TheVariants.{Memory, References}
+use Rattle.ssim_outbox.specs.declared.fault.OutboxFault.TheVariants.{Memory, Order, References}
 
 -- the message with this heading, this group serial and these sub-messages, and no free text
 abbrev pub headed : MessageValue → ℕ → List Sub → MessageValue
@@ -52,3 +52,4 @@ abbrev pub RefusesSubs : MessageValue → List Sub → OutboxFault → Type 0
 RefusesSubs heading subs Memory = Unit {0}
 RefusesSubs heading subs References =
     (messages : List MessageValue) → Send heading heading.reference.group subs messages → ⊥
+RefusesSubs heading subs (Order reference) = ⊥

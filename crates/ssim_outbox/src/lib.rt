@@ -1,13 +1,23 @@
 //! The messages that send sub-messages, and their texts.
 //!
-//! - [`messages_of`]: the messages with a heading that have given sub-messages, in order.
-//! - [`OutboxFault`]: why there are none.
+//! - [`messages_of`]: the messages with a heading that have given sub-messages, in order, as many
+//!   in each as a text can have.
+//! - [`follows`]: whether a reference comes after those of all messages that a desk holds.
+//! - [`OutboxFault`]: why there are no messages, or why a reference does not follow.
+//!
+//! **Promise.** The messages have exactly the given sub-messages, in order. Each is one that a text
+//! can have: at most 250 sub-messages, and at most 65,536 bytes in its canonical text. A message
+//! ends where the next sub-message would pass one of these limits. The group serial counts up by
+//! one from message to message. No other messages are so; if none are, since the group serial would
+//! pass 99999, the error is 65.
 #![tactic(auto)]
 
 mod fault;
 mod heading_lines;
 mod messages;
+mod order;
 mod sub_lines;
 
 pub use fault::OutboxFault;
 pub use messages::messages_of;
+pub use order::follows;
