@@ -5,4 +5,7 @@ pub mod TextLines
 pub mod OneFirst
 pub mod Sending
 pub mod FullTexts
+pub mod FullPeriods
+pub mod SaidActions
+pub mod Alone
 pub mod LastReference

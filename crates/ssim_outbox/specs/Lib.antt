@@ -1,4 +1,5 @@
 pub mod Messages
+pub mod Dated
 pub mod Order
 pub mod Fault
 pub mod examples

@@ -1,5 +1,6 @@
 //! The messages that send sub-messages, and their texts.
 //!
+//! - [`dated_sub`]: a sub-message with full dates, which a text can have under a heading.
 //! - [`messages_of`]: the messages with a heading that have given sub-messages, in order, as many
 //!   in each as a text can have.
 //! - [`follows`]: whether a reference comes after those of all messages that a desk holds.
@@ -12,12 +13,16 @@
 //! pass 99999, the error is 65.
 #![tactic(auto)]
 
+mod dated;
 mod fault;
 mod heading_lines;
 mod messages;
 mod order;
 mod sub_lines;
+#[cfg(test)]
+mod tests;
 
+pub use dated::dated_sub;
 pub use fault::OutboxFault;
 pub use messages::messages_of;
 pub use order::follows;

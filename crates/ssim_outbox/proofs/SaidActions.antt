@@ -1,0 +1,253 @@
+-- An action of a text: its parts read again, and their lines are short. It has at most 120 lines of
+-- at most 171 bytes.
+use Rattle.std.proofs.Common.{◌≡◌, ◌≤◌, ◌<◌, ◌+◌, ◌*◌, ◌/◌, ◌%◌, ◌∙◌, ℕ, Bool, true, false, if◌then◌else◌}
+use Rattle.std.proofs.Common.{List, [], ◌∷◌, ◌++◌, map, length, length-append, ap, subst, arith, codes}
+use Rattle.std.proofs.Common.{None, Some, append-nil, drop, eqb-true, refl, sym, take}
+use Rattle.std.specs.Prelude.{◌==◌, nat_lt, slice_index_or}
+use Rattle.std.specs.List.{AllByRecursion}
+use Rattle.std.specs.Str.{bytes_eq}
+use Rattle.std.proofs.lemmas.List.Elements.{All-from_recursion}
+use Rattle.ssim_values.specs.Clock.{clock_text}
+use Rattle.ssim_values.specs.Station.{is_station}
+use Rattle.ssim_text.specs.Bounds.{AreNewLegsBounded, IsActionBounded, IsEquipmentBounded, IsSegmentBounded}
+use Rattle.ssim_text.specs.Bytes.{◌>>=◌, after_word, word}
+use Rattle.ssim_text.specs.Canonical.{leg_end_text, part_text, passenger_text, short_digits, unless_empty}
+use Rattle.ssim_text.specs.Canonical.{variation_text, written}
+use Rattle.ssim_text.specs.Grammar.{EquipmentPart, IsBody, IsNewLegs, IsSub, LegPart, Part, SegmentPart}
+use Rattle.ssim_text.specs.Grammar.{body_parts, flight_parts, free_parts, later_parts, new_parts, sub_parts}
+use Rattle.ssim_text.specs.Grammar.{subs_parts}
+use Rattle.ssim_text.specs.Lines.{points_of, station_in}
+use Rattle.ssim_text.specs.Values.{EquipmentValue}
+use Rattle.ssim_text.specs.declared.action.Action.{Action}
+use Rattle.ssim_text.specs.declared.action.Action.TheVariants.{Cnl, Eqt, New, Rpl, Tim}
+use Rattle.ssim_text.specs.declared.action.NewLegs.{NewLegs}
+use Rattle.ssim_text.specs.declared.action.Sub.{Sub}
+use Rattle.ssim_text.specs.declared.leg.LegEnd.{LegEnd}
+use Rattle.ssim_text.specs.declared.leg.LegLine.{LegLine}
+use Rattle.ssim_text.specs.declared.segment.SegmentLine.{SegmentLine}
+use Rattle.ssim_text.proofs.BoundsLemmas.{spelled_subs_bounded}
+use Rattle.ssim_text.proofs.LegsAgain.{end_sound, leg_sound, segment_sound}
+use Rattle.ssim_text.proofs.LinesKept.{ReadsAgain}
+use Rattle.ssim_text.proofs.ReadsBack.{all_left, all_right}
+use Rattle.ssim_text.proofs.Runs.{some_same}
+use Rattle.ssim_text.proofs.Words.{bound, only_else, only_if}
+use Rattle.ssim_publish.specs.Reach.{IsSaid}
+use Rattle.ssim_outbox.proofs.PartsAgain.{spelled_again}
+
+-- ---- the parts of an action
+
+abbrev IsAgain : Sub → Type 0
+IsAgain sub = AllByRecursion ReadsAgain (body_parts sub.action)
+
+sub_again : (sub : Sub) → AllByRecursion ReadsAgain (sub_parts sub) → IsAgain sub
+sub_again sub h =
+    all_right ReadsAgain (flight_parts sub.designator sub.dates) (body_parts sub.action) h.1
+
+later_again : (subs : List Sub) → AllByRecursion ReadsAgain (later_parts subs)
+    → AllByRecursion IsAgain subs
+later_again [] h = tt
+later_again (sub ∷ subs) h = (
+  sub_again sub (all_left ReadsAgain (sub_parts sub) (later_parts subs) h.1),
+  later_again subs (all_right ReadsAgain (sub_parts sub) (later_parts subs) h.1),
+)
+
+subs_again : (subs : List Sub) → AllByRecursion ReadsAgain (subs_parts subs) → AllByRecursion IsAgain subs
+subs_again [] h = tt
+subs_again (sub ∷ subs) h = (
+  sub_again sub (all_left ReadsAgain (sub_parts sub) (later_parts subs) h),
+  later_again subs (all_right ReadsAgain (sub_parts sub) (later_parts subs) h),
+)
+
+-- an element of which something holds
+element : {X : Type 0} (P : X → Type 0) (xs : List X) (x : X) (k : ℕ) → k < length xs
+    → slice_index_or xs k x ≡ x → AllByRecursion P xs → P x
+element P xs x k within is h = subst P is (All-from_recursion P xs h k x within)
+
+pub record IsKnown (action : Action) : Type 0 where
+  pub again : AllByRecursion ReadsAgain (body_parts action)
+  pub allowed : IsBody action
+  pub bounded : IsActionBounded action
+
+pub known : (action : Action) → IsSaid action → IsKnown action
+known action said =
+    let m = said.message in
+    let has = said.spelled.spelled.has_parts in
+    let whole = subst (AllByRecursion ReadsAgain) has.whole (spelled_again m said.text said.spelled) in
+    let rest = all_right ReadsAgain has.heading (subs_parts m.subs ++ free_parts m.free) whole in
+    let subs = subs_again m.subs (all_left ReadsAgain (subs_parts m.subs) (free_parts m.free) rest) in
+    let c = said.contained in
+    subst IsKnown said.action_is (record {
+      again = element IsAgain m.subs said.sub c.0 c.1 c.2 subs;
+      allowed = (element (IsSub m.kind) m.subs said.sub c.0 c.1 c.2 said.spelled.spelled.shape.subs).body;
+      bounded = element (λ sub. IsActionBounded sub.action) m.subs said.sub c.0 c.1 c.2
+          (spelled_subs_bounded m said.text said.spelled);
+    })
+
+-- ---- no line is longer than 170 bytes
+
+abbrev IsShort : Part → Type 0
+IsShort part = length (part_text part) ≤ 170
+
+marked_short : (mark : ℕ) (text : List ℕ) → length (unless_empty mark text) ≤ 1 + length text
+marked_short mark [] = omega arith
+marked_short mark (b ∷ text) = omega arith
+
+equipment_short : (e : EquipmentValue) → IsEquipmentBounded e → IsShort (EquipmentPart e)
+equipment_short e h =
+    let last = unless_empty 46 e.configuration in
+    let three = h.aircraft_three in
+    let designators = h.designators_few in
+    let configuration = h.configuration_few in
+    omega (
+      arith,
+      length-append e.aircraft (unless_empty 32 (e.designators ++ last)),
+      marked_short 32 (e.designators ++ last),
+      length-append e.designators last,
+      marked_short 46 e.configuration,
+      three,
+      designators,
+      configuration,
+    )
+
+variation_short : (b : Bool) (x y : ℕ) → length (if b then [] else x ∷ y ∷ []) ≤ 2
+variation_short true x y = omega arith
+variation_short false x y = omega arith
+
+passenger_short : (b : Bool) (p : ℕ) → length (if b then [] else 47 ∷ clock_text p) ≤ 5
+passenger_short true p = omega arith
+passenger_short false p = omega arith
+
+four_short : (a b c d : List ℕ) → length a ≡ 3 → length b ≡ 4 → length c ≤ 2 → length d ≤ 5
+    → length (a ++ b ++ c ++ d) ≤ 14
+four_short a b c d three four two five =
+    omega (
+      arith,
+      length-append (a ++ b ++ c) d,
+      length-append (a ++ b) c,
+      length-append a b,
+      three,
+      four,
+      two,
+      five,
+    )
+
+end_short : (e : LegEnd) → length e.station ≡ 3 → length (leg_end_text e) ≤ 14
+end_short e three =
+    four_short e.station (clock_text e.time) (variation_text e.variation)
+    (passenger_text e.time e.passenger) three refl
+    (variation_short (e.variation == 0) 47 (48 + e.variation % 10))
+    (passenger_short (e.passenger == e.time) e.passenger)
+
+leg_short : (leg : LegLine) → ReadsAgain (LegPart leg) → IsShort (LegPart leg)
+leg_short leg h =
+    let line = part_text (LegPart leg) in
+    let s = leg_sound line leg h.spelled in
+    let departure = end_short leg.departure (end_sound (word line) leg.departure s.departure).station.long in
+    let arrival = end_short leg.arrival (end_sound (after_word line) leg.arrival s.arrival).station.long in
+    omega (
+      arith,
+      length-append (leg_end_text leg.departure) (32 ∷ leg_end_text leg.arrival),
+      departure,
+      arrival,
+    )
+
+abbrev two : List ℕ → List ℕ → List ℕ × List ℕ
+two board off = (board, off)
+
+three_long : (text station : List ℕ) → station_in text ≡ Some station → length station ≡ 3
+three_long text station h =
+    let p = only_if (length text == 3) (if is_station text then Some text else None) station h in
+    let q = only_if (is_station text) (Some text) station p.1 in
+    ap length (sym (some_same text station q.1)) ∙ eqb-true (length text) 3 p.0
+
+abbrev AreThree : List ℕ × List ℕ → Type 0
+AreThree points = (length points.0 ≡ 3) × (length points.1 ≡ 3)
+
+points_three : (text : List ℕ) (points : List ℕ × List ℕ) → points_of text ≡ Some points → AreThree points
+points_three text points h =
+    let p = only_else (bytes_eq text (codes "QQQQQQ"))
+    (station_in (take 3 text) >>= λ b. station_in (drop 3 text) >>= λ o. Some (two b o)) points h in
+    let board = bound (station_in (take 3 text))
+    (λ (b : List ℕ). station_in (drop 3 text) >>= λ o. Some (two b o)) points p.1 in
+    let off = bound (station_in (drop 3 text)) (λ (o : List ℕ). Some (two board.0 o)) points board.2 in
+    subst AreThree (some_same (two board.0 off.0) points off.2)
+    (three_long (take 3 text) board.0 board.1, three_long (drop 3 text) off.0 off.1)
+
+digits_short : (a b : Bool) (x y z : ℕ)
+    → length (if a then x ∷ [] else (if b then y ∷ x ∷ [] else z ∷ y ∷ x ∷ [])) ≤ 3
+digits_short true b x y z = omega arith
+digits_short false true x y z = omega arith
+digits_short false false x y z = omega arith
+
+segment_short : (s : SegmentLine) → ReadsAgain (SegmentPart s) → IsSegmentBounded s → IsShort (SegmentPart s)
+segment_short s h bounded =
+    let line = part_text (SegmentPart s) in
+    let points = points_three (word line) (two s.board s.off) (segment_sound line s h.spelled).points in
+    let n = s.identifier in
+    let few = bounded.few in
+    omega (
+      arith,
+      length-append (s.board ++ s.off ++ 32 ∷ short_digits n) (47 ∷ s.text),
+      length-append (s.board ++ s.off) (32 ∷ short_digits n),
+      length-append s.board s.off,
+      points.0,
+      points.1,
+      digits_short (nat_lt n 10) (nat_lt n 100) (48 + n % 10) (48 + n / 10 % 10) (48 + n / 100 % 10),
+      few,
+    )
+
+-- ---- an action
+
+line_count : (part : Part) (n : ℕ) (rest : List Part) → IsShort part → length (written rest) ≤ 171 * n
+    → length (written (part ∷ rest)) ≤ 171 * (n + 1)
+line_count part n rest short h =
+    omega (
+      arith,
+      length-append (part_text part ++ 10 ∷ []) (written rest),
+      length-append (part_text part) (10 ∷ []),
+      short,
+      h,
+    )
+
+segments_short : (segments : List SegmentLine) → AllByRecursion ReadsAgain (map SegmentPart segments)
+    → AllByRecursion IsSegmentBounded segments
+    → length (written (map SegmentPart segments)) ≤ 171 * length segments
+segments_short [] h k = omega arith
+segments_short (s ∷ segments) h k =
+    let r = line_count (SegmentPart s) (length segments) (map SegmentPart segments)
+    (segment_short s h.0 k.0) (segments_short segments h.1 k.1) in
+    omega (arith, r)
+
+-- leg lines before other lines
+legs_short : (legs : List LegLine) (n : ℕ) (rest : List Part) → AllByRecursion ReadsAgain (map LegPart legs ++ rest)
+    → length (written rest) ≤ 171 * n → length (written (map LegPart legs ++ rest)) ≤ 171 * (length legs + n)
+legs_short [] n rest h k = omega (arith, k)
+legs_short (leg ∷ legs) n rest h k =
+    let r = line_count (LegPart leg) (length legs + n) (map LegPart legs ++ rest) (leg_short leg h.0)
+    (legs_short legs n rest h.1 k) in
+    omega (arith, r)
+
+new_short : (new : NewLegs) → AllByRecursion ReadsAgain (new_parts new) → IsNewLegs new
+    → AreNewLegsBounded new → length (written (new_parts new)) ≤ 20520
+new_short new h allowed bounded =
+    let segments = map SegmentPart new.segments in
+    let n = length new.segments in
+    let own = segments_short new.segments (all_right ReadsAgain (map LegPart new.legs) segments h.1) bounded.segments in
+    let legs = legs_short new.legs n segments h.1 own in
+    let whole = line_count (EquipmentPart new.equipment) (length new.legs + n) (map LegPart new.legs ++ segments)
+    (equipment_short new.equipment bounded.equipment) legs in
+    let few_legs = allowed.legs in
+    let few_segments = allowed.segments in
+    omega (arith, whole, few_legs, few_segments)
+
+pub body_short : (action : Action) → IsKnown action → length (written (body_parts action)) ≤ 20520
+body_short (New new) h = new_short new h.again h.allowed h.bounded
+body_short Cnl h = omega arith
+body_short (Rpl new) h = new_short new h.again h.allowed h.bounded
+body_short (Eqt e) h =
+    let r = line_count (EquipmentPart e) 0 [] (equipment_short e h.bounded) (omega arith) in omega (arith, r)
+body_short (Tim legs) h =
+    let few = h.allowed.1 in
+    let again = subst (AllByRecursion ReadsAgain) (sym (append-nil (map LegPart legs))) h.again in
+    let r = legs_short legs 0 [] again (omega arith) in
+    omega (arith, r, few, ap (λ (p : List Part). length (written p)) (append-nil (map LegPart legs)))
