@@ -1,5 +1,5 @@
 -- The last of messages in order of reference has the greatest reference.
-use Rattle.std.proofs.Common.{◌≡◌, ◌≢◌, ◌≤◌, ◌+◌, ◌-◌, ℕ, zero, suc, List, [], ◌∷◌, length}
+use Rattle.std.proofs.Common.{◌≡◌, ◌≢◌, ◌≤◌, ◌<◌, ◌+◌, ◌-◌, ℕ, zero, suc, List, [], ◌∷◌, length}
 use Rattle.std.proofs.Common.{Some, get_or, refl, sym, ap, subst, ◌∙◌, arith}
 use Rattle.std.specs.Prelude.{T}
 use Rattle.std.specs.FinMap.{is_sorted}
@@ -21,8 +21,10 @@ below r (x ∷ []) zero e sorted l is less =
 below r (x ∷ []) (suc k) e sorted l is less = absurd (omega (arith, l))
 below r (x ∷ y ∷ es) zero e sorted l is less = absurd (omega (arith, l))
 below r (x ∷ y ∷ es) (suc k) e sorted l is less =
-    let later : Follows r (y ∷ es) = below r (y ∷ es) k e (and_right _ _ sorted) (omega (arith, l)) is less in
-    let first = rise (x ∷ y ∷ es) 0 1 x y sorted (omega arith) refl refl in
+    let one : 0 < 1 = omega arith in
+    let first = rise (x ∷ y ∷ es) 0 1 x y sorted one refl refl in
+    let shorter : length (y ∷ es) ≡ k + 1 = omega (arith, l) in
+    let later : Follows r (y ∷ es) = below r (y ∷ es) k e (and_right _ _ sorted) shorter is less in
     (reference_total.trans x.reference y.reference r first later.0, later)
 
 last_below : (r : Reference) (es : List Entry) (k : ℕ) (e : Entry) → length es ≡ k + 1

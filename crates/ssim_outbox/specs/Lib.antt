@@ -4,3 +4,4 @@ pub mod Order
 pub mod Fault
 pub mod examples
 pub mod internal
+pub mod MailFile

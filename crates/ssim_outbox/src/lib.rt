@@ -1,8 +1,9 @@
-//! The messages that send sub-messages, and their texts.
+//! The messages that send sub-messages, their texts.
 //!
 //! - [`dated_sub`]: a sub-message with full dates, which a text can have under a heading.
 //! - [`messages_of`]: the messages with a heading that have given sub-messages, in order, as many
 //!   in each as a text can have.
+//! - [`mail_file_of`]: the texts of messages, with a line `NNNN` after each.
 //! - [`follows`]: whether a reference comes after those of all messages that a desk holds.
 //! - [`OutboxFault`]: why there are no messages, or why a reference does not follow.
 //!
@@ -16,6 +17,7 @@
 mod dated;
 mod fault;
 mod heading_lines;
+mod mail_file;
 mod messages;
 mod order;
 mod sub_lines;
@@ -24,5 +26,6 @@ mod tests;
 
 pub use dated::dated_sub;
 pub use fault::OutboxFault;
+pub use mail_file::mail_file_of;
 pub use messages::messages_of;
 pub use order::follows;
