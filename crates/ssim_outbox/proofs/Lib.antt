@@ -9,3 +9,5 @@ pub mod FullPeriods
 pub mod SaidActions
 pub mod Alone
 pub mod LastReference
+pub mod Delivering
+pub mod Delivered

@@ -4,4 +4,5 @@ pub mod Order
 pub mod Fault
 pub mod examples
 pub mod internal
+pub mod Delivery
 pub mod MailFile

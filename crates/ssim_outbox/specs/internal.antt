@@ -1,2 +1,3 @@
 -- Definitions that only private functions cite, so nobody has to believe them.
 pub mod Texts
+pub mod Delivery

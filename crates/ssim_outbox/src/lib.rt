@@ -1,10 +1,11 @@
-//! The messages that send sub-messages, their texts.
+//! The messages that send sub-messages, their texts, and what a desk makes of them.
 //!
 //! - [`dated_sub`]: a sub-message with full dates, which a text can have under a heading.
 //! - [`messages_of`]: the messages with a heading that have given sub-messages, in order, as many
 //!   in each as a text can have.
 //! - [`mail_file_of`]: the texts of messages, with a line `NNNN` after each.
 //! - [`follows`]: whether a reference comes after those of all messages that a desk holds.
+//! - [`deliver`]: the messages taken by a desk, one after another.
 //! - [`OutboxFault`]: why there are no messages, or why a reference does not follow.
 //!
 //! **Promise.** The messages have exactly the given sub-messages, in order. Each is one that a text
@@ -12,9 +13,13 @@
 //! ends where the next sub-message would pass one of these limits. The group serial counts up by
 //! one from message to message. No other messages are so; if none are, since the group serial would
 //! pass 99999, the error is 65.
+//!
+//! If the first reference follows all that a desk holds, the desk takes each message as new, and
+//! each flight then has on each date what the sub-messages make, one after another, of what it had.
 #![tactic(auto)]
 
 mod dated;
+mod delivery;
 mod fault;
 mod heading_lines;
 mod mail_file;
@@ -25,6 +30,7 @@ mod sub_lines;
 mod tests;
 
 pub use dated::dated_sub;
+pub use delivery::deliver;
 pub use fault::OutboxFault;
 pub use mail_file::mail_file_of;
 pub use messages::messages_of;
