@@ -11,3 +11,4 @@ pub mod Alone
 pub mod LastReference
 pub mod Delivering
 pub mod Delivered
+pub mod Sent

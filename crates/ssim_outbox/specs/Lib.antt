@@ -1,5 +1,6 @@
 pub mod Messages
 pub mod Dated
+pub mod SendLaws
 pub mod Order
 pub mod Fault
 pub mod examples

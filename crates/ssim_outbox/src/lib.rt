@@ -6,6 +6,7 @@
 //! - [`mail_file_of`]: the texts of messages, with a line `NNNN` after each.
 //! - [`follows`]: whether a reference comes after those of all messages that a desk holds.
 //! - [`deliver`]: the messages taken by a desk, one after another.
+//! - [`laws`]: the messages have each sub-message once, and full dates resolve as they are.
 //! - [`OutboxFault`]: why there are no messages, or why a reference does not follow.
 //!
 //! **Promise.** The messages have exactly the given sub-messages, in order. Each is one that a text
@@ -22,6 +23,7 @@ mod dated;
 mod delivery;
 mod fault;
 mod heading_lines;
+pub mod laws;
 mod mail_file;
 mod messages;
 mod order;

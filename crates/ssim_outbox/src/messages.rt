@@ -7,8 +7,6 @@ ghost use Rattle.ssim_text.specs.Grammar.{Divider, sub_parts};
 ghost use Rattle.ssim_text.specs.Message.{MessageValue};
 ghost use Rattle.ssim_outbox.specs.Messages.{IsAlone, IsFirst, RefusesSubs, Send, headed};
 ghost use Rattle.ssim_outbox.specs.internal.Texts.{IsFullText};
-// The worked examples, which are computed: a false one is an error in this file.
-ghost use Rattle.ssim_outbox.specs.examples.Texts;
 
 use crate::fault::OutboxFault;
 use crate::heading_lines::heading_lines;

@@ -1,0 +1,17 @@
+//! What holds of messages that send sub-messages.
+
+ghost use Rattle.ssim_outbox.specs.SendLaws.{FullDatesResolve, SerialsRise, SubsAreJoined};
+// The worked examples, which are computed: a false one is an error in this file.
+ghost use Rattle.ssim_outbox.specs.examples.Texts;
+
+/// The messages have the sub-messages that they send, each once and in order. Each message has the
+/// heading, and the next group serial after that of the message before.
+pub fn messages_send_each_once()
+    ensures joined { SubsAreJoined }
+    ensures rise { SerialsRise }
+{}
+
+/// A sub-message with full dates resolves against any base of its airline, to these dates.
+pub fn full_dates_resolve()
+    ensures { FullDatesResolve }
+{}
