@@ -15,6 +15,15 @@ use ssim_text::{Message, Sub, TextFault, decode};
 use ssim_values::Memory;
 use std::alloc::Global;
 
+/// The most sub-messages of a message.
+const MOST_SUBS: usize = 250;
+
+/// The most bytes of the canonical text of a message.
+const MOST_BYTES: usize = 65_536;
+
+/// The last message group serial.
+const LAST_GROUP: u32 = 99_999;
+
 /// The messages that send sub-messages, in order. The heading is that of a message: its originator,
 /// kind and time mode, and its reference, but that the group serial counts up by one for each
 /// message. Each message has as many sub-messages as a text can have.
@@ -38,7 +47,7 @@ pub fn messages_of(
     let mut group = heading.reference().group;
     let mut left = subs;
     while let Some((first, later)) = left.split_first() {
-        if group > 99_999 {
+        if group > LAST_GROUP {
             return Err(OutboxFault::References);
         }
         let message = next_message(alloc, heading, group, first, later)?;
@@ -93,7 +102,7 @@ fn full_text(
     let mut text = first_text(alloc, heading, group, first)?;
     for (at, sub) in later.iter().enumerate() {
         let lines = later_lines(alloc, sub)?;
-        if at == 249 || text.len() + lines.len() > 65_536 {
+        if at + 1 == MOST_SUBS || text.len() + lines.len() > MOST_BYTES {
             return Ok(text);
         }
         text.extend_from_slice(&lines)?;

@@ -2,8 +2,8 @@
 use Rattle.std.proofs.Common.{◌≤◌, ◌++◌, ◌∙◌, ap, arith, length, length-append, List, ℕ}
 use Rattle.ssim_outbox.proofs.FullTexts.{first_short, many, more_text, none_left, too_long}
 use Rattle.ssim_outbox.proofs.messages.full_text.Goals as goal
-use Rattle.ssim_outbox.proofs.messages.full_text.Goals.{then-at-eq249-via-then-at-eq249}
-use Rattle.ssim_outbox.proofs.messages.full_text.Goals.{then-at-eq249-via-else-at-eq249+then-len-gt65536}
+use Rattle.ssim_outbox.proofs.messages.full_text.Goals.{then-at-eq-MOST_SUBS-via-then-at-eq-MOST_SUBS}
+use Rattle.ssim_outbox.proofs.messages.full_text.Goals.{then-at-eq-MOST_SUBS-via-else-at-eq-MOST_SUBS+then-len-gt-MOST_BYTES}
 
 pub loop-at-init : goal.loop-at-init
 loop-at-init c =
@@ -14,8 +14,8 @@ loop-at-init c =
       few = omega arith;
     }
 
-pub returns-then-at-eq249 : goal.returns-then-at-eq249
-returns-then-at-eq249 c =
+pub returns-then-at-eq-MOST_SUBS : goal.returns-then-at-eq-MOST_SUBS
+returns-then-at-eq-MOST_SUBS c =
     let h = c.args.heading.now in
     let l = c.loop-at in
     let i = l.invariant in
@@ -23,12 +23,12 @@ returns-then-at-eq249 c =
     let sub = c.index-later-at.result in
     let is = c.index-later-at.is in
     let within : l.at ≤ length c.args.later.now = omega (arith, lt) in
-    elim c.then-at-eq249.branch [
-      | then-at-eq249-via-then-at-eq249 w ↦ many h c.args.group c.args.first.now c.args.later.now l.at l.text.items
-          i.few within i.text_is i.short sub lt is w.if-at-eq249.true
-      | then-at-eq249-via-else-at-eq249+then-len-gt65536 w ↦ too_long h c.args.group c.args.first.now
+    elim c.then-at-eq-MOST_SUBS.branch [
+      | then-at-eq-MOST_SUBS-via-then-at-eq-MOST_SUBS w ↦ many h c.args.group c.args.first.now c.args.later.now l.at l.text.items
+          i.few within i.text_is i.short sub lt is (omega (arith, w.if-at-eq-MOST_SUBS.true))
+      | then-at-eq-MOST_SUBS-via-else-at-eq-MOST_SUBS+then-len-gt-MOST_BYTES w ↦ too_long h c.args.group c.args.first.now
           c.args.later.now l.at l.text.items i.few within i.text_is i.short sub c.in_ok-lines.lines.items lt is
-          c.in_ok-lines.ensures (omega (arith, w.if-len-gt65536.true, w.len.ensures, w.len-else-at-eq249.ensures))
+          c.in_ok-lines.ensures (omega (arith, w.if-len-gt-MOST_BYTES.true, w.len.ensures, w.len-else-at-eq-MOST_SUBS.ensures))
     ]
 
 pub loop-at-preserved : goal.loop-at-preserved
@@ -45,13 +45,13 @@ loop-at-preserved c =
           c.in_ok-lines.ensures new;
       short = omega (
         arith,
-        c.if-len-gt65536.false,
+        c.if-len-gt-MOST_BYTES.false,
         c.len.ensures,
-        c.len-else-at-eq249.ensures,
+        c.len-else-at-eq-MOST_SUBS.ensures,
         ap length new,
         length-append l.text.items lines,
       );
-      few = omega (arith, few, c.if-at-eq249.false);
+      few = omega (arith, few, c.if-at-eq-MOST_SUBS.false);
     }
 
 pub returns : goal.returns

@@ -2,11 +2,11 @@
 use Rattle.ssim_outbox.proofs.Sending.{all_sent, left_alone, one_more_sent, only_sent, past_last}
 use Rattle.ssim_outbox.proofs.messages.messages_of.Goals as goal
 
-pub returns-then-group-gt99999-clause-err : goal.returns-then-group-gt99999-clause-err
-returns-then-group-gt99999-clause-err c =
+pub returns-then-group-gt-LAST_GROUP-clause-err : goal.returns-then-group-gt-LAST_GROUP-clause-err
+returns-then-group-gt-LAST_GROUP-clause-err c =
     let l = c.loop-first in
     past_last c.args.heading.now c.args.subs.now l.messages.items l.group l.left.now c.in-Some.first.now
-    c.in-Some.later.now l.invariant.sent c.in-Some.ensures.cases.0 c.if-group-gt99999.true
+    c.in-Some.later.now l.invariant.sent c.in-Some.ensures.cases.0 c.if-group-gt-LAST_GROUP.true
 
 pub loop-first-preserved : goal.loop-first-preserved
 loop-first-preserved c =
