@@ -1,5 +1,5 @@
 -- Texts of messages that send sub-messages, checked by computation.
-use Rattle.std.specs.Prelude.{◌≡◌, [], ◌∷◌, ◌++◌, codes, length, refl}
+use Rattle.std.specs.Prelude.{◌≡◌, List, [], ◌∷◌, ◌++◌, codes, length, refl}
 use Rattle.ssim_values.specs.Calendar.{day_number, day_of_month, leap_years, month_of}
 use Rattle.ssim_values.specs.Calendar.{months_length, year_of}
 use Rattle.ssim_values.specs.Day.{day_text}
@@ -12,6 +12,8 @@ use Rattle.ssim_text.specs.declared.action.Sub.{Sub}
 use Rattle.ssim_text.specs.declared.dates.GivenDate.TheVariants.{Full}
 use Rattle.ssim_text.specs.declared.kind.Kind.TheVariants.{Ssm}
 use Rattle.ssim_text.specs.examples.Texts.{equipment, leg, mondays, on_days, reference, swiss, tuesdays}
+use Rattle.ssim_mailbox.specs.Texts.{texts_in}
+use Rattle.ssim_outbox.specs.MailFile.{mail_file}
 use Rattle.ssim_outbox.specs.Messages.{headed}
 
 -- 02JUN00001E001 in UTC
@@ -78,3 +80,23 @@ in_local_time : canonical (headed originated 99999 (cancelled ∷ []))
     ≡ codes ".ZRHRMLX\nSSM\nLT\n02JUN99999E001\nCNL\nLX544\n01JUL25 01JUL25 2\n"
 unfolding day_text day_number leap_years months_length year_of month_of day_of_month
 in_local_time = refl
+
+-- ---- the file, and what is read of it
+
+-- two messages, the second with an originator
+abbrev both : List MessageValue
+both = headed heading 1 (cancelled ∷ []) ∷ headed originated 2 (cancelled ∷ []) ∷ []
+
+-- a mailbox with these bytes has the two texts, which begin on the lines 1 and 8
+read_back : texts_in (mail_file both)
+    ≡ record {
+      line = 1;
+      bytes = codes "SSM\nUTC\n02JUN00001E001\nCNL\nLX544\n01JUL25 01JUL25 2\n";
+    }
+    ∷ record {
+      line = 8;
+      bytes = codes ".ZRHRMLX\nSSM\nLT\n02JUN00002E001\nCNL\nLX544\n01JUL25 01JUL25 2\n";
+    }
+    ∷ []
+unfolding day_text day_number leap_years months_length year_of month_of day_of_month
+read_back = refl
