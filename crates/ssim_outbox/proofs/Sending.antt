@@ -1,6 +1,6 @@
 -- The messages so far, and one more.
 use Rattle.std.proofs.Common.{◌≡◌, ◌≤◌, ◌<◌, ◌+◌, ℕ, zero, suc, List, [], ◌∷◌, ◌++◌, length, take, drop}
-use Rattle.std.proofs.Common.{refl, sym, ap, subst, ◌∙◌, append_assoc, append-nil, arith}
+use Rattle.std.proofs.Common.{refl, sym, ap, subst, ◌∙◌, append_assoc, append-nil, arith, length-drop}
 use Rattle.std.specs.List.{AllByRecursion}
 use Rattle.ssim_text.specs.Canonical.{canonical}
 use Rattle.ssim_text.specs.Message.{MessageValue}
@@ -8,7 +8,7 @@ use Rattle.ssim_text.specs.declared.action.Sub.{Sub}
 use Rattle.ssim_text.proofs.BoundsLemmas.{spelled_reference_bounded}
 use Rattle.ssim_outbox.specs.Messages.{IsAlone, IsFirst, Send}
 use Rattle.ssim_outbox.specs.internal.Texts.{AreSent}
-use Rattle.ssim_outbox.proofs.OneFirst.{one_first}
+use Rattle.ssim_outbox.proofs.OneFirst.{one_first, within}
 
 pub none_sent : (h : MessageValue) (subs : List Sub) → AreSent h subs [] h.reference.group subs
 none_sent h subs = record { sends = λ later s. s; only = λ all s. (all, refl, s) }
@@ -106,3 +106,20 @@ pub left_alone : (h : MessageValue) (left own rest : List Sub) → AllByRecursio
     → rest ≡ drop (length own) left → AllByRecursion (IsAlone h) rest
 left_alone h left own rest alone is =
     subst (AllByRecursion (IsAlone h)) (sym is) (all_after (IsAlone h) (length own) left alone)
+
+-- at least one sub-message less is left, for one group serial less
+pub less_room : (h : MessageValue) (g : ℕ) (left own rest : List Sub) (s : Sub) (subs : List Sub)
+    (m : MessageValue) (most : ℕ) → IsFirst h g (s ∷ subs) m → left ≡ s ∷ subs → own ≡ m.subs
+    → g + length left ≤ most → rest ≡ drop (length own) left → g + 1 + length rest ≤ most
+less_room h g left own rest s subs m most first left_is own_is room is =
+    let some = first.text.spelled.shape.some in
+    omega (
+      arith,
+      some,
+      room,
+      within h g (s ∷ subs) m first,
+      ap length own_is,
+      ap length left_is,
+      ap length is,
+      length-drop (length own) left,
+    )

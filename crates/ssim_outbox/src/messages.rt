@@ -1,6 +1,6 @@
 //! The messages that send sub-messages.
 
-ghost use Rattle.std.specs.Prelude.{◌≡◌, ◌≤◌, ◌∷◌, [], List, drop, length, IfErr, IfOk};
+ghost use Rattle.std.specs.Prelude.{◌≡◌, ◌+◌, ◌≤◌, ◌∷◌, [], List, drop, length, IfErr, IfOk};
 ghost use Rattle.std.specs.List.{AllByRecursion};
 ghost use Rattle.ssim_text.specs.Canonical.{canonical, written};
 ghost use Rattle.ssim_text.specs.Grammar.{Divider, sub_parts};
@@ -42,6 +42,10 @@ pub fn messages_of(
         → Send heading.now heading.now.reference.group subs.now other
         → other ≡ messages.items) }
     ensures err { IfErr result (RefusesSubs heading.now subs.now) }
+
+    // There are messages if as many group serials are left as there are sub-messages.
+    ensures enough { heading.now.reference.group + length subs.now ≤ 100000
+        → IfErr result (λ fault. fault ≡ OutboxFault.Memory) }
 {
     let mut messages = Vec::new(alloc);
     let mut group = heading.reference().group;

@@ -1,5 +1,5 @@
 -- Each message is the only one that can come next.
-use Rattle.ssim_outbox.proofs.Sending.{all_sent, left_alone, one_more_sent, only_sent, past_last}
+use Rattle.ssim_outbox.proofs.Sending.{all_sent, left_alone, less_room, one_more_sent, only_sent, past_last}
 use Rattle.ssim_outbox.proofs.messages.messages_of.Goals as goal
 
 pub returns-then-group-gt-LAST_GROUP-clause-err : goal.returns-then-group-gt-LAST_GROUP-clause-err
@@ -18,6 +18,9 @@ loop-first-preserved c =
           l.left.now c.after-left.result.now c.in-Some.first.now c.in-Some.later.now own c.in_ok-message.message
           l.invariant.sent c.in-Some.ensures.cases.0 c.in_ok-message.ensures c.in_ok-push.ensures.items
           c.subs.ensures.value c.after-left.ensures;
+      room = less_room c.args.heading.now l.group l.left.now own c.after-left.result.now c.in-Some.first.now
+          c.in-Some.later.now c.in_ok-message.message _ c.in_ok-message.ensures c.in-Some.ensures.cases.0
+          c.subs.ensures.value l.invariant.room c.after-left.ensures;
     }
 
 pub returns-clause-ok : goal.returns-clause-ok
