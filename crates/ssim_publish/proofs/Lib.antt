@@ -14,3 +14,6 @@ pub mod SegmentTexts
 pub mod Grouped
 pub mod WholeTexts
 pub mod Found
+pub mod PlannedSubs
+pub mod ListedDates
+pub mod Settling

@@ -1,4 +1,5 @@
 pub mod Reach
 pub mod Sayable
+pub mod Published
 pub mod internal
 pub mod examples

@@ -1,2 +1,3 @@
 -- Computed examples.
 pub mod Dates
+pub mod Plans

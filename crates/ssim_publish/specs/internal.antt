@@ -2,3 +2,4 @@
 pub mod ActionTexts
 pub mod ColumnLines
 pub mod Candidates
+pub mod Drafts

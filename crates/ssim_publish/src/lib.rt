@@ -1,6 +1,8 @@
-//! What schedule messages can say: which itineraries they can make of an itinerary, and by which
-//! sub-messages.
+//! What schedule messages can say: which itineraries they can make of an itinerary, by which
+//! sub-messages, and the sub-messages that lead one timetable to another.
 //!
+//! - [`plan`]: the [`PlannedSub`]s that lead a timetable towards another, in the order in which they
+//!   act; what they leave of it; and on which dates no messages can make the new itinerary.
 //! - [`say`]: the actions of sub-messages that make the new itinerary of a flight on a date of the
 //!   old one: none, `CNL`, `NEW`, `TIM`, `EQT`, `RPL`, or `EQT` and then `TIM`.
 //! - [`laws`]: whatever list of sub-messages comes, the itinerary of a date is then none, a whole
@@ -15,17 +17,41 @@
 //! itinerary, `say` returns actions; so it returns none exactly if no list of sub-messages makes
 //! it. Other than for equal itineraries and a cancelled flight, the actions are also tried at run
 //! time by the effect of sub-messages itself.
+//!
+//! The sub-messages of a `plan` leave on each date of each flight the new itinerary, if messages can
+//! make it of the old one, and the old one if not; what is unsaid are exactly the latter dates on
+//! which the two differ. No sub-message names a date on which its flight does not differ. One
+//! sub-message serves all dates of a period of which the same is said. It is tried on a copy of the
+//! timetable, and kept only if it makes each date of its period; whatever is left then is said date
+//! by date. So nothing rests on how the periods are found. It is not promised that the sub-messages
+//! are the fewest.
 #![tactic(auto)]
 
 mod action_text;
 mod candidates;
 mod date_actions;
+mod draft;
+mod flight_periods;
 pub mod laws;
+mod legs;
 mod line_text;
+mod mark;
+mod period_actions;
+mod period_parts;
+#[cfg(test)]
+mod plan_tests;
+mod planned_sub;
+mod publication;
 mod retimed_legs;
+mod said_days;
+mod same_actions;
+mod single_dates;
+mod single_period;
 #[cfg(test)]
 mod tests;
 mod trial;
 
 pub use date_actions::say;
+pub use planned_sub::PlannedSub;
+pub use publication::{Publication, plan};
 pub use ssim_values::Memory;

@@ -30,7 +30,7 @@ abbrev early : LegLine
 early = line (codes "ZRH") 345 (codes "LHR") 420
 
 -- ZRH0600 LHR0715
-abbrev later : LegLine
+abbrev pub later : LegLine
 later = line (codes "ZRH") 360 (codes "LHR") 435
 
 -- equipment of service type J without a configuration
@@ -47,7 +47,7 @@ abbrev larger : EquipmentValue
 larger = equipment (codes "320") (codes "CY")
 
 -- J 319 Y
-abbrev smaller : EquipmentValue
+abbrev pub smaller : EquipmentValue
 smaller = equipment (codes "319") (codes "Y")
 
 -- a leg from Zurich to London with these lines
@@ -64,7 +64,7 @@ row station minutes = record {
 }
 
 -- the variations of summer 2025
-abbrev rows : List Row
+abbrev pub rows : List Row
 rows = row (codes "ZRH") 120 ∷ row (codes "LHR") 60 ∷ []
 
 -- an itinerary of one leg of service type J, with these columns, and a terminal at Zurich
@@ -90,12 +90,12 @@ before terminal =
     (codes "320CY" ++ blanks 18)
 
 -- ZRH0600 LHR0715 by a 319 from this terminal
-abbrev changed : List ℕ → Legs
+abbrev pub changed : List ℕ → Legs
 changed terminal =
     flown (codes "ZRH06000600+0200") terminal (codes "LHR07150715+0100")
     (codes "319Y" ++ blanks 19)
 
-abbrev with_terminal : Legs
+abbrev pub with_terminal : Legs
 with_terminal = before (codes "1 ")
 
 -- no sub-message

@@ -1,0 +1,27 @@
+-- Sub-messages of a period that were tried, and are added.
+use Rattle.std.proofs.Common.{List, refl, subst}
+use Rattle.std.proofs.lemmas.Result.{on_ok_weaker}
+use Rattle.ssim_text.specs.declared.action.Action.{Action}
+use Rattle.ssim_schedule.specs.Schedule.{Flown, days_in}
+use Rattle.ssim_publish.specs.internal.Drafts.{Acts}
+use Rattle.ssim_publish.proofs.Settling.{kept_period}
+use Rattle.ssim_publish.proofs.period_actions.add_period.Goals as goal
+
+pub returns : goal.returns
+returns c =
+    let old = days_in c.args.from.now in let new = days_in c.args.to.now in
+    let flight = c.args.flight in let period = c.args.said.period in
+    let actions = c.args.said.actions.items in
+    let tried = c.act_on.new.schedule in
+    let acts : Acts c.args.rows.now actions flight period c.args.draft.now.schedule tried =
+    subst (λ (tried_actions : List Action). Acts c.args.rows.now tried_actions flight period c.args.draft.now.schedule tried)
+    c.deref.ensures.value
+    (subst (λ (begun : Flown). Acts c.args.rows.now c.deref.result.now flight period begun tried)
+    c.in_ok-trial.ensures c.in_ok-act_on.ensures) in
+    let first = c.if-not-is_made.ensures.first refl in
+    let made = c.if-not-is_made.ensures.made refl in
+    on_ok_weaker c.push_subs.result
+    (λ subs is. kept_period c.args.rows.now old new c.args.draft.now
+    (record { subs = c.push_subs.new.subs; schedule = tried }) actions flight period first.0 is c.requires
+    first.1 made subs acts)
+    c.push_subs.ensures
