@@ -12,3 +12,7 @@ pub mod LastReference
 pub mod Delivering
 pub mod Delivered
 pub mod Sent
+pub mod MailLines
+pub mod PlainLines
+pub mod MailRead
+pub mod MailTexts

@@ -1,9 +1,37 @@
--- The file in which messages are kept until they are sent.
-use Rattle.std.specs.Prelude.{ℕ, List, ◌++◌, codes}
-use Rattle.std.specs.List.{flat_map}
-use Rattle.ssim_text.specs.Canonical.{canonical}
+-- The file in which messages are kept until they are sent, and what a mailbox reads in it.
+use Rattle.std.specs.Prelude.{◌≡◌, ℕ, ◌+◌, List, [], ◌∷◌, ◌++◌, codes, length}
+use Rattle.std.specs.List.{AllByRecursion, flat_map}
+use Rattle.ssim_text.specs.Canonical.{canonical, canonical_parts}
 use Rattle.ssim_text.specs.Message.{MessageValue}
+use Rattle.ssim_text.specs.declared.action.Sub.{Sub}
+use Rattle.ssim_mailbox.specs.Texts.{MailText, texts_in}
+use Rattle.ssim_outbox.specs.Messages.{IsText, Send}
 
 -- the canonical text of each message, with a line NNNN after it
 abbrev pub mail_file : List MessageValue → List ℕ
 mail_file = flat_map (λ m. canonical m ++ codes "NNNN\n")
+
+-- a message that a text can have, without free text
+pub record IsMail (m : MessageValue) : Type 0 where
+  pub text : IsText m
+  pub free : m.free ≡ []
+
+-- The canonical texts of messages, each with the number of the line on which it begins. The first
+-- begins on line n; a text has a line for each part of its message, and NNNN is one more line.
+abbrev pub mail_texts : ℕ → List MessageValue → List MailText
+mail_texts n [] = []
+mail_texts n (m ∷ messages) =
+    record { line = n; bytes = canonical m } ∷ mail_texts (n + length (canonical_parts m) + 1) messages
+
+-- a mailbox with the bytes of the file of such messages has their canonical texts and no others, in
+-- order, the first of which begins on line 1
+abbrev pub MailboxesRead : Type 0
+MailboxesRead =
+    (messages : List MessageValue) → AllByRecursion IsMail messages
+    → texts_in (mail_file messages) ≡ mail_texts 1 messages
+
+-- messages that send sub-messages are such messages
+abbrev pub SentAreMail : Type 0
+SentAreMail =
+    (heading : MessageValue) (group : ℕ) (subs : List Sub) (messages : List MessageValue)
+    → Send heading group subs messages → AllByRecursion IsMail messages

@@ -1,5 +1,6 @@
 //! What holds of messages that send sub-messages.
 
+ghost use Rattle.ssim_outbox.specs.MailFile.{MailboxesRead, SentAreMail};
 ghost use Rattle.ssim_outbox.specs.SendLaws.{FullDatesResolve, SerialsRise, SubsAreJoined};
 // The worked examples, which are computed: a false one is an error in this file.
 ghost use Rattle.ssim_outbox.specs.examples.Texts;
@@ -14,4 +15,13 @@ pub fn messages_send_each_once()
 /// A sub-message with full dates resolves against any base of its airline, to these dates.
 pub fn full_dates_resolve()
     ensures { FullDatesResolve }
+{}
+
+/// A mailbox with the bytes of the file of messages has their canonical texts and no others, in
+/// order, if a text can have each message and none has free text. Messages that send sub-messages
+/// are so. A line of free text may be `NNNN` or `SSM`, which a mailbox takes for the end or the
+/// beginning of a text.
+pub fn mailboxes_read()
+    ensures read { MailboxesRead }
+    ensures sent { SentAreMail }
 {}

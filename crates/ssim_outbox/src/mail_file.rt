@@ -1,7 +1,9 @@
 //! The file in which messages are kept until they are sent.
 
 ghost use Rattle.std.specs.Prelude.{◌≡◌, IfOk};
-ghost use Rattle.ssim_outbox.specs.MailFile.{mail_file};
+ghost use Rattle.std.specs.List.{AllByRecursion};
+ghost use Rattle.ssim_mailbox.specs.Texts.{texts_in};
+ghost use Rattle.ssim_outbox.specs.MailFile.{IsMail, mail_file, mail_texts};
 
 use ssim_text::Message;
 use ssim_values::Memory;
@@ -9,7 +11,12 @@ use std::alloc::Global;
 
 /// The canonical texts of messages, with a line `NNNN` after each, as a mailbox has texts.
 pub fn mail_file_of(alloc: Global, messages: &[Message]) -> Result<Vec<u8>, Memory>
-    ensures { IfOk result (λ bytes. bytes.items ≡ mail_file messages.now) }
+    ensures ok { IfOk result (λ bytes. bytes.items ≡ mail_file messages.now) }
+
+    // A mailbox reads them again, each as it is.
+    ensures read { IfOk result
+        (λ bytes. AllByRecursion IsMail messages.now
+        → texts_in bytes.items ≡ mail_texts 1 messages.now) }
 {
     let mut bytes = Vec::new(alloc);
     for message in messages {
