@@ -100,3 +100,19 @@ read_back : texts_in (mail_file both)
     ∷ []
 unfolding day_text day_number leap_years months_length year_of month_of day_of_month
 read_back = refl
+
+-- a message whose free text has a line NNNN
+abbrev with_end : MessageValue
+with_end = record (headed heading 1 (cancelled ∷ [])) {
+  free = codes "SI FIRST" ∷ codes "NNNN" ∷ codes "LAST" ∷ [];
+}
+
+-- a mailbox ends the text at this line, so that it does not read the canonical text again
+cut_short : texts_in (mail_file (with_end ∷ []))
+    ≡ record {
+      line = 1;
+      bytes = codes "SSM\nUTC\n02JUN00001E001\nCNL\nLX544\n01JUL25 01JUL25 2\n//\nSI FIRST\n";
+    }
+    ∷ record { line = 10; bytes = codes "LAST\n" } ∷ []
+unfolding day_text day_number leap_years months_length year_of month_of day_of_month
+cut_short = refl
