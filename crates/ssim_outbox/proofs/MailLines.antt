@@ -6,9 +6,9 @@ use Rattle.std.proofs.lemmas.List.{reverse-append, reverse-reverse}
 use Rattle.std.proofs.lemmas.Bool.{and_parts}
 use Rattle.std.proofs.lemmas.Bool.Decides.{nat_tests}
 use Rattle.std.specs.Prelude.{◌==◌, if◌then◌else◌, reverse}
-use Rattle.std.specs.List.{list_all, onto_first, slice_split}
+use Rattle.std.specs.List.{list_all, onto_first}
 use Rattle.ssim_text.specs.Bytes.{is_printable}
-use Rattle.ssim_text.specs.Left.{is_dropped}
+use Rattle.ssim_text.specs.Left.{is_dropped, pieces}
 use Rattle.ssim_text.proofs.LinesKept.{IsLine, line_tail}
 use Rattle.ssim_mailbox.specs.Lines.{MailLine, dot_after, drop_while, drop_while_at_end, is_control}
 use Rattle.ssim_mailbox.specs.Lines.{is_dropped_at_end, lines_from, shown}
@@ -84,10 +84,6 @@ shown_whole (b ∷ line) h =
     ∙ keep_end is_dropped_at_end (b ∷ line) (line_end (b ∷ line) h)
 
 -- ---- the first line
-
--- the lines that LF divides
-abbrev pub pieces : List ℕ → List (List ℕ)
-pieces = slice_split (λ b. b == 10)
 
 not_ended : (b : ℕ) → is_printable b ≡ true → (b == 10) ≡ false
 not_ended b h = grind (arith, nat_tests)

@@ -8,6 +8,7 @@ use Rattle.std.specs.Prelude.{if◌then◌else◌}
 use Rattle.std.specs.List.{AllByRecursion, onto_first}
 use Rattle.ssim_text.specs.Canonical.{part_text, written}
 use Rattle.ssim_text.specs.Grammar.{KindPart, OriginatorPart, Part}
+use Rattle.ssim_text.specs.Left.{pieces}
 use Rattle.ssim_text.specs.declared.kind.Kind.{Kind}
 use Rattle.ssim_text.specs.declared.kind.Kind.TheVariants.{Asm, Ssm}
 use Rattle.ssim_text.proofs.LinesKept.{IsLine}
@@ -18,7 +19,6 @@ use Rattle.ssim_mailbox.specs.Roles.{begin_with_start, is_end, is_kind, is_start
 use Rattle.ssim_mailbox.specs.Texts.{MailText, is_empty, parts_of, text_from, texts_of, trimmed, with_line}
 use Rattle.ssim_mailbox.specs.Texts as mailbox
 use Rattle.ssim_outbox.proofs.MailLines.{KeepsEnd, first_line, keep_end, keep_front, mail_line, one_before}
-use Rattle.ssim_outbox.proofs.MailLines.{pieces}
 use Rattle.ssim_outbox.proofs.PlainLines.{IsPlain}
 
 -- ---- the lines of parts, of NNNN, and of what is below
@@ -96,8 +96,9 @@ quiet n d (p ∷ ps) rest h =
 
 -- ---- the role of a line
 
--- The parts of lines are those below the first line, with this line where its role says. The roles
--- have no names here: a role is known by where it puts the line.
+-- The type of roles is not public, so that a role is known here by where it puts its line.
+
+-- the role of a line that is none of these
 chosen_role : {R : Type 0} (end first envelope inside : R) (ends kind under origin addresses starts : Bool)
     → ends ≡ false → kind ≡ false → origin ≡ false → addresses ≡ false → starts ≡ false
     → (if ends then end

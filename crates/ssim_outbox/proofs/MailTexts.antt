@@ -1,15 +1,16 @@
 -- The texts of the file of messages, message by message: each begins with its originator or its
 -- kind, and its later lines are plain.
 use Rattle.std.proofs.Common.{◌≡◌, ◌≤◌, ℕ, ◌+◌, Bool, true, false, List, [], ◌∷◌, ◌++◌, map}
-use Rattle.std.proofs.Common.{drop, length, refl, sym, ap, subst, ◌∙◌, append_assoc, arith, codes, Some}
-use Rattle.std.specs.Prelude.{if◌then◌else◌}
-use Rattle.std.specs.List.{AllByRecursion}
+use Rattle.std.proofs.Common.{drop, length, refl, ap, subst, ◌∙◌, append_assoc, arith, codes, Some}
+use Rattle.std.proofs.lemmas.Bool.{and_parts}
+use Rattle.std.specs.List.{AllByRecursion, list_all}
 use Rattle.std.specs.Str.{bytes_eq}
 use Rattle.ssim_values.specs.declared.designator.Designator.{Designator}
-use Rattle.ssim_text.specs.Canonical.{canonical, canonical_parts, part_text}
-use Rattle.ssim_text.specs.Grammar.{KindPart, LegPart, ModePart, OriginatorPart, Part}
+use Rattle.ssim_text.specs.Canonical.{canonical, canonical_parts}
+use Rattle.ssim_text.specs.Grammar.{FreePart, KindPart, LegPart, ModePart, Part}
 use Rattle.ssim_text.specs.Grammar.{ReferencePart, SegmentPart, body_parts, flight_parts, free_parts}
 use Rattle.ssim_text.specs.Grammar.{later_parts, new_parts, sub_parts, subs_parts}
+use Rattle.ssim_text.specs.Left.{pieces}
 use Rattle.ssim_text.specs.Message.{MessageValue}
 use Rattle.ssim_text.specs.Values.{no_originator}
 use Rattle.ssim_text.specs.declared.action.Action.{Action}
@@ -22,18 +23,17 @@ use Rattle.ssim_text.specs.declared.kind.Kind.{Kind}
 use Rattle.ssim_text.specs.declared.leg.LegLine.{LegLine}
 use Rattle.ssim_text.specs.declared.segment.SegmentLine.{SegmentLine}
 use Rattle.ssim_text.proofs.BoundsLemmas.{spelled_reference_bounded}
-use Rattle.ssim_text.proofs.LinesKept.{IsLine, ReadsAgain}
+use Rattle.ssim_text.proofs.LinesKept.{ReadsAgain}
 use Rattle.ssim_text.proofs.ReadsBack.{all_right}
 use Rattle.ssim_mailbox.specs.Lines.{MailLine, lines_from}
 use Rattle.ssim_mailbox.specs.Texts.{MailText, parts_of, text_from, texts_of, trimmed}
-use Rattle.ssim_outbox.specs.MailFile.{IsMail, MailboxesRead, SentAreMail, mail_file, mail_texts}
+use Rattle.ssim_outbox.specs.MailFile.{IsMail, MailboxesRead, SentAreMail, is_plain, mail_file, mail_texts}
 use Rattle.ssim_outbox.specs.internal.Texts.{heading_parts}
-use Rattle.ssim_outbox.proofs.MailLines.{pieces}
 use Rattle.ssim_outbox.proofs.MailRead.{IsPlainPart, kind_parts, lines_left, marked, marked_text}
 use Rattle.ssim_outbox.proofs.MailRead.{origin_parts, parts_below}
 use Rattle.ssim_outbox.proofs.PartsAgain.{all_both, spelled_again}
 use Rattle.ssim_outbox.proofs.PlainLines.{IsLaterPart, part_plain}
-use Rattle.ssim_outbox.proofs.Together.{heading_again}
+use Rattle.ssim_outbox.proofs.Together.{choice, heading_again, own_lines}
 
 -- ---- the parts of sub-messages are later ones
 
@@ -80,16 +80,36 @@ subs_later [] = tt
 subs_later (sub ∷ subs) =
     all_both IsLaterPart (sub_parts sub) (later_parts subs) (sub_later sub) (more_later subs)
 
+-- ---- free text
+
+lines_later : (free : List (List ℕ)) → list_all is_plain free ≡ true
+    → AllByRecursion IsLaterPart (map FreePart free)
+lines_later [] h = tt
+lines_later (line ∷ free) h =
+    let p = and_parts (is_plain line) (list_all is_plain free) h in
+    (p.0, lines_later free p.1)
+
+free_later : (free : List (List ℕ)) → list_all is_plain free ≡ true
+    → AllByRecursion IsLaterPart (free_parts free)
+free_later [] h = tt
+free_later (line ∷ free) h = (tt, lines_later (line ∷ free) h)
+
 -- ---- the parts of a message
 
 -- the parts of a message from its time mode on
 abbrev after_kind : MessageValue → List Part
 after_kind m = ModePart m.mode ∷ ReferencePart m.reference ∷ (subs_parts m.subs ++ free_parts m.free)
 
-after_kind_later : (m : MessageValue) → m.free ≡ [] → AllByRecursion IsLaterPart (after_kind m)
-after_kind_later m none =
-    let no_free = subst (λ (x : List (List ℕ)). AllByRecursion IsLaterPart (free_parts x)) (sym none) tt in
-    (tt, (tt, all_both IsLaterPart (subs_parts m.subs) (free_parts m.free) (subs_later m.subs) no_free))
+after_kind_later : (m : MessageValue) → list_all is_plain m.free ≡ true
+    → AllByRecursion IsLaterPart (after_kind m)
+after_kind_later m plain = (
+  tt,
+  (
+    tt,
+    all_both IsLaterPart (subs_parts m.subs) (free_parts m.free) (subs_later m.subs)
+        (free_later m.free plain),
+  ),
+)
 
 -- each part of the canonical text reads again
 parts_again : (m : MessageValue) → IsMail m → AllByRecursion ReadsAgain (canonical_parts m)
@@ -115,16 +135,7 @@ both_hold [] h k = tt
 both_hold (p ∷ parts) h k =
     (record { line = k.0.line; plain = part_plain p h.0 k.0.spelled }, both_hold parts h.1 k.1)
 
-own_lines : (parts : List Part) → AllByRecursion ReadsAgain parts
-    → AllByRecursion (λ p. IsLine (part_text p)) parts
-own_lines [] h = tt
-own_lines (p ∷ parts) h = (h.0.line, own_lines parts h.1)
-
 -- ---- the parts of the lines of a message
-
--- the parts of an originator, or none
-abbrev choice : Bool → List ℕ → List Part
-choice blank o = if blank then [] else OriginatorPart o ∷ []
 
 parts_at : (blank : Bool) (n : ℕ) (o : List ℕ) (kind : Kind) (ps : List Part) (rest : List ℕ)
     → AllByRecursion ReadsAgain (choice blank o ++ KindPart kind ∷ ps) → AllByRecursion IsPlainPart ps
@@ -180,7 +191,7 @@ pub sent_are_mail : SentAreMail
 sent_are_mail h g subs [] send = tt
 sent_are_mail h g subs (m ∷ messages) send =
     let first = send.0 in
-    let none = ap (λ (x : MessageValue). x.free) first.own in (
+    let none = ap (λ (x : MessageValue). list_all is_plain x.free) first.own in (
       record { text = first.text; free = none },
       sent_are_mail h (g + 1) (drop (length m.subs) subs) messages send.1,
     )

@@ -1,7 +1,7 @@
--- The lines of a text after SSM or ASM, without free text, are none that a mailbox takes for the
--- end or the beginning of a text: each has a byte that is no letter or is another word, and none
+-- The lines of a text after SSM or ASM and before the free text are none that a mailbox takes for
+-- the end or the beginning of a text: each has a byte that is no letter or is another word, and none
 -- begins with a dot.
-use Rattle.std.proofs.Common.{◌≡◌, ◌≤◌, ℕ, ◌+◌, ◌/◌, ◌%◌, Bool, true, false, List, [], ◌∷◌, ◌++◌}
+use Rattle.std.proofs.Common.{◌≡◌, ◌≤◌, ℕ, ◌+◌, ◌/◌, ◌%◌, Bool, true, false, not, ◌||◌, List, [], ◌∷◌, ◌++◌}
 use Rattle.std.proofs.Common.{length, take, drop, refl, sym, ap, subst, ◌∙◌, arith, codes, None, Some, eqb-true}
 use Rattle.std.proofs.lemmas.Bool.{and_from, and_parts}
 use Rattle.std.proofs.lemmas.Bool.Decides.{nat_tests}
@@ -46,6 +46,7 @@ use Rattle.ssim_text.proofs.Runs.{false_true, some_same}
 use Rattle.ssim_text.proofs.Words.{bound, only_else, only_if}
 use Rattle.ssim_mailbox.specs.Lines.{begins_with_dot}
 use Rattle.ssim_mailbox.specs.Roles.{is_end, is_kind}
+use Rattle.ssim_outbox.specs.MailFile.{is_plain}
 
 -- the line neither ends a text nor is a first line of one
 pub record IsPlain (line : List ℕ) : Type 0 where
@@ -53,11 +54,11 @@ pub record IsPlain (line : List ℕ) : Type 0 where
   pub no_kind : is_kind line ≡ false
   pub no_dot : begins_with_dot line ≡ false
 
--- a part of a text after SSM or ASM, without free text
+-- a part of a text after SSM or ASM; free text is plain
 abbrev pub IsLaterPart : Part → Type 0
 IsLaterPart (OriginatorPart originator) = ⊥
 IsLaterPart (KindPart kind) = ⊥
-IsLaterPart (FreePart free) = ⊥
+IsLaterPart (FreePart free) = is_plain free ≡ true
 IsLaterPart part = Unit {0}
 
 -- ---- lines with another byte than a letter
@@ -280,6 +281,17 @@ segment_plain s line h =
     (first_more identified (47 ∷ s.text) (first_more points (32 ∷ short_digits s.identifier)
     (first_more s.board s.off (station_first s.board board.0 board.1)))).1
 
+none_true : (a b c : Bool) → not (a || b || c) ≡ true → (a ≡ false) × (b ≡ false) × (c ≡ false)
+none_true false false false h = (refl, refl, refl)
+none_true true b c h = absurd (false_true h)
+none_true false true c h = absurd (false_true h)
+none_true false false true h = absurd (false_true h)
+
+free_plain : (line : List ℕ) → is_plain line ≡ true → IsPlain line
+free_plain line h =
+    let p = none_true (is_end line) (is_kind line) (begins_with_dot line) h in
+    record { no_end = p.0; no_kind = p.1; no_dot = p.2 }
+
 -- ---- each part
 
 -- the line that is written for a part after SSM or ASM
@@ -297,4 +309,4 @@ part_plain (EquipmentPart equipment) later h = equipment_plain equipment _ h
 part_plain (LegPart leg) later h = leg_plain leg _ h
 part_plain (SegmentPart segment) later h = segment_plain segment _ h
 part_plain Divider later h = record { no_end = refl; no_kind = refl; no_dot = refl }
-part_plain (FreePart free) later h = absurd later
+part_plain (FreePart free) later h = free_plain free later

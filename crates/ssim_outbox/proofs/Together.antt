@@ -67,7 +67,7 @@ all_allowed kind (sub ∷ subs) h = (h.0.allowed, all_allowed kind subs h.1)
 -- ---- the heading
 
 -- the parts that the canonical text writes for an originator
-abbrev choice : Bool → List ℕ → List Part
+abbrev pub choice : Bool → List ℕ → List Part
 choice b originator = if b then [] else OriginatorPart originator ∷ []
 
 choice_again : (b : Bool) (originator : List ℕ) (parts : List Part)
@@ -100,7 +100,7 @@ heading_again m text g few spelled =
 
 -- ---- the text
 
-own_lines : (parts : List Part) → AllByRecursion ReadsAgain parts
+pub own_lines : (parts : List Part) → AllByRecursion ReadsAgain parts
     → AllByRecursion (λ p. IsLine (part_text p)) parts
 own_lines [] h = tt
 own_lines (p ∷ parts) h = (h.0.line, own_lines parts h.1)

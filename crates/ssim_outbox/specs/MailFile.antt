@@ -1,9 +1,11 @@
 -- The file in which messages are kept until they are sent, and what a mailbox reads in it.
-use Rattle.std.specs.Prelude.{◌≡◌, ℕ, ◌+◌, List, [], ◌∷◌, ◌++◌, codes, length}
-use Rattle.std.specs.List.{AllByRecursion, flat_map}
+use Rattle.std.specs.Prelude.{◌≡◌, ℕ, ◌+◌, Bool, true, not, ◌||◌, List, [], ◌∷◌, ◌++◌, codes, length}
+use Rattle.std.specs.List.{AllByRecursion, flat_map, list_all}
 use Rattle.ssim_text.specs.Canonical.{canonical, canonical_parts}
 use Rattle.ssim_text.specs.Message.{MessageValue}
 use Rattle.ssim_text.specs.declared.action.Sub.{Sub}
+use Rattle.ssim_mailbox.specs.Lines.{begins_with_dot}
+use Rattle.ssim_mailbox.specs.Roles.{is_end, is_kind}
 use Rattle.ssim_mailbox.specs.Texts.{MailText, texts_in}
 use Rattle.ssim_outbox.specs.Messages.{IsText, Send}
 
@@ -11,10 +13,15 @@ use Rattle.ssim_outbox.specs.Messages.{IsText, Send}
 abbrev pub mail_file : List MessageValue → List ℕ
 mail_file = flat_map (λ m. canonical m ++ codes "NNNN\n")
 
--- a message that a text can have, without free text
+-- whether a line is none of those that may end or begin a text of a mailbox: NNNN, SSM, ASM, and
+-- lines that begin with a dot
+abbrev pub is_plain : List ℕ → Bool
+is_plain line = not (is_end line || is_kind line || begins_with_dot line)
+
+-- a message that a text can have, in which each line of the free text is plain, if there is any
 pub record IsMail (m : MessageValue) : Type 0 where
   pub text : IsText m
-  pub free : m.free ≡ []
+  pub free : list_all is_plain m.free ≡ true
 
 -- The canonical texts of messages, each with the number of the line on which it begins. The first
 -- begins on line n; a text has a line for each part of its message, and NNNN is one more line.

@@ -18,9 +18,8 @@ pub fn full_dates_resolve()
 {}
 
 /// A mailbox with the bytes of the file of messages has their canonical texts and no others, in
-/// order, if a text can have each message and none has free text. Messages that send sub-messages
-/// are so. A line of free text may be `NNNN` or `SSM`, which a mailbox takes for the end or the
-/// beginning of a text.
+/// order, if a text can have each message and no line of free text is `NNNN`, `SSM` or `ASM` or
+/// begins with a dot. Messages that send sub-messages are so: they have no free text.
 pub fn mailboxes_read()
     ensures read { MailboxesRead }
     ensures sent { SentAreMail }
