@@ -29,8 +29,6 @@ mod mail_file;
 mod messages;
 mod order;
 mod sub_lines;
-#[cfg(test)]
-mod tests;
 
 pub use dated::dated_sub;
 pub use delivery::deliver;

@@ -38,8 +38,6 @@ mod line_text;
 mod mark;
 mod period_actions;
 mod period_parts;
-#[cfg(test)]
-mod plan_tests;
 mod planned_sub;
 mod publication;
 mod retimed_legs;
@@ -47,8 +45,6 @@ mod said_days;
 mod same_actions;
 mod single_dates;
 mod single_period;
-#[cfg(test)]
-mod tests;
 mod trial;
 
 pub use date_actions::say;

@@ -6,9 +6,7 @@ ghost use Rattle.ssim_text.specs.declared.kind.Kind.TheVariants.{Ssm};
 ghost use Rattle.ssim_outbox.specs.Messages.{IsAlone};
 ghost use Rattle.ssim_publish.specs.Reach.{IsSaid};
 
-use crate::dated::dated_sub;
-use crate::fault::OutboxFault;
-use crate::messages::messages_of;
+use ssim_outbox::{OutboxFault, dated_sub, messages_of};
 use ssim_text::{Action, Kind, Message, Sub, decode};
 use ssim_values::{Day, DayMask, Designator, Memory, Period};
 use std::alloc::Global;

@@ -1,7 +1,7 @@
 //! What is said of a date, by what sub-messages made of it before.
 
-use crate::date_actions::say;
 use ssim_base::Stations;
+use ssim_publish::say;
 use ssim_schedule::{FlightDate, Itinerary};
 use ssim_text::{Action, ActionIdentifier, decode};
 use ssim_values::{Day, Memory};

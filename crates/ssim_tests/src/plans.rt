@@ -1,7 +1,7 @@
 //! The sub-messages that lead one timetable to another, made of summer 2025 by texts.
 
-use crate::{Publication, plan};
 use ssim_base::{Base, Stations, resolve};
+use ssim_publish::{Publication, plan};
 use ssim_schedule::Schedule;
 use ssim_text::{ActionIdentifier, decode};
 use ssim_values::Memory;
