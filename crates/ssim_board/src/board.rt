@@ -5,10 +5,12 @@ ghost use Rattle.std.specs.List.{flat_map};
 ghost use Rattle.ssim_values.specs.Flight.{FlightNumber};
 ghost use Rattle.ssim_periods.specs.Calendar.{holds};
 ghost use Rattle.ssim_base.specs.Timetable.{Days};
+ghost use Rattle.ssim_schedule.specs.Dates.{AgreeBetween};
 ghost use Rattle.ssim_schedule.specs.FlightPieces.{divided_flights};
 ghost use Rattle.ssim_board.specs.InOrder.{board_of};
-ghost use Rattle.ssim_board.specs.Movements.{end_movements, is_there, leg_movements, movement};
-ghost use Rattle.ssim_board.specs.internal.PieceMovements.{all_movements, date_from, date_end};
+ghost use Rattle.ssim_board.specs.Movements.{end_movements, first_date, is_there, last_date};
+ghost use Rattle.ssim_board.specs.Movements.{leg_movements, movement};
+ghost use Rattle.ssim_board.specs.internal.PieceMovements.{all_movements, date_end};
 ghost use Rattle.ssim_board.specs.internal.PieceMovements.{divided_movements, piece_movements};
 ghost use Rattle.ssim_board.specs.internal.PieceMovements.{on_date};
 
@@ -30,19 +32,41 @@ pub struct Board {
 
 impl Board {
     /// The departures and arrivals at the station on the local date, by time, departures first,
-    /// then by flight, date of origin and leg sequence. The flights are those of a timetable that
-    /// fly on some date, as `Schedule::into_flights` gives them.
+    /// then by flight, date of origin and leg sequence. The flights are those that fly on some date,
+    /// as `Schedule::into_flights` gives them, of the timetable or of one that agrees with it from
+    /// `first_date` to `last_date`.
     pub fn movements(
         &self,
         alloc: Global,
         flights: &[FlightPieces],
     ) -> Result<Vec<Movement>, Memory>
-        ensures { (days : FlightNumber → Days) → flights.now ≡ divided_flights days
+        ensures { (days near : FlightNumber → Days) → flights.now ≡ divided_flights near
+            → AgreeBetween (first_date self.now) (last_date self.now) near days
             → IfOk result (λ movements. movements.items ≡ board_of self.now days) }
     {
         let mut movements = Vec::new(alloc);
         self.push_flights(&mut movements, flights)?;
         in_order(movements)
+    }
+
+    /// The first date of origin that can have something on the board.
+    pub fn first_date(&self) -> Day
+        ensures { result ≡ first_date self.now }
+    {
+        let Some(first) = Day::from_number(self.day.number().saturating_sub(10)) else {
+            unreachable!();
+        };
+        first
+    }
+
+    /// The last date of origin that can have something on the board.
+    pub fn last_date(&self) -> Day
+        ensures { result ≡ last_date self.now }
+    {
+        match Day::from_number(self.day.number() + 1) {
+            Some(next) => next,
+            None => self.day,
+        }
     }
 
     // Adds what these flights have on the board.
@@ -70,7 +94,7 @@ impl Board {
         ensures { OnOk result
             (movements.new.items ≡ movements.old.items ++ divided_movements self.now flight.now) }
     {
-        for number in self.date_from()..self.date_end() {
+        for number in self.first_date().number()..self.date_end() {
             let Some(date) = Day::from_number(number) else {
                 unreachable!();
             };
@@ -79,23 +103,12 @@ impl Board {
         Ok(())
     }
 
-    // The number of the first date of origin that can have something on the board.
-    fn date_from(&self) -> u16
-        ensures { result ≡ date_from self.now }
-    {
-        self.day.number().saturating_sub(10)
-    }
-
     // The number after the last date of origin that can have something on the board.
     fn date_end(&self) -> u16
         ensures value { result ≡ date_end self.now }
         ensures bound { result < 36526 }
     {
-        if self.day.number() < 36_523 {
-            self.day.number() + 2
-        } else {
-            36_525
-        }
+        self.last_date().number() + 1
     }
 
     // Adds what those pieces of a flight that hold the date of origin have on the board.

@@ -1,7 +1,7 @@
 //! The board of a station on a date: which flights depart and arrive, by local time.
 //!
 //! - [`Board`]: a station, a local date, and the time mode of the timetable. `Board::movements`
-//!   gives what is on it.
+//!   gives what is on it, from flights that need be right from `first_date` to `last_date` alone.
 //! - [`Movement`]: a departure or an arrival of a leg ([`MovementKind`]), with its local time, its
 //!   flight, and the other station of the leg.
 //! - [`board_lines`]: a line for each departure and arrival on a board.

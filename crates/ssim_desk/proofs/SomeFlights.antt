@@ -25,18 +25,30 @@ use Rattle.ssim_desk.proofs.Trails.{after_entries-++, findings-++}
 
 -- ---- at one flight
 
+-- on one day
+module _ (rows : List Row) (g : FlightNumber) (day : ℕ) where
+  one_agrees_on : (action : Action) (sub : ResolvedSub) (t u : Timetable) → t g day ≡ u g day → after_one rows action sub t g day ≡ after_one rows action sub u g day
+  one_agrees_on action sub t u e = ap (λ (legs : Legs). if same_flight sub.flight g && holds sub.period day then after_on rows action day legs else legs) e
+
+  pub subs_agree_on : (subs : List Sub) (dates : List ResolvedSub) (t u : Timetable) → t g day ≡ u g day → after_subs rows subs dates t g day ≡ after_subs rows subs dates u g day
+  subs_agree_on [] dates t u e = e
+  subs_agree_on (sub ∷ subs) [] t u e = e
+  subs_agree_on (sub ∷ subs) (dated ∷ dates) t u e =
+      subs_agree_on subs dates (after_one rows sub.action dated t) (after_one rows sub.action dated u) (one_agrees_on sub.action dated t u e)
+
+  pub entries_agree_on : (es : List Entry) (t u : Timetable) → t g day ≡ u g day → after_entries rows es t g day ≡ after_entries rows es u g day
+  entries_agree_on [] t u e = e
+  entries_agree_on (x ∷ es) t u e = entries_agree_on es (after_entry rows x t) (after_entry rows x u) (subs_agree_on x.message.subs x.dates t u e)
+
+-- on all days
 one_agrees : (rows : List Row) (action : Action) (sub : ResolvedSub) (t u : Timetable) (g : FlightNumber) → t g ≡ u g → after_one rows action sub t g ≡ after_one rows action sub u g
-one_agrees rows action sub t u g e = λ i day. if same_flight sub.flight g && holds sub.period day then after_on rows action day (e i day) else e i day
+one_agrees rows action sub t u g e = λ i day. one_agrees_on rows g day action sub t u (λ j. e j day) i
 
 subs_agree : (rows : List Row) (subs : List Sub) (dates : List ResolvedSub) (t u : Timetable) (g : FlightNumber) → t g ≡ u g → after_subs rows subs dates t g ≡ after_subs rows subs dates u g
-subs_agree rows [] dates t u g e = e
-subs_agree rows (sub ∷ subs) [] t u g e = e
-subs_agree rows (sub ∷ subs) (dated ∷ dates) t u g e =
-    subs_agree rows subs dates (after_one rows sub.action dated t) (after_one rows sub.action dated u) g (one_agrees rows sub.action dated t u g e)
+subs_agree rows subs dates t u g e = λ i day. subs_agree_on rows g day subs dates t u (λ j. e j day) i
 
 pub entries_agree : (rows : List Row) (es : List Entry) (t u : Timetable) (g : FlightNumber) → t g ≡ u g → after_entries rows es t g ≡ after_entries rows es u g
-entries_agree rows [] t u g e = e
-entries_agree rows (x ∷ es) t u g e = entries_agree rows es (after_entry rows x t) (after_entry rows x u) g (subs_agree rows x.message.subs x.dates t u g e)
+entries_agree rows es t u g e = λ i day. entries_agree_on rows g day es t u (λ j. e j day) i
 
 -- a flight in the list has what the base's timetable has
 pub among_is : (flights : List FlightNumber) (records : List Record) (g : FlightNumber) → is_among flights g ≡ true → itinerary_among flights records g ≡ itinerary records g

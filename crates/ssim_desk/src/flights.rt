@@ -1,6 +1,7 @@
-//! The flights that messages name, and the timetable of some flights after messages.
+//! The flights that messages name, and the timetable of some flights, or of some dates, after
+//! messages.
 
-ghost use Rattle.std.specs.Prelude.{◌≡◌, ◌++◌, map, true, IfOk, OnOk};
+ghost use Rattle.std.specs.Prelude.{◌≡◌, ◌&&◌, ◌++◌, map, nat_le, true, IfOk, OnOk};
 ghost use Rattle.std.specs.List.{list_any};
 ghost use Rattle.ssim_periods.specs.Days.{each_day};
 ghost use Rattle.ssim_values.specs.Flight.{FlightNumber, IsFlight};
@@ -9,7 +10,7 @@ ghost use Rattle.ssim_schedule.specs.FlightPieces.{divided_among};
 ghost use Rattle.ssim_schedule.specs.Schedule.{days_in};
 ghost use Rattle.ssim_desk.specs.Meaning.{Timetable, after_entries, entries_findings, found_by};
 ghost use Rattle.ssim_desk.specs.Meaning.{left_by};
-ghost use Rattle.ssim_desk.specs.internal.Changes.{AgreeAt, Shows, flights_of};
+ghost use Rattle.ssim_desk.specs.internal.Changes.{AgreeAt, AgreeFrom, Shows, flights_of, reaches};
 
 use crate::message_effect::act;
 use crate::replay::MessageFindings;
@@ -169,6 +170,41 @@ fn act_on(
         }
     }
     Ok(())
+}
+
+/// Those messages act in their order that have a sub-message whose period reaches into the dates
+/// from a first to a last.
+pub(crate) fn act_between(
+    alloc: Global,
+    rows: &[StationRow],
+    schedule: &mut Schedule,
+    first: Day,
+    last: Day,
+    messages: &[Held],
+) -> Result<(), Memory>
+    ensures { OnOk result ((before : Timetable) → Shows schedule.old before → (after : Timetable)
+        × Shows schedule.new after
+        × AgreeFrom first last after (after_entries rows.now messages.now before)) }
+{
+    for held in messages {
+        if reaches_one(held, first, last) {
+            act(alloc, rows, schedule, held)?;
+        }
+    }
+    Ok(())
+}
+
+// Whether the period of a sub-message reaches into the dates.
+fn reaches_one(held: &Held, first: Day, last: Day) -> bool
+    ensures { result ≡ list_any (reaches first last) held.now.dates }
+{
+    held.dates().iter().any(|sub| reaches(sub, first, last))
+}
+
+fn reaches(sub: &ResolvedSub, first: Day, last: Day) -> bool
+    ensures { result ≡ reaches first last sub.now }
+{
+    first <= sub.period.last() && sub.period.first() <= last
 }
 
 // Whether a sub-message names one of the flights.

@@ -6,6 +6,7 @@ ghost use Rattle.std.specs.Bool.{OnFalse};
 ghost use Rattle.std.specs.FinMap.{contains_key, remove};
 ghost use Rattle.std.specs.Io.KnownBytes.{Appends};
 ghost use Rattle.ssim_base.specs.BaseSeen.{base_with};
+ghost use Rattle.ssim_schedule.specs.Dates.{AgreeBetween};
 ghost use Rattle.ssim_schedule.specs.FlightPieces.{divided_among, divided_flights};
 ghost use Rattle.ssim_schedule.specs.ExportResult.{ReadsBackBase, RefusesBase, WritesBase};
 ghost use Rattle.ssim_base.specs.Sinks.{CountsFault, TakesPrefix};
@@ -16,7 +17,9 @@ ghost use Rattle.ssim_held.specs.Held.{Agree, Says};
 ghost use Rattle.ssim_held.specs.Entries.{AreEntries, AreRising, IsEntry, map_of, state_of};
 ghost use Rattle.ssim_held.specs.Opening.{RefusesBytes};
 ghost use Rattle.ssim_held.specs.Ordered.{Belongs};
-ghost use Rattle.ssim_base.specs.Timetable.{itinerary};
+ghost use Rattle.ssim_base.specs.Timetable.{Days, itinerary};
+ghost use Rattle.ssim_schedule.specs.Schedule.{days_in};
+ghost use Rattle.ssim_values.specs.Flight.{FlightNumber, IsFlight};
 ghost use Rattle.ssim_desk.specs.DateSteps.{legs_left, steps_on};
 ghost use Rattle.ssim_desk.specs.Desk.{WritesDesk, days_of_desk, finding_lines, merge_answer};
 ghost use Rattle.ssim_desk.specs.Desk.{timetable_of, took_answer};
@@ -27,7 +30,7 @@ ghost use Rattle.ssim_desk.specs.Steps.{Merges, RefusesDesk, RefusesText, Takes}
 use crate::date_step::{DateHistory, history_of};
 use crate::desk::Took;
 use crate::finding_line::{FindingLine, push_lines};
-use crate::flights::{days_after, found_by, legs_after, pieces_after};
+use crate::flights::{act_between, days_after, found_by, legs_after, pieces_after};
 use crate::message_effect::act_in_order;
 use crate::offer::{Offer, offer_over};
 use ssim_base::{Base, DataSet, Stations, WriteFault};
@@ -207,6 +210,16 @@ impl Holdings {
         days_after(self.alloc, &self.base, &self.held, flight)
     }
 
+    /// The timetable: the itinerary of each flight on each day. Reads all records of the base.
+    pub fn schedule(&self) -> Result<Schedule, Memory>
+        ensures { IfOk result (λ schedule. (flight : FlightNumber) → IsFlight flight
+            → days_in schedule flight ≡ days_of_desk self.now flight) }
+    {
+        let mut schedule = Schedule::of(&self.base)?;
+        act_in_order(self.alloc, self.base.rows(), &mut schedule, &self.held)?;
+        Ok(schedule)
+    }
+
     /// The flights of a list, by number and suffix, each once with its pieces: those that an export
     /// has, without its limits. A flight that flies on no date has none. Reads all records of the
     /// base.
@@ -227,6 +240,23 @@ impl Holdings {
         let (data_set, stations) = base.into_parts();
         let (mut schedule, _) = Schedule::of_data_set(data_set)?;
         act_in_order(alloc, stations.rows(), &mut schedule, &held)?;
+        schedule.into_flights()
+    }
+
+    /// As `into_flights`, of a timetable that agrees with the desk's from a first date of origin to
+    /// a last. Nothing is said of other dates. It takes less time and memory than `into_flights` if
+    /// the dates are few.
+    pub fn into_flights_between(self, first: Day, last: Day) -> Result<Vec<FlightPieces>, Memory>
+        ensures { IfOk result (λ flights. (days : FlightNumber → Days)
+            × (flights.items ≡ divided_flights days)
+            × AgreeBetween first last days (days_of_desk self)) }
+    {
+        // No effect at run time. The proof reads from this use that the date is in the calendar.
+        let _ = last.number();
+        let Holdings { base, held, alloc } = self;
+        let (data_set, stations) = base.into_parts();
+        let mut schedule = Schedule::of_dates(data_set, first, last)?;
+        act_between(alloc, stations.rows(), &mut schedule, first, last, &held)?;
         schedule.into_flights()
     }
 

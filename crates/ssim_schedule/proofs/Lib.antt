@@ -1,6 +1,7 @@
 pub mod TimetableBuilderLemmas
 pub mod ChangeLemmas
 pub mod FlightSets
+pub mod Wanted
 pub mod Divisions
 pub mod TableBuilderLemmas
 pub mod Planning

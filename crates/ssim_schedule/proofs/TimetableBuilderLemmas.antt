@@ -7,7 +7,7 @@ use Rattle.std.proofs.lemmas.Bool.Decides.{nat_tests}
 use Rattle.ssim_values.specs.Flight.{FlightNumber, IsFlight}
 use Rattle.ssim_values.specs.Period.{DayRange}
 use Rattle.ssim_periods.specs.Calendar.{holds}
-use Rattle.ssim_periods.specs.Days.{changed_on}
+use Rattle.ssim_periods.specs.Days.{changed_on, each_day}
 use Rattle.ssim_periods.proofs.DayLemmas.{changed_on-each_day, each_day-same}
 use Rattle.ssim_records.specs.Carrier.{CarrierFields}
 use Rattle.ssim_records.specs.Header.{HeaderFields}
@@ -16,10 +16,11 @@ use Rattle.ssim_records.specs.Trailer.{TrailerFields}
 use Rattle.ssim_records.specs.Segment.{SegmentFields}
 use Rattle.ssim_records.specs.declared.record.Record.{Record}
 use Rattle.ssim_records.specs.declared.record.Record.TheVariants.{Header, Carrier, Leg, Segment, Trailer}
-use Rattle.ssim_base.specs.Timetable.{Days, LegValue, Legs, days_of, itinerary, leg_of, period_of, placed, same_flight, same_name, tails_of}
+use Rattle.ssim_base.specs.Timetable.{Days, LegValue, Legs, itinerary, leg_of, period_of, placed, same_flight, same_name, tails_of}
 use Rattle.ssim_schedule.specs.internal.LegKey.{IsPlaced, name_place}
-use Rattle.ssim_schedule.specs.internal.TimetableBuilder.{IsBuilt, IsCut, OpensGroup, PutsGroup, TakesLeg, TakesSegment, days_with}
-use Rattle.ssim_schedule.specs.internal.LegGroup.{Group, IsBound, with_legs}
+use Rattle.ssim_schedule.specs.internal.TimetableBuilder.{IsBuilt, IsCut, LeavesOut, OpensGroup, PutsGroup, PutsLeg, TakesLeg, TakesSegment, days_with}
+use Rattle.ssim_schedule.specs.internal.WantedDates.{IsPart, is_wanted, itinerary_wanted}
+use Rattle.ssim_schedule.specs.internal.LegGroup.{Group, IsBound, no_group, with_legs}
 use Rattle.ssim_schedule.specs.internal.InsertedLegs.{StartsFrom, placed_each}
 use Rattle.ssim_base.specs.ReadBack.{place_of}
 use Rattle.ssim_base.proofs.Places.{same_flight-place}
@@ -66,76 +67,104 @@ or-true : (a b : Bool) → b ≡ true → (a || b) ≡ true
 or-true true b h = refl
 or-true false b h = h
 
-pub built-other : (b : TimetableBuilder) (r : Record) (done : List Record) → ((g : FlightNumber) (n : ℕ) → itinerary (r ∷ done) g n ≡ itinerary done g n) → ((n : Name) → tails_of n (r ∷ done) ≡ tails_of n done)
-    → ((g : FlightNumber) → IsFlight g → (cut : ℕ) → IsCut b g cut → IsTrue (list_any (is_point g cut) (r ∷ done))) → IsBuilt b done → IsBuilt b (r ∷ done)
-built-other b r done days tails points h = record {
-  days = λ g is. h.days g is ∙ sym (each_day-same (itinerary (r ∷ done) g) (itinerary done g) (λ n l. days g n));
-  tails = λ n is. h.tails n is ∙ sym (tails n);
-  cuts = points;
-}
+-- if table and group are the same, the cuts are
+old_cut : (old new : TimetableBuilder) (g : FlightNumber) (cut : ℕ) → new.group ≡ old.group → new.table ≡ old.table → IsCut new g cut → IsCut old g cut
+old_cut old new g cut group table has =
+    subst (λ (a : Group). Contains (table_cuts old.table g) cut ⊎ IsBound a.heading g cut) group (subst (λ (t : Table). Contains (table_cuts t g) cut ⊎ IsBound new.group.heading g cut) table has)
 
--- a record that is neither leg nor segment
-pub built-plain : (b : TimetableBuilder) (r : Record) (done : List Record) → ((x : HeaderFields) × (r ≡ Header x)) ⊎ ((x : CarrierFields) × (r ≡ Carrier x)) ⊎ ((x : TrailerFields) × (r ≡ Trailer x))
-    → IsBuilt b done → IsBuilt b (r ∷ done)
-built-plain b r done (inl (x, is)) h = subst (λ r. IsBuilt b (r ∷ done)) (sym is) (built-other b (Header x) done (λ g n. refl) (λ n. refl) h.cuts h)
-built-plain b r done (inr (inl (x, is))) h = subst (λ r. IsBuilt b (r ∷ done)) (sym is) (built-other b (Carrier x) done (λ g n. refl) (λ n. refl) h.cuts h)
-built-plain b r done (inr (inr (x, is))) h = subst (λ r. IsBuilt b (r ∷ done)) (sym is) (built-other b (Trailer x) done (λ g n. refl) (λ n. refl) h.cuts h)
+module _ (wanted : Option (ℕ × ℕ)) where
+  pub built-other : (b : TimetableBuilder) (r : Record) (done : List Record) → ((g : FlightNumber) (n : ℕ) → itinerary (r ∷ done) g n ≡ itinerary done g n) → ((n : Name) → tails_of n (r ∷ done) ≡ tails_of n done)
+      → (wanted ≡ None → (g : FlightNumber) → IsFlight g → (cut : ℕ) → IsCut b g cut → IsTrue (list_any (is_point g cut) (r ∷ done))) → IsBuilt wanted b done → IsBuilt wanted b (r ∷ done)
+  built-other b r done days tails points h = record {
+    wants = h.wants;
+    days = λ g is.
+        h.days g is
+        ∙ sym (each_day-same (itinerary_wanted wanted (r ∷ done) g) (itinerary_wanted wanted done g) (λ n l. ap (λ (legs : Legs). if is_wanted wanted n then legs else []) (days g n)));
+    tails = λ n is. h.tails n is ∙ sym (tails n);
+    cuts = points;
+  }
 
-pub built-segment : (old new : TimetableBuilder) (r : SegmentFields) (done : List Record) → TakesSegment old new r → IsBuilt old done → IsBuilt new (Segment r ∷ done)
-built-segment old new r done t h = record {
-  days = λ g is. rw (t.group, t.table) (h.days g is ∙ sym (each_day-same (itinerary (Segment r ∷ done) g) (itinerary done g) (λ n l. refl)));
-  tails = λ n is.
-      t.tails (name_place n)
-      ∙ ap (λ b. if b then r.tail ∷ waiting_at old.waiting (name_place n) else waiting_at old.waiting (name_place n)) (sym (same_name-place n r.name is t.named))
-      ∙ ap (λ ts. if same_name n r.name then r.tail ∷ ts else ts) (h.tails n is);
-  cuts = λ g is cut has. h.cuts g is cut (subst (λ (group : Group). Contains (table_cuts old.table g) cut ⊎ IsBound group.heading g cut) t.group (subst (λ (table : Table). Contains (table_cuts table g) cut ⊎ IsBound new.group.heading g cut) t.table has));
-}
+  -- a record that is neither leg nor segment
+  pub built-plain : (b : TimetableBuilder) (r : Record) (done : List Record) → ((x : HeaderFields) × (r ≡ Header x)) ⊎ ((x : CarrierFields) × (r ≡ Carrier x)) ⊎ ((x : TrailerFields) × (r ≡ Trailer x))
+      → IsBuilt wanted b done → IsBuilt wanted b (r ∷ done)
+  built-plain b r done (inl (x, is)) h = subst (λ r. IsBuilt wanted b (r ∷ done)) (sym is) (built-other b (Header x) done (λ g n. refl) (λ n. refl) h.cuts h)
+  built-plain b r done (inr (inl (x, is))) h = subst (λ r. IsBuilt wanted b (r ∷ done)) (sym is) (built-other b (Carrier x) done (λ g n. refl) (λ n. refl) h.cuts h)
+  built-plain b r done (inr (inr (x, is))) h = subst (λ r. IsBuilt wanted b (r ∷ done)) (sym is) (built-other b (Trailer x) done (λ g n. refl) (λ n. refl) h.cuts h)
 
-pub built-leg : (old new : TimetableBuilder) (r : LegFields) (done : List Record) → TakesLeg old new r → IsBuilt old done → IsBuilt new (Leg r ∷ done)
-built-leg old new r done t h = record {
-  days = λ g is. one g is;
-  tails = λ n is.
-      t.tails (name_place n)
-      ∙ ap (λ b. if b then [] else waiting_at old.waiting (name_place n)) (sym (same_name-place n r.name is t.named))
-      ∙ ap (λ ts. if same_name n r.name then [] else ts) (h.tails n is);
-  cuts = λ g is cut has. at_point g is cut (t.cuts g cut has);
-}
-  where
-    point : (g : FlightNumber) → IsFlight g → (cut : ℕ) → place_of r.name.flight ≡ place_of g → (nat_eq cut r.first || nat_eq cut ((period_of r).last + 1)) ≡ true
-        → (is_point g cut (Leg r) || list_any (is_point g cut) done) ≡ true
-    point g is cut same at =
-        let flight : same_flight r.name.flight g ≡ true = same_flight-place r.name.flight g t.named.flight is ∙ ap (λ k. nat_eq k (place_of g)) same ∙ eq-self (place_of g) in
-        rw (flight, at) refl
+  pub built-segment : (old new : TimetableBuilder) (r : SegmentFields) (done : List Record) → TakesSegment old new r → IsBuilt wanted old done → IsBuilt wanted new (Segment r ∷ done)
+  built-segment old new r done t h = record {
+    wants = t.wanted ∙ h.wants;
+    days = λ g is. rw (t.group, t.table) (h.days g is ∙ sym (each_day-same (itinerary_wanted wanted (Segment r ∷ done) g) (itinerary_wanted wanted done g) (λ n l. refl)));
+    tails = λ n is.
+        t.tails (name_place n)
+        ∙ ap (λ b. if b then r.tail ∷ waiting_at old.waiting (name_place n) else waiting_at old.waiting (name_place n)) (sym (same_name-place n r.name is t.named))
+        ∙ ap (λ ts. if same_name n r.name then r.tail ∷ ts else ts) (h.tails n is);
+    cuts = λ whole g is cut has. h.cuts whole g is cut (old_cut old new g cut t.group t.table has);
+  }
 
-    at_point : (g : FlightNumber) → IsFlight g → (cut : ℕ) → IsCut old g cut ⊎ ((place_of r.name.flight ≡ place_of g) × ((cut ≡ r.first) ⊎ (cut ≡ (period_of r).last + 1)))
-        → (is_point g cut (Leg r) || list_any (is_point g cut) done) ≡ true
-    at_point g is cut (inl has) = or-true (is_point g cut (Leg r)) (list_any (is_point g cut) done) (h.cuts g is cut has)
-    at_point g is cut (inr (same, inl at)) = point g is cut same (rw (ap (λ n. nat_eq n r.first) at ∙ eq-self r.first) refl)
-    at_point g is cut (inr (same, inr at)) = point g is cut same (or-true (nat_eq cut r.first) (nat_eq cut ((period_of r).last + 1)) (ap (λ n. nat_eq n ((period_of r).last + 1)) at ∙ eq-self ((period_of r).last + 1)))
+  -- a leg of which no day is wanted, or whose wanted days are those on which it is put
+  legs_on : (on wants : Bool) (leg : LegValue) (legs : Legs)
+      → (if on && wants then placed leg (if wants then legs else []) else (if wants then legs else [])) ≡ (if wants then (if on then placed leg legs else legs) else [])
+  legs_on true true leg legs = refl
+  legs_on true false leg legs = refl
+  legs_on false true leg legs = refl
+  legs_on false false leg legs = refl
 
-    its : LegValue
-    its = record { sequence = r.name.sequence; columns = r.columns; tails = waiting_at old.waiting (name_place r.name) }
+  pub built-leg : (old new : TimetableBuilder) (r : LegFields) (done : List Record) → TakesLeg old new r → IsBuilt wanted old done → IsBuilt wanted new (Leg r ∷ done)
+  built-leg old new r done t h = record {
+    wants = t.wanted ∙ h.wants;
+    days = λ g is. one g is;
+    tails = λ n is.
+        t.tails (name_place n)
+        ∙ ap (λ b. if b then [] else waiting_at old.waiting (name_place n)) (sym (same_name-place n r.name is t.named))
+        ∙ ap (λ ts. if same_name n r.name then [] else ts) (h.tails n is);
+    cuts = λ whole g is cut has. at_point whole g is cut (t.cuts (h.wants ∙ whole) g cut has);
+  }
+    where
+      point : (g : FlightNumber) → IsFlight g → (cut : ℕ) → place_of r.name.flight ≡ place_of g → (nat_eq cut r.first || nat_eq cut ((period_of r).last + 1)) ≡ true
+          → (is_point g cut (Leg r) || list_any (is_point g cut) done) ≡ true
+      point g is cut same at =
+          let flight : same_flight r.name.flight g ≡ true = same_flight-place r.name.flight g t.named.flight is ∙ ap (λ k. nat_eq k (place_of g)) same ∙ eq-self (place_of g) in
+          rw (flight, at) refl
 
-    is_leg : its ≡ leg_of r done
-    is_leg = ap (λ (ts : List (List ℕ)). record { sequence = r.name.sequence; columns = r.columns; tails = ts }) (h.tails r.name t.named)
+      at_point : wanted ≡ None → (g : FlightNumber) → IsFlight g → (cut : ℕ) → IsCut old g cut ⊎ ((place_of r.name.flight ≡ place_of g) × ((cut ≡ r.first) ⊎ (cut ≡ (period_of r).last + 1)))
+          → (is_point g cut (Leg r) || list_any (is_point g cut) done) ≡ true
+      at_point whole g is cut (inl has) = or-true (is_point g cut (Leg r)) (list_any (is_point g cut) done) (h.cuts whole g is cut has)
+      at_point whole g is cut (inr (same, inl at)) = point g is cut same (rw (ap (λ n. nat_eq n r.first) at ∙ eq-self r.first) refl)
+      at_point whole g is cut (inr (same, inr at)) = point g is cut same (or-true (nat_eq cut r.first) (nat_eq cut ((period_of r).last + 1)) (ap (λ n. nat_eq n ((period_of r).last + 1)) at ∙ eq-self ((period_of r).last + 1)))
 
-    choose : (b : Bool) (g : FlightNumber) → same_flight r.name.flight g ≡ b
-        → (if b then changed_on (holds (period_of r)) (placed (leg_of r done)) 0 (days_of done g) else days_of done g) ≡ days_of (Leg r ∷ done) g
-    choose true g e =
-        changed_on-each_day (holds (period_of r)) (placed (leg_of r done)) (itinerary done g)
-        ∙ each_day-same (λ n. if holds (period_of r) n then placed (leg_of r done) (itinerary done g n) else itinerary done g n) (itinerary (Leg r ∷ done) g)
-        (λ n l. ap (λ b. if b && holds (period_of r) n then placed (leg_of r done) (itinerary done g n) else itinerary done g n) (sym e))
-    choose false g e =
-        each_day-same (itinerary done g) (itinerary (Leg r ∷ done) g)
-        (λ n l. ap (λ b. if b && holds (period_of r) n then placed (leg_of r done) (itinerary done g n) else itinerary done g n) (sym e))
+      its : LegValue
+      its = record { sequence = r.name.sequence; columns = r.columns; tails = waiting_at old.waiting (name_place r.name) }
 
-    one : (g : FlightNumber) → IsFlight g → days_with new g ≡ days_of (Leg r ∷ done) g
-    one g is =
-        t.days g
-        ∙ ap (λ b. if b then changed_on (holds (period_of r)) (placed its) 0 (days_with old g) else days_with old g) (sym (same_flight-place r.name.flight g t.named.flight is))
-        ∙ ap (λ (l : LegValue). if same_flight r.name.flight g then changed_on (holds (period_of r)) (placed l) 0 (days_with old g) else days_with old g) is_leg
-        ∙ ap (λ (ds : List Legs). if same_flight r.name.flight g then changed_on (holds (period_of r)) (placed (leg_of r done)) 0 ds else ds) (h.days g is)
-        ∙ choose (same_flight r.name.flight g) g refl
+      is_leg : its ≡ leg_of r done
+      is_leg = ap (λ (ts : List (List ℕ)). record { sequence = r.name.sequence; columns = r.columns; tails = ts }) (h.tails r.name t.named)
+
+      before : FlightNumber → ℕ → Legs
+      before = itinerary_wanted wanted done
+
+      is_on : ℕ → Bool
+      is_on n = holds (period_of r) n && is_wanted wanted n
+
+      choose : (b : Bool) (g : FlightNumber) → same_flight r.name.flight g ≡ b
+          → (if b then changed_on is_on (placed (leg_of r done)) 0 (each_day (before g)) else each_day (before g)) ≡ each_day (itinerary_wanted wanted (Leg r ∷ done) g)
+      choose true g e =
+          changed_on-each_day is_on (placed (leg_of r done)) (before g)
+          ∙ each_day-same (λ n. if is_on n then placed (leg_of r done) (before g n) else before g n) (itinerary_wanted wanted (Leg r ∷ done) g)
+          (λ n l.
+          legs_on (holds (period_of r) n) (is_wanted wanted n) (leg_of r done) (itinerary done g n)
+          ∙ ap (λ b. if is_wanted wanted n then (if b && holds (period_of r) n then placed (leg_of r done) (itinerary done g n) else itinerary done g n) else []) (sym e))
+      choose false g e =
+          each_day-same (before g) (itinerary_wanted wanted (Leg r ∷ done) g)
+          (λ n l. ap (λ b. if is_wanted wanted n then (if b && holds (period_of r) n then placed (leg_of r done) (itinerary done g n) else itinerary done g n) else []) (sym e))
+
+      one : (g : FlightNumber) → IsFlight g → days_with new g ≡ each_day (itinerary_wanted wanted (Leg r ∷ done) g)
+      one g is =
+          t.days g
+          ∙ ap (λ (w : Option (ℕ × ℕ)). if nat_eq (place_of r.name.flight) (place_of g) then changed_on (λ n. holds (period_of r) n && is_wanted w n) (placed its) 0 (days_with old g) else days_with old g) h.wants
+          ∙ ap (λ b. if b then changed_on is_on (placed its) 0 (days_with old g) else days_with old g) (sym (same_flight-place r.name.flight g t.named.flight is))
+          ∙ ap (λ (l : LegValue). if same_flight r.name.flight g then changed_on is_on (placed l) 0 (days_with old g) else days_with old g) is_leg
+          ∙ ap (λ (ds : List Legs). if same_flight r.name.flight g then changed_on is_on (placed (leg_of r done)) 0 ds else ds) (h.days g is)
+          ∙ choose (same_flight r.name.flight g) g refl
 
 -- ---- the group
 
@@ -160,9 +189,9 @@ none_yet (Some h) g days = by (nat_eq (place_of h.flight) (place_of g))
     by false = refl
 
 -- the pending legs are put, and others can come
-pub opened : (old put new : TimetableBuilder) (h : Heading) (sequence : ℕ) → PutsGroup old put → new.table ≡ put.table → new.waiting ≡ put.waiting → new.group ≡ record { heading = Some h; legs = [] }
-    → OpensGroup old new h sequence
-opened old put new h sequence puts table waiting group = record {
+pub opened : (old put new : TimetableBuilder) (h : Heading) (sequence : ℕ) → PutsGroup old put → new.table ≡ put.table → new.waiting ≡ put.waiting → new.wanted ≡ put.wanted
+    → new.group ≡ record { heading = Some h; legs = [] } → OpensGroup old new h sequence
+opened old put new h sequence puts table waiting wanted group = record {
   heading = ap (λ (a : Group). a.heading) group;
   order = subst (λ (a : Group). StartsFrom sequence a.legs) (sym group) tt;
   days = λ g.
@@ -172,6 +201,7 @@ opened old put new h sequence puts table waiting group = record {
       ∙ puts.days g;
   cuts = λ g cut has. by g cut has;
   waiting = waiting ∙ puts.waiting;
+  wanted = wanted ∙ puts.wanted;
 }
   where
     by : (g : FlightNumber) (cut : ℕ) → IsCut new g cut → IsCut old g cut ⊎ IsBound (Some h) g cut
@@ -204,6 +234,76 @@ same_period p r last first end' days some =
     let masks : record { first = r.first; last = unwrap_or r.last 0; days = p.days } ≡ period_of r = ap (λ (d : List Bool). record { first = r.first; last = unwrap_or r.last 0; days = d }) days in
     firsts ∙ lasts ∙ masks
 
+-- ---- the wanted dates of a leg
+
+changed_none : (s : ℕ → Bool) (after : Legs → Legs) (n : ℕ) (days : Days) → ((k : ℕ) → s k ≡ false) → changed_on s after n days ≡ days
+changed_none s after n [] none = refl
+changed_none s after n (old ∷ days) none =
+    ap (λ b. (if b then after old else old) ∷ changed_on s after (n + 1) days) (none n) ∙ ap (λ (ds : Days). old ∷ ds) (changed_none s after (n + 1) days none)
+
+module _ (old new : TimetableBuilder) (r : LegFields) (period : DayRange) (is : period ≡ period_of r) where
+  abbrev its : LegValue
+  its = record { sequence = r.name.sequence; columns = r.columns; tails = waiting_at old.waiting (name_place r.name) }
+
+  -- it is put on those of its period
+  pub takes_part : (part : DayRange) → IsPart old.wanted period (Some part) → PutsLeg old new r part → TakesLeg old new r
+  takes_part part of puts = record {
+    named = puts.named;
+    wanted = puts.wanted;
+    days = λ g.
+        puts.days g
+        ∙ ap (λ (s : ℕ → Bool). if nat_eq (place_of r.name.flight) (place_of g) then changed_on s (placed its) 0 (days_with old g) else days_with old g) (λ i n. same n i);
+    tails = puts.tails;
+    cuts = λ whole g cut has. subst (λ (p : DayRange). IsCut old g cut ⊎ IsBound (Some (record { flight = r.name.flight; period = p })) g cut) (of.1 whole ∙ is) (puts.cuts g cut has);
+  }
+    where
+      same : (n : ℕ) → holds part n ≡ (holds (period_of r) n && is_wanted old.wanted n)
+      same n = of.0 n ∙ ap (λ (p : DayRange). holds p n && is_wanted old.wanted n) is
+
+  -- no day of its period is wanted
+  pub takes_none : IsPart old.wanted period None → LeavesOut old new r.name → TakesLeg old new r
+  takes_none none leaves = record {
+    named = leaves.named;
+    wanted = leaves.wanted;
+    days = λ g.
+        ap (λ (a : Group). with_legs a.heading a.legs g (table_days new.table g)) leaves.group
+        ∙ ap (λ (t : Table). with_legs old.group.heading old.group.legs g (table_days t g)) leaves.table
+        ∙ sym (by (nat_eq (place_of r.name.flight) (place_of g)) (days_with old g));
+    tails = leaves.tails;
+    cuts = λ whole g cut has. inl (old_cut old new g cut leaves.group leaves.table has);
+  }
+    where
+      is_on : ℕ → Bool
+      is_on n = holds (period_of r) n && is_wanted old.wanted n
+
+      by : (b : Bool) (days : Days) → (if b then changed_on is_on (placed its) 0 days else days) ≡ days
+      by true days = changed_none is_on (placed its) 0 days (λ n. ap (λ (p : DayRange). holds p n && is_wanted old.wanted n) (sym is) ∙ none n)
+      by false days = refl
+
+-- ---- no records, and all
+
+nothing : (none : Legs) (b : Bool) → none ≡ (if b then none else none)
+nothing none true = refl
+nothing none false = refl
+
+-- a builder that is empty
+pub none_built : (wanted : Option (ℕ × ℕ)) (b : TimetableBuilder) → b.wanted ≡ wanted → b.group ≡ no_group → b.table ≡ [] → ((place : ℕ) → waiting_at b.waiting place ≡ []) → IsBuilt wanted b []
+none_built wanted b wants group table tails = record {
+  wants = wants;
+  days = λ g is.
+      ap (λ (a : Group). with_legs a.heading a.legs g (table_days b.table g)) group
+      ∙ ap (λ (t : Table). table_days t g) table
+      ∙ each_day-same (λ n. []) (itinerary_wanted wanted [] g) (λ n l. nothing [] (is_wanted wanted n));
+  tails = λ n is. tails (name_place n);
+  cuts = λ whole g is cut has.
+      no_cut g cut
+      (subst (λ (a : Group). Contains (table_cuts [] g) cut ⊎ IsBound a.heading g cut) group (subst (λ (t : Table). Contains (table_cuts t g) cut ⊎ IsBound b.group.heading g cut) table has));
+}
+  where
+    no_cut : (g : FlightNumber) (cut : ℕ) → Contains [] cut ⊎ ⊥ → IsTrue (list_any (is_point g cut) [])
+    no_cut g cut (inl (i, low, at)) = absurd (omega (arith, low))
+    no_cut g cut (inr never) = absurd never
+
 -- the records of a whole base are put before no others
-pub built_all : (b : TimetableBuilder) (rs : List Record) → IsBuilt b (rs ++ []) → IsBuilt b rs
-built_all b rs = subst (λ (done : List Record). IsBuilt b done) (append-nil rs)
+pub built_all : (wanted : Option (ℕ × ℕ)) (b : TimetableBuilder) (rs : List Record) → IsBuilt wanted b (rs ++ []) → IsBuilt wanted b rs
+built_all wanted b rs = subst (λ (done : List Record). IsBuilt wanted b done) (append-nil rs)

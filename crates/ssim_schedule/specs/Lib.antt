@@ -4,6 +4,7 @@ pub mod ExportResult
 pub mod MessageColumns
 pub mod Effect
 pub mod Acts
+pub mod Dates
 pub mod FlightDate
 pub mod FlightPieces
 pub mod examples

@@ -11,6 +11,7 @@ pub mod LegGroup
 pub mod Runs
 pub mod TableBuilder
 pub mod PendingSegments
+pub mod WantedDates
 pub mod TimetableBuilder
 pub mod FlightSet
 pub mod ActionParts

@@ -9,3 +9,4 @@ pub(crate) mod pending_segments;
 pub(crate) mod run;
 pub(crate) mod table_builder;
 pub(crate) mod timetable_builder;
+pub(crate) mod wanted_dates;

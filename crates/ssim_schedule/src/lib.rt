@@ -2,7 +2,7 @@
 //!
 //! - [`Schedule`]: the itinerary of each flight on each date, which is its [`PlacedLeg`]s in order.
 //!   `of` makes it from a base, `of_flights` from some flights of a data set, and `of_data_set`
-//!   from a data set whose records are freed.
+//!   from a data set whose records are freed; `of_dates` makes it so for some dates alone.
 //! - `Schedule::export` and `export_in`: write it as chapter 7 in the one canonical division, or
 //!   return an [`ExportFault`]. [`export_data_set`] does the same for the timetable of a data set.
 //! - `Schedule::into_flights`: all flights with their [`FlightPieces`], the periods of the same

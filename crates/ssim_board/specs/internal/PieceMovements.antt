@@ -1,22 +1,18 @@
 -- Movements as the code finds them: flights with their pieces, on the dates of origin that can have
 -- something on the board.
-use Rattle.std.specs.Prelude.{ℕ, ◌+◌, ◌-◌, nat_lt, if◌then◌else◌, List, []}
+use Rattle.std.specs.Prelude.{ℕ, ◌+◌, ◌-◌, if◌then◌else◌, List, []}
 use Rattle.std.specs.List.{flat_map, range_with_len}
 use Rattle.ssim_values.specs.Flight.{FlightNumber}
 use Rattle.ssim_periods.specs.Calendar.{holds}
 use Rattle.ssim_base.specs.Export.{Piece}
 use Rattle.ssim_schedule.specs.FlightPieces.{Divided}
-use Rattle.ssim_board.specs.Movements.{leg_movements}
+use Rattle.ssim_board.specs.Movements.{first_date, last_date, leg_movements}
 use Rattle.ssim_board.specs.declared.board.Board.{Board}
 use Rattle.ssim_board.specs.declared.movement.Movement.{Movement}
 
--- the first date of origin that can have something on the board: ten days before the board's date
-abbrev pub date_from : Board → ℕ
-date_from board = board.day - 10
-
--- the date after the last one: two days after the board's date, or the end of the calendar
+-- the day after the last date of origin that can have something on the board
 abbrev pub date_end : Board → ℕ
-date_end board = if nat_lt board.day 36523 then board.day + 2 else 36525
+date_end board = last_date board + 1
 
 -- what a piece has on the board, if it holds the date of origin
 abbrev pub on_date : Board → FlightNumber → ℕ → Piece → List Movement
@@ -31,7 +27,7 @@ piece_movements board flight date pieces = flat_map (on_date board flight date) 
 abbrev pub divided_movements : Board → Divided → List Movement
 divided_movements board flight =
     flat_map (λ date. piece_movements board flight.0 date flight.1)
-    (range_with_len (date_from board) (date_end board - date_from board))
+    (range_with_len (first_date board) (date_end board - first_date board))
 
 -- what flights have on the board
 abbrev pub all_movements : Board → List Divided → List Movement

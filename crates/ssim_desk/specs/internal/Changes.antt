@@ -1,6 +1,6 @@
 -- What a text or a merge changes in the messages that are held, and the schedules after them.
 use Rattle.std.specs.Prelude.{◌≡◌, ◌⊎◌, ℕ, ◌+◌, ◌*◌, ◌/◌, ◌%◌, ◌<◌, ◌≤◌, List, ◌∷◌, ◌++◌, length, take, map}
-use Rattle.std.specs.Prelude.{slice_get, true, Contains, IsTrue, IfSome}
+use Rattle.std.specs.Prelude.{slice_get, Bool, true, ◌&&◌, nat_le, Contains, IsTrue, IfSome}
 use Rattle.std.specs.Prelude.{Option, None, Some}
 use Rattle.std.specs.FinMap.{get}
 use Rattle.std.specs.Prelude.{Vec, vec_capacity, vec_len}
@@ -55,6 +55,15 @@ Shows schedule timetable = (g : FlightNumber) → IsFlight g → days_in schedul
 -- the timetables agree at each of these flights
 abbrev pub AgreeAt : List FlightNumber → Timetable → Timetable → Type 0
 AgreeAt flights one other = (g : FlightNumber) → is_among flights g ≡ true → one g ≡ other g
+
+-- the timetables agree on each day from a first date to a last
+abbrev pub AgreeFrom : ℕ → ℕ → Timetable → Timetable → Type 0
+AgreeFrom first last one other =
+    (g : FlightNumber) (day : ℕ) → first ≤ day → day ≤ last → one g day ≡ other g day
+
+-- whether the period of a sub-message reaches into the dates from a first to a last
+abbrev pub reaches : ℕ → ℕ → ResolvedSub → Bool
+reaches first last sub = nat_le first sub.period.last && nat_le sub.period.first last
 
 -- the flights of the sub-messages of messages
 abbrev pub flights_of : List Entry → List FlightNumber

@@ -40,12 +40,12 @@ fn shown(alloc: Global, desk: Holdings, station: &str, date: &str) -> Result<Vec
     let station = station_in(station)?;
     let day = day_in(date)?;
     let carrier = carrier_of(&desk);
-    let flights = desk.into_flights()?;
     let board = Board {
         station,
         day,
         mode: carrier.time_mode(),
     };
+    let flights = desk.into_flights_between(board.first_date(), board.last_date())?;
     let movements = board.movements(alloc, &flights)?;
     let lines = board_lines(alloc, carrier.airline(), day, &movements)?;
     Ok(lines)

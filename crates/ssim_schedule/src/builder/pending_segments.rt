@@ -92,6 +92,19 @@ impl PendingSegments {
         Ok(tails)
     }
 
+    /// Drops the tails of a leg, so that none of them is pending any more.
+    pub(crate) fn leave_out(&mut self, name: LegName)
+        ensures named { IsPlaced name }
+        ensures others { (place : ℕ) → waiting_at self.new place ≡ (if nat_eq place (name_place name) then [] else waiting_at self.old place) }
+    {
+        let key = LegKey::of(name);
+        if key == self.latest {
+            self.tails.clear();
+        } else if !self.others.is_empty() {
+            let _ = self.others.remove(&key);
+        }
+    }
+
     // The tails of a leg that is not the latest.
     fn take_other(&mut self, key: LegKey) -> Vec<SegmentTail>
         requires { nat_eq key self.old.latest ≡ false }

@@ -1,7 +1,8 @@
 //! The timetable of records, built from the last record to the first, so that each tail comes
 //! before its leg.
 
-ghost use Rattle.std.specs.Prelude.{◌≡◌, ◌∷◌, ◌++◌, [], false, List, IfOk, OnOk, Some, filter};
+ghost use Rattle.std.specs.Prelude.{◌≡◌, ◌∷◌, ◌++◌, ℕ, [], false, List, IfOk, OnOk, Option, None};
+ghost use Rattle.std.specs.Prelude.{Some, filter};
 ghost use Rattle.std.specs.List.{All};
 ghost use Rattle.ssim_values.specs.Flight.{FlightNumber, IsFlight};
 ghost use Rattle.ssim_periods.specs.Days.{each_day};
@@ -9,6 +10,8 @@ ghost use Rattle.ssim_records.specs.declared.record.Record.{Record};
 ghost use Rattle.ssim_base.specs.Closed.{IsClosed};
 ghost use Rattle.ssim_base.specs.Export.{Frame};
 ghost use Rattle.ssim_schedule.specs.internal.FlightSet.{is_marked, is_record_of};
+ghost use Rattle.ssim_schedule.specs.internal.WantedDates.{itinerary_wanted};
+ghost use Rattle.ssim_schedule.specs.Dates.{itinerary_between};
 ghost use Rattle.ssim_schedule.specs.DivisionPoints.{AreAtPoints};
 ghost use Rattle.ssim_base.specs.ReadBack.{HasFrame};
 ghost use Rattle.ssim_schedule.specs.Schedule.{cuts_in, days_in};
@@ -19,11 +22,12 @@ use crate::builder::flight_set::FlightSet;
 use crate::builder::leg_group::LegGroup;
 use crate::builder::pending_segments::PendingSegments;
 use crate::builder::table_builder::TableBuilder;
+use crate::builder::wanted_dates::{are_unwanted, wanted_part};
 use crate::schedule::Schedule;
 use crate::timetable::flight_blocks::FlightBlocks;
 use ssim_base::{Base, BaseFrame, DataSet};
-use ssim_records::{LegRecord, Record, SegmentRecord};
-use ssim_values::{Flight, Memory, Period};
+use ssim_records::{LegName, LegRecord, Record, SegmentRecord};
+use ssim_values::{Day, Flight, Memory, Period};
 use std::alloc::Global;
 
 // A flight for which fewer itineraries were made is not searched for equal ones: the search would
@@ -47,6 +51,8 @@ pub(crate) struct TimetableBuilder {
     /// itinerary copies its legs.
     group: LegGroup,
     waiting: PendingSegments,
+    /// The first and the last date of which the timetable is made. None if it is made of all.
+    wanted: Option<(Day, Day)>,
     alloc: Global,
 }
 
@@ -59,7 +65,7 @@ impl Schedule {
         // A cut is the first day of a leg record of the flight, or the day after its last.
         ensures cuts { IfOk result (λ s. (g : FlightNumber) → IsFlight g → AreAtPoints (cuts_in s g) g base.now.records) }
     {
-        let mut building = TimetableBuilder::new(base.allocator())?;
+        let mut building = TimetableBuilder::new(base.allocator(), None)?;
         building.put_all(base.records())?;
         let mut table = building.into_table()?;
         table.share_where(base.flights(), FEW)?;
@@ -79,7 +85,7 @@ impl Schedule {
     {
         let alloc = data_set.allocator();
         let set = FlightSet::of(alloc, flights)?;
-        let mut building = TimetableBuilder::new(alloc)?;
+        let mut building = TimetableBuilder::new(alloc, None)?;
         building.put_those_of(&set, data_set.records())?;
         let table = building.into_table()?;
         Ok(Schedule { table })
@@ -95,26 +101,46 @@ impl Schedule {
         ensures exists { (frame : Frame) × HasFrame frame data_set }
     {
         let frame = data_set.frame().copy();
-        let mut building = TimetableBuilder::new(data_set.allocator())?;
+        let mut building = TimetableBuilder::new(data_set.allocator(), None)?;
         let (records, flights) = data_set.into_parts();
         building.put_list(records)?;
         let mut table = building.into_table()?;
         table.share_where(&flights, FEW)?;
         Ok((Schedule { table }, frame))
     }
+
+    /// The timetable of a data set from a first date to a last. No flight flies on any other date.
+    /// The records are freed while the timetable is made. It takes less time and memory than the
+    /// whole timetable if the dates are few.
+    pub fn of_dates(data_set: DataSet, first: Day, last: Day) -> Result<Schedule, Memory>
+        ensures { IfOk result (λ s. (g : FlightNumber) → IsFlight g
+            → days_in s g ≡ each_day (itinerary_between first last data_set g)) }
+    {
+        // No effect at run time. The proof reads from this use that the records are in order.
+        let _ = data_set.records();
+        let mut building = TimetableBuilder::new(data_set.allocator(), Some((first, last)))?;
+        let (records, _) = data_set.into_parts();
+        building.put_list(records)?;
+        let table = building.into_table()?;
+        Ok(Schedule { table })
+    }
 }
 
 impl TimetableBuilder {
-    ghost use Rattle.ssim_schedule.specs.internal.TimetableBuilder.{IsBuilt, OpensGroup, PutsGroup, TakesLeg, TakesSegment};
+    ghost use Rattle.ssim_schedule.specs.internal.TimetableBuilder.{IsBuilt, LeavesOut, OpensGroup, PutsGroup, PutsLeg, TakesLeg, TakesSegment};
 
-    /// The timetable of no records.
-    pub(crate) fn new(alloc: Global) -> Result<TimetableBuilder, Memory>
-        ensures { IfOk result (λ building. IsBuilt building []) }
+    /// The timetable of no records, from a first date to a last, or of all dates.
+    pub(crate) fn new(alloc: Global, wanted: Option<(Day, Day)>) -> Result<TimetableBuilder, Memory>
+        ensures { IfOk result (λ building. IsBuilt wanted building []) }
     {
+        let table = TableBuilder::new(alloc)?;
+        let group = LegGroup::new(alloc);
+        let waiting = PendingSegments::new(alloc);
         Ok(TimetableBuilder {
-            table: TableBuilder::new(alloc)?,
-            group: LegGroup::new(alloc),
-            waiting: PendingSegments::new(alloc),
+            table,
+            group,
+            waiting,
+            wanted,
             alloc,
         })
     }
@@ -122,7 +148,7 @@ impl TimetableBuilder {
     /// Adds records before the others, from the last to the first.
     fn put_all(&mut self, records: &[Record]) -> Result<(), Memory>
         requires { All IsClosed records.now }
-        ensures { OnOk result ((done : List Record) → IsBuilt self.old done → IsBuilt self.new (records.now ++ done)) }
+        ensures { OnOk result ((wanted : Option (ℕ × ℕ)) (done : List Record) → IsBuilt wanted self.old done → IsBuilt wanted self.new (records.now ++ done)) }
     {
         let mut place = records.len();
         while place > 0 {
@@ -136,7 +162,7 @@ impl TimetableBuilder {
     /// first.
     fn put_those_of(&mut self, flights: &FlightSet, records: &[Record]) -> Result<(), Memory>
         requires { All IsClosed records.now }
-        ensures { OnOk result ((done : List Record) → IsBuilt self.old done → IsBuilt self.new (filter (is_record_of (is_marked flights.now.marks.items)) records.now ++ done)) }
+        ensures { OnOk result ((wanted : Option (ℕ × ℕ)) (done : List Record) → IsBuilt wanted self.old done → IsBuilt wanted self.new (filter (is_record_of (is_marked flights.now.marks.items)) records.now ++ done)) }
     {
         let mut place = records.len();
         while place > 0 {
@@ -153,7 +179,7 @@ impl TimetableBuilder {
     /// of the list once it is added. So the timetable and the list never take the memory of both.
     fn put_list(&mut self, records: Vec<Record>) -> Result<(), Memory>
         requires { All IsClosed records.items }
-        ensures { OnOk result ((done : List Record) → IsBuilt self.old done → IsBuilt self.new (records.items ++ done)) }
+        ensures { OnOk result ((wanted : Option (ℕ × ℕ)) (done : List Record) → IsBuilt wanted self.old done → IsBuilt wanted self.new (records.items ++ done)) }
     {
         let mut left = records;
         while !left.is_empty() {
@@ -168,8 +194,8 @@ impl TimetableBuilder {
 
     /// The timetable of the records that were added.
     fn into_table(self) -> Result<FlightBlocks, Memory>
-        ensures days { IfOk result (λ table. (done : List Record) → IsBuilt self done → (g : FlightNumber) → IsFlight g → table_days table g ≡ days_of done g) }
-        ensures cuts { IfOk result (λ table. (done : List Record) → IsBuilt self done → (g : FlightNumber) → IsFlight g → AreAtPoints (table_cuts table g) g done) }
+        ensures days { IfOk result (λ table. (wanted : Option (ℕ × ℕ)) (done : List Record) → IsBuilt wanted self done → (g : FlightNumber) → IsFlight g → table_days table g ≡ each_day (itinerary_wanted wanted done g)) }
+        ensures cuts { IfOk result (λ table. (done : List Record) → IsBuilt None self done → (g : FlightNumber) → IsFlight g → AreAtPoints (table_cuts table g) g done) }
     {
         let mut building = self;
         building.put_group(None)?;
@@ -180,7 +206,7 @@ impl TimetableBuilder {
     /// Adds a record before the others.
     pub(crate) fn put(&mut self, one: &Record) -> Result<(), Memory>
         requires { IsClosed one.now }
-        ensures { OnOk result ((done : List Record) → IsBuilt self.old done → IsBuilt self.new (one.now ∷ done)) }
+        ensures { OnOk result ((wanted : Option (ℕ × ℕ)) (done : List Record) → IsBuilt wanted self.old done → IsBuilt wanted self.new (one.now ∷ done)) }
     {
         match one {
             Record::Leg(leg) => self.put_leg(leg),
@@ -199,16 +225,41 @@ impl TimetableBuilder {
         requires { IsClosed (Record.Leg leg.now) }
         ensures { OnOk result (TakesLeg self.old self.new leg.now) }
     {
-        let name = leg.name();
         let Some(last) = leg.last() else {
             unreachable!();
         };
+        // Most legs are left out if few dates are wanted.
+        if are_unwanted(self.wanted, leg.first(), last) {
+            self.leave_out(leg.name());
+            return Ok(());
+        }
         let Ok(period) = Period::new(leg.first(), last, leg.days()) else {
             unreachable!();
         };
+        match wanted_part(self.wanted, period) {
+            Some(part) => self.put_on(leg, part),
+            None => {
+                self.leave_out(leg.name());
+                Ok(())
+            }
+        }
+    }
+
+    /// Adds the leg of a record, with its pending tails, on the dates of a period.
+    fn put_on(&mut self, leg: &LegRecord, period: Period) -> Result<(), Memory>
+        ensures { OnOk result (PutsLeg self.old self.new leg.now period) }
+    {
+        let name = leg.name();
         self.open_group(name.flight(), period, name.sequence())?;
         let tails = self.waiting.take(name)?;
         self.group.add(leg, tails)
+    }
+
+    /// Drops the pending tails of a leg of which no date is wanted.
+    fn leave_out(&mut self, name: LegName)
+        ensures { LeavesOut self.old self.new name }
+    {
+        self.waiting.leave_out(name);
     }
 
     /// Makes the group one that a leg with this flight, period and leg sequence can join: another
@@ -245,6 +296,7 @@ impl TimetableBuilder {
         ensures table { self.new.table ≡ self.old.table }
         ensures group { self.new.group ≡ self.old.group }
         ensures waiting { self.new.waiting ≡ self.old.waiting }
+        ensures wanted { self.new.wanted ≡ self.old.wanted }
     {
         if next == Some(flight) {
             return Ok(());

@@ -6,7 +6,7 @@ use Rattle.ssim_schedule.specs.FlightPieces.{Divided}
 use Rattle.ssim_board.specs.InOrder.{by_time}
 use Rattle.ssim_board.specs.internal.PieceMovements.{all_movements}
 use Rattle.ssim_board.specs.declared.movement.Movement.{Movement}
-use Rattle.ssim_board.proofs.OnBoard.{IsTimed, all_timed, of_timetable}
+use Rattle.ssim_board.proofs.OnBoard.{IsTimed, all_timed, near_same, of_timetable}
 use Rattle.ssim_board.proofs.board.Board.movements.Goals as goal
 
 pub in_order-requires : goal.in_order-requires
@@ -16,9 +16,9 @@ in_order-requires c =
     subst (λ (ms : List Movement). All IsTimed ms) (sym are) (All-from_recursion IsTimed all (all_timed c.args.self.now c.args.flights.now))
 
 pub returns : goal.returns
-returns c days e =
+returns c days near e agree =
     let board = c.args.self.now in
     let all = all_movements board c.args.flights.now in
     let are : c.push_flights.new.movements.items ≡ all = c.in_ok-push_flights.ensures ∙ ap (λ (ms : List Movement). ms ++ all) c.new-movements.ensures.items in
     subst (λ (ms : List Movement). IfOk c.in_order.result (λ sorted. sorted.items ≡ by_time ms))
-    (are ∙ ap (λ (flights : List Divided). all_movements board flights) e ∙ of_timetable board days) c.in_order.ensures
+    (are ∙ ap (λ (flights : List Divided). all_movements board flights) e ∙ of_timetable board near ∙ near_same board near days agree) c.in_order.ensures

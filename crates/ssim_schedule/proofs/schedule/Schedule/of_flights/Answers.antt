@@ -1,5 +1,5 @@
 -- The records are those of the data set, and the marks those of the flights.
-use Rattle.std.proofs.Common.{◌≡◌, ℕ, Bool, [], List, ap, subst, ◌∙◌}
+use Rattle.std.proofs.Common.{◌≡◌, ℕ, Bool, [], List, None, ap, subst, ◌∙◌}
 use Rattle.std.specs.List.{filter}
 use Rattle.ssim_periods.specs.Days.{each_day}
 use Rattle.ssim_records.specs.declared.record.Record.{Record}
@@ -19,8 +19,8 @@ pub returns-clause-days : goal.returns-clause-days
 returns-clause-days c = λ g is.
     let p = is_record_of (is_marked c.in_ok-set.set.marks.items) in
     let kept = filter p c.records.result.now in
-    let built = built_all c.put_those_of.new.self kept (c.in_ok-put_those_of.ensures [] c.in_ok-building.ensures) in
-    c.in_ok-table.ensures.days kept built g is
+    let built = built_all None c.put_those_of.new.self kept (c.in_ok-put_those_of.ensures None [] c.in_ok-building.ensures) in
+    c.in_ok-table.ensures.days None kept built g is
     ∙ ap (λ (rs : List Record). days_of (filter p rs) g) c.records.ensures.value
     ∙ days_kept c.in_ok-set.set.marks.items c.args.flights.now c.args.data_set.now g (c.in_ok-set.ensures g is)
 
@@ -32,7 +32,7 @@ pub returns-clause-cuts : goal.returns-clause-cuts
 returns-clause-cuts c = λ g is.
     let p = is_marked c.in_ok-set.set.marks.items in
     let kept = filter (is_record_of p) c.records.result.now in
-    let built = built_all c.put_those_of.new.self kept (c.in_ok-put_those_of.ensures [] c.in_ok-building.ensures) in
+    let built = built_all None c.put_those_of.new.self kept (c.in_ok-put_those_of.ensures None [] c.in_ok-building.ensures) in
     let cuts = table_cuts c.in_ok-table.table g in
     all_points p c.args.data_set.now g cuts (at_kept p c.records.result.now c.args.data_set.now g cuts c.records.ensures.value (c.in_ok-table.ensures.cuts kept built g is))
 
@@ -40,7 +40,7 @@ pub returns-clause-others : goal.returns-clause-others
 returns-clause-others c = λ g is other.
     let p = is_marked c.in_ok-set.set.marks.items in
     let kept = filter (is_record_of p) c.records.result.now in
-    let built = built_all c.put_those_of.new.self kept (c.in_ok-put_those_of.ensures [] c.in_ok-building.ensures) in
+    let built = built_all None c.put_those_of.new.self kept (c.in_ok-put_those_of.ensures None [] c.in_ok-building.ensures) in
     let cuts = table_cuts c.in_ok-table.table g in
     no_points p c.args.data_set.now g cuts (c.in_ok-set.ensures g is ∙ other) (at_kept p c.records.result.now c.args.data_set.now g cuts c.records.ensures.value (c.in_ok-table.ensures.cuts kept built g is))
 
@@ -50,9 +50,9 @@ invariant_of-result c =
     let rs = c.args.data_set.now in
     let flights = c.args.flights.now in
     let kept = filter p c.records.result.now in
-    let built = built_all c.put_those_of.new.self kept (c.in_ok-put_those_of.ensures [] c.in_ok-building.ensures) in
+    let built = built_all None c.put_those_of.new.self kept (c.in_ok-put_those_of.ensures None [] c.in_ok-building.ensures) in
     timetable-same (table_days c.in_ok-table.table) (λ g. each_day (itinerary_among flights rs g))
-    (λ g is. c.in_ok-table.ensures.days kept built g is ∙ ap (λ (xs : List Record). days_of (filter p xs) g) c.records.ensures.value ∙ days_kept c.in_ok-set.set.marks.items flights rs g (c.in_ok-set.ensures g is))
+    (λ g is. c.in_ok-table.ensures.days None kept built g is ∙ ap (λ (xs : List Record). days_of (filter p xs) g) c.records.ensures.value ∙ days_kept c.in_ok-set.set.marks.items flights rs g (c.in_ok-set.ensures g is))
     (record {
       each_day = λ g is. length-each_day (itinerary_among flights rs g);
       rising = order_among flights rs (subst (λ (xs : List Record). AreInOrder (days_of xs)) c.records.ensures.value c.records.ensures.in_order);

@@ -7,5 +7,5 @@ use Rattle.ssim_schedule.proofs.builder.timetable_builder.TimetableBuilder.open_
 pub returns : goal.returns
 returns c =
     let put : TimetableBuilder = c.put_group.new.self in
-    let new : TimetableBuilder = record { table = put.table; group = c.begin.new.self; waiting = put.waiting; alloc = put.alloc } in
-    opened c.args.self.now put new (record { flight = c.args.flight; period = c.args.period }) c.args.sequence c.in_ok-put_group.ensures refl refl c.begin.ensures
+    let new : TimetableBuilder = record { table = put.table; group = c.begin.new.self; waiting = put.waiting; wanted = put.wanted; alloc = put.alloc } in
+    opened c.args.self.now put new (record { flight = c.args.flight; period = c.args.period }) c.args.sequence c.in_ok-put_group.ensures refl refl refl c.begin.ensures

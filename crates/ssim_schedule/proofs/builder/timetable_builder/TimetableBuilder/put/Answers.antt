@@ -5,17 +5,17 @@ use Rattle.ssim_schedule.proofs.builder.timetable_builder.TimetableBuilder.put.G
 
 pub returns-in-Leg : goal.returns-in-Leg
 returns-in-Leg c =
-    on_ok c.put_leg.result (λ takes done built. rw c.in-Leg.is (built-leg c.args.self.now c.put_leg.new.self c.in-Leg.leg done takes built)) c.put_leg.ensures
+    on_ok c.put_leg.result (λ takes wanted done built. rw c.in-Leg.is (built-leg wanted c.args.self.now c.put_leg.new.self c.in-Leg.leg done takes built)) c.put_leg.ensures
 
 pub returns-in-Segment : goal.returns-in-Segment
 returns-in-Segment c =
-    on_ok c.put_segment.result (λ takes done built. rw c.in-Segment.is (built-segment c.args.self.now c.put_segment.new.self c.in-Segment.segment done takes built)) c.put_segment.ensures
+    on_ok c.put_segment.result (λ takes wanted done built. rw c.in-Segment.is (built-segment wanted c.args.self.now c.put_segment.new.self c.in-Segment.segment done takes built)) c.put_segment.ensures
 
 pub returns-in-Header : goal.returns-in-Header
-returns-in-Header c = λ done built. built-plain c.args.self.now c.args.one.now done c.in-Header.is built
+returns-in-Header c = λ wanted done built. built-plain wanted c.args.self.now c.args.one.now done c.in-Header.is built
 
 pub returns-in-Header-2 : goal.returns-in-Header-2
-returns-in-Header-2 c = λ done built. built-plain c.args.self.now c.args.one.now done c.in-Header.is built
+returns-in-Header-2 c = λ wanted done built. built-plain wanted c.args.self.now c.args.one.now done c.in-Header.is built
 
 pub returns-in-Header-3 : goal.returns-in-Header-3
-returns-in-Header-3 c = λ done built. built-plain c.args.self.now c.args.one.now done c.in-Header.is built
+returns-in-Header-3 c = λ wanted done built. built-plain wanted c.args.self.now c.args.one.now done c.in-Header.is built

@@ -8,7 +8,7 @@ use Rattle.ssim_schedule.proofs.builder.timetable_builder.TimetableBuilder.put_a
 
 pub loop-place-init : goal.loop-place-init
 loop-place-init c =
-    (omega arith, λ done built. subst (λ (before : List Record). IsBuilt c.args.self.now (before ++ done)) (sym (drop_all (length c.args.records.now) c.args.records.now (omega arith))) built)
+    (omega arith, λ wanted done built. subst (λ (before : List Record). IsBuilt wanted c.args.self.now (before ++ done)) (sym (drop_all (length c.args.records.now) c.args.records.now (omega arith))) built)
 
 pub put-requires : goal.put-requires
 put-requires c =
@@ -25,10 +25,10 @@ loop-place-preserved c =
     drop-cons records (place - 1) c.index-records-place.result within ∙ ap (λ (r : Record). r ∷ drop (suc (place - 1)) records) (sym c.index-records-place.is)
     ∙ ap (λ (k : ℕ). c.index-records-place.result ∷ drop k records) back in (
       omega (arith, c.loop-place.invariant.0),
-      λ done built. subst (λ (before : List Record). IsBuilt c.put.new.self (before ++ done)) (sym step) (c.in_ok-put.ensures (drop place records ++ done) (c.loop-place.invariant.1 done built)),
+      λ wanted done built. subst (λ (before : List Record). IsBuilt wanted c.put.new.self (before ++ done)) (sym step) (c.in_ok-put.ensures wanted (drop place records ++ done) (c.loop-place.invariant.1 wanted done built)),
     )
 
 pub returns : goal.returns
-returns c = λ done built.
+returns c = λ wanted done built.
     let none : c.loop-place.place ≡ 0 = omega arith in
-    subst (λ (k : ℕ). IsBuilt c.loop-place.self (drop k c.args.records.now ++ done)) none (c.loop-place.invariant.1 done built)
+    subst (λ (k : ℕ). IsBuilt wanted c.loop-place.self (drop k c.args.records.now ++ done)) none (c.loop-place.invariant.1 wanted done built)

@@ -1,10 +1,10 @@
-use Rattle.std.proofs.Common.{◌≤◌, ◌++◌, List, drop, length}
+use Rattle.std.proofs.Common.{◌≤◌, ◌++◌, ℕ, List, Option, drop, length}
 use Rattle.ssim_records.specs.declared.record.Record.{Record}
 use Rattle.ssim_schedule.specs.internal.TimetableBuilder.{IsBuilt}
 use Rattle.ssim_schedule.proofs.builder.timetable_builder.TimetableBuilder.put_all.Given as goal
 
 abbrev pub invariant-loop-place : goal.invariant-loop-place
-invariant-loop-place l = (l.place ≤ length l.records) × ((done : List Record) → IsBuilt l.initial.self done → IsBuilt l.self (drop l.place l.records ++ done))
+invariant-loop-place l = (l.place ≤ length l.records) × ((wanted : Option (ℕ × ℕ)) (done : List Record) → IsBuilt wanted l.initial.self done → IsBuilt wanted l.self (drop l.place l.records ++ done))
 
 abbrev pub decreases-loop-place : goal.decreases-loop-place
 decreases-loop-place l = l.place

@@ -24,4 +24,5 @@ returns c =
           (c.in_ok-put.ensures.cuts g cut (subst (λ (t : Table). Contains (table_cuts t g) cut) c.leave.ensures.table has));
       group = c.leave.ensures.group ∙ c.clear-2.ensures;
       waiting = c.leave.ensures.waiting;
+      wanted = c.leave.ensures.wanted;
     })

@@ -1,52 +1,42 @@
--- The leg joins the pending legs, with its pending tails.
-use Rattle.std.proofs.Common.{◌≡◌, ◌⊎◌, Some, nat_eq, if◌then◌else◌, [], refl, sym, ap, subst, ◌∙◌}
-use Rattle.ssim_values.specs.Flight.{FlightNumber}
-use Rattle.ssim_values.specs.Period.{DayRange}
+-- The leg is put on the wanted part of its period, or left out if there is none.
+use Rattle.std.proofs.Common.{◌≡◌, ◌≤◌, ℕ, Option, Some, None, unwrap_or, refl, sym, ap, subst, ◌∙◌}
 use Rattle.ssim_records.specs.Leg.{Name}
-use Rattle.ssim_periods.specs.Calendar.{holds}
-use Rattle.ssim_periods.specs.Days.{changed_on}
-use Rattle.ssim_schedule.specs.internal.LegKey.{IsPlaced, name_place}
-use Rattle.ssim_schedule.specs.internal.TimetableBuilder.{IsCut, days_with}
-use Rattle.ssim_schedule.specs.internal.LegGroup.{IsBound}
-use Rattle.ssim_base.specs.ReadBack.{place_of}
-use Rattle.ssim_base.specs.Timetable.{LegValue, period_of, placed}
-use Rattle.ssim_schedule.specs.internal.PendingSegments.{waiting_at}
-use Rattle.ssim_schedule.specs.declared.builder.timetable_builder.TimetableBuilder.{TimetableBuilder}
-use Rattle.ssim_schedule.specs.declared.builder.leg_group.Heading.{Heading}
-use Rattle.ssim_schedule.specs.declared.builder.pending_segments.PendingSegments.{PendingSegments}
-use Rattle.ssim_schedule.proofs.TimetableBuilderLemmas.{joined_cuts, joined_days, same_period}
+use Rattle.ssim_base.specs.Timetable.{period_of}
 use Rattle.ssim_base.proofs.Results.{on_ok}
+use Rattle.ssim_schedule.specs.internal.TimetableBuilder.{LeavesOut}
+use Rattle.ssim_schedule.specs.internal.WantedDates.{IsPart}
+use Rattle.ssim_schedule.proofs.TimetableBuilderLemmas.{same_period, takes_none, takes_part}
+use Rattle.ssim_schedule.proofs.Wanted.{none_wanted}
 use Rattle.ssim_schedule.proofs.builder.timetable_builder.TimetableBuilder.put_leg.Goals as goal
 
-pub returns : goal.returns
-returns c =
+pub returns-then-are_unwanted : goal.returns-then-are_unwanted
+returns-then-are_unwanted c =
     let r = c.args.leg.now in
-    let old : TimetableBuilder = c.args.self.now in
-    let opened : TimetableBuilder = c.open_group.new.self in
-    let new : TimetableBuilder = record { table = opened.table; group = c.add.new.self; waiting = c.take.new.self; alloc = opened.alloc } in
-    let name : c.name-name.result ≡ r.name = c.name-name.ensures in
+    let old = c.args.self.now in
+    let new = c.leave_out.new.self in
+    let last : c.in-Some.last ≡ (period_of r).last = ap (λ (o : Option ℕ). unwrap_or o 0) (sym c.in-Some.is ∙ c.last.ensures.value) in
+    let none : IsPart old.wanted (period_of r) None =
+    none_wanted old.wanted (period_of r)
+    (λ n low high. c.are_unwanted.ensures c.if-are_unwanted.true n (subst (λ (k : ℕ). k ≤ n) (sym c.first.ensures) low) (subst (λ (k : ℕ). n ≤ k) (sym last) high)) in
+    takes_none old new r (period_of r) refl none (subst (λ (name : Name). LeavesOut old new name) c.name.ensures c.leave_out.ensures)
+
+pub returns-in-Some-wanted_part : goal.returns-in-Some-wanted_part
+returns-in-Some-wanted_part c =
+    let r = c.args.leg.now in
+    let old = c.args.self.now in
     let last : r.last ≡ Some c.in-Some.last = sym c.last.ensures.value ∙ c.in-Some.is in
-    let period : c.in-Ok.period ≡ period_of r =
-    same_period c.in-Ok.period r c.in-Some.last (c.in-Ok.ensures.value.0 ∙ c.first.ensures) c.in-Ok.ensures.value.1 (c.in-Ok.ensures.value.2 ∙ c.days.ensures) last in
-    let flight : c.flight.result ≡ r.name.flight = c.flight.ensures ∙ ap (λ (n : Name). n.flight) name in
-    let given : Heading = record { flight = c.flight.result; period = c.in-Ok.period } in
-    let heading : given ≡ record { flight = r.name.flight; period = period_of r } =
-    ap (λ (f : FlightNumber). record { flight = f; period = c.in-Ok.period }) flight ∙ ap (λ (p : DayRange). record { flight = r.name.flight; period = p }) period in
-    let opens = c.in_ok-open_group.ensures in
-    let l : LegValue = record { sequence = r.name.sequence; columns = r.columns; tails = c.in_ok-tails.tails.items } in
-    let its : LegValue = record { sequence = r.name.sequence; columns = r.columns; tails = waiting_at old.waiting (name_place r.name) } in
-    let leg : l ≡ its =
-    ap (λ ts. record { sequence = r.name.sequence; columns = r.columns; tails = ts })
-    (c.in_ok-tails.ensures.tails ∙ ap (λ (w : PendingSegments). waiting_at w (name_place c.name-name.result)) opens.waiting ∙ ap (λ (n : Name). waiting_at old.waiting (name_place n)) name) in
-    on_ok c.add.result (λ added. record {
-      named = subst (λ (n : Name). IsPlaced n) name c.in_ok-tails.ensures.named;
-      days = λ g.
-          joined_days old opened new given l c.sequence.result opens refl added g
-          ∙ ap (λ (h : Heading). if nat_eq (place_of h.flight) (place_of g) then changed_on (holds h.period) (placed l) 0 (days_with old g) else days_with old g) heading
-          ∙ ap (λ (m : LegValue). if nat_eq (place_of r.name.flight) (place_of g) then changed_on (holds (period_of r)) (placed m) 0 (days_with old g) else days_with old g) leg;
-      tails = λ place.
-          c.in_ok-tails.ensures.others place
-          ∙ ap (λ (n : Name). if nat_eq place (name_place n) then [] else waiting_at opened.waiting place) name
-          ∙ ap (λ (w : PendingSegments). if nat_eq place (name_place r.name) then [] else waiting_at w place) opens.waiting;
-      cuts = λ g cut has. subst (λ (h : Heading). IsCut old g cut ⊎ IsBound (Some h) g cut) heading (joined_cuts old opened new given l c.sequence.result opens refl added g cut has);
-    }) c.add.ensures
+    let is : c.in-Ok.period ≡ period_of r =
+    same_period c.in-Ok.period r c.in-Some.last (c.in-Ok.ensures.value.0 ∙ c.first-2.ensures) c.in-Ok.ensures.value.1 (c.in-Ok.ensures.value.2 ∙ c.days.ensures) last in
+    let of : IsPart old.wanted c.in-Ok.period (Some c.in-Some-wanted_part.part) = subst (IsPart old.wanted c.in-Ok.period) c.in-Some-wanted_part.is c.wanted_part.ensures in
+    on_ok c.put_on.result (takes_part old c.put_on.new.self r c.in-Ok.period is c.in-Some-wanted_part.part of) c.put_on.ensures
+
+pub returns-in-None : goal.returns-in-None
+returns-in-None c =
+    let r = c.args.leg.now in
+    let old = c.args.self.now in
+    let new = c.leave_out-in-None.new.self in
+    let last : r.last ≡ Some c.in-Some.last = sym c.last.ensures.value ∙ c.in-Some.is in
+    let is : c.in-Ok.period ≡ period_of r =
+    same_period c.in-Ok.period r c.in-Some.last (c.in-Ok.ensures.value.0 ∙ c.first-2.ensures) c.in-Ok.ensures.value.1 (c.in-Ok.ensures.value.2 ∙ c.days.ensures) last in
+    let none : IsPart old.wanted c.in-Ok.period None = subst (IsPart old.wanted c.in-Ok.period) c.in-None.is c.wanted_part.ensures in
+    takes_none old new r c.in-Ok.period is none (subst (λ (name : Name). LeavesOut old new name) c.name-in-None.ensures c.leave_out-in-None.ensures)

@@ -18,7 +18,7 @@ step records place one some within is =
 pub loop-place-init : goal.loop-place-init
 loop-place-init c =
     let is_in = is_record_of (is_marked c.args.flights.now.marks.items) in
-    (omega arith, λ done built. subst (λ (before : List Record). IsBuilt c.args.self.now (filter is_in before ++ done)) (sym (drop_all (length c.args.records.now) c.args.records.now (omega arith))) built)
+    (omega arith, λ wanted done built. subst (λ (before : List Record). IsBuilt wanted c.args.self.now (filter is_in before ++ done)) (sym (drop_all (length c.args.records.now) c.args.records.now (omega arith))) built)
 
 pub put-requires : goal.put-requires
 put-requires c =
@@ -34,8 +34,8 @@ loop-place-preserved c =
     let within : place - 1 < length records = omega (arith, c.loop-place.invariant.0) in
     let from = step records place one c.loop-place-test.true within c.index-records-place.is in (
       omega (arith, c.loop-place.invariant.0),
-      λ done built. subst (λ (before : List Record). IsBuilt c.loop-place.self (filter (is_record_of p) before ++ done)) (sym from)
-          (subst (λ (before : List Record). IsBuilt c.loop-place.self before) (one_left_out p one (drop place records) done (sym c.has_flight_of.ensures ∙ c.if-has_flight_of.false)) (c.loop-place.invariant.1 done built)),
+      λ wanted done built. subst (λ (before : List Record). IsBuilt wanted c.loop-place.self (filter (is_record_of p) before ++ done)) (sym from)
+          (subst (λ (before : List Record). IsBuilt wanted c.loop-place.self before) (one_left_out p one (drop place records) done (sym c.has_flight_of.ensures ∙ c.if-has_flight_of.false)) (c.loop-place.invariant.1 wanted done built)),
     )
 
 pub loop-place-preserved-in-Continue-1 : goal.loop-place-preserved-in-Continue-1
@@ -47,13 +47,13 @@ loop-place-preserved-in-Continue-1 c =
     let within : place - 1 < length records = omega (arith, c.loop-place.invariant.0) in
     let from = step records place one c.loop-place-test.true within c.index-records-place.is in (
       omega (arith, c.loop-place.invariant.0),
-      λ done built. subst (λ (before : List Record). IsBuilt c.put.new.self (filter (is_record_of p) before ++ done)) (sym from)
-          (subst (λ (before : List Record). IsBuilt c.put.new.self before) (one_kept p one (drop place records) done (sym c.has_flight_of.ensures ∙ c.if-has_flight_of.true))
-          (c.in_ok-put.ensures (filter (is_record_of p) (drop place records) ++ done) (c.loop-place.invariant.1 done built))),
+      λ wanted done built. subst (λ (before : List Record). IsBuilt wanted c.put.new.self (filter (is_record_of p) before ++ done)) (sym from)
+          (subst (λ (before : List Record). IsBuilt wanted c.put.new.self before) (one_kept p one (drop place records) done (sym c.has_flight_of.ensures ∙ c.if-has_flight_of.true))
+          (c.in_ok-put.ensures wanted (filter (is_record_of p) (drop place records) ++ done) (c.loop-place.invariant.1 wanted done built))),
     )
 
 pub returns : goal.returns
-returns c = λ done built.
+returns c = λ wanted done built.
     let is_in = is_record_of (is_marked c.args.flights.now.marks.items) in
     let none : c.loop-place.place ≡ 0 = omega arith in
-    subst (λ (k : ℕ). IsBuilt c.loop-place.self (filter is_in (drop k c.args.records.now) ++ done)) none (c.loop-place.invariant.1 done built)
+    subst (λ (k : ℕ). IsBuilt wanted c.loop-place.self (filter is_in (drop k c.args.records.now) ++ done)) none (c.loop-place.invariant.1 wanted done built)
