@@ -16,3 +16,4 @@ pub mod MailLines
 pub mod PlainLines
 pub mod MailRead
 pub mod MailTexts
+pub mod SameBase

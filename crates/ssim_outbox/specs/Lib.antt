@@ -7,3 +7,4 @@ pub mod examples
 pub mod internal
 pub mod Delivery
 pub mod MailFile
+pub mod SameBase

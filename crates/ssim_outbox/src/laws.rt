@@ -1,9 +1,12 @@
-//! What holds of messages that send sub-messages.
+//! What holds of messages that send sub-messages, and of the way from one desk to another.
 
 ghost use Rattle.ssim_outbox.specs.MailFile.{MailboxesRead, SentAreMail};
+ghost use Rattle.ssim_outbox.specs.SameBase.{AllIsReached, NothingIsUnsaid};
 ghost use Rattle.ssim_outbox.specs.SendLaws.{FullDatesResolve, SerialsRise, SubsAreJoined};
 // The worked examples, which are computed: a false one is an error in this file.
 ghost use Rattle.ssim_outbox.specs.examples.Texts;
+
+use ssim_difference::laws::equal_timetables_have_no_difference;
 
 /// The messages have the sub-messages that they send, each once and in order. Each message has the
 /// heading, and the next group serial after that of the message before.
@@ -24,3 +27,14 @@ pub fn mailboxes_read()
     ensures read { MailboxesRead }
     ensures sent { SentAreMail }
 {}
+
+/// If two desks have one base, and the second holds each message that the first holds, then on each
+/// date messages can make of the first desk's itinerary that of the second. So a plan from the
+/// timetable of the first to that of the second leaves nothing unsaid. The second may hold more
+/// messages, with any references.
+pub fn nothing_is_unsaid()
+    ensures reached { AllIsReached }
+    ensures unsaid { NothingIsUnsaid }
+{
+    equal_timetables_have_no_difference();
+}

@@ -6,8 +6,9 @@
 //! - [`mail_file_of`]: the texts of messages, with a line `NNNN` after each.
 //! - [`follows`]: whether a reference comes after those of all messages that a desk holds.
 //! - [`deliver`]: the messages taken by a desk, one after another.
-//! - [`laws`]: the messages have each sub-message once, a mailbox reads the texts of their file, and
-//!   full dates resolve as they are.
+//! - [`laws`]: the messages have each sub-message once, a mailbox reads the texts of their file, full
+//!   dates resolve as they are, and nothing is unsaid on the way to a desk that holds all that
+//!   another desk over the same base holds.
 //! - [`OutboxFault`]: why there are no messages, or why a reference does not follow.
 //!
 //! **Promise.** The messages have exactly the given sub-messages, in order. Each is one that a text

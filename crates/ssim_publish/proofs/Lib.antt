@@ -17,3 +17,5 @@ pub mod Found
 pub mod PlannedSubs
 pub mod ListedDates
 pub mod Settling
+pub mod SaidAgain
+pub mod MoreActions

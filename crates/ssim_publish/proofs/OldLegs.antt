@@ -40,7 +40,7 @@ lines_long (line ∷ lines) legs h = lines_long lines (with_line line legs) (lin
 
 -- ---- equipment and times
 
-fits_equipped : (line : LegLine) (e : EquipmentValue) (leg : LegValue) → length leg.columns ≡ 158
+pub fits_equipped : (line : LegLine) (e : EquipmentValue) (leg : LegValue) → length leg.columns ≡ 158
     → fits line (equipped e leg) ≡ fits line leg
 fits_equipped line e leg len = λ i.
     bytes_eq (departure_equipped (equipment_of e) leg.columns len i) line.departure.station

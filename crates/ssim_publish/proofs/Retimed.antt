@@ -49,7 +49,7 @@ unchanged : (before legs : Legs) → Changed before legs legs
 unchanged before [] = tt
 unchanged before (leg ∷ legs) = (inl refl, unchanged (leg ∷ before) legs)
 
-fits_retimed : (line other : LegLine) (leg : LegValue) → length leg.columns ≡ 158
+pub fits_retimed : (line other : LegLine) (leg : LegValue) → length leg.columns ≡ 158
     → fits line (retimed other leg) ≡ fits line leg
 fits_retimed line other leg len = λ i.
     bytes_eq (departure_timed (times_of other) leg.columns len i) line.departure.station
@@ -357,7 +357,7 @@ has_kept line other (leg ∷ legs) long = by (fits line leg) (has_kept line othe
     by true later = ap (λ (b : Bool). b || has_leg legs other) (fits_retimed other line leg long.0)
     by false later = ap (λ (b : Bool). fits other leg || b) later
 
-have_kept : (line : LegLine) (lines : List LegLine) (legs : Legs) → HaveColumns legs
+pub have_kept : (line : LegLine) (lines : List LegLine) (legs : Legs) → HaveColumns legs
     → have_legs (with_line line legs) lines ≡ have_legs legs lines
 have_kept line [] legs long = refl
 have_kept line (other ∷ lines) legs long = λ i.

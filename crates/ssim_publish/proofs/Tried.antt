@@ -119,7 +119,7 @@ after_times rows day lines (action ∷ more) legs long fit h =
     ∙ sym (lines_after first later legs)
     ∙ sym (ap (λ (ls : List LegLine). with_lines ls legs) cut)
 
-after_both : (rows : List Row) (day : ℕ) (first later : List Action) (legs : Legs)
+pub after_both : (rows : List Row) (day : ℕ) (first later : List Action) (legs : Legs)
     → after_all rows day (first ++ later) legs
     ≡ after_all rows day later (after_all rows day first legs)
 after_both rows day [] later legs = refl

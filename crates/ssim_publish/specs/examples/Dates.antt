@@ -114,6 +114,19 @@ times_and_equipment : after_all rows 9313 (Tim (later ∷ []) ∷ Eqt smaller �
 unfolding with_times with_equipment
 times_and_equipment = refl
 
+-- EQT and TIM on what the same TIM has left, as of a desk that holds both and one that holds TIM
+said_again : after_all rows 9313 (Eqt smaller ∷ Tim (later ∷ []) ∷ [])
+    (after_all rows 9313 (Tim (later ∷ []) ∷ []) with_terminal)
+    ≡ changed (codes "1 ")
+unfolding with_times with_equipment
+said_again = refl
+
+-- EQT and TIM on what CNL has left, which a desk with these two does not hold
+said_of_none : after_all rows 9313 (Eqt smaller ∷ Tim (later ∷ []) ∷ [])
+    (after_all rows 9313 (Cnl ∷ []) with_terminal)
+    ≡ []
+said_of_none = refl
+
 -- RPL, which takes the terminal away
 replaced : after_all rows 9313 (Rpl (new later smaller) ∷ []) with_terminal ≡ changed (blanks 2)
 unfolding new_leg station_columns with_times with_equipment
