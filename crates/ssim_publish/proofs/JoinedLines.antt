@@ -1,5 +1,7 @@
 -- A line that is added part by part is added whole.
-use Rattle.std.proofs.Common.{◌≡◌, ◌∙◌, ℕ, List, [], ◌∷◌, ◌++◌, append_assoc, ap}
+use Rattle.std.proofs.Common.{◌≡◌, ◌∙◌, ℕ, ◌-◌, List, [], ◌∷◌, ◌++◌, take, length, append_assoc, sym, ap}
+use Rattle.std.proofs.Common.{arith, length-append}
+use Rattle.std.proofs.Math.Seq.{take-append_seam}
 
 pub leg_joined : (t a b : List ℕ)
     → (((t ++ a) ++ 32 ∷ []) ++ b) ++ 10 ∷ [] ≡ t ++ ((a ++ 32 ∷ b) ++ 10 ∷ [])
@@ -20,3 +22,17 @@ segment_joined [] a b c d =
     ap (λ (x : List ℕ). ((x ++ 47 ∷ []) ++ d) ++ 10 ∷ []) (append_assoc (a ++ b) (32 ∷ []) c)
     ∙ ap (λ (x : List ℕ). x ++ 10 ∷ []) (append_assoc ((a ++ b) ++ 32 ∷ c) (47 ∷ []) d)
 segment_joined (x ∷ t) a b c d = ap (λ (y : List ℕ). x ∷ y) (segment_joined t a b c d)
+
+pub unsaid_joined : (t a b c d : List ℕ)
+    → ((((t ++ a) ++ (b ++ 32 ∷ c)) ++ 32 ∷ []) ++ d) ++ 10 ∷ []
+    ≡ t ++ ((((a ++ b) ++ 32 ∷ c) ++ 32 ∷ d) ++ 10 ∷ [])
+unsaid_joined [] a b c d =
+    ap (λ (x : List ℕ). ((x ++ 32 ∷ []) ++ d) ++ 10 ∷ []) (sym (append_assoc a b (32 ∷ c)))
+    ∙ ap (λ (x : List ℕ). x ++ 10 ∷ []) (append_assoc ((a ++ b) ++ 32 ∷ c) (32 ∷ []) d)
+unsaid_joined (x ∷ t) a b c d = ap (λ (y : List ℕ). x ∷ y) (unsaid_joined t a b c d)
+
+-- a line without its end
+pub without_last : (x : List ℕ) (k : ℕ) → k ≡ length (x ++ 10 ∷ []) → take (k - 1) (x ++ 10 ∷ []) ≡ x
+without_last x k e =
+    ap (λ (n : ℕ). take n (x ++ 10 ∷ [])) (omega (arith, e, length-append x (10 ∷ [])))
+    ∙ take-append_seam x (10 ∷ [])

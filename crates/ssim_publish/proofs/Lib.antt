@@ -19,3 +19,5 @@ pub mod ListedDates
 pub mod Settling
 pub mod SaidAgain
 pub mod MoreActions
+pub mod Marks
+pub mod UnsaidFlights

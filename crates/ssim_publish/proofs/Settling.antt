@@ -382,16 +382,18 @@ module _ (rows : List Row) (old new : FlightNumber → Days) where
       by g n exists within false e =
           inr (differing_listed (days_in before.schedule) new g n exists within e)
 
--- what a comparison of the legs of a day says
-pub made_at : (made old new : FlightNumber → Days) (flight : FlightNumber) (day : ℕ)
-    (legs before wanted : Legs) → legs ≡ on_day (made flight) day → before ≡ on_day (old flight) day
-    → wanted ≡ on_day (new flight) day → same_itinerary legs wanted ≡ true
-    → not (same_itinerary before wanted) ≡ true → IsMadeOn made old new flight day
-made_at made old new flight day legs before wanted legs_are before_are wanted_are same other = (
-  sym legs_are ∙ (exact_itinerary legs wanted).0 same ∙ wanted_are,
+-- what a comparison of the itineraries of a day says
+pub made_at : (made old new : Days) (day : ℕ) (legs before wanted : Legs)
+    → slice_get made day ≡ Some legs → slice_get old day ≡ Some before
+    → slice_get new day ≡ Some wanted → same_itinerary legs wanted ≡ true
+    → not (same_itinerary before wanted) ≡ true → IsMadeOn made old new day
+made_at made old new day legs before wanted legs_are before_are wanted_are same other = (
+  sym (itinerary_at made made day legs refl legs_are) ∙ (exact_itinerary legs wanted).0 same
+      ∙ itinerary_at new new day wanted refl wanted_are,
   λ equal.
       let again : same_itinerary before wanted ≡ true =
-      (exact_itinerary before wanted).1 (before_are ∙ equal ∙ sym wanted_are) in
+      (exact_itinerary before wanted).1 (itinerary_at old old day before refl before_are ∙ equal
+      ∙ sym (itinerary_at new new day wanted refl wanted_are)) in
       let bad : false ≡ true = ap not (sym again) ∙ other in
       absurd cc,
 )
@@ -401,7 +403,7 @@ pub kept_period : (rows : List Row) (old new : FlightNumber → Days) (before af
     (actions : List Action) (flight : FlightNumber) (period : DayRange) → period.first < day_count
     → IsDraft rows old new before → AllByRecursion IsSaid actions → holds period period.first ≡ true
     → ((n : ℕ) → n < day_count → holds period n ≡ true
-    → IsMadeOn (days_in after.schedule) old new flight n)
+    → IsMadeOn (days_in after.schedule flight) (old flight) (new flight) n)
     → after.subs.items ≡ before.subs.items ++ map (planned flight period) actions
     → Acts rows actions flight period before.schedule after.schedule → IsDraft rows old new after
 kept_period rows old new before after actions flight period within is said first made subs acts =

@@ -1,5 +1,6 @@
 pub mod Reach
 pub mod Sayable
 pub mod Published
+pub mod Unsaid
 pub mod internal
 pub mod examples

@@ -3,3 +3,5 @@ pub mod ActionTexts
 pub mod ColumnLines
 pub mod Candidates
 pub mod Drafts
+pub mod Marked
+pub mod AddedLines

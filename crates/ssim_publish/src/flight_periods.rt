@@ -1,19 +1,23 @@
 //! Sub-messages of the periods on which flights differ.
 
-ghost use Rattle.std.specs.Prelude.{OnOk};
+ghost use Rattle.std.specs.Prelude.{IfOk, OnOk};
+ghost use Rattle.std.specs.List.{AllByRecursion};
 ghost use Rattle.ssim_schedule.specs.Schedule.{days_in};
+ghost use Rattle.ssim_publish.specs.Reach.{IsSaid};
 ghost use Rattle.ssim_publish.specs.internal.Drafts.{IsDraft};
 
 use crate::date_actions::say;
 use crate::draft::Draft;
 use crate::mark::Mark;
 use crate::period_actions::{PeriodActions, add_period};
-use crate::said_days::said_periods;
+use crate::said_days::{SaidPeriods, said_periods};
 use ssim_base::StationRow;
 use ssim_difference::FlightDifference;
-use ssim_schedule::Schedule;
-use ssim_values::{Flight, Memory, Period};
+use ssim_schedule::{Itinerary, Schedule};
+use ssim_text::Action;
+use ssim_values::{Day, Flight, Memory, Period};
 use std::alloc::Global;
+use std::mem;
 
 /// Adds the sub-messages of the periods on which flights differ. One sub-message serves all days of
 /// which the same is said.
@@ -29,14 +33,23 @@ pub(crate) fn add_flights(
         → IsDraft rows.now (days_in from.now) (days_in to.now) draft.new) }
 {
     for flight in flights {
-        let periods = said_periods(alloc, rows, flight.pieces())?;
-        add_periods(alloc, rows, draft, from, to, flight.flight(), &periods)?;
+        let found: SaidPeriods<Vec<Action>> = said_periods(alloc, rows, flight.pieces())?;
+        let SaidPeriods { said, periods } = found;
+        add_periods(
+            alloc,
+            rows,
+            draft,
+            from,
+            to,
+            flight.flight(),
+            said,
+            &periods,
+        )?;
     }
     Ok(())
 }
 
-// Adds the sub-messages of the periods of a flight. What the first day of a period needs is said of
-// all its days.
+// Adds the sub-messages of the periods of a flight, each with the number of its actions.
 fn add_periods(
     alloc: Global,
     rows: &[StationRow],
@@ -44,20 +57,53 @@ fn add_periods(
     from: &Schedule,
     to: &Schedule,
     flight: Flight,
+    said: Vec<Vec<Action>>,
     periods: &[(Period, Mark)],
 ) -> Result<(), Memory>
+    requires { AllByRecursion (λ actions. AllByRecursion IsSaid actions.items) said.items }
     ensures { OnOk result (IsDraft rows.now (days_in from.now) (days_in to.now) draft.old
         → IsDraft rows.now (days_in from.now) (days_in to.now) draft.new) }
 {
+    let mut said = said;
     let old = from.days(&flight)?;
     let new = to.days(&flight)?;
     for piece in periods {
         let period = piece.0;
-        let day = period.first();
-        if let Some(actions) = say(alloc, rows, day, old.at(day), new.at(day))? {
-            let said = PeriodActions { actions, period };
-            add_period(rows, draft, from, to, flight, said)?;
+        let mut actions = taken(alloc, &mut said, piece.1.place());
+        if actions.is_empty() {
+            let day = period.first();
+            actions = said_again(alloc, rows, day, old.at(day), new.at(day))?;
         }
+        let actions = PeriodActions { actions, period };
+        add_period(rows, draft, flight, &old, &new, actions)?;
     }
     Ok(())
+}
+
+// Takes the actions with a place out of the lists; none if they are taken already.
+fn taken(alloc: Global, said: &mut Vec<Vec<Action>>, place: usize) -> Vec<Action>
+    requires { AllByRecursion (λ actions. AllByRecursion IsSaid actions.items) said.old.items }
+    ensures taken { AllByRecursion IsSaid result.items }
+    ensures left { AllByRecursion (λ actions. AllByRecursion IsSaid actions.items) said.new.items }
+{
+    if place >= said.len() {
+        return Vec::new(alloc);
+    }
+    mem::replace(&mut said[place], Vec::new(alloc))
+}
+
+// What the first day of a period needs, for a second period with the same actions.
+fn said_again(
+    alloc: Global,
+    rows: &[StationRow],
+    day: Day,
+    old: &Itinerary,
+    new: &Itinerary,
+) -> Result<Vec<Action>, Memory>
+    ensures { IfOk result (λ actions. AllByRecursion IsSaid actions.items) }
+{
+    match say(alloc, rows, day, old, new)? {
+        None => Ok(Vec::new(alloc)),
+        Some(actions) => Ok(actions),
+    }
 }

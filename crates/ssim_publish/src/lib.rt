@@ -3,6 +3,10 @@
 //!
 //! - [`plan`]: the [`PlannedSub`]s that lead a timetable towards another, in the order in which they
 //!   act; what they leave of it; and on which dates no messages can make the new itinerary.
+//! - [`unsaid_lines`]: these dates as lines, in periods, each with the reason: `sequence`, or for each
+//!   leg that stands in the way its leg sequence and the columns with what messages do not give, then
+//!   `segments` for its segment data, and `second` for other times of a second leg between the same
+//!   stations.
 //! - [`say`]: the actions of sub-messages that make the new itinerary of a flight on a date of the
 //!   old one: none, `CNL`, `NEW`, `TIM`, `EQT`, `RPL`, or `EQT` and then `TIM`.
 //! - [`laws`]: whatever list of sub-messages comes, the itinerary of a date is then none, a whole
@@ -25,6 +29,9 @@
 //! timetable, and kept only if it makes each date of its period; whatever is left then is said date
 //! by date. So nothing rests on how the periods are found. It is not promised that the sub-messages
 //! are the fewest.
+//!
+//! Exactly one of the periods of `unsaid_lines` holds each date that is unsaid, and no other date is
+//! in any. It is not promised which words a reason has, other than that there is one.
 #![tactic(auto)]
 
 mod action_text;
@@ -36,18 +43,25 @@ pub mod laws;
 mod legs;
 mod line_text;
 mod mark;
+mod obstacle;
 mod period_actions;
 mod period_parts;
 mod planned_sub;
 mod publication;
+mod reason;
+mod reason_pieces;
 mod retimed_legs;
 mod said_days;
 mod same_actions;
+mod segment_tails;
 mod single_dates;
 mod single_period;
 mod trial;
+mod unsaid;
+mod wanted_leg;
 
 pub use date_actions::say;
 pub use planned_sub::PlannedSub;
 pub use publication::{Publication, plan};
 pub use ssim_values::Memory;
+pub use unsaid::unsaid_lines;

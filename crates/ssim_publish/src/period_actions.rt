@@ -2,15 +2,16 @@
 
 ghost use Rattle.std.specs.Prelude.{◌≡◌, ℕ, ◌<◌, true, OnOk};
 ghost use Rattle.std.specs.List.{AllByRecursion};
+ghost use Rattle.ssim_values.specs.Flight.{FlightNumber};
 ghost use Rattle.ssim_periods.specs.Calendar.{day_count, holds};
-ghost use Rattle.ssim_schedule.specs.Schedule.{days_in};
+ghost use Rattle.ssim_base.specs.Timetable.{Days};
 ghost use Rattle.ssim_publish.specs.Reach.{IsSaid};
 ghost use Rattle.ssim_publish.specs.internal.Drafts.{IsDraft, IsMadeOn};
 
 use crate::draft::{Draft, act_on, push_subs};
-use crate::legs::same_legs;
 use ssim_base::StationRow;
-use ssim_schedule::Schedule;
+use ssim_periods::{Periods, Value};
+use ssim_schedule::Itinerary;
 use ssim_text::Action;
 use ssim_values::{Day, Flight, Memory, Period};
 
@@ -27,19 +28,21 @@ pub(crate) struct PeriodActions {
 pub(crate) fn add_period(
     rows: &[StationRow],
     draft: &mut Draft,
-    from: &Schedule,
-    to: &Schedule,
     flight: Flight,
+    old: &Periods<Itinerary>,
+    new: &Periods<Itinerary>,
     said: PeriodActions,
 ) -> Result<(), Memory>
     requires { AllByRecursion IsSaid said.actions.items }
-    ensures { OnOk result (IsDraft rows.now (days_in from.now) (days_in to.now) draft.old
-        → IsDraft rows.now (days_in from.now) (days_in to.now) draft.new) }
+    ensures { OnOk result ((from to : FlightNumber → Days)
+        → old.now.days ≡ from flight → new.now.days ≡ to flight → IsDraft rows.now from to draft.old
+        → IsDraft rows.now from to draft.new) }
 {
     let PeriodActions { actions, period } = said;
     let mut trial = draft.schedule.copy()?;
     act_on(&mut trial, rows, &actions, flight, period)?;
-    if !is_made(&trial, from, to, flight, period) {
+    let made = trial.days(&flight)?;
+    if !is_made(&made, old, new, period) {
         return Ok(());
     }
     draft.schedule = trial;
@@ -48,10 +51,15 @@ pub(crate) fn add_period(
 
 // Whether the period holds its first day, and the new itinerary is made on each day that it holds,
 // on none of which it was there before.
-fn is_made(trial: &Schedule, from: &Schedule, to: &Schedule, flight: Flight, period: Period) -> bool
+fn is_made(
+    made: &Periods<Itinerary>,
+    old: &Periods<Itinerary>,
+    new: &Periods<Itinerary>,
+    period: Period,
+) -> bool
     ensures first { result ≡ true → (period.first < day_count) × (holds period period.first ≡ true) }
     ensures made { result ≡ true → (n : ℕ) → n < day_count → holds period n ≡ true
-        → IsMadeOn (days_in trial.now) (days_in from.now) (days_in to.now) flight n }
+        → IsMadeOn made.now.days old.now.days new.now.days n }
 {
     if !holds_first(period) {
         return false;
@@ -59,7 +67,7 @@ fn is_made(trial: &Schedule, from: &Schedule, to: &Schedule, flight: Flight, per
     let first = period.first().number();
     let end = period.last().number() + 1;
     for number in first..end {
-        if !is_made_at(trial, from, to, flight, period, number) {
+        if !is_made_at(made, old, new, period, number) {
             return false;
         }
     }
@@ -79,15 +87,14 @@ fn holds_first(period: Period) -> bool
 // Whether the new itinerary is made on the day with a number, if the period holds it, and was not
 // there before.
 fn is_made_at(
-    trial: &Schedule,
-    from: &Schedule,
-    to: &Schedule,
-    flight: Flight,
+    made: &Periods<Itinerary>,
+    old: &Periods<Itinerary>,
+    new: &Periods<Itinerary>,
     period: Period,
     number: u16,
 ) -> bool
     ensures { result ≡ true → number < day_count → holds period number ≡ true
-        → IsMadeOn (days_in trial.now) (days_in from.now) (days_in to.now) flight number }
+        → IsMadeOn made.now.days old.now.days new.now.days number }
 {
     let Some(day) = Day::from_number(number) else {
         return false;
@@ -95,7 +102,6 @@ fn is_made_at(
     if !period.holds(day) {
         return true;
     }
-    let wanted = to.itinerary(&flight, day);
-    same_legs(trial.itinerary(&flight, day), wanted)
-        && !same_legs(from.itinerary(&flight, day), wanted)
+    let wanted = new.at(day);
+    made.at(day).same(wanted) && !old.at(day).same(wanted)
 }

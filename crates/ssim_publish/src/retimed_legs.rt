@@ -77,9 +77,9 @@ fn have_same_stations(old: &PlacedLeg, new: &PlacedLeg) -> bool
         & have_same(&old.columns(), &new.columns(), ARRIVAL_STATION)
 }
 
-// Whether the times and the date variations of two legs are the same.
+/// Whether the times and the date variations of two legs are the same.
 #[tactic(auto, unfolding(crate::specs::internal::ColumnLines::same_times))]
-fn have_same_times(old: &LegColumns, new: &LegColumns) -> bool
+pub(crate) fn have_same_times(old: &LegColumns, new: &LegColumns) -> bool
     ensures { result ≡ same_times old.now new.now }
 {
     have_same(old, new, PASSENGER_DEPARTURE)
@@ -89,8 +89,8 @@ fn have_same_times(old: &LegColumns, new: &LegColumns) -> bool
         & have_same(old, new, DATE_VARIATIONS)
 }
 
-// Whether two legs have the same text of a field.
-fn have_same(old: &LegColumns, new: &LegColumns, field: Field) -> bool
+/// Whether two legs have the same text of a field.
+pub(crate) fn have_same(old: &LegColumns, new: &LegColumns, field: Field) -> bool
     requires { IsTrue (is_own field) }
     ensures { result
         ≡ bytes_eq (leg_columns field.first field.last old.now)

@@ -1,79 +1,116 @@
 //! What is said of each day of a flight, so that days of which the same is said come together.
 
-use crate::date_actions::say;
+ghost use Rattle.std.specs.Prelude.{IfOk, IfSome, OnOk};
+ghost use Rattle.std.specs.List.{AllByRecursion};
+
 use crate::mark::Mark;
 use crate::period_parts::{next_cut, part_of};
-use crate::same_actions::same_actions;
 use ssim_base::StationRow;
 use ssim_difference::Difference;
 use ssim_periods::Periods;
-use ssim_text::Action;
-use ssim_values::{Memory, Period};
+use ssim_values::{Day, Memory, Period};
 use std::alloc::Global;
 
-/// With how many of the latest lists of actions a new one is compared.
+/// With how many of the latest different things a new one is compared.
 const MOST_COMPARED: usize = 100;
 
-/// What is said of each day of a flight: the number of a list of actions. Nothing rests on which
-/// days have one number.
+/// What is said of a day of a flight.
+pub(crate) trait SaidOfDay: Drop {
+    /// What may be said.
+    ghost Sayable: { Self → Type 0 };
+
+    /// What is said of a day with this difference, by these rows of a station table; none if
+    /// nothing is. It stays the same while the UTC variations of the stations of the new legs do.
+    fn of_day(
+        alloc: Global,
+        rows: &[StationRow],
+        day: Day,
+        difference: &Difference,
+    ) -> Result<Option<Self>, Memory>
+        ensures { IfOk result (λ said. IfSome said Sayable) };
+
+    /// Whether the same is said.
+    fn is_same(&self, other: &Self) -> bool;
+}
+
+/// What is said of the days of a flight, and the periods of the days of which the same is said.
 #[derive(Drop)]
-struct SaidDays {
-    /// Different lists of actions, the first of which has number 1.
-    lists: Vec<Vec<Action>>,
+pub(crate) struct SaidPeriods<T: SaidOfDay> {
+    /// Different things that are said, by number.
+    pub said: Vec<T>,
+    /// The canonical division of the days by what is said of them, each period with the number.
+    pub periods: Vec<(Period, Mark)>,
+}
+
+/// What is said of each day of a flight, by its number. Nothing rests on which days have one number.
+#[derive(Drop)]
+struct SaidDays<T: SaidOfDay> {
+    /// Different things that are said, by number.
+    said: Vec<T>,
     /// The number for each day.
     marks: Periods<Mark>,
 }
 
-impl SaidDays {
-    // The actions are said of each day of a period.
-    fn put(&mut self, period: &Period, actions: Vec<Action>) -> Result<(), Memory> {
-        let number = self.number_of(actions)?;
-        self.marks.replace(period, &Mark::of(number))
+impl<T: SaidOfDay> SaidDays<T> {
+    // This is said of each day of a period.
+    fn put(&mut self, period: &Period, said: T) -> Result<(), Memory>
+        requires before { AllByRecursion T.Sayable self.old.said.items }
+        requires said { T.Sayable said }
+        ensures { OnOk result (AllByRecursion T.Sayable self.new.said.items) }
+    {
+        let mark = self.mark_of(said)?;
+        self.marks.replace(period, &mark)
     }
 
-    // The number of a list of actions, which is added if it is none of the latest.
-    fn number_of(&mut self, actions: Vec<Action>) -> Result<u32, Memory> {
-        let count = self.lists.len();
+    // The number of what is said, which is added if it is none of the latest.
+    fn mark_of(&mut self, said: T) -> Result<Mark, Memory>
+        requires before { AllByRecursion T.Sayable self.old.said.items }
+        requires said { T.Sayable said }
+        ensures { OnOk result (AllByRecursion T.Sayable self.new.said.items) }
+    {
+        let count = self.said.len();
         for place in count.saturating_sub(MOST_COMPARED)..count {
-            if same_actions(&self.lists[place], &actions) {
-                return Ok(number_at(place));
+            if self.said[place].is_same(&said) {
+                return Ok(Mark::at(place));
             }
         }
-        self.lists.push(actions)?;
-        Ok(number_at(count))
+        self.said.push(said)?;
+        Ok(Mark::at(count))
     }
-}
-
-// The number of the list at a place.
-fn number_at(place: usize) -> u32 {
-    (place as u64 % 4_294_967_295) as u32 + 1
 }
 
 /// The periods of the canonical division of the days on which a flight differs by what is said of
 /// them. The pieces are those of the flight's difference.
-pub(crate) fn said_periods(
+pub(crate) fn said_periods<T: SaidOfDay>(
     alloc: Global,
     rows: &[StationRow],
     pieces: &[(Period, Difference)],
-) -> Result<Vec<(Period, Mark)>, Memory> {
-    let mut days = SaidDays {
-        lists: Vec::new(alloc),
+) -> Result<SaidPeriods<T>, Memory>
+    ensures { IfOk result (λ found. AllByRecursion T.Sayable found.said.items) }
+{
+    let mut days: SaidDays<T> = SaidDays {
+        said: Vec::new(alloc),
         marks: Periods::new(alloc),
     };
     for piece in pieces {
         put_parts(alloc, rows, &mut days, &piece.0, &piece.1)?;
     }
-    days.marks.pieces()
+    let periods = days.marks.pieces()?;
+    let SaidDays { said, .. } = days;
+    Ok(SaidPeriods { said, periods })
 }
 
 // Puts what is said of a piece, in parts on which the UTC variations of its new legs stay the same.
-fn put_parts(
+fn put_parts<T: SaidOfDay>(
     alloc: Global,
     rows: &[StationRow],
-    days: &mut SaidDays,
+    days: &mut SaidDays<T>,
     period: &Period,
     difference: &Difference,
-) -> Result<(), Memory> {
+) -> Result<(), Memory>
+    requires { AllByRecursion T.Sayable days.old.said.items }
+    ensures { OnOk result (AllByRecursion T.Sayable days.new.said.items) }
+{
     let end = period.last().number() + 1;
     let mut first = period.first().number();
     while first < end {
@@ -87,16 +124,19 @@ fn put_parts(
 }
 
 // Puts what is said of the first day of a part for all its days.
-fn put_part(
+fn put_part<T: SaidOfDay>(
     alloc: Global,
     rows: &[StationRow],
-    days: &mut SaidDays,
+    days: &mut SaidDays<T>,
     part: &Period,
     difference: &Difference,
-) -> Result<(), Memory> {
-    let said = say(alloc, rows, part.first(), &difference.old, &difference.new)?;
+) -> Result<(), Memory>
+    requires { AllByRecursion T.Sayable days.old.said.items }
+    ensures { OnOk result (AllByRecursion T.Sayable days.new.said.items) }
+{
+    let said: Option<T> = T::of_day(alloc, rows, part.first(), difference)?;
     match said {
         None => Ok(()),
-        Some(actions) => days.put(part, actions),
+        Some(said) => days.put(part, said),
     }
 }

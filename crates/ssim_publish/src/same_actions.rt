@@ -1,9 +1,38 @@
-//! Whether two lists of actions are equal.
+//! Actions as what is said of a day, and whether two lists of actions are equal.
 
+ghost use Rattle.std.specs.List.{AllByRecursion};
+ghost use Rattle.ssim_publish.specs.Reach.{IsSaid};
+
+use crate::date_actions::say;
+use crate::said_days::SaidOfDay;
+use ssim_base::StationRow;
+use ssim_difference::Difference;
 use ssim_text::{Action, Equipment, Legs, NewLegs, SegmentLine};
+use ssim_values::{Day, Memory};
+use std::alloc::Global;
 
-/// Whether two lists have equal actions.
-pub(crate) fn same_actions(mine: &[Action], theirs: &[Action]) -> bool {
+impl SaidOfDay for Vec<Action> {
+    ghost Sayable = { λ actions. AllByRecursion IsSaid actions.items };
+
+    fn of_day(
+        alloc: Global,
+        rows: &[StationRow],
+        day: Day,
+        difference: &Difference,
+    ) -> Result<Option<Self>, Memory> {
+        match say(alloc, rows, day, &difference.old, &difference.new)? {
+            None => Ok(None),
+            Some(actions) => Ok(Some(actions)),
+        }
+    }
+
+    fn is_same(&self, other: &Self) -> bool {
+        same_actions(self, other)
+    }
+}
+
+// Whether two lists have equal actions.
+fn same_actions(mine: &[Action], theirs: &[Action]) -> bool {
     if mine.len() != theirs.len() {
         return false;
     }

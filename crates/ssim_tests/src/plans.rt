@@ -1,10 +1,10 @@
 //! The sub-messages that lead one timetable to another, made of summer 2025 by texts.
 
 use ssim_base::{Base, Stations, resolve};
-use ssim_publish::{Publication, plan};
+use ssim_publish::{Publication, plan, unsaid_lines};
 use ssim_schedule::Schedule;
 use ssim_text::{ActionIdentifier, decode};
-use ssim_values::Memory;
+use ssim_values::{Airline, Memory};
 use ssim_vectors::{ONE_DATE_CANCELLED, STATIONS, SUMMER, TIMES_CHANGED_ON_MONDAYS, add_lines};
 use std::alloc::Global;
 
@@ -156,4 +156,36 @@ fn with_a_terminal(rt: HostRuntime) {
         )
     );
     assert!(rt; says(alloc, (b' ', b""), a, &[], 1));
+}
+
+/// The lines of what no messages say, by the station rows of summer 2025 or by none.
+fn unsaid(alloc: Global, has_rows: bool, old: (u8, &[u8]), new: (u8, &[u8])) -> Option<Vec<u8>> {
+    let base = summer(alloc, old.0)?;
+    let from = after(alloc, &base, old.1)?;
+    let to = after(alloc, &summer(alloc, new.0)?, new.1)?;
+    let rows = if has_rows { base.rows() } else { &[] };
+    let found = plan(alloc, rows, &from, &to).ok()?;
+    let airline = Airline::parse(b"LX ").ok()?;
+    unsaid_lines(alloc, airline, rows, &found.unsaid).ok()
+}
+
+fn is_unsaid(found: Option<Vec<u8>>, wanted: &[u8]) -> bool {
+    match found {
+        None => false,
+        Some(lines) => lines.as_slice() == wanted,
+    }
+}
+
+#[test]
+fn reasons(rt: HostRuntime) {
+    let alloc = rt.alloc();
+    let a: (u8, &[u8]) = (b' ', b"");
+    let cancelled: (u8, &[u8]) = (b' ', ONE_DATE_CANCELLED);
+    let terminal: (u8, &[u8]) = (b'1', b"");
+    let line = b"unsaid LX544 30MAR25 25OCT25 1234567 01 53-54\n";
+    assert!(rt; is_unsaid(unsaid(alloc, true, a, terminal), line));
+    // A date with another old itinerary and the same reason.
+    assert!(rt; is_unsaid(unsaid(alloc, true, cancelled, terminal), line));
+    let no_rows = b"unsaid LX544 01JUL25 01JUL25 .2..... 01 48-52 66-70\n";
+    assert!(rt; is_unsaid(unsaid(alloc, false, cancelled, a), no_rows));
 }

@@ -83,7 +83,6 @@ dates_of_pieces flight pieces g n = list_any (λ piece. dates_of_period flight p
 abbrev pub dates_of_flights : List Compared → Dates
 dates_of_flights flights g n = list_any (λ compared. dates_of_pieces compared.0 compared.1 g n) flights
 
--- on the day the flight has the new itinerary in a timetable, and had another one in the old
-abbrev pub IsMadeOn : (FlightNumber → Days) → (FlightNumber → Days) → (FlightNumber → Days) → FlightNumber → ℕ → Type 0
-IsMadeOn made old new flight day =
-    (on_day (made flight) day ≡ on_day (new flight) day) × (on_day (old flight) day ≢ on_day (new flight) day)
+-- a flight with these itineraries has the new one on the day, where it had another one before
+abbrev pub IsMadeOn : Days → Days → Days → ℕ → Type 0
+IsMadeOn made old new day = (on_day made day ≡ on_day new day) × (on_day old day ≢ on_day new day)
