@@ -90,7 +90,7 @@ creator_short : (creator : Option (List ℕ)) → IfSome creator IsCreatorBounde
 creator_short None h = omega arith
 creator_short (Some creator) h = let few = h.few in omega (arith, few)
 
-reference_short : (r : GivenReference) → ReadsAgain (ReferencePart r) → IfSome r.creator IsCreatorBounded
+reference_short : (r : GivenReference) → ReadsAgain (ReferencePart r) → length (creator_text r.creator) ≤ 36
     → length (reference_text r) ≤ 50
 reference_short r h bounded =
     let date = month_day_text r.date in
@@ -103,7 +103,7 @@ reference_short r h bounded =
       length-append date (five_digits r.group),
       date_five r h,
       code_short r.code,
-      creator_short r.creator bounded,
+      bounded,
     )
 
 lines_short : (own kind mode reference : List ℕ) → length own ≤ 9 → length kind ≤ 3 → length mode ≤ 3
@@ -127,7 +127,7 @@ lines_short own kind mode reference h k l m =
     )
 
 heading_short : (m : MessageValue) (g : ℕ) → AllByRecursion ReadsAgain (heading_parts m g)
-    → IfSome m.reference.creator IsCreatorBounded → length (written (heading_parts m g)) ≤ 68
+    → length (creator_text m.reference.creator) ≤ 36 → length (written (heading_parts m g)) ≤ 68
 heading_short m g h bounded =
     let own = originator_parts m.originator in
     let r = record m.reference { group = g } in
@@ -157,7 +157,7 @@ suffix_at : (b : Bool) (s : ℕ) → length (if b then [] else s ∷ []) ≤ 1
 suffix_at true s = omega arith
 suffix_at false s = omega arith
 
-designator_short : (d : Designator) (text : List ℕ) → SpellsDesignator d text → length (designator_text d) ≤ 8
+pub designator_short : (d : Designator) (text : List ℕ) → SpellsDesignator d text → length (designator_text d) ≤ 8
 designator_short d text h =
     let n = d.flight.number in
     let airline = airline_at (slice_index d.airline 2 == 32) d.airline (airline_three d.airline h.is_code) in
@@ -201,15 +201,16 @@ period_allowed : (kind : Kind) → kind ≡ Ssm → (first last : ℕ) (days : L
 period_allowed Ssm e first last days = tt
 period_allowed Asm e first last days = cc
 
-pub alone : (h : MessageValue) (text : List ℕ) (d : Designator) (line : List ℕ) (first last : ℕ)
-    (days : List Bool) (action : Action) → h.kind ≡ Ssm → SpellsMessage h text → SpellsDesignator d line
+-- under a heading whose parts read again
+pub alone_under : (h : MessageValue) (d : Designator) (line : List ℕ) (first last : ℕ)
+    (days : List Bool) (action : Action) → h.kind ≡ Ssm
+    → AllByRecursion ReadsAgain (heading_parts h h.reference.group)
+    → length (creator_text h.reference.creator) ≤ 36 → SpellsDesignator d line
     → first < day_limit → last < day_limit → IsMask days → IsSaid action
     → IsAlone h (dated d (record { first = first; last = last; days = days }) action)
-alone h text d line first last days action ssm spelled flight low high mask said =
+alone_under h d line first last days action ssm heading creator flight low high mask said =
     let sub = dated d (record { first = first; last = last; days = days }) action in
     let g = h.reference.group in
-    let bounded = spelled_reference_bounded h text spelled in
-    let heading = heading_again h text g bounded.group spelled in
     let k = known action said in
     let own = written (subs_parts (sub ∷ [])) in
     let good : IsGood h.kind sub = record {
@@ -230,7 +231,17 @@ alone h text d line first last days action ssm spelled flight low high mask said
       arith,
       ap length (in_two h g (sub ∷ [])),
       length-append (written (heading_parts h g)) own,
-      heading_short h g heading bounded.creator,
+      heading_short h g heading creator,
       own_is,
       sub_short,
     ))
+
+pub alone : (h : MessageValue) (text : List ℕ) (d : Designator) (line : List ℕ) (first last : ℕ)
+    (days : List Bool) (action : Action) → h.kind ≡ Ssm → SpellsMessage h text → SpellsDesignator d line
+    → first < day_limit → last < day_limit → IsMask days → IsSaid action
+    → IsAlone h (dated d (record { first = first; last = last; days = days }) action)
+alone h text d line first last days action ssm spelled flight low high mask said =
+    let bounded = spelled_reference_bounded h text spelled in
+    alone_under h d line first last days action ssm
+    (heading_again h text h.reference.group bounded.group spelled)
+    (creator_short h.reference.creator bounded.creator) flight low high mask said

@@ -227,6 +227,21 @@ none_if : (messages : List MessageValue) → length messages ≡ 0 → messages 
 none_if [] e = refl
 none_if (m ∷ messages) e = absurd (omega (arith, e))
 
+-- a desk that holds the messages after all else
+pub holding_all : (old new : DeskSeen) (h : MessageValue) (g : ℕ) (subs : List Sub) (r : Reference)
+    (dates : List ResolvedSub) (messages : List MessageValue) → Send h g subs messages
+    → new.base ≡ old.base → new.held ≡ old.held ++ entries_of r dates messages
+    → AreDelivered old subs r dates messages new
+holding_all old new h g subs r dates messages send base_is held =
+    let rows = old.base.rows in
+    record {
+      base = base_is;
+      held = held;
+      timetable = ap (λ (b : BaseSeen). left_by b new.held) base_is ∙ ap (left_by old.base) held
+          ∙ after_entries-++ rows old.held (entries_of r dates messages) (itinerary old.base.records)
+          ∙ all_entries rows h g subs r dates messages (timetable_of old) send;
+    }
+
 pub all_delivered : (old new : DeskSeen) (h : MessageValue) (g : ℕ) (subs : List Sub) (r : Reference)
     (dates : List ResolvedSub) (messages left : List MessageValue) → CanDeliver old h g subs r dates messages
     → new.base ≡ old.base → length left ≡ 0
@@ -235,11 +250,4 @@ pub all_delivered : (old new : DeskSeen) (h : MessageValue) (g : ℕ) (subs : Li
 all_delivered old new h g subs r dates messages left can base_is none l =
     let all = old.held ++ entries_of r dates messages in
     let held = nothing_left h new all (subst (λ (x : List MessageValue). AreLeft new h x all) (none_if left none) l) in
-    let rows = old.base.rows in
-    record {
-      base = base_is;
-      held = held;
-      timetable = ap (λ (b : BaseSeen). left_by b new.held) base_is ∙ ap (left_by old.base) held
-          ∙ after_entries-++ rows old.held (entries_of r dates messages) (itinerary old.base.records)
-          ∙ all_entries rows h g subs r dates messages (timetable_of old) can.send;
-    }
+    holding_all old new h g subs r dates messages can.send base_is held

@@ -17,3 +17,6 @@ pub mod PlainLines
 pub mod MailRead
 pub mod MailTexts
 pub mod SameBase
+pub mod Headings
+pub mod Joined
+pub mod Addressing

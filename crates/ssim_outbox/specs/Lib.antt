@@ -8,3 +8,6 @@ pub mod internal
 pub mod Delivery
 pub mod MailFile
 pub mod SameBase
+pub mod Comparable
+pub mod Heading
+pub mod Publication

@@ -4,8 +4,8 @@ use Rattle.ssim_text.specs.Canonical.{canonical}
 use Rattle.ssim_text.specs.Message.{MessageValue, with_sub}
 use Rattle.ssim_text.specs.Spelling.{SpellsMessage}
 use Rattle.ssim_text.specs.declared.action.Sub.{Sub}
-use Rattle.ssim_outbox.specs.declared.fault.OutboxFault.{OutboxFault}
-use Rattle.ssim_outbox.specs.declared.fault.OutboxFault.TheVariants.{Memory, Order, References}
+use Rattle.ssim_outbox.specs.declared.send_fault.SendFault.{SendFault}
+use Rattle.ssim_outbox.specs.declared.send_fault.SendFault.TheVariants.{Memory, References}
 
 -- the message with this heading, this group serial and these sub-messages, and no free text
 abbrev pub headed : MessageValue → ℕ → List Sub → MessageValue
@@ -48,8 +48,7 @@ Send heading group subs (m ∷ messages) =
 
 -- why no messages are returned: memory ran out, or no messages send the sub-messages, since the
 -- group serial would pass 99999
-abbrev pub RefusesSubs : MessageValue → List Sub → OutboxFault → Type 0
+abbrev pub RefusesSubs : MessageValue → List Sub → SendFault → Type 0
 RefusesSubs heading subs Memory = Unit {0}
 RefusesSubs heading subs References =
     (messages : List MessageValue) → Send heading heading.reference.group subs messages → ⊥
-RefusesSubs heading subs (Order reference) = ⊥

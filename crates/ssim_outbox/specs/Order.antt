@@ -5,8 +5,6 @@ use Rattle.std.specs.declared.cmp.Ordering.TheVariants.{Less}
 use Rattle.ssim_text.specs.declared.reference.Reference.{Reference}
 use Rattle.ssim_held.specs.Entries.{Entry}
 use Rattle.ssim_held.specs.Held.{reference_cmp}
-use Rattle.ssim_outbox.specs.declared.fault.OutboxFault.{OutboxFault}
-use Rattle.ssim_outbox.specs.declared.fault.OutboxFault.TheVariants.{Memory, Order, References}
 
 -- the reference comes after that of each message
 abbrev pub Follows : Reference → List Entry → Type 0
@@ -18,9 +16,7 @@ last_reference [] = None
 last_reference (e ∷ []) = Some e.reference
 last_reference (e ∷ f ∷ entries) = last_reference (f ∷ entries)
 
--- the reference does not come after that of each message; the fault names the greatest of these
-abbrev pub RefusesOrder : Reference → List Entry → OutboxFault → Type 0
-RefusesOrder reference entries (Order last) =
+-- the reference does not come after that of each message, the greatest of which is `last`
+abbrev pub RefusesOrder : Reference → List Entry → Reference → Type 0
+RefusesOrder reference entries last =
     (Follows reference entries → ⊥) × (last_reference entries ≡ Some last)
-RefusesOrder reference entries Memory = ⊥
-RefusesOrder reference entries References = ⊥

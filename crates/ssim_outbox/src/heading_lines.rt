@@ -39,7 +39,8 @@ fn push_originator(out: &mut Vec<u8>, originator: Originator) -> Result<(), Allo
     push_line(out, &originator.bytes())
 }
 
-fn mode_name(mode: TimeMode) -> &'static [u8]
+/// The line of a time mode.
+pub(crate) fn mode_name(mode: TimeMode) -> &'static [u8]
     ensures { result.now ≡ mode_text mode }
 {
     match mode {

@@ -1,5 +1,8 @@
-//! The messages that send sub-messages, their texts, and what a desk makes of them.
+//! The messages that lead the timetable of one desk towards that of another, their texts, and what a
+//! desk makes of them.
 //!
+//! - [`publish`]: the file of these messages, and the lines that say which they are and what they
+//!   leave unsaid, as [`Published`]; or an [`OutboxFault`].
 //! - [`dated_sub`]: a sub-message with full dates, which a text can have under a heading.
 //! - [`messages_of`]: the messages with a heading that have given sub-messages, in order, as many
 //!   in each as a text can have.
@@ -9,9 +12,14 @@
 //! - [`laws`]: the messages have each sub-message once, a mailbox reads the texts of their file, full
 //!   dates resolve as they are, and nothing is unsaid on the way to a desk that holds all that
 //!   another desk over the same base holds.
-//! - [`OutboxFault`]: why there are no messages, or why a reference does not follow.
+//! - [`SendFault`]: why there are no messages.
 //!
-//! **Promise.** The messages have exactly the given sub-messages, in order. Each is one that a text
+//! **Promise.** A desk that holds what the first desk holds takes each published message as new. It
+//! then has on each date what the second desk has, if messages can make it, and else what the first
+//! one has. No sub-message names a date on which its flight does not differ. The lines name each
+//! message, and exactly the dates on which the two desks still differ.
+//!
+//! The messages have exactly the given sub-messages, in order. Each is one that a text
 //! can have: at most 250 sub-messages, and at most 65,536 bytes in its canonical text. A message
 //! ends where the next sub-message would pass one of these limits. The group serial counts up by
 //! one from message to message. No other messages are so; if none are, since the group serial would
@@ -21,14 +29,20 @@
 //! each flight then has on each date what the sub-messages make, one after another, of what it had.
 #![tactic(auto)]
 
+mod address;
 mod dated;
 mod delivery;
 mod fault;
+mod heading;
 mod heading_lines;
 pub mod laws;
 mod mail_file;
 mod messages;
 mod order;
+mod plan_subs;
+mod publication;
+mod publication_lines;
+mod send_fault;
 mod sub_lines;
 
 pub use dated::dated_sub;
@@ -37,3 +51,5 @@ pub use fault::OutboxFault;
 pub use mail_file::mail_file_of;
 pub use messages::messages_of;
 pub use order::follows;
+pub use publication::{Published, publish};
+pub use send_fault::SendFault;

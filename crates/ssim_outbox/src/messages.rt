@@ -8,8 +8,8 @@ ghost use Rattle.ssim_text.specs.Message.{MessageValue};
 ghost use Rattle.ssim_outbox.specs.Messages.{IsAlone, IsFirst, RefusesSubs, Send, headed};
 ghost use Rattle.ssim_outbox.specs.internal.Texts.{IsFullText};
 
-use crate::fault::OutboxFault;
 use crate::heading_lines::heading_lines;
+use crate::send_fault::SendFault;
 use crate::sub_lines::{push_line, push_sub};
 use ssim_text::{Message, Sub, TextFault, decode};
 use ssim_values::Memory;
@@ -33,7 +33,7 @@ pub fn messages_of(
     alloc: Global,
     heading: &Message,
     subs: &[Sub],
-) -> Result<Vec<Message>, OutboxFault>
+) -> Result<Vec<Message>, SendFault>
     requires { AllByRecursion (IsAlone heading.now) subs.now }
     ensures ok { IfOk result
         (λ messages. Send heading.now heading.now.reference.group subs.now messages.items) }
@@ -45,14 +45,14 @@ pub fn messages_of(
 
     // There are messages if as many group serials are left as there are sub-messages.
     ensures enough { heading.now.reference.group + length subs.now ≤ 100000
-        → IfErr result (λ fault. fault ≡ OutboxFault.Memory) }
+        → IfErr result (λ fault. fault ≡ SendFault.Memory) }
 {
     let mut messages = Vec::new(alloc);
     let mut group = heading.reference().group;
     let mut left = subs;
     while let Some((first, later)) = left.split_first() {
         if group > LAST_GROUP {
-            return Err(OutboxFault::References);
+            return Err(SendFault::References);
         }
         let message = next_message(alloc, heading, group, first, later)?;
         left = after(left, message.subs().len());

@@ -4,14 +4,13 @@ ghost use Rattle.std.specs.Prelude.{IfErr, IfOk};
 ghost use Rattle.ssim_held.specs.Entries.{AreRising};
 ghost use Rattle.ssim_outbox.specs.Order.{Follows, RefusesOrder};
 
-use crate::fault::OutboxFault;
 use ssim_held::Held;
 use ssim_text::Reference;
 use std::cmp::Ordering;
 
 /// Whether a reference comes after those of all messages that are held, which are in order of
-/// reference. If not, the error is 64 and names the greatest of them.
-pub fn follows(reference: &Reference, held: &[Held]) -> Result<(), OutboxFault>
+/// reference. If not, the error is the greatest of these references.
+pub fn follows(reference: &Reference, held: &[Held]) -> Result<(), Reference>
     requires { AreRising held.now }
     ensures ok { IfOk result (λ _. Follows reference.now held.now) }
     ensures err { IfErr result (RefusesOrder reference.now held.now) }
@@ -22,7 +21,7 @@ pub fn follows(reference: &Reference, held: &[Held]) -> Result<(), OutboxFault>
             let last = last.reference();
             match last.order(reference) {
                 Ordering::Less => Ok(()),
-                _ => Err(OutboxFault::Order(last)),
+                _ => Err(last),
             }
         }
     }

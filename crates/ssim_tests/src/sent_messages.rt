@@ -6,7 +6,7 @@ ghost use Rattle.ssim_text.specs.declared.kind.Kind.TheVariants.{Ssm};
 ghost use Rattle.ssim_outbox.specs.Messages.{IsAlone};
 ghost use Rattle.ssim_publish.specs.Reach.{IsSaid};
 
-use ssim_outbox::{OutboxFault, dated_sub, messages_of};
+use ssim_outbox::{SendFault, dated_sub, messages_of};
 use ssim_text::{Action, Kind, Message, Sub, decode};
 use ssim_values::{Day, DayMask, Designator, Memory, Period};
 use std::alloc::Global;
@@ -60,7 +60,7 @@ fn one_sub(heading: &Message) -> Option<Sub>
 }
 
 /// The messages that send the sub-message of a text some times, under its heading.
-fn sent(alloc: Global, text: &[u8], times: usize) -> Result<Vec<Message>, OutboxFault> {
+fn sent(alloc: Global, text: &[u8], times: usize) -> Result<Vec<Message>, SendFault> {
     match ssm(alloc, text) {
         Some(heading) => sent_under(alloc, &heading, times),
         None => Ok(Vec::new(alloc)),
@@ -68,7 +68,7 @@ fn sent(alloc: Global, text: &[u8], times: usize) -> Result<Vec<Message>, Outbox
 }
 
 /// The messages that send the sub-message of the heading's message some times.
-fn sent_under(alloc: Global, heading: &Message, times: usize) -> Result<Vec<Message>, OutboxFault>
+fn sent_under(alloc: Global, heading: &Message, times: usize) -> Result<Vec<Message>, SendFault>
     requires { heading.now.kind ≡ Ssm }
 {
     let mut subs = Vec::new(alloc);
@@ -118,7 +118,7 @@ fn no_more_than_250_in_a_text(rt: HostRuntime) {
     assert!(rt;
         matches!(
             sent(rt.alloc(), LAST_OF_ALL, 251),
-            Err(OutboxFault::References)
+            Err(SendFault::References)
         )
     );
 }

@@ -1,0 +1,10 @@
+-- The flights so far exist.
+use Rattle.std.proofs.Common.{take}
+use Rattle.std.specs.List.{AllByRecursion}
+use Rattle.ssim_values.specs.Flight.{IsFlight}
+use Rattle.ssim_publish.specs.declared.planned_sub.PlannedSub.{PlannedSub}
+use Rattle.ssim_outbox.proofs.plan_subs.flights_exist.Given as goal
+
+abbrev pub invariant-loop-sub : goal.invariant-loop-sub
+invariant-loop-sub l =
+    AllByRecursion (λ (sub : PlannedSub). IsFlight sub.flight) (take l.sub-index l.subs)

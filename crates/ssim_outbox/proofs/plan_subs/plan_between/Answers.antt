@@ -1,0 +1,18 @@
+-- The plan is one between the timetables of the desks, since the schedules have these.
+use Rattle.std.proofs.Common.{◌∙◌, List, ap, subst}
+use Rattle.ssim_base.specs.BaseSeen.{BaseSeen}
+use Rattle.ssim_base.specs.Stations.{Row}
+use Rattle.ssim_schedule.specs.Schedule.{days_in}
+use Rattle.ssim_desk.specs.Desk.{days_of_desk}
+use Rattle.ssim_outbox.proofs.Joined.{plan_of_days}
+use Rattle.ssim_outbox.proofs.plan_subs.plan_between.Goals as goal
+
+pub returns : goal.returns
+returns c =
+    let publication = c.in_ok-publication.publication in
+    plan_of_days c.args.from.now c.args.to.now c.rows.result.now (days_in c.in_ok-old.old) (days_in c.in_ok-new.new)
+    (days_in publication.after) publication.subs.items c.deref.result.now publication.unsaid.items
+    (c.rows.ensures ∙ ap (λ (b : BaseSeen). b.rows) c.base.ensures) c.deref.ensures.value c.flights_exist.ensures
+    c.in_ok-old.ensures c.in_ok-new.ensures c.in_ok-publication.ensures.leave
+    c.in_ok-publication.ensures.published c.in_ok-publication.ensures.unsaid c.in_ok-publication.ensures.said
+    c.in_ok-publication.ensures.differing
