@@ -6,6 +6,7 @@ devices that fail or for a standard input that it does not give is left out. Pri
 form of crates/ssim_cases/stdout), only the cases whose transcript is not that of EXPECTED, and as the last line
 'N passed, M failed'.
 """
+import datetime
 import itertools
 import os
 import re
@@ -14,7 +15,7 @@ import sys
 import tempfile
 
 # The words that a built program can be asked.
-KNOWN = {"", "#", "let", "|", "=", "^", "at", "cut", "out", "load", "file", "run", "prefixes", "show", "size", "equal"}
+KNOWN = {"", "#", "let", "|", "=", "times", "cancels", "^", "at", "cut", "out", "load", "file", "run", "prefixes", "show", "size", "equal"}
 
 
 # The constants of the vectors, whose names are theirs in small letters.
@@ -69,6 +70,15 @@ def shown(heading, data):
         text = "".join(run_shown(byte, len(list(group))) for byte, group in itertools.groupby(line.removesuffix(b"\n")))
         found.append("| " + text + ("" if line.endswith(b"\n") else "<>"))
     return found
+
+
+def cancels(flight, day, step, count):
+    """The lines of sub-messages that each cancel a flight on one date."""
+    subs = []
+    for place in range(int(count)):
+        date = (datetime.date(2000, 1, 1) + datetime.timedelta(days=int(day) + place * int(step))).strftime("%d%b%y").upper()
+        subs.append(f"CNL\n{flight}\n{date} {date} 1234567\n")
+    return "//\n".join(subs).encode("ascii")
 
 
 def words_of(text):
@@ -138,6 +148,11 @@ class Case:
         if word in ("|", "="):
             self.last_line = len(self.bytes)
             self.bytes += bytes_shown(rest) + b"\n" if word == "|" else self.lines_named(rest)
+        elif word == "times":
+            count, name = rest.split(" ", 1)
+            self.bytes += self.lines_named(name) * int(count)
+        elif word == "cancels":
+            self.bytes += cancels(*rest.split(" "))
         elif word in ("^", "at"):
             place, text = rest.split(" ", 1)
             self.write_over(int(place) if word == "at" else self.last_line + int(place) - 1, text)

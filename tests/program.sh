@@ -174,6 +174,7 @@ desks_refused() {
     expect "the second text is refused" 1 "$taken" "$conflict" take desk new x2 other
     expect "standard input is no output" 1 "$taken" $'refused 91 File -\n' take desk - x2
     expect "a desk is not written to standard output" 1 "" $'refused 91 File -\n' start divided.ssim none -
+    expect "texts are not written to standard output" 1 "" $'refused 91 File -\n' publish desk held 02JUN00001E001 -
     expect "a folder is no output" 1 "$taken" $'refused 91 File folder\n' take desk folder x2
     expect "the folder of the output is missing" 1 "" $'refused 91 File none/new\n' merge desk held none/new
     expect "a folder is no input" 1 "" $'refused 91 File folder\n' findings folder
@@ -268,7 +269,7 @@ desks_refused
 desks_printed
 either_printed
 long_files
-for name in check problems tidy start take merge withdraw receive texts show history list board calendar diff page findings export rehearse explain; do
+for name in check problems tidy start take merge withdraw receive texts show history list board calendar diff publish page findings export rehearse explain; do
     expect "help of $name" 0 @ "" "$name" --help
     expect "$name without its words" 2 "" @ "$name"
 done

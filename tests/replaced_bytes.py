@@ -5,7 +5,8 @@ The files are a data set (804 bytes), texts that together have each part of a me
 (848 bytes) and with one (907 bytes), each in both versions. Read is every prefix of them, and each of them with every byte
 replaced by `0`, `A`, a blank, LF and 255:
 
-- a data set is refused with a number of its own, or tidied to what is tidied to itself;
+- a data set is refused with a number of its own, or tidied to what is tidied to itself. `publish` from the desk of the whole one refuses it
+  with the same line, or for another airline or time mode; or a desk that receives the texts differs from it on the unsaid dates alone;
 - a text is refused with a number of its own, or taken: then the desk that is written repeats it, and is written again as it is;
 - a script is refused as 63, or for a missing file as 91, or it ends with `same` or `different`;
 - a desk file is refused as 62, or opened and written again with the same bytes (the first line of a version 1 file aside).
@@ -35,8 +36,11 @@ OTHER_TEXTS = [
     b"SSM\nUTC\n01JUN00010E001\nNEW\nLX700\n01JUL25 01JUL25 2\nJ 320 CY\nZRH0545 LHR0700\nLHR0800 ZRH1045\n"
     b"ZRHLHR 99/VIA TERMINAL 2\nLHRZRH 10/LX\nZRHZRH 109/M\n",
 ]
+ROWS = b"ZRH 30MAR25 25OCT25 +0200\nLHR 30MAR25 25OCT25 +0100\n"
 SCRIPT = b"DESKS 2\nTAKE 1 text\nMERGE 2 1\nTAKE 2 text\n"
 FIRST_LINE = len(b"SSIMDESK 2\n")
+
+PUBLISH = ["publish", "sender", "altered", "05JUN00001E001", "out"]
 
 REFUSED_DATA_SET = rb"refused (1[012]|3[0-8]) [A-Za-z]+ record \d+( column \d+)?\n|refused (50 Variations flight \S+|51 Records)\n"
 REFUSED_TEXT = rb"refused 2[0-9] [A-Za-z]+ line \d+\n|refused 4[0-3] [A-Za-z]+ sub \d+\n"
@@ -61,9 +65,10 @@ def read(folder, name):
 def small_files(program, folder):
     """The files, each with what is to be said of it: the two desk files come in both versions."""
     records = [with_serial(line, serial) + b"\n" for serial, line in enumerate(plain_season(), 1)]
-    for name, data in ("season", b"".join(records)), ("none", b""), ("text", TEXT):
+    for name, data in ("season", b"".join(records)), ("none", b""), ("rows", ROWS), ("text", TEXT):
         write(folder, name, data)
     run(program, folder, "start", "season", "none", "desk")
+    run(program, folder, "start", "season", "rows", "sender")
     run(program, folder, "take", "desk", "held", "text")
     found = [read(folder, "desk"), read(folder, "held")]
     assert [len(data) for data in found] == [848, 907]
@@ -85,9 +90,21 @@ def is_data_set(program, folder):
     """Whether the file is refused as a data set, or tidied to what is tidied to itself."""
     status, tidied, errors = run(program, folder, "tidy", "altered")
     if status == 1:
-        return tidied == b"" and re.fullmatch(REFUSED_DATA_SET, errors) is not None
+        is_refused = tidied == b"" and re.fullmatch(REFUSED_DATA_SET, errors) is not None
+        return is_refused and run(program, folder, *PUBLISH) == (1, b"", errors)
     write(folder, "tidied", tidied)
-    return status == 0 and run(program, folder, "tidy", "tidied") == (0, tidied, b"")
+    return status == 0 and run(program, folder, "tidy", "tidied") == (0, tidied, b"") and is_published(program, folder)
+
+
+def is_published(program, folder):
+    """Whether the file is refused for its airline or its time mode, or a desk that receives what is published has all but the unsaid dates."""
+    status, printed, errors = run(program, folder, *PUBLISH)
+    if status == 1:
+        return printed == b"" and errors in (b"refused 41 Airline sub 0\n", b"refused 40 TimeMode sub 0\n")
+    texts, unsaid = re.search(rb"texts (\d+) subs \d+ unsaid dates (\d+)\n\Z", printed).groups()
+    received, left = run(program, folder, "receive", "sender", "new", "out"), run(program, folder, "diff", "new", "altered")
+    is_received = received[0] == 0 and received[1].endswith(b"taken " + texts + b" repeated 0 refused 0\n")
+    return is_received and left[1].endswith(b"same\n" if unsaid == b"0" else b" dates " + unsaid + b"\n")
 
 
 def is_text(program, folder):

@@ -57,6 +57,7 @@ COMMANDS = [
     ("calendar", ["calendar", "desk", "LX544"], None),
     ("page", ["page", "desk"], None),
     ("diff", ["diff", "theirs", "desk"], None),
+    ("publish", ["publish", "desk", "theirs", "05JUN00001E001", "new"], "new"),
     ("findings", ["findings", "desk"], None),
     ("export", ["export", "desk"], None),
     ("rehearse", ["rehearse", "season", "stations", "script"], None),

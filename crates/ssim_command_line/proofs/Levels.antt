@@ -15,7 +15,7 @@ use Rattle.clap.specs.Takes.{takes, turn_passes, walk_passes}
 use Rattle.clap.proofs.WalkLemmas.{walk_stopped}
 use Rattle.ssim_command_line.specs.Line.{Text}
 use Rattle.ssim_command_line.specs.Commands.{whole_program, leaf, bare_program, one_value}
-use Rattle.ssim_command_line.specs.Commands.{three_values}
+use Rattle.ssim_command_line.specs.Commands.{four_values, three_values}
 use Rattle.ssim_command_line.specs.Commands.{two_values}
 use Rattle.ssim_command_line.proofs.Words.{Looks, at, next_passes, none_passes, stopped_passes}
 use Rattle.ssim_command_line.proofs.Words.{turn_plain, walked_plain}
@@ -133,6 +133,64 @@ module _ (name : Text) (a b d : Text) (la : Looks a) (lb : Looks b) (ld : Looks 
 
   pub three_rows : rows_after s3.rules [] (a ∷ b ∷ d ∷ []) ≡ finished s3.rules x3.held
   three_rows = ap (λ (v : Walk). finished s3.rules v.held) ends3
+
+-- four values
+module _ (name : Text) (a b d e : Text) (la : Looks a) (lb : Looks b) (ld : Looks d) (le : Looks e) where
+  abbrev s4 : Shape
+  s4 = ready (leaf name four_values)
+
+  abbrev c4 : List Rule
+  c4 = s4.rules
+
+  abbrev pub u1 : Walk
+  u1 = to_positional c4 (arg_by_index c4 1) a (at nothing_held idle 1) nothing_held
+
+  abbrev pub u2 : Walk
+  u2 = to_positional c4 (arg_by_index c4 2) b (at u1.held idle 2) u1.held
+
+  abbrev pub u3 : Walk
+  u3 = to_positional c4 (arg_by_index c4 3) d (at u2.held idle 3) u2.held
+
+  abbrev pub u4 : Walk
+  u4 = to_positional c4 (arg_by_index c4 4) e (at u3.held idle 4) u3.held
+
+  pub t1 : walked c4 [] (at nothing_held idle 1) a ≡ u1
+  t1 = walked_plain c4 nothing_held idle 1 a la refl
+
+  pub t2 : walked c4 [] u1 b ≡ u2
+  t2 = walked_plain c4 u1.held idle 2 b lb refl
+
+  pub t3 : walked c4 [] u2 d ≡ u3
+  t3 = walked_plain c4 u2.held idle 3 d ld refl
+
+  pub t4 : walked c4 [] u3 e ≡ u4
+  t4 = walked_plain c4 u3.held idle 4 e le refl
+
+  pub ends4 : (walk c4 [] nothing_held (a ∷ b ∷ d ∷ e ∷ [])) ≡ u4
+  ends4 =
+      ap (λ (v : Walk). fold (walked c4 []) v (b ∷ d ∷ e ∷ [])) t1
+      ∙ (ap (λ (v : Walk). fold (walked c4 []) v (d ∷ e ∷ [])) t2
+      ∙ (ap (λ (v : Walk). fold (walked c4 []) v (e ∷ [])) t3 ∙ t4))
+
+  passes4 : walk_passes s4 [] (at nothing_held idle 1) (a ∷ b ∷ d ∷ e ∷ []) ≡ true
+  passes4 =
+      let first = turn_plain s4 nothing_held idle 1 a la refl refl in
+      let second = turn_plain s4 u1.held idle 2 b lb refl refl in
+      let third = turn_plain s4 u2.held idle 3 d ld refl refl in
+      let fourth = turn_plain s4 u3.held idle 4 e le refl refl in
+      next_passes s4 [] (at nothing_held idle 1) u1 a (b ∷ d ∷ e ∷ []) first t1
+      (next_passes s4 [] u1 u2 b (d ∷ e ∷ []) second t2
+      (next_passes s4 [] u2 u3 d (e ∷ []) third t3
+      (next_passes s4 [] u3 u4 e [] fourth t4 (none_passes s4 [] u4))))
+
+  pub four_level : level_passes s4 [] nothing_held (a ∷ b ∷ d ∷ e ∷ []) false ≡ true
+  four_level =
+      ap₂ (λ (t : Bool) (v : Walk). t && (settle_passes s4.rules s4.args_override_self v.held
+      && (list_all default_passes s4.rules && is_valid s4 (finished s4.rules v.held) false)))
+      passes4 ends4
+
+  pub four_rows : rows_after s4.rules [] (a ∷ b ∷ d ∷ e ∷ []) ≡ finished s4.rules u4.held
+  four_rows = ap (λ (v : Walk). finished s4.rules v.held) ends4
 
 -- ---- the command line as a whole
 

@@ -27,19 +27,20 @@ use Rattle.ssim_command_line.specs.Line.{Check, Tidy, Start, Take, Receive, Merg
 use Rattle.ssim_command_line.specs.Line.{Show}
 use Rattle.ssim_command_line.specs.Line.{History}
 use Rattle.ssim_command_line.specs.Line.{Calendar, Page, Problems, Findings, Export, Rehearse, Explain, Board}
-use Rattle.ssim_command_line.specs.Line.{Diff, Listing, form_words}
+use Rattle.ssim_command_line.specs.Line.{Diff, Listing, Publish, form_words}
 use Rattle.ssim_command_line.specs.Commands.{whole_program, leaf, one_value, one_value_and_texts}
 use Rattle.ssim_command_line.specs.Commands.{one_value_and_texts_in_form, three_values, two_values, two_values_and_texts}
-use Rattle.ssim_command_line.specs.Commands.{two_values_and_texts_or_refused}
+use Rattle.ssim_command_line.specs.Commands.{four_values, two_values_and_texts_or_refused}
 use Rattle.ssim_command_line.specs.Request.{line_at, with_flights, with_form, with_one, with_refused}
 use Rattle.ssim_command_line.specs.Request.{with_texts}
-use Rattle.ssim_command_line.specs.Request.{with_three, with_two}
+use Rattle.ssim_command_line.specs.Request.{with_four, with_three, with_two}
 use Rattle.ssim_command_line.specs.Usage.{IsNoCommand, Names}
 use Rattle.ssim_command_line.proofs.Words.{Looks, at, looks}
 use Rattle.ssim_command_line.proofs.Levels.{enters, one_level, one_rows, ready, simple, takes_words}
+use Rattle.ssim_command_line.proofs.Levels.{four_level, four_rows}
 use Rattle.ssim_command_line.proofs.Levels.{three_level, three_rows, top_rules, two_level, two_rows}
 use Rattle.ssim_command_line.proofs.Levels.{whole}
-use Rattle.ssim_command_line.proofs.Right.{one_right, three_right, two_right, words_right}
+use Rattle.ssim_command_line.proofs.Right.{four_right, one_right, three_right, two_right, words_right}
 use Rattle.ssim_command_line.proofs.TextForms.{EndsAs, Leads, any_more, any_none, any_one, any_takes}
 use Rattle.ssim_command_line.proofs.TextForms.{any_value, form_level, form_read, form_right, hf, ht}
 use Rattle.ssim_command_line.proofs.TextForms.{kt}
@@ -130,6 +131,10 @@ diff_is : IsNamed (codes "diff") (ready (leaf (codes "diff") two_values))
 unfolding clap_on_literals
 diff_is = record { met = refl; fits = refl; right = refl; found = refl }
 
+publish_is : IsNamed (codes "publish") (ready (leaf (codes "publish") four_values))
+unfolding clap_on_literals
+publish_is = record { met = refl; fits = refl; right = refl; found = refl }
+
 findings_is : IsNamed (codes "findings") (ready (leaf (codes "findings") one_value))
 unfolding clap_on_literals
 findings_is = record { met = refl; fits = refl; right = refl; found = refl }
@@ -193,6 +198,28 @@ three_answers line name a b d make is named n la lb ld reads program =
       rows = rows;
       named = enters name (a ∷ b ∷ d ∷ []) s n.met n.fits n.found program ∙ ap (λ (x : Text). Some (x, rows)) (sym named);
       made = ap (λ (x : Text). line_at x rows) named ∙ (reads rows ∙ (ap (with_three make) (three_rows name a b d la lb ld) ∙ ap Some (sym is)));
+    }
+
+-- a command with four values
+four_answers : (line : Line) (name a b d e : Text) (make : Text → Text → Text → Text → Line)
+    → line ≡ make a b d e → name_of line ≡ name → IsNamed name (ready (leaf name four_values))
+    → Looks a → Looks b → Looks d → Looks e
+    → ((rows : List Row) → line_at name rows ≡ with_four make rows) → (program : Text)
+    → Answers (program ∷ name ∷ a ∷ b ∷ d ∷ e ∷ []) line
+four_answers line name a b d e make is named n la lb ld le reads program =
+    let s = ready (leaf name four_values) in
+    let values = a ∷ b ∷ d ∷ e ∷ [] in
+    let rows = rows_after s.rules [] values in
+    let entered = enters name values s n.met n.fits n.found program in
+    let read = ap (with_four make) (four_rows name a b d e la lb ld le) in
+    let level = four_level name a b d e la lb ld le in
+    let faultless = four_right name a b d e la lb ld le in
+    record {
+      taken = takes_words name values s n.met n.fits n.found program level;
+      right = words_right name values s n.met n.right n.fits n.found program faultless;
+      rows = rows;
+      named = entered ∙ ap (λ (x : Text). Some (x, rows)) (sym named);
+      made = ap (λ (x : Text). line_at x rows) named ∙ (reads rows ∙ (read ∙ ap Some (sym is)));
     }
 
 -- values and then texts
@@ -354,6 +381,16 @@ from_line program (Diff a b) w e =
     let k = one_plain b p.1 in
     let name = codes "diff" in
     two_answers (Diff a b) name a b Diff refl refl diff_is l k (λ rows. refl) program
+from_line program (Publish a b d f) w e =
+    let p = both _ _ e in
+    let q = both _ _ p.1 in
+    let r = both _ _ q.1 in
+    let l = looks a p.0 in
+    let k = looks b q.0 in
+    let m = looks d r.0 in
+    let o = one_plain f r.1 in
+    let name = codes "publish" in
+    four_answers (Publish a b d f) name a b d f Publish refl refl publish_is l k m o (λ rows. refl) program
 from_line program (Rehearse a b d) w e =
     let p = both _ _ e in let q = both _ _ p.1 in
     three_answers (Rehearse a b d) (codes "rehearse") a b d Rehearse refl refl rehearse_is (looks a p.0) (looks b q.0) (one_plain d q.1) (λ rows. refl) program

@@ -15,9 +15,11 @@ use Rattle.clap.specs.Takes.{turn_passes}
 use Rattle.clap.proofs.OnLiterals.{clap_on_literals}
 use Rattle.ssim_command_line.specs.Line.{Text}
 use Rattle.ssim_command_line.specs.Commands.{whole_program, leaf, one_value, three_values, two_values}
+use Rattle.ssim_command_line.specs.Commands.{four_values}
 use Rattle.ssim_command_line.proofs.Words.{Looks, at, awaits_option, word_is}
 use Rattle.ssim_command_line.proofs.Levels.{ends2, ends3, entered_is, p1, p2, q1, q2, ready, top_rules}
 use Rattle.ssim_command_line.proofs.Levels.{v1, w1, walk_is, whole, x1, x2, x3, y1, y2, y3}
+use Rattle.ssim_command_line.proofs.Levels.{ends4, t1, t2, t3, t4, u1, u2, u3, u4}
 
 word_right : (s : Shape) (word : Text) (h : Held) → Looks word → other_fault s None word h ≡ []
 word_right s word h l =
@@ -112,6 +114,36 @@ module _ (name : Text) (a b d : Text) (la : Looks a) (lb : Looks b) (ld : Looks 
       (next_right s3 [] (at nothing_held idle 1) z1 a (b ∷ d ∷ []) (turn_right s3 nothing_held idle 1 a la refl refl) (y1 name a b d la lb ld)
       (next_right s3 [] z1 z2 b (d ∷ []) (turn_right s3 z1.held idle 2 b lb refl refl) (y2 name a b d la lb ld)
       (next_right s3 [] z2 z3 d [] (turn_right s3 z2.held idle 3 d ld refl refl) (y3 name a b d la lb ld) (none_right s3 [] z3)))) refl
+
+-- four values
+module _ (name : Text) (a b d e : Text) (la : Looks a) (lb : Looks b) (ld : Looks d) (le : Looks e) where
+  abbrev s4 : Shape
+  s4 = ready (leaf name four_values)
+
+  abbrev f1 : Walk
+  f1 = u1 name a b d e la lb ld le
+
+  abbrev f2 : Walk
+  f2 = u2 name a b d e la lb ld le
+
+  abbrev f3 : Walk
+  f3 = u3 name a b d e la lb ld le
+
+  abbrev f4 : Walk
+  f4 = u4 name a b d e la lb ld le
+
+  pub four_right : level_fault s4 [] nothing_held (a ∷ b ∷ d ∷ e ∷ []) false [] ≡ []
+  unfolding clap_on_literals
+  four_right =
+      let first = turn_right s4 nothing_held idle 1 a la refl refl in
+      let second = turn_right s4 f1.held idle 2 b lb refl refl in
+      let third = turn_right s4 f2.held idle 3 d ld refl refl in
+      let fourth = turn_right s4 f3.held idle 4 e le refl refl in
+      level_right s4 (a ∷ b ∷ d ∷ e ∷ []) f4 (ends4 name a b d e la lb ld le)
+      (next_right s4 [] (at nothing_held idle 1) f1 a (b ∷ d ∷ e ∷ []) first (t1 name a b d e la lb ld le)
+      (next_right s4 [] f1 f2 b (d ∷ e ∷ []) second (t2 name a b d e la lb ld le)
+      (next_right s4 [] f2 f3 d (e ∷ []) third (t3 name a b d e la lb ld le)
+      (next_right s4 [] f3 f4 e [] fourth (t4 name a b d e la lb ld le) (none_right s4 [] f4))))) refl
 
 -- the command line as a whole
 module _ (name : Text) (values : List Text) (s : Shape)

@@ -32,6 +32,11 @@ two_values = needed (codes "first") ∷ needed (codes "second") ∷ []
 abbrev pub three_values : List Rule
 three_values = needed (codes "first") ∷ needed (codes "second") ∷ needed (codes "third") ∷ []
 
+-- the values of a command with four values
+abbrev pub four_values : List Rule
+four_values =
+    needed (codes "first") ∷ needed (codes "second") ∷ needed (codes "third") ∷ needed (codes "fourth") ∷ []
+
 -- the values of a command with two values and one or more texts
 abbrev pub two_values_and_texts : List Rule
 two_values_and_texts = needed (codes "first") ∷ needed (codes "second") ∷ several_texts ∷ []
@@ -104,9 +109,13 @@ on_timetables =
     ∷ leaf (codes "board") three_values
     ∷ leaf (codes "calendar") two_values ∷ []
 
--- the commands that print how two timetables differ, or the page of one
+-- the commands that print how two timetables differ, make the messages that say it, or print the page
+-- of one
 abbrev pub of_timetables : List Shape
-of_timetables = leaf (codes "diff") two_values ∷ leaf (codes "page") one_value ∷ []
+of_timetables =
+    leaf (codes "diff") two_values
+    ∷ leaf (codes "publish") four_values
+    ∷ leaf (codes "page") one_value ∷ []
 
 -- the commands that print what a desk has
 abbrev pub of_desks : List Shape

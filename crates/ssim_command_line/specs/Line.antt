@@ -26,6 +26,7 @@ pub data Line : Type 0 where
   Calendar : Text → Text → Line
   Page : Text → Line
   Diff : Text → Text → Line
+  Publish : Text → Text → Text → Text → Line
   Findings : Text → Line
   Export : Text → Line
   Rehearse : Text → Text → Text → Line
@@ -49,6 +50,7 @@ name_of (Listing form file flights) = codes "list"
 name_of (Calendar file flight) = codes "calendar"
 name_of (Page file) = codes "page"
 name_of (Diff from to) = codes "diff"
+name_of (Publish from to reference out) = codes "publish"
 name_of (Findings desk) = codes "findings"
 name_of (Export desk) = codes "export"
 name_of (Rehearse dataset stations script) = codes "rehearse"
@@ -86,6 +88,7 @@ values_of (Listing form file flights) = form_words form ++ file ∷ flights
 values_of (Calendar file flight) = file ∷ flight ∷ []
 values_of (Page file) = file ∷ []
 values_of (Diff from to) = from ∷ to ∷ []
+values_of (Publish from to reference out) = from ∷ to ∷ reference ∷ out ∷ []
 values_of (Findings desk) = desk ∷ []
 values_of (Export desk) = desk ∷ []
 values_of (Rehearse dataset stations script) = dataset ∷ stations ∷ script ∷ []

@@ -6,7 +6,7 @@ use Rattle.std.specs.Str.{bytes_eq}
 use Rattle.clap.specs.Words.{Row, all_of, first_of}
 use Rattle.ssim_command_line.specs.Line.{Line, Text, Check, Problems, Tidy, Start, Take, Merge, Texts, Show}
 use Rattle.ssim_command_line.specs.Line.{History, Board, Receive, Withdraw, Calendar, Findings, Export}
-use Rattle.ssim_command_line.specs.Line.{Rehearse, Explain, Page, Diff, Listing}
+use Rattle.ssim_command_line.specs.Line.{Rehearse, Explain, Page, Diff, Publish, Listing}
 use Rattle.ssim_command_line.specs.declared.command_line.ListForm.{ListForm}
 use Rattle.ssim_command_line.specs.declared.command_line.Request.{Request}
 use Rattle.ssim_command_line.specs.declared.command_line.Request.TheVariants as request
@@ -31,6 +31,7 @@ line_of (request.List form file flights) = Listing form file.now (map (λ t. t.n
 line_of (request.Calendar file flight) = Calendar file.now flight.now
 line_of (request.Page file) = Page file.now
 line_of (request.Diff from to) = Diff from.now to.now
+line_of (request.Publish from to reference out) = Publish from.now to.now reference.now out.now
 line_of (request.Findings desk) = Findings desk.now
 line_of (request.Export desk) = Export desk.now
 line_of (request.Rehearse dataset stations script) = Rehearse dataset.now stations.now script.now
@@ -48,6 +49,11 @@ abbrev pub three_of : List Row → Option (Text × Text × Text)
 three_of rows =
     option_and_then (λ p. option_map (λ c. (p.0, p.1, c)) (first_of (codes "third") rows)) (two_of rows)
 
+-- the four values, if all are given
+abbrev pub four_of : List Row → Option (Text × Text × Text × Text)
+four_of rows = option_and_then
+    (λ p. option_map (λ d. (p.0, p.1, p.2, d)) (first_of (codes "fourth") rows)) (three_of rows)
+
 -- the line of a command with one value, if it is given
 abbrev pub with_one : (Text → Line) → List Row → Option Line
 with_one make rows = option_map make (first_of (codes "first") rows)
@@ -59,6 +65,10 @@ with_two make rows = option_map (λ p. make p.0 p.1) (two_of rows)
 -- the line of a command with three values, if all are given
 abbrev pub with_three : (Text → Text → Text → Line) → List Row → Option Line
 with_three make rows = option_map (λ p. make p.0 p.1 p.2) (three_of rows)
+
+-- the line of a command with four values, if all are given
+abbrev pub with_four : (Text → Text → Text → Text → Line) → List Row → Option Line
+with_four make rows = option_map (λ p. make p.0 p.1 p.2 p.3) (four_of rows)
 
 -- the first value, the second and the texts, if all are given
 abbrev pub two_and_texts_of : List Row → Option (Text × Text × List Text)
@@ -95,7 +105,7 @@ abbrev pub with_form : List Row → Option Line
 with_form rows =
     option_map (λ file. Listing (form_of rows) file (texts_of rows)) (first_of (codes "first") rows)
 
--- what a subcommand's name and matches name of the commands that look at dates and flights
+-- the line of show, history, board, list or calendar, if the name is one of them and its values are given
 abbrev pub view_at : Text → List Row → Option Line
 view_at name rows =
     if bytes_eq name (codes "show") then with_three Show rows
@@ -105,16 +115,17 @@ view_at name rows =
     else (if bytes_eq name (codes "calendar") then with_two Calendar rows
     else None))))
 
--- what they name of the commands that look at all that a desk or a timetable has, or of these
+-- the line of page, diff, publish, texts or findings, if the name is one of them; else as above
 abbrev pub whole_view_at : Text → List Row → Option Line
 whole_view_at name rows =
     if bytes_eq name (codes "page") then with_one Page rows
     else (if bytes_eq name (codes "diff") then with_two Diff rows
+    else (if bytes_eq name (codes "publish") then with_four Publish rows
     else (if bytes_eq name (codes "texts") then with_flights rows
     else (if bytes_eq name (codes "findings") then with_one Findings rows
-    else view_at name rows)))
+    else view_at name rows))))
 
--- what they name of the commands on a desk, or of these
+-- the line of take, receive, merge, withdraw or export, if the name is one of them; else as above
 abbrev pub desk_line_at : Text → List Row → Option Line
 desk_line_at name rows =
     if bytes_eq name (codes "take") then with_texts Take rows
@@ -124,7 +135,7 @@ desk_line_at name rows =
     else (if bytes_eq name (codes "export") then with_one Export rows
     else whole_view_at name rows))))
 
--- what a subcommand's name and matches name, if they name a command with its values
+-- the line of a command, if the name is that of one and its values are given
 abbrev pub line_at : Text → List Row → Option Line
 line_at name rows =
     if bytes_eq name (codes "check") then with_one Check rows

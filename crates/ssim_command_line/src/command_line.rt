@@ -5,7 +5,7 @@ ghost use Rattle.ssim_command_line.specs.Commands.{whole_program};
 ghost use Rattle.ssim_command_line.specs.Line.{Line, Spells, Take, Withdraw};
 ghost use Rattle.ssim_command_line.specs.Request.{desk_line_at, line_at, line_of, three_of, two_and_texts_of};
 ghost use Rattle.ssim_command_line.specs.Request.{view_at, whole_view_at};
-ghost use Rattle.ssim_command_line.specs.Request.{form_of, is_given, two_of, with_flights, with_form};
+ghost use Rattle.ssim_command_line.specs.Request.{form_of, four_of, is_given, two_of, with_flights, with_form};
 ghost use Rattle.ssim_command_line.specs.Request.{with_refused, with_texts};
 ghost use Rattle.ssim_command_line.specs.Usage.{IsFaultOf, Names};
 
@@ -25,7 +25,7 @@ pub struct ListForm {
 
 /// A command with its values: names of files, but for the flights of `Texts` and of `List`, the
 /// references of `Withdraw`, the flight and the date of `Show` and of `History`, the station and the
-/// date of `Board`, the flight of `Calendar`, and the word of `Explain`.
+/// date of `Board`, the flight of `Calendar`, the reference of `Publish`, and the word of `Explain`.
 #[derive(Debug, Drop)]
 pub enum Request<'a> {
     /// Print the notes on a data set and a summary.
@@ -61,6 +61,9 @@ pub enum Request<'a> {
     Page(&'a str),
     /// Print on which dates flights differ in two timetables, of desks or of data sets.
     Diff(&'a str, &'a str),
+    /// Write the messages that lead one timetable to another, under references from this one on:
+    /// FROM, TO, the reference and the file of the messages.
+    Publish(&'a str, &'a str, &'a str, &'a str),
     /// Print what the sub-messages of a desk found.
     Findings(&'a str),
     /// Export a desk.
@@ -120,6 +123,18 @@ fn three<'a>(inner: &ArgMatches<'a>) -> Option<(&'a str, &'a str, &'a str)>
     let (first, second) = two(inner)?;
     let third = value_at(inner, "third")?;
     Some((first, second, third))
+}
+
+/// Four values.
+type Four<'a> = (&'a str, &'a str, &'a str, &'a str);
+
+fn four<'a>(inner: &ArgMatches<'a>) -> Option<Four<'a>>
+    ensures { option_map (λ p. (p.0.now, p.1.now, p.2.now, p.3.now)) result
+        ≡ four_of (rows_of (found_of inner.now)) }
+{
+    let (first, second, third) = three(inner)?;
+    let fourth = value_at(inner, "fourth")?;
+    Some((first, second, third, fourth))
 }
 
 /// Two values and one or more texts.
@@ -279,7 +294,8 @@ fn on_desk<'a>(
     whole_view(alloc, name, inner)
 }
 
-/// The request that looks at all that a desk or a timetable has, or at dates or flights.
+/// The request that looks at all that a desk or a timetable has, at two timetables, or at dates or
+/// flights.
 fn whole_view<'a>(
     alloc: Global,
     name: &str,
@@ -293,6 +309,9 @@ fn whole_view<'a>(
     }
     if name == "diff" {
         return Ok(two(inner).map(|(a, b)| Request::Diff(a, b)));
+    }
+    if name == "publish" {
+        return Ok(four(inner).map(|(a, b, c, d)| Request::Publish(a, b, c, d)));
     }
     if name == "texts" {
         return showing_texts(alloc, inner);

@@ -1,7 +1,8 @@
 //! The commands as `clap` sees them.
 ghost use Rattle.std.specs.Prelude.{◌≡◌, IfOk, codes, false};
 ghost use Rattle.clap.specs.Words.{Shape, app_of, rule_of, with_subcommand};
-ghost use Rattle.ssim_command_line.specs.Commands.{add_all, any_texts, beginnings, explanations, flag, leaf};
+ghost use Rattle.ssim_command_line.specs.Commands.{add_all, any_texts, beginnings, explanations, flag};
+ghost use Rattle.ssim_command_line.specs.Commands.{four_values, leaf};
 ghost use Rattle.ssim_command_line.specs.Commands.{needed, of_desks, on_data_sets, on_dates, on_desks};
 ghost use Rattle.ssim_command_line.specs.Commands.{of_timetables, on_messages, on_timetables, one_value};
 ghost use Rattle.ssim_command_line.specs.Commands.{one_value_and_texts, one_value_and_texts_in_form};
@@ -18,15 +19,24 @@ use std::alloc::{AllocError, Global};
 /// The version that `--version` prints.
 const VERSION: &str = "1.0.0";
 
-/// A value that has to be there. `clap` knows it by `id`, and help shows it as `shown`.
-fn value<'a>(alloc: Global, id: &'a str, shown: &'a str) -> Arg<'a>
+/// A value that has to be there. `clap` knows it by `id`, and help shows it as `shown`, with what it
+/// is.
+fn described<'a>(alloc: Global, id: &'a str, shown: &'a str, about: &'static str) -> Arg<'a>
     ensures rule { rule_of result ≡ needed id.entry.now }
     ensures local { result.global ≡ false }
 {
     Arg::new(alloc, id)
         .value_name(shown)
-        .help(help::about_value(shown))
+        .help(about)
         .required(true)
+}
+
+/// A value that is the same in every command that shows it by this name.
+fn value<'a>(alloc: Global, id: &'a str, shown: &'a str) -> Arg<'a>
+    ensures rule { rule_of result ≡ needed id.entry.now }
+    ensures local { result.global ≡ false }
+{
+    described(alloc, id, shown, help::about_value(shown))
 }
 
 /// One or more texts.
@@ -116,6 +126,18 @@ fn with_three<'a>(
     let [first, second, third] = shown;
     let command = with_two(alloc, name, about, example, [first, second])?;
     command.arg(value(alloc, "third", third))
+}
+
+/// The command `publish`, with two files, the first reference, and the file of messages to write.
+fn publish<'a>(alloc: Global) -> Result<Command<'a>, AllocError>
+    ensures { IfOk result (IsLeaf (leaf (codes "publish") four_values)) }
+{
+    let about = help::PUBLISH;
+    let shown = ["FROM", "TO"];
+    let command = with_two(alloc, "publish", about, help::PUBLISH_EXAMPLE, shown)?;
+    let first = described(alloc, "third", "REFERENCE", help::FIRST_REFERENCE);
+    let command = command.arg(first)?;
+    command.arg(described(alloc, "fourth", "OUT", help::MESSAGES))
 }
 
 /// A command with a desk, the desk file to write, and one or more texts.
@@ -248,13 +270,15 @@ fn with_timetables<'a>(alloc: Global, program: Command<'a>) -> Result<Command<'a
     with(program, calendar)
 }
 
-/// The commands that print how two timetables differ, or the page of one.
+/// The commands that print how two timetables differ, make the messages that say it, or print the
+/// page of one.
 fn with_whole_timetables<'a>(alloc: Global, program: Command<'a>) -> Result<Command<'a>, AllocError>
     ensures { IfOk result (λ c. app_of c ≡ add_all (app_of program.entry) of_timetables) }
 {
     let shown = ["FROM", "TO"];
     let diff = with_two(alloc, "diff", help::DIFF, help::DIFF_EXAMPLE, shown);
     let program = with(program, diff)?;
+    let program = with(program, publish(alloc))?;
     let page = with_one(alloc, "page", help::PAGE, help::PAGE_EXAMPLE, "FILE");
     with(program, page)
 }

@@ -13,7 +13,7 @@ The files of the examples are in samples/.
 
 The commands by what they are for:
   a data set: check, problems, tidy, explain
-  a desk:     start, take, receive, withdraw, merge, export, rehearse
+  a desk:     start, take, receive, withdraw, merge, publish, export, rehearse
   looking:    show, list, board, calendar, diff, page, history, texts, findings
 
 For each file that is read, - is standard input.
@@ -274,6 +274,30 @@ of flights that differ and of their dates, or is 'same':
 Legs of one sequence that differ although their lines are equal end in ' *'.
 Exit status: 0, also if they differ; 1 if a file is refused, or the airline or the time
 mode is another one (61).";
+
+pub(crate) const PUBLISH: &str = "\
+Read two files, each a desk file or a data set, and write the SSM texts by which a desk that
+holds what FROM holds gets the timetable of TO";
+
+pub(crate) const PUBLISH_EXAMPLE: &str = "\
+Example:
+  ssimdesk publish monday.desk friday.desk 05JUN00001E001 change.ssm
+writes the file 'change.ssm', which 'receive' takes, and prints for each text its reference
+and the number of its sub-messages, then each period of dates that no message can say, with
+the reason, and the numbers of all:
+  text SSM 05JUN27 00001 001 subs 12
+  unsaid Z7501 04SEP27 30OCT27 .....6. 01 53-54
+  texts 1 subs 12 unsaid dates 9
+From text to text the group serial of the reference, 00001, rises by one.
+Exit status: 0, also if dates are unsaid; 1 if a file is refused, the airline (41) or the
+time mode (40) of TO is another one, REFERENCE is no reference (21), has no date (42), or does
+not come after all messages of FROM (64), the group serial would pass 99999 (65), or OUT
+cannot be written.";
+
+pub(crate) const FIRST_REFERENCE: &str =
+    "The reference of the first text, such as 05JUN00001E001 or .ZRHRMLX/05JUN00001E001";
+
+pub(crate) const MESSAGES: &str = "The file of texts to write";
 
 pub(crate) const FINDINGS: &str = "\
 Read a desk file, and print for each sub-message that it holds on how many dates it acted,

@@ -14,7 +14,7 @@ const UNSUPPORTED: &str = "not supported: split the flight's periods, or write w
 const TOO_LARGE: &str =
     "a chapter 7 data set cannot say it: combine the flight's single dates, or divide the data set";
 
-pub(crate) const TABLE: [Explanation; 39] = [
+pub(crate) const TABLE: [Explanation; 41] = [
     Explanation {
         number: 1,
         meaning: "the date is not DDMMMYY, or no day of the calendar",
@@ -147,12 +147,12 @@ pub(crate) const TABLE: [Explanation; 39] = [
     },
     Explanation {
         number: 40,
-        meaning: "the text has the other time mode than the data set",
+        meaning: "the text has the other time mode than the data set. For publish TO has the other one than FROM",
         remedy: "ask for the message in the data set's time mode",
     },
     Explanation {
         number: 41,
-        meaning: "the flight is another airline's; 0 for the flight of a command",
+        meaning: "the flight is another airline's; 0 for the flight of a command. For publish TO is another airline's than FROM",
         remedy: "send the message to that airline's desk",
     },
     Explanation {
@@ -199,6 +199,16 @@ pub(crate) const TABLE: [Explanation; 39] = [
         number: 63,
         meaning: "the line of the script is invalid",
         remedy: "a script is DESKS n, then lines TAKE d FILE and MERGE d e",
+    },
+    Explanation {
+        number: 64,
+        meaning: "FROM holds this message, and the reference of publish does not come after it",
+        remedy: "choose a later reference",
+    },
+    Explanation {
+        number: 65,
+        meaning: "the messages are too many: the group serial would pass 99999",
+        remedy: "choose a lower group serial, of a later date",
     },
     Explanation {
         number: 90,

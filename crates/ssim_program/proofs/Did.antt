@@ -3,7 +3,7 @@
 use Rattle.std.proofs.Common.{◌≡◌, ◌∙◌, inl, inr, ℕ, zero, suc, ◌≤◌, List, [], ◌∷◌, ◌++◌, length, Option, Some, None, refl, ap, arith, length-append}
 use Rattle.ssim_command_line.specs.Line.{Line, Text, Check, Problems, Tidy, Start, Take, Receive, Merge, Withdraw}
 use Rattle.ssim_command_line.specs.Line.{Texts, Show, History, Calendar, Findings, Export, Rehearse}
-use Rattle.ssim_command_line.specs.Line.{Explain, Page, Board, Diff, Listing}
+use Rattle.ssim_command_line.specs.Line.{Explain, Page, Board, Diff, Publish, Listing}
 use Rattle.ssim_command_line.specs.Usage.{Names}
 use Rattle.ssim_held.specs.File.{desk_file}
 use Rattle.ssim_program.specs.Effects.{Begins, Makes}
@@ -32,6 +32,7 @@ begun (Listing form file flights) old new printed kept begins files = inl (print
 begun (Calendar file flight) old new printed kept begins files = inl (printed, kept, begins, files)
 begun (Page file) old new printed kept begins files = inl (printed, kept, begins, files)
 begun (Diff from to) old new printed kept begins files = inl (printed, kept, begins, files)
+begun (Publish from to reference out) old new printed kept begins files = inl (printed, kept, begins, files)
 begun (Findings file) old new printed kept begins files = inl (printed, kept, begins, files)
 begun (Export file) old new printed kept begins files = inl (printed, kept, begins, files)
 begun (Rehearse dataset stations script) old new printed kept begins files = inl (printed, kept, begins, files)
@@ -62,6 +63,7 @@ two_files (Listing form file flights) files printed kept m = omega (arith, ap le
 two_files (Calendar file flight) files printed kept m = omega (arith, ap length m.3)
 two_files (Page file) files printed kept m = omega (arith, ap length m.3)
 two_files (Diff from to) files printed kept m = omega (arith, ap length m.5)
+two_files (Publish from to reference out) files printed kept m = omega (arith, ap length m.2)
 two_files (Findings file) files printed kept m = omega (arith, ap length m.3)
 two_files (Export file) files printed kept m = omega (arith, ap length m.3)
 two_files (Rehearse dataset stations script) files printed kept m = omega (arith, ap length m.1)

@@ -5,7 +5,7 @@ use Rattle.ssim_program.specs.Effects.{Begins, Makes}
 use Rattle.ssim_program.specs.Files.{Files, Kept, with_kept}
 use Rattle.ssim_command_line.specs.Line.{Line, Check, Problems, Tidy, Start, Take, Merge, Withdraw, Receive}
 use Rattle.ssim_command_line.specs.Line.{Texts, Show, History, Calendar, Findings, Export, Rehearse}
-use Rattle.ssim_command_line.specs.Line.{Explain, Page, Board, Diff, Listing}
+use Rattle.ssim_command_line.specs.Line.{Explain, Page, Board, Diff, Publish, Listing}
 use Rattle.ssim_program.specs.print.Paper.{Paper}
 use Rattle.ssim_program.specs.internal.Print.{Prints}
 use Rattle.ssim_program.specs.print.Reasons.{Refuses}
@@ -34,6 +34,7 @@ itself (Listing form file flights) t u at_once = tt
 itself (Calendar file flight) t u at_once = tt
 itself (Page file) t u at_once = tt
 itself (Diff from to) t u at_once = tt
+itself (Publish from to reference out) t u at_once = tt
 itself (Findings file) t u at_once = tt
 itself (Export file) t u at_once = absurd at_once
 itself (Rehearse dataset stations script) t u at_once = tt
@@ -56,6 +57,7 @@ begins (Listing form file flights) files text kept at_once made = made
 begins (Calendar file flight) files text kept at_once made = made
 begins (Page file) files text kept at_once made = made
 begins (Diff from to) files text kept at_once made = made
+begins (Publish from to reference out) files text kept at_once made = made
 begins (Findings file) files text kept at_once made = made
 begins (Export file) files text kept at_once made = made
 begins (Rehearse dataset stations script) files text kept at_once made = made
@@ -119,6 +121,7 @@ memory_refuses (Listing form file flights) files = (refl, inl (inl (inl refl)))
 memory_refuses (Calendar file flight) files = (refl, inl (inl (inl refl)))
 memory_refuses (Page file) files = (refl, inl (inl (inl refl)))
 memory_refuses (Diff from to) files = (refl, inl (inl (inl refl)))
+memory_refuses (Publish from to reference out) files = (refl, inl (inl (inl refl)))
 memory_refuses (Findings file) files = (refl, inl (inl (inl refl)))
 memory_refuses (Export file) files = (refl, inl (inl (inl refl)))
 memory_refuses (Rehearse dataset stations script) files = (refl, inl refl)

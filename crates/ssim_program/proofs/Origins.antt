@@ -10,7 +10,7 @@ use Rattle.ssim_program.specs.Desks.{IsMergeOf, ReadsDesk, TakesTexts}
 use Rattle.ssim_program.specs.Files.{Files, Kept, file_of, with_kept}
 use Rattle.ssim_command_line.specs.Line.{Line, Text, Check, Problems, Tidy, Start, Take, Merge, Withdraw}
 use Rattle.ssim_command_line.specs.Line.{Receive, Texts, Show, History, Calendar, Findings, Export}
-use Rattle.ssim_command_line.specs.Line.{Rehearse, Explain, Page, Board, Diff, Listing}
+use Rattle.ssim_command_line.specs.Line.{Rehearse, Explain, Page, Board, Diff, Publish, Listing}
 use Rattle.ssim_program.specs.Made.{ReadsBase}
 use Rattle.ssim_program.specs.Offices.{Event, Done, Refused, Copied, Came, IsMade, Leaves, Origin, Was}
 use Rattle.ssim_program.specs.Offices.{Started, Took, Merged, Withdrew, Given, origin_of, Received}
@@ -103,6 +103,7 @@ done_comes (Listing form file flights) old new name (printed, kept, makes, is) =
 done_comes (Calendar file flight) old new name (printed, kept, makes, is) = unchanged name kept old new makes.3 is
 done_comes (Page file) old new name (printed, kept, makes, is) = unchanged name kept old new makes.3 is
 done_comes (Diff from to) old new name (printed, kept, makes, is) = unchanged name kept old new makes.5 is
+done_comes (Publish from to reference out) old new name leaves = absurd leaves
 done_comes (Findings file) old new name (printed, kept, makes, is) = unchanged name kept old new makes.3 is
 done_comes (Export file) old new name (printed, kept, makes, is) = unchanged name kept old new makes.3 is
 done_comes (Rehearse dataset stations script) old new name (printed, kept, makes, is) = unchanged name kept old new makes.1 is

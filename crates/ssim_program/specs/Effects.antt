@@ -14,13 +14,14 @@ use Rattle.ssim_program.specs.Explained.{Explains}
 use Rattle.ssim_program.specs.Files.{Files, Kept}
 use Rattle.ssim_command_line.specs.Line.{Line, Check, Problems, Tidy, Start, Take, Merge, Withdraw, Receive}
 use Rattle.ssim_command_line.specs.Line.{Texts, Show, History, Calendar, Findings, Export, Rehearse}
-use Rattle.ssim_command_line.specs.Line.{Page, Explain, Board, Diff, Listing}
+use Rattle.ssim_command_line.specs.Line.{Page, Explain, Board, Diff, Publish, Listing}
 use Rattle.ssim_program.specs.Boards.{ShowsBoard}
 use Rattle.ssim_program.specs.Calendars.{ShowsCalendar}
 use Rattle.ssim_program.specs.Differences.{PrintsDifferences}
 use Rattle.ssim_program.specs.Listing.{Lists}
 use Rattle.ssim_program.specs.Messages.{ShowsTexts}
 use Rattle.ssim_program.specs.Pages.{ShowsPage}
+use Rattle.ssim_program.specs.Publishing.{PublishesFiles}
 use Rattle.ssim_program.specs.Receiving.{Receives}
 use Rattle.ssim_program.specs.Made.{AreLinesOn, FindsProblems, IsExportOf, ReadsBase, ReadsFile}
 use Rattle.ssim_program.specs.Made.{problem_lines}
@@ -77,6 +78,8 @@ Makes (Page file) files printed kept =
 Makes (Diff from to) files printed kept =
     (old : DeskSeen) × (new : DeskSeen) × ReadsTimetable files from old × ReadsTimetable files to new
     × PrintsDifferences old new printed × (kept ≡ [])
+Makes (Publish from to reference out) files printed kept =
+    (mail : List ℕ) × PublishesFiles files from to reference printed mail × (kept ≡ (out, mail) ∷ [])
 Makes (Findings file) files printed kept =
     (desk : DeskSeen) × ReadsDesk files file desk × (printed ≡ findings_lines (finding_lines desk))
     × (kept ≡ [])

@@ -7,6 +7,7 @@ pub mod Listing
 pub mod Calendars
 pub mod Pages
 pub mod Differences
+pub mod Publishing
 pub mod Messages
 pub mod FirstProblem
 pub mod Withdrawing

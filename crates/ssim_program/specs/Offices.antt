@@ -11,7 +11,7 @@ use Rattle.ssim_held.specs.Held.{Holds, Says}
 use Rattle.ssim_program.specs.Desks.{ReadsDesk}
 use Rattle.ssim_program.specs.Effects.{Makes}
 use Rattle.ssim_program.specs.Files.{Files, Kept, file_of, with_kept}
-use Rattle.ssim_command_line.specs.Line.{Line, Text, Start, Take, Merge, Withdraw, Receive}
+use Rattle.ssim_command_line.specs.Line.{Line, Text, Start, Take, Merge, Withdraw, Receive, Publish}
 use Rattle.ssim_program.specs.Receiving.{IsAccepted, Receipt, Receives, refused_texts, texts_received}
 use Rattle.ssim_program.specs.Made.{HasFile, file_limit}
 use Rattle.ssim_program.specs.Withdrawing.{IsNamed}
@@ -32,7 +32,7 @@ IsHalfMade line old new =
 
 -- The command has made it, or the files are as they were, or only the first of its files was kept.
 -- So a call of the program on the words of a command is an event of a history: `Done` (`Received` for
--- `receive`), or `Refused`, or `Came` of that file.
+-- `receive`, and `Came` of its messages for `publish`), or `Refused`, or `Came` of that file.
 abbrev pub Did : Line → Option Files → Option Files → Type 0
 Did line old new = IsMade line old new ⊎ (new ≡ old) ⊎ IsHalfMade line old new
 
@@ -40,7 +40,8 @@ Did line old new = IsMade line old new ⊎ (new ≡ old) ⊎ IsHalfMade line old
 
 -- What happens to named files: a command is done, and if it is `receive`, what became of each text; a
 -- command is refused, and they stay as they were; a file is copied under another name; a file comes
--- from elsewhere, as a telegram does.
+-- from elsewhere, as a telegram does. The messages that `publish` keeps are such a file: it makes no
+-- desk.
 pub data Event : Type 0 where
   Done : Line → Event
   Received : Option Text → Text → Text → List Text → List Receipt → Event
@@ -71,6 +72,7 @@ pub record IsReceived (refused : Option Text) (desk out : Text) (names : List Te
 -- the event leaves these files
 abbrev pub Leaves : Event → Files → Files → Type 0
 Leaves (Done (Receive refused desk out names)) old new = ⊥
+Leaves (Done (Publish from to reference out)) old new = ⊥
 Leaves (Done line) old new = IsMade line (Some old) (Some new)
 Leaves (Received refused desk out names receipts) old new =
     IsReceived refused desk out names receipts old new

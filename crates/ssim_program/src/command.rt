@@ -13,6 +13,7 @@ pub(crate) mod merge;
 pub(crate) mod named_flights;
 pub(crate) mod page;
 pub(crate) mod problems;
+pub(crate) mod publish;
 pub(crate) mod receive;
 pub(crate) mod show;
 pub(crate) mod start;

@@ -25,6 +25,7 @@ use crate::command::list::list;
 use crate::command::merge::merge;
 use crate::command::page::page;
 use crate::command::problems::problems;
+use crate::command::publish::publish;
 use crate::command::receive::receive;
 use crate::command::show::show_flight;
 use crate::command::start::start;
@@ -246,6 +247,9 @@ fn act<S: Store, O: Write>(
         Request::Calendar(file, flight) => print(calendar(alloc, file, flight, store), out),
         Request::Page(file) => print(page(alloc, file, store), out),
         Request::Diff(from, to) => print(diff(alloc, from, to, store), out),
+        Request::Publish(from, to, reference, name) => {
+            print(publish(alloc, from, to, reference, name, store), out)
+        }
         Request::Findings(desk) => print(findings(alloc, desk, store), out),
         Request::Rehearse(dataset, stations, script) => {
             print(rehearse(alloc, dataset, stations, script, store), out)

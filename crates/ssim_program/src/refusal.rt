@@ -4,7 +4,7 @@ ghost use Rattle.ssim_base.specs.Export.{line};
 ghost use Rattle.ssim_program.specs.print.Refusal.{IsOfFile, refusal_file, refusal_name};
 ghost use Rattle.ssim_program.specs.print.Refusal.{refusal_number};
 ghost use Rattle.ssim_program.specs.print.Refusal.{refusal_of_base, refusal_of_desk};
-ghost use Rattle.ssim_program.specs.print.Refusal.{refusal_of_export};
+ghost use Rattle.ssim_program.specs.print.Refusal.{refusal_of_export, refusal_of_outbox};
 ghost use Rattle.ssim_program.specs.print.Refusal.{refusal_of_stations, refusal_of_value};
 ghost use Rattle.ssim_program.specs.print.Refusal.{refusal_place, refusal_text};
 
@@ -13,6 +13,7 @@ use crate::print::name::printed_name;
 use crate::print::printed::line_of;
 use ssim_base::{BaseFault, Place, StationFault};
 use ssim_desk::DeskFault;
+use ssim_outbox::OutboxFault;
 use ssim_schedule::ExportFault;
 use ssim_values::{Airline, Fault, Memory};
 use std::alloc::{AllocError, AllocFailed, Global};
@@ -34,6 +35,8 @@ pub enum Refusal {
     /// 13, 14, 20 to 29, 40 to 43, or 60 to 62: a text, a message, another desk or a desk file is
     /// refused.
     Desk(DeskFault),
+    /// 21, 40 to 42, 64 or 65: no messages lead one timetable to another.
+    Publication(OutboxFault),
     /// 50 or 51: the flights of the airline have no export. The flight of 50 is printed as a
     /// designator.
     Export {
@@ -65,6 +68,7 @@ impl Refusal {
             Refusal::DataSet(fault) => fault.number(),
             Refusal::Stations(fault) => fault.number(),
             Refusal::Desk(fault) => fault.number(),
+            Refusal::Publication(fault) => fault.number(),
             Refusal::Export { airline: _, fault } => fault.number(),
             Refusal::WriteFault => ExportFault::WriteFault.number(),
             Refusal::Script { .. } => 63,
@@ -83,6 +87,7 @@ impl Refusal {
             Refusal::DataSet(fault) => fault.name(),
             Refusal::Stations(fault) => fault.name(),
             Refusal::Desk(fault) => fault.name(),
+            Refusal::Publication(fault) => fault.name(),
             Refusal::Export { airline: _, fault } => fault.name(),
             Refusal::WriteFault => ExportFault::WriteFault.name(),
             Refusal::Script { .. } => "Script",
@@ -99,6 +104,7 @@ impl Refusal {
             Refusal::DataSet(fault) => fault.place(),
             Refusal::Stations(fault) => fault.place(),
             Refusal::Desk(fault) => fault.place(),
+            Refusal::Publication(fault) => fault.place(),
             Refusal::Export { airline, fault } => fault.place(*airline),
             Refusal::Script { line } => Place::Line(*line),
             Refusal::Value(_)
@@ -211,6 +217,17 @@ impl From<DeskFault> for Refusal {
         match fault {
             DeskFault::Memory => Refusal::Memory,
             _ => Refusal::Desk(fault),
+        }
+    }
+}
+
+impl From<OutboxFault> for Refusal {
+    ghost from_gives = { λ fault refusal. refusal ≡ refusal_of_outbox fault };
+
+    fn from(fault: OutboxFault) -> Self {
+        match fault {
+            OutboxFault::Memory => Refusal::Memory,
+            _ => Refusal::Publication(fault),
         }
     }
 }

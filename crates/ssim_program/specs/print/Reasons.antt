@@ -18,9 +18,10 @@ use Rattle.ssim_program.specs.Differences.{RefusesComparison}
 use Rattle.ssim_program.specs.Files.{Files}
 use Rattle.ssim_command_line.specs.Line.{Line, Text, Check, Problems, Tidy, Start, Take, Merge, Withdraw}
 use Rattle.ssim_command_line.specs.Line.{Receive, Texts, Show, History, Calendar, Findings, Export}
-use Rattle.ssim_command_line.specs.Line.{Rehearse, Explain, Page, Board, Diff, Listing}
+use Rattle.ssim_command_line.specs.Line.{Rehearse, Explain, Page, Board, Diff, Publish, Listing}
 use Rattle.ssim_program.specs.Messages.{RefusesFlights}
 use Rattle.ssim_program.specs.Made.{ReadsFile, RefusesBase, RefusesFile, RefusesLoad}
+use Rattle.ssim_program.specs.Publishing.{RefusesPublishing}
 use Rattle.ssim_program.specs.Timetables.{ReadsTimetable, RefusesTimetable}
 use Rattle.ssim_program.specs.Withdrawing.{RefusesReferences}
 use Rattle.ssim_program.specs.print.Paper.{Paper, PrintsOrFails}
@@ -106,6 +107,8 @@ Refuses (Diff from to) files printed refusal =
     ⊎ (((old : DeskSeen) × ReadsTimetable files from old) × RefusesTimetable files to refusal)
     ⊎ ((old : DeskSeen) × (new : DeskSeen) × ReadsTimetable files from old × ReadsTimetable files to new
     × RefusesComparison old new refusal))
+Refuses (Publish from to reference out) files printed refusal =
+    (printed ≡ []) × RefusesPublishing files from to reference refusal
 Refuses (Findings file) files printed refusal =
     (printed ≡ []) × (RefusesDeskFile files file refusal ⊎ (refusal ≡ refused.Memory))
 Refuses (Export file) files printed refusal =

@@ -23,6 +23,9 @@ use Rattle.ssim_text.specs.declared.fault.Fault.TheVariants as text_fault
 use Rattle.ssim_held.specs.Fault.{desk_fault_name, desk_fault_number, desk_fault_place}
 use Rattle.ssim_held.specs.declared.fault.DeskFault.{DeskFault}
 use Rattle.ssim_held.specs.declared.fault.DeskFault.TheVariants as desk
+use Rattle.ssim_outbox.specs.Fault.{outbox_fault_name, outbox_fault_number, outbox_fault_place}
+use Rattle.ssim_outbox.specs.declared.fault.OutboxFault.{OutboxFault}
+use Rattle.ssim_outbox.specs.declared.fault.OutboxFault.TheVariants as outbox
 use Rattle.ssim_program.specs.print.Names.{printed_name}
 use Rattle.ssim_program.specs.declared.refusal.Refusal.{Refusal}
 use Rattle.ssim_program.specs.declared.refusal.Refusal.TheVariants as refusal
@@ -34,6 +37,7 @@ refusal_number refusal.Reference = text.fault_number text_fault.BadReference
 refusal_number (refusal.DataSet fault) = base_fault_number fault
 refusal_number (refusal.Stations fault) = station_fault_number fault
 refusal_number (refusal.Desk fault) = desk_fault_number fault
+refusal_number (refusal.Publication fault) = outbox_fault_number fault
 refusal_number (refusal.Export airline fault) = export_fault_number fault
 refusal_number refusal.WriteFault = export_fault_number export.WriteFault
 refusal_number (refusal.Script line) = 63
@@ -47,6 +51,7 @@ refusal_name refusal.Reference = text.fault_name text_fault.BadReference
 refusal_name (refusal.DataSet fault) = base_fault_name fault
 refusal_name (refusal.Stations fault) = station_fault_name fault
 refusal_name (refusal.Desk fault) = desk_fault_name fault
+refusal_name (refusal.Publication fault) = outbox_fault_name fault
 refusal_name (refusal.Export airline fault) = export_fault_name fault
 refusal_name refusal.WriteFault = export_fault_name export.WriteFault
 refusal_name (refusal.Script line) = codes "Script"
@@ -60,6 +65,7 @@ refusal_place refusal.Reference = Nowhere
 refusal_place (refusal.DataSet fault) = base_fault_place fault
 refusal_place (refusal.Stations fault) = station_fault_place fault
 refusal_place (refusal.Desk fault) = desk_fault_place fault
+refusal_place (refusal.Publication fault) = outbox_fault_place fault
 refusal_place (refusal.Export airline fault) = export_fault_place airline fault
 refusal_place refusal.WriteFault = Nowhere
 refusal_place (refusal.Script line) = Line line
@@ -125,6 +131,16 @@ refusal_of_desk (desk.Conflict reference) = refusal.Desk (desk.Conflict referenc
 refusal_of_desk desk.OtherBase = refusal.Desk desk.OtherBase
 refusal_of_desk (desk.Read fault) = refusal.Desk (desk.Read fault)
 refusal_of_desk (desk.File offset) = refusal.Desk (desk.File offset)
+
+-- the refusal for a fault of the messages that lead one timetable to another
+abbrev pub refusal_of_outbox : OutboxFault → Refusal
+refusal_of_outbox outbox.Memory = refusal.Memory
+refusal_of_outbox outbox.OtherAirline = refusal.Publication outbox.OtherAirline
+refusal_of_outbox outbox.OtherMode = refusal.Publication outbox.OtherMode
+refusal_of_outbox outbox.Reference = refusal.Publication outbox.Reference
+refusal_of_outbox outbox.Date = refusal.Publication outbox.Date
+refusal_of_outbox (outbox.Order reference) = refusal.Publication (outbox.Order reference)
+refusal_of_outbox outbox.References = refusal.Publication outbox.References
 
 -- the refusal for a fault of an export; a flight is named by its designator
 abbrev pub refusal_of_export : List ℕ → ExportFault → Refusal

@@ -6,6 +6,7 @@ ghost use Rattle.ssim_program.specs.print.Refusal.{refusal_number};
 use crate::refusal::Refusal;
 use ssim_base::{BaseFault, BaseRefusal, ResolveFault, StationFault};
 use ssim_desk::DeskFault;
+use ssim_outbox::OutboxFault;
 use ssim_records::RecordFault;
 use ssim_schedule::ExportFault;
 use ssim_text::{Fault as LineFault, Kind, Originator, Reference, TextFault};
@@ -107,6 +108,8 @@ fn of_desk(number: u8) -> Option<Refusal>
         61 => DeskFault::OtherBase,
         62 => DeskFault::File(852),
         63 => return Some(Refusal::Script { line: 2 }),
+        64 => return Some(Refusal::Publication(OutboxFault::Order(reference()?))),
+        65 => return Some(Refusal::Publication(OutboxFault::References)),
         90 => return Some(Refusal::Memory),
         _ => return None,
     };
@@ -133,7 +136,7 @@ fn too_many_records() -> Option<Refusal>
     Some(Refusal::Export { airline, fault })
 }
 
-/// The reference of the example of 60.
+/// The reference of the examples of 60 and 64.
 fn reference() -> Option<Reference> {
     let Ok(date) = Day::parse(b"15MAR27") else {
         return None;

@@ -1,7 +1,8 @@
 -- The request is the command's.
 use Rattle.std.proofs.Common.{Bor, List, ℕ, map, sym, subst}
 use Rattle.ssim_command_line.specs.Line.{Check, Start, Merge, Withdraw, Texts, Show, History, Calendar}
-use Rattle.ssim_command_line.specs.Line.{Page, Problems, Findings, Rehearse, Explain, Board, Diff, Listing}
+use Rattle.ssim_command_line.specs.Line.{Page, Problems, Findings, Rehearse, Explain, Board, Diff}
+use Rattle.ssim_command_line.specs.Line.{Listing, Publish}
 use Rattle.ssim_command_line.specs.Request.{line_of}
 use Rattle.ssim_program.specs.World.{world}
 use Rattle.ssim_program.specs.internal.Program.{Does, Prepares, stored}
@@ -104,6 +105,15 @@ returns-in-Diff g c =
     (sym c.in-Diff.is) (c.print-in-Diff.ensures (Diff c.in-Diff.from.now c.in-Diff.to.now)
     (stored (g.S.Store.files c.args.store.now) (g.S.Store.failures c.args.store.now))
     (stored (g.S.Store.files c.diff.new.store) (g.S.Store.failures c.diff.new.store)) tt c.diff.ensures)
+
+pub returns-in-Publish : goal.returns-in-Publish
+returns-in-Publish g c =
+    let before = stored (g.S.Store.files c.args.store.now) (g.S.Store.failures c.args.store.now) in
+    let after = stored (g.S.Store.files c.publish.new.store) (g.S.Store.failures c.publish.new.store) in
+    let from = c.in-Publish.from.now in let to = c.in-Publish.to.now in
+    let reference = c.in-Publish.reference.now in let name = c.in-Publish.name.now in
+    subst (λ (r : Request). Does (line_of r) (world (g.S.Store.files c.args.store.now) (g.S.Store.failures c.args.store.now) c.args.out.now) (world (g.S.Store.files c.publish.new.store) (g.S.Store.failures c.publish.new.store) c.print-in-Publish.new.out) c.print-in-Publish.result)
+    (sym c.in-Publish.is) (c.print-in-Publish.ensures (Publish from to reference name) before after tt c.publish.ensures)
 
 pub returns-in-Findings : goal.returns-in-Findings
 returns-in-Findings g c =
