@@ -1,8 +1,8 @@
 #!/usr/bin/env python3
-"""Writes the season and the station table of samples/: sample_season.py FOLDER
+"""Writes the season, the planner's season and the station table of samples/: sample_season.py FOLDER
 
-FOLDER/season.ssim and FOLDER/stations.txt are those of an invented airline with two offices, at Friedrichshafen and at
-Hamburg. The two files in samples/ are what this script writes.
+FOLDER/season.ssim, FOLDER/planned.ssim and FOLDER/stations.txt are those of an invented airline with two offices, at
+Friedrichshafen and at Hamburg. The three files in samples/ are what this script writes.
 """
 import os
 import sys
@@ -121,6 +121,30 @@ FLIGHTS = """
   18JUN27 18JUN27 5
 """
 
+# The flights that the planner changes or adds.
+PLANNED = """
+113 AT7 FDH 1630 BER 1810
+  - 02JUL27 1234567
+  03JUL27 15AUG27 12345
+  16AUG27 31AUG27 1234567
+  01SEP27 - 1234567 FDH 1650 BER 1830
+161 E90 FDH 1830 OSL 2030
+  01JUN27 31AUG27 1 5
+241 320 FDH 0700 TFS 1055
+  - - 7
+242 320 TFS 1150 FDH 1755
+  - - 7
+331 AT7 HAM 1000 RIX 1325 RIX 1355 TLL 1450
+  12APR27 30SEP27 3 6
+332 AT7 TLL 1530 RIX 1625 RIX 1655 HAM 1820
+  12APR27 30SEP27 3 6
+401 32N FDH 2130 DXB 0540+1
+  - - 2 5
+"""
+
+# The terminals of these; every other leg has terminal 1 at both ends.
+TERMINALS = {"161": {"FDH": "", "OSL": ""}, "401": {"DXB": "3"}}
+
 # Segment records: flight, identifier, the letters of the board and off point, the stations, and the data.
 SEGMENTS = [
     ("151", "010", "AC", "FDHBUD", "OS 7151"),
@@ -151,12 +175,12 @@ def days_of(word):
     return "".join(digit if digit in word else " " for digit in "1234567")
 
 
-def leg_columns(place, aircraft):
+def leg_columns(place, aircraft, terminals):
     board, departure, off, arrival, later = place
     zones = variations()
     booking, configuration = AIRCRAFT[aircraft]
-    return [(37, board), (40, departure), (44, departure), (48, zones[board][0]), (53, "1"), (55, off), (58, arrival),
-            (62, arrival), (66, zones[off][0]), (71, "1"), (73, aircraft), (76, booking), (173, configuration),
+    return [(37, board), (40, departure), (44, departure), (48, zones[board][0]), (53, terminals.get(board, "1")), (55, off),
+            (58, arrival), (62, arrival), (66, zones[off][0]), (71, terminals.get(off, "1")), (73, aircraft), (76, booking), (173, configuration),
             (193, f"0{later}")]
 
 
@@ -172,14 +196,14 @@ def periods(lines):
         yield first, last, "".join(words[2:count]), clocks(words[count:])
 
 
-def flight_records(head, lines):
+def flight_records(head, lines, terminals):
     """The leg and segment records of a flight."""
     name, aircraft, *legs = head.split()
     number, suffix = name.rstrip("D"), "D" if name.endswith("D") else " "
     flight = (suffix, AIRLINE, f"{int(number):04}")
     for place, (first, last, operates, new) in enumerate(periods(lines), 1):
         for sequence, each in enumerate(new or clocks(legs), 1):
-            columns = leg_columns(each, aircraft)
+            columns = leg_columns(each, aircraft, terminals)
             yield leg(flight, f"{place:02}", f"{sequence:02}", first, last, days_of(operates), columns)
             for whose, identifier, letters, pair, data in SEGMENTS:
                 if whose == name and letters[0] == "ABC"[sequence - 1]:
@@ -187,24 +211,29 @@ def flight_records(head, lines):
                     yield segment(flight, f"{place:02}", f"{sequence:02}", columns)
 
 
-def records():
+def flights_of(table):
+    """The lines of each flight of a table, by its name."""
+    found = {}
+    for line in table.strip().split("\n"):
+        if not line.startswith(" "):
+            lines = found[line.split()[0]] = [line]
+        else:
+            lines.append(line)
+    return found
+
+
+def records(flights, terminals):
     yield header()
     yield record((1, "2"), (2, "L"), (3, AIRLINE), (11, "S27"), (15, FIRST), (22, LAST), (29, CREATED),
                  (36, "SUMMER 2027"), (65, CREATED), (191, "0900"))
-    head, lines = None, []
-    for line in FLIGHTS.strip().split("\n") + [""]:
-        if line.startswith(" "):
-            lines.append(line)
-            continue
-        if head:
-            yield from flight_records(head, lines)
-        head, lines = line, []
+    for name, (head, *lines) in flights.items():
+        yield from flight_records(head, lines, terminals.get(name, {}))
     yield trailer(AIRLINE, CREATED, 0)
 
 
-def season():
+def data_set(flights, terminals):
     found = b""
-    for serial, line in enumerate(records(), 1):
+    for serial, line in enumerate(records(flights, terminals), 1):
         if line[:1] == b"5":
             line = line[:187] + f"{serial - 1:06}".encode("ascii") + line[193:]
         found += with_serial(line, serial) + b"\n"
@@ -225,8 +254,11 @@ def main():
     if len(sys.argv) != 2:
         sys.exit(__doc__)
     os.makedirs(sys.argv[1], exist_ok=True)
+    flights = flights_of(FLIGHTS)
     with open(os.path.join(sys.argv[1], "season.ssim"), "wb") as file:
-        file.write(season())
+        file.write(data_set(flights, {}))
+    with open(os.path.join(sys.argv[1], "planned.ssim"), "wb") as file:
+        file.write(data_set({**flights, **flights_of(PLANNED)}, TERMINALS))
     with open(os.path.join(sys.argv[1], "stations.txt"), "w", encoding="ascii") as file:
         file.write(stations())
 
