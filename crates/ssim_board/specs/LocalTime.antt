@@ -14,7 +14,7 @@ pub record Moment : Type 0 where
 abbrev pub moment_on : ℕ → ℕ → Moment
 moment_on days minutes = record { days = days; minutes = minutes }
 
--- the time so many minutes after midnight of 31 December 1999, from 0000 to 2359 of its day
+-- the time a number of minutes after midnight of 31 December 1999, from 0000 to 2359 of its day
 abbrev pub moment : ℕ → Moment
 moment minutes = moment_on (minutes / 1440) (minutes % 1440)
 

@@ -82,7 +82,7 @@ fn push_padded(lines: &mut Vec<u8>, text: &[u8]) -> Result<(), Memory>
     push_blanks(lines, 8_usize.saturating_sub(text.len()))
 }
 
-// Adds so many blanks.
+// Adds a number of blanks.
 fn push_blanks(lines: &mut Vec<u8>, count: usize) -> Result<(), Memory>
     ensures { OnOk result (lines.new.items ≡ lines.old.items ++ replicate count 32) }
 {

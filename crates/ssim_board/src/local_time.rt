@@ -104,7 +104,7 @@ fn moved_by(variation: Variation, days: u16, time: Clock) -> LocalTime
     }
 }
 
-// The local time that is so many minutes after midnight of 31 December 1999.
+// The local time that is a number of minutes after midnight of 31 December 1999.
 fn at_minute(minute: u32) -> LocalTime
     requires { minute < 60000000 }
     ensures { result ≡ moment minute }

@@ -21,7 +21,7 @@ use Rattle.ssim_held.specs.Entries.{DeskSeen}
 use Rattle.ssim_outbox.specs.Comparable.{AreComparable, HaveCarriers}
 use Rattle.ssim_outbox.specs.Heading.{NamesHeading}
 use Rattle.ssim_outbox.specs.Order.{Follows, RefusesOrder}
-use Rattle.ssim_outbox.specs.Publication.{MeansReference, NameHeading, NameReference, RefusesPublication}
+use Rattle.ssim_outbox.specs.Publication.{IsFirstReference, IsHeading, BeginAt, RefusesPublication}
 use Rattle.ssim_outbox.specs.declared.fault.OutboxFault.{OutboxFault}
 use Rattle.ssim_outbox.specs.declared.fault.OutboxFault.TheVariants as fault
 use Rattle.ssim_outbox.specs.internal.Addressed.{HasReference, IsAddressed, RefusesCarriers, RefusesDate, date_refused}
@@ -120,9 +120,9 @@ resolved_in f records m text has (g, has_too, is) = record {
 }
 
 pub means : (carrier : CarrierFields) (m : MessageValue) (reference : Reference) → HasReference carrier m reference
-    → MeansReference carrier m reference
+    → IsFirstReference carrier m reference
 means carrier m reference h =
-    subst (MeansReference carrier m) (sym h.reference_is) (record {
+    subst (IsFirstReference carrier m) (sym h.reference_is) (record {
       date = h.resolves.date;
       group = h.resolves.group;
       serial = h.resolves.serial;
@@ -155,7 +155,7 @@ module _ (from to : DeskSeen) (word : List ℕ) (mine theirs : Frame) (has : Has
     no_heading refusal (inr h) = subst (RefusesPublication from to word) (sym h.0) (comparable, h.1)
 
     module _ (heading : MessageValue) (names : NamesHeading mine.carrier.time_mode word heading) where
-      abbrev named : NameHeading from to word heading
+      abbrev named : IsHeading from to word heading
       named = record { comparable = comparable; names = names }
 
       pub no_date : (refusal : OutboxFault) → RefusesDate mine.carrier heading refusal
@@ -164,7 +164,7 @@ module _ (from to : DeskSeen) (word : List ℕ) (mine theirs : Frame) (has : Has
       no_date refusal (inr h) = subst (RefusesPublication from to word) (sym h.0) (heading, named, h.1)
 
       module _ (reference : Reference) (h : HasReference mine.carrier heading reference) where
-        abbrev with_reference : NameReference from to word heading reference
+        abbrev with_reference : BeginAt from to word heading reference
         with_reference = record { named = named; means = means mine.carrier heading reference h }
 
         pub not_after : (last : Reference) → RefusesOrder reference from.held last

@@ -33,14 +33,15 @@ use Rattle.ssim_outbox.specs.declared.fault.OutboxFault.TheVariants as fault
 
 -- ---- the heading
 
--- the bases of the desks can be compared, and the word names the heading of messages to the first
-pub record NameHeading (from to : DeskSeen) (word : List ℕ) (heading : MessageValue) : Type 0 where
+-- The bases of the desks can be compared, and the word names the heading, in the time mode of the
+-- first desk.
+pub record IsHeading (from to : DeskSeen) (word : List ℕ) (heading : MessageValue) : Type 0 where
   pub comparable : AreComparable from.base.records to.base.records
   pub names : NamesHeading comparable.carriers.mine.carrier.time_mode word heading
 
 -- The reference of the first message, with its year: its date is the next such date from the day on
 -- which the data set was made.
-pub record MeansReference (carrier : CarrierFields) (heading : MessageValue) (reference : Reference)
+pub record IsFirstReference (carrier : CarrierFields) (heading : MessageValue) (reference : Reference)
     : Type 0 where
   pub date : IsNext carrier.created heading.reference.date reference.date
   pub group : reference.group ≡ heading.reference.group
@@ -48,11 +49,11 @@ pub record MeansReference (carrier : CarrierFields) (heading : MessageValue) (re
   pub kind : reference.kind ≡ heading.kind
   pub originator : reference.originator ≡ heading.originator
 
--- the word names the heading of messages, and the first of them has this reference
-pub record NameReference (from to : DeskSeen) (word : List ℕ) (heading : MessageValue)
+-- the messages under the heading that the word names begin at this reference
+pub record BeginAt (from to : DeskSeen) (word : List ℕ) (heading : MessageValue)
     (reference : Reference) : Type 0 where
-  pub named : NameHeading from to word heading
-  pub means : MeansReference named.comparable.carriers.mine.carrier heading reference
+  pub named : IsHeading from to word heading
+  pub means : IsFirstReference named.comparable.carriers.mine.carrier heading reference
 
 -- ---- the sub-messages
 
@@ -102,7 +103,7 @@ pub record AreLines (airline : List ℕ) (reference : Reference) (messages : Lis
   pub lines_are : lines ≡ text_lines reference messages
       ++ (unsaid ++ last_line (length messages) subs (date_count after new))
 
--- ---- the answer
+-- ---- what is published
 
 -- What is published of the way from one desk to another. The messages have the heading that the
 -- word names. A desk that holds what the first desk holds takes each of them as new, and then holds
@@ -111,7 +112,7 @@ pub record AreLines (airline : List ℕ) (reference : Reference) (messages : Lis
 pub record Publishes (from to : DeskSeen) (word lines mail : List ℕ) : Type 0 where
   pub heading : MessageValue
   pub reference : Reference
-  pub named : NameReference from to word heading reference
+  pub named : BeginAt from to word heading reference
   pub plan : List PlannedSub
   pub messages : List MessageValue
   pub after : DeskSeen
@@ -129,7 +130,7 @@ pub record Publishes (from to : DeskSeen) (word lines mail : List ℕ) : Type 0 
 pub record LackReferences (from to : DeskSeen) (word : List ℕ) : Type 0 where
   pub heading : MessageValue
   pub reference : Reference
-  pub named : NameReference from to word heading reference
+  pub named : BeginAt from to word heading reference
   pub follows : Follows reference from.held
   pub plan : List PlannedSub
   pub after : FlightNumber → Days
@@ -152,9 +153,9 @@ RefusesPublication from to word fault.Reference =
     × ((heading : MessageValue)
     → NamesHeading comparable.carriers.mine.carrier.time_mode word heading → ⊥)
 RefusesPublication from to word fault.Date =
-    (heading : MessageValue) × (named : NameHeading from to word heading)
+    (heading : MessageValue) × (named : IsHeading from to word heading)
     × HasNone named.comparable.carriers.mine.carrier.created heading.reference.date
 RefusesPublication from to word (fault.Order last) =
     (heading : MessageValue) × (reference : Reference)
-    × NameReference from to word heading reference × RefusesOrder reference from.held last
+    × BeginAt from to word heading reference × RefusesOrder reference from.held last
 RefusesPublication from to word fault.References = LackReferences from to word

@@ -14,8 +14,8 @@ use ssim_values::{Airline, Memory};
 use std::alloc::Global;
 use std::io::Write;
 
-/// The lines of messages, of which the first has this reference and which have so many sub-messages
-/// together, and of the dates that they leave unsaid.
+/// The lines of messages, and of the dates that they leave unsaid. The first message has this
+/// reference, and `subs` is the number of the sub-messages of all.
 pub(crate) fn publication_lines(
     alloc: Global,
     airline: Airline,

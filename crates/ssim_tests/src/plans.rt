@@ -86,7 +86,7 @@ fn published(alloc: Global, old: (u8, &[u8]), new: (u8, &[u8])) -> Option<Public
     plan(alloc, base.rows(), &from, &to).ok()
 }
 
-/// Whether these sub-messages are said, and so many flights are not.
+/// Whether these sub-messages are said, and the number of flights that are not is this one.
 fn says(alloc: Global, old: (u8, &[u8]), new: (u8, &[u8]), wanted: &[Line], unsaid: usize) -> bool {
     match published(alloc, old, new) {
         None => false,

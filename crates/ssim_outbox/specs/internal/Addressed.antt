@@ -21,7 +21,7 @@ use Rattle.ssim_publish.specs.Reach.{IsSaid}
 use Rattle.ssim_publish.specs.declared.planned_sub.PlannedSub.{PlannedSub}
 use Rattle.ssim_outbox.specs.Messages.{Send}
 use Rattle.ssim_outbox.specs.Order.{Follows}
-use Rattle.ssim_outbox.specs.Publication.{IsPlan, NameReference}
+use Rattle.ssim_outbox.specs.Publication.{IsPlan, BeginAt}
 use Rattle.ssim_outbox.specs.declared.fault.OutboxFault.{OutboxFault}
 use Rattle.ssim_outbox.specs.declared.fault.OutboxFault.TheVariants as fault
 
@@ -56,7 +56,7 @@ RefusesDate carrier m refusal =
 -- the desk holds.
 pub record IsAddressed (from to : DeskSeen) (word : List ℕ) (heading : MessageValue) (reference : Reference)
     : Type 0 where
-  pub named : NameReference from to word heading reference
+  pub named : BeginAt from to word heading reference
   pub has : HasReference named.named.comparable.carriers.mine.carrier heading reference
   pub follows : Follows reference from.held
 
