@@ -13,10 +13,8 @@ ghost use Rattle.ssim_outbox.specs.internal.Headings.{cancellation, cancelling_l
 ghost use Rattle.ssim_outbox.specs.internal.Headings.{first_flight};
 
 use crate::fault::OutboxFault;
-use crate::heading_lines::mode_name;
-use crate::sub_lines::push_line;
 use ssim_records::Carrier;
-use ssim_text::{Message, TextFault, decode, without_end};
+use ssim_text::{Message, TextFault, decode, push_line, push_mode, without_end};
 use ssim_values::{Airline, Designator, Flight, Memory};
 use std::alloc::Global;
 
@@ -150,7 +148,7 @@ fn push_lines(text: &mut Vec<u8>, carrier: &Carrier, line: &[u8]) -> Result<(), 
     let airline = carrier.airline();
     spells(airline);
     push_line(text, b"SSM")?;
-    push_line(text, mode_name(carrier.time_mode()))?;
+    push_mode(text, carrier.time_mode())?;
     push_line(text, line)?;
     push_line(text, b"CNL")?;
     push_flight(text, airline)?;

@@ -2,12 +2,10 @@
 
 ghost use Rattle.std.specs.Prelude.{◌≡◌, ◌++◌, IfOk, OnOk};
 ghost use Rattle.ssim_text.specs.Canonical.{creator_text, five_digits, group_code_text};
-ghost use Rattle.ssim_text.specs.Canonical.{originator_parts, three_digits, written};
-ghost use Rattle.ssim_text.specs.Lines.{mode_text};
+ghost use Rattle.ssim_text.specs.Canonical.{three_digits, written};
 ghost use Rattle.ssim_outbox.specs.internal.Texts.{heading_parts};
 
-use crate::sub_lines::push_line;
-use ssim_text::{CreatorReference, GroupCode, Message, Originator, TimeMode};
+use ssim_text::{CreatorReference, GroupCode, Message, push_kind, push_mode, push_originator};
 use ssim_values::{Memory, last_digit};
 use std::alloc::{AllocError, Global};
 
@@ -17,8 +15,8 @@ pub(crate) fn heading_lines(alloc: Global, heading: &Message, group: u32) -> Res
 {
     let mut lines = Vec::new(alloc);
     push_originator(&mut lines, heading.originator())?;
-    push_line(&mut lines, heading.kind().name().as_bytes())?;
-    push_line(&mut lines, mode_name(heading.mode()))?;
+    push_kind(&mut lines, heading.kind())?;
+    push_mode(&mut lines, heading.mode())?;
     let reference = heading.reference();
     lines.extend_from_slice(&reference.date.write())?;
     lines.extend_from_slice(&five_digits(group))?;
@@ -27,26 +25,6 @@ pub(crate) fn heading_lines(alloc: Global, heading: &Message, group: u32) -> Res
     push_creator(&mut lines, &reference.creator)?;
     lines.push(b'\n')?;
     Ok(lines)
-}
-
-fn push_originator(out: &mut Vec<u8>, originator: Originator) -> Result<(), AllocError>
-    ensures { OnOk result (out.new.items ≡ out.old.items ++ written (originator_parts originator)) }
-{
-    if originator.is_none() {
-        return Ok(());
-    }
-    out.push(b'.')?;
-    push_line(out, &originator.bytes())
-}
-
-/// The line of a time mode.
-pub(crate) fn mode_name(mode: TimeMode) -> &'static [u8]
-    ensures { result.now ≡ mode_text mode }
-{
-    match mode {
-        TimeMode::Utc => b"UTC",
-        TimeMode::Local => b"LT",
-    }
 }
 
 fn code_letter(code: GroupCode) -> &'static [u8]

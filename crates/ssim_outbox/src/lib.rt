@@ -43,7 +43,6 @@ mod plan_subs;
 mod publication;
 mod publication_lines;
 mod send_fault;
-mod sub_lines;
 
 pub use dated::dated_sub;
 pub use delivery::deliver;

@@ -10,8 +10,7 @@ ghost use Rattle.ssim_outbox.specs.internal.Texts.{IsFullText};
 
 use crate::heading_lines::heading_lines;
 use crate::send_fault::SendFault;
-use crate::sub_lines::{push_line, push_sub};
-use ssim_text::{Message, Sub, TextFault, decode};
+use ssim_text::{Message, Sub, TextFault, decode, push_line};
 use ssim_values::Memory;
 use std::alloc::Global;
 
@@ -120,7 +119,7 @@ fn first_text(alloc: Global, heading: &Message, group: u32, first: &Sub) -> Resu
         (λ text. text.items ≡ canonical (headed heading.now group (first.now ∷ []))) }
 {
     let mut text = heading_lines(alloc, heading, group)?;
-    push_sub(&mut text, first)?;
+    first.push(&mut text)?;
     Ok(text)
 }
 
@@ -130,6 +129,6 @@ fn later_lines(alloc: Global, sub: &Sub) -> Result<Vec<u8>, Memory>
 {
     let mut lines = Vec::new(alloc);
     push_line(&mut lines, b"//")?;
-    push_sub(&mut lines, sub)?;
+    sub.push(&mut lines)?;
     Ok(lines)
 }

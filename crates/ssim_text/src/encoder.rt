@@ -26,8 +26,8 @@ use crate::segment::SegmentLine;
 use ssim_values::{Clock, Designator, Station, TimeMode, last_digit};
 use std::alloc::AllocError;
 
-/// A line.
-pub(crate) fn push_line(out: &mut Vec<u8>, line: &[u8]) -> Result<(), AllocError>
+/// Adds a line.
+pub fn push_line(out: &mut Vec<u8>, line: &[u8]) -> Result<(), AllocError>
     ensures { OnOk result (out.new.items ≡ out.old.items ++ (line.now ++ 10 ∷ [])) }
 {
     out.extend_from_slice(line)?;
@@ -79,7 +79,8 @@ impl GroupCode {
 }
 
 impl GivenReference {
-    pub(crate) fn push(&self, out: &mut Vec<u8>) -> Result<(), AllocError>
+    /// Adds its line.
+    pub fn push(&self, out: &mut Vec<u8>) -> Result<(), AllocError>
         ensures { OnOk result
             (out.new.items ≡ out.old.items ++ (reference_text self.now ++ 10 ∷ [])) }
     {
@@ -320,7 +321,9 @@ impl Action {
 }
 
 impl Sub {
-    pub(crate) fn push(&self, out: &mut Vec<u8>) -> Result<(), AllocError>
+    /// Adds its lines, as the canonical text of a message has them: the action identifier, the
+    /// flight with its dates, and what the action has.
+    pub fn push(&self, out: &mut Vec<u8>) -> Result<(), AllocError>
         ensures { OnOk result (out.new.items ≡ out.old.items ++ written (sub_parts self.now)) }
     {
         self.action.push_identifier(out)?;
@@ -362,7 +365,8 @@ pub(crate) fn push_free(out: &mut Vec<u8>, lines: &[FreeLine]) -> Result<(), All
     push_free_lines(out, lines)
 }
 
-pub(crate) fn push_originator(out: &mut Vec<u8>, originator: Originator) -> Result<(), AllocError>
+/// Adds the line of an originator, if there is one.
+pub fn push_originator(out: &mut Vec<u8>, originator: Originator) -> Result<(), AllocError>
     ensures { OnOk result (out.new.items ≡ out.old.items ++ written (originator_parts originator)) }
 {
     if originator.is_none() {
@@ -372,13 +376,15 @@ pub(crate) fn push_originator(out: &mut Vec<u8>, originator: Originator) -> Resu
     push_line(out, &originator.bytes())
 }
 
-pub(crate) fn push_kind(out: &mut Vec<u8>, kind: Kind) -> Result<(), AllocError>
+/// Adds the line of a kind.
+pub fn push_kind(out: &mut Vec<u8>, kind: Kind) -> Result<(), AllocError>
     ensures { OnOk result (out.new.items ≡ out.old.items ++ (kind_text kind ++ 10 ∷ [])) }
 {
     push_line(out, kind.name().as_bytes())
 }
 
-pub(crate) fn push_mode(out: &mut Vec<u8>, mode: TimeMode) -> Result<(), AllocError>
+/// Adds the line of a time mode.
+pub fn push_mode(out: &mut Vec<u8>, mode: TimeMode) -> Result<(), AllocError>
     ensures { OnOk result (out.new.items ≡ out.old.items ++ (mode_text mode ++ 10 ∷ [])) }
 {
     match mode {

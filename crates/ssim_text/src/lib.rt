@@ -39,6 +39,7 @@ pub use action::{Action, NewLegs, Sub};
 pub use bytes::{cut, first_word};
 pub use dates::{Dates, GivenDate, GivenEnd, GivenPeriod};
 pub use decoder::decode;
+pub use encoder::{push_kind, push_line, push_mode, push_originator};
 pub use equipment::Equipment;
 pub use fault::{Fault, TextFault};
 pub use kind::{ActionIdentifier, Kind};
