@@ -7,7 +7,7 @@ use Rattle.std.proofs.lemmas.Grind.{common_steps}
 use Rattle.ssim_text.specs.Bytes.{before, from, is_printable}
 use Rattle.ssim_text.specs.Left.{is_dropped, onto, without_end, numbered, left_from, pieces, first_unprintable, numbers, place_number}
 
-pub drop_one : (xs : List ℕ) (b : ℕ) → is_dropped b ≡ true → without_end (xs ++ b ∷ []) ≡ without_end xs
+drop_one : (xs : List ℕ) (b : ℕ) → is_dropped b ≡ true → without_end (xs ++ b ∷ []) ≡ without_end xs
 drop_one [] b h = rw h refl
 drop_one (x ∷ xs) b h = ap (onto x) (drop_one xs b h)
 
@@ -75,14 +75,19 @@ first_bad xs i d h = let e : drop i xs ≡ get_or xs i d ∷ drop (i + 1) xs = r
 
 -- ---- the end of a line
 
-pub trim_more : (line : List ℕ) (i e b : ℕ) → i < length line → b ≡ get_or line i 0 → is_dropped b ≡ true → without_end (take i line) ≡ take e line → without_end (take (i + 1) line) ≡ take e line
-trim_more line i e b lt is h k =
-    ap without_end (take_more line i 0 lt ∙ ap (λ (x : ℕ). take i line ++ x ∷ []) (sym is)) ∙ drop_one (take i line) b h ∙ k
+last_of : (line : List ℕ) → 1 ≤ length line → line ≡ take (length line - 1) line ++ get_or line (length line - 1) 0 ∷ []
+last_of line some =
+    let whole : take (length line - 1 + 1) line ≡ line = grind (arith, some, common_steps) in
+    sym whole ∙ take_more line (length line - 1) 0 (omega (arith, some))
 
-pub trim_keep : (line : List ℕ) (i b : ℕ) → i < length line → b ≡ get_or line i 0 → is_dropped b ≡ false → without_end (take (i + 1) line) ≡ take (i + 1) line
-trim_keep line i b lt is h =
-    let e : take (i + 1) line ≡ take i line ++ b ∷ [] = take_more line i 0 lt ∙ ap (λ (x : ℕ). take i line ++ x ∷ []) (sym is) in
-    ap without_end e ∙ keep_last (take i line) b h ∙ sym e
+pub trim_last : (line : List ℕ) → 1 ≤ length line → is_dropped (get_or line (length line - 1) 0) ≡ true → without_end (take (length line - 1) line) ≡ without_end line
+trim_last line some h =
+    sym (ap without_end (last_of line some) ∙ drop_one (take (length line - 1) line) (get_or line (length line - 1) 0) h)
+
+pub trim_none : (line : List ℕ) → 1 ≤ length line → is_dropped (get_or line (length line - 1) 0) ≡ false → without_end line ≡ line
+trim_none line some h =
+    let e = last_of line some in
+    ap without_end e ∙ keep_last (take (length line - 1) line) (get_or line (length line - 1) 0) h ∙ sym e
 
 -- ---- the number at an index
 

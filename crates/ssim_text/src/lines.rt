@@ -1,5 +1,5 @@
 //! The lines of a text without empty lines, and without blanks and CR bytes at their ends.
-ghost use Rattle.std.specs.Prelude.{◌≡◌, ℕ, ◌+◌, ◌≤◌, ◌++◌, [], length, map, IfOk};
+ghost use Rattle.std.specs.Prelude.{◌≡◌, ℕ, ◌+◌, ◌≤◌, ◌++◌, [], length, map, IfOk, OnOk};
 ghost use Rattle.ssim_text.specs.Left.{is_dropped, without_end, numbered, lines_left, place_number};
 ghost use Rattle.ssim_text.specs.Left.{numbers, first_unprintable};
 ghost use Rattle.ssim_text.specs.Bytes.{is_printable};
@@ -27,32 +27,32 @@ fn is_dropped(byte: u8) -> bool
 pub fn without_end(line: &[u8]) -> &[u8]
     ensures { result.now ≡ without_end line.now }
 {
-    let mut end = 0;
-    for (at, byte) in line.iter().enumerate() {
-        if !is_dropped(*byte) {
-            end = at + 1;
+    let mut line = line;
+    while let [rest @ .., last] = line {
+        if !is_dropped(*last) {
+            return line;
         }
+        line = rest;
     }
-    line.split_at(end).0
+    line
 }
 
-/// These lines, and a further one if it is not empty.
-fn with_line<'a>(
-    lines: Vec<Line<'a>>,
+/// A further line, if it is not empty.
+fn push_line<'a>(
+    lines: &mut Vec<Line<'a>>,
     number: usize,
     bytes: &'a [u8],
-) -> Result<Vec<Line<'a>>, AllocError>
-    ensures lines { IfOk result (λ v. map (λ l. (l.number, l.bytes.now)) v.items
-        ≡ map (λ l. (l.number, l.bytes.now)) lines.entry.items ++ numbered number bytes.now []) }
-    ensures bound { IfOk result (λ v. (most : ℕ) → number ≤ most
-        → All (λ l. l.number ≤ most) lines.entry.items → All (λ l. l.number ≤ most) v.items) }
+) -> Result<(), AllocError>
+    ensures lines { OnOk result (map (λ l. (l.number, l.bytes.now)) lines.new.items
+        ≡ map (λ l. (l.number, l.bytes.now)) lines.old.items ++ numbered number bytes.now []) }
+    ensures bound { OnOk result ((most : ℕ) → number ≤ most
+        → All (λ l. l.number ≤ most) lines.old.items → All (λ l. l.number ≤ most) lines.new.items) }
 {
-    let mut lines = lines;
     if bytes.is_empty() {
-        return Ok(lines);
+        return Ok(());
     }
     lines.push(Line { number, bytes })?;
-    Ok(lines)
+    Ok(())
 }
 
 /// The lines of a text that are not empty, with their numbers.
@@ -61,12 +61,13 @@ pub fn lines_left<'a>(alloc: Global, text: &'a [u8]) -> Result<Vec<Line<'a>>, Al
         (λ v. map (λ l. (l.number, l.bytes.now)) v.items ≡ lines_left text.now) }
     ensures bound { IfOk result (λ v. All (λ l. l.number ≤ 1 + length text.now) v.items) }
 {
-    let mut lines = Vec::new(alloc);
+    // Most lines have eight bytes or more.
+    let mut lines = Vec::with_capacity(alloc, text.len() / 8)?;
     let mut rest = text;
     let mut number: usize = 1;
     loop {
         let (piece, tail) = cut(rest, b'\n');
-        lines = with_line(lines, number, without_end(piece))?;
+        push_line(&mut lines, number, without_end(piece))?;
         match tail {
             [_, next @ ..] => {
                 rest = next;

@@ -11,8 +11,8 @@ seen lines = map (λ (l : Line). (l.number, l.bytes.now)) lines
 pub returns-in-empty-clause-lines : goal.returns-in-empty-clause-lines
 unfolding seen
 returns-in-empty-clause-lines c =
-    last_line (lines_left c.args.text.now) (seen c.loop-lines.lines.items) (seen c.in_ok-lines.lines.items) c.loop-lines.number c.loop-lines.rest.now c.loop-lines.invariant.lines
-    (c.in_ok-lines.ensures.lines ∙ ap (λ (x : List ℕ). seen c.loop-lines.lines.items ++ numbered c.loop-lines.number x []) (c.without_end.ensures ∙ ap without_end c.cut.ensures.before))
+    last_line (lines_left c.args.text.now) (seen c.loop-lines.lines.items) (seen c.push_line.new.lines.items) c.loop-lines.number c.loop-lines.rest.now c.loop-lines.invariant.lines
+    (c.in_ok-push_line.ensures.lines ∙ ap (λ (x : List ℕ). seen c.loop-lines.lines.items ++ numbered c.loop-lines.number x []) (c.without_end.ensures ∙ ap without_end c.cut.ensures.before))
     (sym c.cut.ensures.from ∙ tail_none c.cut.result.1.now c.in-empty.len_below)
 
 pub loop-lines-smaller : goal.loop-lines-smaller
@@ -24,13 +24,9 @@ unfolding seen
 loop-lines-preserved c =
     let cut = sym c.cut.ensures.from ∙ tail_cons c.cut.result.1.now c.in-len1-up.len_at_least in
     record {
-      lines = line_on (lines_left c.args.text.now) (seen c.loop-lines.lines.items) (seen c.in_ok-lines.lines.items) c.loop-lines.number (get_or c.cut.result.1.now 0 0) c.loop-lines.rest.now _ c.loop-lines.invariant.lines
-          (c.in_ok-lines.ensures.lines ∙ ap (λ (x : List ℕ). seen c.loop-lines.lines.items ++ numbered c.loop-lines.number x []) (c.without_end.ensures ∙ ap without_end c.cut.ensures.before))
+      lines = line_on (lines_left c.args.text.now) (seen c.loop-lines.lines.items) (seen c.push_line.new.lines.items) c.loop-lines.number (get_or c.cut.result.1.now 0 0) c.loop-lines.rest.now _ c.loop-lines.invariant.lines
+          (c.in_ok-push_line.ensures.lines ∙ ap (λ (x : List ℕ). seen c.loop-lines.lines.items ++ numbered c.loop-lines.number x []) (c.without_end.ensures ∙ ap without_end c.cut.ensures.before))
           cut;
       bound = omega (arith, c.loop-lines.invariant.bound, from_shorter 10 (get_or c.cut.result.1.now 0 0) c.loop-lines.rest.now _ cut);
-      numbers = c.in_ok-lines.ensures.bound (1 + length c.args.text.now) (omega (arith, c.loop-lines.invariant.bound)) c.loop-lines.invariant.numbers;
+      numbers = c.in_ok-push_line.ensures.bound (1 + length c.args.text.now) (omega (arith, c.loop-lines.invariant.bound)) c.loop-lines.invariant.numbers;
     }
-
-pub returns-in-empty-clause-bound : goal.returns-in-empty-clause-bound
-returns-in-empty-clause-bound c =
-    c.in_ok-lines.ensures.bound (1 + length c.args.text.now) (omega (arith, c.loop-lines.invariant.bound)) c.loop-lines.invariant.numbers

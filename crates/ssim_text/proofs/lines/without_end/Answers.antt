@@ -1,11 +1,12 @@
--- A byte that is dropped leaves the end, another moves it.
-use Rattle.std.proofs.Common.{get_or, sym, ◌∙◌, arith, refl}
-use Rattle.ssim_text.proofs.LeftLemmas.{trim_more, trim_keep}
+-- A byte that is dropped at the end changes nothing, another ends the line.
+use Rattle.std.proofs.Common.{sym, ◌∙◌}
+use Rattle.ssim_text.proofs.LeftLemmas.{trim_last, trim_none}
 use Rattle.ssim_text.proofs.lines.without_end.Goals as goal
-use Rattle.ssim_text.proofs.lines.without_end.Goals.{then-not-is_dropped, else-not-is_dropped}
 
-pub loop-at-preserved : goal.loop-at-preserved
-loop-at-preserved c = elim c.if-not-is_dropped.branch [
-  | then-not-is_dropped w ↦ rw w.end-is (record { bound = omega arith; kept = trim_keep c.args.line.now c.loop-at.at (get_or c.args.line.now c.loop-at.at 0) c.loop-at-test.true refl (sym c.is_dropped.ensures ∙ w.if-not-is_dropped.true) })
-  | else-not-is_dropped w ↦ rw w.end-is (record { bound = omega (arith, c.loop-at.invariant.bound); kept = trim_more c.args.line.now c.loop-at.at c.loop-at.end (get_or c.args.line.now c.loop-at.at 0) c.loop-at-test.true refl (sym c.is_dropped.ensures ∙ w.if-not-is_dropped.false) c.loop-at.invariant.kept })
-]
+pub returns-then-not-is_dropped : goal.returns-then-not-is_dropped
+returns-then-not-is_dropped c =
+    sym (trim_none c.loop-line.line.now c.in-len1-up.len_at_least (sym c.is_dropped.ensures ∙ c.if-not-is_dropped.true)) ∙ c.loop-line.invariant
+
+pub loop-line-preserved : goal.loop-line-preserved
+loop-line-preserved c =
+    trim_last c.loop-line.line.now c.in-len1-up.len_at_least (sym c.is_dropped.ensures ∙ c.if-not-is_dropped.false) ∙ c.loop-line.invariant

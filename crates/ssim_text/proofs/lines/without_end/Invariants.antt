@@ -1,7 +1,10 @@
--- Of the bytes so far, those up to the end are kept.
-use Rattle.std.proofs.Common.{◌≡◌, ◌≤◌, take}
+-- What is left of the line ends where it did, but for bytes that are dropped.
+use Rattle.std.proofs.Common.{◌≡◌, length}
 use Rattle.ssim_text.specs.Left.{without_end}
 use Rattle.ssim_text.proofs.lines.without_end.Given as goal
 
-abbrev pub invariant-loop-at : goal.invariant-loop-at
-invariant-loop-at l = record { bound : l.end ≤ l.at; kept : without_end (take l.at l.line) ≡ take l.end l.line }
+abbrev pub invariant-loop-line : goal.invariant-loop-line
+invariant-loop-line l = without_end l.line ≡ without_end l.initial.line
+
+abbrev pub decreases-loop-line : goal.decreases-loop-line
+decreases-loop-line l = length l.line
