@@ -42,13 +42,14 @@ fn read_lines(alloc: Global, lines: &[Line]) -> Result<Draft, Refusal>
     }
 }
 
-/// The message of what was read, if its canonical text is not too long.
-fn finished(alloc: Global, draft: Draft) -> Result<Message, TextFault>
+/// The message of what was read, if its canonical text is not too long. Memory for `room` bytes of
+/// that text is reserved at once.
+fn finished(alloc: Global, draft: Draft, room: usize) -> Result<Message, TextFault>
     requires { IsSpelledWhereShort draft }
     ensures ok { IfOk result (λ m. (m ≡ draft) × (length (canonical draft) ≤ 65536)) }
     ensures err { IfErr result (λ fault. IsTooManyAtOne draft fault) }
 {
-    let text = draft.encode(alloc)?;
+    let text = draft.encode(alloc, room)?;
     if text.len() > 65_536 {
         return Err(TextFault::Refused {
             fault: Fault::TooMany,
@@ -87,7 +88,8 @@ pub fn decode(alloc: Global, text: &[u8]) -> Result<Message, TextFault>
         });
     }
     match read_lines(alloc, lines) {
-        Ok(draft) => finished(alloc, draft),
+        // The canonical text is seldom longer than the text with a mode line.
+        Ok(draft) => finished(alloc, draft, text.len() + 4),
         Err(Refusal::NoMemory) => Err(TextFault::Memory),
         Err(Refusal::Misplaced(fault, index)) => {
             Err(TextFault::Refused {

@@ -19,6 +19,7 @@ use crate::reference::GivenReference;
 use crate::segment::{SegmentLine, Segments};
 use ssim_values::{Designator, TimeMode};
 use std::alloc::{AllocError, Global};
+use std::marker::Model;
 
 /// Why reading stops.
 #[derive(Drop)]
@@ -63,56 +64,90 @@ pub(crate) struct Body {
     segments: Segments,
 }
 
-impl Body {
-    fn new(alloc: Global, designator: Designator, dates: Dates, change: Change) -> Body
-        ensures { result ≡ no_legs designator dates change }
+/// A body on the heap, so that passing it on moves only a pointer.
+#[derive(Drop)]
+pub(crate) struct BoxedBody {
+    body: Box<Body>,
+}
+
+impl Model for BoxedBody {
+    ghost use Rattle.ssim_text.specs.declared.decoder_state.Body.{Body};
+
+    ghost Value = { Body };
+
+    ghost view = { λ b. b.body.value };
+}
+
+impl BoxedBody {
+    fn new(
+        alloc: Global,
+        designator: Designator,
+        dates: Dates,
+        change: Change,
+    ) -> Result<BoxedBody, AllocError>
+        ensures { IfOk result (λ b. b ≡ no_legs designator dates change) }
     {
-        Body {
+        let body = Body {
             designator,
             dates,
             change,
             legs: Legs::new(alloc),
             segments: Segments::new(alloc),
-        }
+        };
+        Ok(BoxedBody {
+            body: Box::new(alloc, body)?,
+        })
+    }
+
+    fn leg_count(&self) -> usize
+        ensures { result ≡ length self.now.legs }
+    {
+        self.body.legs.lines().len()
+    }
+
+    fn segment_count(&self) -> usize
+        ensures { result ≡ length self.now.segments }
+    {
+        self.body.segments.lines().len()
     }
 
     fn is_whole(&self) -> bool
         ensures { result ≡ is_whole self.now }
     {
-        self.legs.lines().len() > 0
+        self.leg_count() > 0
     }
 
     fn has_no_segment(&self) -> bool
         ensures { result ≡ is_none_yet self.now.segments }
     {
-        self.segments.lines().is_empty()
+        self.body.segments.lines().is_empty()
     }
 
     fn fits(&self, segment: &SegmentLine) -> bool
         ensures { result ≡ fits_segment self.now segment.now }
     {
-        match &self.change {
+        match &self.body.change {
             Change::Tim => false,
-            Change::New(_) | Change::Rpl(_) => flies(self.legs.lines(), segment),
+            Change::New(_) | Change::Rpl(_) => flies(self.body.legs.lines(), segment),
         }
     }
 
-    fn with_leg(self, leg: LegLine) -> Result<Body, AllocError>
+    fn with_leg(self, leg: LegLine) -> Result<BoxedBody, AllocError>
         requires { length self.legs < 20 }
         ensures { IfOk result (λ b. b ≡ with_leg self leg) }
     {
-        let mut body = self;
-        body.legs = body.legs.with(leg)?;
-        Ok(body)
+        let mut longer = self;
+        longer.body.legs.push(leg)?;
+        Ok(longer)
     }
 
-    fn with_segment(self, segment: SegmentLine) -> Result<Body, AllocError>
+    fn with_segment(self, segment: SegmentLine) -> Result<BoxedBody, AllocError>
         requires { length self.segments < 99 }
         ensures { IfOk result (λ b. b ≡ with_segment self segment) }
     {
-        let mut body = self;
-        body.segments = body.segments.with(segment)?;
-        Ok(body)
+        let mut longer = self;
+        longer.body.segments.push(segment)?;
+        Ok(longer)
     }
 
     fn sub(self) -> Sub
@@ -125,7 +160,7 @@ impl Body {
             change,
             legs,
             segments,
-        } = self;
+        } = Box::into_inner(self.body);
         let action = match change {
             Change::Tim => Action::Tim(legs),
             Change::New(equipment) => Action::New(NewLegs {
@@ -159,7 +194,7 @@ pub(crate) enum State {
     AtDatedFlight(Draft, ActionIdentifier),
     AtPeriod(Draft, ActionIdentifier, Designator),
     AtEquipment(Draft, Equipped, Designator, Dates),
-    AtLegs(Draft, Body),
+    AtLegs(Draft, BoxedBody),
     AtEnd(Draft),
     AtNext(Draft),
     AtFree(Draft),
@@ -191,7 +226,7 @@ fn body_expected(
         ActionIdentifier::Eqt => Ok(State::AtEquipment(message, Equipped::Eqt, designator, dates)),
         ActionIdentifier::Tim => Ok(State::AtLegs(
             message,
-            Body::new(alloc, designator, dates, Change::Tim),
+            BoxedBody::new(alloc, designator, dates, Change::Tim)?,
         )),
         ActionIdentifier::Cnl => {
             let sub = Sub {
@@ -218,11 +253,11 @@ fn after_equipment(
     match equipped {
         Equipped::New => Ok(State::AtLegs(
             message,
-            Body::new(alloc, designator, dates, Change::New(equipment)),
+            BoxedBody::new(alloc, designator, dates, Change::New(equipment))?,
         )),
         Equipped::Rpl => Ok(State::AtLegs(
             message,
-            Body::new(alloc, designator, dates, Change::Rpl(equipment)),
+            BoxedBody::new(alloc, designator, dates, Change::Rpl(equipment))?,
         )),
         Equipped::Eqt => {
             let sub = Sub {
@@ -321,13 +356,16 @@ impl State {
             None => {
                 let read = GivenReference::parse(alloc, line)?;
                 match read {
-                    Some(reference) => Ok(State::AtAction(Draft::begin(
-                        alloc,
-                        originator,
-                        kind,
-                        TimeMode::Utc,
-                        reference,
-                    ))),
+                    Some(reference) => {
+                        let draft = Draft::begin(
+                            alloc,
+                            originator,
+                            kind,
+                            TimeMode::Utc,
+                            reference,
+                        )?;
+                        Ok(State::AtAction(draft))
+                    }
                     None => Err(Stop::Refused(Fault::BadReference)),
                 }
             }
@@ -348,9 +386,10 @@ impl State {
     {
         let read = GivenReference::parse(alloc, line)?;
         match read {
-            Some(reference) => Ok(State::AtAction(Draft::begin(
-                alloc, originator, kind, mode, reference,
-            ))),
+            Some(reference) => {
+                let draft = Draft::begin(alloc, originator, kind, mode, reference)?;
+                Ok(State::AtAction(draft))
+            }
             None => Err(Stop::Refused(Fault::BadReference)),
         }
     }
@@ -424,7 +463,7 @@ impl State {
         }
     }
 
-    fn after_leg(alloc: Global, message: Draft, body: Body, line: &[u8]) -> Result<State, Stop>
+    fn after_leg(alloc: Global, message: Draft, body: BoxedBody, line: &[u8]) -> Result<State, Stop>
         ensures ok { IfOk result (λ next. Takes (State.AtLegs message body) line.now next) }
         ensures err { IfErr result (λ stop. StopsAt (State.AtLegs message body) line.now stop) }
     {
@@ -433,7 +472,7 @@ impl State {
                 if !body.has_no_segment() {
                     return Err(Stop::Refused(Fault::BadLeg));
                 }
-                if body.legs.lines().len() == 20 {
+                if body.leg_count() >= 20 {
                     return Err(Stop::Refused(Fault::TooMany));
                 }
                 let longer = body.with_leg(leg)?;
@@ -443,7 +482,12 @@ impl State {
         }
     }
 
-    fn after_legs(alloc: Global, message: Draft, body: Body, line: &[u8]) -> Result<State, Stop>
+    fn after_legs(
+        alloc: Global,
+        message: Draft,
+        body: BoxedBody,
+        line: &[u8],
+    ) -> Result<State, Stop>
         requires { leg_of line.now ≡ None }
         ensures ok { IfOk result (λ next. Takes (State.AtLegs message body) line.now next) }
         ensures err { IfErr result (λ stop. StopsAt (State.AtLegs message body) line.now stop) }
@@ -461,7 +505,7 @@ impl State {
                 if !body.fits(&segment) {
                     return Err(Stop::Refused(Fault::BadLeg));
                 }
-                if body.segments.lines().len() == 99 {
+                if body.segment_count() >= 99 {
                     return Err(Stop::Refused(Fault::TooMany));
                 }
                 let longer = body.with_segment(segment)?;

@@ -1,6 +1,6 @@
 //! Leg lines.
 ghost use Rattle.std.specs.Prelude.{◌≡◌, ◌<◌, ◌≤◌, ◌++◌, ◌∷◌, [], length, position, IfSome, IfNone};
-ghost use Rattle.std.specs.Prelude.{IfOk};
+ghost use Rattle.std.specs.Prelude.{OnOk};
 ghost use Rattle.std.specs.Str.{bytes_eq};
 ghost use Rattle.ssim_text.specs.Grammar.{leg_pair, flies};
 ghost use Rattle.ssim_text.specs.Lines.{station_in, clock_in, variation_of, passenger_of};
@@ -166,14 +166,13 @@ impl Legs {
         &self.lines
     }
 
-    /// These lines and a further one.
-    pub(crate) fn with(self, leg: LegLine) -> Result<Legs, AllocError>
-        requires { length self < 20 }
-        ensures { IfOk result (λ l. l ≡ self ++ leg ∷ []) }
+    /// A further line.
+    pub(crate) fn push(&mut self, leg: LegLine) -> Result<(), AllocError>
+        requires { length self.old < 20 }
+        ensures { OnOk result (self.new ≡ self.old ++ leg ∷ []) }
     {
-        let Legs { mut lines } = self;
-        lines.push(leg)?;
-        Ok(Legs { lines })
+        self.lines.push(leg)?;
+        Ok(())
     }
 }
 

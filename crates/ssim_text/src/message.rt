@@ -46,9 +46,9 @@ impl FreeLine {
     }
 }
 
-/// The part of a message that has been read.
+/// What has been read of a message.
 #[derive(Clone, Drop)]
-pub(crate) struct Draft {
+struct Content {
     originator: Originator,
     kind: Kind,
     mode: TimeMode,
@@ -57,7 +57,7 @@ pub(crate) struct Draft {
     free: Vec<FreeLine>,
 }
 
-impl Model for Draft {
+impl Model for Content {
     ghost use Rattle.ssim_text.specs.Message.{MessageValue};
 
     ghost Value = { MessageValue };
@@ -72,6 +72,37 @@ impl Model for Draft {
     } };
 }
 
+impl Content {
+    /// The canonical text. Memory for `room` bytes is reserved at once.
+    fn encode(&self, alloc: Global, room: usize) -> Result<Vec<u8>, AllocError>
+        ensures { IfOk result (λ text. text.items ≡ canonical self.now) }
+    {
+        let mut out = Vec::with_capacity(alloc, room)?;
+        push_originator(&mut out, self.originator)?;
+        push_kind(&mut out, self.kind)?;
+        push_mode(&mut out, self.mode)?;
+        self.reference.push(&mut out)?;
+        push_subs(&mut out, &self.subs)?;
+        push_free(&mut out, &self.free)?;
+        Ok(out)
+    }
+}
+
+/// The part of a message that has been read. It is on the heap, so that passing it on moves only a
+/// pointer.
+#[derive(Clone, Drop)]
+pub(crate) struct Draft {
+    content: Box<Content>,
+}
+
+impl Model for Draft {
+    ghost use Rattle.ssim_text.specs.Message.{MessageValue};
+
+    ghost Value = { MessageValue };
+
+    ghost view = { λ m. m.content.value };
+}
+
 impl Draft {
     ghost use Rattle.std.specs.Prelude.{length};
 
@@ -81,59 +112,63 @@ impl Draft {
         kind: Kind,
         mode: TimeMode,
         reference: GivenReference,
-    ) -> Draft
-        ensures { result ≡ begun originator kind mode reference }
+    ) -> Result<Draft, AllocError>
+        ensures { IfOk result (λ m. m ≡ begun originator kind mode reference) }
     {
-        Draft {
+        let content = Content {
             originator,
             kind,
             mode,
             reference,
-            subs: Vec::new(alloc),
+            // Most messages have one sub-message.
+            subs: Vec::with_capacity(alloc, 1)?,
             free: Vec::new(alloc),
-        }
+        };
+        Ok(Draft {
+            content: Box::new(alloc, content)?,
+        })
     }
 
     pub(crate) fn kind(&self) -> Kind
         ensures { result ≡ self.now.kind }
     {
-        self.kind
+        self.content.kind
     }
 
     fn originator(&self) -> Originator
         ensures { result ≡ self.now.originator }
     {
-        self.originator
+        self.content.originator
     }
 
     fn mode(&self) -> TimeMode
         ensures { result ≡ self.now.mode }
     {
-        self.mode
+        self.content.mode
     }
 
     fn reference(&self) -> &GivenReference
         ensures { result.now ≡ self.now.reference }
     {
-        &self.reference
+        &self.content.reference
     }
 
     fn subs(&self) -> &[Sub]
         ensures { result.now ≡ self.now.subs }
     {
-        &self.subs
+        &self.content.subs
     }
 
     fn free(&self) -> &[FreeLine]
         ensures { result.now ≡ self.now.free }
     {
-        &self.free
+        &self.content.free
     }
 
     pub(crate) fn sub_count(&self) -> usize
         ensures { result ≡ length self.now.subs }
     {
-        self.subs.len()
+        self.content.subs.len()
     }
 
     /// This message with a further sub-message.
@@ -141,7 +176,7 @@ impl Draft {
         ensures { IfOk result (λ m. m ≡ with_sub self sub) }
     {
         let mut message = self;
-        message.subs.push(sub)?;
+        message.content.subs.push(sub)?;
         Ok(message)
     }
 
@@ -150,7 +185,7 @@ impl Draft {
         ensures { IfOk result (λ m. m ≡ with_free self line.now) }
     {
         let mut message = self;
-        message.free.push(FreeLine::kept(alloc, line)?)?;
+        message.content.free.push(FreeLine::kept(alloc, line)?)?;
         Ok(message)
     }
 }
@@ -162,18 +197,11 @@ impl Draft {
         self.clone()
     }
 
-    /// The canonical text.
-    pub(crate) fn encode(&self, alloc: Global) -> Result<Vec<u8>, AllocError>
+    /// The canonical text. Memory for `room` bytes is reserved at once.
+    pub(crate) fn encode(&self, alloc: Global, room: usize) -> Result<Vec<u8>, AllocError>
         ensures { IfOk result (λ text. text.items ≡ canonical self.now) }
     {
-        let mut out = Vec::new(alloc);
-        push_originator(&mut out, self.originator)?;
-        push_kind(&mut out, self.kind)?;
-        push_mode(&mut out, self.mode)?;
-        self.reference.push(&mut out)?;
-        push_subs(&mut out, &self.subs)?;
-        push_free(&mut out, &self.free)?;
-        Ok(out)
+        self.content.encode(alloc, room)
     }
 }
 

@@ -1,5 +1,5 @@
 //! Segment lines.
-ghost use Rattle.std.specs.Prelude.{◌≡◌, ◌<◌, ◌≤◌, ◌++◌, ◌∷◌, [], length, IfSome, IfNone, IfOk};
+ghost use Rattle.std.specs.Prelude.{◌≡◌, ◌<◌, ◌≤◌, ◌++◌, ◌∷◌, [], length, IfSome, IfNone, IfOk, OnOk};
 ghost use Rattle.ssim_text.specs.Lines.{points_of, segment_text_of, segment_of};
 
 use crate::bytes::{cut, first_bytes, first_word};
@@ -131,13 +131,12 @@ impl Segments {
         &self.lines
     }
 
-    /// These lines and a further one.
-    pub(crate) fn with(self, line: SegmentLine) -> Result<Segments, AllocError>
-        requires { length self < 99 }
-        ensures { IfOk result (λ s. s ≡ self ++ line ∷ []) }
+    /// A further line.
+    pub(crate) fn push(&mut self, line: SegmentLine) -> Result<(), AllocError>
+        requires { length self.old < 99 }
+        ensures { OnOk result (self.new ≡ self.old ++ line ∷ []) }
     {
-        let Segments { mut lines } = self;
-        lines.push(line)?;
-        Ok(Segments { lines })
+        self.lines.push(line)?;
+        Ok(())
     }
 }

@@ -1,5 +1,5 @@
 -- A leg line after a segment line, and the 21st leg line.
-use Rattle.std.proofs.Common.{arith, sym, ap, ◌∙◌, length}
+use Rattle.std.proofs.Common.{arith, sym, ◌∙◌}
 use Rattle.ssim_text.proofs.Arms.{leg_behind_segments, legs_full}
 use Rattle.ssim_text.proofs.decoder_state.State.after_leg.Goals as goal
 
@@ -7,6 +7,6 @@ pub returns-then-not-has_no_segment-clause-err : goal.returns-then-not-has_no_se
 returns-then-not-has_no_segment-clause-err c =
     leg_behind_segments c.args.message c.args.body c.in-Some.leg c.args.line.now c.in-Some.ensures.some (sym c.has_no_segment.ensures ∙ c.if-not-has_no_segment.true)
 
-pub returns-then-lines-eq20-clause-err : goal.returns-then-lines-eq20-clause-err
-returns-then-lines-eq20-clause-err c =
-    legs_full c.args.message c.args.body c.in-Some.leg c.args.line.now c.in-Some.ensures.some (sym c.has_no_segment.ensures ∙ c.if-not-has_no_segment.false) (omega (arith, ap length c.lines.ensures.value, c.if-lines-eq20.true))
+pub returns-then-leg_count-ge20-clause-err : goal.returns-then-leg_count-ge20-clause-err
+returns-then-leg_count-ge20-clause-err c =
+    legs_full c.args.message c.args.body c.in-Some.leg c.args.line.now c.in-Some.ensures.some (sym c.has_no_segment.ensures ∙ c.if-not-has_no_segment.false) (omega (arith, c.leg_count.ensures, c.if-leg_count-ge20.true))
