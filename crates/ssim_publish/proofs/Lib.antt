@@ -14,6 +14,7 @@ pub mod SegmentTexts
 pub mod Grouped
 pub mod WholeTexts
 pub mod Found
+pub mod Acting
 pub mod PlannedSubs
 pub mod ListedDates
 pub mod Settling

@@ -1,13 +1,14 @@
 //! The actions that make the new itinerary of a date of the old one.
 
 ghost use Rattle.std.specs.Prelude.{IfOk, IfSome, IsSome};
+ghost use Rattle.ssim_publish.specs.Acting.{ActEach};
 ghost use Rattle.ssim_publish.specs.Reach.{Leads, Reach};
 ghost use Rattle.ssim_publish.specs.Sayable.{HaveColumns};
 ghost use Rattle.ssim_publish.specs.internal.Candidates.{AnyMakes};
 
 use crate::candidates::{Candidate, actions_of, cancellation};
 use crate::retimed_legs::have_same_route;
-use crate::trial::do_lead;
+use crate::trial::leading;
 use ssim_base::StationRow;
 use ssim_periods::Value;
 use ssim_schedule::{Itinerary, PlacedLeg};
@@ -23,7 +24,7 @@ use std::alloc::Global;
 /// Otherwise the flight gets other times (`TIM`) or other equipment (`EQT`) if one of them is
 /// enough; otherwise it is replaced, or, if that would change more, gets both (`EQT`, `TIM`). Apart
 /// from equal itineraries and `CNL`, the actions are tried on the old itinerary before they are
-/// returned.
+/// returned, and those that do not act are left out.
 pub fn say(
     alloc: Global,
     rows: &[StationRow],
@@ -33,6 +34,10 @@ pub fn say(
 ) -> Result<Option<Vec<Action>>, Memory>
     ensures said { IfOk result
         (λ said. IfSome said (λ actions. Leads rows.now day actions.items old.now new.now)) }
+
+    // Each action acts on the day.
+    ensures acting { IfOk result
+        (λ said. IfSome said (λ actions. ActEach rows.now day actions.items old.now)) }
 
     // Actions are found if some list of sub-messages makes the new itinerary.
     ensures finds { Reach rows.now day old.now new.now → IfOk result (λ said. IsSome said) }
@@ -69,7 +74,7 @@ fn have_columns(legs: &[PlacedLeg])
     }
 }
 
-// The actions of the first candidate that makes the new itinerary of the old one.
+// The actions of the first candidate that makes the new itinerary of the old one: those that act.
 fn first_that_leads(
     alloc: Global,
     rows: &[StationRow],
@@ -80,6 +85,8 @@ fn first_that_leads(
 ) -> Result<Option<Vec<Action>>, Memory>
     ensures said { IfOk result
         (λ said. IfSome said (λ actions. Leads rows.now day actions.items old.now new.now)) }
+    ensures acting { IfOk result
+        (λ said. IfSome said (λ actions. ActEach rows.now day actions.items old.now)) }
     ensures found { HaveColumns old.now → AnyMakes rows.now day candidates.now old.now new.now
         → IfOk result (λ said. IsSome said) }
 {
@@ -87,10 +94,9 @@ fn first_that_leads(
         None => Ok(None),
         Some((candidate, later)) => {
             let actions = actions_of(alloc, *candidate, old.legs(), new.legs())?;
-            if do_lead(alloc, rows, day, &actions, old, new)? {
-                Ok(Some(actions))
-            } else {
-                first_that_leads(alloc, rows, day, later, old, new)
+            match leading(alloc, rows, day, actions, old, new)? {
+                Some(acting) => Ok(Some(acting)),
+                None => first_that_leads(alloc, rows, day, later, old, new),
             }
         }
     }

@@ -5,6 +5,8 @@ use Rattle.ssim_values.specs.Flight.{FlightNumber}
 use Rattle.ssim_values.specs.Period.{DayRange}
 use Rattle.ssim_text.specs.declared.action.Action.{Action}
 use Rattle.ssim_text.specs.declared.action.Action.TheVariants.{Cnl, Eqt, Tim}
+use Rattle.ssim_schedule.specs.Acts.{class_on}
+use Rattle.ssim_publish.specs.Acting.{ActOn}
 use Rattle.ssim_publish.specs.Published.{legs_after}
 use Rattle.ssim_publish.specs.declared.planned_sub.PlannedSub.{PlannedSub}
 use Rattle.ssim_publish.specs.examples.Dates.{changed, later, rows, smaller, with_terminal}
@@ -43,3 +45,14 @@ of_another_flight = refl
 -- each acts on what those before it left: after CNL no leg is left for TIM
 cancelled_before : legs_after rows (sub Cnl ∷ subs) (flight 1) 9320 with_terminal ≡ []
 cancelled_before = refl
+
+-- EQT and TIM each act on a Tuesday
+each_acts : ActOn rows subs (flight 1) 9320 with_terminal
+unfolding with_times with_equipment
+each_acts = (λ _. refl, (λ _. refl, tt))
+
+-- after CNL neither would: the reason is `Absent`, whose class is 1
+none_to_equip : class_on rows (Eqt smaller) 9320
+    (legs_after rows (sub Cnl ∷ []) (flight 1) 9320 with_terminal)
+    ≡ 1
+none_to_equip = refl
