@@ -99,7 +99,7 @@ value_in-earlier nothing xs i j x day v next lt is so =
 
 -- ---- the list as rows
 
-few-later : {V : Type 0} (xs : List (DayRange × V)) (i n : ℕ) → length (held_on xs n) ≤ 1 → length (held_on (drop i xs) n) ≤ 1
+pub few-later : {V : Type 0} (xs : List (DayRange × V)) (i n : ℕ) → length (held_on xs n) ≤ 1 → length (held_on (drop i xs) n) ≤ 1
 few-later xs zero n once = once
 few-later [] (suc i) n once = once
 few-later {V} (x ∷ xs) (suc i) n once = few-later xs i n (by (holds x.0 n) once)

@@ -17,7 +17,6 @@ pub mod JoinLemmas
 pub mod NumberLemmas
 pub mod WorkedLemmas
 pub mod ApartLemmas
-pub mod EqualLemmas
 pub mod TrimLemmas
 pub mod ListPieces
 pub mod SeparateLemmas
@@ -25,3 +24,6 @@ pub mod SpacedLemmas
 pub mod DoneLemmas
 pub mod MarkLemmas
 pub mod CommonDayLemmas
+pub mod PartLemmas
+pub mod PartsLemmas
+pub mod HeldCounts

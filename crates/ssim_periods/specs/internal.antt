@@ -6,3 +6,4 @@ pub mod Count
 pub mod Apart
 pub mod Forms
 pub mod Gather
+pub mod Parts

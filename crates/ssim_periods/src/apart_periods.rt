@@ -11,13 +11,14 @@ ghost use Rattle.ssim_periods.specs.Pieces.{pieces_of, held_on};
 pub(crate) mod entries;
 pub(crate) mod entry_pieces;
 pub(crate) mod marks;
+pub(crate) mod parts;
 pub(crate) mod spaced_days;
+pub(crate) mod within;
 
-use crate::apart_periods::entries::{
-    copy_entries, index_of, meets_none, rows_of, shared_entries, value_at,
-};
+use crate::apart_periods::entries::{copy_entries, meets_none, rows_of, shared_entries, value_at};
 use crate::apart_periods::entry_pieces::covers;
 use crate::apart_periods::spaced_days::SpacedDays;
+use crate::apart_periods::within::{added_parts, counts_within, keep_first_parts, keeps_empty};
 use crate::range_rows::RangeRows;
 use crate::range_rows::count::counts_of;
 use crate::rows::{is_after_cuts, is_before_cuts};
@@ -29,6 +30,9 @@ use std::marker::Model;
 
 /// The most periods in a list. A new period between the others is compared with all of them.
 const MOST: usize = 512;
+
+/// The most periods in a list after a change that adds more than one.
+const MOST_DIVIDED: usize = 64;
 
 /// How many periods a list has room for at first.
 const FIRST: usize = 8;
@@ -126,11 +130,11 @@ impl<V: Value> ApartPeriods<V> {
         Ok(())
     }
 
-    /// Replaces the value of the period in the list that equals a given one by the outcome of the
-    /// change, and returns the number of its days under the class of the old value. No other value
-    /// is copied. Returns None and changes nothing if no period of the list equals the given one,
-    /// or the outcome is empty.
-    pub(crate) fn apply_to_equal<C: Change<V>>(
+    /// Replaces the value of each day of the period by the outcome of the change, and returns for
+    /// each class the number of these days whose old value is of that class. A period of the list
+    /// that has such a day is divided, and no other one is touched. Returns None and changes nothing
+    /// if days that no period of the list has would get a value, or if the list would be too long.
+    pub(crate) fn apply_within<C: Change<V>>(
         &mut self,
         period: &Period,
         change: &C,
@@ -138,19 +142,23 @@ impl<V: Value> ApartPeriods<V> {
         ensures days { IfOk result (λ done. OnSome done (self.new.days ≡ changed_on (holds period.now) (C.outcome change.now) 0 self.old.days)) }
         ensures counts { IfOk result (λ done. IfSome done (λ counts. counts ≡ counts_on (holds period.now) (C.class_of change.now) self.old.days)) }
         ensures none { IfOk result (λ done. IfNone done (self.new ≡ self.old)) }
-        ensures cuts { self.new.cuts ≡ self.old.cuts }
+        ensures cuts { IfOk result (λ done. OnSome done (AddsOnly self.old.cuts self.new.cuts period.now.first (period.now.last + 1))) }
         ensures err { OnErr result (self.new ≡ self.old) }
     {
-        let Some(index) = index_of(&self.entries, period) else {
-            return Ok(None);
-        };
-        let old = &self.entries[index].1;
-        let value = change.after(self.alloc, old)?;
-        if value.is_empty() {
+        let (counts, free) = counts_within(&self.entries, period, change);
+        if !keeps_empty::<V, C>(self.alloc, free, change)? {
             return Ok(None);
         }
-        let counts = counts_of(period, change, old);
-        self.entries[index] = (*period, value);
+        let mut added = added_parts(self.alloc, &self.entries, period, change)?;
+        let count = self.entries.len();
+        if !has_room(count, added.len()) {
+            return Ok(None);
+        }
+        self.cuts.make_room(self.alloc)?;
+        self.entries.append(&mut added)?;
+        keep_first_parts(&mut self.entries, count, period);
+        self.cuts.add(period.first().number() as u32);
+        self.cuts.add(period.last().number() as u32 + 1);
         Ok(Some(counts))
     }
 
@@ -243,6 +251,12 @@ impl<V: Value> ApartPeriods<V> {
         pieces.sort_by_key(|piece| piece.0.first().number())?;
         Ok(pieces)
     }
+}
+
+// Whether a list of `count` periods is short enough for more of them.
+fn has_room(count: usize, more: usize) -> bool {
+    let most = if more > 1 { MOST_DIVIDED } else { MOST };
+    more <= most.saturating_sub(count)
 }
 
 // The values by weekday of a range without a value.

@@ -66,10 +66,13 @@ impl<V: Value> Periods<V> {
     ///
     /// All new values are computed, and all memory is reserved, before the first value is replaced:
     /// after an error nothing has changed. While no two periods that were applied have a common day,
-    /// or they are equal, a change costs one new value and the comparison of its period with the
-    /// earlier ones, and copies no value. The first change of only some days of an earlier period,
-    /// and the 513th period, also copy the values so far into rows, one value for each range and
-    /// weekday. From then on the cost grows with the ranges that the period touches and with the
+    /// a change costs one new value and the comparison of its period with the earlier ones, and
+    /// copies no value. A change of days of earlier periods makes one new value for each of these
+    /// periods. What is left of such a period is up to three parts, and each but the first gets a
+    /// copy of its value. The values so far are copied into rows, one value for each range and
+    /// weekday, by the first such change that also gives values to days that no period has, or after
+    /// which there would be too many parts (more than 64, or 512 if one is added at most), and by the
+    /// 513th period. From then on the cost grows with the ranges that the period touches and with the
     /// later ranges, which are moved.
     pub fn apply<C: Change<V>>(&mut self, period: &Period, change: &C) -> Result<[u32; 5], Memory>
         ensures days { OnOk result (self.new.days ≡ changed_on (holds period.now) (C.outcome change.now) 0 self.old.days) }
@@ -82,7 +85,7 @@ impl<V: Value> Periods<V> {
                 if periods.has_room_for(period) {
                     return periods.apply(period, change);
                 }
-                if let Some(counted) = periods.apply_to_equal(period, change)? {
+                if let Some(counted) = periods.apply_within(period, change)? {
                     return Ok(counted);
                 }
                 let mut rows = periods.to_rows()?;
@@ -105,7 +108,7 @@ impl<V: Value> Periods<V> {
                 if periods.has_room_for(period) {
                     return periods.replace(period, change);
                 }
-                if let Some(_) = periods.apply_to_equal(period, change)? {
+                if let Some(_) = periods.apply_within(period, change)? {
                     return Ok(());
                 }
                 let mut rows = periods.to_rows()?;

@@ -1,5 +1,5 @@
 -- Periods with values as a list, of which no two hold a common day.
-use Rattle.std.specs.Prelude.{◌≡◌, ◌≢◌, ℕ, ◌+◌, ◌-◌, ◌%◌, ◌<◌, ◌≤◌, ◌&&◌, Bool, false, nat_lt, if◌then◌else◌, List, [], ◌∷◌, ◌++◌, length, map, slice_index_or}
+use Rattle.std.specs.Prelude.{◌≢◌, ℕ, ◌+◌, ◌-◌, ◌%◌, ◌≤◌, ◌&&◌, Bool, false, nat_lt, if◌then◌else◌, List, [], ◌∷◌, ◌++◌, length, map, slice_index_or}
 use Rattle.std.specs.List.{All, Contains, list_any}
 use Rattle.std.specs.List.Sorted.{IsStrictlyIncreasing}
 use Rattle.ssim_values.specs.Period.{DayRange}
@@ -36,11 +36,6 @@ pub record AreApart {V : Type 0} (nothing : V) (periods : List (DayRange × V)) 
   pub divided : AreDivided cuts periods
   pub rising : IsStrictlyIncreasing cuts
   pub in_calendar : All (λ cut. cut ≤ 36525) cuts
-
--- the entry of a list at this index has the period
-pub record IsIndexOf {V : Type 0} (period : DayRange) (periods : List (DayRange × V)) (index : ℕ) : Type 0 where
-  pub in_range : index < length periods
-  pub its : (value : V) → (slice_index_or periods index (period, value)).0 ≡ period
 
 -- whether a period with the value holds the day
 abbrev pub given_on : {V : Type 0} → (V → V → Bool) → List (DayRange × V) → V → ℕ → Bool

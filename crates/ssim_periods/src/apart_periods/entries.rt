@@ -2,7 +2,7 @@
 ghost use Rattle.std.specs.Prelude.{◌≡◌, ◌≤◌, ◌++◌, ◌∷◌, ℕ, List, [], true, false, ◌||◌, length, slice_get, slice_index_or, Some, IfOk, IfSome, IsTrue, OnOk};
 ghost use Rattle.std.specs.List.{Contains};
 ghost use Rattle.ssim_values.specs.Period.{DayRange};
-ghost use Rattle.ssim_periods.specs.internal.Apart.{given_on, is_held, mark_on, value_in, AreDivided, IsIndexOf};
+ghost use Rattle.ssim_periods.specs.internal.Apart.{given_on, is_held, mark_on, value_in, AreDivided};
 ghost use Rattle.ssim_periods.specs.Calendar.{holds};
 ghost use Rattle.ssim_periods.specs.Days.{each_day};
 ghost use Rattle.ssim_periods.specs.Pieces.{held_on};
@@ -39,18 +39,6 @@ pub(crate) fn meets_none<V: Value>(entries: &[(Period, V)], period: &Period) -> 
         }
     }
     true
-}
-
-// The index of the period of a list that equals a given one.
-pub(crate) fn index_of<V: Value>(entries: &[(Period, V)], period: &Period) -> Option<usize>
-    ensures { IfSome result (IsIndexOf period.now entries.now) }
-{
-    for index in 0..entries.len() {
-        if entries[index].0 == *period {
-            return Some(index);
-        }
-    }
-    None
 }
 
 // Copies of periods with values.

@@ -4,7 +4,7 @@ use Rattle.ssim_periods.specs.internal.Apart.{value_in}
 use Rattle.ssim_periods.specs.Calendar.{holds}
 use Rattle.ssim_periods.specs.Days.{counts_on, each_day}
 use Rattle.ssim_periods.proofs.ApartLemmas.{index-week}
-use Rattle.ssim_periods.proofs.EqualLemmas.{counts-alike}
+use Rattle.ssim_periods.proofs.HeldCounts.{counts-alike}
 use Rattle.ssim_periods.proofs.apart_periods.ApartPeriods.apply.Goals as goal
 
 pub returns-clause-counts : goal.returns-clause-counts
