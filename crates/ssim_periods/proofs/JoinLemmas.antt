@@ -1,18 +1,14 @@
--- Two periods joined to one, and lists of periods with the days of a value.
-use Rattle.std.proofs.Common.{◌≡◌, ℕ, zero, suc, ◌+◌, ◌<◌, ◌≤◌, max, Bool, true, false, ◌||◌, if◌then◌else◌, List, [], ◌∷◌, ◌++◌, length, take, slice_index_or, slice_set, refl, ap, sym, ◌∙◌, arith, inl, inr}
+-- Lists of periods with the days of a value.
+use Rattle.std.proofs.Common.{◌≡◌, ℕ, zero, suc, ◌+◌, ◌<◌, Bool, true, false, ◌||◌, if◌then◌else◌, List, [], ◌∷◌, ◌++◌, length, take, slice_index_or, slice_set, refl, ap, sym, ◌∙◌, arith}
 use Rattle.std.specs.List.{list_any}
-use Rattle.std.specs.Cmp.Lexicographic.{pointwise}
-use Rattle.std.proofs.Math.Bool.{beq}
 use Rattle.std.proofs.lemmas.List.{take_more}
 use Rattle.std.specs.List.Sorted.{IsPermutation}
 use Rattle.std.proofs.lemmas.List.Sorted.{list_any-IsPermutation}
 use Rattle.ssim_values.specs.Period.{DayRange}
-use Rattle.ssim_periods.specs.Calendar.{slot, holds}
+use Rattle.ssim_periods.specs.Calendar.{holds}
 use Rattle.ssim_periods.specs.internal.Apart.{is_held, given_on, mark_on}
 use Rattle.ssim_periods.specs.Days.{each_day, changed_on}
 use Rattle.ssim_periods.specs.Pieces.{held_on}
-use Rattle.ssim_periods.proofs.ApplyLemmas.{outside-before, outside-after, inside}
-use Rattle.ssim_periods.proofs.CoverLemmas.{le_or_lt}
 use Rattle.ssim_periods.proofs.DayLemmas.{each_day-same, changed_on-each_day}
 
 pub or-false : (b : Bool) → (b || false) ≡ b
@@ -28,49 +24,6 @@ or-second : (a b c : Bool) → (a || (b || c)) ≡ (b || (a || c))
 or-second true true c = refl
 or-second true false c = refl
 or-second false b c = refl
-
--- ---- masks
-
-pub same-mask : (xs ys : List Bool) → pointwise beq xs ys ≡ true → xs ≡ ys
-same-mask [] [] h = refl
-same-mask [] (y ∷ ys) h = absurd cc
-same-mask (x ∷ xs) [] h = absurd cc
-same-mask (true ∷ xs) (true ∷ ys) h = ap (λ l. true ∷ l) (same-mask xs ys h)
-same-mask (false ∷ xs) (false ∷ ys) h = ap (λ l. false ∷ l) (same-mask xs ys h)
-same-mask (true ∷ xs) (false ∷ ys) h = absurd cc
-same-mask (false ∷ xs) (true ∷ ys) h = absurd cc
-
--- ---- two periods
-
--- the period with these weekdays from the first day of the first period to the last day of both
-pub joined-days : (p q r : DayRange) (all : List Bool) (n : ℕ) → p.first ≤ q.first → r.first ≡ p.first → r.last ≡ max p.last q.last → r.days ≡ all
-    → (p.first ≤ n → n ≤ max p.last q.last → slice_index_or all (slot n) false ≡ (holds p n || holds q n)) → holds r n ≡ (holds p n || holds q n)
-joined-days p q r all n ordered first last days within =
-    let outside = λ (own : holds r n ≡ false) (l : holds p n ≡ false) (m : holds q n ≡ false). own ∙ sym (ap (λ c. c || holds q n) l ∙ m) in
-    elim (le_or_lt p.first n) [
-      | inr early ↦ outside (outside-before r.first r.last n r.days (omega arith)) (outside-before p.first p.last n p.days early) (outside-before q.first q.last n q.days (omega arith))
-      | inl from ↦ elim (le_or_lt n (max p.last q.last)) [
-        | inl to ↦ inside r.first r.last n r.days (omega arith) (omega arith) ∙ ap (λ ds. slice_index_or ds (slot n) false) days ∙ within from to
-        | inr past ↦ outside (outside-after r.first r.last n r.days (omega arith)) (outside-after p.first p.last n p.days (omega arith)) (outside-after q.first q.last n q.days (omega arith))
-      ]
-    ]
-
--- a period of one day, and one that has its weekday, but none of its own weekdays between the two
-pub begun-earlier : (p q : DayRange) (n : ℕ) → p.last ≡ p.first → p.first < q.first → slice_index_or p.days (slot p.first) false ≡ true → slice_index_or q.days (slot p.first) false ≡ true
-    → ((m : ℕ) → p.first < m → m < q.first → slice_index_or q.days (slot m) false ≡ false) → p.first ≤ n → n ≤ max p.last q.last → slice_index_or q.days (slot n) false ≡ (holds p n || holds q n)
-begun-earlier p q n one before own its between from to =
-    elim (le_or_lt n p.first) [
-      | inl here ↦
-          let is : n ≡ p.first = omega arith in
-          let on : holds p n ≡ true = inside p.first p.last n p.days from (omega arith) ∙ ap (λ m. slice_index_or p.days (slot m) false) is ∙ own in
-          ap (λ m. slice_index_or q.days (slot m) false) is ∙ its ∙ sym (ap (λ b. b || holds q n) on)
-      | inr later ↦
-          let off : holds p n ≡ false = outside-after p.first p.last n p.days (omega arith) in
-          sym (ap (λ b. b || holds q n) off ∙ elim (le_or_lt q.first n) [
-            | inl past ↦ inside q.first q.last n q.days past (omega arith)
-            | inr early ↦ outside-before q.first q.last n q.days early ∙ sym (between n later early)
-          ])
-    ]
 
 -- ---- a list of periods
 

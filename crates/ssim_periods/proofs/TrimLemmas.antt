@@ -1,6 +1,6 @@
 -- The cover of one period's days is one period: up to the last day no day breaks the weekdays, and
 -- no day is held after it.
-use Rattle.std.proofs.Common.{◌≡◌, ℕ, ◌+◌, ◌-◌, ◌%◌, ◌<◌, ◌≤◌, ◌&&◌, Bool, true, false, nat_le, nat_lt, List, [], ◌∷◌, length, slice_index_or, ap, sym, ◌∙◌, arith, inl, inr}
+use Rattle.std.proofs.Common.{◌≡◌, ℕ, ◌+◌, ◌-◌, ◌%◌, ◌<◌, ◌≤◌, ◌&&◌, Bool, true, false, nat_le, nat_lt, List, [], ◌∷◌, length, slice_index_or, refl, ap, sym, ◌∙◌, arith, inl, inr}
 use Rattle.std.proofs.Math.Bool.{and-false}
 use Rattle.std.proofs.lemmas.Bool.Decides.{nat_tests}
 use Rattle.ssim_values.specs.DayMask.{IsMask}
@@ -9,6 +9,7 @@ use Rattle.ssim_periods.specs.internal.Apart.{weekdays_within}
 use Rattle.ssim_periods.specs.Calendar.{day_count, holds, slot}
 use Rattle.ssim_periods.specs.Cover.{first_where, last_where, weekdays_of, breaks, break_after, period_at, cover}
 use Rattle.ssim_periods.proofs.ApartLemmas.{holds-same}
+use Rattle.ssim_periods.proofs.BitLemmas.{seven-are}
 use Rattle.ssim_periods.proofs.CoverLemmas.{le_or_lt, first_where-none, first_where-is, first_where-either, last_where-is, last_where-at, weekdays_of-at, weekdays_of-own, differ-same, break_after-is}
 use Rattle.ssim_periods.proofs.CoverSteps.{cover_at, cover_from-at, cover_at-next, cover_at-end, some-digit}
 use Rattle.ssim_periods.proofs.DayLemmas.{day_count-is}
@@ -149,3 +150,23 @@ trim-some p mask from end first last days is f e ordered fits a last_is days_are
       mask = record { seven = ap length days_are; some = some-digit days (slot first) 49 own };
       cover_is = λ q qf ql qd. one ∙ ap (λ ds. range first last ds ∷ []) (sym all) ∙ ap (λ x. range x last days ∷ []) (sym qf) ∙ ap (λ x. range q.first x days ∷ []) (sym ql) ∙ ap (λ x. range q.first q.last x ∷ []) (sym qd);
     }
+
+-- a period of a week or more that holds its first and its last day
+
+within-week : (days : List Bool) (first end w : ℕ) → w < 7 → first + 7 ≤ end → (nat_lt (first + (w + 7 - slot first) % 7) end && slice_index_or days w false) ≡ slice_index_or days w false
+within-week days first end w lt week = let on : nat_lt (first + (w + 7 - slot first) % 7) end ≡ true = grind (arith, nat_tests) in ap (λ b. b && slice_index_or days w false) on
+
+weekdays_within-whole : (days : List Bool) (first end : ℕ) → length days ≡ 7 → first + 7 ≤ end → days ≡ weekdays_within days first end
+weekdays_within-whole days first end seven week =
+    let at = λ (w : ℕ) (h : w < 7). within-week days first end w h week in
+    let all = seven-are days seven in
+    let a = at 0 (omega arith) in let b = at 1 (omega arith) in let c = at 2 (omega arith) in let d = at 3 (omega arith) in let f = at 4 (omega arith) in let g = at 5 (omega arith) in let h = at 6 (omega arith) in
+    cc
+
+pub trim-whole : (p : DayRange) → p.first + 6 ≤ p.last → p.last < 36525 → length p.days ≡ 7 → slice_index_or p.days (slot p.first) false ≡ true → slice_index_or p.days (slot p.last) false ≡ true → cover (holds p) day_count ≡ p ∷ []
+trim-whole p week fits seven first last =
+    let test = λ (n : ℕ). slice_index_or p.days (slot n) false in
+    let k = p.last + 1 - p.first in
+    let a : First p p.days p.first (p.last + 1) = record { low = omega arith; lt = omega arith; on = first; early = before p } in
+    let l : p.last ≡ last_where test p.first k = sym (last_where-at test p.first k p.last (omega arith) (omega arith) last (λ m x y. absurd (omega arith))) in
+    (trim-some p p.days p.first (p.last + 1) p.first p.last p.days refl refl refl (omega arith) fits a l (weekdays_within-whole p.days p.first (p.last + 1) seven (omega arith))).cover_is p refl refl refl

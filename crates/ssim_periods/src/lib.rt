@@ -35,6 +35,7 @@ mod range_rows;
 mod rows;
 mod shared;
 mod value;
+mod weekday_bits;
 mod weekdays;
 
 pub use common_days::meets;

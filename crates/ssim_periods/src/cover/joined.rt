@@ -3,11 +3,9 @@ ghost use Rattle.std.specs.Prelude.{◌≡◌, ◌⊎◌, ℕ, ◌+◌, ◌<◌,
 ghost use Rattle.ssim_periods.specs.internal.Apart.{is_held};
 ghost use Rattle.ssim_periods.specs.Calendar.{holds, slot};
 
-use crate::cover::trim::first_in;
+use crate::weekday_bits::WeekdayBits;
 use crate::weekdays::weekday_of;
 use ssim_values::{DayMask, Memory, Period};
-
-const NO_DAYS: [bool; 7] = [false; 7];
 
 /// How many of the last periods of a list are tried, at most.
 const TRIED: usize = 4;
@@ -62,10 +60,19 @@ fn in_order(one: &Period, other: &Period) -> Option<Period>
     ensures first { IfSome result (λ both. both.first ≡ one.now.first) }
     ensures last { IfSome result (λ both. (both.last ≡ one.now.last) ⊎ (both.last ≡ other.now.last)) }
 {
+    if lie_apart(one, other) {
+        return None;
+    }
     if let Some(both) = begun_earlier(one, other) {
         return Some(both);
     }
     joined_in_order(one, other)
+}
+
+// Whether a week or more lies between two periods. Most periods that are not joined do.
+#[inline(always)]
+fn lie_apart(one: &Period, other: &Period) -> bool {
+    one.last().number() as u32 + 7 < other.first().number() as u32
 }
 
 // The other period, begun with the first one, if that is of one day and the other begins on its
@@ -85,7 +92,7 @@ fn begun_earlier(one: &Period, other: &Period) -> Option<Period>
     if !days[weekday] || !one.mask().days()[weekday] {
         return None;
     }
-    if first_in(&days, day + 1, next) < next {
+    if day + 1 < next && !have_no_day(WeekdayBits::of(days), day + 1, next) {
         return None;
     }
     match Period::new(one.first(), other.last(), other.mask()) {
@@ -101,19 +108,13 @@ fn joined_in_order(one: &Period, other: &Period) -> Option<Period>
     ensures first { IfSome result (λ both. both.first ≡ one.now.first) }
     ensures last { IfSome result (λ both. (both.last ≡ one.now.last) ⊎ (both.last ≡ other.now.last)) }
 {
-    let days = one.mask().days();
-    let others = other.mask().days();
-    let all = of_either(&days, &others);
-    if !have_days(&all, one, other) {
+    let days = WeekdayBits::of(one.mask().days());
+    let others = WeekdayBits::of(other.mask().days());
+    let all = days.either(others);
+    if !have_days(all, one, days, other, others) {
         return None;
     }
-    let mask = if all == days {
-        one.mask()
-    } else if all == others {
-        other.mask()
-    } else {
-        DayMask::of(all)?
-    };
+    let mask = DayMask::of(all.days())?;
     let last = if one.last().number() < other.last().number() {
         other.last()
     } else {
@@ -125,58 +126,50 @@ fn joined_in_order(one: &Period, other: &Period) -> Option<Period>
     }
 }
 
-// The weekdays of either of two masks.
-#[inline(always)]
-fn of_either(days: &[bool; 7], others: &[bool; 7]) -> [bool; 7]
-    ensures len { length result ≡ 7 }
-    ensures days { (w : ℕ) → slice_index_or result w false ≡ (slice_index_or days.now w false || slice_index_or others.now w false) }
-{
-    [
-        days[0] | others[0],
-        days[1] | others[1],
-        days[2] | others[2],
-        days[3] | others[3],
-        days[4] | others[4],
-        days[5] | others[5],
-        days[6] | others[6],
-    ]
-}
-
 // Whether the weekdays of either of two periods, from the first day of the one to the last day of
 // both, give exactly the days of the periods.
-fn have_days(all: &[bool; 7], one: &Period, other: &Period) -> bool
+fn have_days(
+    all: WeekdayBits,
+    one: &Period,
+    days: WeekdayBits,
+    other: &Period,
+    others: WeekdayBits,
+) -> bool
     requires ordered { one.now.first ≤ other.now.first }
-    requires all { (w : ℕ) → slice_index_or all.now w false ≡ (slice_index_or one.now.days w false || slice_index_or other.now.days w false) }
-    ensures { IsTrue result → (n : ℕ) → one.now.first ≤ n → n ≤ max one.now.last other.now.last → slice_index_or all.now (slot n) false ≡ (holds one.now n || holds other.now n) }
+    requires days { days.days ≡ one.now.days }
+    requires others { others.days ≡ other.now.days }
+    requires all { (w : ℕ) → slice_index_or all.days w false ≡ (slice_index_or one.now.days w false || slice_index_or other.now.days w false) }
+    ensures { IsTrue result → (n : ℕ) → one.now.first ≤ n → n ≤ max one.now.last other.now.last → slice_index_or all.days (slot n) false ≡ (holds one.now n || holds other.now n) }
 {
-    let days = one.mask().days();
-    let others = other.mask().days();
     let first = one.first().number() as u32;
     let next = other.first().number() as u32;
     let end = one.last().number() as u32 + 1;
     let other_end = other.last().number() as u32 + 1;
-    agree(all, &days, first, next.min(end))
-        && agree(all, &NO_DAYS, end, next)
-        && agree(all, &days, other_end, end)
-        && agree(all, &others, next.max(end), other_end)
+    agree(all, days, first, next.min(end))
+        && have_no_day(all, end, next)
+        && agree(all, days, other_end, end)
+        && agree(all, others, next.max(end), other_end)
 }
 
-// Whether the weekday of each day of a range is in both of two masks or in none. Masks that are not
-// equal differ on one of any seven days, so that no more days are looked at.
-fn agree(days: &[bool; 7], others: &[bool; 7], from: u32, to: u32) -> bool
-    ensures { IsTrue result → (n : ℕ) → from ≤ n → n < to → slice_index_or days.now (slot n) false ≡ slice_index_or others.now (slot n) false }
+// Whether the weekday of each day of a range is in both of two sets or in none.
+#[inline(always)]
+fn agree(days: WeekdayBits, others: WeekdayBits, from: u32, to: u32) -> bool
+    ensures { IsTrue result → (n : ℕ) → from ≤ n → n < to → slice_index_or days.days (slot n) false ≡ slice_index_or others.days (slot n) false }
 {
-    if to <= from {
+    have_no_day(days.unlike(others), from, to)
+}
+
+// Whether no day of a range has one of these weekdays. Of any seven days one has.
+#[inline(always)]
+fn have_no_day(days: WeekdayBits, from: u32, to: u32) -> bool
+    ensures { IsTrue result → (n : ℕ) → from ≤ n → n < to → slice_index_or days.days (slot n) false ≡ false }
+{
+    if to <= from || days.is_empty() {
         return true;
     }
-    if *days == *others {
-        return true;
+    let count = to - from;
+    if count >= 7 {
+        return false;
     }
-    for day in from..to {
-        let weekday = weekday_of(day);
-        if days[weekday] != others[weekday] {
-            return false;
-        }
-    }
-    true
+    days.from_day(from) & ((1 << count) - 1) == 0
 }

@@ -7,6 +7,7 @@ ghost use Rattle.ssim_periods.specs.Cover.{cover};
 
 use crate::cover::trim::{first_in, trimmed};
 use crate::rows::DAYS;
+use crate::weekdays::weekday_of;
 use ssim_values::Period;
 
 // Whether some periods in order of their first days lie so far apart that the cover of their days
@@ -43,5 +44,9 @@ fn breaks_off_before(period: &Period, day: u32) -> bool
     if day < first + 7 || day < end {
         return false;
     }
-    first_in(&period.mask().days(), end, day) < day
+    let days = period.mask().days();
+    if day > end + 6 && days[weekday_of(end - 1)] {
+        return true;
+    }
+    first_in(&days, end, day) < day
 }

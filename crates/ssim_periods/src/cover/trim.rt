@@ -1,5 +1,6 @@
 //! The cover of one period's days: the period itself, trimmed to the days that it holds.
-ghost use Rattle.std.specs.Prelude.{◌≡◌, ℕ, ◌+◌, ◌-◌, ◌%◌, ◌<◌, ◌≤◌, ◌&&◌, false, nat_lt, [], ◌∷◌, slice_index_or, IfSome, IfNone};
+ghost use Rattle.std.specs.Prelude.{◌≡◌, ℕ, ◌+◌, ◌-◌, ◌%◌, ◌<◌, ◌≤◌, ◌&&◌, false, true, nat_lt, [], ◌∷◌, slice_index_or, IfSome, IfNone, IsTrue};
+ghost use Rattle.ssim_values.specs.Period.{IsPeriod};
 ghost use Rattle.ssim_periods.specs.internal.Apart.{weekdays_within};
 ghost use Rattle.ssim_periods.specs.Calendar.{day_count, holds, slot};
 ghost use Rattle.ssim_periods.specs.Cover.{cover, first_where};
@@ -14,6 +15,9 @@ pub(crate) fn trimmed(period: &Period) -> Option<Period>
     ensures some { IfSome result (λ trimmed. cover (holds period.now) day_count ≡ trimmed ∷ []) }
     ensures none { IfNone result (cover (holds period.now) day_count ≡ []) }
 {
+    if is_trimmed(period) {
+        return Some(*period);
+    }
     let mask = period.mask().days();
     let from = period.first().number() as u32;
     let end = period.last().number() as u32 + 1;
@@ -24,6 +28,25 @@ pub(crate) fn trimmed(period: &Period) -> Option<Period>
     let last = last_in(&mask, first, end);
     let days = weekdays_before(&mask, first, end);
     Some(period_of(first, last, days))
+}
+
+// Whether a period of a week or more holds its first and its last day. Most periods do.
+#[inline(always)]
+fn is_trimmed(period: &Period) -> bool
+    ensures valid { IsTrue result → IsPeriod period.now }
+    ensures week { IsTrue result → period.now.first + 6 ≤ period.now.last }
+    ensures first { IsTrue result → slice_index_or period.now.days (slot period.now.first) false ≡ true }
+    ensures last { IsTrue result → slice_index_or period.now.days (slot period.now.last) false ≡ true }
+{
+    let days = period.mask().days();
+    let first = period.first().number() as u32;
+    let last = period.last().number() as u32;
+    if last < first + 6 {
+        return false;
+    }
+    let weekday = weekday_of(first);
+    let other = weekday_of(last);
+    days[weekday] && days[other]
 }
 
 // The first day of a range whose weekday is one of `days`. The end of the range if there is none.

@@ -1,7 +1,12 @@
 -- The first and the last day that the period holds, and the weekdays between them.
 use Rattle.std.proofs.Common.{◌≡◌, ◌+◌, ◌∙◌, arith}
-use Rattle.ssim_periods.proofs.TrimLemmas.{first-of, trim-none, trim-some}
+use Rattle.ssim_periods.proofs.TrimLemmas.{first-of, trim-none, trim-some, trim-whole}
 use Rattle.ssim_periods.proofs.cover.trim.trimmed.Goals as goal
+
+pub returns-then-is_trimmed-clause-some : goal.returns-then-is_trimmed-clause-some
+returns-then-is_trimmed-clause-some c =
+    let e = c.is_trimmed.ensures in let yes = c.if-is_trimmed.true in
+    trim-whole c.args.period.now (e.week yes) (e.valid yes).in_calendar (e.valid yes).mask.seven (e.first yes) (e.last yes)
 
 pub returns-then-first-end-clause-none : goal.returns-then-first-end-clause-none
 returns-then-first-end-clause-none c =
