@@ -18,6 +18,7 @@ pub mod Acting
 pub mod PlannedSubs
 pub mod ListedDates
 pub mod Settling
+pub mod Weeks
 pub mod SaidAgain
 pub mod MoreActions
 pub mod Marks

@@ -75,7 +75,8 @@ module _ (rows : List Row) (old new : FlightNumber → Days) where
 
   -- fewer dates
   pub fewer : (more less : Dates) (a b : Draft)
-      → ((g : FlightNumber) (n : ℕ) → IsFlight g → n < day_count → IsTrue (less g n) → IsTrue (more g n))
+      → ((g : FlightNumber) (n : ℕ) → IsFlight g → n < day_count → IsTrue (less g n)
+      → IsTrue (more g n))
       → Settles rows old new more a b → Settles rows old new less a b
   fewer more less a b include s = record {
     draft = s.draft;
@@ -293,7 +294,8 @@ module _ (rows : List Row) (old new : FlightNumber → Days) where
       by : (on_day (days_in d.schedule g) n ≡ on_day (new g) n)
           ⊎ (on_day (days_in d.schedule g) n ≡ on_day (old g) n)
           → IsSettled rows old new d g n
-          → IsPublishedOn rows n (on_day (old g) n) (on_day (new g) n) (on_day (days_in d.schedule g) n)
+          → IsPublishedOn rows n (on_day (old g) n) (on_day (new g) n)
+          (on_day (days_in d.schedule g) n)
       by (inl made) s = inl (made, reach made)
       by (inr kept) (inl made) = inl (made, reach made)
       by (inr kept) (inr never) = inr (kept, never)
@@ -338,7 +340,8 @@ module _ (rows : List Row) (old new : FlightNumber → Days) where
       names action = record {
         some = (day, within, one day ∙ itself day);
         each = λ n _ h same. apart (kept
-            ∙ subst (λ (m : ℕ). on_day (old flight) m ≡ on_day (new flight) m) (sym (that_day n h)) same);
+            ∙ subst (λ (m : ℕ). on_day (old flight) m ≡ on_day (new flight) m) (sym (that_day n h))
+            same);
       }
 
       made_here : on_day (days_in after.schedule flight) day ≡ on_day (new flight) day
@@ -367,11 +370,13 @@ module _ (rows : List Row) (old new : FlightNumber → Days) where
 
   -- a draft in which each date is settled on which one before it differs is published
   pub published_after : (before after : Draft)
-      → Settles rows old new (dates_of_flights (differences (days_in before.schedule) new)) before after
+      → Settles rows old new (dates_of_flights (differences (days_in before.schedule) new))
+      before after
       → IsPublished rows old new (days_in after.schedule)
   published_after before after s =
       published after s.draft (λ g n exists within. s.settled g n exists within
-      (by g n exists within (same_itinerary (on_day (days_in before.schedule g) n) (on_day (new g) n)) refl))
+      (by g n exists within
+      (same_itinerary (on_day (days_in before.schedule g) n) (on_day (new g) n)) refl))
     where
       by : (g : FlightNumber) (n : ℕ) → IsFlight g → n < day_count → (b : Bool)
           → same_itinerary (on_day (days_in before.schedule g) n) (on_day (new g) n) ≡ b
@@ -384,16 +389,14 @@ module _ (rows : List Row) (old new : FlightNumber → Days) where
 
 -- what a comparison of the itineraries of a day says
 pub made_at : (made old new : Days) (day : ℕ) (legs before wanted : Legs)
-    → slice_get made day ≡ Some legs → slice_get old day ≡ Some before
-    → slice_get new day ≡ Some wanted → same_itinerary legs wanted ≡ true
-    → not (same_itinerary before wanted) ≡ true → IsMadeOn made old new day
+    → legs ≡ on_day made day → before ≡ on_day old day → wanted ≡ on_day new day
+    → same_itinerary legs wanted ≡ true → not (same_itinerary before wanted) ≡ true
+    → IsMadeOn made old new day
 made_at made old new day legs before wanted legs_are before_are wanted_are same other = (
-  sym (itinerary_at made made day legs refl legs_are) ∙ (exact_itinerary legs wanted).0 same
-      ∙ itinerary_at new new day wanted refl wanted_are,
+  sym legs_are ∙ (exact_itinerary legs wanted).0 same ∙ wanted_are,
   λ equal.
       let again : same_itinerary before wanted ≡ true =
-      (exact_itinerary before wanted).1 (itinerary_at old old day before refl before_are ∙ equal
-      ∙ sym (itinerary_at new new day wanted refl wanted_are)) in
+      (exact_itinerary before wanted).1 (before_are ∙ equal ∙ sym wanted_are) in
       let bad : false ≡ true = ap not (sym again) ∙ other in
       absurd cc,
 )

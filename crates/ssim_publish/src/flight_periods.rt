@@ -2,20 +2,23 @@
 
 ghost use Rattle.std.specs.Prelude.{IfOk, OnOk};
 ghost use Rattle.std.specs.List.{AllByRecursion};
+ghost use Rattle.ssim_values.specs.Flight.{FlightNumber};
+ghost use Rattle.ssim_base.specs.Timetable.{Days};
 ghost use Rattle.ssim_schedule.specs.Schedule.{days_in};
 ghost use Rattle.ssim_publish.specs.Reach.{IsSaid};
-ghost use Rattle.ssim_publish.specs.internal.Drafts.{IsDraft};
+ghost use Rattle.ssim_publish.specs.internal.Drafts.{IsChangeOf, IsDraft};
 
 use crate::date_actions::say;
 use crate::draft::Draft;
+use crate::flight_change::FlightChange;
 use crate::mark::Mark;
-use crate::period_actions::{PeriodActions, add_period};
+use crate::period_actions::add_period;
 use crate::said_days::{SaidPeriods, said_periods};
 use ssim_base::StationRow;
 use ssim_difference::FlightDifference;
 use ssim_schedule::{Itinerary, Schedule};
 use ssim_text::Action;
-use ssim_values::{Day, Flight, Memory, Period};
+use ssim_values::{Day, Memory, Period};
 use std::alloc::Global;
 use std::mem;
 
@@ -35,16 +38,8 @@ pub(crate) fn add_flights(
     for flight in flights {
         let found: SaidPeriods<Vec<Action>> = said_periods(alloc, rows, flight.pieces())?;
         let SaidPeriods { said, periods } = found;
-        add_periods(
-            alloc,
-            rows,
-            draft,
-            from,
-            to,
-            flight.flight(),
-            said,
-            &periods,
-        )?;
+        let change = FlightChange::of(flight.flight(), from, to)?;
+        add_periods(alloc, rows, draft, &change, said, &periods)?;
     }
     Ok(())
 }
@@ -54,28 +49,23 @@ fn add_periods(
     alloc: Global,
     rows: &[StationRow],
     draft: &mut Draft,
-    from: &Schedule,
-    to: &Schedule,
-    flight: Flight,
+    change: &FlightChange,
     said: Vec<Vec<Action>>,
     periods: &[(Period, Mark)],
 ) -> Result<(), Memory>
     requires { AllByRecursion (λ actions. AllByRecursion IsSaid actions.items) said.items }
-    ensures { OnOk result (IsDraft rows.now (days_in from.now) (days_in to.now) draft.old
-        → IsDraft rows.now (days_in from.now) (days_in to.now) draft.new) }
+    ensures { OnOk result ((from to : FlightNumber → Days) → IsChangeOf from to change.now
+        → IsDraft rows.now from to draft.old → IsDraft rows.now from to draft.new) }
 {
     let mut said = said;
-    let old = from.days(&flight)?;
-    let new = to.days(&flight)?;
     for piece in periods {
         let period = piece.0;
         let mut actions = taken(alloc, &mut said, piece.1.place());
         if actions.is_empty() {
             let day = period.first();
-            actions = said_again(alloc, rows, day, old.at(day), new.at(day))?;
+            actions = said_again(alloc, rows, day, change.old.at(day), change.new.at(day))?;
         }
-        let actions = PeriodActions { actions, period };
-        add_period(rows, draft, flight, &old, &new, actions)?;
+        add_period(rows, draft, change, period, actions)?;
     }
     Ok(())
 }

@@ -2,6 +2,7 @@
 
 ghost use Rattle.std.specs.Prelude.{◌<◌, ◌≤◌};
 
+use crate::held_days::holds_number;
 use ssim_base::StationRow;
 use ssim_schedule::PlacedLeg;
 use ssim_values::{Day, Period, Station};
@@ -47,22 +48,29 @@ fn has_station(legs: &[PlacedLeg], station: Station) -> bool {
 /// The part of a period from a day number up to an end, from the first to the last day that it
 /// holds; none if it holds none.
 pub(crate) fn part_of(period: &Period, first: u16, end: u16) -> Option<Period> {
-    let mut part: Option<Period> = None;
-    for number in first..end {
-        if let Some(day) = Day::from_number(number) {
-            if period.holds(day) {
-                part = widened(part, *period, day);
-            }
-        }
-    }
-    part
+    let first_day = first_held(*period, first, end)?;
+    let last_day = last_held(*period, first, end)?;
+    Period::new(first_day, last_day, period.mask()).ok()
 }
 
-// The part up to one day more, or of this day alone.
-fn widened(part: Option<Period>, period: Period, day: Day) -> Option<Period> {
-    let first = match part {
-        None => day,
-        Some(part) => part.first(),
-    };
-    Period::new(first, day, period.mask()).ok()
+// The first day from a day number on and up to an end that a period holds.
+fn first_held(period: Period, first: u16, end: u16) -> Option<Day> {
+    for number in first..end {
+        if holds_number(period, number) {
+            return Day::from_number(number);
+        }
+    }
+    None
+}
+
+// The last day from a day number on and up to an end that a period holds.
+fn last_held(period: Period, first: u16, end: u16) -> Option<Day> {
+    let mut last = end;
+    while first < last {
+        last -= 1;
+        if holds_number(period, last) {
+            return Day::from_number(last);
+        }
+    }
+    None
 }

@@ -1,7 +1,8 @@
 -- Sub-messages so far, and the timetable that they leave.
-use Rattle.std.specs.Prelude.{◌≡◌, ◌≢◌, ◌⊎◌, ℕ, ◌<◌, Bool, false, ◌&&◌, nat_eq, nat_lt, if◌then◌else◌, IsTrue}
-use Rattle.std.specs.Prelude.{List}
+use Rattle.std.specs.Prelude.{◌≡◌, ◌≢◌, ◌⊎◌, ℕ, ◌<◌, ◌≤◌, Bool, false, ◌&&◌, nat_eq, nat_lt}
+use Rattle.std.specs.Prelude.{if◌then◌else◌, IsTrue, List}
 use Rattle.std.specs.List.{AllByRecursion, list_any}
+use Rattle.ssim_values.specs.Calendar.{weekday}
 use Rattle.ssim_values.specs.Flight.{FlightNumber, IsFlight}
 use Rattle.ssim_values.specs.Period.{DayRange}
 use Rattle.ssim_periods.specs.Calendar.{day_count, holds}
@@ -13,6 +14,7 @@ use Rattle.ssim_difference.specs.Differences.{Compared, DifferencePiece}
 use Rattle.ssim_publish.specs.Reach.{IsSaid, Reach, after_all}
 use Rattle.ssim_publish.specs.Published.{Leave, NamesDifferences}
 use Rattle.ssim_publish.specs.declared.draft.Draft.{Draft}
+use Rattle.ssim_publish.specs.declared.flight_change.FlightChange.{FlightChange}
 use Rattle.ssim_publish.specs.declared.planned_sub.PlannedSub.{PlannedSub}
 
 -- the sub-message with an action for a flight and a period
@@ -20,14 +22,17 @@ abbrev pub planned : FlightNumber → DayRange → Action → PlannedSub
 planned flight period action = record { action = action; flight = flight; period = period }
 
 -- what a flight has on a day after actions of sub-messages for one flight and one period
-abbrev pub after_actions : List Row → List Action → FlightNumber → DayRange → FlightNumber → ℕ → Legs → Legs
+abbrev pub after_actions :
+    List Row → List Action → FlightNumber → DayRange → FlightNumber → ℕ → Legs → Legs
 after_actions rows actions flight period g day legs =
     if same_flight flight g && holds period day then after_all rows day actions legs else legs
 
 -- the actions act on the dates of the period of the flight
 abbrev pub Acts : List Row → List Action → FlightNumber → DayRange → Flown → Flown → Type 0
-Acts rows actions flight period before after = (g : FlightNumber) (day : ℕ) → IsFlight g → day < day_count
-    → on_day (days_in after g) day ≡ after_actions rows actions flight period g day (on_day (days_in before g) day)
+Acts rows actions flight period before after =
+    (g : FlightNumber) (day : ℕ) → IsFlight g → day < day_count
+    → on_day (days_in after g) day
+    ≡ after_actions rows actions flight period g day (on_day (days_in before g) day)
 
 -- the sub-messages so far lead from the old timetable towards the new one
 pub record IsDraft (rows : List Row) (old new : FlightNumber → Days) (draft : Draft) : Type 0 where
@@ -39,7 +44,8 @@ pub record IsDraft (rows : List Row) (old new : FlightNumber → Days) (draft : 
       ⊎ (on_day (days_in draft.schedule flight) day ≡ on_day (old flight) day)
 
 -- nothing is left to say of the date: the new itinerary is made, or no messages can make it
-abbrev pub IsSettled : List Row → (FlightNumber → Days) → (FlightNumber → Days) → Draft → FlightNumber → ℕ → Type 0
+abbrev pub IsSettled :
+    List Row → (FlightNumber → Days) → (FlightNumber → Days) → Draft → FlightNumber → ℕ → Type 0
 IsSettled rows old new draft flight day =
     (on_day (days_in draft.schedule flight) day ≡ on_day (new flight) day)
     ⊎ ¬ (Reach rows day (on_day (old flight) day) (on_day (new flight) day))
@@ -49,7 +55,8 @@ abbrev pub Dates : Type 0
 Dates = FlightNumber → ℕ → Bool
 
 -- a draft becomes another, in which these dates are settled, and all that were before
-pub record Settles (rows : List Row) (old new : FlightNumber → Days) (dates : Dates) (before after : Draft) : Type 0 where
+pub record Settles (rows : List Row) (old new : FlightNumber → Days) (dates : Dates)
+    (before after : Draft) : Type 0 where
   pub draft : IsDraft rows old new after
   pub settled : (flight : FlightNumber) (day : ℕ) → IsFlight flight → day < day_count
       → IsSettled rows old new before flight day ⊎ IsTrue (dates flight day)
@@ -86,3 +93,14 @@ dates_of_flights flights g n = list_any (λ compared. dates_of_pieces compared.0
 -- a flight with these itineraries has the new one on the day, where it had another one before
 abbrev pub IsMadeOn : Days → Days → Days → ℕ → Type 0
 IsMadeOn made old new day = (on_day made day ≡ on_day new day) × (on_day old day ≢ on_day new day)
+
+-- the itineraries of the flight are those of an old and a new timetable
+pub record IsChangeOf (old new : FlightNumber → Days) (change : FlightChange) : Type 0 where
+  pub old_days : change.old.days ≡ old change.flight
+  pub new_days : change.new.days ≡ new change.flight
+
+-- two days of one weekday have the same itinerary if both are from the first day on and before the
+-- end
+abbrev pub AreWeekly : Days → ℕ → ℕ → Type 0
+AreWeekly days first end = (m n : ℕ) → first ≤ m → m ≤ n → n < end → n < day_count
+    → weekday m ≡ weekday n → on_day days m ≡ on_day days n

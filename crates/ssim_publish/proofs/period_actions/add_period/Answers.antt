@@ -6,32 +6,31 @@ use Rattle.ssim_periods.specs.Calendar.{day_count, holds}
 use Rattle.ssim_base.specs.Timetable.{Days}
 use Rattle.ssim_text.specs.declared.action.Action.{Action}
 use Rattle.ssim_schedule.specs.Schedule.{Flown, days_in}
-use Rattle.ssim_publish.specs.internal.Drafts.{Acts, IsMadeOn}
+use Rattle.ssim_publish.specs.internal.Drafts.{Acts, IsChangeOf, IsMadeOn}
 use Rattle.ssim_publish.proofs.Settling.{kept_period}
 use Rattle.ssim_publish.proofs.period_actions.add_period.Goals as goal
 
 pub returns : goal.returns
 returns c =
-    let flight = c.args.flight in let period = c.args.said.period in
-    let actions = c.args.said.actions.items in
+    let change = c.args.change.now in let flight = change.flight in
+    let period = c.args.period in let actions = c.args.actions.items in
     let tried = c.act_on.new.schedule in
     let acts : Acts c.args.rows.now actions flight period c.args.draft.now.schedule tried =
-    subst (λ (tried_actions : List Action). Acts c.args.rows.now tried_actions flight period c.args.draft.now.schedule tried)
+    subst (λ (tried_actions : List Action).
+    Acts c.args.rows.now tried_actions flight period c.args.draft.now.schedule tried)
     c.deref.ensures.value
     (subst (λ (begun : Flown). Acts c.args.rows.now c.deref.result.now flight period begun tried)
     c.in_ok-trial.ensures c.in_ok-act_on.ensures) in
     let first = c.if-not-is_made.ensures.first refl in
     let made = c.if-not-is_made.ensures.made refl in
-    let made_of : (from to : FlightNumber → Days) → c.args.old.now.days ≡ from flight
-    → c.args.new.now.days ≡ to flight → (n : ℕ) → n < day_count → holds period n ≡ true
-    → IsMadeOn (days_in tried flight) (from flight) (to flight) n =
-    (λ from to old_is new_is n within held.
-    subst (λ (days : Days). IsMadeOn days (from flight) (to flight) n) c.in_ok-made.ensures
-    (subst (λ (days : Days). IsMadeOn c.in_ok-made.made.days days (to flight) n) old_is
-    (subst (λ (days : Days). IsMadeOn c.in_ok-made.made.days c.args.old.now.days days n) new_is
-    (made n within held)))) in
+    let made_of : (from to : FlightNumber → Days) → IsChangeOf from to change → (n : ℕ) → n < day_count
+    → holds period n ≡ true → IsMadeOn (days_in tried flight) (from flight) (to flight) n =
+    (λ from to is n within held.
+    subst (λ (days : Days). IsMadeOn (days_in tried flight) days (to flight) n) is.old_days
+    (subst (λ (days : Days). IsMadeOn (days_in tried flight) change.old.days days n) is.new_days
+    (made n within held))) in
     on_ok_weaker c.push_subs.result
-    (λ subs from to old_is new_is is. kept_period c.args.rows.now from to c.args.draft.now
-    (record { subs = c.push_subs.new.subs; schedule = tried }) actions flight period first.0 is c.requires
-    first.1 (made_of from to old_is new_is) subs acts)
+    (λ subs from to change_is is. kept_period c.args.rows.now from to c.args.draft.now
+    (record { subs = c.push_subs.new.subs; schedule = tried }) actions flight period first.0 is
+    c.requires first.1 (made_of from to change_is) subs acts)
     c.push_subs.ensures

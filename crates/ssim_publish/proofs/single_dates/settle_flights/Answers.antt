@@ -18,10 +18,11 @@ loop-flight-preserved c is =
     let next : Settles rows from to (dates_of_pieces flight.0 flight.1) c.loop-flight.draft
     c.settle_pieces.new.draft =
     subst (λ (f : FlightNumber). Settles rows from to (dates_of_pieces f flight.1) c.loop-flight.draft
-    c.settle_pieces.new.draft) c.flight-number.ensures
-    (subst (λ (ps : List DifferencePiece). Settles rows from to (dates_of_pieces c.flight-number.result ps)
-    c.loop-flight.draft c.settle_pieces.new.draft) c.pieces.ensures
-    (c.in_ok-settle_pieces.ensures from to c.in_ok-old.ensures c.in_ok-new.ensures begun.draft)) in
+    c.settle_pieces.new.draft) (c.in_ok-change.ensures.flight ∙ c.flight.ensures)
+    (subst (λ (ps : List DifferencePiece). Settles rows from to
+    (dates_of_pieces c.in_ok-change.change.flight ps) c.loop-flight.draft c.settle_pieces.new.draft)
+    c.pieces.ensures
+    (c.in_ok-settle_pieces.ensures from to c.in_ok-change.ensures.days begun.draft)) in
     fewer rows from to
     (λ g n. dates_of_flights (take i flights) g n || dates_of_pieces flight.0 flight.1 g n)
     (dates_of_flights (take (i + 1) flights)) c.args.draft.now c.settle_pieces.new.draft

@@ -8,12 +8,12 @@ use Rattle.ssim_publish.proofs.Settling.{fewer, one_after}
 use Rattle.ssim_publish.proofs.single_dates.settle_pieces.Goals as goal
 
 pub loop-piece-preserved : goal.loop-piece-preserved
-loop-piece-preserved c from to old_is new_is is =
-    let rows = c.args.rows.now in let flight = c.args.flight in
+loop-piece-preserved c from to change_is is =
+    let rows = c.args.rows.now in let flight = c.args.change.now.flight in
     let pieces = c.args.pieces.now in let i = c.loop-piece.piece-index in
     let piece = c.piece-item.result in
-    let begun = c.loop-piece.invariant from to old_is new_is is in
-    let next = c.in_ok-settle_period.ensures from to old_is new_is begun.draft in
+    let begun = c.loop-piece.invariant from to change_is is in
+    let next = c.in_ok-settle_period.ensures from to change_is begun.draft in
     fewer rows from to
     (λ g n. dates_of_pieces flight (take i pieces) g n || dates_of_period flight piece.0 g n)
     (dates_of_pieces flight (take (i + 1) pieces)) c.args.draft.now c.settle_period.new.draft
@@ -25,8 +25,8 @@ loop-piece-preserved c from to old_is new_is is =
     c.args.draft.now c.loop-piece.draft c.settle_period.new.draft begun next)
 
 pub returns : goal.returns
-returns c from to old_is new_is is =
-    subst (λ (ps : List DifferencePiece). Settles c.args.rows.now from to (dates_of_pieces c.args.flight ps)
-    c.args.draft.now c.loop-piece.draft)
+returns c from to change_is is =
+    subst (λ (ps : List DifferencePiece). Settles c.args.rows.now from to
+    (dates_of_pieces c.args.change.now.flight ps) c.args.draft.now c.loop-piece.draft)
     (take_all c.loop-piece.piece-index c.args.pieces.now c.loop-piece-test.false)
-    (c.loop-piece.invariant from to old_is new_is is)
+    (c.loop-piece.invariant from to change_is is)

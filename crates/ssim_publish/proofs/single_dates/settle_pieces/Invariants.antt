@@ -1,12 +1,12 @@
 -- The dates of the pieces so far are settled.
-use Rattle.std.proofs.Common.{◌≡◌, take}
+use Rattle.std.proofs.Common.{take}
 use Rattle.ssim_values.specs.Flight.{FlightNumber}
 use Rattle.ssim_base.specs.Timetable.{Days}
-use Rattle.ssim_publish.specs.internal.Drafts.{IsDraft, Settles, dates_of_pieces}
+use Rattle.ssim_publish.specs.internal.Drafts.{IsChangeOf, IsDraft, Settles, dates_of_pieces}
 use Rattle.ssim_publish.proofs.single_dates.settle_pieces.Given as goal
 
 abbrev pub invariant-loop-piece : goal.invariant-loop-piece
-invariant-loop-piece l = (from to : FlightNumber → Days) → l.old.days ≡ from l.flight
-    → l.new.days ≡ to l.flight → IsDraft l.rows from to l.initial.draft
-    → Settles l.rows from to (dates_of_pieces l.flight (take l.piece-index l.pieces))
+invariant-loop-piece l = (from to : FlightNumber → Days) → IsChangeOf from to l.change
+    → IsDraft l.rows from to l.initial.draft
+    → Settles l.rows from to (dates_of_pieces l.change.flight (take l.piece-index l.pieces))
     l.initial.draft l.draft
