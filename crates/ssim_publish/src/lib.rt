@@ -4,7 +4,7 @@
 //! - [`plan`]: the [`PlannedSub`]s that lead a timetable towards another, in the order in which they
 //!   act; what they leave of it; and on which dates no messages can make the new itinerary.
 //! - [`unsaid_lines`]: these dates as lines, in periods, each with the reason: `sequence`, or for each
-//!   leg that stands in the way its leg sequence and the columns with what messages do not give, then
+//!   leg that messages cannot make its leg sequence and the columns that they do not give, then
 //!   `segments` for its segment data, and `second` for other times of a second leg between the same
 //!   stations.
 //! - [`say`]: the actions of sub-messages that make the new itinerary of a flight on a date of the

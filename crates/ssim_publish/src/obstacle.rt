@@ -1,9 +1,9 @@
-//! What stands in the way of messages.
+//! What messages cannot give to an itinerary.
 
 use ssim_records::Field;
 use std::fmt;
 
-/// What stands in the way of messages that should make an itinerary.
+/// What of an itinerary messages cannot give.
 #[derive(Clone, Copy)]
 pub(crate) enum Obstacle {
     /// The leg sequences are not 1, 2 and so on, or there are more than twenty legs.

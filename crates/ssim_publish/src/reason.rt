@@ -72,8 +72,8 @@ impl SaidOfDay for Reason {
     }
 }
 
-// The words of what stands in the way of new legs on a day: `sequence` alone, or for each leg with
-// obstacles its leg sequence and these.
+// The words of what messages cannot give to new legs on a day: `sequence` alone, or for each leg
+// with obstacles its leg sequence and these.
 fn words_of(
     alloc: Global,
     rows: &[StationRow],
@@ -215,7 +215,7 @@ fn is_second(legs: &[PlacedLeg], place: usize, leg: &PlacedLeg) -> bool {
     false
 }
 
-// Adds the leg sequence of a leg and what stands in its way, if anything does.
+// Adds the leg sequence of a leg and what messages cannot give to it, if there is anything.
 fn add_leg(words: &mut Vec<u8>, sequence: u8, found: &[Obstacle]) -> Result<(), Memory> {
     if found.is_empty() {
         return Ok(());

@@ -66,9 +66,9 @@ fn given(lines: &[LegLine], place: usize, tail: &SegmentTail) -> Option<SegmentT
     Some(SegmentTail::new(points, identifier, board, off, text))
 }
 
-// The letter that comes so many letters after the first.
-fn letter(first: u8, count: usize) -> u8 {
-    first.saturating_add(count.min(25) as u8)
+// The letter at a distance after the first letter.
+fn letter(first: u8, distance: usize) -> u8 {
+    first.saturating_add(distance.min(25) as u8)
 }
 
 // The number that three digits spell; of other bytes any number, which has other digits.

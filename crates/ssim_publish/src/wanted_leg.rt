@@ -129,9 +129,9 @@ impl WantedLeg<'_> {
     }
 }
 
-// Adds a field if it stands in the way.
-fn add_if(found: &mut Vec<Obstacle>, stands: bool, field: Field) -> Result<(), Memory> {
-    if stands {
+// Adds a field if messages do not give it.
+fn add_if(found: &mut Vec<Obstacle>, is_lacking: bool, field: Field) -> Result<(), Memory> {
+    if is_lacking {
         found.push(Obstacle::Columns(field))?;
     }
     Ok(())
