@@ -15,6 +15,7 @@ pub mod Grouped
 pub mod WholeTexts
 pub mod Found
 pub mod Acting
+pub mod Findings
 pub mod PlannedSubs
 pub mod ListedDates
 pub mod Settling

@@ -2,7 +2,7 @@
 use Rattle.std.proofs.Common.{◌≡◌, ◌∙◌, ◌⊎◌, inl, inr, ℕ, ◌<◌, Bool, true, false, ◌&&◌, ◌||◌, nat_eq}
 use Rattle.std.proofs.Common.{nat_le, nat_lt, not, slice_get, slice_index_or, ◌+◌, ◌≤◌, Some}
 use Rattle.std.proofs.lemmas.Option.{get_or_from_slice_get}
-use Rattle.std.proofs.Common.{if◌then◌else◌, List, [], ◌++◌, map, refl, sym, ap, subst, arith}
+use Rattle.std.proofs.Common.{if◌then◌else◌, List, [], ◌++◌, length, map, refl, sym, ap, subst, arith}
 use Rattle.std.specs.Prelude.{IsTrue}
 use Rattle.std.specs.List.{AllByRecursion}
 use Rattle.std.proofs.lemmas.Bool.Decides.{nat_tests}
@@ -17,14 +17,17 @@ use Rattle.ssim_base.specs.Stations.{Row}
 use Rattle.ssim_base.specs.Timetable.{Days, Legs, on_day, same_flight}
 use Rattle.ssim_schedule.specs.Schedule.{days_in}
 use Rattle.ssim_difference.specs.Differences.{differences}
+use Rattle.ssim_publish.specs.Acting.{ActEach, ActOn}
 use Rattle.ssim_publish.specs.Published.{IsPublished, IsPublishedOn, NamesDifferences, legs_after}
 use Rattle.ssim_publish.specs.Reach.{IsSaid, Leads, Reach, after_all}
 use Rattle.ssim_publish.specs.declared.draft.Draft.{Draft}
 use Rattle.ssim_publish.specs.declared.planned_sub.PlannedSub.{PlannedSub}
-use Rattle.ssim_publish.specs.internal.Drafts.{Acts, Dates, IsDraft, IsMadeOn, IsSettled, Settles}
+use Rattle.ssim_publish.specs.internal.Drafts.{ActOnEach, Acts, AreAsLong, Dates, IsDraft, IsMadeOn}
+use Rattle.ssim_publish.specs.internal.Drafts.{IsSettled, Settles}
 use Rattle.ssim_publish.specs.internal.Drafts.{after_actions, date_at, dates_before}
 use Rattle.ssim_publish.specs.internal.Drafts.{dates_of_flights, dates_of_period, no_dates, one_date}
 use Rattle.ssim_publish.specs.internal.Drafts.{planned}
+use Rattle.ssim_publish.proofs.Acting.{on_both, on_planned}
 use Rattle.ssim_publish.proofs.ListedDates.{differing_listed}
 use Rattle.ssim_publish.proofs.PlannedSubs.{after_both, after_planned, all_of_both, any_planned}
 use Rattle.ssim_publish.proofs.PlannedSubs.{reached, said_planned}
@@ -210,8 +213,8 @@ module _ (rows : List Row) (old new : FlightNumber → Days) where
           (subst (λ (f : FlightNumber). IsSettled rows old new d f day)
           (same-true flight g h.0) here)
 
-  -- More sub-messages, for one flight and one period, which lead to the new itinerary on each of
-  -- its dates. The two timetables differ on each of these dates.
+  -- More sub-messages, for one flight and one period, which each act on each of its dates, and
+  -- lead there to the new itinerary. The two timetables differ on each of these dates.
   pub more_acted : (before after : Draft) (actions : List Action) (flight : FlightNumber)
       (period : DayRange) → IsDraft rows old new before → AllByRecursion IsSaid actions
       → ((action : Action) → NamesDifferences old new (planned flight period action))
@@ -219,8 +222,11 @@ module _ (rows : List Row) (old new : FlightNumber → Days) where
       → on_day (days_in after.schedule flight) n ≡ on_day (new flight) n)
       → after.subs.items ≡ before.subs.items ++ map (planned flight period) actions
       → Acts rows actions flight period before.schedule after.schedule
+      → AreAsLong before.schedule after.schedule
+      → ((n : ℕ) → n < day_count → holds period n ≡ true
+      → ActEach rows n actions (on_day (days_in before.schedule flight) n))
       → Settles rows old new (dates_of_period flight period) before after
-  more_acted before after actions flight period is said names made subs acts = record {
+  more_acted before after actions flight period is said names made subs acts as_long each = record {
     draft = record {
       leave = λ g n exists within. acts g n exists within
           ∙ ap (after_actions rows actions flight period g n) (is.leave g n exists within)
@@ -232,10 +238,18 @@ module _ (rows : List Row) (old new : FlightNumber → Days) where
       said = subst (AllByRecursion (λ (sub : PlannedSub). IsSaid sub.action)) (sym subs)
           (all_of_both (λ (sub : PlannedSub). IsSaid sub.action) before.subs.items
           (map (planned flight period) actions) is.said (said_planned flight period actions said));
+      acting = λ g n exists within. subst
+          (λ (all : List PlannedSub). ActOn rows all g n (on_day (old g) n)) (sym subs)
+          (on_both rows before.subs.items (map (planned flight period) actions) g n
+          (on_day (old g) n) (is.acting g n exists within)
+          (on_planned rows actions flight period g n
+          (legs_after rows before.subs.items g n (on_day (old g) n))
+          (acts_on g n exists within)));
       differing = subst (AllByRecursion (NamesDifferences old new)) (sym subs)
           (all_of_both (NamesDifferences old new) before.subs.items
           (map (planned flight period) actions) is.differing
           (any_planned (NamesDifferences old new) flight period actions names));
+      as_long = λ g. as_long g ∙ is.as_long g;
       between = λ g n exists within. between_by g n exists within
           (same_flight flight g && holds period n) refl;
     };
@@ -251,6 +265,16 @@ module _ (rows : List Row) (old new : FlightNumber → Days) where
           let h = both (same_flight flight g) (holds period n) e in
           subst (λ (f : FlightNumber). on_day (days_in after.schedule f) n ≡ on_day (new f) n)
           (same-true flight g h.0) (made n within h.1)
+
+      -- the actions act there on what the sub-messages before them leave
+      acts_on : (g : FlightNumber) (n : ℕ) → IsFlight g → n < day_count
+          → (same_flight flight g && holds period n) ≡ true
+          → ActEach rows n actions (legs_after rows before.subs.items g n (on_day (old g) n))
+      acts_on g n exists within e =
+          let h = both (same_flight flight g) (holds period n) e in
+          subst (ActEach rows n actions) (is.leave g n exists within)
+          (subst (λ (f : FlightNumber). ActEach rows n actions (on_day (days_in before.schedule f) n))
+          (same-true flight g h.0) (each n within h.1))
 
       -- another date
       same_on : (g : FlightNumber) (n : ℕ) → IsFlight g → n < day_count
@@ -307,13 +331,16 @@ module _ (rows : List Row) (old new : FlightNumber → Days) where
       → ((n : ℕ) → holds period n ≡ nat_eq day n)
       → same_itinerary (on_day (days_in before.schedule flight) day) (on_day (new flight) day) ≡ false
       → Leads rows day actions (on_day (old flight) day) (on_day (new flight) day)
+      → ActEach rows day actions (on_day (old flight) day)
       → after.subs.items ≡ before.subs.items ++ map (planned flight period) actions
       → Acts rows actions flight period before.schedule after.schedule
+      → AreAsLong before.schedule after.schedule
       → Settles rows old new (one_date flight day) before after
-  date_acted before after actions flight period day exists within is one other leads subs acts =
+  date_acted before after actions flight period day exists within is one other leads each subs acts as_long =
       fewer (dates_of_period flight period) (one_date flight day) before after
       (λ g n _ _ h. ap (λ (b : Bool). same_flight flight g && b) (one n) ∙ h)
-      (more_acted before after actions flight period is leads.said names made subs acts)
+      (more_acted before after actions flight period is leads.said names made subs acts as_long
+      each_on)
     where
       apart : on_day (days_in before.schedule flight) day ≡ on_day (new flight) day → ⊥
       apart e =
@@ -352,6 +379,12 @@ module _ (rows : List Row) (old new : FlightNumber → Days) where
           (ap (λ (b : Bool). b && holds period day) (same-self flight) ∙ one day ∙ itself day)
           ∙ ap (after_all rows day actions) kept ∙ leads.result
 
+      each_on : (n : ℕ) → n < day_count → holds period n ≡ true
+          → ActEach rows n actions (on_day (days_in before.schedule flight) n)
+      each_on n _ h =
+          subst (λ (m : ℕ). ActEach rows m actions (on_day (days_in before.schedule flight) m))
+          (that_day n h) (subst (ActEach rows day actions) (sym kept) each)
+
       made : (n : ℕ) → n < day_count → holds period n ≡ true
           → on_day (days_in after.schedule flight) n ≡ on_day (new flight) n
       made n _ h =
@@ -364,6 +397,9 @@ module _ (rows : List Row) (old new : FlightNumber → Days) where
     leave = λ g n _ _. ap (λ (days : FlightNumber → Days). on_day (days g) n) same
         ∙ ap (λ (subs : List PlannedSub). legs_after rows subs g n (on_day (old g) n)) (sym none);
     said = subst (AllByRecursion (λ (sub : PlannedSub). IsSaid sub.action)) (sym none) tt;
+    acting = λ g n _ _. subst (λ (subs : List PlannedSub). ActOn rows subs g n (on_day (old g) n))
+        (sym none) tt;
+    as_long = λ g. ap (λ (days : FlightNumber → Days). length (days g)) same;
     differing = subst (AllByRecursion (NamesDifferences old new)) (sym none) tt;
     between = λ g n _ _. inr (ap (λ (days : FlightNumber → Days). on_day (days g) n) same);
   }
@@ -401,16 +437,28 @@ made_at made old new day legs before wanted legs_are before_are wanted_are same 
       absurd cc,
 )
 
--- a draft with the sub-messages of a period that make each of its dates
+-- a draft with the sub-messages of a period that each act on each of its dates, and make it
 pub kept_period : (rows : List Row) (old new : FlightNumber → Days) (before after : Draft)
     (actions : List Action) (flight : FlightNumber) (period : DayRange) → period.first < day_count
     → IsDraft rows old new before → AllByRecursion IsSaid actions → holds period period.first ≡ true
     → ((n : ℕ) → n < day_count → holds period n ≡ true
     → IsMadeOn (days_in after.schedule flight) (old flight) (new flight) n)
     → after.subs.items ≡ before.subs.items ++ map (planned flight period) actions
-    → Acts rows actions flight period before.schedule after.schedule → IsDraft rows old new after
-kept_period rows old new before after actions flight period within is said first made subs acts =
+    → Acts rows actions flight period before.schedule after.schedule
+    → AreAsLong before.schedule after.schedule → period.last < length (old flight)
+    → ActOnEach rows actions flight period before.schedule → IsDraft rows old new after
+kept_period rows old new before after actions flight period within is said first made subs acts as_long last each =
     let all = more_acted rows old new before after actions flight period is said
     (λ action. record { some = (period.first, within, first); each = λ n w h. (made n w h).1 })
-    (λ n w h. (made n w h).0) subs acts in
+    (λ n w h. (made n w h).0) subs acts as_long (λ n w h. each n w (has n h) h) in
     all.draft
+  where
+    -- there is an itinerary on each day of the period
+    has : (n : ℕ) → holds period n ≡ true → n < length (days_in before.schedule flight)
+    has n h =
+        let range = both (nat_le period.first n && nat_le n period.last)
+        (slice_index_or period.days (slot n) false) h in
+        let to = both (nat_le period.first n) (nat_le n period.last) range.0 in
+        let high = to.1 in
+        let low : n ≤ period.last = grind (arith, nat_tests) in
+        subst (λ (l : ℕ). n < l) (sym (is.as_long flight)) (omega (arith, low, last))

@@ -1,11 +1,12 @@
 //! Sub-messages so far, and the timetable that they leave.
 
-ghost use Rattle.std.specs.Prelude.{◌≡◌, ◌++◌, [], IfOk, OnOk, map};
-ghost use Rattle.ssim_publish.specs.internal.Drafts.{Acts, planned};
+ghost use Rattle.std.specs.Prelude.{◌≡◌, ◌++◌, [], true, IfOk, OnOk, map};
+ghost use Rattle.ssim_publish.specs.internal.Drafts.{ActOnEach, Acts, AreAsLong, IsAllActed};
+ghost use Rattle.ssim_publish.specs.internal.Drafts.{planned};
 
 use crate::planned_sub::PlannedSub;
 use ssim_base::{Resolved, StationRow};
-use ssim_schedule::Schedule;
+use ssim_schedule::{Finding, Schedule};
 use ssim_text::Action;
 use ssim_values::{Flight, Memory, Period};
 use std::alloc::Global;
@@ -42,34 +43,50 @@ impl Draft {
             ≡ self.old.subs.items ++ map (planned flight period) actions.items) }
         ensures acts { OnOk result
             (Acts rows.now actions.items flight period self.old.schedule self.new.schedule) }
+        ensures as_long { OnOk result (AreAsLong self.old.schedule self.new.schedule) }
     {
         act_on(&mut self.schedule, rows, &actions, flight, period)?;
         push_subs(&mut self.subs, actions, flight, period)
     }
 }
 
-/// The actions act on the dates of the period of the flight, one after another.
+/// The actions act on the dates of the period of the flight, one after another. Returns whether
+/// each of them acts on each of these dates.
 pub(crate) fn act_on(
     schedule: &mut Schedule,
     rows: &[StationRow],
     actions: &[Action],
     flight: Flight,
     period: Period,
-) -> Result<(), Memory>
-    ensures { OnOk result (Acts rows.now actions.now flight period schedule.old schedule.new) }
+) -> Result<bool, Memory>
+    ensures acts { OnOk result (Acts rows.now actions.now flight period schedule.old schedule.new) }
+    ensures as_long { OnOk result (AreAsLong schedule.old schedule.new) }
+    ensures each { IfOk result
+        (λ each. each ≡ true → ActOnEach rows.now actions.now flight period schedule.old) }
 {
+    // No effect at run time. The proof reads from these uses that the flight exists.
+    let _ = flight.number();
+    let _ = flight.suffix();
     match actions.split_first() {
-        None => Ok(()),
+        None => Ok(true),
         Some((action, rest)) => {
             let sub = Resolved {
                 action,
                 flight,
                 period,
             };
-            schedule.apply_by(rows, &sub)?;
-            act_on(schedule, rows, rest, flight, period)
+            let finding = schedule.apply_by(rows, &sub)?;
+            let rest_act = act_on(schedule, rows, rest, flight, period)?;
+            Ok(rest_act && is_all_acted(finding))
         }
     }
+}
+
+// Whether a finding counts no date on which the sub-message did not act.
+fn is_all_acted(finding: Finding) -> bool
+    ensures { result ≡ true → IsAllActed finding }
+{
+    finding.absent == 0 && finding.present == 0 && finding.leg == 0 && finding.station == 0
 }
 
 /// Adds a sub-message for each of the actions, for the flight and the period.

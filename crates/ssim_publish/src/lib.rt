@@ -16,19 +16,19 @@
 //! The actions act by the rows of a station table, which gives the UTC variations of the new legs
 //! of `NEW` and `RPL`. The only error is [`Memory`].
 //!
-//! **Promise.** Each action that `say` returns is one that a text can have, and the actions, one
-//! after another, make exactly the new itinerary. If any list of sub-messages makes the new
-//! itinerary, `say` returns actions; so it returns none exactly if no list of sub-messages makes
-//! it. Other than for equal itineraries and a cancelled flight, the actions are also tried at run
-//! time by the effect of sub-messages itself.
+//! **Promise.** Each action that `say` returns is one that a text can have, and acts on the date,
+//! on what those before it leave; one after another they make exactly the new itinerary. If any
+//! list of sub-messages makes the new itinerary, `say` returns actions; so it returns none exactly
+//! if no list of sub-messages makes it. Other than for equal itineraries and a cancelled flight,
+//! the actions are also tried at run time by the effect of sub-messages itself.
 //!
-//! The sub-messages of a `plan` leave on each date of each flight the new itinerary, if messages can
-//! make it of the old one, and the old one if not; what is unsaid are exactly the latter dates on
-//! which the two differ. No sub-message names a date on which its flight does not differ. One
-//! sub-message serves all dates of a period of which the same is said. It is tried on a copy of the
-//! timetable, and kept only if it makes each date of its period; whatever is left then is said date
-//! by date. So nothing rests on how the periods are found. It is not promised that the sub-messages
-//! are the fewest.
+//! The sub-messages of a `plan` leave on each date of each flight the new itinerary, if messages
+//! can make it of the old one, and the old one if not; what is unsaid are exactly the latter dates
+//! on which the two differ. No sub-message names a date on which its flight does not differ, and
+//! each acts on every date that it names. One sub-message serves all dates of a period of which the
+//! same is said. It is tried on a copy of the timetable, and kept only if it acts on each date of
+//! its period, and makes it; whatever is left then is said date by date. So nothing rests on how
+//! the periods are found. It is not promised that the sub-messages are the fewest.
 //!
 //! Exactly one of the periods of `unsaid_lines` holds each date that is unsaid, and no other date is
 //! in any. It is not promised which words a reason has, other than that there is one.

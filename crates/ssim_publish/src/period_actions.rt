@@ -14,9 +14,9 @@ use ssim_base::StationRow;
 use ssim_text::Action;
 use ssim_values::{Memory, Period};
 
-/// Adds sub-messages of a flight and a period to a draft, if they lead from the old to the new
-/// itinerary on each date of the period, and the two differ there. Otherwise the draft stays as it
-/// is.
+/// Adds sub-messages of a flight and a period to a draft, if each acts on each date of the period,
+/// and they lead there from the old to the new itinerary, which differ. Otherwise the draft stays
+/// as it is.
 pub(crate) fn add_period(
     rows: &[StationRow],
     draft: &mut Draft,
@@ -29,8 +29,14 @@ pub(crate) fn add_period(
         → IsDraft rows.now from to draft.old → IsDraft rows.now from to draft.new) }
 {
     let flight = change.flight;
+    // No effect at run time. The proof reads from this use that the flight has an itinerary on each
+    // day of the period.
+    let _ = change.old.at(period.last());
     let mut trial = draft.schedule.copy()?;
-    act_on(&mut trial, rows, &actions, flight, period)?;
+    let each = act_on(&mut trial, rows, &actions, flight, period)?;
+    if !each {
+        return Ok(());
+    }
     if !is_made(&trial, change, period) {
         return Ok(());
     }

@@ -7,6 +7,7 @@ ghost use Rattle.ssim_base.specs.Timetable.{Days};
 ghost use Rattle.ssim_schedule.specs.FlightPieces.{divided_flights};
 ghost use Rattle.ssim_schedule.specs.Schedule.{days_in};
 ghost use Rattle.ssim_difference.specs.Differences.{differences};
+ghost use Rattle.ssim_publish.specs.Acting.{ActOnTheirDates};
 ghost use Rattle.ssim_publish.specs.Published.{IsPublished, Leave, NamesDifferences};
 ghost use Rattle.ssim_publish.specs.Reach.{IsSaid};
 
@@ -59,6 +60,10 @@ pub fn plan(
     ensures differing { IfOk result
         (λ plan. AllByRecursion (NamesDifferences (days_in from.now) (days_in to.now))
         plan.subs.items) }
+
+    // Each acts on each of these dates.
+    ensures acting { IfOk result
+        (λ plan. ActOnTheirDates rows.now plan.subs.items (days_in from.now)) }
 {
     let wanted = to.copy()?.into_flights()?;
     let mut draft = Draft::of(alloc, from)?;

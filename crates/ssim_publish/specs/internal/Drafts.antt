@@ -1,6 +1,6 @@
 -- Sub-messages so far, and the timetable that they leave.
 use Rattle.std.specs.Prelude.{◌≡◌, ◌≢◌, ◌⊎◌, ℕ, ◌<◌, ◌≤◌, Bool, false, ◌&&◌, nat_eq, nat_lt}
-use Rattle.std.specs.Prelude.{if◌then◌else◌, IsTrue, List}
+use Rattle.std.specs.Prelude.{true, if◌then◌else◌, IsTrue, List, length}
 use Rattle.std.specs.List.{AllByRecursion, list_any}
 use Rattle.ssim_values.specs.Calendar.{weekday}
 use Rattle.ssim_values.specs.Flight.{FlightNumber, IsFlight}
@@ -10,7 +10,9 @@ use Rattle.ssim_text.specs.declared.action.Action.{Action}
 use Rattle.ssim_base.specs.Stations.{Row}
 use Rattle.ssim_base.specs.Timetable.{Days, Legs, on_day, same_flight}
 use Rattle.ssim_schedule.specs.Schedule.{Flown, days_in}
+use Rattle.ssim_schedule.specs.declared.finding.Finding.{Finding}
 use Rattle.ssim_difference.specs.Differences.{Compared, DifferencePiece}
+use Rattle.ssim_publish.specs.Acting.{ActEach, ActOnTheirDates}
 use Rattle.ssim_publish.specs.Reach.{IsSaid, Reach, after_all}
 use Rattle.ssim_publish.specs.Published.{Leave, NamesDifferences}
 use Rattle.ssim_publish.specs.declared.draft.Draft.{Draft}
@@ -34,11 +36,32 @@ Acts rows actions flight period before after =
     → on_day (days_in after g) day
     ≡ after_actions rows actions flight period g day (on_day (days_in before g) day)
 
+-- each flight has itineraries on as many days as before
+abbrev pub AreAsLong : Flown → Flown → Type 0
+AreAsLong before after =
+    (g : FlightNumber) → length (days_in after g) ≡ length (days_in before g)
+
+-- the finding counts no date on which the sub-message did not act
+pub record IsAllActed (finding : Finding) : Type 0 where
+  pub absent : finding.absent ≡ 0
+  pub present : finding.present ≡ 0
+  pub leg : finding.leg ≡ 0
+  pub station : finding.station ≡ 0
+
+-- each of the actions acts on each date of the period of the flight
+abbrev pub ActOnEach : List Row → List Action → FlightNumber → DayRange → Flown → Type 0
+ActOnEach rows actions flight period before =
+    (n : ℕ) → n < day_count → n < length (days_in before flight) → holds period n ≡ true
+    → ActEach rows n actions (on_day (days_in before flight) n)
+
 -- the sub-messages so far lead from the old timetable towards the new one
 pub record IsDraft (rows : List Row) (old new : FlightNumber → Days) (draft : Draft) : Type 0 where
   pub leave : Leave rows draft.subs.items old (days_in draft.schedule)
   pub said : AllByRecursion (λ sub. IsSaid sub.action) draft.subs.items
+  pub acting : ActOnTheirDates rows draft.subs.items old
   pub differing : AllByRecursion (NamesDifferences old new) draft.subs.items
+  pub as_long : (flight : FlightNumber)
+      → length (days_in draft.schedule flight) ≡ length (old flight)
   pub between : (flight : FlightNumber) (day : ℕ) → IsFlight flight → day < day_count
       → (on_day (days_in draft.schedule flight) day ≡ on_day (new flight) day)
       ⊎ (on_day (days_in draft.schedule flight) day ≡ on_day (old flight) day)

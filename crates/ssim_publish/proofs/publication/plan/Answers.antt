@@ -38,3 +38,6 @@ returns-clause-said c = let s = settled c in let draft = s.draft in draft.said
 
 pub returns-clause-differing : goal.returns-clause-differing
 returns-clause-differing c = let s = settled c in let draft = s.draft in draft.differing
+
+pub returns-clause-acting : goal.returns-clause-acting
+returns-clause-acting c = let s = settled c in let draft = s.draft in draft.acting

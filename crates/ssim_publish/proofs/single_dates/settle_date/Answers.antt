@@ -8,6 +8,7 @@ use Rattle.ssim_base.specs.Export.{same_itinerary}
 use Rattle.ssim_base.specs.ItineraryLaws.{exact_itinerary}
 use Rattle.ssim_base.specs.Timetable.{Legs, on_day}
 use Rattle.ssim_schedule.specs.Schedule.{days_in}
+use Rattle.ssim_publish.specs.Acting.{ActEach}
 use Rattle.ssim_publish.specs.Reach.{Leads, Reach}
 use Rattle.ssim_publish.proofs.Settling.{date_acted, itinerary_at, settled_already}
 use Rattle.ssim_publish.proofs.single_dates.settle_date.Goals as goal
@@ -61,8 +62,12 @@ returns-in_ok-act c from to change_is is =
     let leads : Leads rows day actions old new =
     subst (λ said. IfSome said (λ actions. Leads rows day actions.items old new))
     c.in-Some.is c.in_ok-actions.ensures.said in
+    let each : ActEach rows day actions old =
+    subst (λ said. IfSome said (λ actions. ActEach rows day actions.items old))
+    c.in-Some.is c.in_ok-actions.ensures.acting in
     date_acted rows from to c.args.draft.now c.act.new.self actions flight
     c.period_of.result day exists within is c.period_of.ensures other
     (subst (λ (legs : Legs). Leads rows day actions (on_day (from flight) day) legs) new_is
     (subst (λ (legs : Legs). Leads rows day actions legs new) old_is leads))
-    c.in_ok-act.ensures.subs c.in_ok-act.ensures.acts
+    (subst (ActEach rows day actions) old_is each)
+    c.in_ok-act.ensures.subs c.in_ok-act.ensures.acts c.in_ok-act.ensures.as_long
