@@ -499,6 +499,8 @@ def main():
     if not 2 <= len(sys.argv) <= 6:
         sys.exit(__doc__)
     program = os.path.abspath(sys.argv[1])
+    if not os.access(program, os.X_OK):
+        sys.exit(f"{program} is no program")
     count, seed = (int(word) for word in (sys.argv[2:4] + ["200", "1"][len(sys.argv[2:4]) :]))
     only = sys.argv[4] if len(sys.argv) > 4 and sys.argv[4] != "all" else None
     folder = sys.argv[5] if len(sys.argv) > 5 else tempfile.mkdtemp(dir="/dev/shm" if os.path.isdir("/dev/shm") else None)
