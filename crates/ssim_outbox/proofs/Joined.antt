@@ -26,6 +26,7 @@ use Rattle.ssim_desk.specs.Meaning.{Timetable, after_one, after_subs}
 use Rattle.ssim_difference.specs.Differences.{Compared, compared, difference, difference_pieces}
 use Rattle.ssim_difference.specs.Differences.{differences, differing_days, differs, no_difference, same_difference}
 use Rattle.ssim_difference.specs.declared.difference.Difference.{Difference}
+use Rattle.ssim_publish.specs.Acting.{ActOn, ActOnTheirDates}
 use Rattle.ssim_publish.specs.Published.{IsPublished, IsPublishedOn, Leave, NamesDifferences, legs_after}
 use Rattle.ssim_publish.specs.Reach.{IsSaid}
 use Rattle.ssim_publish.specs.declared.planned_sub.PlannedSub.{PlannedSub}
@@ -77,6 +78,7 @@ plan_agrees rows old new plan left after agree is = record {
       subst (IsPublishedOn rows day (on_day (old flight) day) (on_day (new flight) day))
       (agree flight day exists within) (is.published flight day exists within);
   differing = is.differing;
+  acting = is.acting;
 }
 
 -- ---- the dates that differ
@@ -146,8 +148,9 @@ pub plan_of_days : (from to : DeskSeen) (rows : List Row) (old new after : Fligh
     → ((flight : FlightNumber) → IsFlight flight → new flight ≡ days_of_desk to flight)
     → Leave rows plan old after → IsPublished rows old new after → unsaid ≡ differences after new
     → AllByRecursion (λ (sub : PlannedSub). IsSaid sub.action) plan
-    → AllByRecursion (NamesDifferences old new) plan → HasPlan from to plan unsaid
-plan_of_days from to rows old new after plan told unsaid rows_are same exist is_old is_new leave published unsaid_is said differing =
+    → AllByRecursion (NamesDifferences old new) plan → ActOnTheirDates rows plan old
+    → HasPlan from to plan unsaid
+plan_of_days from to rows old new after plan told unsaid rows_are same exist is_old is_new leave published unsaid_is said differing acting =
     let agree = agree_equal old (days_of_desk from) is_old in
     let agree_too = agree_equal new (days_of_desk to) is_new in
     record {
@@ -163,6 +166,9 @@ plan_of_days from to rows old new after plan told unsaid rows_are same exist is_
             (agree_too flight day exists within) (published flight day exists within));
         differing = name_equal old (days_of_desk from) new (days_of_desk to) agree agree_too plan
             (subst (AllByRecursion (λ (sub : PlannedSub). IsFlight sub.flight)) same exist) differing;
+        acting = λ flight day exists within.
+            subst (ActOn rows plan flight day) (agree flight day exists within)
+            (acting flight day exists within);
       });
       said = said;
       unsaid_is = unsaid_is ∙ differences_agree after after new (days_of_desk to) (agree_self after) agree_too;

@@ -18,6 +18,7 @@ use Rattle.ssim_text.specs.declared.reference.Reference.{Reference}
 use Rattle.ssim_held.specs.Entries.{DeskSeen}
 use Rattle.ssim_desk.specs.Desk.{days_of_desk}
 use Rattle.ssim_difference.specs.Differences.{date_count}
+use Rattle.ssim_publish.specs.Acting.{ActOnTheirDates}
 use Rattle.ssim_publish.specs.Published.{IsPublished, Leave, NamesDifferences}
 use Rattle.ssim_publish.specs.Unsaid.{AreUnsaidLines}
 use Rattle.ssim_publish.specs.declared.planned_sub.PlannedSub.{PlannedSub}
@@ -59,12 +60,14 @@ pub record BeginAt (from to : DeskSeen) (word : List ℕ) (heading : MessageValu
 
 -- The sub-messages lead the old timetable towards the new one, and `after` is what they leave. On
 -- each date `after` has the new itinerary if messages can make it, and the old one if not. No
--- sub-message names a date on which its flight does not differ.
+-- sub-message names a date on which its flight does not differ, and each acts on every date that it
+-- names.
 pub record IsPlan (rows : List Row) (old new : FlightNumber → Days) (plan : List PlannedSub)
     (after : FlightNumber → Days) : Type 0 where
   pub leave : Leave rows plan old after
   pub published : IsPublished rows old new after
   pub differing : AllByRecursion (NamesDifferences old new) plan
+  pub acting : ActOnTheirDates rows plan old
 
 -- the sub-messages of a plan, for flights of an airline and with full dates
 abbrev pub subs_of_plan : List ℕ → List PlannedSub → List Sub

@@ -16,8 +16,9 @@
 //!
 //! **Promise.** A desk that holds what the first desk holds takes each published message as new. It
 //! then has on each date what the second desk has, if messages can make it, and else what the first
-//! one has. No sub-message names a date on which its flight does not differ. The lines name each
-//! message, and exactly the dates on which the two desks still differ.
+//! one has. No sub-message names a date on which its flight does not differ, and each acts on every
+//! date that it names. The lines name each message, and exactly the dates on which the two desks
+//! still differ.
 //!
 //! The messages have exactly the given sub-messages, in order. Each is one that a text
 //! can have: at most 250 sub-messages, and at most 65,536 bytes in its canonical text. A message

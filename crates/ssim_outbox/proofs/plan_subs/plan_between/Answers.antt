@@ -15,4 +15,4 @@ returns c =
     (c.rows.ensures ∙ ap (λ (b : BaseSeen). b.rows) c.base.ensures) c.deref.ensures.value c.flights_exist.ensures
     c.in_ok-old.ensures c.in_ok-new.ensures c.in_ok-publication.ensures.leave
     c.in_ok-publication.ensures.published c.in_ok-publication.ensures.unsaid c.in_ok-publication.ensures.said
-    c.in_ok-publication.ensures.differing
+    c.in_ok-publication.ensures.differing c.in_ok-publication.ensures.acting
