@@ -1,0 +1,70 @@
+#!/usr/bin/env python3
+"""Counts the instructions of commands of two programs, whatever else the machine does: counts.py OURS OTHER [FOLDER]
+
+- `tidy` and `check` of one record a date and of weekly strips, and of two legs a flight with segment data: those of a record more, from
+  20,000 and 60,000 records. The shapes are those of `figures.py` and `large.py`.
+- Commands on a desk of 40,000 records and 3,000 texts that change 933 flights (`desks.py` says which texts): whole runs, in millions.
+
+callgrind counts byte by byte where the processor copies or fills a block at once. So `take` has some 25 million instructions that take
+next to no time (the system's names of 3,000 files), and each command eight million for a desk file of 8 MB.
+"""
+import os
+import subprocess
+import sys
+import tempfile
+
+from desks import write_texts
+from figures import COUNTED, HERE, instructions, instructions_a_record
+
+RECORDS, TEXTS = 40_000, 3_000
+SIZES = (20_000, 60_000)
+
+
+def print_row(title, ours, other, unit=1):
+    print(f"| {title} | {ours / unit:,.0f} | {other / unit:,.0f} | {ours / other:.2f} |", flush=True)
+
+
+def large(records, folder):
+    """The name of a data set of two legs a flight, and its records."""
+    name = f"large-{records}.ssim"
+    command = [sys.executable, os.path.join(HERE, "large.py"), str(records), os.path.join(folder, name)]
+    subprocess.run(command, check=True, stdout=subprocess.DEVNULL)
+    return name, os.path.getsize(os.path.join(folder, name)) // 201
+
+
+def count_shapes(programs, folder):
+    for shape in COUNTED:
+        for command in ("tidy", "check"):
+            print_row(f"{shape}: `{command}`, a record", *instructions_a_record(shape, command, programs, folder))
+    (less, few), (more, many) = (large(size, folder) for size in SIZES)
+    for command in ("tidy", "check"):
+        counts = [(instructions(program, [command, more], folder) - instructions(program, [command, less], folder)) / (many - few)
+                  for program in programs]
+        print_row(f"two legs: `{command}`, a record", *counts)
+
+
+def count_desks(programs, folder):
+    base, _ = large(RECORDS, folder)
+    open(os.path.join(folder, "none"), "w").close()
+    texts, designator = write_texts(folder, base, TEXTS)
+    ours = programs[0]
+    for words in (["start", base, "none", "base.desk"], ["take", "base.desk", "texts.desk", *texts]):
+        subprocess.run([ours, *words], cwd=folder, check=True, stdout=subprocess.DEVNULL)
+    for words in (["export", "texts.desk"], ["take", "base.desk", "taken.desk", *texts], ["findings", "texts.desk"],
+                  ["merge", "texts.desk", "base.desk", "merged.desk"], ["show", "texts.desk", designator, "01JUL25"]):
+        print_row(f"`{words[0]}`, millions", *[instructions(program, words, folder) for program in programs], 1_000_000)
+
+
+def main():
+    if len(sys.argv) < 3:
+        sys.exit(__doc__)
+    programs = [os.path.abspath(path) for path in sys.argv[1:3]]
+    folder = os.path.abspath(sys.argv[3]) if len(sys.argv) > 3 else tempfile.mkdtemp()
+    os.makedirs(folder, exist_ok=True)
+    print("| Instructions | ssimdesk | Plain Rust | Ratio |\n|---|---|---|---|")
+    count_shapes(programs, folder)
+    count_desks(programs, folder)
+
+
+if __name__ == "__main__":
+    main()
