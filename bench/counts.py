@@ -1,5 +1,5 @@
 #!/usr/bin/env python3
-"""Counts the instructions of commands of two programs, whatever else the machine does: counts.py OURS OTHER [FOLDER]
+"""Counts the instructions of commands of two programs, also on a busy machine: counts.py OURS OTHER [FOLDER]
 
 - `tidy` and `check` of one record a date and of weekly strips, and of two legs a flight with segment data: those of a record more, from
   20,000 and 60,000 records. The shapes are those of `figures.py` and `large.py`.
