@@ -1,5 +1,5 @@
 -- Parts of lists, inside other parts and one after another.
-use Rattle.std.proofs.Common.{◌≡◌, ℕ, ◌+◌, ◌-◌, ◌≤◌, List, ◌++◌, length, take, drop, refl, sym, ap, ◌∙◌, arith}
+use Rattle.std.proofs.Common.{◌≡◌, ℕ, ◌+◌, ◌-◌, ◌≤◌, List, [], ◌∷◌, ◌++◌, get_or, length, take, drop, refl, sym, ap, ◌∙◌, arith}
 use Rattle.std.specs.Prelude.{slice_range}
 use Rattle.std.proofs.lemmas.List.{take-take, drop-take, drop-drop, take_at, length-take, length-drop, append_cancel_left}
 
@@ -25,3 +25,24 @@ same_back a b x y len e =
 -- a block is as long as it is
 pub front_length : (x : List ℕ) → 200 ≤ length x → length (take 200 x) ≡ 200
 front_length x h = omega (arith, length-take 200 x, h)
+
+-- seven letters, one by one
+abbrev letters : List ℕ → List ℕ
+letters t = get_or t 0 0 ∷ get_or t 1 0 ∷ get_or t 2 0 ∷ get_or t 3 0 ∷ get_or t 4 0 ∷ get_or t 5 0 ∷ get_or t 6 0 ∷ []
+
+seven : (t : List ℕ) → length t ≡ 7 → letters t ≡ t
+seven (a ∷ b ∷ c ∷ d ∷ e ∷ f ∷ g ∷ []) h = refl
+seven [] h = absurd (omega (arith, h))
+seven (a ∷ []) h = absurd (omega (arith, h))
+seven (a ∷ b ∷ []) h = absurd (omega (arith, h))
+seven (a ∷ b ∷ c ∷ []) h = absurd (omega (arith, h))
+seven (a ∷ b ∷ c ∷ d ∷ []) h = absurd (omega (arith, h))
+seven (a ∷ b ∷ c ∷ d ∷ e ∷ []) h = absurd (omega (arith, h))
+seven (a ∷ b ∷ c ∷ d ∷ e ∷ f ∷ []) h = absurd (omega (arith, h))
+seven (a ∷ b ∷ c ∷ d ∷ e ∷ f ∷ g ∷ x ∷ xs) h = absurd (omega (arith, h))
+
+pub three_sevens : (x y z : List ℕ) → length x ≡ 7 → length y ≡ 7 → length z ≡ 7 → letters x ++ (letters y ++ (letters z ++ [])) ≡ x ++ (y ++ (z ++ []))
+three_sevens x y z first second third =
+    ap (λ (t : List ℕ). t ++ (letters y ++ (letters z ++ []))) (seven x first)
+    ∙ ap (λ (t : List ℕ). x ++ (t ++ (letters z ++ []))) (seven y second)
+    ∙ ap (λ (t : List ℕ). x ++ (y ++ (t ++ []))) (seven z third)

@@ -4,7 +4,6 @@ ghost use Rattle.std.specs.Prelude.{◌≡◌};
 ghost use Rattle.std.specs.List.{concat};
 ghost use Rattle.ssim_columns.specs.Leg.{dates_texts, end_text, period_texts};
 
-use crate::text::overwriting::append;
 use ssim_values::{Day, DayMask, Period};
 use std::marker::Model;
 
@@ -22,11 +21,12 @@ pub fn end_text(last: Option<Day>) -> [u8; 7]
 pub fn dates_text(first: Day, last: Option<Day>, days: DayMask) -> [u8; 21]
     ensures { result ≡ concat (dates_texts first last days) }
 {
-    let mut text = [b' '; 21];
-    let at = append(&mut text, 0, &first.write());
-    let at = append(&mut text, at, &end_text(last));
-    append(&mut text, at, &days.write());
-    text
+    let [f1, f2, f3, f4, f5, f6, f7] = first.write();
+    let [l1, l2, l3, l4, l5, l6, l7] = end_text(last);
+    let [d1, d2, d3, d4, d5, d6, d7] = days.write();
+    [
+        f1, f2, f3, f4, f5, f6, f7, l1, l2, l3, l4, l5, l6, l7, d1, d2, d3, d4, d5, d6, d7,
+    ]
 }
 
 /// A period with its text: columns 15 to 35 of the leg records that have it.
