@@ -21,7 +21,7 @@ pub(crate) mod time_mode;
 use crate::field::end_code::end_code_of;
 use crate::field::time_mode::time_mode_of;
 use crate::text::array::{bytes_of, seven};
-use crate::text::equality::are_same_seven;
+use crate::text::equality::are_same_by_fours;
 use crate::text::number::{digits_of, number_of, sequence_of};
 use ssim_values::{Airline, Clock, Day, DayMask, Station, Variation};
 
@@ -235,7 +235,7 @@ pub(crate) fn end_from(start: Day, text: &[u8], day: Option<Day>) -> Option<Opti
     requires day { day ≡ day_of text.now }
     ensures { result ≡ end_from (Some start) text.now }
 {
-    if are_same_seven(seven(text), *b"00XXX00") {
+    if are_same_by_fours(text, b"00XXX00") {
         return Some(None);
     }
     match day {

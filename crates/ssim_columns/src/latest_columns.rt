@@ -18,8 +18,7 @@ use crate::leg::leg_name::{
     AirlineFlight, FlightLeg, LegName, name_with, read_flight, read_flight_leg,
 };
 use crate::repeated::{InColumns, Repeated};
-use crate::text::array::seven;
-use crate::text::equality::are_same_seven;
+use crate::text::equality::are_same_by_fours;
 use crate::text::number::digits_of;
 use ssim_values::{Day, DayMask};
 
@@ -141,7 +140,7 @@ fn day_after(months: &mut LatestMonths, first: Day, first_text: &[u8], text: &[u
     requires len { length text.now ≡ 7 }
     ensures { result ≡ day_of text.now }
 {
-    if are_same_seven(seven(text), seven(first_text)) {
+    if are_same_by_fours(text, first_text) {
         return Some(first);
     }
     months.day_of(text)

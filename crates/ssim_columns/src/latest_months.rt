@@ -51,14 +51,14 @@ impl Month {
     // The date that a text spells, if it is one of the first 28 days of this month. Each month has
     // these days.
     #[inline(always)]
-    fn day_in(&self, text: [u8; 7]) -> Option<Day>
-        ensures { IfSome result (λ day. day_of text ≡ Some day) }
+    fn day_in(&self, text: &[u8]) -> Option<Day>
+        requires { length text.now ≡ 7 }
+        ensures { IfSome result (λ day. day_of text.now ≡ Some day) }
     {
-        let [tens, units, m1, m2, m3, y1, y2] = text;
-        if !are_same_four(&[m1, m2, m3, y1], &self.name) || y2 != self.year {
+        if !are_same_four(&text[2..6], &self.name) || text[6] != self.year {
             return None;
         }
-        let in_month = read_two_digits(tens, units)?;
+        let in_month = read_two_digits(text[0], text[1])?;
         if in_month == 0 || in_month > 28 {
             return None;
         }
@@ -99,7 +99,7 @@ impl LatestMonths {
         requires { length text.now ≡ 7 }
         ensures { result ≡ day_of text.now }
     {
-        if let Some(day) = self.months[slot_of(text)].day_in(seven(text)) {
+        if let Some(day) = self.months[slot_of(text)].day_in(text) {
             return Some(day);
         }
         self.other_day_of(text)

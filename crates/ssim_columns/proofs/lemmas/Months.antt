@@ -1,6 +1,7 @@
 -- A date's month is that of each of its first 28 days: their texts differ in the digits of the day
 -- alone, and their numbers follow one another.
 use Rattle.std.proofs.Common.{◌≡◌, ℕ, ◌+◌, ◌-◌, ◌/◌, ◌%◌, ◌<◌, ◌≤◌, List, [], ◌∷◌, ◌++◌, length, slice_index_or, refl, sym, ap, ◌∙◌, arith, lit<, lit≤, Some}
+use Rattle.std.specs.Prelude.{slice_range}
 use Rattle.ssim_values.specs.Calendar.{IsDate, day_number, leap_years, month_length, months_length}
 use Rattle.ssim_values.specs.Characters.{two_digits, two_digits_of}
 use Rattle.ssim_values.specs.Day.{day_of, month_named}
@@ -87,7 +88,7 @@ month_of_day (a ∷ b ∷ e ∷ f ∷ g ∷ []) d k low spelled read = absurd cc
 month_of_day (a ∷ b ∷ e ∷ f ∷ g ∷ h ∷ []) d k low spelled read = absurd cc
 month_of_day (a ∷ b ∷ e ∷ f ∷ g ∷ h ∷ i ∷ j ∷ xs) d k low spelled read = absurd cc
 
-pub day_in_month : (t name : List ℕ) (year first d : ℕ) → length t ≡ 7 → two_digits d ≡ slice_index_or t 0 0 ∷ slice_index_or t 1 0 ∷ [] → slice_index_or t 2 0 ∷ slice_index_or t 3 0 ∷ slice_index_or t 4 0 ∷ slice_index_or t 5 0 ∷ [] ≡ name → slice_index_or t 6 0 ≡ year → IsMonth name year first → 1 ≤ d → d ≤ 28 → day_of t ≡ Some (first + (d - 1))
+pub day_in_month : (t name : List ℕ) (year first d : ℕ) → length t ≡ 7 → two_digits d ≡ slice_index_or t 0 0 ∷ slice_index_or t 1 0 ∷ [] → slice_range t 2 6 ≡ name → slice_index_or t 6 0 ≡ year → IsMonth name year first → 1 ≤ d → d ≤ 28 → day_of t ≡ Some (first + (d - 1))
 day_in_month (d₁ ∷ d₂ ∷ m₁ ∷ m₂ ∷ m₃ ∷ y₁ ∷ y₂ ∷ []) name year first d len spelled named in_year is low high =
     let whole : two_digits d ++ (name ++ year ∷ []) ≡ d₁ ∷ d₂ ∷ m₁ ∷ m₂ ∷ m₃ ∷ y₁ ∷ y₂ ∷ [] =
     ap (λ (x : List ℕ). x ++ (name ++ year ∷ [])) spelled

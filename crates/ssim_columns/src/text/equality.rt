@@ -1,6 +1,6 @@
 //! Short texts that are compared as numbers, in place of a walk over slices.
 
-ghost use Rattle.std.specs.Prelude.{◌≡◌, ◌≤◌, ◌↔◌, ◌++◌, ◌∷◌, [], IsTrue, length};
+ghost use Rattle.std.specs.Prelude.{◌≡◌, ◌≤◌, ◌↔◌, IsTrue, length};
 ghost use Rattle.std.specs.Str.{bytes_eq};
 
 use crate::text::array::bytes_of;
@@ -9,7 +9,7 @@ use crate::text::array::bytes_of;
 pub(crate) fn are_same_four(text: &[u8], other: &[u8]) -> bool
     requires text { length text.now ≡ 4 }
     requires other { length other.now ≡ 4 }
-    ensures { IsTrue result → text.now ≡ other.now }
+    ensures { IsTrue result ↔ (text.now ≡ other.now) }
 {
     u32::from_le_bytes(bytes_of::<4>(text)) == u32::from_le_bytes(bytes_of::<4>(other))
 }
@@ -22,19 +22,25 @@ pub(crate) fn are_same(text: &[u8], other: &[u8; 8]) -> bool
     u64::from_le_bytes(bytes_of::<8>(text)) == u64::from_le_bytes(*other)
 }
 
-// Seven bytes and a zero.
-fn with_zero(text: [u8; 7]) -> [u8; 8]
-    ensures { result ≡ text ++ 0 ∷ [] }
+/// Whether two texts of one length, of four to eight bytes, are the same: the first four bytes and
+/// the last four, which overlap if there are fewer than eight.
+#[inline(always)]
+pub(crate) fn are_same_by_fours(text: &[u8], other: &[u8]) -> bool
+    requires from { 4 ≤ length text.now }
+    requires to { length text.now ≤ 8 }
+    requires same_length { length other.now ≡ length text.now }
+    ensures { result ≡ bytes_eq text.now other.now }
 {
-    let [a, b, c, d, e, f, g] = text;
-    [a, b, c, d, e, f, g, 0]
+    let last = text.len() - 4;
+    are_same_four(&text[0..4], &other[0..4])
+        && are_same_four(&text[last..last + 4], &other[last..last + 4])
 }
 
 /// Whether seven bytes are these.
 pub fn are_same_seven(text: [u8; 7], other: [u8; 7]) -> bool
     ensures { result ≡ bytes_eq text other }
 {
-    are_same(&with_zero(text), &with_zero(other))
+    are_same_by_fours(&text, &other)
 }
 
 /// Whether `N` bytes are these. Four, and eight or more, are compared as numbers.
