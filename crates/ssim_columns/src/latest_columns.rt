@@ -7,16 +7,14 @@ ghost use Rattle.ssim_values.specs.DayMask.{days_of};
 ghost use Rattle.ssim_columns.specs.Columns.{columns};
 ghost use Rattle.ssim_columns.specs.Leg.{IsName, SpellsName};
 ghost use Rattle.ssim_columns.specs.internal.LatestColumns.{SpellsDates, SpellsEnds};
-ghost use Rattle.ssim_columns.specs.internal.LatestColumns.{SpellsFlight, SpellsFlightLeg};
+ghost use Rattle.ssim_columns.specs.internal.LatestColumns.{SpellsFlight};
 ghost use Rattle.ssim_columns.specs.internal.LatestColumns.{SpellsSerialFront};
 ghost use Rattle.ssim_columns.specs.Numbers.{digits_of};
 
 use crate::field::{Field, Kind, days_of, end_from};
 use crate::latest_months::LatestMonths;
 use crate::leg::leg_fields::{DATES, DAYS, FIRST_DAY, LAST_DAY};
-use crate::leg::leg_name::{
-    AirlineFlight, FlightLeg, LegName, name_with, read_flight, read_flight_leg,
-};
+use crate::leg::leg_name::{AirlineFlight, LegName, name_with, read_flight, read_flight_leg};
 use crate::repeated::{InColumns, Repeated};
 use crate::text::equality::are_same_by_fours;
 use crate::text::number::digits_of;
@@ -24,8 +22,6 @@ use ssim_values::{Day, DayMask};
 
 /// Columns 2 to 9: the flight of an airline.
 const FLIGHT: Field = field!(2 9 Carried);
-/// Columns 10 to 13: the leg of a flight.
-const FLIGHT_LEG: Field = field!(10 13 Carried);
 /// Columns 28 to 35: a column of the end of the period, and the days of operation. Seven columns
 /// are compared with one beside them, as eight bytes.
 const WITH_DAYS: Field = field!(28 35 Carried);
@@ -67,20 +63,6 @@ impl InColumns<8> for AirlineFlight {
 
     fn read(bytes: &[u8; 200], _months: &mut LatestMonths) -> Option<AirlineFlight> {
         read_flight(bytes)
-    }
-}
-
-impl InColumns<4> for FlightLeg {
-    ghost columns_in = { λ bytes. columns 10 13 bytes };
-
-    ghost Spells = { λ leg bytes. SpellsFlightLeg leg bytes };
-
-    fn columns(bytes: &[u8; 200]) -> &[u8] {
-        FLIGHT_LEG.text(bytes)
-    }
-
-    fn read(bytes: &[u8; 200], _months: &mut LatestMonths) -> Option<FlightLeg> {
-        read_flight_leg(bytes)
     }
 }
 
@@ -146,12 +128,11 @@ fn day_after(months: &mut LatestMonths, first: Day, first_text: &[u8], text: &[u
     months.day_of(text)
 }
 
-/// The latest flight, its latest leg, the latest ends of a period, the latest days of operation and
-/// the first digits of the latest serial of the records so far, and the months of the latest dates.
+/// The latest flight, the latest ends of a period, the latest days of operation and the first digits
+/// of the latest serial of the records so far, and the months of the latest dates.
 #[derive(Drop)]
 pub struct LatestColumns {
     flight: Repeated<8, AirlineFlight>,
-    leg: Repeated<4, FlightLeg>,
     ends: Repeated<14, LegEnds>,
     days: Repeated<8, DayMask>,
     serial: Repeated<4, SerialFront>,
@@ -162,7 +143,6 @@ impl LatestColumns {
     pub fn new() -> LatestColumns {
         LatestColumns {
             flight: Repeated::new(),
-            leg: Repeated::new(),
             ends: Repeated::new(),
             days: Repeated::new(),
             serial: Repeated::new(),
@@ -170,15 +150,14 @@ impl LatestColumns {
         }
     }
 
-    /// The name in columns 2 to 13, if they spell one. A segment mostly has the leg of the record
-    /// before it.
+    /// The name in columns 2 to 13, if they spell one.
     #[inline(always)]
     pub(crate) fn name_in(&mut self, bytes: &[u8; 200]) -> Option<LegName>
         ensures spells { IfSome result (λ name. SpellsName name bytes.now) }
         ensures is_name { IfSome result (λ name. IsName name) }
     {
         let named = self.flight.value_in(bytes, &mut self.months)?;
-        let leg = self.leg.value_in(bytes, &mut self.months)?;
+        let leg = read_flight_leg(bytes)?;
         Some(name_with(bytes, named, leg))
     }
 

@@ -1,5 +1,5 @@
--- Records with the same bytes in columns that are parsed have the same flight, the same leg of it,
--- the same ends of a period, the same days, and the same first digits of the serial.
+-- Records with the same bytes in columns that are parsed have the same flight, the same ends of a
+-- period, the same days, and the same first digits of the serial.
 use Rattle.std.proofs.Common.{◌≡◌, ℕ, Bool, ◌+◌, ◌≤◌, List, sym, ap, ◌∙◌, lit≤}
 use Rattle.std.specs.Prelude.{slice_range, Option, Some, None, IfSome}
 use Rattle.ssim_values.specs.Day.{day_of}
@@ -7,10 +7,9 @@ use Rattle.ssim_values.specs.DayMask.{days_of}
 use Rattle.ssim_columns.specs.declared.latest_columns.LegEnds.{LegEnds}
 use Rattle.ssim_columns.specs.declared.latest_columns.SerialFront.{SerialFront}
 use Rattle.ssim_columns.specs.declared.leg.leg_name.AirlineFlight.{AirlineFlight}
-use Rattle.ssim_columns.specs.declared.leg.leg_name.FlightLeg.{FlightLeg}
 use Rattle.ssim_columns.specs.Columns.{columns, end_from}
-use Rattle.ssim_columns.specs.internal.LatestColumns.{SpellsEnds, SpellsFlight, SpellsFlightLeg, SpellsSerialFront}
-use Rattle.ssim_columns.specs.Numbers.{digits_of, number_of, sequence_of}
+use Rattle.ssim_columns.specs.internal.LatestColumns.{SpellsEnds, SpellsFlight, SpellsSerialFront}
+use Rattle.ssim_columns.specs.Numbers.{digits_of, number_of}
 use Rattle.ssim_columns.proofs.lemmas.Slices.{slice_in}
 
 same_part : (a b : List ℕ) (from to i j : ℕ) → slice_range b from to ≡ slice_range a from to → i ≤ j → from + j ≤ to → slice_range b (from + i) (from + j) ≡ slice_range a (from + i) (from + j)
@@ -21,15 +20,6 @@ same_flight f a b e s = record {
   suffix = same_part a b 1 9 0 1 e (lit≤ tt) (lit≤ tt) ∙ s.suffix;
   airline = same_part a b 1 9 1 4 e (lit≤ tt) (lit≤ tt) ∙ s.airline;
   number = ap number_of (same_part a b 1 9 4 8 e (lit≤ tt) (lit≤ tt)) ∙ s.number;
-}
-
-pub same_flight_leg : (l : FlightLeg) (a b : List ℕ) → columns 10 13 b ≡ columns 10 13 a → SpellsFlightLeg l a → SpellsFlightLeg l b
-same_flight_leg l a b e s = record {
-  variation = ap number_of (same_part a b 9 13 0 2 e (lit≤ tt) (lit≤ tt)) ∙ s.variation;
-  sequence = ap sequence_of (same_part a b 9 13 2 4 e (lit≤ tt) (lit≤ tt)) ∙ s.sequence;
-  variation_to = s.variation_to;
-  sequence_from = s.sequence_from;
-  sequence_to = s.sequence_to;
 }
 
 pub same_ends : (l : LegEnds) (a b : List ℕ) → columns 15 28 b ≡ columns 15 28 a → SpellsEnds l a → SpellsEnds l b
