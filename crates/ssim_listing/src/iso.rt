@@ -1,43 +1,20 @@
 //! Dates and times for spreadsheets.
 
-ghost use Rattle.std.specs.Prelude.{◌≡◌, ◌≢◌, ◌≤◌, ℕ, IfNone, IfSome, length};
-ghost use Rattle.ssim_values.specs.Day.{month_name};
+ghost use Rattle.std.specs.Prelude.{◌≡◌, length};
 ghost use Rattle.ssim_listing.specs.Rows.{colon, iso_date, iso_time};
 
-use ssim_values::{Day, write_two_digits};
+use ssim_values::{Day, read_month, write_two_digits};
 
 /// A date as in `2027-03-28`.
 pub(crate) fn iso_date(day: Day) -> [u8; 10]
     ensures { result ≡ iso_date day }
 {
     let [d1, d2, m1, m2, m3, y1, y2] = day.write();
-    let Some(month) = month_of([m1, m2, m3]) else {
+    let Some(month) = read_month([m1, m2, m3]) else {
         unreachable!();
     };
     let [n1, n2] = write_two_digits(month);
     [b'2', b'0', y1, y2, b'-', n1, n2, b'-', d1, d2]
-}
-
-// The number of the month with this name.
-fn month_of(name: [u8; 3]) -> Option<u8>
-    ensures some { IfSome result (λ m. (1 ≤ m) × (m ≤ 12) × (month_name m ≡ name)) }
-    ensures none { IfNone result ((m : ℕ) → 1 ≤ m → m ≤ 12 → month_name m ≢ name) }
-{
-    match &name {
-        b"JAN" => Some(1),
-        b"FEB" => Some(2),
-        b"MAR" => Some(3),
-        b"APR" => Some(4),
-        b"MAY" => Some(5),
-        b"JUN" => Some(6),
-        b"JUL" => Some(7),
-        b"AUG" => Some(8),
-        b"SEP" => Some(9),
-        b"OCT" => Some(10),
-        b"NOV" => Some(11),
-        b"DEC" => Some(12),
-        _ => None,
-    }
 }
 
 /// A time as in `17:30`, of four characters without the colon. A blank time stays blank.
