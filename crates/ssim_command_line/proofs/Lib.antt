@@ -2,6 +2,6 @@ pub mod Words
 pub mod Levels
 pub mod Right
 pub mod TextWords
-pub mod TextForms
+pub mod Forms
 pub mod Lines
 pub mod Rows

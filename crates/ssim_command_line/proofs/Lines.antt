@@ -1,10 +1,10 @@
 -- A command line is taken, and the matches name it again: the names of the commands by computation,
 -- their values as variables.
 use Rattle.std.proofs.Common.{◌≡◌, ◌∙◌, inl, inr, Bool, true, false, refl, ap, ap₂, List, [], ◌∷◌, Option, Some}
-use Rattle.std.proofs.Common.{None, ℕ, ◌++◌, codes, sym, true≢false, subst}
-use Rattle.std.specs.List.{find, fold, list_all}
+use Rattle.std.proofs.Common.{None, ◌++◌, codes, sym, true≢false, subst}
+use Rattle.std.specs.List.{find, list_all}
 use Rattle.std.specs.Prelude.{Box, is_some, option_map, unwrap_or}
-use Rattle.clap.specs.Walk.{Held, Row, Walk, answers_to, idle, nothing_held, rows_after, walk_from}
+use Rattle.clap.specs.Walk.{Row, answers_to, nothing_held, rows_after, walk_from}
 use Rattle.clap.specs.Walk.{walked}
 use Rattle.clap.specs.Simple.{Shape, label_of, names_of, subcommand_of}
 use Rattle.clap.specs.Takes.{takes, turn_passes}
@@ -21,7 +21,6 @@ use Rattle.clap.specs.declared.parser.matches.ArgMatches.TheViews.{out-ArgMatche
 use Rattle.clap.specs.declared.parser.matches.SubCommand.{SubCommand}
 use Rattle.std.specs.Box.{box_value}
 use Rattle.clap.proofs.OnLiterals.{clap_on_literals}
-use Rattle.clap.proofs.WalkLemmas.{both}
 use Rattle.ssim_command_line.specs.Line.{Line, Spells, Text, is_plain, is_whole, name_of, values_of}
 use Rattle.ssim_command_line.specs.Line.{Check, Tidy, Start, Take, Receive, Merge, Texts, Withdraw}
 use Rattle.ssim_command_line.specs.Line.{Show}
@@ -31,26 +30,13 @@ use Rattle.ssim_command_line.specs.Line.{Diff, Listing, Publish, form_words}
 use Rattle.ssim_command_line.specs.Commands.{whole_program, leaf, one_value, one_value_and_texts}
 use Rattle.ssim_command_line.specs.Commands.{one_value_and_texts_in_form, three_values, two_values, two_values_and_texts}
 use Rattle.ssim_command_line.specs.Commands.{four_values, two_values_and_texts_or_refused}
-use Rattle.ssim_command_line.specs.Request.{line_at, with_flights, with_form, with_one, with_refused}
-use Rattle.ssim_command_line.specs.Request.{with_texts}
-use Rattle.ssim_command_line.specs.Request.{with_four, with_three, with_two}
+use Rattle.ssim_command_line.specs.Request.{line_at}
 use Rattle.ssim_command_line.specs.Usage.{IsNoCommand, Names}
-use Rattle.ssim_command_line.proofs.Words.{Looks, at, looks}
-use Rattle.ssim_command_line.proofs.Levels.{enters, one_level, one_rows, ready, simple, takes_words}
-use Rattle.ssim_command_line.proofs.Levels.{four_level, four_rows}
-use Rattle.ssim_command_line.proofs.Levels.{three_level, three_rows, top_rules, two_level, two_rows}
-use Rattle.ssim_command_line.proofs.Levels.{whole}
-use Rattle.ssim_command_line.proofs.Right.{four_right, one_right, three_right, two_right, words_right}
-use Rattle.ssim_command_line.proofs.TextForms.{EndsAs, Leads, any_more, any_none, any_one, any_takes}
-use Rattle.ssim_command_line.proofs.TextForms.{any_value, form_level, form_read, form_right, hf, ht}
-use Rattle.ssim_command_line.proofs.TextForms.{kt}
-use Rattle.ssim_command_line.proofs.TextForms.{hr, kr, sr, receive_first, receive_more, receive_one}
-use Rattle.ssim_command_line.proofs.TextForms.{receive_second, receive_takes}
-use Rattle.ssim_command_line.proofs.TextForms.{hl, list_more, list_none, list_one, list_takes, list_value}
-use Rattle.ssim_command_line.proofs.TextForms.{plain_form, sl}
-use Rattle.ssim_command_line.proofs.TextForms.{one_leads, several_first, several_more, several_one}
-use Rattle.ssim_command_line.proofs.TextForms.{several_second, several_takes, sf, st, two_leads}
-use Rattle.ssim_command_line.proofs.TextWords.{TakesTexts, ends}
+use Rattle.ssim_command_line.proofs.Levels.{enters, ready, simple, takes_words, top_rules, whole}
+use Rattle.ssim_command_line.proofs.Right.{words_right}
+use Rattle.ssim_command_line.proofs.Forms.{IsRead, four_form, list_none_form, list_some_form}
+use Rattle.ssim_command_line.proofs.Forms.{none_form, one_form, plain_form, receive_form, several_form}
+use Rattle.ssim_command_line.proofs.Forms.{some_form, texts_read, three_form, two_form, values_read}
 
 -- the words are taken without a fault, and name the row
 pub record Answers (words : List Text) (line : Line) : Type 0 where
@@ -151,181 +137,22 @@ explain_is : IsNamed (codes "explain") (ready (leaf (codes "explain") one_value)
 unfolding clap_on_literals
 explain_is = record { met = refl; fits = refl; right = refl; found = refl }
 
--- a command with one value
-one_answers : (line : Line) (name a : Text) (make : Text → Line) → line ≡ make a → name_of line ≡ name → IsNamed name (ready (leaf name one_value)) → Looks a
-    → ((rows : List Row) → line_at name rows ≡ with_one make rows) → (program : Text) → Answers (program ∷ name ∷ a ∷ []) line
-one_answers line name a make is named n la reads program =
-    let s = ready (leaf name one_value) in
-    let rows = rows_after s.rules [] (a ∷ []) in
-    record {
-      taken = takes_words name (a ∷ []) s n.met n.fits n.found program (one_level name a la);
-      right = words_right name (a ∷ []) s n.met n.right n.fits n.found program (one_right name a la);
-      rows = rows;
-      named = enters name (a ∷ []) s n.met n.fits n.found program ∙ ap (λ (x : Text). Some (x, rows)) (sym named);
-      made = ap (λ (x : Text). line_at x rows) named ∙ (reads rows ∙ (ap (with_one make) (one_rows name a la) ∙ ap Some (sym is)));
-    }
-
--- a command with two values
-two_answers : (line : Line) (name a b : Text) (make : Text → Text → Line) → line ≡ make a b
-    → name_of line ≡ name → IsNamed name (ready (leaf name two_values)) → Looks a → Looks b
-    → ((rows : List Row) → line_at name rows ≡ with_two make rows) → (program : Text)
-    → Answers (program ∷ name ∷ a ∷ b ∷ []) line
-two_answers line name a b make is named n la lb reads program =
-    let s = ready (leaf name two_values) in
-    let values = a ∷ b ∷ [] in
-    let rows = rows_after s.rules [] values in
-    let entered = enters name values s n.met n.fits n.found program in
-    let read = ap (with_two make) (two_rows name a b la lb) in
-    let level = two_level name a b la lb in
-    let faultless = two_right name a b la lb in
-    record {
-      taken = takes_words name values s n.met n.fits n.found program level;
-      right = words_right name values s n.met n.right n.fits n.found program faultless;
-      rows = rows;
-      named = entered ∙ ap (λ (x : Text). Some (x, rows)) (sym named);
-      made = ap (λ (x : Text). line_at x rows) named ∙ (reads rows ∙ (read ∙ ap Some (sym is)));
-    }
-
--- a command with three values
-three_answers : (line : Line) (name a b d : Text) (make : Text → Text → Text → Line) → line ≡ make a b d → name_of line ≡ name → IsNamed name (ready (leaf name three_values))
-    → Looks a → Looks b → Looks d → ((rows : List Row) → line_at name rows ≡ with_three make rows) → (program : Text) → Answers (program ∷ name ∷ a ∷ b ∷ d ∷ []) line
-three_answers line name a b d make is named n la lb ld reads program =
-    let s = ready (leaf name three_values) in
-    let rows = rows_after s.rules [] (a ∷ b ∷ d ∷ []) in
-    record {
-      taken = takes_words name (a ∷ b ∷ d ∷ []) s n.met n.fits n.found program (three_level name a b d la lb ld);
-      right = words_right name (a ∷ b ∷ d ∷ []) s n.met n.right n.fits n.found program (three_right name a b d la lb ld);
-      rows = rows;
-      named = enters name (a ∷ b ∷ d ∷ []) s n.met n.fits n.found program ∙ ap (λ (x : Text). Some (x, rows)) (sym named);
-      made = ap (λ (x : Text). line_at x rows) named ∙ (reads rows ∙ (ap (with_three make) (three_rows name a b d la lb ld) ∙ ap Some (sym is)));
-    }
-
--- a command with four values
-four_answers : (line : Line) (name a b d e : Text) (make : Text → Text → Text → Text → Line)
-    → line ≡ make a b d e → name_of line ≡ name → IsNamed name (ready (leaf name four_values))
-    → Looks a → Looks b → Looks d → Looks e
-    → ((rows : List Row) → line_at name rows ≡ with_four make rows) → (program : Text)
-    → Answers (program ∷ name ∷ a ∷ b ∷ d ∷ e ∷ []) line
-four_answers line name a b d e make is named n la lb ld le reads program =
-    let s = ready (leaf name four_values) in
-    let values = a ∷ b ∷ d ∷ e ∷ [] in
-    let rows = rows_after s.rules [] values in
-    let entered = enters name values s n.met n.fits n.found program in
-    let read = ap (with_four make) (four_rows name a b d e la lb ld le) in
-    let level = four_level name a b d e la lb ld le in
-    let faultless = four_right name a b d e la lb ld le in
-    record {
-      taken = takes_words name values s n.met n.fits n.found program level;
-      right = words_right name values s n.met n.right n.fits n.found program faultless;
-      rows = rows;
-      named = entered ∙ ap (λ (x : Text). Some (x, rows)) (sym named);
-      made = ap (λ (x : Text). line_at x rows) named ∙ (reads rows ∙ (read ∙ ap Some (sym is)));
-    }
-
--- values and then texts
-texts_answers : (line : Line) (name : Text) (s : Shape) (values : List Text) (k : ℕ) (h : Held)
-    (texts : List Text) (read : List Row → Option Line) → name_of line ≡ name → s.name ≡ name
-    → IsNamed name s → Leads s values k h → TakesTexts s k h → list_all is_plain texts ≡ true
-    → EndsAs s read line (fold (walked s.rules []) (at h idle k) texts)
-    → ((rows : List Row) → line_at name rows ≡ read rows) → (program : Text)
-    → Answers (program ∷ name ∷ values ++ texts) line
-texts_answers line name s values k h texts read named label n leads taken plain end reads program =
-    let words = values ++ texts in
+-- the words of a command, which is named so and reads them as the line
+answers : {s : Shape} {words : List Text} {read : List Row → Option Line} (line : Line)
+    → s.name ≡ name_of line → IsNamed (name_of line) s → IsRead s words read line
+    → ((rows : List Row) → line_at (name_of line) rows ≡ read rows) → (program : Text)
+    → Answers (program ∷ name_of line ∷ words) line
+answers {s} {words} {read} line label n is reads program =
+    let name = name_of line in
     let rows = rows_after s.rules [] words in
     let entered = enters name words s n.met n.fits n.found program in
-    let level = form_level s values k h leads taken texts plain read line end in
-    let faultless = form_right s values k h leads taken texts plain read line end in
-    let has = form_read s values k h leads taken texts plain read line end in
     record {
-      taken = takes_words name words s n.met n.fits n.found program level;
-      right = words_right name words s n.met n.right n.fits n.found program faultless;
+      taken = takes_words name words s n.met n.fits n.found program is.passes;
+      right = words_right name words s n.met n.right n.fits n.found program is.right;
       rows = rows;
-      named = entered ∙ ap (λ (x : Text). Some (x, rows)) (label ∙ sym named);
-      made = ap (λ (x : Text). line_at x rows) named ∙ (reads rows ∙ has);
+      named = entered ∙ ap (λ (x : Text). Some (x, rows)) label;
+      made = reads rows ∙ is.made;
     }
-
--- two values and one text or more
-several_answers : (name a b t : Text) (rest : List Text) (make : Text → Text → List Text → Line)
-    → name_of (make a b (t ∷ rest)) ≡ name → IsNamed name (st name a b)
-    → list_all is_plain (a ∷ b ∷ t ∷ rest) ≡ true
-    → ((rows : List Row) → line_at name rows ≡ with_texts make rows) → (program : Text)
-    → Answers (program ∷ name ∷ a ∷ b ∷ t ∷ rest) (make a b (t ∷ rest))
-several_answers name a b t rest make named n plain reads program =
-    let p = both _ _ plain in let q = both _ _ p.1 in let r = both _ _ q.1 in
-    let s = st name a b in
-    let h = ht name a b in
-    let k = kt name a b in
-    let first = several_first name a b in
-    let second = several_second name a b in
-    let lead = two_leads s a b 2 3 h k (looks a p.0) (looks b q.0) first second in
-    let kept = several_takes name a b in
-    let read = with_texts make in
-    let end = ends s 3 k kept (λ (ts : List Text) (w : Walk). EndsAs s read (make a b ts) w)
-    (several_one name a b make) (several_more name a b make) t rest (looks t r.0) r.1 in
-    texts_answers (make a b (t ∷ rest)) name s (a ∷ b ∷ []) 3 k (t ∷ rest) read named refl n lead
-    kept q.1 end reads program
-
--- the same for `receive`, without its option
-receive_answers : (a b t : Text) (rest : List Text) → list_all is_plain (a ∷ b ∷ t ∷ rest) ≡ true
-    → (program : Text)
-    → Answers (program ∷ codes "receive" ∷ a ∷ b ∷ t ∷ rest) (Receive None a b (t ∷ rest))
-receive_answers a b t rest plain program =
-    let p = both _ _ plain in let q = both _ _ p.1 in let r = both _ _ q.1 in
-    let h = hr a b in
-    let k = kr a b in
-    let first = receive_first a b in
-    let second = receive_second a b in
-    let lead = two_leads sr a b 2 3 h k (looks a p.0) (looks b q.0) first second in
-    let kept = receive_takes a b in
-    let line = λ (ts : List Text). Receive None a b ts in
-    let end = ends sr 3 k kept (λ (ts : List Text) (w : Walk). EndsAs sr with_refused (line ts) w)
-    (receive_one a b) (receive_more a b) t rest (looks t r.0) r.1 in
-    texts_answers (line (t ∷ rest)) (codes "receive") sr (a ∷ b ∷ []) 3 k (t ∷ rest) with_refused refl
-    refl receive_is lead kept q.1 end (λ rows. refl) program
-
--- one value and any number of flights
-flights_answers : (a : Text) (rest : List Text) → list_all is_plain (a ∷ rest) ≡ true
-    → (program : Text) → Answers (program ∷ codes "texts" ∷ a ∷ rest) (Texts a rest)
-flights_answers a rest plain program =
-    let p = both _ _ plain in
-    let name = codes "texts" in
-    let s = sf name a in
-    let h = hf name a in
-    let lead = one_leads s a 2 h (looks a p.0) (any_value name a) in
-    let kept = any_takes name a in
-    texts_answers (Texts a rest) name s (a ∷ []) 2 h rest with_flights refl refl texts_is lead kept p.1
-    (end rest p.1) (λ rows. refl) program
-  where
-    end : (ts : List Text) → list_all is_plain ts ≡ true
-        → EndsAs (sf (codes "texts") a) with_flights (Texts a ts)
-        (fold (walked (sf (codes "texts") a).rules []) (at (hf (codes "texts") a) idle 2) ts)
-    end [] e = any_none (codes "texts") a
-    end (t ∷ ts) e =
-        let p = both _ _ e in
-        let name = codes "texts" in
-        ends (sf name a) 2 (hf name a) (any_takes name a)
-        (λ (us : List Text) (w : Walk). EndsAs (sf name a) with_flights (Texts a us) w)
-        (any_one name a) (any_more name a) t ts (looks t p.0) p.1
-
--- the same for `list`, without its options
-plain_list_answers : (a : Text) (rest : List Text) → list_all is_plain (a ∷ rest) ≡ true
-    → (program : Text) → Answers (program ∷ codes "list" ∷ a ∷ rest) (Listing plain_form a rest)
-plain_list_answers a rest plain program =
-    let p = both _ _ plain in
-    let h = hl a in
-    let lead = one_leads sl a 2 h (looks a p.0) (list_value a) in
-    let kept = list_takes a in
-    texts_answers (Listing plain_form a rest) (codes "list") sl (a ∷ []) 2 h rest with_form refl refl list_is
-    lead kept p.1 (end rest p.1) (λ rows. refl) program
-  where
-    end : (ts : List Text) → list_all is_plain ts ≡ true
-        → EndsAs sl with_form (Listing plain_form a ts) (fold (walked sl.rules []) (at (hl a) idle 2) ts)
-    end [] e = list_none a
-    end (t ∷ ts) e =
-        let p = both _ _ e in
-        ends sl 2 (hl a) (list_takes a)
-        (λ (us : List Text) (w : Walk). EndsAs sl with_form (Listing plain_form a us) w)
-        (list_one a) (list_more a) t ts (looks t p.0) p.1
 
 list_answers : (csv dates : Bool) (a : Text) (rest : List Text)
     → list_all is_plain (form_words (record { csv = csv; dates = dates }) ++ a ∷ rest) ≡ true → (program : Text)
@@ -333,76 +160,81 @@ list_answers : (csv dates : Bool) (a : Text) (rest : List Text)
     (Listing (record { csv = csv; dates = dates }) a rest)
 list_answers true dates a rest e program = absurd (true≢false (sym e))
 list_answers false true a rest e program = absurd (true≢false (sym e))
-list_answers false false a rest e program = plain_list_answers a rest e program
+list_answers false false a [] e program =
+    answers (Listing plain_form a []) refl list_is (values_read (list_none_form a) e) (λ rows. refl) program
+list_answers false false a (t ∷ rest) e program =
+    let line = Listing plain_form a (t ∷ rest) in
+    answers line refl list_is (texts_read (list_some_form a) t rest e) (λ rows. refl) program
 
--- the one word of a list of plain ones
-one_plain : (a : Text) → list_all is_plain (a ∷ []) ≡ true → Looks a
-one_plain a e = looks a (both _ _ e).0
-
-from_line : (program : Text) (line : Line) → is_whole line ≡ true → list_all is_plain (values_of line) ≡ true → Answers (program ∷ name_of line ∷ values_of line) line
-from_line program (Check a) w e = one_answers (Check a) (codes "check") a Check refl refl check_is (one_plain a e) (λ rows. refl) program
-from_line program (Problems a) w e = one_answers (Problems a) (codes "problems") a Problems refl refl problems_is (one_plain a e) (λ rows. refl) program
-from_line program (Tidy a) w e = one_answers (Tidy a) (codes "tidy") a Tidy refl refl tidy_is (one_plain a e) (λ rows. refl) program
-from_line program (Findings a) w e = one_answers (Findings a) (codes "findings") a Findings refl refl findings_is (one_plain a e) (λ rows. refl) program
-from_line program (Page a) w e = one_answers (Page a) (codes "page") a Page refl refl page_is (one_plain a e) (λ rows. refl) program
-from_line program (Export a) w e = one_answers (Export a) (codes "export") a Export refl refl export_is (one_plain a e) (λ rows. refl) program
-from_line program (Explain a) w e = one_answers (Explain a) (codes "explain") a Explain refl refl explain_is (one_plain a e) (λ rows. refl) program
-from_line program (Start a b d) w e =
-    let p = both _ _ e in let q = both _ _ p.1 in
-    three_answers (Start a b d) (codes "start") a b d Start refl refl start_is (looks a p.0) (looks b q.0) (one_plain d q.1) (λ rows. refl) program
-from_line program (Merge a b d) w e =
-    let p = both _ _ e in let q = both _ _ p.1 in
-    three_answers (Merge a b d) (codes "merge") a b d Merge refl refl merge_is (looks a p.0) (looks b q.0) (one_plain d q.1) (λ rows. refl) program
-from_line program (Texts a rest) w e = flights_answers a rest e program
-from_line program (Show a b d) w e =
-    let p = both _ _ e in let q = both _ _ p.1 in
-    three_answers (Show a b d) (codes "show") a b d Show refl refl show_is (looks a p.0) (looks b q.0) (one_plain d q.1) (λ rows. refl) program
-from_line program (History a b d) w e =
-    let p = both _ _ e in let q = both _ _ p.1 in
-    three_answers (History a b d) (codes "history") a b d History refl refl history_is (looks a p.0) (looks b q.0) (one_plain d q.1) (λ rows. refl) program
-from_line program (Board a b d) w e =
-    let p = both _ _ e in
-    let q = both _ _ p.1 in
-    let l = looks a p.0 in
-    let k = looks b q.0 in
-    let m = one_plain d q.1 in
-    let name = codes "board" in
-    three_answers (Board a b d) name a b d Board refl refl board_is l k m (λ rows. refl) program
-from_line program (Listing form a rest) w e = list_answers form.csv form.dates a rest e program
+from_line : (program : Text) (line : Line) → is_whole line ≡ true
+    → list_all is_plain (values_of line) ≡ true → Answers (program ∷ name_of line ∷ values_of line) line
+from_line program (Check a) w e =
+    let form = one_form (codes "check") a Check in
+    answers (Check a) refl check_is (values_read form e) (λ rows. refl) program
+from_line program (Problems a) w e =
+    let form = one_form (codes "problems") a Problems in
+    answers (Problems a) refl problems_is (values_read form e) (λ rows. refl) program
+from_line program (Tidy a) w e =
+    let form = one_form (codes "tidy") a Tidy in
+    answers (Tidy a) refl tidy_is (values_read form e) (λ rows. refl) program
+from_line program (Findings a) w e =
+    let form = one_form (codes "findings") a Findings in
+    answers (Findings a) refl findings_is (values_read form e) (λ rows. refl) program
+from_line program (Page a) w e =
+    let form = one_form (codes "page") a Page in
+    answers (Page a) refl page_is (values_read form e) (λ rows. refl) program
+from_line program (Export a) w e =
+    let form = one_form (codes "export") a Export in
+    answers (Export a) refl export_is (values_read form e) (λ rows. refl) program
+from_line program (Explain a) w e =
+    let form = one_form (codes "explain") a Explain in
+    answers (Explain a) refl explain_is (values_read form e) (λ rows. refl) program
 from_line program (Calendar a b) w e =
-    let p = both _ _ e in
-    let l = looks a p.0 in
-    let k = one_plain b p.1 in
-    let name = codes "calendar" in
-    two_answers (Calendar a b) name a b Calendar refl refl calendar_is l k (λ rows. refl) program
+    let form = two_form (codes "calendar") a b Calendar in
+    answers (Calendar a b) refl calendar_is (values_read form e) (λ rows. refl) program
 from_line program (Diff a b) w e =
-    let p = both _ _ e in
-    let l = looks a p.0 in
-    let k = one_plain b p.1 in
-    let name = codes "diff" in
-    two_answers (Diff a b) name a b Diff refl refl diff_is l k (λ rows. refl) program
-from_line program (Publish a b d f) w e =
-    let p = both _ _ e in
-    let q = both _ _ p.1 in
-    let r = both _ _ q.1 in
-    let l = looks a p.0 in
-    let k = looks b q.0 in
-    let m = looks d r.0 in
-    let o = one_plain f r.1 in
-    let name = codes "publish" in
-    four_answers (Publish a b d f) name a b d f Publish refl refl publish_is l k m o (λ rows. refl) program
+    let form = two_form (codes "diff") a b Diff in
+    answers (Diff a b) refl diff_is (values_read form e) (λ rows. refl) program
+from_line program (Start a b d) w e =
+    let form = three_form (codes "start") a b d Start in
+    answers (Start a b d) refl start_is (values_read form e) (λ rows. refl) program
+from_line program (Merge a b d) w e =
+    let form = three_form (codes "merge") a b d Merge in
+    answers (Merge a b d) refl merge_is (values_read form e) (λ rows. refl) program
+from_line program (Show a b d) w e =
+    let form = three_form (codes "show") a b d Show in
+    answers (Show a b d) refl show_is (values_read form e) (λ rows. refl) program
+from_line program (History a b d) w e =
+    let form = three_form (codes "history") a b d History in
+    answers (History a b d) refl history_is (values_read form e) (λ rows. refl) program
+from_line program (Board a b d) w e =
+    let form = three_form (codes "board") a b d Board in
+    answers (Board a b d) refl board_is (values_read form e) (λ rows. refl) program
 from_line program (Rehearse a b d) w e =
-    let p = both _ _ e in let q = both _ _ p.1 in
-    three_answers (Rehearse a b d) (codes "rehearse") a b d Rehearse refl refl rehearse_is (looks a p.0) (looks b q.0) (one_plain d q.1) (λ rows. refl) program
+    let form = three_form (codes "rehearse") a b d Rehearse in
+    answers (Rehearse a b d) refl rehearse_is (values_read form e) (λ rows. refl) program
+from_line program (Publish a b d f) w e =
+    let form = four_form (codes "publish") a b d f Publish in
+    answers (Publish a b d f) refl publish_is (values_read form e) (λ rows. refl) program
+from_line program (Texts a []) w e =
+    answers (Texts a []) refl texts_is (values_read (none_form (codes "texts") a) e) (λ rows. refl) program
+from_line program (Texts a (t ∷ rest)) w e =
+    let form = some_form (codes "texts") a in
+    answers (Texts a (t ∷ rest)) refl texts_is (texts_read form t rest e) (λ rows. refl) program
+from_line program (Listing form a rest) w e = list_answers form.csv form.dates a rest e program
 from_line program (Take a b []) w e = absurd (true≢false (sym w))
 from_line program (Take a b (t ∷ rest)) w e =
-    several_answers (codes "take") a b t rest Take refl take_is e (λ rows. refl) program
-from_line program (Receive refused a b []) w e = absurd (true≢false (sym w))
-from_line program (Receive None a b (t ∷ rest)) w e = receive_answers a b t rest e program
-from_line program (Receive (Some file) a b (t ∷ rest)) w e = absurd (true≢false (sym e))
+    let form = several_form (codes "take") a b Take in
+    answers (Take a b (t ∷ rest)) refl take_is (texts_read form t rest e) (λ rows. refl) program
 from_line program (Withdraw a b []) w e = absurd (true≢false (sym w))
 from_line program (Withdraw a b (t ∷ rest)) w e =
-    several_answers (codes "withdraw") a b t rest Withdraw refl withdraw_is e (λ rows. refl) program
+    let form = several_form (codes "withdraw") a b Withdraw in
+    answers (Withdraw a b (t ∷ rest)) refl withdraw_is (texts_read form t rest e) (λ rows. refl) program
+from_line program (Receive refused a b []) w e = absurd (true≢false (sym w))
+from_line program (Receive (Some file) a b (t ∷ rest)) w e = absurd (true≢false (sym e))
+from_line program (Receive None a b (t ∷ rest)) w e =
+    let line = Receive None a b (t ∷ rest) in
+    answers line refl receive_is (texts_read (receive_form a b) t rest e) (λ rows. refl) program
 
 pub line_answers : (words : List Text) (line : Line) → Spells words line → Answers words line
 line_answers words line s = subst (λ (ws : List Text). Answers ws line) (sym s.words_are) (from_line s.program line s.whole s.plain)

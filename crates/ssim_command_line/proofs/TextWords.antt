@@ -1,11 +1,12 @@
 -- The texts at the end of a command's words: each goes to the positional that takes texts, in order.
-use Rattle.std.proofs.Common.{◌≡◌, ◌∙◌, ℕ, List, [], ◌∷◌, ◌++◌, Some, None, true, refl, sym, ap, subst}
+use Rattle.std.proofs.Common.{◌≡◌, ◌∙◌, ℕ, Bool, List, [], ◌∷◌, ◌++◌, Some, None, true, refl, sym, ap, subst}
 use Rattle.std.proofs.Common.{append_assoc}
 use Rattle.std.proofs.Common.{codes}
 use Rattle.std.specs.List.{fold, list_all}
-use Rattle.clap.specs.Faults.{step_fault, turn_fault, walk_fault}
+use Rattle.clap.specs.Faults.{step_fault}
+use Rattle.clap.specs.Kinds.{Kinds}
 use Rattle.clap.specs.Simple.{Shape, filled}
-use Rattle.clap.specs.Takes.{step_passes, turn_passes, walk_passes}
+use Rattle.clap.specs.Takes.{step_passes}
 use Rattle.clap.specs.Walk.{Held, Rule, Walk, arg_by_index, idle, positional, reading_by, settled}
 use Rattle.clap.specs.Walk.{to_positional}
 use Rattle.clap.specs.Walk.{value, walked}
@@ -13,8 +14,8 @@ use Rattle.clap.specs.declared.parser.matches.ValueSource.TheVariants.{CommandLi
 use Rattle.clap.proofs.WalkLemmas.{both}
 use Rattle.ssim_command_line.specs.Commands.{any_texts}
 use Rattle.ssim_command_line.specs.Line.{Text, is_plain}
-use Rattle.ssim_command_line.proofs.Right.{next_right, none_right, turn_right}
-use Rattle.ssim_command_line.proofs.Words.{Looks, at, looks, next_passes, none_passes, turn_plain}
+use Rattle.ssim_command_line.proofs.Right.{AreTaken, next_taken, none_taken}
+use Rattle.ssim_command_line.proofs.Words.{Looks, at, looks}
 use Rattle.ssim_command_line.proofs.Words.{walked_plain}
 
 -- the walk after the first text, which goes to positional k
@@ -52,6 +53,49 @@ pub record TakesTexts (s : Shape) (k : ℕ) (h : Held) : Type 0 where
   pub right_second : (t : Text) → step_fault s k (first_text s.rules k h t).held value ≡ []
   pub right_later : (seen : List Text) (t : Text)
       → step_fault s k (later_text s.rules k h seen t).held value ≡ []
+
+-- all of it at once, which computes for given rules
+abbrev Facts : Type 0
+Facts = (Walk × Walk × Walk) × (Bool × Bool × Bool) × (Kinds × Kinds × Kinds)
+
+abbrev computed : Shape → ℕ → Held → List Text → Text → Text → Facts
+computed s k h seen t u =
+    let one = first_text s.rules k h t in
+    let more = later_text s.rules k h seen t in (
+      (
+        one,
+        to_positional s.rules (arg_by_index s.rules k) u (at one.held positional k) one.held,
+        to_positional s.rules (arg_by_index s.rules k) u more more.held,
+      ),
+      (step_passes s k h value, step_passes s k one.held value, step_passes s k more.held value),
+      (step_fault s k h value, step_fault s k one.held value, step_fault s k more.held value),
+    )
+
+abbrev expected : Shape → ℕ → Held → List Text → Text → Text → Facts
+expected s k h seen t u = (
+  (
+    at (first_text s.rules k h t).held positional k,
+    later_text s.rules k h (t ∷ []) u,
+    later_text s.rules k h (seen ++ t ∷ []) u,
+  ),
+  (true, true, true),
+  ([], [], []),
+)
+
+pub takes_texts : (s : Shape) (k : ℕ) (h : Held)
+    → ((seen : List Text) (t u : Text) → computed s k h seen t u ≡ expected s k h seen t u)
+    → TakesTexts s k h
+takes_texts s k h e = record {
+  first = λ t. ap (λ (x : Facts). x.0.0) (e [] t t);
+  second = λ t u. ap (λ (x : Facts). x.0.1) (e [] t u);
+  later = λ seen t u. ap (λ (x : Facts). x.0.2) (e seen t u);
+  fits = ap (λ (x : Facts). x.1.0) (e [] [] []);
+  fits_second = λ t. ap (λ (x : Facts). x.1.1) (e [] t t);
+  fits_later = λ seen t. ap (λ (x : Facts). x.1.2) (e seen t t);
+  right = ap (λ (x : Facts). x.2.0) (e [] [] []);
+  right_second = λ t. ap (λ (x : Facts). x.2.1) (e [] t t);
+  right_later = λ seen t. ap (λ (x : Facts). x.2.2) (e seen t t);
+}
 
 module _ (s : Shape) (k : ℕ) (h : Held) (takes : TakesTexts s k h) where
   abbrev c : List Rule
@@ -105,64 +149,30 @@ module _ (s : Shape) (k : ℕ) (h : Held) (takes : TakesTexts s k h) where
 
   -- ---- the words are taken
 
-  more_pass : (seen : List Text) (t : Text) (rest : List Text) → list_all is_plain rest ≡ true
-      → walk_passes s [] (more seen t) rest ≡ true
-  more_pass seen t [] e = none_passes s [] (more seen t)
-  more_pass seen t (u ∷ rest) e =
+  more_taken : (seen : List Text) (t : Text) (rest : List Text) → list_all is_plain rest ≡ true
+      → AreTaken s (more seen t) rest
+  more_taken seen t [] e = none_taken s (more seen t)
+  more_taken seen t (u ∷ rest) e =
       let p = both _ _ e in
       let l = looks u p.0 in
-      let turn = turn_plain s (more seen t).held positional k u l refl (takes.fits_later seen t) in
-      next_passes s [] (more seen t) (more (seen ++ t ∷ []) u) u rest turn (more_is seen t u l)
-      (more_pass (seen ++ t ∷ []) u rest p.1)
+      next_taken s (more seen t).held positional k (more (seen ++ t ∷ []) u) u rest l refl
+      (takes.fits_later seen t) (takes.right_later seen t) (more_is seen t u l)
+      (more_taken (seen ++ t ∷ []) u rest p.1)
 
-  two_pass : (w : Walk) (t : Text) (rest : List Text) → w ≡ at (one t).held positional k
-      → ((u : Text) → Looks u → walked c [] w u ≡ more (t ∷ []) u) → list_all is_plain rest ≡ true
-      → walk_passes s [] w rest ≡ true
-  two_pass w t [] is next e = none_passes s [] w
-  two_pass w t (u ∷ rest) is next e =
+  one_taken : (t : Text) (rest : List Text) → list_all is_plain rest ≡ true
+      → AreTaken s (at (one t).held positional k) rest
+  one_taken t [] e = none_taken s (at (one t).held positional k)
+  one_taken t (u ∷ rest) e =
       let p = both _ _ e in
       let l = looks u p.0 in
-      let turn = turn_plain s (one t).held positional k u l refl (takes.fits_second t) in
-      next_passes s [] w (more (t ∷ []) u) u rest
-      (ap (λ (v : Walk). turn_passes s [] v u) is ∙ turn) (next u l) (more_pass (t ∷ []) u rest p.1)
+      next_taken s (one t).held positional k (more (t ∷ []) u) u rest l refl (takes.fits_second t)
+      (takes.right_second t) (walked_plain c (one t).held positional k u l refl ∙ takes.second t u)
+      (more_taken (t ∷ []) u rest p.1)
 
-  pub texts_pass : (texts : List Text) → list_all is_plain texts ≡ true → walk_passes s [] start texts ≡ true
-  texts_pass [] e = none_passes s [] start
-  texts_pass (t ∷ rest) e =
+  pub texts_taken : (texts : List Text) → list_all is_plain texts ≡ true → AreTaken s start texts
+  texts_taken [] e = none_taken s start
+  texts_taken (t ∷ rest) e =
       let p = both _ _ e in
       let l = looks t p.0 in
-      let turn = turn_plain s h idle k t l refl takes.fits in
-      next_passes s [] start (one t) t rest turn (one_is t l)
-      (two_pass (one t) t rest (takes.first t) (two_is t) p.1)
-
-  -- ---- and no fault is found in them
-
-  more_right : (seen : List Text) (t : Text) (rest : List Text) → list_all is_plain rest ≡ true
-      → walk_fault s [] (more seen t) rest ≡ []
-  more_right seen t [] e = none_right s [] (more seen t)
-  more_right seen t (u ∷ rest) e =
-      let p = both _ _ e in
-      let l = looks u p.0 in
-      let turn = turn_right s (more seen t).held positional k u l refl (takes.right_later seen t) in
-      next_right s [] (more seen t) (more (seen ++ t ∷ []) u) u rest turn (more_is seen t u l)
-      (more_right (seen ++ t ∷ []) u rest p.1)
-
-  two_right : (w : Walk) (t : Text) (rest : List Text) → w ≡ at (one t).held positional k
-      → ((u : Text) → Looks u → walked c [] w u ≡ more (t ∷ []) u) → list_all is_plain rest ≡ true
-      → walk_fault s [] w rest ≡ []
-  two_right w t [] is next e = none_right s [] w
-  two_right w t (u ∷ rest) is next e =
-      let p = both _ _ e in
-      let l = looks u p.0 in
-      let turn = turn_right s (one t).held positional k u l refl (takes.right_second t) in
-      next_right s [] w (more (t ∷ []) u) u rest
-      (ap (λ (v : Walk). turn_fault s [] v u) is ∙ turn) (next u l) (more_right (t ∷ []) u rest p.1)
-
-  pub texts_right : (texts : List Text) → list_all is_plain texts ≡ true → walk_fault s [] start texts ≡ []
-  texts_right [] e = none_right s [] start
-  texts_right (t ∷ rest) e =
-      let p = both _ _ e in
-      let l = looks t p.0 in
-      let turn = turn_right s h idle k t l refl takes.right in
-      next_right s [] start (one t) t rest turn (one_is t l)
-      (two_right (one t) t rest (takes.first t) (two_is t) p.1)
+      next_taken s h idle k (at (one t).held positional k) t rest l refl takes.fits takes.right
+      (one_is t l ∙ takes.first t) (one_taken t rest p.1)
