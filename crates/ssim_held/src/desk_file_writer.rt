@@ -7,6 +7,7 @@ ghost use Rattle.ssim_base.specs.BaseSeen.{base_with};
 ghost use Rattle.ssim_base.specs.Sinks.{CountsFault, TakesPrefix, TakesUpTo};
 ghost use Rattle.ssim_held.specs.File.{IsRow, IsSpelled, desk_file, records_part, rows_part};
 ghost use Rattle.ssim_held.specs.File.{text_element, texts_part};
+ghost use Rattle.ssim_held.specs.internal.DeskFileWriter.{base_part};
 
 use crate::held::Held;
 use crate::row_line::write_row;
@@ -32,12 +33,30 @@ pub fn put_desk<W: Sink>(
     ensures device { W.device out.new ≡ W.device out.old }
 {
     let mut block = OutputBuffer::new();
-    put_counted(out, &mut block, b"SSIMDESK ", 2)?;
-    put_records(out, &mut block, records)?;
-    put_rows(out, &mut block, rows)?;
+    put_base(out, &mut block, records, rows)?;
     put_texts(out, &mut block, held)?;
     put_bytes(out, &mut block, b"END\n")?;
     flush(out, &mut block)
+}
+
+// Puts the first line, the records of a base, and the rows of its station table.
+fn put_base<W: Sink>(
+    out: &mut W,
+    block: &mut OutputBuffer,
+    records: &[Record],
+    rows: &[StationRow],
+) -> Result<(), WriteFault>
+    ensures ok { OnOk result (TakesUpTo (block.old ++ base_part records.now rows.now) block.new
+        (W.taken out.old) (W.taken out.new)) }
+    ensures rows { OnOk result (All IsRow rows.now) }
+    ensures err { OnErr result (TakesPrefix (block.old ++ base_part records.now rows.now)
+        (W.taken out.old) (W.taken out.new)) }
+    ensures failures { CountsFault (W.failures out.old) (W.failures out.new) result }
+    ensures device { W.device out.new ≡ W.device out.old }
+{
+    put_counted(out, block, b"SSIMDESK ", 2)?;
+    put_records(out, block, records)?;
+    put_rows(out, block, rows)
 }
 
 // Puts a line: a word with a blank after it, and a number.
