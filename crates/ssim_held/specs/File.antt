@@ -27,7 +27,8 @@ counted word n = word ++ 32 ∷ (decimal n ++ 10 ∷ [])
 -- a row of the station table with single blanks, without the LF, as `ZRH 30MAR25 25OCT25 +0200`
 abbrev pub row_text : Row → List ℕ
 row_text row =
-    row.station ++ 32 ∷ (day_text row.first ++ 32 ∷ (day_text row.last ++ 32 ∷ variation_text row.variation))
+    row.station
+    ++ 32 ∷ (day_text row.first ++ 32 ∷ (day_text row.last ++ 32 ∷ variation_text row.variation))
 
 -- the text of a row with its LF: 26 bytes
 abbrev pub row_line : Row → List ℕ
@@ -93,7 +94,8 @@ pub record CanBeSaved (base : BaseSeen) (entries : List Entry) : Type 0 where
 abbrev pub IsFileOf : List ℕ → BaseSeen → List Entry → Type 0
 IsFileOf bytes base entries =
     (bytes ≡ desk_file base entries)
-    ⊎ ((bytes ≡ counted (codes "SSIMDESK") 1 ++ after_first_line base entries) × All HasNoOriginator entries)
+    ⊎ ((bytes ≡ counted (codes "SSIMDESK") 1 ++ after_first_line base entries)
+    × All HasNoOriginator entries)
 
 -- the bytes are the desk file of a base and of the messages that are held
 pub record IsDeskFile (bytes : List ℕ) (base : BaseSeen) (entries : List Entry) : Type 0 where
@@ -102,12 +104,15 @@ pub record IsDeskFile (bytes : List ℕ) (base : BaseSeen) (entries : List Entry
 
 -- No two desks have the same file, if it has fewer than 2^64 bytes.
 abbrev pub NoTwoDesks : Type 0
-NoTwoDesks = (bytes : List ℕ) (base other : BaseSeen) (entries others : List Entry) → length bytes < 2 ^ 64
-    → IsDeskFile bytes base entries → IsDeskFile bytes other others → (base ≡ other) × (entries ≡ others)
+NoTwoDesks =
+    (bytes : List ℕ) (base other : BaseSeen) (entries others : List Entry) → length bytes < 2 ^ 64
+    → IsDeskFile bytes base entries → IsDeskFile bytes other others
+    → (base ≡ other) × (entries ≡ others)
 
 -- A desk opened from a saved file is the desk that was saved.
 abbrev pub OpensAsSaved : Type 0
-OpensAsSaved = (bytes : List ℕ) (base other : BaseSeen) (entries others : List Entry) → length bytes < 2 ^ 64
+OpensAsSaved =
+    (bytes : List ℕ) (base other : BaseSeen) (entries others : List Entry) → length bytes < 2 ^ 64
     → CanBeSaved base entries → bytes ≡ desk_file base entries → IsDeskFile bytes other others
     → (other ≡ base) × (others ≡ entries)
 
@@ -119,5 +124,6 @@ pub record IsSavedAgain (bytes : List ℕ) (base : BaseSeen) (entries : List Ent
 -- A desk opened from any valid file is saved as that file's bytes, but for the version in the first
 -- line.
 abbrev pub SavesAsOpened : Type 0
-SavesAsOpened = (bytes : List ℕ) (base : BaseSeen) (entries : List Entry) → IsDeskFile bytes base entries
+SavesAsOpened =
+    (bytes : List ℕ) (base : BaseSeen) (entries : List Entry) → IsDeskFile bytes base entries
     → IsSavedAgain bytes base entries

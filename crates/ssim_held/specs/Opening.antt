@@ -26,7 +26,8 @@ NeverEnds _ _ _ = Unit {0}
 -- the bytes that a reader has left, no more than the limit, are the file of the base and the
 -- messages
 abbrev pub Opens : ℕ → Option (List ℕ) → BaseSeen → List Entry → Type 0
-Opens limit None base entries = (bytes : List ℕ) × (length bytes ≤ limit) × IsDeskFile bytes base entries
+Opens limit None base entries =
+    (bytes : List ℕ) × (length bytes ≤ limit) × IsDeskFile bytes base entries
 Opens limit (Some bytes) base entries = (length bytes ≤ limit) × IsDeskFile bytes base entries
 
 -- why bytes are read as no desk: they are the file of none (62), or out of memory
@@ -40,7 +41,8 @@ RefusesBytes _ _ = ⊥
 abbrev pub OpensNone : ℕ → Option (List ℕ) → Type 0
 OpensNone limit None = Unit {0}
 OpensNone limit (Some bytes) =
-    (length bytes ≤ limit) × ((base : BaseSeen) (entries : List Entry) → IsDeskFile bytes base entries → ⊥)
+    (length bytes ≤ limit)
+    × ((base : BaseSeen) (entries : List Entry) → IsDeskFile bytes base entries → ⊥)
 
 -- why no desk is opened: 62 for the bytes; else 13, 14 or out of memory
 abbrev pub RefusesFile : ℕ → Option (List ℕ) → DeskFault → Type 0

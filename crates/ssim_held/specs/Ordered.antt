@@ -31,11 +31,13 @@ IsFound entries reference message Other =
 
 -- the lesser of the first messages of two lists, and the lists without it; of two messages under
 -- one reference, the first list's
-abbrev pub IsLesser : Ordering → Entry → List Entry → Entry → List Entry → Entry → List Entry → List Entry
+abbrev pub IsLesser : Ordering → Entry → List Entry → Entry → List Entry → Entry → List Entry
+    → List Entry
     → Type 0
 IsLesser Less m mine t theirs e mine_left theirs_left =
     (e ≡ m) × (mine_left ≡ mine) × (theirs_left ≡ t ∷ theirs)
-IsLesser Equal m mine t theirs e mine_left theirs_left = (e ≡ m) × (mine_left ≡ mine) × (theirs_left ≡ theirs)
+IsLesser Equal m mine t theirs e mine_left theirs_left =
+    (e ≡ m) × (mine_left ≡ mine) × (theirs_left ≡ theirs)
 IsLesser Greater m mine t theirs e mine_left theirs_left =
     (e ≡ t) × (mine_left ≡ m ∷ mine) × (theirs_left ≡ theirs)
 
