@@ -1,5 +1,6 @@
 -- What a text and a merge make of a desk.
-use Rattle.std.proofs.Common.{◌≡◌, ◌≢◌, ◌≤◌, ◌+◌, ℕ, List, [], ◌∷◌, ◌++◌, length, take, drop, Some, None, slice_get, refl, sym, ap, ◌∙◌, arith, length-append}
+use Rattle.std.proofs.Common.{◌≡◌, ◌≢◌, ◌≤◌, ◌+◌, ◌-◌, ℕ, List, [], ◌∷◌, ◌++◌, length, take, drop, Some, None, slice_get, refl, sym, ap, subst, ◌∙◌, append_assoc, arith, length-append}
+use Rattle.std.proofs.lemmas.Grind.{common_steps}
 use Rattle.std.proofs.lemmas.List.{length-take, take-append-le, take_all}
 use Rattle.std.proofs.lemmas.List.Elements.{All-append, All-cons, All-drop, All-take}
 use Rattle.std.specs.FinMap.{get}
@@ -39,6 +40,19 @@ replaced old new at rest base r place low near replay base_is held_is applied_is
       at_most = omega (arith, applied_is, all, near);
       whole = λ none. omega (arith, applied_is, all, low, none);
     }
+
+-- the messages before a position, one more, and those from the position on are replayed
+pub inserted_replay : (b base : BaseSeen) (hs held : List Entry) (at : ℕ) (new : Entry) (r : Replay)
+    → b ≡ base → hs ≡ held
+    → IsReplay b ((take at hs ++ new ∷ []) ++ take (length hs - at) (drop at hs)) r
+    → IsReplay base (take at held ++ new ∷ drop at held) r
+inserted_replay b base hs held at new r base_is held_is applied =
+    let left : take (length hs - at) (drop at hs) ≡ drop at hs = grind (arith, common_steps) in
+    let whole = append_assoc (take at hs) (new ∷ []) (take (length hs - at) (drop at hs))
+    ∙ ap (λ (es : List Entry). take at hs ++ new ∷ es) left in
+    subst (λ (es : List Entry). IsReplay base (take at es ++ new ∷ drop at es) r) held_is
+    (subst (λ (x : BaseSeen). IsReplay x (take at hs ++ new ∷ drop at hs) r) base_is
+    (subst (λ (es : List Entry). IsReplay b es r) whole applied))
 
 pub inserted_entries : (records : List Record) (es : List Entry) (at : ℕ) (new : Entry) → AreEntries records es → Belongs es new.reference at at → IsEntry records new
     → AreEntries records (take at es ++ (new ∷ drop at es))

@@ -1,11 +1,10 @@
 -- The message and those after it are applied, and both parts of the desk get what follows.
-use Rattle.std.proofs.Common.{◌≡◌, ◌≤◌, ◌+◌, ◌-◌, ◌∷◌, ◌++◌, ◌∙◌, [], List, length, take, drop, ap, sym, subst, append_assoc, arith}
-use Rattle.std.proofs.lemmas.Grind.{common_steps}
+use Rattle.std.proofs.Common.{◌≤◌, ◌+◌, ◌-◌, ◌∷◌, ◌++◌, [], List, length, take, drop, sym, subst, arith}
 use Rattle.ssim_base.specs.BaseSeen.{BaseSeen}
 use Rattle.ssim_held.specs.Entries.{DeskSeen, Entry}
 use Rattle.ssim_desk.specs.Desk.{ScheduledDesk}
-use Rattle.ssim_desk.specs.internal.Changes.{AreSchedules, IsReplay, IsReplaced}
-use Rattle.ssim_desk.proofs.Changes.{replaced}
+use Rattle.ssim_desk.specs.internal.Changes.{AreSchedules, IsReplaced}
+use Rattle.ssim_desk.proofs.Changes.{inserted_replay, replaced}
 use Rattle.ssim_desk.proofs.desk.Desk.insert.Goals as goal
 
 pub invariant_of-self-2 : goal.invariant_of-self-2
@@ -15,10 +14,7 @@ invariant_of-self-2 c =
     let r = c.apply_all.new.replay in
     let first = c.in_ok-apply.ensures.applied (take at hs) c.in_ok-replay.ensures.replay in
     let second = c.in_ok-apply_all.ensures.applied (take at hs ++ new ∷ []) first in
-    let left : take (length hs - at) (drop at hs) ≡ drop at hs = grind (arith, common_steps) in
-    let third = subst (λ (es : List Entry). IsReplay b es r) (append_assoc (take at hs) (new ∷ []) (take (length hs - at) (drop at hs)) ∙ ap (λ (es : List Entry). take at hs ++ new ∷ es) left) second in
-    let fourth = subst (λ (x : BaseSeen). IsReplay x (take at hs ++ new ∷ drop at hs) r) c.base-base.ensures third in
-    let replay = subst (λ (es : List Entry). IsReplay h.base (take at es ++ new ∷ drop at es) r) c.held-held.ensures.value fourth in
+    let replay = inserted_replay b h.base hs h.held at new r c.base-base.ensures c.held-held.ensures.value second in
     let place = subst (λ (d : ScheduledDesk). at ≤ length d.seen.held) (sym c.self.view_is) c.requires.gap.within in
     let low : r.from ≤ at = omega (arith, c.in_ok-apply_all.ensures.from, c.in_ok-apply.ensures.from, c.in_ok-replay.ensures.low) in
     let history = c.put.ensures.is h.base h.held (new ∷ drop at h.held) at place low (c.in_ok-reserve.ensures.same h.base h.held c.self.invariant) replay in
@@ -32,10 +28,7 @@ returns-clause-ok c =
     let r = c.apply_all.new.replay in
     let first = c.in_ok-apply.ensures.applied (take at hs) c.in_ok-replay.ensures.replay in
     let second = c.in_ok-apply_all.ensures.applied (take at hs ++ new ∷ []) first in
-    let left : take (length hs - at) (drop at hs) ≡ drop at hs = grind (arith, common_steps) in
-    let third = subst (λ (es : List Entry). IsReplay b es r) (append_assoc (take at hs) (new ∷ []) (take (length hs - at) (drop at hs)) ∙ ap (λ (es : List Entry). take at hs ++ new ∷ es) left) second in
-    let fourth = subst (λ (x : BaseSeen). IsReplay x (take at hs ++ new ∷ drop at hs) r) c.base-base.ensures third in
-    let replay = subst (λ (es : List Entry). IsReplay h.base (take at es ++ new ∷ drop at es) r) c.held-held.ensures.value fourth in
+    let replay = inserted_replay b h.base hs h.held at new r c.base-base.ensures c.held-held.ensures.value second in
     let place = subst (λ (d : ScheduledDesk). at ≤ length d.seen.held) (sym c.self.view_is) c.requires.gap.within in
     let low : r.from ≤ at = omega (arith, c.in_ok-apply_all.ensures.from, c.in_ok-apply.ensures.from, c.in_ok-replay.ensures.low) in
     let near : at ≤ r.from + 31 = omega (arith, c.in_ok-apply_all.ensures.from, c.in_ok-apply.ensures.from, c.in_ok-replay.ensures.near) in
