@@ -1,17 +1,14 @@
 -- The schedule shows the timetable of the flights that the messages name, in which they find what they find in the whole.
-use Rattle.std.proofs.Common.{◌≡◌, List, Result, Ok, Err, IfOk, subst, ◌∙◌}
+use Rattle.std.proofs.Common.{◌≡◌, List, IfOk, subst, ◌∙◌}
 use Rattle.ssim_values.specs.Flight.{FlightNumber}
 use Rattle.ssim_records.specs.declared.record.Record.{Record}
 use Rattle.ssim_base.specs.Stations.{Row}
 use Rattle.ssim_base.specs.Timetable.{itinerary_among}
+use Rattle.ssim_base.proofs.Results.{if_ok}
 use Rattle.ssim_desk.specs.Meaning.{Timetable, entries_findings}
 use Rattle.ssim_desk.specs.internal.Changes.{Shows, flights_of}
 use Rattle.ssim_desk.proofs.SomeFlights.{found_among}
 use Rattle.ssim_desk.proofs.flights.found_by.Goals as goal
-
-if_ok : {T E : Type 0} {P Q : T → Type 0} (r : Result T E) → ((x : T) → P x → Q x) → IfOk r P → IfOk r Q
-if_ok (Ok x) f p = f x p
-if_ok (Err e) f p = p
 
 pub returns : goal.returns
 returns c =

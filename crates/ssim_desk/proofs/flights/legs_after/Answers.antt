@@ -1,15 +1,12 @@
 -- The legs of a day are those of the flight's schedule.
-use Rattle.std.proofs.Common.{◌≡◌, ◌<◌, List, [], Result, Ok, Err, IfOk, ap, subst, ◌∙◌}
+use Rattle.std.proofs.Common.{◌≡◌, ◌<◌, List, [], ap, subst, ◌∙◌}
 use Rattle.std.specs.Prelude.{slice_index_or}
 use Rattle.ssim_periods.proofs.DayLemmas.{day_count-is}
 use Rattle.ssim_base.proofs.Calendars.{at-each_day}
 use Rattle.ssim_base.specs.Timetable.{Legs}
+use Rattle.ssim_base.proofs.Results.{if_ok}
 use Rattle.ssim_desk.specs.Meaning.{left_by}
 use Rattle.ssim_desk.proofs.flights.legs_after.Goals as goal
-
-if_ok : {T E : Type 0} {P Q : T → Type 0} (r : Result T E) → ((x : T) → P x → Q x) → IfOk r P → IfOk r Q
-if_ok (Ok x) f p = f x p
-if_ok (Err e) f p = p
 
 pub returns : goal.returns
 returns c =

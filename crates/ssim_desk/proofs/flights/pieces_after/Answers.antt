@@ -1,16 +1,13 @@
 -- The schedule has at the flights of the list what the messages leave.
-use Rattle.std.proofs.Common.{Result, Ok, Err, IfOk, List, map, ap, ◌∙◌}
+use Rattle.std.proofs.Common.{List, map, ap, ◌∙◌}
 use Rattle.ssim_values.specs.Flight.{FlightNumber}
+use Rattle.ssim_base.proofs.Results.{if_ok}
 use Rattle.ssim_periods.specs.Days.{each_day}
 use Rattle.ssim_schedule.specs.FlightPieces.{divided}
 use Rattle.ssim_schedule.specs.Schedule.{days_in}
 use Rattle.ssim_schedule.proofs.Divisions.{divided_among_agree}
 use Rattle.ssim_desk.specs.Meaning.{left_by}
 use Rattle.ssim_desk.proofs.flights.pieces_after.Goals as goal
-
-if_ok : {T E : Type 0} {P Q : T → Type 0} (r : Result T E) → ((x : T) → P x → Q x) → IfOk r P → IfOk r Q
-if_ok (Ok x) f p = f x p
-if_ok (Err e) f p = p
 
 pub returns : goal.returns
 returns c =

@@ -1,13 +1,10 @@
 -- The flight exists, and is the one of the list.
-use Rattle.std.proofs.Common.{◌≤◌, Result, Ok, Err, IfOk, subst}
+use Rattle.std.proofs.Common.{◌≤◌, subst}
 use Rattle.std.specs.Prelude.{IsTrue}
 use Rattle.ssim_values.specs.Flight.{IsFlight, is_suffix}
+use Rattle.ssim_base.proofs.Results.{if_ok}
 use Rattle.ssim_desk.proofs.SomeFlights.{is_among_one}
 use Rattle.ssim_desk.proofs.flights.schedule_after.Goals as goal
-
-if_ok : {T E : Type 0} {P Q : T → Type 0} (r : Result T E) → ((x : T) → P x → Q x) → IfOk r P → IfOk r Q
-if_ok (Ok x) f p = f x p
-if_ok (Err e) f p = p
 
 pub returns : goal.returns
 returns c =

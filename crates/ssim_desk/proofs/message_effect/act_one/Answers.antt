@@ -1,7 +1,8 @@
 -- The clauses of the schedule, stated of its timetable.
-use Rattle.std.proofs.Common.{◌≤◌, OnOk, IfOk, Result, Ok, Err, subst}
+use Rattle.std.proofs.Common.{◌≤◌, subst}
 use Rattle.std.specs.Prelude.{IsTrue}
 use Rattle.ssim_values.specs.Flight.{IsFlight, is_suffix}
+use Rattle.ssim_base.proofs.Results.{if_ok, on_ok}
 use Rattle.ssim_schedule.specs.Schedule.{cuts_in}
 use Rattle.ssim_desk.proofs.Points.{adds_told}
 use Rattle.ssim_desk.proofs.Shown.{found_told, shows_told}
@@ -12,14 +13,6 @@ exists c = record {
   number_to = subst (λ n. n ≤ 9999) c.number.ensures.value c.number.ensures.bound;
   suffixed = subst (λ s. IsTrue (is_suffix s)) c.suffix.ensures.value c.suffix.ensures.suffix;
 }
-
-on_ok : {T E A B : Type 0} (r : Result T E) → (A → B) → OnOk r A → OnOk r B
-on_ok (Ok x) f a = f a
-on_ok (Err e) f a = a
-
-if_ok : {T E : Type 0} {P Q : T → Type 0} (r : Result T E) → ((x : T) → P x → Q x) → IfOk r P → IfOk r Q
-if_ok (Ok x) f p = f x p
-if_ok (Err e) f p = p
 
 pub returns-clause-shows : goal.returns-clause-shows
 returns-clause-shows c =

@@ -1,5 +1,7 @@
-use Rattle.std.proofs.Common.{OnOk, IfErr, Result, Ok, Err, subst}
+-- The schedule of the desk shows its timetable, and the export of that is written.
+use Rattle.std.proofs.Common.{subst}
 use Rattle.ssim_base.specs.BaseSeen.{BaseSeen}
+use Rattle.ssim_base.proofs.Results.{if_fault, on_ok}
 use Rattle.ssim_schedule.specs.ExportResult.{RefusesBase, WritesBase}
 use Rattle.ssim_schedule.specs.Schedule.{days_in}
 use Rattle.ssim_held.specs.Entries.{AreEntries}
@@ -7,14 +9,6 @@ use Rattle.ssim_desk.specs.Desk.{ScheduledDesk, days_of_desk}
 use Rattle.ssim_desk.proofs.Exports.{refuses, writes}
 use Rattle.ssim_desk.proofs.Meant.{writes_desk}
 use Rattle.ssim_desk.proofs.desk.Desk.export.Goals as goal
-
-on_ok : {T E A B : Type 0} (r : Result T E) → (A → B) → OnOk r A → OnOk r B
-on_ok (Ok x) f a = f a
-on_ok (Err e) f a = a
-
-if_err : {T E : Type 0} {P Q : E → Type 0} (r : Result T E) → ((e : E) → P e → Q e) → IfErr r P → IfErr r Q
-if_err (Ok x) f p = p
-if_err (Err e) f p = f e p
 
 pub returns-clause-ok : goal.returns-clause-ok
 returns-clause-ok g c =
@@ -28,7 +22,7 @@ returns-clause-ok g c =
 pub returns-clause-err : goal.returns-clause-err
 returns-clause-err g c =
     let t = c.self.inside.holdings in let days = days_in c.self.inside.schedules.latest in
-    if_err c.export.result
+    if_fault c.export.result
     (λ fault r. subst (λ (d : ScheduledDesk). RefusesBase g.W.Sink.taken g.W.Sink.failures d.seen.base.records (days_of_desk d.seen) c.args.out.now c.export.new.out fault) c.self.view_is
     (refuses days (days_of_desk t) c.self.invariant.latest_is.shows g.W.Sink.taken g.W.Sink.failures t.base.records c.args.out.now c.export.new.out fault
     (subst (λ (b : BaseSeen). let records = b.records in RefusesBase g.W.Sink.taken g.W.Sink.failures records days c.args.out.now c.export.new.out fault) c.base.ensures r)))

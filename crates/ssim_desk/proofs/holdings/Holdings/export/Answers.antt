@@ -1,22 +1,15 @@
 -- The messages have acted on the timetable of the data set, and the export stands in its frame.
-use Rattle.std.proofs.Common.{OnOk, IfErr, Result, Ok, Err, ap, subst, ◌∙◌}
+use Rattle.std.proofs.Common.{ap, subst, ◌∙◌}
 use Rattle.ssim_base.specs.BaseSeen.{BaseSeen, base_with}
 use Rattle.ssim_schedule.specs.ExportResult.{ReadsBackBase, RefusesBase, WritesBase}
 use Rattle.ssim_schedule.specs.Schedule.{days_in}
 use Rattle.ssim_base.specs.Timetable.{itinerary}
+use Rattle.ssim_base.proofs.Results.{if_fault, on_ok}
 use Rattle.ssim_held.specs.Entries.{AreEntries, DeskSeen}
 use Rattle.ssim_desk.specs.Desk.{days_of_desk}
 use Rattle.ssim_desk.proofs.Exports.{left, reads_back, refuses, writes}
 use Rattle.ssim_desk.proofs.Meant.{writes_desk}
 use Rattle.ssim_desk.proofs.holdings.Holdings.export.Goals as goal
-
-on_ok : {T E A B : Type 0} (r : Result T E) → (A → B) → OnOk r A → OnOk r B
-on_ok (Ok x) f a = f a
-on_ok (Err e) f a = a
-
-if_err : {T E : Type 0} {P Q : E → Type 0} (r : Result T E) → ((e : E) → P e → Q e) → IfErr r P → IfErr r Q
-if_err (Ok x) f p = p
-if_err (Err e) f p = f e p
 
 pub returns-clause-ok : goal.returns-clause-ok
 returns-clause-ok g c =
@@ -45,7 +38,7 @@ returns-clause-err g c =
     let shows = left base held c.rows.result.now c.deref.result.now schedule c.rows.ensures c.deref.ensures.value (c.in_ok-act_in_order.ensures (itinerary parts.0) c.in_ok-schedule.ensures.days) in
     let frame = c.in_ok-schedule.frame in
     let has_frame = c.in_ok-schedule.ensures.frame in
-    if_err c.export_in.result
+    if_fault c.export_in.result
     (λ fault refused. subst (λ (d : DeskSeen). RefusesBase g.W.Sink.taken g.W.Sink.failures d.base.records (days_of_desk d) c.args.out.now c.export_in.new.out fault) (ap (λ (b : BaseSeen). let d : DeskSeen = record { base = b; held = held; applied = 0 } in d) c.into_parts-data_set.ensures ∙ c.self.view_is)
     (refuses (days_in schedule) (days_of_desk desk) shows g.W.Sink.taken g.W.Sink.failures parts.0 c.args.out.now c.export_in.new.out fault (frame, has_frame, refused)))
     c.export_in.ensures.err

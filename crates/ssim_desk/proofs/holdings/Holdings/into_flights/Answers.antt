@@ -1,7 +1,8 @@
 -- The messages have acted on the timetable of the data set.
-use Rattle.std.proofs.Common.{Result, Ok, Err, IfOk, ap, ◌∙◌}
+use Rattle.std.proofs.Common.{ap, ◌∙◌}
 use Rattle.ssim_base.specs.BaseSeen.{BaseSeen, base_with}
 use Rattle.ssim_base.specs.Timetable.{itinerary}
+use Rattle.ssim_base.proofs.Results.{if_ok}
 use Rattle.ssim_schedule.specs.FlightPieces.{divided_flights}
 use Rattle.ssim_schedule.specs.Schedule.{days_in}
 use Rattle.ssim_schedule.proofs.Divisions.{divided_flights_agree}
@@ -9,10 +10,6 @@ use Rattle.ssim_held.specs.Entries.{DeskSeen}
 use Rattle.ssim_desk.specs.Desk.{days_of_desk}
 use Rattle.ssim_desk.proofs.Exports.{left}
 use Rattle.ssim_desk.proofs.holdings.Holdings.into_flights.Goals as goal
-
-if_ok : {T E : Type 0} {P Q : T → Type 0} (r : Result T E) → ((x : T) → P x → Q x) → IfOk r P → IfOk r Q
-if_ok (Ok x) f p = f x p
-if_ok (Err e) f p = p
 
 abbrev seen : BaseSeen → DeskSeen → DeskSeen
 seen base desk = record desk { base = base }

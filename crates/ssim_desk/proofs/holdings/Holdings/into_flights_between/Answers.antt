@@ -1,7 +1,6 @@
 -- The messages have acted on the timetable of the dates, and it agrees there with the whole one.
-use Rattle.std.proofs.Common.{◌≡◌, ℕ, ◌<◌, ◌≤◌, List, Result, Ok, Err, IfOk, sym, ap, subst, ◌∙◌, arith}
+use Rattle.std.proofs.Common.{◌≡◌, ℕ, ◌<◌, List, sym, ap, subst, ◌∙◌, arith}
 use Rattle.ssim_values.specs.Flight.{FlightNumber}
-use Rattle.ssim_values.specs.Calendar.{day_limit}
 use Rattle.ssim_periods.specs.Calendar.{day_count}
 use Rattle.ssim_periods.specs.Days.{each_day}
 use Rattle.ssim_periods.proofs.DayLemmas.{day_count-is}
@@ -9,8 +8,8 @@ use Rattle.ssim_base.specs.BaseSeen.{BaseSeen, base_with}
 use Rattle.ssim_base.specs.Stations.{Row}
 use Rattle.ssim_base.specs.Timetable.{Days, itinerary}
 use Rattle.ssim_base.proofs.Calendars.{at-each_day}
+use Rattle.ssim_base.proofs.Results.{if_ok}
 use Rattle.ssim_schedule.specs.Dates.{AgreeBetween, itinerary_between}
-use Rattle.ssim_schedule.specs.FlightPieces.{divided_flights}
 use Rattle.ssim_schedule.specs.Schedule.{days_in}
 use Rattle.ssim_schedule.proofs.Divisions.{divided_flights_agree}
 use Rattle.ssim_held.specs.Entries.{DeskSeen, Entry}
@@ -20,10 +19,6 @@ use Rattle.ssim_desk.specs.internal.Changes.{AgreeFrom}
 use Rattle.ssim_desk.proofs.SomeDates.{between_is}
 use Rattle.ssim_desk.proofs.SomeFlights.{entries_agree_on}
 use Rattle.ssim_desk.proofs.holdings.Holdings.into_flights_between.Goals as goal
-
-if_ok : {T E : Type 0} {P Q : T → Type 0} (r : Result T E) → ((x : T) → P x → Q x) → IfOk r P → IfOk r Q
-if_ok (Ok x) f p = f x p
-if_ok (Err e) f p = p
 
 -- the timetables of each flight by day agree
 agree_days : (first last : ℕ) (one other : Timetable) → last < 36525 → AgreeFrom first last one other → AgreeBetween first last (λ g. each_day (one g)) (λ g. each_day (other g))

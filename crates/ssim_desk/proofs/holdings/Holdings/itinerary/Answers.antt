@@ -1,5 +1,6 @@
 -- What the messages leave is the meaning of what is held.
-use Rattle.std.proofs.Common.{List, Result, Ok, Err, IfOk, ap, subst, ◌∙◌}
+use Rattle.std.proofs.Common.{List, ap, subst, ◌∙◌}
+use Rattle.ssim_base.proofs.Results.{if_ok}
 use Rattle.ssim_held.specs.Entries.{AreEntries, DeskSeen, Entry}
 use Rattle.ssim_desk.specs.Desk.{timetable_of}
 use Rattle.ssim_desk.specs.Meaning.{Timetable, left_by}
@@ -8,10 +9,6 @@ use Rattle.ssim_desk.proofs.holdings.Holdings.itinerary.Goals as goal
 
 entries : (c : goal.After-legs_after) → AreEntries c.args.self.now.base.records c.args.self.now.held
 entries c = subst (λ (t : DeskSeen). AreEntries t.base.records t.held) c.self.view_is c.self.invariant
-
-if_ok : {T E : Type 0} {P Q : T → Type 0} (r : Result T E) → ((x : T) → P x → Q x) → IfOk r P → IfOk r Q
-if_ok (Ok x) f p = f x p
-if_ok (Err e) f p = p
 
 pub returns-clause-means : goal.returns-clause-means
 returns-clause-means c = has_meaning c.args.self.now (entries c)
