@@ -40,7 +40,8 @@ pub record TookTheSame (one other : Run) (d e : ℕ) : Type 0 where
 -- Two desks that were equal at the start, and that the same messages reached, are equal at the end.
 abbrev pub SameMessagesSameDesk : Type 0
 SameMessagesSameDesk =
-    (one other : Run) (d e : ℕ) → TookTheSame one other d e → desk_at one.start d ≡ desk_at other.start e
+    (one other : Run) (d e : ℕ) → TookTheSame one other d e
+    → desk_at one.start d ≡ desk_at other.start e
     → desk_at one.after d ≡ desk_at other.after e
 
 -- the desk's base was read from these bytes of a data set and of a station table, and the desk
@@ -64,7 +65,8 @@ pub record AreAgreed (one other : DeskState) : Type 0 where
   pub answer : Result (List ℕ) ExportRefusal
   pub exports_one : Exports one answer
   pub exports_other : Exports other answer
-  pub no_other_answer : (given : Result (List ℕ) ExportRefusal) → Exports one given ⊎ Exports other given
+  pub no_other_answer : (given : Result (List ℕ) ExportRefusal)
+      → Exports one given ⊎ Exports other given
       → given ≡ answer
 
 -- two desks began alike: from the same bytes, holding nothing; or with the same messages over the

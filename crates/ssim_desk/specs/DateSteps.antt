@@ -28,11 +28,13 @@ step_of rows day reference number sub legs = record {
 
 -- the steps of the sub-messages of a message, from this number on, that are on the flight's date;
 -- each begins with the legs that the one before left
-abbrev pub sub_steps : List Row → FlightNumber → ℕ → Reference → ℕ → List Sub → List ResolvedSub → Legs → List DateStep
+abbrev pub sub_steps : List Row → FlightNumber → ℕ → Reference → ℕ → List Sub → List ResolvedSub
+    → Legs → List DateStep
 sub_steps rows flight day reference number (sub ∷ subs) (dated ∷ dates) legs =
     if is_on flight day dated
     then step_of rows day reference number sub legs
-    ∷ sub_steps rows flight day reference (number + 1) subs dates (step_of rows day reference number sub legs).itinerary
+    ∷ sub_steps rows flight day reference (number + 1) subs dates
+    (step_of rows day reference number sub legs).itinerary
     else sub_steps rows flight day reference (number + 1) subs dates legs
 sub_steps _ _ _ _ _ _ _ _ = []
 
@@ -50,4 +52,5 @@ entry_steps rows flight day (e ∷ entries) legs =
 
 -- what each sub-message of a desk, in order of reference, did with a flight on a date
 abbrev pub steps_on : DeskSeen → FlightNumber → ℕ → List DateStep
-steps_on desk flight day = entry_steps desk.base.rows flight day desk.held (itinerary desk.base.records flight day)
+steps_on desk flight day =
+    entry_steps desk.base.rows flight day desk.held (itinerary desk.base.records flight day)

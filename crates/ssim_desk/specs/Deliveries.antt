@@ -18,11 +18,13 @@ is_accepted _ = false
 
 -- the step with this number, counted from 0, and its result
 abbrev pub IsStep : List Step → List Answer → ℕ → Step → Answer → Type 0
-IsStep steps answers k step answer = (slice_get steps k ≡ Some step) × (slice_get answers k ≡ Some answer)
+IsStep steps answers k step answer =
+    (slice_get steps k ≡ Some step) × (slice_get answers k ≡ Some answer)
 
 -- the text says the message to the desk with this number
 abbrev pub SaysTo : List DeskState → ℕ → List ℕ → Reference → MessageValue → Type 0
-SaysTo start d text reference message = let desk = desk_at start d in Says desk.base text reference message
+SaysTo start d text reference message =
+    let desk = desk_at start d in Says desk.base text reference message
 
 -- Step k brings desk d a message: the desk accepts a text that spells it, or is merged with a desk
 -- that had it before, from the start or by an earlier step. Example: step 0 takes the message to
@@ -30,7 +32,8 @@ SaysTo start d text reference message = let desk = desk_at start d in Says desk.
 -- its desk the message.
 pub data Brings (start : List DeskState) (steps : List Step)
     (answers : List Answer) : ℕ → ℕ → Reference → MessageValue → Type 0 where
-  by_text : {k d : ℕ} {reference : Reference} {message : MessageValue} (text : Vec ℕ Global) (answer : Answer)
+  by_text : {k d : ℕ} {reference : Reference} {message : MessageValue} (text : Vec ℕ Global)
+      (answer : Answer)
       → IsStep steps answers k (Take d text) answer → is_accepted answer ≡ true
       → SaysTo start d text.items reference message
       → Brings start steps answers k d reference message
@@ -44,7 +47,8 @@ pub data Brings (start : List DeskState) (steps : List Step)
 
 -- the message has reached the desk in a run: some step brings it
 abbrev pub Reached : List DeskState → List Step → List Answer → ℕ → Reference → MessageValue → Type 0
-Reached start steps answers d reference message = (k : ℕ) × Brings start steps answers k d reference message
+Reached start steps answers d reference message =
+    (k : ℕ) × Brings start steps answers k d reference message
 
 -- Each desk holds what it held at the start and what reached it, and nothing else.
 abbrev pub HoldsWhatReached : Type 0

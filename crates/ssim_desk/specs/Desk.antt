@@ -82,7 +82,13 @@ days_of_desk desk flight = each_day (timetable_of desk flight)
 -- the finding lines of the sub-messages of one message, from number n on
 abbrev pub sub_lines : Reference → ℕ → List Sub → List Finding → List FindingLine
 sub_lines r n (s ∷ subs) (f ∷ findings) =
-    record { reference = r; sub = n; action = identifier_of s.action; designator = s.designator; finding = f }
+    record {
+      reference = r;
+      sub = n;
+      action = identifier_of s.action;
+      designator = s.designator;
+      finding = f;
+    }
     ∷ sub_lines r (n + 1) subs findings
 sub_lines _ _ _ _ = []
 
@@ -130,7 +136,8 @@ is_row_point day row = nat_eq day row.first || nat_eq day (row.last + 1)
 abbrev pub is_sub_point : List Row → FlightNumber → ℕ → ResolvedSub → Bool
 is_sub_point rows flight day sub =
     is_sub_of flight sub
-    && ((nat_eq day sub.period.first || nat_eq day (sub.period.last + 1)) || list_any (is_row_point day) rows)
+    && ((nat_eq day sub.period.first || nat_eq day (sub.period.last + 1))
+    || list_any (is_row_point day) rows)
 
 -- whether the day is a division point of the flight: of a leg record, or of a sub-message that
 -- names it

@@ -20,7 +20,8 @@ Timetable = FlightNumber → ℕ → Legs
 -- by itself
 abbrev pub after_one : List Row → Action → ResolvedSub → Timetable → Timetable
 after_one rows action sub before flight day =
-    if same_flight sub.flight flight && holds sub.period day then after_on rows action day (before flight day)
+    if same_flight sub.flight flight && holds sub.period day
+    then after_on rows action day (before flight day)
     else before flight day
 
 -- the timetable after the sub-messages of a text, in order, each with its full dates
@@ -62,7 +63,8 @@ found_by base entries = entries_findings base.rows entries (itinerary base.recor
 
 -- the dates of the entry are those of its message as it resolves
 abbrev pub HasDates : List Record → Entry → Type 0
-HasDates records e = (text : ResolvedText) × ResolvesIn records e.message text × (text.subs.items ≡ e.dates)
+HasDates records e =
+    (text : ResolvedText) × ResolvesIn records e.message text × (text.subs.items ≡ e.dates)
 
 -- the list has what the desk holds, in order of reference, with the dates that the base gives
 pub record Lists (desk : DeskState) (listed : List Entry) : Type 0 where
@@ -71,12 +73,14 @@ pub record Lists (desk : DeskState) (listed : List Entry) : Type 0 where
 
 -- the meaning of a desk: what its messages, in order of reference, leave of its base's timetable
 abbrev pub Means : DeskState → Timetable → Type 0
-Means desk timetable = (listed : List Entry) × Lists desk listed × (timetable ≡ left_by desk.base listed)
+Means desk timetable =
+    (listed : List Entry) × Lists desk listed × (timetable ≡ left_by desk.base listed)
 
 -- what the messages of a desk find, in order of reference: one list for each message, in the order
 -- of its sub-messages
 abbrev pub Finds : DeskState → List (List Finding) → Type 0
-Finds desk findings = (listed : List Entry) × Lists desk listed × (findings ≡ found_by desk.base listed)
+Finds desk findings =
+    (listed : List Entry) × Lists desk listed × (findings ≡ found_by desk.base listed)
 
 -- Every desk has a meaning.
 abbrev pub HasMeaning : Type 0
@@ -84,7 +88,8 @@ HasMeaning = (desk : DeskState) → IsDesk desk → (timetable : Timetable) × M
 
 -- A desk has at most one meaning.
 abbrev pub HasOneMeaning : Type 0
-HasOneMeaning = (desk : DeskState) (one other : Timetable) → Means desk one → Means desk other → one ≡ other
+HasOneMeaning =
+    (desk : DeskState) (one other : Timetable) → Means desk one → Means desk other → one ≡ other
 
 -- the result of an export: the chapter 7 bytes of the desk's meaning, or the reason why there are
 -- none
@@ -97,7 +102,8 @@ pub record Exports (desk : DeskState) (answer : Result (List ℕ) ExportRefusal)
 
 -- Every desk has an export result.
 abbrev pub HasExport : Type 0
-HasExport = (desk : DeskState) → IsDesk desk → (answer : Result (List ℕ) ExportRefusal) × Exports desk answer
+HasExport =
+    (desk : DeskState) → IsDesk desk → (answer : Result (List ℕ) ExportRefusal) × Exports desk answer
 
 -- A desk has at most one export result.
 abbrev pub HasOneExport : Type 0

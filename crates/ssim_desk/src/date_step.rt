@@ -45,9 +45,12 @@ pub(crate) fn history_of(
     flight: &Flight,
     day: Day,
 ) -> Result<DateHistory, Memory>
-    ensures first { IfOk result (λ history. history.first ≡ itinerary base.now.records flight.now day) }
-    ensures steps { IfOk result (λ history. history.steps.items ≡ entry_steps base.now.rows flight.now day messages.now history.first) }
-    ensures last { IfOk result (λ history. legs_left history.first history.steps.items ≡ left_by base.now messages.now flight.now day) }
+    ensures first { IfOk result
+        (λ history. history.first ≡ itinerary base.now.records flight.now day) }
+    ensures steps { IfOk result (λ history. history.steps.items
+        ≡ entry_steps base.now.rows flight.now day messages.now history.first) }
+    ensures last { IfOk result (λ history. legs_left history.first history.steps.items
+        ≡ left_by base.now messages.now flight.now day) }
 {
     let legs = legs_after(alloc, base, &[], flight, day)?;
     let mut date = FlightDate::of(alloc, day, legs)?;
@@ -65,7 +68,8 @@ fn push_messages(
     flight: Flight,
     messages: &[Held],
 ) -> Result<(), Memory>
-    ensures { OnOk result (steps.new.items ≡ steps.old.items ++ entry_steps rows.now flight date.old.day messages.now date.old.legs) }
+    ensures { OnOk result (steps.new.items ≡ steps.old.items
+        ++ entry_steps rows.now flight date.old.day messages.now date.old.legs) }
 {
     for held in messages {
         push_message(steps, date, rows, flight, held)?;
@@ -81,8 +85,12 @@ fn push_message(
     flight: Flight,
     held: &Held,
 ) -> Result<(), Memory>
-    ensures steps { OnOk result (steps.new.items ≡ steps.old.items ++ sub_steps rows.now flight date.old.day held.now.reference 1 held.now.message.subs held.now.dates date.old.legs) }
-    ensures legs { OnOk result (date.new.legs ≡ legs_left date.old.legs (sub_steps rows.now flight date.old.day held.now.reference 1 held.now.message.subs held.now.dates date.old.legs)) }
+    ensures steps { OnOk result (steps.new.items ≡ steps.old.items
+        ++ sub_steps rows.now flight date.old.day held.now.reference 1 held.now.message.subs
+        held.now.dates date.old.legs) }
+    ensures legs { OnOk result (date.new.legs ≡ legs_left date.old.legs
+        (sub_steps rows.now flight date.old.day held.now.reference 1 held.now.message.subs
+        held.now.dates date.old.legs)) }
     ensures day { date.new.day ≡ date.old.day }
 {
     let reference = held.reference();
@@ -102,8 +110,12 @@ fn push_subs(
     dates: &[ResolvedSub],
 ) -> Result<(), Memory>
     requires { number + length subs.now < 2 ^ 64 }
-    ensures steps { OnOk result (steps.new.items ≡ steps.old.items ++ sub_steps rows.now flight date.old.day reference.now number subs.now dates.now date.old.legs) }
-    ensures legs { OnOk result (date.new.legs ≡ legs_left date.old.legs (sub_steps rows.now flight date.old.day reference.now number subs.now dates.now date.old.legs)) }
+    ensures steps { OnOk result (steps.new.items ≡ steps.old.items
+        ++ sub_steps rows.now flight date.old.day reference.now number subs.now dates.now
+        date.old.legs) }
+    ensures legs { OnOk result (date.new.legs ≡ legs_left date.old.legs
+        (sub_steps rows.now flight date.old.day reference.now number subs.now dates.now
+        date.old.legs)) }
     ensures day { date.new.day ≡ date.old.day }
 {
     match (subs.split_first(), dates.split_first()) {
@@ -142,7 +154,8 @@ fn step_of(
     number: usize,
     sub: &Sub,
 ) -> Result<DateStep, Memory>
-    ensures step { IfOk result (λ step. step ≡ step_of rows.now date.old.day reference.now number sub.now date.old.legs) }
+    ensures step { IfOk result (λ step. step
+        ≡ step_of rows.now date.old.day reference.now number sub.now date.old.legs) }
     ensures legs { IfOk result (λ step. date.new.legs ≡ step.itinerary) }
     ensures day { date.new.day ≡ date.old.day }
 {

@@ -46,7 +46,8 @@ pub(crate) fn days_after(
     messages: &[Held],
     flight: &Flight,
 ) -> Result<Periods<Itinerary>, Memory>
-    ensures { IfOk result (λ itineraries. itineraries.days ≡ each_day (left_by base.now messages.now flight.now)) }
+    ensures { IfOk result (λ itineraries. itineraries.days
+        ≡ each_day (left_by base.now messages.now flight.now)) }
 {
     let schedule = schedule_after(alloc, base, messages, flight)?;
     schedule.days(flight)
@@ -60,7 +61,8 @@ fn schedule_after(
     messages: &[Held],
     flight: &Flight,
 ) -> Result<Schedule, Memory>
-    ensures { IfOk result (λ schedule. days_in schedule flight.now ≡ each_day (left_by base.now messages.now flight.now)) }
+    ensures { IfOk result (λ schedule. days_in schedule flight.now
+        ≡ each_day (left_by base.now messages.now flight.now)) }
 {
     // No effect at run time. The proof reads from these uses that the flight exists.
     let _ = flight.number();

@@ -276,11 +276,14 @@ impl Holdings {
     /// What the data set has for a flight on a date of origin, and what each sub-message that is
     /// held did with it. Reads all records of the base.
     pub fn history(&self, flight: &Flight, day: Day) -> Result<DateHistory, Memory>
-        ensures first { IfOk result (λ history. history.first ≡ itinerary self.now.base.records flight.now day) }
-        ensures steps { IfOk result (λ history. history.steps.items ≡ steps_on self.now flight.now day) }
+        ensures first { IfOk result
+            (λ history. history.first ≡ itinerary self.now.base.records flight.now day) }
+        ensures steps { IfOk result
+            (λ history. history.steps.items ≡ steps_on self.now flight.now day) }
 
         // The last legs are those of `itinerary`.
-        ensures last { IfOk result (λ history. legs_left history.first history.steps.items ≡ timetable_of self.now flight.now day) }
+        ensures last { IfOk result (λ history. legs_left history.first history.steps.items
+            ≡ timetable_of self.now flight.now day) }
     {
         history_of(self.alloc, &self.base, &self.held, flight, day)
     }

@@ -57,7 +57,8 @@ dated =
     }
 
 abbrev end_at : List ℕ → ℕ → LegEnd
-end_at station minutes = record { station = station; time = minutes; variation = 0; passenger = minutes }
+end_at station minutes =
+    record { station = station; time = minutes; variation = 0; passenger = minutes }
 
 -- J 320 CY.C12Y138, ZRH0545 LHR0700
 abbrev new : NewLegs
@@ -100,7 +101,8 @@ blanks n = replicate n 32
 abbrev leg : List ℕ → List ℕ → LegValue
 leg aircraft configuration = record {
   sequence = 1;
-  columns = concat (codes "JZRH05450545+0200" ∷ blanks 2 ∷ codes "LHR07000700+0100" ∷ blanks 2 ∷ aircraft
+  columns =
+      concat (codes "JZRH05450545+0200" ∷ blanks 2 ∷ codes "LHR07000700+0100" ∷ blanks 2 ∷ aircraft
       ∷ codes "CY" ∷ blanks 94 ∷ configuration ∷ codes "00" ∷ []);
   tails = [];
 }
@@ -142,7 +144,8 @@ unfolding new_leg station_columns with_times with_equipment
 year_of_a_reference = refl
 
 -- a text's own sub-messages act in their order
-in_one_text : after_subs rows (sub (New new) ∷ sub Cnl ∷ []) (dated ∷ dated ∷ []) nothing lx600 9313 ≡ []
+in_one_text : after_subs rows (sub (New new) ∷ sub Cnl ∷ []) (dated ∷ dated ∷ []) nothing lx600 9313
+    ≡ []
 in_one_text = refl
 
 -- ---- cuts

@@ -27,7 +27,8 @@ abbrev pub IsOffer : DeskState → List Entry → List ℕ → Offer → Type 0
 IsOffer desk held text (Known reference) =
     (message : MessageValue) × Says desk.base text reference message × Holds desk reference message
 IsOffer desk held text (New at e) =
-    Belongs held e.reference at at × IsEntry desk.base.records e × Says desk.base text e.reference e.message
+    Belongs held e.reference at at × IsEntry desk.base.records e
+    × Says desk.base text e.reference e.message
 
 -- ---- another desk
 
@@ -50,7 +51,8 @@ IsChange mine theirs (Some change) = Brings mine theirs change.0 change.1.items
 
 -- the schedule has this timetable
 abbrev pub Shows : Flown → Timetable → Type 0
-Shows schedule timetable = (g : FlightNumber) → IsFlight g → days_in schedule g ≡ each_day (timetable g)
+Shows schedule timetable =
+    (g : FlightNumber) → IsFlight g → days_in schedule g ≡ each_day (timetable g)
 
 -- the timetables agree at each of these flights
 abbrev pub AgreeAt : List FlightNumber → Timetable → Timetable → Type 0
@@ -72,7 +74,8 @@ flights_of entries = flat_map (λ e. map (λ sub. sub.flight) e.dates) entries
 -- a flight's new cuts are old ones, or division points of those sub-messages that name it
 abbrev pub AddsSubPoints : List Row → List ResolvedSub → FlightNumber → List ℕ → List ℕ → Type 0
 AddsSubPoints rows subs flight old new =
-    (cut : ℕ) → Contains new cut → Contains old cut ⊎ IsTrue (list_any (is_sub_point rows flight cut) subs)
+    (cut : ℕ) → Contains new cut
+    → Contains old cut ⊎ IsTrue (list_any (is_sub_point rows flight cut) subs)
 
 -- the schedule is the base's after these messages
 pub record IsAfter (base : BaseSeen) (entries : List Entry) (schedule : Flown) : Type 0 where
@@ -84,7 +87,8 @@ pub record IsAfter (base : BaseSeen) (entries : List Entry) (schedule : Flown) :
 pub record AreCheckpoints (base : BaseSeen) (entries : List Entry) (first : ℕ)
     (checkpoints : List Flown) : Type 0 where
   pub count : first + length checkpoints ≡ length entries / 32 + 1
-  pub each : (k : ℕ) → IfSome (slice_get checkpoints k) (IsAfter base (take (32 * (first + k)) entries))
+  pub each : (k : ℕ)
+      → IfSome (slice_get checkpoints k) (IsAfter base (take (32 * (first + k)) entries))
 
 -- the schedules of a base and messages
 pub record AreSchedules (base : BaseSeen) (entries : List Entry) (schedules : Schedules) : Type 0 where
