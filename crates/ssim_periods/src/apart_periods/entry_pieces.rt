@@ -12,6 +12,9 @@ use crate::numbers::ValueNumber;
 use ssim_values::{Memory, Period};
 use std::alloc::Global;
 
+/// For how many pieces a list has room at first, at most.
+const FIRST: usize = 8;
+
 // The cover of the days of each value, each period with the value. An entry is done if a later one
 // has its value.
 pub(crate) fn covers<V: Value>(
@@ -21,7 +24,7 @@ pub(crate) fn covers<V: Value>(
     requires { All (λ entry. entry.0.last < 36525) entries.now }
     ensures { IfOk result (λ pieces. pieces.items ≡ flat_map (given_cover V.alike entries.now) (last_values V.alike entries.now)) }
 {
-    let mut pieces = Vec::new(alloc);
+    let mut pieces = Vec::with_capacity(alloc, entries.len().min(FIRST))?;
     let mut periods = Vec::new(alloc);
     let mut done = vec![in alloc; false; entries.len()]?;
     let mut place = entries.len();
