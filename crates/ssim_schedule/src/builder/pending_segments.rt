@@ -111,6 +111,10 @@ impl PendingSegments {
         ensures tails { result.items ≡ waiting_at self.old key }
         ensures others { (place : ℕ) → waiting_at self.new place ≡ (if nat_eq place key then [] else waiting_at self.old place) }
     {
+        // A file without segments has no tails at all.
+        if self.others.is_empty() {
+            return Vec::new(self.alloc);
+        }
         let mut tails = match self.others.remove(&key) {
             Some(tails) => tails,
             None => Vec::new(self.alloc),
