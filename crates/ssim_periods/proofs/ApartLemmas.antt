@@ -160,7 +160,7 @@ days-free nothing xs p days view none n h =
       | inr within ↦ ap (λ ds. slice_index_or ds n nothing) (sym view) ∙ index-each_day (value_in nothing xs) n nothing (omega arith) ∙ value_in-none nothing xs n (none n h)
     ]
 
-put-once : {V : Type 0} (xs : List (DayRange × V)) (p : DayRange) (v : V) → ((n : ℕ) → holds p n ≡ true → held_on xs n ≡ []) → ((n : ℕ) → length (held_on xs n) ≤ 1) → (n : ℕ) → length (held_on (xs ++ (p, v) ∷ []) n) ≤ 1
+pub put-once : {V : Type 0} (xs : List (DayRange × V)) (p : DayRange) (v : V) → ((n : ℕ) → holds p n ≡ true → held_on xs n ≡ []) → ((n : ℕ) → length (held_on xs n) ≤ 1) → (n : ℕ) → length (held_on (xs ++ (p, v) ∷ []) n) ≤ 1
 put-once {V} xs p v free once n =
     rw (held_on-append xs ((p, v) ∷ []) n)
     (elim (holds p n) as (λ b. holds p n ≡ b → length (held_on xs n ++ (if b then v ∷ [] else [])) ≤ 1) [

@@ -193,7 +193,7 @@ non_decreasing cuts h = IsNonDecreasingBy-from_all_adjacent (λ cut. cut) cuts (
 
 -- ---- cuts on one side of a day
 
-rising-to : (cuts : List ℕ) (k j : ℕ) → IsStrictlyIncreasing cuts → k + j < length cuts → slice_index_or cuts k 0 ≤ slice_index_or cuts (k + j) 0
+pub rising-to : (cuts : List ℕ) (k j : ℕ) → IsStrictlyIncreasing cuts → k + j < length cuts → slice_index_or cuts k 0 ≤ slice_index_or cuts (k + j) 0
 rising-to cuts k zero h l = let e : k + 0 ≡ k = omega arith in let f = ap (λ i. slice_index_or cuts i 0) e in omega arith
 rising-to cuts k (suc j) h l =
     let ih = rising-to cuts k j h (omega arith) in let s = h (k + j) (omega arith) in

@@ -10,6 +10,7 @@ pub mod CutLemmas
 pub mod DayLemmas
 pub mod DivisionLaw
 pub mod DoneLemmas
+pub mod EachLemmas
 pub mod GatherLemmas
 pub mod HeldCounts
 pub mod JoinLemmas

@@ -1,15 +1,16 @@
 //! Values given to periods of which no two have a common day.
-ghost use Rattle.std.specs.Prelude.{◌≡◌, ◌≢◌, ℕ, ◌+◌, ◌<◌, ◌≤◌, List, [], true, length, slice_get, slice_index_or, Some, IfOk, IfSome, IfNone, OnOk, OnErr, OnSome, IsTrue};
+ghost use Rattle.std.specs.Prelude.{◌≡◌, ◌≢◌, ℕ, ◌+◌, ◌<◌, ◌≤◌, List, [], true, false, length, slice_get, slice_index_or, Some, IfOk, IfSome, IfNone, OnOk, OnErr, OnSome, IsTrue};
 ghost use Rattle.std.specs.List.{All, Contains};
 ghost use Rattle.std.specs.List.Sorted.{IsStrictlyIncreasing};
 ghost use Rattle.ssim_values.specs.Calendar.{weekday};
 ghost use Rattle.ssim_periods.specs.internal.Apart.{empty_week, AreDivided};
 ghost use Rattle.ssim_periods.specs.Calendar.{day_count, holds};
-ghost use Rattle.ssim_periods.specs.Days.{each_day, changed_on, counts_on, AddsOnly};
+ghost use Rattle.ssim_periods.specs.Days.{each_day, changed_by_each, changed_on, counts_on, ends_of, AddsOnly};
 ghost use Rattle.ssim_periods.specs.Pieces.{pieces_of, held_on};
 
 pub(crate) mod entries;
 pub(crate) mod entry_pieces;
+pub(crate) mod first_entries;
 pub(crate) mod marks;
 pub(crate) mod parts;
 pub(crate) mod spaced_days;
@@ -17,6 +18,7 @@ pub(crate) mod within;
 
 use crate::apart_periods::entries::{copy_entries, meets_none, rows_of, shared_entries, value_at};
 use crate::apart_periods::entry_pieces::covers;
+use crate::apart_periods::first_entries::{cuts_of, outcomes_of};
 use crate::apart_periods::spaced_days::SpacedDays;
 use crate::apart_periods::within::{added_parts, counts_within, keep_first_parts, keeps_empty};
 use crate::range_rows::RangeRows;
@@ -128,6 +130,25 @@ impl<V: Value> ApartPeriods<V> {
         self.make_first_room()?;
         self.put(period, value)?;
         Ok(())
+    }
+
+    /// Applies changes one after another if no day has a value yet. Returns false and changes nothing
+    /// if a day has one, if two of the periods have a common day, or if there are too many of them.
+    pub(crate) fn begin<C: Change<V>>(&mut self, changes: &[(Period, C)]) -> Result<bool, Memory>
+        ensures days { IfOk result (λ done. done ≡ true → self.new.days ≡ changed_by_each C.outcome changes.now self.old.days) }
+        ensures cuts { IfOk result (λ done. done ≡ true → (cut : ℕ) → Contains self.new.cuts cut → Contains (ends_of changes.now) cut) }
+        ensures other { IfOk result (λ done. done ≡ false → self.new ≡ self.old) }
+    {
+        if !self.entries.is_empty() || changes.len() > MOST {
+            return Ok(false);
+        }
+        let Some(entries) = outcomes_of(self.alloc, &self.empty[0], changes)? else {
+            return Ok(false);
+        };
+        let cuts = cuts_of(self.alloc, &entries)?;
+        self.entries = entries;
+        self.cuts = SpacedDays::of(cuts);
+        Ok(true)
     }
 
     /// Replaces the value of each day of the period by the outcome of the change, and returns for

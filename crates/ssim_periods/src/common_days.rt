@@ -6,6 +6,20 @@ ghost use Rattle.ssim_periods.specs.CommonDays.{meet};
 use crate::weekdays::first_on;
 use ssim_values::Period;
 
+/// Whether two periods have no day in common. Mostly one ends before the other begins.
+#[inline(always)]
+pub fn are_apart(one: &Period, other: &Period) -> bool
+    ensures { result ≡ true → (n : ℕ) → holds one.now n ≡ true → holds other.now n ≡ false }
+{
+    if one.last().number() < other.first().number() {
+        return true;
+    }
+    if other.last().number() < one.first().number() {
+        return true;
+    }
+    !meets(one, other)
+}
+
 /// Whether two periods have a day in common. Mostly periods that do not lie apart are of other weekdays.
 #[inline(always)]
 pub fn meets(one: &Period, other: &Period) -> bool

@@ -15,12 +15,14 @@
 //! - `apply` replaces the value of each day of the period by the outcome of the change, and keeps
 //!   the value of each other day. It returns the number of days of the period in each class.
 //!   `replace` does the same and counts nothing. After an error nothing has changed.
+//! - `replace_each` does what `replace` does for one change after another.
 //! - `pieces` returns the periods of the definition `pieces_of`. By `a_cover_is_the_division`, those
 //!   of a value are the one division of its days in the words of `IsNextPeriod`. By `pieces_hold_each_day_once`,
 //!   exactly one piece holds each day, the piece with the value of that day; if that value is
 //!   empty, none does.
-//! - There are few `cuts`: `new` has none, a copy has the cuts of its source, and `apply` and
-//!   `replace` add at most the first day of the period and the day after its last.
+//! - There are few `cuts`: `new` has none, a copy has the cuts of its source, and `apply`,
+//!   `replace` and `replace_each` add at most the first day of each period and the day after its
+//!   last.
 //!
 //! The only error is [`Memory`]: an allocation failed, or the copy of a value or a change ran out
 //! of memory.
@@ -38,7 +40,7 @@ mod value;
 mod weekday_bits;
 mod weekdays;
 
-pub use common_days::meets;
+pub use common_days::{are_apart, meets};
 pub use cover::joined::union;
 pub use periods::Periods;
 pub use periods::pieces::{

@@ -1,9 +1,9 @@
-ghost use Rattle.std.specs.Prelude.{◌≡◌, ℕ, ◌+◌, ◌<◌, ◌≤◌, [], slice_get, Some, IfOk, OnOk, OnErr};
+ghost use Rattle.std.specs.Prelude.{◌≡◌, ℕ, ◌+◌, ◌<◌, ◌≤◌, ◌++◌, [], true, false, slice_get, Some, IfOk, OnOk, OnErr};
 ghost use Rattle.std.specs.List.{All, Contains};
 ghost use Rattle.std.specs.List.Sorted.{IsStrictlyIncreasing};
 ghost use Rattle.ssim_values.specs.Calendar.{weekday};
 ghost use Rattle.ssim_periods.specs.Calendar.{holds};
-ghost use Rattle.ssim_periods.specs.Days.{each_day, changed_on, counts_on, AddsOnly};
+ghost use Rattle.ssim_periods.specs.Days.{each_day, changed_by_each, changed_on, counts_on, ends_of, AddsOnly};
 
 pub(crate) mod pieces;
 
@@ -118,6 +118,34 @@ impl<V: Value> Periods<V> {
             }
             Form::Rows(rows) => rows.replace(period, change),
         }
+    }
+
+    /// Applies changes one after another, each to the days of its period, as `replace` does. If no
+    /// day has a value yet and no two of the periods have a common day, they become a list at once.
+    pub fn replace_each<C: Change<V>>(&mut self, changes: &[(Period, C)]) -> Result<(), Memory>
+        ensures days { OnOk result (self.new.days ≡ changed_by_each C.outcome changes.now self.old.days) }
+        ensures cuts { OnOk result ((cut : ℕ) → Contains self.new.cuts cut → Contains (ends_of changes.now ++ self.old.cuts) cut) }
+    {
+        if self.begin(changes)? {
+            return Ok(());
+        }
+        for change in changes {
+            self.replace(&change.0, &change.1)?;
+        }
+        Ok(())
+    }
+
+    // Makes a list of the periods of changes, if that has the effect of the changes. The result says
+    // whether it has; if not, nothing is changed.
+    fn begin<C: Change<V>>(&mut self, changes: &[(Period, C)]) -> Result<bool, Memory>
+        ensures days { IfOk result (λ done. done ≡ true → self.new.days ≡ changed_by_each C.outcome changes.now self.old.days) }
+        ensures cuts { IfOk result (λ done. done ≡ true → (cut : ℕ) → Contains self.new.cuts cut → Contains (ends_of changes.now) cut) }
+        ensures other { IfOk result (λ done. done ≡ false → self.new ≡ self.old) }
+    {
+        if let Form::Apart(periods) = &mut self.form {
+            return periods.begin(changes);
+        }
+        Ok(false)
     }
 
     /// A copy with the same values and cuts.

@@ -3,12 +3,11 @@ use Rattle.std.proofs.Common.{◌≡◌, ◌⊎◌, ℕ, zero, suc, ◌+◌, Boo
 use Rattle.std.proofs.lemmas.List.Elements.{Contains-append_cases, Contains-append_left, Contains-append_right}
 use Rattle.ssim_values.specs.Period.{DayRange}
 use Rattle.ssim_periods.specs.Calendar.{holds}
-use Rattle.ssim_periods.specs.Days.{AddsOnly, changed_on}
+use Rattle.ssim_periods.specs.Days.{AddsOnly, changed_by_each, changed_on, ends_of}
 use Rattle.ssim_periods.proofs.ApplyLemmas.{contains-cases, contains-head, contains-tail}
 use Rattle.ssim_base.specs.Timetable.{Days, Legs}
 use Rattle.ssim_schedule.specs.internal.InsertedLegs.{placed_each}
-use Rattle.ssim_schedule.specs.internal.Runs.{ends_of, is_run_on, with_runs}
-use Rattle.ssim_schedule.specs.declared.builder.run.Run.{Run}
+use Rattle.ssim_schedule.specs.internal.Runs.{Run, is_run_on}
 
 neither : (a b : Bool) → (a || b) ≡ false → (a ≡ false) × (b ≡ false)
 neither true b h = absurd cc
@@ -49,30 +48,26 @@ changed_apart own more after other apart n (old ∷ days) =
 
 -- a change on days that no run has is made before the runs, or after them
 passed_runs : (runs : List Run) (more : ℕ → Bool) (other : Legs → Legs) → ((n : ℕ) → more n ≡ true → is_run_on runs n ≡ false) → (days : Days)
-    → with_runs runs (changed_on more other 0 days) ≡ changed_on more other 0 (with_runs runs days)
+    → changed_by_each placed_each runs (changed_on more other 0 days) ≡ changed_on more other 0 (changed_by_each placed_each runs days)
 passed_runs [] more other free days = refl
 passed_runs (run ∷ runs) more other free days =
-    ap (with_runs runs) (changed_apart (holds run.period) more (placed_each run.legs) other (λ n t. (neither (holds run.period n) (is_run_on runs n) (free n t)).0) 0 days)
-    ∙ passed_runs runs more other (λ n t. (neither (holds run.period n) (is_run_on runs n) (free n t)).1) (changed_on (holds run.period) (placed_each run.legs) 0 days)
+    ap (changed_by_each placed_each runs) (changed_apart (holds run.0) more (placed_each run.1) other (λ n t. (neither (holds run.0 n) (is_run_on runs n) (free n t)).0) 0 days)
+    ∙ passed_runs runs more other (λ n t. (neither (holds run.0 n) (is_run_on runs n) (free n t)).1) (changed_on (holds run.0) (placed_each run.1) 0 days)
 
-pub runs-wider : (runs : List Run) (i : ℕ) (run new : Run) (period : DayRange) (legs : Legs) → slice_get runs i ≡ Some run → run.legs ≡ legs → new.legs ≡ legs
-    → ((n : ℕ) → holds new.period n ≡ (holds run.period n || holds period n)) → ((n : ℕ) → holds period n ≡ true → is_run_on (drop i runs) n ≡ false) → (days : Days)
-    → with_runs (slice_set runs i new) days ≡ changed_on (holds period) (placed_each legs) 0 (with_runs runs days)
+pub runs-wider : (runs : List Run) (i : ℕ) (run new : Run) (period : DayRange) (legs : Legs) → slice_get runs i ≡ Some run → run.1 ≡ legs → new.1 ≡ legs
+    → ((n : ℕ) → holds new.0 n ≡ (holds run.0 n || holds period n)) → ((n : ℕ) → holds period n ≡ true → is_run_on (drop i runs) n ≡ false) → (days : Days)
+    → changed_by_each placed_each (slice_set runs i new) days ≡ changed_on (holds period) (placed_each legs) 0 (changed_by_each placed_each runs days)
 runs-wider [] i run new period legs at its same is free days = absurd cc
 runs-wider (first ∷ runs) zero run new period legs at its same is free days =
     let found : first ≡ run = cc in
-    let own : first.legs ≡ legs = ap (λ (r : Run). r.legs) found ∙ its in
-    ap (λ (ls : Legs). with_runs runs (changed_on (holds new.period) (placed_each ls) 0 days)) same
-    ∙ ap (with_runs runs) (changed_joined (holds new.period) (holds first.period) (holds period) (placed_each legs) (λ n. is n ∙ ap (λ (r : Run). holds r.period n || holds period n) (sym found))
-    (λ n t. (neither (holds first.period n) (is_run_on runs n) (free n t)).0) 0 days)
-    ∙ passed_runs runs (holds period) (placed_each legs) (λ n t. (neither (holds first.period n) (is_run_on runs n) (free n t)).1) (changed_on (holds first.period) (placed_each legs) 0 days)
-    ∙ ap (λ (ls : Legs). changed_on (holds period) (placed_each legs) 0 (with_runs runs (changed_on (holds first.period) (placed_each ls) 0 days))) (sym own)
+    let own : first.1 ≡ legs = ap (λ (r : Run). r.1) found ∙ its in
+    ap (λ (ls : Legs). changed_by_each placed_each runs (changed_on (holds new.0) (placed_each ls) 0 days)) same
+    ∙ ap (changed_by_each placed_each runs) (changed_joined (holds new.0) (holds first.0) (holds period) (placed_each legs) (λ n. is n ∙ ap (λ (r : Run). holds r.0 n || holds period n) (sym found))
+    (λ n t. (neither (holds first.0 n) (is_run_on runs n) (free n t)).0) 0 days)
+    ∙ passed_runs runs (holds period) (placed_each legs) (λ n t. (neither (holds first.0 n) (is_run_on runs n) (free n t)).1) (changed_on (holds first.0) (placed_each legs) 0 days)
+    ∙ ap (λ (ls : Legs). changed_on (holds period) (placed_each legs) 0 (changed_by_each placed_each runs (changed_on (holds first.0) (placed_each ls) 0 days))) (sym own)
 runs-wider (first ∷ runs) (suc i) run new period legs at its same is free days =
-    runs-wider runs i run new period legs at its same is free (changed_on (holds first.period) (placed_each first.legs) 0 days)
-
-pub runs-more : (runs : List Run) (run : Run) (days : Days) → with_runs (runs ++ run ∷ []) days ≡ changed_on (holds run.period) (placed_each run.legs) 0 (with_runs runs days)
-runs-more [] run days = refl
-runs-more (first ∷ runs) run days = runs-more runs run (changed_on (holds first.period) (placed_each first.legs) 0 days)
+    runs-wider runs i run new period legs at its same is free (changed_on (holds first.0) (placed_each first.1) 0 days)
 
 -- ---- their ends
 
@@ -111,24 +106,24 @@ next : (x y z : ℕ) → (x ≡ y) ⊎ (x ≡ z) → (x + 1 ≡ y + 1) ⊎ (x + 
 next x y z (inl e) = inl (ap (λ n. n + 1) e)
 next x y z (inr e) = inr (ap (λ n. n + 1) e)
 
-pub ends-wider : (runs : List Run) (i : ℕ) (run new : Run) (period : DayRange) → slice_get runs i ≡ Some run → (new.period.first ≡ run.period.first) ⊎ (new.period.first ≡ period.first)
-    → (new.period.last ≡ run.period.last) ⊎ (new.period.last ≡ period.last) → AddsOnly (ends_of runs) (ends_of (slice_set runs i new)) period.first (period.last + 1)
+pub ends-wider : (runs : List Run) (i : ℕ) (run new : Run) (period : DayRange) → slice_get runs i ≡ Some run → (new.0.first ≡ run.0.first) ⊎ (new.0.first ≡ period.first)
+    → (new.0.last ≡ run.0.last) ⊎ (new.0.last ≡ period.last) → AddsOnly (ends_of runs) (ends_of (slice_set runs i new)) period.first (period.last + 1)
 ends-wider [] i run new period at first last = absurd cc
 ends-wider (own ∷ runs) zero run new period at first last =
     let found : own ≡ run = cc in
-    subst (λ (r : Run). AddsOnly (r.period.first ∷ (r.period.last + 1) ∷ ends_of runs) (new.period.first ∷ (new.period.last + 1) ∷ ends_of runs) period.first (period.last + 1)) (sym found)
-    (replaced-two new.period.first (new.period.last + 1) run.period.first (run.period.last + 1) period.first (period.last + 1) (ends_of runs) first (next new.period.last run.period.last period.last last))
+    subst (λ (r : Run). AddsOnly (r.0.first ∷ (r.0.last + 1) ∷ ends_of runs) (new.0.first ∷ (new.0.last + 1) ∷ ends_of runs) period.first (period.last + 1)) (sym found)
+    (replaced-two new.0.first (new.0.last + 1) run.0.first (run.0.last + 1) period.first (period.last + 1) (ends_of runs) first (next new.0.last run.0.last period.last last))
 ends-wider (own ∷ runs) (suc i) run new period at first last =
-    adds-two own.period.first (own.period.last + 1) period.first (period.last + 1) (ends_of runs) (ends_of (slice_set runs i new)) (ends-wider runs i run new period at first last)
+    adds-two own.0.first (own.0.last + 1) period.first (period.last + 1) (ends_of runs) (ends_of (slice_set runs i new)) (ends-wider runs i run new period at first last)
 
-pub ends-more : (runs : List Run) (run : Run) → AddsOnly (ends_of runs) (ends_of (runs ++ run ∷ [])) run.period.first (run.period.last + 1)
+pub ends-more : (runs : List Run) (run : Run) → AddsOnly (ends_of runs) (ends_of (runs ++ run ∷ [])) run.0.first (run.0.last + 1)
 ends-more [] run cut has =
-    elim (contains-cases run.period.first cut ((run.period.last + 1) ∷ []) has) [
+    elim (contains-cases run.0.first cut ((run.0.last + 1) ∷ []) has) [
       | inl e ↦ inr (inl e)
-      | inr later ↦ elim (contains-cases (run.period.last + 1) cut [] later) [ inl e ↦ inr (inr e) | inr none ↦ inl none ]
+      | inr later ↦ elim (contains-cases (run.0.last + 1) cut [] later) [ inl e ↦ inr (inr e) | inr none ↦ inl none ]
     ]
 ends-more (own ∷ runs) run cut has =
-    adds-two own.period.first (own.period.last + 1) run.period.first (run.period.last + 1) (ends_of runs) (ends_of (runs ++ run ∷ [])) (ends-more runs run) cut has
+    adds-two own.0.first (own.0.last + 1) run.0.first (run.0.last + 1) (ends_of runs) (ends_of (runs ++ run ∷ [])) (ends-more runs run) cut has
 
 -- the same with other cuts after the ends
 pub adds-before : (old new cuts : List ℕ) (first end : ℕ) → AddsOnly old new first end → AddsOnly (old ++ cuts) (new ++ cuts) first end
@@ -141,25 +136,12 @@ adds-before old new cuts first end adds cut has =
       | inr other ↦ inl (Contains-append_right old cuts cut other)
     ]
 
--- the ends of a run that is put come before those of the later ones
-pub cuts-put : (run : Run) (runs : List Run) (old mid : List ℕ) (cut : ℕ) → AddsOnly old mid run.period.first (run.period.last + 1) → Contains (ends_of runs ++ mid) cut → Contains (ends_of (run ∷ runs) ++ old) cut
-cuts-put run runs old mid cut adds has =
-    let x = run.period.first in let y = run.period.last + 1 in let rest = ends_of runs ++ old in
-    elim (Contains-append_cases (ends_of runs) mid cut has) [
-      | inl end ↦ contains-tail x cut (y ∷ rest) (contains-tail y cut rest (Contains-append_left (ends_of runs) old cut end))
-      | inr other ↦ elim (adds cut other) [
-        | inl kept ↦ contains-tail x cut (y ∷ rest) (contains-tail y cut rest (Contains-append_right (ends_of runs) old cut kept))
-        | inr (inl e) ↦ subst (λ (c : ℕ). Contains (x ∷ y ∷ rest) c) (sym e) (contains-head x (y ∷ rest))
-        | inr (inr e) ↦ contains-tail x cut (y ∷ rest) (subst (λ (c : ℕ). Contains (y ∷ rest) c) (sym e) (contains-head y rest))
-      ]
-    ]
-
 -- one more run, where the cuts before were old ones
 pub adds-more : (old cuts : List ℕ) (runs items : List Run) (run : Run) → items ≡ runs ++ run ∷ [] → ((cut : ℕ) → Contains (ends_of runs ++ cuts) cut → Contains old cut)
-    → AddsOnly old (ends_of items ++ cuts) run.period.first (run.period.last + 1)
+    → AddsOnly old (ends_of items ++ cuts) run.0.first (run.0.last + 1)
 adds-more old cuts runs items run pushed kept cut has =
     let there = subst (λ (rs : List Run). Contains (ends_of rs ++ cuts) cut) pushed has in
-    elim (adds-before (ends_of runs) (ends_of (runs ++ run ∷ [])) cuts run.period.first (run.period.last + 1) (ends-more runs run) cut there) [
+    elim (adds-before (ends_of runs) (ends_of (runs ++ run ∷ [])) cuts run.0.first (run.0.last + 1) (ends-more runs run) cut there) [
       | inl one ↦ inl (kept cut one)
       | inr more ↦ inr more
     ]

@@ -1,10 +1,11 @@
 -- Periods with values as a list, of which no two hold a common day.
-use Rattle.std.specs.Prelude.{◌≢◌, ℕ, ◌+◌, ◌-◌, ◌%◌, ◌≤◌, ◌&&◌, Bool, false, nat_lt, if◌then◌else◌, List, [], ◌∷◌, ◌++◌, length, map, slice_index_or}
+use Rattle.std.specs.Prelude.{◌≡◌, ◌≢◌, ℕ, ◌+◌, ◌-◌, ◌%◌, ◌≤◌, ◌&&◌, Bool, false, nat_lt, if◌then◌else◌, List, [], ◌∷◌, ◌++◌, length, map, slice_index_or}
 use Rattle.std.specs.List.{All, Contains, list_any}
 use Rattle.std.specs.List.Sorted.{IsStrictlyIncreasing}
 use Rattle.ssim_values.specs.Period.{DayRange}
 use Rattle.ssim_periods.specs.Calendar.{day_count, holds, slot}
 use Rattle.ssim_periods.specs.Cover.{cover}
+use Rattle.ssim_periods.specs.Days.{changed_by_each, each_day, ends_of}
 use Rattle.ssim_periods.specs.Pieces.{held_on}
 
 -- what contracts see of a list of days that grows at both ends: the days, and for how many more
@@ -36,6 +37,21 @@ pub record AreApart {V : Type 0} (nothing : V) (periods : List (DayRange × V)) 
   pub divided : AreDivided cuts periods
   pub rising : IsStrictlyIncreasing cuts
   pub in_calendar : All (λ cut. cut ≤ 36525) cuts
+
+-- the cuts rise to at most 36,525, have the ends of each period, and no other day
+pub record AreCutsOf {V : Type 0} (periods : List (DayRange × V)) (cuts : List ℕ) : Type 0 where
+  pub divided : AreDivided cuts periods
+  pub rising : IsStrictlyIncreasing cuts
+  pub in_calendar : All (λ cut. cut ≤ 36525) cuts
+  pub only : (others : List ℕ) → AreDivided others periods → (cut : ℕ) → Contains cuts cut → Contains others cut
+
+-- The periods with values are those of changes of days that all have the empty value, each with the
+-- outcome of its change. None holds a day of another.
+pub record AreOutcomes {V C : Type 0} (nothing : V) (after : C → V → V) (changes : List (DayRange × C)) (periods : List (DayRange × V)) : Type 0 where
+  pub once : (n : ℕ) → length (held_on periods n) ≤ 1
+  pub given : All (λ (given : DayRange × V). given.1 ≢ nothing) periods
+  pub days : each_day (value_in nothing periods) ≡ changed_by_each after changes (each_day (λ _. nothing))
+  pub ends : AreDivided (ends_of changes) periods
 
 -- whether a period with the value holds the day
 abbrev pub given_on : {V : Type 0} → (V → V → Bool) → List (DayRange × V) → V → ℕ → Bool

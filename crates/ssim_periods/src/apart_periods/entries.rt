@@ -7,7 +7,7 @@ ghost use Rattle.ssim_periods.specs.Calendar.{holds};
 ghost use Rattle.ssim_periods.specs.Days.{each_day};
 ghost use Rattle.ssim_periods.specs.Pieces.{held_on};
 
-use crate::common_days::meets;
+use crate::common_days::are_apart;
 use crate::cover::joined::join;
 use crate::numbers::ValueNumber;
 use crate::range_rows::RangeRows;
@@ -34,7 +34,7 @@ pub(crate) fn meets_none<V: Value>(entries: &[(Period, V)], period: &Period) -> 
     ensures { IsTrue result → (n : ℕ) → holds period.now n ≡ true → held_on entries.now n ≡ [] }
 {
     for entry in entries {
-        if meets(period, &entry.0) {
+        if !are_apart(period, &entry.0) {
             return false;
         }
     }

@@ -46,6 +46,16 @@ impl SpacedDays {
         }
     }
 
+    /// These days, without room for more.
+    pub(crate) fn of(days: Vec<u32>) -> SpacedDays
+        ensures { result.days ≡ days.items }
+    {
+        SpacedDays {
+            items: days,
+            front: 0,
+        }
+    }
+
     /// The days.
     #[inline(always)]
     pub(crate) fn days(&self) -> &[u32]
@@ -58,8 +68,7 @@ impl SpacedDays {
     pub(crate) fn copy(&self, alloc: Global) -> Result<SpacedDays, Memory>
         ensures { IfOk result (λ copy. copy.days ≡ self.now.days) }
     {
-        let items = Vec::from_slice(alloc, self.days())?;
-        Ok(SpacedDays { items, front: 0 })
+        Ok(SpacedDays::of(Vec::from_slice(alloc, self.days())?))
     }
 
     /// Makes room for two more days at each end.

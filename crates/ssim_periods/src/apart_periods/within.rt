@@ -119,7 +119,7 @@ fn push_part<V: Value>(
 }
 
 // Appends a part of a period, if there is one, with the outcome of a change, unless that is empty.
-fn push_outcome<V: Value, C: Change<V>>(
+pub(crate) fn push_outcome<V: Value, C: Change<V>>(
     alloc: Global,
     added: &mut Vec<(Period, V)>,
     part: Option<Period>,

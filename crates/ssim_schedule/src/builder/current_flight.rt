@@ -7,7 +7,7 @@ ghost use Rattle.ssim_base.specs.Timetable.{Legs};
 ghost use Rattle.ssim_schedule.specs.internal.InsertedLegs.{placed_each};
 
 use crate::builder::leg_group::LegGroup;
-use crate::builder::run::{Run, put_runs, take_legs, widen};
+use crate::builder::run::{Run, take_legs, widen};
 use crate::itinerary::Itinerary;
 use ssim_periods::Periods;
 use ssim_values::{Flight, Memory, Period};
@@ -31,12 +31,13 @@ pub(crate) struct CurrentFlight {
 
 impl Model for CurrentFlight {
     ghost use Rattle.std.specs.Prelude.{◌++◌};
-    ghost use Rattle.ssim_schedule.specs.internal.Runs.{ends_of, with_runs};
+    ghost use Rattle.ssim_periods.specs.Days.{changed_by_each, ends_of};
+    ghost use Rattle.ssim_schedule.specs.internal.InsertedLegs.{placed_each};
     ghost use Rattle.ssim_schedule.specs.declared.timetable.flight_table.FlightPeriods.{FlightPeriods};
 
     ghost Value = { FlightPeriods };
 
-    ghost view = { λ c. record { flight = c.flight; periods = record { days = with_runs c.runs.items c.periods.days; cuts = ends_of c.runs.items ++ c.periods.cuts } } };
+    ghost view = { λ c. record { flight = c.flight; periods = record { days = changed_by_each placed_each c.runs.items c.periods.days; cuts = ends_of c.runs.items ++ c.periods.cuts } } };
 }
 
 impl CurrentFlight {
@@ -71,13 +72,10 @@ impl CurrentFlight {
         }
         let legs = take_legs(self.alloc, &self.runs, group, hash)?;
         if self.runs.len() >= MOST {
-            put_runs(&self.runs, &mut self.periods)?;
+            self.periods.replace_each(&self.runs)?;
             self.runs.clear();
         }
-        self.runs.push(Run {
-            period: *period,
-            legs,
-        })?;
+        self.runs.push((*period, legs))?;
         Ok(())
     }
 
@@ -98,7 +96,7 @@ impl CurrentFlight {
         ensures cuts { IfOk result (λ periods. (cut : ℕ) → Contains periods.cuts cut → Contains self.periods.cuts cut) }
     {
         let mut periods = self.periods;
-        put_runs(&self.runs, &mut periods)?;
+        periods.replace_each(&self.runs)?;
         Ok(periods)
     }
 }

@@ -1,36 +1,31 @@
 //! The runs of a flight: legs that are still to be put into its itineraries.
 
-ghost use Rattle.std.specs.Prelude.{◌≡◌, ◌⊎◌, ℕ, ◌+◌, ◌%◌, ◌<◌, ◌++◌, ◌∷◌, [], true, false, Contains, length, IfOk, IfSome, OnOk};
+ghost use Rattle.std.specs.Prelude.{◌≡◌, ◌⊎◌, ℕ, ◌+◌, ◌%◌, ◌<◌, true, false, Contains, length, IfOk, IfSome};
 ghost use Rattle.ssim_periods.specs.Calendar.{holds};
-ghost use Rattle.ssim_periods.specs.Days.{changed_on};
+ghost use Rattle.ssim_periods.specs.Days.{changed_by_each, changed_on, ends_of};
 ghost use Rattle.ssim_base.specs.Timetable.{Days};
 ghost use Rattle.ssim_schedule.specs.internal.InsertedLegs.{placed_each};
 ghost use Rattle.ssim_schedule.specs.internal.SharedLegs.{hash_of};
-ghost use Rattle.ssim_schedule.specs.internal.Runs.{IsWider, ends_of, is_run_on, with_runs};
+ghost use Rattle.ssim_schedule.specs.internal.Runs.{IsWider, is_run_on};
 
 use crate::builder::inserted_legs::InsertedLegs;
 use crate::builder::leg_group::LegGroup;
-use crate::itinerary::Itinerary;
-use ssim_periods::{Periods, meets, union};
+use ssim_periods::{are_apart, union};
 use ssim_values::{Memory, Period};
 use std::alloc::Global;
 
-/// Legs, and a period into whose itineraries they are still to be put.
-#[derive(Drop)]
-pub(crate) struct Run {
-    pub period: Period,
-    pub legs: InsertedLegs,
-}
+/// A period, and legs that are still to be put into its itineraries.
+pub(crate) type Run = (Period, InsertedLegs);
 
 /// Adds the days of a period to a run with the legs of the group. The result says whether there is
 /// one; if not, nothing is changed. `hash` is that of the legs: a run with another is not compared.
 pub(crate) fn widen(runs: &mut Vec<Run>, period: &Period, group: &LegGroup, hash: u32) -> bool
-    ensures days { result ≡ true → (days : Days) → with_runs runs.new.items days ≡ changed_on (holds period.now) (placed_each group.now.legs) 0 (with_runs runs.old.items days) }
+    ensures days { result ≡ true → (days : Days) → changed_by_each placed_each runs.new.items days ≡ changed_on (holds period.now) (placed_each group.now.legs) 0 (changed_by_each placed_each runs.old.items days) }
     ensures ends { result ≡ true → (cut : ℕ) → Contains (ends_of runs.new.items) cut → Contains (ends_of runs.old.items) cut ⊎ (cut ≡ period.now.first) ⊎ (cut ≡ period.now.last + 1) }
     ensures none { result ≡ false → runs.new ≡ runs.old }
 {
     if let Some(found) = wider(runs, period, group, hash) {
-        runs[found.0].period = found.1;
+        runs[found.0].0 = found.1;
         return true;
     }
     false
@@ -46,8 +41,8 @@ fn wider(runs: &[Run], period: &Period, group: &LegGroup, hash: u32) -> Option<(
     while place > 0 {
         place -= 1;
         let run = &runs[place];
-        if run.legs.hash() == hash && group.is_of(run.legs.legs()) {
-            if let Some(both) = union(&run.period, period) {
+        if run.1.hash() == hash && group.is_of(run.1.legs()) {
+            if let Some(both) = union(&run.0, period) {
                 if are_apart_from(&runs[place..], period) {
                     return Some((place, both));
                 }
@@ -63,22 +58,8 @@ fn are_apart_from(runs: &[Run], period: &Period) -> bool
 {
     match runs.split_first() {
         None => true,
-        Some((run, later)) => are_apart(period, &run.period) && are_apart_from(later, period),
+        Some((run, later)) => are_apart(period, &run.0) && are_apart_from(later, period),
     }
-}
-
-// Whether two periods have no day in common. Mostly one ends before the other begins.
-#[inline(always)]
-fn are_apart(one: &Period, other: &Period) -> bool
-    ensures { result ≡ true → (n : ℕ) → holds one.now n ≡ true → holds other.now n ≡ false }
-{
-    if one.last().number() < other.first().number() {
-        return true;
-    }
-    if other.last().number() < one.first().number() {
-        return true;
-    }
-    !meets(one, other)
 }
 
 /// The legs of a group, which may lose them, and their hash. A run with the same legs shares them.
@@ -92,23 +73,9 @@ pub(crate) fn take_legs(
     ensures { IfOk result (λ legs. legs ≡ group.old.legs) }
 {
     for run in runs {
-        if run.legs.hash() == hash && group.is_of(run.legs.legs()) {
-            return run.legs.copy(alloc);
+        if run.1.hash() == hash && group.is_of(run.1.legs()) {
+            return run.1.copy(alloc);
         }
     }
     group.take_new(hash)
-}
-
-/// Puts the legs of each run into the itineraries of its days.
-pub(crate) fn put_runs(runs: &[Run], periods: &mut Periods<Itinerary>) -> Result<(), Memory>
-    ensures days { OnOk result (periods.new.days ≡ with_runs runs.now periods.old.days) }
-    ensures cuts { OnOk result ((cut : ℕ) → Contains periods.new.cuts cut → Contains (ends_of runs.now ++ periods.old.cuts) cut) }
-{
-    match runs.split_first() {
-        None => Ok(()),
-        Some((run, later)) => {
-            periods.replace(&run.period, &run.legs)?;
-            put_runs(later, periods)
-        }
-    }
 }

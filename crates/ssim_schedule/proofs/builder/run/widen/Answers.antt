@@ -2,8 +2,7 @@
 use Rattle.std.proofs.Common.{◌≡◌, List, Some, slice_get, sym, ap, subst, ◌∙◌}
 use Rattle.ssim_values.specs.Period.{DayRange}
 use Rattle.ssim_periods.proofs.DayLemmas.{get-index}
-use Rattle.ssim_schedule.specs.internal.Runs.{IsWider}
-use Rattle.ssim_schedule.specs.declared.builder.run.Run.{Run}
+use Rattle.ssim_schedule.specs.internal.Runs.{IsWider, Run}
 use Rattle.ssim_schedule.proofs.RunLemmas.{ends-wider, runs-wider}
 use Rattle.ssim_schedule.proofs.builder.run.widen.Goals as goal
 

@@ -2,7 +2,7 @@
 use Rattle.std.proofs.Common.{arith}
 use Rattle.ssim_periods.proofs.ApplyLemmas.{outside-after, outside-before}
 use Rattle.ssim_periods.proofs.DayLemmas.{holds-Holds}
-use Rattle.ssim_schedule.proofs.builder.run.are_apart.Goals as goal
+use Rattle.ssim_periods.proofs.common_days.are_apart.Goals as goal
 
 pub returns-then-number : goal.returns-then-number
 returns-then-number c = λ t n on.
