@@ -42,15 +42,20 @@ impl Model for CurrentFlight {
 
 impl CurrentFlight {
     /// A flight with these periods.
-    pub(crate) fn new(alloc: Global, flight: Flight, periods: Periods<Itinerary>) -> CurrentFlight
-        ensures { result ≡ record { flight = flight; periods = periods } }
+    pub(crate) fn new(
+        alloc: Global,
+        flight: Flight,
+        periods: Periods<Itinerary>,
+    ) -> Result<CurrentFlight, Memory>
+        ensures { IfOk result (λ current. current ≡ record { flight = flight; periods = periods }) }
     {
-        CurrentFlight {
+        let runs = Vec::with_capacity(alloc, MOST)?;
+        Ok(CurrentFlight {
             flight,
             periods,
-            runs: Vec::new(alloc),
+            runs,
             alloc,
-        }
+        })
     }
 
     pub(crate) fn flight(&self) -> Flight

@@ -87,7 +87,7 @@ impl TableBuilder {
             return Ok(());
         }
         let periods = self.blocks.copy_of(flight)?;
-        let mut current = CurrentFlight::new(self.blocks.allocator(), flight, periods);
+        let mut current = CurrentFlight::new(self.blocks.allocator(), flight, periods)?;
         current.put(period, group)?;
         self.current = Some(current);
         Ok(())

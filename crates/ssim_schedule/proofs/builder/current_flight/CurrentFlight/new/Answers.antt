@@ -10,4 +10,4 @@ pub returns : goal.returns
 returns c =
     let flight = c.args.flight in let old = c.args.periods in
     let seen : List Run → FlightPeriods = λ runs. record { flight = flight; periods = record { days = changed_by_each placed_each runs old.days; cuts = ends_of runs ++ old.cuts } } in
-    ap seen c.new.ensures.items
+    ap seen c.in_ok-runs.ensures.items

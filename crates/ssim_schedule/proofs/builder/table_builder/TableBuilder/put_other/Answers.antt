@@ -25,8 +25,8 @@ returns-clause-days c = λ g.
     let was : table_days c.put_back.new.blocks g ≡ table_days c.args.self.now g =
     c.in_ok-put_back.ensures.days g ∙ ap (λ (o : Option FlightPeriods). table_days (with_current o c.self.inside.blocks) g) c.take-before.ensures.value ∙ ap (λ (t : Table). table_days t g) c.self.view_is in
     days-before s after q c.put_back.new.blocks c.in_ok-periods.periods c.put.new.self
-    (c.put.ensures.flight ∙ ap (λ (f : FlightPeriods). f.flight) c.new-current.ensures) c.in_ok-periods.ensures.days
-    (c.in_ok-put.ensures.days ∙ ap (λ (f : FlightPeriods). changed_on s after 0 f.periods.days) c.new-current.ensures) g
+    (c.put.ensures.flight ∙ ap (λ (f : FlightPeriods). f.flight) c.in_ok-current.ensures) c.in_ok-periods.ensures.days
+    (c.in_ok-put.ensures.days ∙ ap (λ (f : FlightPeriods). changed_on s after 0 f.periods.days) c.in_ok-current.ensures) g
     ∙ ap (λ (ds : Days). if nat_eq (place_of q) (place_of g) then changed_on s after 0 ds else ds) was
 
 pub returns-clause-cuts : goal.returns-clause-cuts
@@ -36,5 +36,5 @@ returns-clause-cuts c = λ g.
     adds-from p q g (table_cuts c.args.self.now g) (table_cuts c.put_back.new.blocks g) (table_cuts (c.put.new.self ∷ c.put_back.new.blocks) g)
     (λ cut has. subst (λ (t : Table). Contains (table_cuts t g) cut) was (c.in_ok-put_back.ensures.cuts g cut has))
     (cuts-before p q c.put_back.new.blocks c.in_ok-periods.periods c.put.new.self
-    (c.put.ensures.flight ∙ ap (λ (f : FlightPeriods). f.flight) c.new-current.ensures) c.in_ok-periods.ensures.cuts
-    (subst (λ (f : FlightPeriods). AddsOnly f.periods.cuts c.put.new.self.periods.cuts p.first (p.last + 1)) c.new-current.ensures c.in_ok-put.ensures.cuts) g)
+    (c.put.ensures.flight ∙ ap (λ (f : FlightPeriods). f.flight) c.in_ok-current.ensures) c.in_ok-periods.ensures.cuts
+    (subst (λ (f : FlightPeriods). AddsOnly f.periods.cuts c.put.new.self.periods.cuts p.first (p.last + 1)) c.in_ok-current.ensures c.in_ok-put.ensures.cuts) g)
