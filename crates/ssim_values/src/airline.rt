@@ -2,6 +2,7 @@ ghost use Rattle.std.specs.Prelude.{◌≡◌, ◌↔◌, ◌||◌, List, ℕ, I
 ghost use Rattle.ssim_values.specs.Airline.{airline_text, is_airline, is_pair};
 
 use crate::Fault;
+use crate::digits::{is_digit, is_letter};
 use std::fmt;
 use std::marker::Model;
 
@@ -34,7 +35,7 @@ impl Airline {
     {
         let accepted = match *text {
             [a, b, b' '] => is_pair(a, b),
-            [a, b, c] => a.is_ascii_uppercase() && b.is_ascii_uppercase() && c.is_ascii_uppercase(),
+            [a, b, c] => is_letter(a) && is_letter(b) && is_letter(c),
         };
         if accepted {
             Ok(Airline { columns: *text })
@@ -69,6 +70,5 @@ impl fmt::Display for Airline {
 fn is_pair(a: u8, b: u8) -> bool
     ensures { result ≡ is_pair a b }
 {
-    (a.is_ascii_uppercase() && (b.is_ascii_uppercase() || b.is_ascii_digit()))
-        || (a.is_ascii_digit() && b.is_ascii_uppercase())
+    (is_letter(a) && (is_letter(b) || is_digit(b))) || (is_digit(a) && is_letter(b))
 }

@@ -2,6 +2,7 @@ ghost use Rattle.std.specs.Prelude.{◌≡◌, ◌↔◌, [], ◌∷◌, ◌++�
 ghost use Rattle.ssim_values.specs.Airline.{is_airline, airline_text};
 ghost use Rattle.ssim_values.specs.Characters.{is_digit, is_letter};
 
+use crate::digits::is_letter;
 use crate::{Airline, Fault, Flight};
 use arrayvec::ArrayVec;
 use std::fmt;
@@ -112,5 +113,5 @@ fn third_is_letter(text: &[u8]) -> bool
     ensures letter { result ≡ is_letter (slice_index text.now 2) }
     ensures long { result ≡ true → 3 ≤ length text.now }
 {
-    text.len() > 2 && text[2].is_ascii_uppercase()
+    text.len() > 2 && is_letter(text[2])
 }

@@ -2,6 +2,7 @@ ghost use Rattle.std.specs.Prelude.{◌≡◌, ◌↔◌, List, ℕ, length, IsT
 ghost use Rattle.ssim_values.specs.Station.{is_station};
 
 use crate::Fault;
+use crate::digits::is_letter;
 use std::fmt;
 use std::marker::Model;
 
@@ -33,7 +34,7 @@ impl Station {
         ensures err { IfErr result (λ e. e ≡ Fault.BadStation) }
     {
         let [a, b, c] = *text;
-        if a.is_ascii_uppercase() && b.is_ascii_uppercase() && c.is_ascii_uppercase() {
+        if is_letter(a) && is_letter(b) && is_letter(c) {
             Ok(Station { letters: *text })
         } else {
             Err(Fault::BadStation)
