@@ -3,7 +3,7 @@
 use Rattle.std.proofs.Common.{◌≡◌, ℕ, zero, suc, ◌+◌, ◌-◌, ◌*◌, ◌/◌, ◌%◌, ◌≤◌, ◌<◌, if◌then◌else◌, refl, arith}
 use Rattle.std.specs.Prelude.{◌==◌}
 use Rattle.std.proofs.lemmas.Bool.Decides.{nat_tests}
-use Rattle.ssim_values.specs.Calendar.{IsDate, is_leap, leap_years, month_length, months_length, day_number}
+use Rattle.ssim_values.specs.Calendar.{IsDate, leap_years, month_length, months_length, day_number}
 use Rattle.ssim_values.specs.internal.MarchYears.{march_day, march_month}
 
 leaps : (k : ℕ) → k ≤ 100 → leap_years k ≡ (k + 3) / 4

@@ -1,5 +1,5 @@
 //! Years that begin with March. A leap day is the last day of such a year, so the month and the day
-//! follow from the number of days since its begin alone.
+//! follow from the number of days since 1 March alone.
 
 ghost use Rattle.std.specs.Prelude.{◌≡◌, ◌<◌, ◌++◌};
 ghost use Rattle.ssim_values.specs.Characters.{two_digits};
