@@ -38,6 +38,19 @@ outside-after first last n mask h = grind (arith, nat_tests)
 pub inside : (first last n : ℕ) (mask : List Bool) → first ≤ n → n ≤ last → is_within first last mask n ≡ slice_index_or mask (slot n) false
 inside first last n mask h l = grind (arith, nat_tests)
 
+-- the first day of a period is not after its last
+pub in-order : (first last a b : ℕ) → first ≡ a → last ≡ b → a ≤ b → first ≤ last
+in-order first last a b f l h = omega arith
+
+pub before-next : (first last : ℕ) → first ≤ last → first < last + 1
+before-next first last h = omega arith
+
+pub next-back : (n : ℕ) → n ≡ n + 1 - 1
+next-back n = omega arith
+
+pub counted-same : (n a b c d : ℕ) → n + a ≡ b + 1 → a ≡ c → b ≡ d → n + c ≡ d + 1
+counted-same n a b c d h e f = omega arith
+
 -- the rows before values are put in
 pub record Split {V : Type 0} (before : List V) (cuts : List ℕ) (rows : List (List V)) (first last : ℕ) (head tail : List V) : Type 0 where
   pub valid : AreRows before cuts rows

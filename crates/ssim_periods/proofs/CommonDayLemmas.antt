@@ -98,6 +98,13 @@ meet-none p q days other first last own its f l none = no-common-date (holds p) 
         ∙ ap (λ ds. slice_index_or days (slot n) false && slice_index_or ds (slot n) false) (sym its)
         ∙ none n from to)
 
+-- two periods do not meet where one ends before the other begins
+pub meet-before : (p q : DayRange) → p.last < q.first → meet p q ≡ false
+meet-before p q h = meet-none p q p.days q.days (max p.first q.first) (min p.last q.last) refl refl refl refl (λ n from to. absurd (omega arith))
+
+pub meet-after : (p q : DayRange) → q.last < p.first → meet p q ≡ false
+meet-after p q h = meet-none p q p.days q.days (max p.first q.first) (min p.last q.last) refl refl refl refl (λ n from to. absurd (omega arith))
+
 and-right : (a b c : Bool) → ((a && b) && c) ≡ true → b ≡ true
 and-right false b c h = absurd cc
 and-right true false c h = absurd cc

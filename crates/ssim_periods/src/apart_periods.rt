@@ -20,7 +20,7 @@ use crate::apart_periods::entries::{copy_entries, meets_none, rows_of, shared_en
 use crate::apart_periods::entry_pieces::covers;
 use crate::apart_periods::first_entries::{cuts_of, outcomes_of};
 use crate::apart_periods::spaced_days::SpacedDays;
-use crate::apart_periods::within::{added_parts, counts_within, keep_first_parts, keeps_empty};
+use crate::apart_periods::within::{added_parts, counts_within, divide, keeps_empty};
 use crate::range_rows::RangeRows;
 use crate::range_rows::count::counts_of;
 use crate::rows::{is_after_cuts, is_before_cuts};
@@ -89,7 +89,8 @@ impl<V: Value> ApartPeriods<V> {
 
     /// Whether the list is not full and has no day of the period.
     pub(crate) fn has_room_for(&self, period: &Period) -> bool
-        ensures { IsTrue result → (n : ℕ) → holds period.now n ≡ true → slice_index_or self.now.days n V.nothing ≡ V.nothing }
+        ensures { IsTrue result → (n : ℕ) → holds period.now n ≡ true
+            → slice_index_or self.now.days n V.nothing ≡ V.nothing }
     {
         self.entries.len() < MOST && is_free(&self.entries, self.cuts.days(), period)
     }
@@ -101,10 +102,14 @@ impl<V: Value> ApartPeriods<V> {
         period: &Period,
         change: &C,
     ) -> Result<[u32; 5], Memory>
-        requires { (n : ℕ) → holds period.now n ≡ true → slice_index_or self.old.days n V.nothing ≡ V.nothing }
-        ensures days { OnOk result (self.new.days ≡ changed_on (holds period.now) (C.outcome change.now) 0 self.old.days) }
-        ensures counts { IfOk result (λ counts. counts ≡ counts_on (holds period.now) (C.class_of change.now) self.old.days) }
-        ensures cuts { OnOk result (AddsOnly self.old.cuts self.new.cuts period.now.first (period.now.last + 1)) }
+        requires { (n : ℕ) → holds period.now n ≡ true
+            → slice_index_or self.old.days n V.nothing ≡ V.nothing }
+        ensures days { OnOk result
+            (self.new.days ≡ changed_on (holds period.now) (C.outcome change.now) 0 self.old.days) }
+        ensures counts { IfOk result
+            (λ counts. counts ≡ counts_on (holds period.now) (C.class_of change.now) self.old.days) }
+        ensures cuts { OnOk result
+            (AddsOnly self.old.cuts self.new.cuts period.now.first (period.now.last + 1)) }
         ensures err { OnErr result (self.new ≡ self.old) }
     {
         let counts = counts_of(period, change, &self.empty[0]);
@@ -118,9 +123,12 @@ impl<V: Value> ApartPeriods<V> {
         period: &Period,
         change: &C,
     ) -> Result<(), Memory>
-        requires { (n : ℕ) → holds period.now n ≡ true → slice_index_or self.old.days n V.nothing ≡ V.nothing }
-        ensures days { OnOk result (self.new.days ≡ changed_on (holds period.now) (C.outcome change.now) 0 self.old.days) }
-        ensures cuts { OnOk result (AddsOnly self.old.cuts self.new.cuts period.now.first (period.now.last + 1)) }
+        requires { (n : ℕ) → holds period.now n ≡ true
+            → slice_index_or self.old.days n V.nothing ≡ V.nothing }
+        ensures days { OnOk result
+            (self.new.days ≡ changed_on (holds period.now) (C.outcome change.now) 0 self.old.days) }
+        ensures cuts { OnOk result
+            (AddsOnly self.old.cuts self.new.cuts period.now.first (period.now.last + 1)) }
         ensures err { OnErr result (self.new ≡ self.old) }
     {
         let value = change.after(self.alloc, &self.empty[0])?;
@@ -135,8 +143,12 @@ impl<V: Value> ApartPeriods<V> {
     /// Applies changes one after another if no day has a value yet. Returns false and changes nothing
     /// if a day has one, if two of the periods have a common day, or if there are too many of them.
     pub(crate) fn begin<C: Change<V>>(&mut self, changes: &[(Period, C)]) -> Result<bool, Memory>
-        ensures days { IfOk result (λ done. done ≡ true → self.new.days ≡ changed_by_each C.outcome changes.now self.old.days) }
-        ensures cuts { IfOk result (λ done. done ≡ true → (cut : ℕ) → Contains self.new.cuts cut → Contains (ends_of changes.now) cut) }
+        ensures days { IfOk result
+            (λ done. done ≡ true
+            → self.new.days ≡ changed_by_each C.outcome changes.now self.old.days) }
+        ensures cuts { IfOk result
+            (λ done. done ≡ true → (cut : ℕ) → Contains self.new.cuts cut
+            → Contains (ends_of changes.now) cut) }
         ensures other { IfOk result (λ done. done ≡ false → self.new ≡ self.old) }
     {
         if !self.entries.is_empty() || changes.len() > MOST {
@@ -160,35 +172,39 @@ impl<V: Value> ApartPeriods<V> {
         period: &Period,
         change: &C,
     ) -> Result<Option<[u32; 5]>, Memory>
-        ensures days { IfOk result (λ done. OnSome done (self.new.days ≡ changed_on (holds period.now) (C.outcome change.now) 0 self.old.days)) }
-        ensures counts { IfOk result (λ done. IfSome done (λ counts. counts ≡ counts_on (holds period.now) (C.class_of change.now) self.old.days)) }
+        ensures days { IfOk result
+            (λ done. OnSome done
+            (self.new.days ≡ changed_on (holds period.now) (C.outcome change.now) 0 self.old.days)) }
+        ensures counts { IfOk result
+            (λ done. IfSome done
+            (λ counts. counts ≡ counts_on (holds period.now) (C.class_of change.now) self.old.days)) }
         ensures none { IfOk result (λ done. IfNone done (self.new ≡ self.old)) }
-        ensures cuts { IfOk result (λ done. OnSome done (AddsOnly self.old.cuts self.new.cuts period.now.first (period.now.last + 1))) }
+        ensures cuts { IfOk result
+            (λ done. OnSome done
+            (AddsOnly self.old.cuts self.new.cuts period.now.first (period.now.last + 1))) }
         ensures err { OnErr result (self.new ≡ self.old) }
     {
         let (counts, free) = counts_within(&self.entries, period, change);
         if !keeps_empty::<V, C>(self.alloc, free, change)? {
             return Ok(None);
         }
-        let mut added = added_parts(self.alloc, &self.entries, period, change)?;
-        let count = self.entries.len();
-        if !has_room(count, added.len()) {
+        let added = added_parts(self.alloc, &self.entries, period, change)?;
+        if !has_room(self.entries.len(), added.len()) {
             return Ok(None);
         }
-        self.cuts.make_room(self.alloc)?;
-        self.entries.append(&mut added)?;
-        keep_first_parts(&mut self.entries, count, period);
-        self.cuts.add(period.first().number() as u32);
-        self.cuts.add(period.last().number() as u32 + 1);
+        divide(self.alloc, &mut self.entries, &mut self.cuts, period, added)?;
         Ok(Some(counts))
     }
 
     // Gives the days of the period, which have the empty value, a value that is not empty.
     fn put(&mut self, period: &Period, value: V) -> Result<(), Memory>
-        requires free { (n : ℕ) → holds period.now n ≡ true → slice_index_or self.old.days n V.nothing ≡ V.nothing }
+        requires free { (n : ℕ) → holds period.now n ≡ true
+            → slice_index_or self.old.days n V.nothing ≡ V.nothing }
         requires given { value ≢ V.nothing }
-        ensures days { OnOk result (self.new.days ≡ changed_on (holds period.now) (λ _. value) 0 self.old.days) }
-        ensures cuts { OnOk result (AddsOnly self.old.cuts self.new.cuts period.now.first (period.now.last + 1)) }
+        ensures days { OnOk result
+            (self.new.days ≡ changed_on (holds period.now) (λ _. value) 0 self.old.days) }
+        ensures cuts { OnOk result
+            (AddsOnly self.old.cuts self.new.cuts period.now.first (period.now.last + 1)) }
         ensures err { OnErr result (self.new ≡ self.old) }
     {
         let first = period.first().number() as u32;
@@ -248,7 +264,9 @@ impl<V: Value> ApartPeriods<V> {
         ensures cuts { result.now ≡ self.now.cuts }
         ensures rising { IsStrictlyIncreasing result.now }
         ensures in_calendar { All (λ cut. cut ≤ 36525) result.now }
-        ensures weekly { (m n : ℕ) → m ≤ n → n < 36525 → weekday m ≡ weekday n → ((cut : ℕ) → Contains result.now cut → m < cut → n < cut) → slice_get self.now.days m ≡ slice_get self.now.days n }
+        ensures weekly { (m n : ℕ) → m ≤ n → n < 36525 → weekday m ≡ weekday n
+            → ((cut : ℕ) → Contains result.now cut → m < cut → n < cut)
+            → slice_get self.now.days m ≡ slice_get self.now.days n }
     {
         self.cuts.days()
     }
@@ -256,7 +274,8 @@ impl<V: Value> ApartPeriods<V> {
     /// The same values as rows. Their cuts are among those of the list.
     pub(crate) fn to_rows(&self) -> Result<RangeRows<V>, Memory>
         ensures days { IfOk result (λ rows. rows.days ≡ self.now.days) }
-        ensures cuts { IfOk result (λ rows. (cut : ℕ) → Contains rows.cuts cut → Contains self.now.cuts cut) }
+        ensures cuts { IfOk result
+            (λ rows. (cut : ℕ) → Contains rows.cuts cut → Contains self.now.cuts cut) }
     {
         rows_of(self.alloc, &self.entries)
     }
@@ -265,7 +284,8 @@ impl<V: Value> ApartPeriods<V> {
     /// periods of a value are joined as far as that is simple. If one is left, the cover is found
     /// from its days, else from rows that are made of the periods.
     pub(crate) fn pieces(&self) -> Result<Vec<(Period, V)>, Memory>
-        ensures pieces { IfOk result (λ pieces. pieces.items ≡ pieces_of V.alike V.nothing self.now.days) }
+        ensures pieces { IfOk result
+            (λ pieces. pieces.items ≡ pieces_of V.alike V.nothing self.now.days) }
         ensures each_day { OnOk result (length self.now.days ≡ day_count) }
     {
         let mut pieces = covers(self.alloc, &self.entries)?;

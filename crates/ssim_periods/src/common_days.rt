@@ -1,5 +1,5 @@
 //! Whether two periods have a day in common.
-ghost use Rattle.std.specs.Prelude.{◌≡◌, ℕ, ◌<◌, ◌≤◌, ◌&&◌, true, false};
+ghost use Rattle.std.specs.Prelude.{◌≡◌, ℕ, ◌<◌, ◌≤◌, ◌&&◌, true, false, not};
 ghost use Rattle.ssim_periods.specs.Calendar.{holds};
 ghost use Rattle.ssim_periods.specs.CommonDays.{meet};
 
@@ -9,7 +9,8 @@ use ssim_values::Period;
 /// Whether two periods have no day in common. Mostly one ends before the other begins.
 #[inline(always)]
 pub fn are_apart(one: &Period, other: &Period) -> bool
-    ensures { result ≡ true → (n : ℕ) → holds one.now n ≡ true → holds other.now n ≡ false }
+    ensures value { result ≡ not (meet one.now other.now) }
+    ensures none { result ≡ true → (n : ℕ) → holds one.now n ≡ true → holds other.now n ≡ false }
 {
     if one.last().number() < other.first().number() {
         return true;
@@ -20,7 +21,8 @@ pub fn are_apart(one: &Period, other: &Period) -> bool
     !meets(one, other)
 }
 
-/// Whether two periods have a day in common. Mostly periods that do not lie apart are of other weekdays.
+/// Whether two periods have a day in common. Mostly periods that do not lie apart are of other
+/// weekdays.
 #[inline(always)]
 pub fn meets(one: &Period, other: &Period) -> bool
     ensures value { result ≡ meet one.now other.now }
@@ -29,7 +31,8 @@ pub fn meets(one: &Period, other: &Period) -> bool
     !are_of_other_weekdays(one, other) && meet_on_a_weekday(one, other)
 }
 
-// Whether two periods have no weekday in common. Every weekday is looked at, since a branch at each would often be predicted wrongly.
+// Whether two periods have no weekday in common. Every weekday is looked at, since a branch at each
+// would often be predicted wrongly.
 #[inline(always)]
 fn are_of_other_weekdays(one: &Period, other: &Period) -> bool
     ensures value { result ≡ true → meet one.now other.now ≡ false }

@@ -125,6 +125,8 @@ impl<V: Value> RangeRows<V> {
         let first = period.first().number() as u32;
         let last = period.last().number() as u32;
         let mask = period.mask().days();
+        self.cuts.reserve(2)?;
+        self.rows.reserve(2)?;
         let patches = new_rows(
             alloc,
             &self.before,
@@ -137,8 +139,6 @@ impl<V: Value> RangeRows<V> {
         )?;
         let head = row_for_cut(alloc, &self.before, &self.cuts, &self.rows, first)?;
         let tail = row_for_cut(alloc, &self.before, &self.cuts, &self.rows, last + 1)?;
-        self.cuts.reserve(2)?;
-        self.rows.reserve(2)?;
         put_period(
             &mut self.cuts,
             &mut self.rows,

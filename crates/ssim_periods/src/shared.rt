@@ -3,6 +3,7 @@ ghost use Rattle.std.specs.Prelude.{◌≡◌, ◌<◌, slice_index_or, IfOk};
 
 use crate::Value;
 use crate::range_rows::RangeRows;
+use crate::value::are_equal;
 use ssim_values::Memory;
 use std::alloc::Global;
 
@@ -68,11 +69,11 @@ fn source<'a, V: Value>(latest: &'a [V; 7], row: &'a [V; 7], weekday: usize) -> 
     ensures { result.now ≡ slice_index_or row.now weekday result.now }
 {
     let value = &row[weekday];
-    if value.same(&latest[weekday]) {
+    if are_equal(value, &latest[weekday]) {
         return &latest[weekday];
     }
     for earlier in &row[..weekday] {
-        if value.same(earlier) {
+        if are_equal(value, earlier) {
             return earlier;
         }
     }

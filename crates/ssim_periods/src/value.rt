@@ -31,6 +31,13 @@ pub trait Value: Drop {
     ghost exact: { (x y : Self) → IsTrue (alike x y) ↔ (x ≡ y) };
 }
 
+// Whether two values are equal.
+pub(crate) fn are_equal<V: Value>(one: &V, other: &V) -> bool
+    ensures { IsTrue result ↔ (one.now ≡ other.now) }
+{
+    one.same(other)
+}
+
 /// A change of the value of each day of a period. Both calls are made only with values that some
 /// day of the period has. For a period that holds no day, `after` may be called once with the empty
 /// value.

@@ -11,6 +11,7 @@ use crate::common_days::are_apart;
 use crate::cover::joined::join;
 use crate::numbers::ValueNumber;
 use crate::range_rows::RangeRows;
+use crate::value::are_equal;
 use crate::{Change, Value};
 use ssim_values::{Day, Memory, Period};
 use std::alloc::Global;
@@ -78,7 +79,7 @@ fn shared_value<V: Value>(alloc: Global, copies: &[(Period, V)], value: &V) -> R
     ensures { IfOk result (λ copy. copy ≡ value.now) }
 {
     if let Some(latest) = copies.last() {
-        if value.same(&latest.1) {
+        if are_equal(value, &latest.1) {
             return Ok(latest.1.copy(alloc)?);
         }
     }
@@ -114,7 +115,8 @@ pub(crate) fn rows_of<V: Value>(
 ) -> Result<RangeRows<V>, Memory>
     requires once { (n : ℕ) → length (held_on entries.now n) ≤ 1 }
     ensures days { IfOk result (λ rows. rows.days ≡ each_day (value_in V.nothing entries.now)) }
-    ensures cuts { IfOk result (λ rows. (cuts : List ℕ) → AreDivided cuts entries.now → (cut : ℕ) → Contains rows.cuts cut → Contains cuts cut) }
+    ensures cuts { IfOk result (λ rows. (cuts : List ℕ) → AreDivided cuts entries.now
+        → (cut : ℕ) → Contains rows.cuts cut → Contains cuts cut) }
 {
     let mut rows = RangeRows::new(alloc);
     let mut place = entries.len();
@@ -136,10 +138,14 @@ pub(crate) fn take_days_of_value<V: Value>(
     entry: &(Period, V),
 ) -> Result<(), Memory>
     requires size { length earlier.now ≤ length done.old.items }
-    requires others { (i : ℕ) (other : DayRange × V) → slice_get earlier.now i ≡ Some other → slice_index_or done.old.items i false ≡ true → V.alike entry.now.1 other.1 ≡ false }
-    ensures days { OnOk result ((n : ℕ) → is_held periods.new.items n ≡ given_on V.alike (earlier.now ++ entry.now ∷ []) entry.now.1 n) }
+    requires others { (i : ℕ) (other : DayRange × V) → slice_get earlier.now i ≡ Some other
+        → slice_index_or done.old.items i false ≡ true → V.alike entry.now.1 other.1 ≡ false }
+    ensures days { OnOk result ((n : ℕ) → is_held periods.new.items n
+        ≡ given_on V.alike (earlier.now ++ entry.now ∷ []) entry.now.1 n) }
     ensures size { length done.new.items ≡ length done.old.items }
-    ensures done { OnOk result ((i : ℕ) (other : DayRange × V) → slice_get earlier.now i ≡ Some other → slice_index_or done.new.items i false ≡ (slice_index_or done.old.items i false || V.alike entry.now.1 other.1)) }
+    ensures done { OnOk result ((i : ℕ) (other : DayRange × V) → slice_get earlier.now i ≡ Some other
+        → slice_index_or done.new.items i false
+        ≡ (slice_index_or done.old.items i false || V.alike entry.now.1 other.1)) }
 {
     periods.clear();
     join(periods, &entry.0)?;

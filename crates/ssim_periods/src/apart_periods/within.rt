@@ -1,6 +1,7 @@
 //! A change of days of which a list's periods hold some.
-ghost use Rattle.std.specs.Prelude.{◌≡◌, ◌≢◌, ◌⊎◌, ◌&&◌, ◌∷◌, ℕ, ◌<◌, ◌≤◌, ◌++◌, List, [], true, nat_eq, length, slice_index_or, vec_len, IfOk, OnOk, IsTrue};
-ghost use Rattle.ssim_values.specs.Period.{DayRange};
+ghost use Rattle.std.specs.Prelude.{◌≡◌, ◌≢◌, ◌⊎◌, ◌&&◌, ◌∷◌, ℕ, ◌+◌, ◌<◌, ◌≤◌, ◌++◌, List, [], true, nat_eq, length, slice_index_or, vec_len, IfOk, OnOk, OnErr, IsTrue};
+ghost use Rattle.std.specs.List.Sorted.{IsStrictlyIncreasing};
+ghost use Rattle.ssim_values.specs.Period.{DayRange, IsPeriod};
 ghost use Rattle.ssim_periods.specs.Calendar.{day_count, holds};
 ghost use Rattle.ssim_periods.specs.Days.{counts_on, each_day};
 ghost use Rattle.ssim_periods.specs.Pieces.{held_on};
@@ -8,9 +9,11 @@ ghost use Rattle.ssim_periods.specs.internal.Apart.{value_in};
 ghost use Rattle.ssim_periods.specs.internal.Count.{tally};
 ghost use Rattle.ssim_periods.specs.internal.Parts.{added_of, added_parts, any_value, finds, kept_parts, with_outcome, with_value};
 ghost use Rattle.ssim_periods.specs.internal.Parts.{first_part as the_first_part};
+ghost use Rattle.ssim_periods.specs.internal.Splits.{with_cut};
 
 use crate::apart_periods::entries::SetTo;
 use crate::apart_periods::parts::{common_part, first_part, second_part, third_part};
+use crate::apart_periods::spaced_days::SpacedDays;
 use crate::common_days::meets;
 use crate::numbers::NONE;
 use crate::range_rows::count::counts_of;
@@ -47,7 +50,10 @@ fn count_held<V: Value, C: Change<V>>(
 ) -> ([u32; 5], u32)
     requires once { (n : ℕ) → length (held_on entries.now n) ≤ 1 }
     ensures len { length result.0 ≡ 5 }
-    ensures counts { (k : ℕ) → k < 5 → slice_index_or result.0 k 0 ≡ tally (finds (holds period.now) (λ v. nat_eq (C.class_of change.now v) k) entries.now) 0 day_count }
+    ensures counts { (k : ℕ) → k < 5
+        → slice_index_or result.0 k 0
+        ≡ tally (finds (holds period.now)
+        (λ v. nat_eq (C.class_of change.now v) k) entries.now) 0 day_count }
     ensures held { result.1 ≡ tally (finds (holds period.now) any_value entries.now) 0 day_count }
 {
     let mut counts = [0; 5];
@@ -73,8 +79,11 @@ pub(crate) fn counts_within<V: Value, C: Change<V>>(
     change: &C,
 ) -> ([u32; 5], u32)
     requires once { (n : ℕ) → length (held_on entries.now n) ≤ 1 }
-    ensures counts { result.0 ≡ counts_on (holds period.now) (C.class_of change.now) (each_day (value_in V.nothing entries.now)) }
-    ensures free { result.1 ≡ 0 → (n : ℕ) → n < 36525 → holds period.now n ≡ true → held_on entries.now n ≢ [] }
+    ensures counts { result.0
+        ≡ counts_on (holds period.now) (C.class_of change.now)
+        (each_day (value_in V.nothing entries.now)) }
+    ensures free { result.1 ≡ 0 → (n : ℕ) → n < 36525 → holds period.now n ≡ true
+        → held_on entries.now n ≢ [] }
 {
     let (mut counts, held) = count_held(entries, period, change);
     let free = days_in(period) - held;
@@ -91,7 +100,8 @@ pub(crate) fn keeps_empty<V: Value, C: Change<V>>(
     free: u32,
     change: &C,
 ) -> Result<bool, Memory>
-    ensures { IfOk result (λ keeps. IsTrue keeps → (free ≡ 0) ⊎ (C.outcome change.now V.nothing ≡ V.nothing)) }
+    ensures { IfOk result
+        (λ keeps. IsTrue keeps → (free ≡ 0) ⊎ (C.outcome change.now V.nothing ≡ V.nothing)) }
 {
     if free == 0 {
         return Ok(true);
@@ -126,7 +136,9 @@ pub(crate) fn push_outcome<V: Value, C: Change<V>>(
     value: &V,
     change: &C,
 ) -> Result<(), Memory>
-    ensures { OnOk result (added.new.items ≡ added.old.items ++ with_outcome V.alike V.nothing part (C.outcome change.now value.now)) }
+    ensures { OnOk result
+        (added.new.items ≡ added.old.items
+        ++ with_outcome V.alike V.nothing part (C.outcome change.now value.now)) }
 {
     let value = change.after(alloc, value)?;
     if value.is_empty() {
@@ -147,7 +159,9 @@ fn push_added<V: Value, C: Change<V>>(
     period: &Period,
     change: &C,
 ) -> Result<(), Memory>
-    ensures { OnOk result (added.new.items ≡ added.old.items ++ added_of V.alike V.nothing (C.outcome change.now) period.now entry.now) }
+    ensures { OnOk result
+        (added.new.items ≡ added.old.items
+        ++ added_of V.alike V.nothing (C.outcome change.now) period.now entry.now) }
 {
     if !meets(period, &entry.0) {
         return Ok(());
@@ -170,7 +184,9 @@ pub(crate) fn added_parts<V: Value, C: Change<V>>(
     period: &Period,
     change: &C,
 ) -> Result<Vec<(Period, V)>, Memory>
-    ensures { IfOk result (λ added. added.items ≡ added_parts V.alike V.nothing (C.outcome change.now) period.now entries.now) }
+    ensures { IfOk result
+        (λ added. added.items
+        ≡ added_parts V.alike V.nothing (C.outcome change.now) period.now entries.now) }
 {
     let mut added = Vec::new(alloc);
     let mut place = entries.len();
@@ -181,15 +197,42 @@ pub(crate) fn added_parts<V: Value, C: Change<V>>(
     Ok(added)
 }
 
+// Divides the periods of a list that have a day of a period: each keeps the first of its parts
+// without these days, the other parts come to the end of the list, and the ends of the period to
+// the cuts. After an error nothing has changed.
+pub(crate) fn divide<V: Value>(
+    alloc: Global,
+    entries: &mut Vec<(Period, V)>,
+    cuts: &mut SpacedDays,
+    period: &Period,
+    mut added: Vec<(Period, V)>,
+) -> Result<(), Memory>
+    requires { IsStrictlyIncreasing cuts.old.days }
+    ensures entries { OnOk result
+        (entries.new.items ≡ kept_parts period.now entries.old.items ++ added.items) }
+    ensures cuts { OnOk result (cuts.new.days
+        ≡ with_cut (with_cut cuts.old.days period.now.first) (period.now.last + 1)) }
+    ensures period { IsPeriod period.now }
+    ensures kept_entries { OnErr result (entries.new.items ≡ entries.old.items) }
+    ensures kept_cuts { OnErr result (cuts.new.days ≡ cuts.old.days) }
+{
+    let first = period.first().number() as u32;
+    let end = period.last().number() as u32 + 1;
+    let count = entries.len();
+    cuts.make_room(alloc)?;
+    entries.append(&mut added)?;
+    keep_first_parts(entries, count, period);
+    cuts.add(first);
+    cuts.add(end);
+    Ok(())
+}
+
 // Leaves of each of the first periods of a list the first of its parts without the days of a
 // period.
-pub(crate) fn keep_first_parts<V: Value>(
-    entries: &mut Vec<(Period, V)>,
-    count: usize,
-    period: &Period,
-)
+fn keep_first_parts<V: Value>(entries: &mut Vec<(Period, V)>, count: usize, period: &Period)
     requires { count ≤ vec_len entries.old }
-    ensures { (first added : List (DayRange × V)) → entries.old.items ≡ first ++ added → length first ≡ count → entries.new.items ≡ kept_parts period.now first ++ added }
+    ensures { (first added : List (DayRange × V)) → entries.old.items ≡ first ++ added
+        → length first ≡ count → entries.new.items ≡ kept_parts period.now first ++ added }
 {
     let mut place = count;
     while place > 0 {
@@ -203,7 +246,10 @@ pub(crate) fn keep_first_parts<V: Value>(
 // Leaves of a period of a list the first of its parts without the days of a period.
 fn keep_first_part<V: Value>(entries: &mut Vec<(Period, V)>, place: usize, period: &Period)
     requires { place < vec_len entries.old }
-    ensures items { (before after : List (DayRange × V)) (entry : DayRange × V) → entries.old.items ≡ before ++ entry ∷ after → length before ≡ place → entries.new.items ≡ before ++ (with_value (the_first_part entry.0 period.now) entry.1 ++ after) }
+    ensures items { (before after : List (DayRange × V)) (entry : DayRange × V)
+        → entries.old.items ≡ before ++ entry ∷ after → length before ≡ place
+        → entries.new.items
+        ≡ before ++ (with_value (the_first_part entry.0 period.now) entry.1 ++ after) }
     ensures len { place ≤ vec_len entries.new }
 {
     match first_part(&entries[place].0, period) {

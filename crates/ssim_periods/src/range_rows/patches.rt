@@ -8,6 +8,7 @@ ghost use Rattle.ssim_periods.specs.internal.Rows.{place, value_on, AreRows};
 ghost use Rattle.ssim_periods.specs.internal.Splits.{has_cut, with_cut, with_row, patch_of, patched, patched_from};
 
 use crate::rows::{has_days, place_of, range_end, row_at};
+use crate::value::are_equal;
 use crate::{Change, Value};
 use ssim_values::Memory;
 use std::alloc::Global;
@@ -25,13 +26,27 @@ fn new_value<V: Value, C: Change<V>>(
     ensures { IfOk result (λ new. new ≡ C.outcome change.now old.now) }
 {
     if let Some((earlier, new)) = latest {
-        if old.same(earlier) {
-            if let Ok(shared) = new.copy(alloc) {
-                return Ok(shared);
-            }
+        if are_equal(old, earlier) {
+            return copied_value(alloc, old, new, change);
         }
     }
     change.after(alloc, old)
+}
+
+// A copy of the new value for an old one. If it cannot be copied, it is made again.
+fn copied_value<V: Value, C: Change<V>>(
+    alloc: Global,
+    old: &V,
+    new: &V,
+    change: &C,
+) -> Result<V, Memory>
+    requires { new.now ≡ C.outcome change.now old.now }
+    ensures { IfOk result (λ new. new ≡ C.outcome change.now old.now) }
+{
+    match new.copy(alloc) {
+        Ok(copy) => Ok(copy),
+        Err(_) => change.after(alloc, old),
+    }
 }
 
 // A new value beside the old one that it was made for, if it can be copied.
@@ -55,7 +70,8 @@ fn new_row<V: Value, C: Change<V>>(
 ) -> Result<Vec<Option<V>>, Memory>
     requires from { from ≤ 36525 }
     requires to { to ≤ 36525 }
-    ensures { IfOk result (λ patch. patch.items ≡ patch_of (with_days 0 mask.now from to) (C.outcome change.now) row.now) }
+    ensures { IfOk result (λ patch. patch.items
+        ≡ patch_of (with_days 0 mask.now from to) (C.outcome change.now) row.now) }
 {
     let mut patch = Vec::with_capacity(alloc, 7)?;
     let mut latest = None;
@@ -87,9 +103,15 @@ pub(crate) fn new_rows<V: Value, C: Change<V>>(
     requires rows { AreRows before.now cuts.now rows.now }
     requires ordered { first ≤ last }
     requires in_calendar { last < 36525 }
-    ensures len { IfOk result (λ patches. vec_len patches + place cuts.now first ≡ place cuts.now last + 1) }
+    ensures len { IfOk result (λ patches. vec_len patches + place cuts.now first
+        ≡ place cuts.now last + 1) }
     ensures short { IfOk result (λ patches. All (λ patch. vec_len patch ≤ 7) patches.items) }
-    ensures patches { IfOk result (λ patches. (n : ℕ) → first ≤ n → n ≤ last → slice_index_or (slice_index_or (map (λ patch. patch.items) patches.items) (place cuts.now n - place cuts.now first) []) (slot n) None ≡ (if slice_index_or mask.now (slot n) false then Some (C.outcome change.now (value_on V.nothing before.now cuts.now rows.now n)) else None)) }
+    ensures patches { IfOk result (λ patches. (n : ℕ) → first ≤ n → n ≤ last
+        → slice_index_or (slice_index_or (map (λ patch. patch.items) patches.items)
+        (place cuts.now n - place cuts.now first) []) (slot n) None
+        ≡ (if slice_index_or mask.now (slot n) false
+        then Some (C.outcome change.now (value_on V.nothing before.now cuts.now rows.now n))
+        else None)) }
 {
     let mut patches = Vec::new(alloc);
     let end = last + 1;
@@ -121,7 +143,8 @@ fn put<V: Value>(row: &mut [V; 7], mut patch: Vec<Option<V>>)
 fn put_rows<V: Value>(rows: &mut Vec<[V; 7]>, from: usize, mut patches: Vec<Vec<Option<V>>>)
     requires room { from + vec_len patches ≤ vec_len rows.old }
     requires short { All (λ patch. vec_len patch ≤ 7) patches.items }
-    ensures { rows.new.items ≡ patched_from from (map (λ patch. patch.items) patches.items) rows.old.items }
+    ensures { rows.new.items
+        ≡ patched_from from (map (λ patch. patch.items) patches.items) rows.old.items }
 {
     while let Some(patch) = patches.pop() {
         let row = &mut rows[from + patches.len()];
@@ -169,10 +192,15 @@ pub(crate) fn put_period<V: Value>(
     requires row_count { length rows.old.items ≡ length cuts.old.items }
     requires head { is_none head ≡ has_cut cuts.old.items first }
     requires tail { is_none tail ≡ has_cut cuts.old.items end }
-    requires patch_count { vec_len patches + place cuts.old.items first ≡ place cuts.old.items (end - 1) + 1 }
+    requires patch_count { vec_len patches + place cuts.old.items first
+        ≡ place cuts.old.items (end - 1) + 1 }
     requires short { All (λ patch. vec_len patch ≤ 7) patches.items }
     ensures cuts { cuts.new.items ≡ with_cut (with_cut cuts.old.items first) end }
-    ensures rows { rows.new.items ≡ patched_from (place (with_cut cuts.old.items first) first - 1) (map (λ patch. patch.items) patches.items) (with_row (with_cut cuts.old.items first) end (unwrap_or tail []) (with_row cuts.old.items first (unwrap_or head []) rows.old.items)) }
+    ensures rows { rows.new.items
+        ≡ patched_from (place (with_cut cuts.old.items first) first - 1)
+        (map (λ patch. patch.items) patches.items)
+        (with_row (with_cut cuts.old.items first) end (unwrap_or tail [])
+        (with_row cuts.old.items first (unwrap_or head []) rows.old.items)) }
 {
     add_cut(cuts, rows, first, head);
     let from = place_of(cuts, first) - 1;

@@ -1,6 +1,6 @@
 -- An entry that is done is passed over. Another one gives the cover of the days of its value, and
 -- the earlier entries with this value become done.
-use Rattle.std.proofs.Common.{◌≡◌, ◌+◌, ◌-◌, ◌<◌, true, false, [], length, drop, slice_index_or, ap, sym, ◌∙◌, arith}
+use Rattle.std.proofs.Common.{◌≡◌, ◌+◌, ◌-◌, ◌<◌, true, false, [], length, drop, slice_index_or, ap, subst, sym, ◌∙◌, arith}
 use Rattle.std.specs.List.{flat_map}
 use Rattle.ssim_values.specs.Period.{DayRange}
 use Rattle.ssim_periods.specs.internal.Apart.{given_cover, last_values}
@@ -26,6 +26,12 @@ loop-place-preserved-then-index g c =
       done = done-kept alike g.met.V.Value.exact xs done i j x up lt is inv.done some;
       pieces = inv.pieces ∙ ap (λ k. flat_map f (last_values alike (drop k xs))) (sym up) ∙ sym (ap (flat_map f) (values-later alike xs j x lt is (ap (λ k. has_later alike xs k x.1) up ∙ some)));
     }
+
+pub push_value-requires-clause-own : goal.push_value-requires-clause-own
+push_value-requires-clause-own g c =
+    let xs = c.args.entries.now in let x = c.index-entries-place.result in
+    let inv = c.loop-place.invariant in let test = c.loop-place-test.true in let within = inv.within in
+    subst (λ (entry : DayRange × g.row.V.Denot). entry.0.last < 36525) (sym c.index-entries-place.is) (c.requires (c.loop-place.place - 1) x (omega arith))
 
 pub push_value-requires-clause-others : goal.push_value-requires-clause-others
 push_value-requires-clause-others g c k y at on =

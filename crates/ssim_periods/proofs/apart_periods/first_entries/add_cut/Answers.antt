@@ -2,7 +2,7 @@
 use Rattle.std.proofs.Common.{ap, sym, ◌∙◌}
 use Rattle.std.specs.List.{insert}
 use Rattle.ssim_periods.specs.internal.Rows.{place}
-use Rattle.ssim_periods.specs.internal.Splits.{has_cut, with_cut}
+use Rattle.ssim_periods.specs.internal.Splits.{has_cut}
 use Rattle.ssim_periods.proofs.CutLemmas.{with_cut-has, with_cut-insert}
 use Rattle.ssim_periods.proofs.apart_periods.first_entries.add_cut.Goals as goal
 

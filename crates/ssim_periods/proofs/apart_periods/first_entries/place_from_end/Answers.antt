@@ -1,7 +1,6 @@
 -- The cuts before the place are not after the one that is not after the day.
-use Rattle.std.proofs.Common.{◌≡◌, ◌+◌, ◌-◌, ◌<◌, ◌≤◌, length, slice_index_or, ap, sym, ◌∙◌, arith}
+use Rattle.std.proofs.Common.{◌≡◌, ◌+◌, ◌-◌, ◌≤◌, slice_index_or, ap, sym, arith}
 use Rattle.ssim_periods.proofs.CutLemmas.{place-between, rising-to}
-use Rattle.ssim_periods.proofs.RowLemmas.{index-default}
 use Rattle.ssim_periods.proofs.apart_periods.first_entries.place_from_end.Goals as goal
 
 pub returns-then-cuts-place-clause-place : goal.returns-then-cuts-place-clause-place
