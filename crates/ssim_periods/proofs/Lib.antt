@@ -2,6 +2,7 @@ pub mod ApartLemmas
 pub mod ApplyLemmas
 pub mod BitLemmas
 pub mod CommonDayLemmas
+pub mod CopyLemmas
 pub mod CountLemmas
 pub mod CoverLaw
 pub mod CoverLemmas

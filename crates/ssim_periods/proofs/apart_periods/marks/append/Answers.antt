@@ -2,6 +2,16 @@ use Rattle.std.proofs.Common.{◌≡◌, [], ◌∷◌, length, slice_index_or, 
 use Rattle.ssim_periods.proofs.MarkLemmas.{values-appended}
 use Rattle.ssim_periods.proofs.apart_periods.marks.append.Goals as goal
 
+pub set_from-requires : goal.set_from-requires
+set_from-requires c =
+    let ordered = c.requires.ordered in let fits = c.requires.in_calendar in
+    record { row_count = c.requires.valid.row_count; rising = c.requires.valid.rising; until = c.requires.until; in_calendar = omega arith }
+
+pub set_from-requires-2 : goal.set_from-requires-2
+set_from-requires-2 c =
+    let valid = c.set_from.ensures.valid c.args.before.now c.requires.valid in let ordered = c.requires.ordered in let fits = c.requires.in_calendar in
+    record { row_count = valid.row_count; rising = valid.rising; until = λ k d h. (let low = c.in_ok-set_from.ensures.until k d h in omega arith); in_calendar = omega arith }
+
 pub returns-clause-values : goal.returns-clause-values
 returns-clause-values c n =
     let before = c.args.before.now in let cuts = c.args.cuts.now.items in let rows = c.args.rows.now.items in
