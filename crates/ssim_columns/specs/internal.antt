@@ -3,3 +3,4 @@ pub mod LatestColumns
 pub mod LatestMonths
 pub mod LegPoints
 pub mod Clocks
+pub mod LegColumns

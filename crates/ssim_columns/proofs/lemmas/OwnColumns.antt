@@ -1,11 +1,13 @@
 -- A leg's own columns, in its record and apart from it.
-use Rattle.std.proofs.Common.{◌≡◌, ℕ, List, [], ◌∷◌, length, refl, sym, ap, ◌∙◌, ◌+◌, ◌-◌, ◌<◌, ◌≤◌, arith, rules, lit<, lit≤}
+use Rattle.std.proofs.Common.{◌≡◌, ℕ, List, [], ◌∷◌, length, refl, sym, ap, ◌∙◌, ◌+◌, ◌-◌, ◌<◌, ◌≤◌, arith, rules, lit<, lit≤, IsTrue}
 use Rattle.std.specs.Prelude.{slice_range, replicate}
 use Rattle.std.proofs.lemmas.List.{length-append}
+use Rattle.std.proofs.lemmas.Bool.Decides.{nat_tests}
 use Rattle.ssim_columns.specs.declared.field.Field.{Field}
 use Rattle.ssim_columns.specs.declared.field.Kind.TheVariants.{Carried, Digits}
 use Rattle.ssim_columns.specs.Columns.{field, columns, EachIsValid}
-use Rattle.ssim_columns.specs.Leg.{leg_table, middle_table, own_table, own_columns, spread, leg_columns, AreLegColumns}
+use Rattle.ssim_columns.specs.Leg.{leg_table, middle_table, own_table, own_columns, spread, leg_columns, AreLegColumns, is_own}
+use Rattle.ssim_columns.specs.internal.LegColumns.{IsAfter}
 use Rattle.ssim_columns.proofs.lemmas.Slices.{length_slice, slice_in}
 use Rattle.ssim_columns.proofs.lemmas.Places.{all_placed}
 use Rattle.ssim_columns.proofs.lemmas.Rows.{front_stands, rest_stands, both_stand, rows_move, LieIn}
@@ -98,3 +100,55 @@ own_tail d first last len low le high =
     let j : 92 + (last - 128) ≡ last - 36 = omega arith in
     let m = moved d (spread d) 128 194 92 first last (spread_parts d len).tail (omega arith) le high in
     rw (i, j) at m
+
+-- ---- the place of a field in a leg's bytes
+
+-- which of a leg's own columns a field has
+record IsPlaced (first last : ℕ) : Type 0 where
+  pub some : first ≤ last
+  pub service : last ≡ 14 → first ≡ 14
+  pub middle : (last ≡ 14 → ⊥) → last ≤ 127 → 37 ≤ first
+  pub tail : 127 < last → (129 ≤ first) × (last ≤ 194)
+
+own_place : (f : Field) → IsTrue (is_own f) → IsPlaced f.first f.last
+own_place f h = record {
+  some = grind (arith, nat_tests);
+  service = λ p. grind (arith, nat_tests);
+  middle = λ p q. grind (arith, nat_tests);
+  tail = λ p. (grind (arith, nat_tests), grind (arith, nat_tests));
+}
+
+pub service_after : (f : Field) → IsTrue (is_own f) → f.last ≡ 14 → IsAfter 14 f
+service_after f h is =
+    let place = own_place f h in
+    let from : f.first ≡ 14 = place.service is in
+    record {
+      low = omega (arith, from);
+      some = place.some;
+      high = omega (arith, is);
+      value = λ d len. rw (from, is) (own_service d len);
+    }
+
+pub middle_after : (f : Field) → IsTrue (is_own f) → (f.last ≡ 14 → ⊥) → f.last ≤ 127 → IsAfter 36 f
+middle_after f h other to =
+    let place = own_place f h in
+    let from : 37 ≤ f.first = place.middle other to in
+    let end' : f.last - 36 + 1 ≡ f.last - 35 = omega (arith, from, place.some) in
+    record {
+      low = omega (arith, from);
+      some = place.some;
+      high = omega (arith, to);
+      value = λ d len. rw end' (own_middle d f.first f.last len from place.some to);
+    }
+
+pub tail_after : (f : Field) → IsTrue (is_own f) → 127 < f.last → IsAfter 37 f
+tail_after f h past =
+    let place = own_place f h in
+    let both = place.tail past in
+    let end' : f.last - 37 + 1 ≡ f.last - 36 = omega (arith, past) in
+    record {
+      low = omega (arith, both.0);
+      some = place.some;
+      high = omega (arith, both.1);
+      value = λ d len. rw end' (own_tail d f.first f.last len both.0 place.some both.1);
+    }

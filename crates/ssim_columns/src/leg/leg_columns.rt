@@ -6,6 +6,7 @@ ghost use Rattle.ssim_values.specs.Clock.{clock_of};
 ghost use Rattle.ssim_columns.specs.declared.field.Kind.TheVariants.{StationCode, Time, PassengerTime, UtcVariation};
 ghost use Rattle.ssim_columns.specs.Columns.{fault_in, is_carried, passenger_time_of, utc_variation_of, first_fault, EachIsValid};
 ghost use Rattle.ssim_columns.specs.Leg.{AreLegColumns, four_bytes, is_own, leg_columns, leg_table, own_table, own_columns, quick_hash, spread, three_bytes};
+ghost use Rattle.ssim_columns.specs.internal.LegColumns.{IsAfter};
 ghost use Rattle.ssim_columns.specs.LegParts.{ChangesEquipment, ChangesTimes, equipment_fields, new_leg, with_equipment, with_times};
 
 use crate::field::{Field, clock_of, first_fault_of, passenger_time_of, utc_variation_of};
@@ -127,6 +128,21 @@ fn variation_or_blank(text: &[u8]) -> Option<Variation>
     utc_variation_of(text).unwrap()
 }
 
+// Each column of the field is this number of bytes after its place in a leg's bytes.
+#[inline(always)]
+fn bytes_before(field: Field) -> usize
+    requires { IsTrue (is_own field) }
+    ensures { IsAfter result field }
+{
+    if field.last == SERVICE_TYPE.last {
+        SERVICE_TYPE.last
+    } else if field.last <= MIDDLE.last {
+        BEFORE_MIDDLE
+    } else {
+        BEFORE_TAIL
+    }
+}
+
 // The number that three bytes spell, the first as its highest digit.
 #[inline(always)]
 fn three_bytes(text: &[u8]) -> u64
@@ -231,14 +247,8 @@ impl LegColumns {
         ensures value { result.now ≡ leg_columns field.first field.last self.now }
         ensures valid { AreLegColumns self.now }
     {
-        let Field { first, last, .. } = field;
-        if last == SERVICE_TYPE.last {
-            &self.bytes[0..1]
-        } else if last <= MIDDLE.last {
-            &self.bytes[first - BEFORE_MIDDLE..last - BEFORE_MIDDLE + 1]
-        } else {
-            &self.bytes[first - BEFORE_TAIL..last - BEFORE_TAIL + 1]
-        }
+        let before = bytes_before(field);
+        &self.bytes[field.first - before..field.last - before + 1]
     }
 
     /// A hash of the stations, the aircraft times and the aircraft type.
