@@ -355,38 +355,22 @@ cannot be read.";
 
 /// What a value is, by its name in the usage.
 pub(crate) fn about_value(shown: &str) -> &'static str {
-    if shown == "DATASET" {
-        return "The data set's file, 200 bytes a record; - is standard input";
+    match shown {
+        "DATASET" => "The data set's file, 200 bytes a record; - is standard input",
+        "STATIONS" => {
+            "The station table: lines such as ZRH 30MAR25 25OCT25 +0200; - is standard input"
+        }
+        "FILE" | "FROM" | "TO" => "A desk file, or a data set's file; - is standard input",
+        "DESK" | "OTHER" => "A desk file; - is standard input",
+        "OUT" => "The desk file to write",
+        "TEXT" => "The files of one or more SSM and ASM texts; - is standard input",
+        "REFERENCE" => {
+            "The references of one or more messages, each as one word, as 'take' prints it"
+        }
+        "STATION" => "A station such as ZRH",
+        "FLIGHT" => "A flight designator such as LX544",
+        "DATE" => "A date such as 07JUL25",
+        "WORD" => "The number of a refusal, such as 12, or a file; - is standard input",
+        _ => "The script; - is standard input",
     }
-    if shown == "STATIONS" {
-        return "The station table: lines such as ZRH 30MAR25 25OCT25 +0200; - is standard input";
-    }
-    if shown == "FILE" || shown == "FROM" || shown == "TO" {
-        return "A desk file, or a data set's file; - is standard input";
-    }
-    if shown == "DESK" || shown == "OTHER" {
-        return "A desk file; - is standard input";
-    }
-    if shown == "OUT" {
-        return "The desk file to write";
-    }
-    if shown == "TEXT" {
-        return "The files of one or more SSM and ASM texts; - is standard input";
-    }
-    if shown == "REFERENCE" {
-        return "The references of one or more messages, each as one word, as 'take' prints it";
-    }
-    if shown == "STATION" {
-        return "A station such as ZRH";
-    }
-    if shown == "FLIGHT" {
-        return "A flight designator such as LX544";
-    }
-    if shown == "DATE" {
-        return "A date such as 07JUL25";
-    }
-    if shown == "WORD" {
-        return "The number of a refusal, such as 12, or a file; - is standard input";
-    }
-    "The script; - is standard input"
 }
