@@ -2,7 +2,7 @@
 ghost use Rattle.std.specs.Prelude.{◌≡◌, IfSome};
 
 use crate::lines::push_line;
-use crate::texts::TABLE;
+use crate::texts::explanations;
 use std::alloc::{AllocError, Global};
 
 /// What is said of the refusals of a number.
@@ -20,9 +20,9 @@ pub struct Explanation {
 pub fn explanation_of(number: u8) -> Option<Explanation>
     ensures { IfSome result (λ e. e.number ≡ number) }
 {
-    for entry in TABLE {
+    for entry in explanations() {
         if entry.number == number {
-            return Some(entry);
+            return Some(*entry);
         }
     }
     None

@@ -109,10 +109,15 @@ const FIELDS: [NamedField; 39] = [
 
 /// The field of a record that begins at this column.
 pub(crate) fn field_at(kind: u8, column: usize) -> Option<NamedField> {
-    for field in FIELDS {
+    for field in fields() {
         if field.first == column && field.kinds.contains(&kind) {
-            return Some(field);
+            return Some(*field);
         }
     }
     None
+}
+
+/// The rows of the table.
+fn fields() -> &'static [NamedField] {
+    &FIELDS
 }

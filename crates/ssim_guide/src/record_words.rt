@@ -31,17 +31,28 @@ fn push_field(lines: &mut Vec<u8>, record: &[u8], column: usize) -> Result<(), A
     let Some(field) = field_at(*kind, column) else {
         return Ok(());
     };
-    lines.extend_from_slice(b"field: ")?;
-    lines.extend_from_slice(field.name.as_bytes())?;
-    lines.extend_from_slice(b", columns ")?;
-    push_number(lines, column)?;
-    lines.extend_from_slice(b" to ")?;
-    push_number(lines, field.last)?;
-    lines.push(b'\n')?;
+    push_columns(lines, field.name, column, field.last)?;
     if let Some(found) = columns_of(record, column, field.last) {
         push_shown(lines, "found", found)?;
     }
     push_line(lines, "allowed", field.allowed)
+}
+
+/// Adds the line on the name of a field and its columns.
+fn push_columns(
+    lines: &mut Vec<u8>,
+    name: &str,
+    first: usize,
+    last: usize,
+) -> Result<(), AllocError> {
+    lines.extend_from_slice(b"field: ")?;
+    lines.extend_from_slice(name.as_bytes())?;
+    lines.extend_from_slice(b", columns ")?;
+    push_number(lines, first)?;
+    lines.extend_from_slice(b" to ")?;
+    push_number(lines, last)?;
+    lines.push(b'\n')?;
+    Ok(())
 }
 
 /// The columns of a record, counted from 1.

@@ -14,7 +14,7 @@ const UNSUPPORTED: &str = "not supported: split the flight's periods, or write w
 const TOO_LARGE: &str =
     "a chapter 7 data set cannot say it: combine the flight's single dates, or divide the data set";
 
-pub(crate) const TABLE: [Explanation; 41] = [
+const TABLE: [Explanation; 41] = [
     Explanation {
         number: 1,
         meaning: "the date is not DDMMMYY, or no day of the calendar",
@@ -221,3 +221,8 @@ pub(crate) const TABLE: [Explanation; 41] = [
         remedy: "check the name, the permission and the disk",
     },
 ];
+
+/// The rows of the table.
+pub(crate) fn explanations() -> &'static [Explanation] {
+    &TABLE
+}
