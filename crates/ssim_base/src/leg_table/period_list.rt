@@ -6,7 +6,7 @@ ghost use Rattle.ssim_periods.specs.Calendar.{holds};
 ghost use Rattle.ssim_periods.specs.CommonDays.{have_common_date, meet};
 ghost use Rattle.ssim_base.specs.internal.Dates.{is_in};
 
-use ssim_periods::meets;
+use ssim_periods::are_apart;
 use ssim_values::{Memory, Period};
 use std::alloc::Global;
 
@@ -89,24 +89,10 @@ impl PeriodList {
     }
 }
 
-// Whether a period has a date in common with one of some periods.
+// Whether a period has a date in common with one of some periods. Most of the many periods of one
+// leg end before another one begins, which `are_apart` sees first.
 fn any_meets(periods: &[Period], period: &Period) -> bool
     ensures { result ≡ list_any (λ earlier. meet period.now earlier) periods.now }
 {
-    periods.iter().any(|earlier| meets_by_ends(period, earlier))
-}
-
-// Does what `meets` does for the many periods of one leg: most of them lie apart, so their ends are
-// compared first.
-fn meets_by_ends(one: &Period, other: &Period) -> bool
-    ensures { result ≡ meet one.now other.now }
-{
-    !are_apart(one, other) && meets(one, other)
-}
-
-// Whether one period ends before the other begins.
-fn are_apart(one: &Period, other: &Period) -> bool
-    ensures { result ≡ true → meet one.now other.now ≡ false }
-{
-    other.last().number() < one.first().number() || one.last().number() < other.first().number()
+    periods.iter().any(|earlier| !are_apart(period, earlier))
 }
