@@ -2,8 +2,8 @@
 use Rattle.std.proofs.Common.{◌≡◌, ◌<◌, ◌≤◌, ℕ, List, length, refl, take, drop, Option, Some, None, codes, arith, true, false, sym, ap, ◌∙◌}
 use Rattle.std.specs.Prelude.{nat_lt, Bool, ◌&&◌, ◌||◌, ◌==◌, if◌then◌else◌, is_some}
 use Rattle.std.specs.Str.{bytes_eq}
-use Rattle.std.proofs.lemmas.Grind.{common_steps}
-use Rattle.std.proofs.lemmas.Bool.{false_from_ne_true}
+use Rattle.std.proofs.lemmas.Bool.{false_from_ne_true, lt-ltb, le-ltb, eqb-true}
+use Rattle.std.proofs.lemmas.List.{length-take, length-drop}
 use Rattle.std.proofs.lemmas.Slice.Eq.{bytes_eq-Decides}
 use Rattle.ssim_text.specs.declared.kind.Kind.{Kind}
 use Rattle.ssim_values.specs.declared.time_mode.TimeMode.{TimeMode}
@@ -137,10 +137,10 @@ right_false true b h = h
 right_false false b h = refl
 
 less : (a b : ℕ) → a < b → nat_lt a b ≡ true
-less a b h = grind (arith, common_steps)
+less a b h = lt-ltb a b h
 
 not_less : (a b : ℕ) → b ≤ a → nat_lt a b ≡ false
-not_less a b h = grind (arith, common_steps)
+not_less a b h = le-ltb a b h
 
 pub take_leg : (m : MessageValue) (b : Body) (leg : LegLine) (line : List ℕ) → leg_of line ≡ Some leg → is_none_yet b.segments ≡ true → length b.legs < 20 → Takes (AtLegs m b) line (AtLegs m (with_leg b leg))
 take_leg m b leg line h none short = record { part = LegPart leg; spelled = h; step = choose_some (takes_leg b) (AtLegs m (with_leg b leg)) (both (is_none_yet b.segments) (nat_lt (length b.legs) 20) none (less (length b.legs) 20 short)) }
@@ -177,7 +177,7 @@ some_of_else true o y h = absurd (none_some y h)
 some_of_else false o y h = (refl, h)
 
 equal : (a b : ℕ) → (a == b) ≡ true → a ≡ b
-equal a b h = grind (arith, common_steps)
+equal a b h = eqb-true a b h
 
 station_length : (text s : List ℕ) → station_in text ≡ Some s → length text ≡ 3
 station_length text s h = equal (length text) 3 (some_of_if (length text == 3) (if is_station text then Some text else None) s h).0
@@ -192,7 +192,7 @@ end_clock (Some s) None rest e h = absurd (none_some e h)
 end_clock (Some s) (Some t) rest e h = (t, refl)
 
 seven_bytes : (text : List ℕ) → length (take 4 (drop 3 text)) ≡ 4 → 7 ≤ length text
-seven_bytes text h = grind (arith, common_steps)
+seven_bytes text h = omega (arith, h, length-take 4 (drop 3 text), length-drop 3 text)
 
 end_length : (text : List ℕ) (e : LegEnd) → end_of text ≡ Some e → 7 ≤ length text
 unfolding end_of
@@ -206,7 +206,7 @@ two_stations (Some b) None p h = absurd (none_some p h)
 two_stations (Some b) (Some o) p h = (b, o, refl, refl)
 
 six_bytes : (text : List ℕ) → length (take 3 text) ≡ 3 → length (drop 3 text) ≡ 3 → length text ≡ 6
-six_bytes text h k = grind (arith, common_steps)
+six_bytes text h k = omega (arith, h, k, length-take 3 text, length-drop 3 text)
 
 points_length : (text : List ℕ) (p : List ℕ × List ℕ) → points_of text ≡ Some p → length text ≡ 6
 points_length text p h =

@@ -2,7 +2,8 @@
 use Rattle.std.proofs.Common.{◌≡◌, ◌<◌, ◌≤◌, ℕ, ◌+◌, List, [], ◌∷◌, ◌++◌, length, refl, sym, ap, inl, inr, ◌∙◌, Option, Some, None, arith, true, append_assoc, map}
 use Rattle.std.specs.Prelude.{option_and_then, Bool, ◌&&◌, if◌then◌else◌, nat_lt}
 use Rattle.std.specs.List.{AllByRecursion}
-use Rattle.std.proofs.lemmas.Grind.{common_steps}
+use Rattle.std.proofs.lemmas.Bool.{lt-ltb}
+use Rattle.std.proofs.lemmas.List.{append-nil, length_push}
 use Rattle.ssim_values.specs.declared.designator.Designator.{Designator}
 use Rattle.ssim_text.specs.declared.kind.Kind.{Kind}
 use Rattle.ssim_text.specs.declared.kind.Kind.TheVariants.{Ssm, Asm}
@@ -29,13 +30,13 @@ use Rattle.ssim_text.specs.Machine.{step, sub_of, flight_expected, body_expected
 use Rattle.ssim_text.specs.internal.DecoderState.{finish}
 
 append_none : {A : Type 0} (xs : List A) → xs ++ [] ≡ xs
-append_none xs = simp common_steps
+append_none xs = append-nil xs
 
 choose_some : {A : Type 0} (b : Bool) (x : A) → b ≡ true → (if b then Some x else None) ≡ Some x
 choose_some b x h = rw h refl
 
 less : (a b : ℕ) → a < b → nat_lt a b ≡ true
-less a b h = grind (arith, common_steps)
+less a b h = lt-ltb a b h
 
 both : (a b : Bool) → a ≡ true → b ≡ true → a && b ≡ true
 both a b h k = rw (h, k) refl
@@ -48,7 +49,7 @@ step_on : (s t : State) (p : Part) (qs : List Part) → step s p ≡ Some t → 
 step_on s t p qs h = ap (λ (o : Option State). option_and_then (λ x. run x qs) o) h
 
 length-one_more : {A : Type 0} (xs : List A) (x : A) → length (xs ++ x ∷ []) ≡ length xs + 1
-length-one_more xs x = grind (arith, common_steps)
+length-one_more xs x = length_push xs x
 
 run_legs : (m : MessageValue) (d : Designator) (dates : Dates) (c : Change) (more legs : List LegLine) (qs : List Part) → length legs + length more ≤ 20
     → run (AtLegs m (body_of d dates c legs [])) (map LegPart more ++ qs) ≡ run (AtLegs m (body_of d dates c (legs ++ more) [])) qs

@@ -1,9 +1,9 @@
 -- How a text is cut at LF, and a line at its end.
 use Rattle.std.proofs.Common.{◌≡◌, ◌<◌, ◌≤◌, ℕ, ◌+◌, List, [], ◌∷◌, ◌++◌, length, refl, sym, ap, ◌∙◌, append_assoc, Bool, true, false, cond, map, Some, get_or, take, drop, arith, add-one, drop-cons}
 use Rattle.std.specs.Prelude.{◌==◌, if◌then◌else◌, ◌-◌, nat_lt}
-use Rattle.std.proofs.lemmas.List.{take_more, get_or-map}
+use Rattle.std.proofs.lemmas.List.{take_more, get_or-map, append-nil, take_all, length-map}
 use Rattle.std.specs.List.{onto_first, list_all}
-use Rattle.std.proofs.lemmas.Grind.{common_steps}
+use Rattle.std.proofs.lemmas.Bool.{lt-ltb, le-ltb}
 use Rattle.ssim_text.specs.Bytes.{before, from, is_printable}
 use Rattle.ssim_text.specs.Left.{is_dropped, onto, without_end, numbered, left_from, pieces, first_unprintable, numbers, place_number}
 
@@ -50,7 +50,7 @@ line_on whole done new n x rest next h e f =
     ∙ ap (λ (y : List (ℕ × List ℕ)). done ++ y) (sym (first_piece n rest (x ∷ next) f)) ∙ h
 
 none_after : (xs : List (ℕ × List ℕ)) → xs ++ [] ≡ xs
-none_after xs = simp common_steps
+none_after xs = append-nil xs
 
 -- the last line
 pub last_line : (whole done new : List (ℕ × List ℕ)) (n : ℕ) (rest : List ℕ) → done ++ left_from n (pieces rest) ≡ whole → new ≡ done ++ numbered n (without_end (before 10 rest)) [] → from 10 rest ≡ [] → new ≡ whole
@@ -59,14 +59,14 @@ last_line whole done new n rest h e f =
 
 one_byte : (t : Bool) (x : ℕ) (ys zs xs : List ℕ) → length ys + length zs ≡ length xs → length (if t then [] else x ∷ ys) + length (if t then x ∷ xs else zs) ≡ length (x ∷ xs)
 one_byte true x ys zs xs h = omega arith
-one_byte false x ys zs xs h = grind (arith, common_steps)
+one_byte false x ys zs xs h = omega (arith, h)
 
 length_before_from : (b : ℕ) (xs : List ℕ) → length (before b xs) + length (from b xs) ≡ length xs
 length_before_from b [] = refl
 length_before_from b (x ∷ xs) = one_byte (x == b) x (before b xs) (from b xs) xs (length_before_from b xs)
 
 pub from_shorter : (b x : ℕ) (xs next : List ℕ) → from b xs ≡ x ∷ next → length next + 1 ≤ length xs
-from_shorter b x xs next h = grind (arith, length_before_from b xs, ap length h)
+from_shorter b x xs next h = omega (arith, length_before_from b xs, ap length h)
 
 -- ---- lines with a byte that is not allowed
 
@@ -77,7 +77,7 @@ first_bad xs i d h = let e : drop i xs ≡ get_or xs i d ∷ drop (i + 1) xs = r
 
 last_of : (line : List ℕ) → 1 ≤ length line → line ≡ take (length line - 1) line ++ get_or line (length line - 1) 0 ∷ []
 last_of line some =
-    let whole : take (length line - 1 + 1) line ≡ line = grind (arith, some, common_steps) in
+    let whole : take (length line - 1 + 1) line ≡ line = take_all (length line - 1 + 1) line (omega (arith, some)) in
     sym whole ∙ take_more line (length line - 1) 0 (omega (arith, some))
 
 pub trim_last : (line : List ℕ) → 1 ≤ length line → is_dropped (get_or line (length line - 1) 0) ≡ true → without_end (take (length line - 1) line) ≡ without_end line
@@ -92,18 +92,18 @@ trim_none line some h =
 -- ---- the number at an index
 
 length-numbers : {X : Type 0} (f : X → ℕ × List ℕ) (xs : List X) → length (numbers (map f xs)) ≡ length xs
-length-numbers f xs = simp common_steps
+length-numbers f xs = simp length-map
 
 number_get : {X : Type 0} (f : X → ℕ × List ℕ) (xs : List X) (i : ℕ) (d : X) → i < length xs → get_or (numbers (map f xs)) i 0 ≡ (f (get_or xs i d)).0
 number_get f xs i d lt =
-    let long : i < length (map f xs) = grind (arith, common_steps) in
+    let long : i < length (map f xs) = omega (arith, lt, length-map xs f) in
     get_or-map (λ (l : ℕ × List ℕ). l.0) (map f xs) i (f d) 0 long ∙ ap (λ (l : ℕ × List ℕ). l.0) (get_or-map f xs i d (f d) lt)
 
 place_below : (ns : List ℕ) (i : ℕ) → i < length ns → place_number ns i ≡ get_or ns i 0
-place_below ns i lt = let t : nat_lt i (length ns) ≡ true = grind (arith, common_steps) in rw t refl
+place_below ns i lt = let t : nat_lt i (length ns) ≡ true = lt-ltb i (length ns) lt in rw t refl
 
 place_past : (ns : List ℕ) (i : ℕ) → length ns ≤ i → place_number ns i ≡ get_or ns (length ns - 1) 0 + 1
-place_past ns i le = let t : nat_lt i (length ns) ≡ false = grind (arith, common_steps) in rw t refl
+place_past ns i le = let t : nat_lt i (length ns) ≡ false = le-ltb i (length ns) le in rw t refl
 
 pub place_within : {X : Type 0} (f : X → ℕ × List ℕ) (xs : List X) (i : ℕ) (d : X) → i < length xs → (f (get_or xs i d)).0 ≡ place_number (numbers (map f xs)) i
 place_within f xs i d lt = sym (place_below (numbers (map f xs)) i (omega (arith, lt, length-numbers f xs)) ∙ number_get f xs i d lt)
@@ -118,7 +118,7 @@ place_behind f xs i d le some =
 
 pub tail_cons : (tail : List ℕ) → 1 ≤ length tail → tail ≡ get_or tail 0 0 ∷ take (length tail - 1) (drop 1 tail)
 tail_cons [] h = absurd (omega (arith, h))
-tail_cons (x ∷ xs) h = let e : take (length (x ∷ xs) - 1) xs ≡ xs = grind (arith, common_steps) in ap (λ (y : List ℕ). x ∷ y) (sym e)
+tail_cons (x ∷ xs) h = let e : take (length (x ∷ xs) - 1) xs ≡ xs = take_all (length (x ∷ xs) - 1) xs (omega arith) in ap (λ (y : List ℕ). x ∷ y) (sym e)
 
 pub tail_none : (tail : List ℕ) → length tail < 1 → tail ≡ []
 tail_none [] h = refl

@@ -2,7 +2,7 @@
 use Rattle.std.proofs.Common.{◌≡◌, ◌<◌, ◌≤◌, ℕ, ◌+◌, List, [], ◌∷◌, ◌++◌, length, refl, sym, ap, subst, inl, inr, ◌∙◌, Option, Some, None, codes, arith, true, false, append_assoc, map, drop, take}
 use Rattle.std.specs.Prelude.{option_and_then, nat_lt}
 use Rattle.std.specs.List.{AllZip, AllByRecursion}
-use Rattle.std.proofs.lemmas.Grind.{common_steps}
+use Rattle.std.proofs.lemmas.Bool.{lt-ltb}
 use Rattle.ssim_values.specs.declared.designator.Designator.{Designator}
 use Rattle.ssim_values.specs.Designator.{SpellsDesignator}
 use Rattle.ssim_text.specs.declared.kind.Kind.{Kind}
@@ -37,7 +37,7 @@ use Rattle.std.proofs.Common.{get_or, add-one, drop-cons, drop_of_length-le}
 use Rattle.ssim_text.specs.declared.fault.Fault.{Fault}
 use Rattle.ssim_text.specs.Machine.{fault_at, fault_of, fault_before}
 use Rattle.ssim_text.specs.Decoder.{IsFaultAt}
-use Rattle.std.proofs.lemmas.List.{take_more, get_or-map}
+use Rattle.std.proofs.lemmas.List.{take_more, get_or-map, append-nil, take-append-drop, take_all, length-map}
 use Rattle.ssim_values.specs.Calendar.{day_number, leap_years, months_length}
 use Rattle.ssim_values.specs.Day.{day_of}
 use Rattle.ssim_values.specs.DayMonth.{month_day_of}
@@ -52,7 +52,7 @@ use Rattle.ssim_text.proofs.Complete.{complete}
 use Rattle.ssim_text.proofs.Sound.{sound, Holds, reached_holds}
 
 pub lines_none : (xs : List (List ℕ)) → xs ++ [] ≡ xs
-lines_none xs = simp common_steps
+lines_none xs = append-nil xs
 
 -- whatever text begins with the lines that were read goes on from the state that they lead to
 pub record Remains (s : State) (m : MessageValue) (rest : List (List ℕ)) : Type 0 where
@@ -237,7 +237,7 @@ whole_finish : (m : MessageValue) (b : Body) → is_whole b ≡ true → finish 
 whole_finish m b h = rw h refl
 
 legs_there : (l : LegLine) (legs : List LegLine) → nat_lt 0 (length (l ∷ legs)) ≡ true
-legs_there l legs = grind (arith, common_steps)
+legs_there l legs = lt-ltb 0 (length (l ∷ legs)) (omega arith)
 
 legs_complete : (m : MessageValue) (d : Designator) (dates : Dates) (c : Change) (legs : List LegLine) (segments : List SegmentLine) → AllByRecursion (λ s. flies legs s ≡ true) segments → Completes (AtLegs m (record { designator = d; dates = dates; change = c; legs = legs; segments = segments }))
 legs_complete m d dates c [] [] h = by_tail (AtLegs m (no_legs d dates c)) 6 Ssm identifier.Tim (codes "ZRH0000 LHR0000" ∷ []) refl (no_legs_tail m d dates c)
@@ -288,10 +288,10 @@ starts s lines r =
     record { completion = short.completion; message = short.message; spelled = short.spelled }
 
 pub take_drop : (i : ℕ) (xs : List (List ℕ)) → take i xs ++ drop i xs ≡ xs
-take_drop i xs = simp common_steps
+take_drop i xs = take-append-drop i xs
 
 take_whole : (i : ℕ) (xs : List (List ℕ)) → i ≡ length xs → take i xs ≡ xs
-take_whole i xs h = grind (arith, common_steps)
+take_whole i xs h = take_all i xs (omega (arith, h))
 
 pub refused_here : (s : State) (lines : List (List ℕ)) (i : ℕ) (line : List ℕ) → Reads s (take i lines) → Refuses s line → i < length lines → take (i + 1) lines ≡ take i lines ++ line ∷ [] → NamesPlace lines i
 refused_here s lines i line r no_part lt e = record {
@@ -310,7 +310,7 @@ refused_end s lines r d = record {
 }
 
 length-texts : {X : Type 0} (f : X → List ℕ) (xs : List X) → length (map f xs) ≡ length xs
-length-texts f xs = simp common_steps
+length-texts f xs = length-map xs f
 
 -- one more line
 pub take_line : {X : Type 0} (f : X → List ℕ) (xs : List X) (i : ℕ) (d : X) → i < length xs → take (i + 1) (map f xs) ≡ take i (map f xs) ++ f (get_or xs i d) ∷ []

@@ -2,7 +2,8 @@
 use Rattle.std.proofs.Common.{◌≡◌, ◌<◌, ◌≤◌, ℕ, ◌+◌, List, [], ◌∷◌, ◌++◌, length, refl, sym, ap, subst, inl, inr, ◌∙◌, Some, arith, true, false, append_assoc, map}
 use Rattle.std.specs.Prelude.{Bool, ◌&&◌, nat_lt}
 use Rattle.std.specs.List.{AllByRecursion}
-use Rattle.std.proofs.lemmas.Grind.{common_steps}
+use Rattle.std.proofs.lemmas.Bool.{ltb-true}
+use Rattle.std.proofs.lemmas.List.{append-nil, length_push}
 use Rattle.ssim_values.specs.declared.designator.Designator.{Designator}
 use Rattle.ssim_text.specs.declared.kind.Kind.{Kind}
 use Rattle.ssim_text.specs.declared.kind.Kind.TheVariants.{Ssm, Asm}
@@ -33,7 +34,7 @@ use Rattle.ssim_text.specs.internal.DecoderState.{finish}
 use Rattle.ssim_text.proofs.Runs.{bind_some, none_some, some_same, guarded, false_true}
 
 append_none : {A : Type 0} (xs : List A) → xs ++ [] ≡ xs
-append_none xs = simp common_steps
+append_none xs = append-nil xs
 
 -- the message so far has these parts
 pub record Base (m : MessageValue) (ps : List Part) : Type 0 where
@@ -109,7 +110,7 @@ all-push P [] x h k = (k, tt)
 all-push P (y ∷ xs) x h k = (h.0, all-push P xs x h.1 k)
 
 length-one_more : {A : Type 0} (xs : List A) (x : A) → length (xs ++ x ∷ []) ≡ length xs + 1
-length-one_more xs x = grind (arith, common_steps)
+length-one_more xs x = length_push xs x
 
 some_more : {A : Type 0} (xs : List A) (x : A) → 1 ≤ length (xs ++ x ∷ [])
 some_more xs x = omega (arith, length-one_more xs x)
@@ -155,7 +156,7 @@ flight_on Ssm m a ps h e = (h, e)
 flight_on Asm m a ps h e = (h, e)
 
 below : (a b : ℕ) → nat_lt a b ≡ true → a < b
-below a b h = grind (arith, common_steps)
+below a b h = ltb-true a b h
 
 -- ---- flight, dates, equipment
 

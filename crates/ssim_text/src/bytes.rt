@@ -1,8 +1,10 @@
-//! How bytes are cut into lines, and a line into its parts.
-ghost use Rattle.std.specs.Prelude.{◌≡◌, ◌∷◌, take, drop};
+//! How bytes are cut into lines, and a line into its parts; bytes as text.
+ghost use Rattle.std.specs.Prelude.{◌≡◌, ◌∷◌, IfOk, take, drop};
 ghost use Rattle.std.specs.List.{list_all};
 ghost use Rattle.ssim_text.specs.Bytes.{before, from, drop_blanks, word, after_word, is_alphanumeric};
 ghost use Rattle.ssim_values.specs.Characters.{is_letter};
+
+use std::fmt;
 
 /// The bytes before the first `mark`, and those from it on.
 pub fn cut(text: &[u8], mark: u8) -> (&[u8], &[u8])
@@ -60,4 +62,14 @@ pub(crate) fn all_alphanumeric(text: &[u8]) -> bool
     ensures { result ≡ list_all is_alphanumeric text.now }
 {
     text.iter().all(|byte| (b'A' <= *byte && *byte <= b'Z') || (b'0' <= *byte && *byte <= b'9'))
+}
+
+/// Bytes as the text that they spell.
+pub(crate) fn as_text(bytes: &[u8]) -> Result<&str, fmt::Error>
+    ensures { IfOk result (λ text. text.now ≡ bytes.now) }
+{
+    match str::from_utf8(bytes) {
+        Ok(text) => Ok(text),
+        Err(_) => Err(fmt::Error),
+    }
 }

@@ -4,7 +4,7 @@ ghost use Rattle.std.specs.Str.{bytes_eq};
 ghost use Rattle.ssim_text.specs.Lines.{originator_of, address_of, is_blank_or_none};
 ghost use Rattle.ssim_text.specs.internal.PrintedReference.{originator_in};
 
-use crate::bytes::{all_alphanumeric, first_bytes};
+use crate::bytes::{all_alphanumeric, as_text, first_bytes};
 use std::fmt;
 use std::marker::Model;
 
@@ -54,7 +54,7 @@ impl fmt::Display for Originator {
     ghost output = { λ originator. Some originator };
 
     fn fmt<W: fmt::Write>(&self, f: &mut fmt::Formatter<W>) -> fmt::Result {
-        let text = str::from_utf8(&self.bytes).map_err(|_| fmt::Error)?;
+        let text = as_text(&self.bytes)?;
         write!(f, "{text}")
     }
 }

@@ -8,7 +8,7 @@ ghost use Rattle.ssim_values.specs.Flight.{number_of};
 ghost use Rattle.ssim_values.specs.Characters.{is_digit};
 ghost use Rattle.std.specs.List.{list_all};
 
-use crate::bytes::first_bytes;
+use crate::bytes::{as_text, first_bytes};
 use crate::dates::{day, month_day};
 use crate::encoder::{five_digits, three_digits};
 use crate::fault::Fault;
@@ -87,12 +87,11 @@ impl fmt::Display for Reference {
 
     fn fmt<W: fmt::Write>(&self, f: &mut fmt::Formatter<W>) -> fmt::Result {
         let kind = self.kind;
-        let date = self.date.write();
-        let date = str::from_utf8(&date).map_err(|_| fmt::Error)?;
+        let date = self.date;
         let group = self.group_digits();
-        let group = str::from_utf8(&group).map_err(|_| fmt::Error)?;
+        let group = as_text(&group)?;
         let serial = self.serial_digits();
-        let serial = str::from_utf8(&serial).map_err(|_| fmt::Error)?;
+        let serial = as_text(&serial)?;
         let originator = self.originator;
         if originator.is_none() {
             write!(f, "{kind} {date} {group} {serial}")
