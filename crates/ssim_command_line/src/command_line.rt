@@ -5,7 +5,7 @@ ghost use Rattle.ssim_command_line.specs.Commands.{whole_program};
 ghost use Rattle.ssim_command_line.specs.Line.{Line, Spells, Take, Withdraw};
 ghost use Rattle.ssim_command_line.specs.Request.{desk_line_at, line_at, line_of, three_of, two_and_texts_of};
 ghost use Rattle.ssim_command_line.specs.Request.{view_at, whole_view_at};
-ghost use Rattle.ssim_command_line.specs.Request.{form_of, four_of, is_given, two_of, with_flights, with_form};
+ghost use Rattle.ssim_command_line.specs.Request.{form_of, four_of, is_given, texts_of, two_of, with_flights, with_form};
 ghost use Rattle.ssim_command_line.specs.Request.{with_refused, with_texts};
 ghost use Rattle.ssim_command_line.specs.Usage.{IsFaultOf, Names};
 
@@ -187,6 +187,17 @@ fn withdrawing<'a>(alloc: Global, inner: &ArgMatches<'a>) -> Result<Option<Reque
     Ok(values.map(|(desk, out, references)| Request::Withdraw(desk, out, references)))
 }
 
+/// The texts, none if none is given.
+fn given_texts<'a>(alloc: Global, inner: &ArgMatches<'a>) -> Result<Vec<&'a str>, AllocError>
+    ensures { IfOk result
+        (λ texts. map (λ t. t.now) texts.items ≡ texts_of (rows_of (found_of inner.now))) }
+{
+    match texts_at(inner) {
+        Some(texts) => texts.to_vec(alloc),
+        None => Ok(Vec::new(alloc)),
+    }
+}
+
 /// The request that the matches of `texts` make.
 fn showing_texts<'a>(
     alloc: Global,
@@ -197,10 +208,7 @@ fn showing_texts<'a>(
     let Some(desk) = one(inner) else {
         return Ok(None);
     };
-    let Some(flights) = texts_at(inner) else {
-        return Ok(Some(Request::Texts(desk, Vec::new(alloc))));
-    };
-    Ok(Some(Request::Texts(desk, flights.to_vec(alloc)?)))
+    Ok(Some(Request::Texts(desk, given_texts(alloc, inner)?)))
 }
 
 /// Whether an option without a value is given.
@@ -231,10 +239,7 @@ fn listing<'a>(alloc: Global, inner: &ArgMatches<'a>) -> Result<Option<Request<'
         return Ok(None);
     };
     let form = form_of(inner);
-    let Some(flights) = texts_at(inner) else {
-        return Ok(Some(Request::List(form, file, Vec::new(alloc))));
-    };
-    Ok(Some(Request::List(form, file, flights.to_vec(alloc)?)))
+    Ok(Some(Request::List(form, file, given_texts(alloc, inner)?)))
 }
 
 /// The request that a subcommand's matches make.
@@ -246,25 +251,15 @@ fn read<'a>(
     ensures { IfOk result
         (λ r. option_map line_of r ≡ line_at name.now (rows_of (found_of inner.now))) }
 {
-    if name == "check" {
-        return Ok(one(inner).map(Request::Check));
+    match name {
+        "check" => Ok(one(inner).map(Request::Check)),
+        "problems" => Ok(one(inner).map(Request::Problems)),
+        "tidy" => Ok(one(inner).map(Request::Tidy)),
+        "explain" => Ok(one(inner).map(Request::Explain)),
+        "start" => Ok(three(inner).map(|(a, b, c)| Request::Start(a, b, c))),
+        "rehearse" => Ok(three(inner).map(|(a, b, c)| Request::Rehearse(a, b, c))),
+        _ => on_desk(alloc, name, inner),
     }
-    if name == "problems" {
-        return Ok(one(inner).map(Request::Problems));
-    }
-    if name == "tidy" {
-        return Ok(one(inner).map(Request::Tidy));
-    }
-    if name == "explain" {
-        return Ok(one(inner).map(Request::Explain));
-    }
-    if name == "start" {
-        return Ok(three(inner).map(|(a, b, c)| Request::Start(a, b, c)));
-    }
-    if name == "rehearse" {
-        return Ok(three(inner).map(|(a, b, c)| Request::Rehearse(a, b, c)));
-    }
-    on_desk(alloc, name, inner)
 }
 
 /// The request on a desk, or one that looks at a desk or a timetable.
@@ -276,22 +271,14 @@ fn on_desk<'a>(
     ensures { IfOk result
         (λ r. option_map line_of r ≡ desk_line_at name.now (rows_of (found_of inner.now))) }
 {
-    if name == "take" {
-        return taking(alloc, inner);
+    match name {
+        "take" => taking(alloc, inner),
+        "receive" => receiving(alloc, inner),
+        "merge" => Ok(three(inner).map(|(a, b, c)| Request::Merge(a, b, c))),
+        "withdraw" => withdrawing(alloc, inner),
+        "export" => Ok(one(inner).map(Request::Export)),
+        _ => whole_view(alloc, name, inner),
     }
-    if name == "receive" {
-        return receiving(alloc, inner);
-    }
-    if name == "merge" {
-        return Ok(three(inner).map(|(a, b, c)| Request::Merge(a, b, c)));
-    }
-    if name == "withdraw" {
-        return withdrawing(alloc, inner);
-    }
-    if name == "export" {
-        return Ok(one(inner).map(Request::Export));
-    }
-    whole_view(alloc, name, inner)
 }
 
 /// The request that looks at all that a desk or a timetable has, at two timetables, or at dates or
@@ -304,22 +291,14 @@ fn whole_view<'a>(
     ensures { IfOk result
         (λ r. option_map line_of r ≡ whole_view_at name.now (rows_of (found_of inner.now))) }
 {
-    if name == "page" {
-        return Ok(one(inner).map(Request::Page));
+    match name {
+        "page" => Ok(one(inner).map(Request::Page)),
+        "diff" => Ok(two(inner).map(|(a, b)| Request::Diff(a, b))),
+        "publish" => Ok(four(inner).map(|(a, b, c, d)| Request::Publish(a, b, c, d))),
+        "texts" => showing_texts(alloc, inner),
+        "findings" => Ok(one(inner).map(Request::Findings)),
+        _ => view(alloc, name, inner),
     }
-    if name == "diff" {
-        return Ok(two(inner).map(|(a, b)| Request::Diff(a, b)));
-    }
-    if name == "publish" {
-        return Ok(four(inner).map(|(a, b, c, d)| Request::Publish(a, b, c, d)));
-    }
-    if name == "texts" {
-        return showing_texts(alloc, inner);
-    }
-    if name == "findings" {
-        return Ok(one(inner).map(Request::Findings));
-    }
-    view(alloc, name, inner)
 }
 
 /// The request that looks at dates or flights.
@@ -331,22 +310,14 @@ fn view<'a>(
     ensures { IfOk result
         (λ r. option_map line_of r ≡ view_at name.now (rows_of (found_of inner.now))) }
 {
-    if name == "show" {
-        return Ok(three(inner).map(|(a, b, c)| Request::Show(a, b, c)));
+    match name {
+        "show" => Ok(three(inner).map(|(a, b, c)| Request::Show(a, b, c))),
+        "history" => Ok(three(inner).map(|(a, b, c)| Request::History(a, b, c))),
+        "board" => Ok(three(inner).map(|(a, b, c)| Request::Board(a, b, c))),
+        "list" => listing(alloc, inner),
+        "calendar" => Ok(two(inner).map(|(a, b)| Request::Calendar(a, b))),
+        _ => Ok(None),
     }
-    if name == "history" {
-        return Ok(three(inner).map(|(a, b, c)| Request::History(a, b, c)));
-    }
-    if name == "board" {
-        return Ok(three(inner).map(|(a, b, c)| Request::Board(a, b, c)));
-    }
-    if name == "list" {
-        return listing(alloc, inner);
-    }
-    if name == "calendar" {
-        return Ok(two(inner).map(|(a, b)| Request::Calendar(a, b)));
-    }
-    Ok(None)
 }
 
 /// The request that the words make, the first of which is the program's name.
