@@ -7,7 +7,8 @@ A wrong body is a file crates/CRATE/wrong_bodies/NAME.edit with lines
     old: TEXT         a text that the file has exactly once
     new: TEXT         the text in its place
 
-A file may have several pairs of old and new, and several files.
+A file may have several pairs of old and new, and several files. With a line `when: by hand` it is not tried in the gate: its function
+calls so many others that the check of it is dear.
 """
 import dataclasses
 import os
@@ -27,6 +28,7 @@ class Edit:
     name: str
     functions: list
     pairs: list
+    by_hand: bool = False
 
     def apply(self, folder):
         """Changes the files of a crate's copy. Returns what is wrong with the edit, if anything is."""
@@ -78,6 +80,8 @@ def read_edit(path):
                 old = text
             elif word == "new":
                 edit.pairs.append((file, old, text))
+            elif word == "when" and text == "by hand":
+                edit.by_hand = True
             elif line:
                 raise ValueError(f"{path}: the line '{line}' has none of the words")
     return edit
@@ -90,11 +94,13 @@ def edits_of(crate):
     return [read_edit(os.path.join(folder, name)) for name in names]
 
 
-def groups_of(crate):
-    """The wrong bodies of a crate in groups, each tried in one check: no two of a group touch one function, and one that changes
-    more than bodies of functions that it names is alone."""
+def groups_of(crate, by_hand=True):
+    """The wrong bodies of a crate, or those of the gate, in groups, each tried in one check: no two of a group touch one function, and
+    one that changes more than bodies of functions that it names is alone."""
     groups = []
     for edit in edits_of(crate):
+        if edit.by_hand and not by_hand:
+            continue
         touched = edit.touched(os.path.join(TOP, "crates", crate))
         for group, others in groups:
             if touched and others and not touched & others:

@@ -10,8 +10,9 @@ One check tries several wrong bodies of a crate, since each check reads all libr
 functions that are named, no two of them the same. A function is checked against the contracts of others, not their bodies, so each
 wrong body is judged by the goals of its own functions. One that is not found refused so is tried again alone, and that decides.
 
-It takes the libraries below a crate from crates/*/out/rlib, where `rt ci` builds them. With --beside it runs beside `rt ci`, and
-waits for each library until LOG, what `rt ci` prints, says that it is proved. The last line is 'N passed, M failed'.
+It takes the libraries below a crate from crates/*/out/rlib, where `rt ci` builds them. With --beside it runs beside `rt ci`, waits
+for each library until LOG, what `rt ci` prints, says that it is proved, and leaves out what is to be tried by hand. The last line is
+'N passed, M failed'.
 """
 import collections
 import concurrent.futures
@@ -138,7 +139,8 @@ def verdicts(prover, log, crates):
             ended = log.has_ended()
             for crate in [it for it in left if log.are_proved(prover.below(it))]:
                 left.remove(crate)
-                tried += [pool.submit(Tries(prover, crate).why_not_all_refused, group) for group in groups_of(crate)]
+                groups = groups_of(crate, by_hand=not log.path)
+                tried += [pool.submit(Tries(prover, crate).why_not_all_refused, group) for group in groups]
             time.sleep(1)
     results = [f"{crate}: a library below it is not proved" for crate in left]
     for it in tried:
@@ -152,7 +154,7 @@ def main(names):
     log = Log(names[1] if names[:1] == ["--beside"] else None)
     names = names[2:] if log.path else names
     prover = Prover()
-    results = verdicts(prover, log, [crate for crate in names or prover.uses if groups_of(crate)])
+    results = verdicts(prover, log, [crate for crate in names or prover.uses if groups_of(crate, by_hand=not log.path)])
     failed = [why for why in results if why]
     for why in failed:
         print(f"wrong bodies: {why}", flush=True)
