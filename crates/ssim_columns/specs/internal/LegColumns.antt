@@ -3,7 +3,7 @@ use Rattle.std.specs.Prelude.{ℕ, ◌≡◌, ◌+◌, ◌-◌, ◌≤◌, ◌<�
 use Rattle.ssim_columns.specs.declared.field.Field.{Field}
 use Rattle.ssim_columns.specs.Leg.{leg_columns}
 
--- each column of the field is so many bytes after its place in a leg's bytes
+-- each column of the field is this number of bytes after its place in a leg's bytes
 pub record IsAfter (before : ℕ) (field : Field) : Type 0 where
   pub low : before ≤ field.first
   pub some : field.first ≤ field.last
