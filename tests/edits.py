@@ -8,7 +8,7 @@ A wrong body is a file crates/CRATE/wrong_bodies/NAME.edit with lines
     new: TEXT         the text in its place
 
 A file may have several pairs of old and new, and several files. With a line `when: by hand` it is not tried in the gate: its function
-calls so many others that the check of it is dear.
+calls so many others that the check of it is dear, or it would be the only one in its check.
 """
 import dataclasses
 import os
