@@ -26,7 +26,7 @@ pub struct ListForm {
 /// A command with its values: names of files, but for the flights of `Texts` and of `List`, the
 /// references of `Withdraw`, the flight and the date of `Show` and of `History`, the station and the
 /// date of `Board`, the flight of `Calendar`, the reference of `Publish`, and the word of `Explain`.
-#[derive(Debug, Drop)]
+#[derive(Drop)]
 pub enum Request<'a> {
     /// Print the notes on a data set and a summary.
     Check(&'a str),
