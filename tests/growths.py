@@ -1,14 +1,14 @@
 #!/usr/bin/env python3
 """Refuses each growth of memory in turn to each of the commands: growths.py PROGRAM
 
-For k = 1, 2, .. growth number k of a run is refused, and then every growth from the k-th on, until a run meets no
-refusal. Each run ends with status 0 and exactly the bytes and the file of a run without refusals; or with status 1 and
-`refused 90 Memory`, and no file is kept or changed. Before a 90 `take` may have printed the lines of its first texts, and no
-other command anything. `rehearse` may print 90 in the line of a step: then the other lines are those of the script without
-the step. It may print 90 in the line of a desk, and does so in some run: then the other desks have the lines that they have
-without it, and the last line is `same` only if all desks have this line. `receive` may print 90 in the line of a text: then the other lines are as
-they are without it, the text is among the refused ones, and the desk is that of the other texts. The last line is 'N passed, M failed'; the lines
-before it say how many runs each command took.
+For k = 1, 2, .. growth number k of a run is refused, and for each third k every growth from the k-th on, until a run meets no refusal:
+these runs differ only in what is done after a refusal. Each run ends with status 0 and exactly the bytes and the file of a run without
+refusals; or with status 1 and `refused 90 Memory`, and no file is kept or changed. Before a 90 `take` may have printed the lines of its
+first texts, and no other command anything. `rehearse` may print 90 in the line of a step: then the other lines are those of the script
+without the step. It may print 90 in the line of a desk, and does so in some run: then the other desks have the lines that they have
+without it, and the last line is `same` only if all desks have this line. `receive` may print 90 in the line of a text: then the other
+lines are as they are without it, the text is among the refused ones, and the desk is that of the other texts. The last line is
+'N passed, M failed'; the lines before it say how many runs each command took.
 """
 import concurrent.futures
 import os
@@ -128,9 +128,9 @@ class Sweep:
         return any(place >= steps for places in self.rehearsals for place in places)
 
     def refuse(self, onward):
-        """Refuses growth 1, 2, ..: the number of runs, and what was wrong."""
+        """Refuses growth 1, 2, .., or each third one and those after it: the number of runs, and what was wrong."""
         faults = []
-        for number in range(1, NEVER):
+        for runs, number in enumerate(range(1, NEVER, 3 if onward else 1), 1):
             answer = self.runs.run(self.words, "growths", number, NEVER if onward else number)
             wrong = self.wrong(answer)
             if wrong:
@@ -142,7 +142,7 @@ class Sweep:
                     faults.append("growths: rehearse: no line of a desk has 90")
                 if self.name == "receive" and not onward and not self.has_refused_text():
                     faults.append("growths: receive: no line of a text has 90")
-                return number, faults
+                return runs, faults
 
 
 def sweep(program, library, command, onward):
@@ -163,7 +163,7 @@ def main():
             asked += [(command[0], onward, pool.submit(sweep, program, library, command, onward)) for command in COMMANDS]
         for name, onward, answer in asked:
             runs, faults = answer.result()
-            print(f"{name}: {runs} runs{', each growth from one on' if onward else ''}")
+            print(f"{name}: {runs} runs{', each growth from one on, for each third' if onward else ''}")
             print("".join(line + "\n" for line in faults[:20]), end="")
             passed += runs - len(faults)
             failed += len(faults)
