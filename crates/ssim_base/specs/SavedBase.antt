@@ -1,6 +1,7 @@
 -- What the records of a base are, and how they are read again once they are written.
-use Rattle.std.specs.Prelude.{◌≡◌, ◌⊎◌, ℕ, ◌≤◌, List, [], ◌∷◌, ◌++◌, map, length, Ok, IsSome}
+use Rattle.std.specs.Prelude.{◌≡◌, ◌⊎◌, ℕ, ◌-◌, ◌≤◌, List, [], ◌∷◌, ◌++◌, map, length, Option, None, Some, Ok, IsSome}
 use Rattle.std.specs.List.{All, flat_map}
+use Rattle.ssim_records.specs.InputBuffer.{Gives, Input, Stops}
 use Rattle.ssim_records.specs.Record.{IsRecord, written}
 use Rattle.ssim_records.specs.declared.record.Record.{Record}
 use Rattle.ssim_records.specs.declared.record.Record.TheVariants.{Header, Carrier, Leg, Segment, Trailer}
@@ -32,10 +33,31 @@ pub record IsBaseRecords (base : List Record) : Type 0 where
 abbrev pub saved : List Record → List ℕ
 saved = flat_map (λ r. written r ++ 10 ∷ [])
 
--- the fault has at most as many bytes left as the lines have
-abbrev pub IsWithin : List ℕ → SavedFault → Type 0
-IsWithin lines fault.Memory = Unit {0}
-IsWithin lines (fault.Invalid left) = left ≤ length lines
+-- If the bytes are known, they do not begin with the lines of this many records of a base.
+abbrev pub BeginsNoBase : ℕ → Option (List ℕ) → Type 0
+BeginsNoBase count None = Unit {0}
+BeginsNoBase count (Some bytes) =
+    (records : List Record) (later : List ℕ) → IsBaseRecords records → length records ≡ count → bytes ≡ saved records ++ later → ⊥
+
+-- why bytes are not read as the lines of this many records: there are none, the reader stopped, or
+-- out of memory
+abbrev pub RefusesLines : ℕ → Option (List ℕ) → SavedFault → Type 0
+RefusesLines count bytes fault.Memory = Unit {0}
+RefusesLines count bytes (fault.Read stop) = Unit {0}
+RefusesLines count bytes (fault.Invalid offset) = BeginsNoBase count bytes
+
+-- an invalid line comes after the bytes that were used
+abbrev pub IsAfterUsed : Input → SavedFault → Type 0
+IsAfterUsed input fault.Memory = Unit {0}
+IsAfterUsed input (fault.Read stop) = Unit {0}
+IsAfterUsed input (fault.Invalid offset) = offset ≡ input.came - length input.held
+
+-- The reader stopped if the fault says so. Else it did not fail, and at an invalid line it gave the
+-- bytes that came.
+abbrev pub StopsSaved : ℕ → Option (List ℕ) → Option (List ℕ) → ℕ → ℕ → ℕ → ℕ → ℕ → ℕ → SavedFault → Type 0
+StopsSaved limit left left' counted counted' failures failures' came came' fault.Memory = failures' ≡ failures
+StopsSaved limit left left' counted counted' failures failures' came came' (fault.Read stop) = Stops limit left left' counted counted' failures failures' came stop
+StopsSaved limit left left' counted counted' failures failures' came came' (fault.Invalid offset) = Gives left left' counted counted' failures failures' came came'
 
 -- the outcome has these records, with any notes
 abbrev pub IsOfRecords : List Record → Outcome → Type 0

@@ -3,9 +3,10 @@
 ghost use Rattle.std.specs.Prelude.{None};
 ghost use Rattle.ssim_program.specs.Files.{CountsKeep};
 
+use crate::memory_file::MemoryFile;
 use crate::memory_store::MemoryStore;
-use ssim_program::{Content, Peeked, Store, StoreFault};
-use ssim_records::{DeviceFault, Parts, Source};
+use ssim_program::{Content, Store, StoreFault};
+use ssim_records::{DeviceFault, Source};
 use std::alloc::Global;
 
 /// A store whose calls all fail with its fault.
@@ -16,11 +17,11 @@ pub struct NoStore {
 }
 
 impl Store for NoStore {
-    type File = Parts;
+    type File = MemoryFile;
 
     ghost failures = { λ s. s.failures };
 
-    fn open(&mut self, _alloc: Global, _name: &str) -> Result<Parts, StoreFault> {
+    fn open(&mut self, _alloc: Global, _name: &str) -> Result<MemoryFile, StoreFault> {
         Err(self.fault)
     }
 
@@ -57,11 +58,11 @@ pub struct FullStore<'a> {
 }
 
 impl Store for FullStore<'_> {
-    type File = Parts;
+    type File = MemoryFile;
 
     ghost failures = { λ s. s.failures };
 
-    fn open(&mut self, alloc: Global, name: &str) -> Result<Parts, StoreFault> {
+    fn open(&mut self, alloc: Global, name: &str) -> Result<MemoryFile, StoreFault> {
         self.store.open(alloc, name)
     }
 
@@ -83,39 +84,19 @@ pub struct BrokenStore<'a> {
     pub room: usize,
 }
 
-impl BrokenStore<'_> {
-    /// A file of these bytes.
-    fn broken(&self, bytes: Parts) -> BrokenFile {
-        BrokenFile {
-            bytes,
-            room: self.room,
-            came: 0,
-            failures: 0,
-        }
-    }
-}
-
 impl Store for BrokenStore<'_> {
     type File = BrokenFile;
 
     ghost failures = { λ _. 0 };
 
     fn open(&mut self, alloc: Global, name: &str) -> Result<BrokenFile, StoreFault> {
-        let bytes = self.store.open(alloc, name)?;
-        Ok(self.broken(bytes))
-    }
-
-    fn peek(
-        &mut self,
-        alloc: Global,
-        name: &str,
-        beginning: &[u8],
-        limit: u64,
-    ) -> Result<Peeked<BrokenFile>, StoreFault> {
-        match self.store.peek(alloc, name, beginning, limit)? {
-            Peeked::Loaded(parts) => Ok(Peeked::Loaded(parts)),
-            Peeked::Opened(bytes) => Ok(Peeked::Opened(self.broken(bytes))),
-        }
+        let file = self.store.open(alloc, name)?;
+        Ok(BrokenFile {
+            file,
+            room: self.room,
+            came: 0,
+            failures: 0,
+        })
     }
 
     fn load(&mut self, alloc: Global, name: &str, limit: u64) -> Result<Vec<u8>, StoreFault> {
@@ -132,7 +113,7 @@ impl Store for BrokenStore<'_> {
 /// A file that fails after `room` bytes.
 #[derive(Drop)]
 pub struct BrokenFile {
-    bytes: Parts,
+    file: MemoryFile,
     room: usize,
     came: u128,
     failures: u64,
@@ -151,7 +132,7 @@ impl Source for BrokenFile {
             return Err(DeviceFault::Failed);
         }
         let most = into.len().min(self.room);
-        match self.bytes.fetch(&mut into[..most]) {
+        match self.file.fetch(&mut into[..most]) {
             Ok(n) => {
                 self.room -= n;
                 self.came = self.came.wrapping_add(n as u128);

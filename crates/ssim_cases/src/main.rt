@@ -69,6 +69,7 @@ mod desks;
 mod devices;
 mod extents;
 mod fault;
+mod memory_file;
 mod memory_store;
 mod printed;
 mod pure;

@@ -26,7 +26,7 @@ use crate::offer::Offer;
 use crate::replay::apply_all;
 use crate::schedules::Schedules;
 use ssim_base::{Base, WriteFault};
-use ssim_held::{DeskFault, Held, read_desk};
+use ssim_held::{DeskFault, Held};
 use ssim_records::{Sink, Source};
 use ssim_schedule::{ExportFault, PlacedLeg};
 use ssim_values::{Day, Flight, Memory};
@@ -97,8 +97,8 @@ impl Desk {
         ensures never_ends { IfErr result (λ e. NeverEnds limit (Came (R.left reader.old)
             (R.left reader.new) (R.came reader.old) (R.came reader.new)) e) }
     {
-        let opened = read_desk(alloc, reader, limit)?;
-        let desk = Desk::over(Holdings::of(alloc, opened))?;
+        let holdings = Holdings::open(alloc, reader, limit)?;
+        let desk = Desk::over(holdings)?;
         Ok(desk)
     }
 

@@ -6,16 +6,17 @@ ghost use Rattle.std.specs.Bool.{OnFalse};
 ghost use Rattle.std.specs.FinMap.{contains_key, remove};
 ghost use Rattle.std.specs.Io.KnownBytes.{Appends};
 ghost use Rattle.ssim_base.specs.BaseSeen.{base_with};
+ghost use Rattle.ssim_base.specs.Reading.{Came};
 ghost use Rattle.ssim_schedule.specs.Dates.{AgreeBetween};
 ghost use Rattle.ssim_schedule.specs.FlightPieces.{divided_among, divided_flights};
 ghost use Rattle.ssim_schedule.specs.ExportResult.{ReadsBackBase, RefusesBase, WritesBase};
 ghost use Rattle.ssim_base.specs.Sinks.{CountsFault, TakesPrefix};
-ghost use Rattle.ssim_held.specs.File.{CanBeSaved, IsDeskFile, desk_file};
+ghost use Rattle.ssim_held.specs.File.{CanBeSaved, desk_file};
 ghost use Rattle.ssim_text.specs.Message.{MessageValue};
 ghost use Rattle.ssim_text.specs.declared.reference.Reference.{Reference};
 ghost use Rattle.ssim_held.specs.Held.{Agree, Says};
 ghost use Rattle.ssim_held.specs.Entries.{AreEntries, AreRising, IsEntry, map_of, state_of};
-ghost use Rattle.ssim_held.specs.Opening.{RefusesBytes};
+ghost use Rattle.ssim_held.specs.Opening.{FailsAs, NeverEnds, Opens, RefusesFile};
 ghost use Rattle.ssim_held.specs.Ordered.{Belongs};
 ghost use Rattle.ssim_base.specs.Timetable.{Days, itinerary};
 ghost use Rattle.ssim_schedule.specs.Schedule.{days_in};
@@ -35,10 +36,10 @@ use crate::message_effect::act_in_order;
 use crate::offer::{Offer, offer_over};
 use ssim_base::{Base, DataSet, Stations, WriteFault};
 use ssim_held::{
-    DeskFault, Held, Opened, first_conflict, first_new, merged, put_desk, read_parts, search,
+    DeskFault, Held, Opened, first_conflict, first_new, merged, put_desk, read_desk, search,
 };
 use ssim_periods::Periods;
-use ssim_records::{Parts, Sink};
+use ssim_records::{Sink, Source};
 use ssim_schedule::{ExportFault, FlightPieces, Itinerary, PlacedLeg, Schedule};
 use ssim_text::Reference;
 use ssim_values::{Day, Flight, Memory};
@@ -88,17 +89,24 @@ impl Holdings {
         }
     }
 
-    /// Reads the bytes of a desk file, of version 2, or of version 1 without originators. They are
-    /// freed as they are read.
+    /// Opens a desk file: reads all bytes of the reader, at most `limit`, and what the desk whose
+    /// file they are holds. The file is of version 2, or of version 1 without originators.
     ///
-    /// The errors are 90, and 62 if the bytes are no desk file, with the number of bytes before the
-    /// first invalid element.
-    pub fn open(alloc: Global, parts: Parts) -> Result<Holdings, DeskFault>
-        ensures ok { IfOk result (λ holdings. IsDeskFile parts holdings.base holdings.held) }
+    /// The errors are 90, 13 `ReadFault` if the reader failed, 14 `ReaderNeverEnds` if more bytes
+    /// came than the limit, both with record number 0, and 62 if the bytes are no desk file, with
+    /// the number of bytes before the first invalid element.
+    pub fn open<R: Source>(alloc: Global, reader: &mut R, limit: u64) -> Result<Holdings, DeskFault>
+        ensures ok { IfOk result
+            (λ holdings. Opens limit (R.left reader.old) holdings.base holdings.held) }
         ensures applied { IfOk result (λ holdings. holdings.applied ≡ 0) }
-        ensures err { IfErr result (RefusesBytes parts) }
+        ensures err { IfErr result (RefusesFile limit (R.left reader.old)) }
+        ensures no_failure { IfOk result (λ _. R.failures reader.new ≡ R.failures reader.old) }
+        ensures failure { IfErr result
+            (λ e. FailsAs (R.failures reader.old) (R.failures reader.new) e) }
+        ensures never_ends { IfErr result (λ e. NeverEnds limit (Came (R.left reader.old)
+            (R.left reader.new) (R.came reader.old) (R.came reader.new)) e) }
     {
-        let opened = read_parts(alloc, parts)?;
+        let opened = read_desk(alloc, reader, limit)?;
         Ok(Holdings::of(alloc, opened))
     }
 

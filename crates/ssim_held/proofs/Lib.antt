@@ -14,8 +14,9 @@ pub mod CountLines
 pub mod SavedRows
 pub mod SavedElements
 pub mod SavedTexts
-pub mod WholeInputs
+pub mod Inputs
 pub mod SavedParts
 pub mod SavedFiles
+pub mod SavedInputs
 pub mod PartFaults
 pub mod Examples

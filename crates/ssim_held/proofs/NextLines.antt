@@ -1,6 +1,5 @@
--- A line that is read byte by byte: what was read, and what is left, have the bytes in their order,
--- and no LF was read.
-use Rattle.std.proofs.Common.{◌≡◌, ℕ, ◌<◌, ◌^◌, Bool, false, List, [], ◌∷◌, ◌++◌, codes, refl, sym, ap, ◌∙◌, arith, append_assoc}
+-- A line that is read byte by byte: no LF is in it but the last byte.
+use Rattle.std.proofs.Common.{◌≡◌, ℕ, ◌<◌, ◌^◌, Bool, true, false, List, [], ◌∷◌, ◌++◌, codes, refl, sym, ap, ◌∙◌, arith, append_assoc}
 use Rattle.std.specs.Prelude.{◌==◌, if◌then◌else◌}
 use Rattle.std.specs.Fmt.{decimal}
 use Rattle.std.proofs.lemmas.Bool.Decides.{nat_tests}
@@ -9,35 +8,29 @@ use Rattle.ssim_text.specs.Bytes.{before, from}
 use Rattle.ssim_held.specs.File.{counted}
 use Rattle.ssim_held.proofs.CountLines.{before_end, counted_on, decimal_digits, from_end}
 
--- so far a line was read of the bytes, and no LF
-pub record IsRead (old line now : List ℕ) : Type 0 where
-  pub before_is : before 10 old ≡ line ++ before 10 now
-  pub from_is : from 10 old ≡ from 10 now
-  pub all : old ≡ line ++ now
+one_passed : (t : Bool) (x : ℕ) (xs ys : List ℕ) → (from 10 xs ≡ [] → (before 10 (xs ++ ys) ≡ xs ++ before 10 ys) × (from 10 (xs ++ ys) ≡ from 10 ys)) → (if t then x ∷ xs else from 10 xs) ≡ []
+    → ((if t then [] else x ∷ before 10 (xs ++ ys)) ≡ x ∷ (xs ++ before 10 ys)) × ((if t then x ∷ (xs ++ ys) else from 10 (xs ++ ys)) ≡ from 10 ys)
+one_passed true x xs ys f h = absurd cc
+one_passed false x xs ys f h = let later = f h in (ap (λ bs. x ∷ bs) later.0, later.1)
 
-pub read_first : (old : List ℕ) → IsRead old [] old
-read_first old = record { before_is = refl; from_is = refl; all = refl }
+-- bytes without LF come before the first LF
+pub passed : (xs ys : List ℕ) → from 10 xs ≡ [] → (before 10 (xs ++ ys) ≡ xs ++ before 10 ys) × (from 10 (xs ++ ys) ≡ from 10 ys)
+passed [] ys h = (refl, refl)
+passed (x ∷ xs) ys h = one_passed (x == 10) x xs ys (passed xs ys) h
 
 no_end : (b : ℕ) → (b ≡ 10 → ⊥) → (b == 10) ≡ false
 no_end b apart = grind (arith, nat_tests)
 
 -- one byte more, which is no LF
-pub read_more : (old line now new : List ℕ) (b : ℕ) → IsRead old line now → now ≡ b ∷ new → (b ≡ 10 → ⊥) → IsRead old (line ++ b ∷ []) new
-read_more old line now new b is e apart =
-    let test = no_end b apart in
-    let next : before 10 now ≡ b ∷ before 10 new = ap (before 10) e ∙ ap (λ (t : Bool). if t then [] else b ∷ before 10 new) test in
-    let rest : from 10 now ≡ from 10 new = ap (from 10) e ∙ ap (λ (t : Bool). if t then b ∷ new else from 10 new) test in
-    record {
-      before_is = is.before_is ∙ ap (λ bs. line ++ bs) next ∙ sym (append_assoc line (b ∷ []) (before 10 new));
-      from_is = is.from_is ∙ rest;
-      all = is.all ∙ ap (λ bs. line ++ bs) e ∙ sym (append_assoc line (b ∷ []) new);
-    }
+pub no_end_more : (xs : List ℕ) (b : ℕ) → from 10 xs ≡ [] → (b ≡ 10 → ⊥) → from 10 (xs ++ b ∷ []) ≡ []
+no_end_more xs b none apart = (passed xs (b ∷ []) none).1 ∙ ap (λ (t : Bool). if t then b ∷ [] else []) (no_end b apart)
 
--- LF ends the line
-pub read_end : (old line now new : List ℕ) → IsRead old line now → now ≡ 10 ∷ new → (line ++ 10 ∷ [] ≡ before 10 old ++ 10 ∷ []) × (old ≡ (line ++ 10 ∷ []) ++ new)
-read_end old line now new is e =
-    let whole : before 10 old ≡ line = is.before_is ∙ ap (λ bs. line ++ before 10 bs) e ∙ append-nil line in
-    (ap (λ bs. bs ++ 10 ∷ []) (sym whole), is.all ∙ ap (λ bs. line ++ bs) e ∙ sym (append_assoc line (10 ∷ []) new))
+-- a line is the first one of its bytes
+pub first_line_is : (text line old new : List ℕ) → from 10 text ≡ [] → line ≡ text ++ 10 ∷ [] → old ≡ line ++ new → line ≡ before 10 old ++ 10 ∷ []
+first_line_is text line old new none is e =
+    let whole : old ≡ text ++ (10 ∷ new) = e ∙ ap (λ bs. bs ++ new) is ∙ append_assoc text (10 ∷ []) new in
+    let first : before 10 old ≡ text = ap (before 10) whole ∙ (passed text (10 ∷ new) none).0 ∙ append-nil text in
+    is ∙ ap (λ bs. bs ++ 10 ∷ []) (sym first)
 
 -- ---- the line that says how many records there are
 

@@ -10,6 +10,3 @@ none_is {A} o Q is q = subst (λ (x : Option A). IfNone x Q) (sym is) q
 -- an error that was passed on is for the same reason
 pub handed_on : {A : Type 0} (r : Result A PartFault) (e : PartFault) (Q : Type 0) → r ≡ Err e → (e ≢ Memory → Q) → IfErr r (λ x. x ≢ Memory → Q)
 handed_on {A} r e Q is q = subst (λ (x : Result A PartFault). IfErr x (λ y. y ≢ Memory → Q)) (sym is) q
-
-pub for_memory : {A : Type 0} (r : Result A PartFault) (e : PartFault) (Q : Type 0) → r ≡ Err e → e ≡ Memory → IfErr r (λ x. x ≢ Memory → Q)
-for_memory r e Q is memory = handed_on r e Q is (λ h. absurd (h memory))

@@ -73,15 +73,6 @@ version_is bytes one version base es file e =
     let same = counted_apart (codes "SSIMDESK") (version_number version) (version_number file.version) one (after_first_line base es) (small version) (small file.version) (sym e ∙ file.is) in
     (same_version version file.version same.0, same.1)
 
--- the base, and what follows it, are those of the file
-pub base_is : SavedIsOne → EqualWhereWrittenEqual → (one two later : List ℕ) (base other : BaseSeen) → IsBase base → IsBase other → length base.records < 2 ^ 64 → length other.records < 2 ^ 64 → length base.rows < 2 ^ 64 → length other.rows < 2 ^ 64
-    → one ≡ records_part base.records ++ (rows_part base.rows ++ two) → one ≡ records_part other.records ++ (rows_part other.rows ++ later)
-    → (base.records ≡ other.records) × (base.rows ≡ other.rows) × (two ≡ later)
-base_is once equal one two later base other is are a b c d e f =
-    let records = records_first once equal base other [] [] (rows_part base.rows ++ two) (rows_part other.rows ++ later) is.0 are.0 a b (sym e ∙ f) in
-    let rows = rows_next once equal base other [] [] two later (recursion_from_All IsRow base.rows is.1) (recursion_from_All IsRow other.rows are.1) c d records.1 in
-    (records.0, rows.0, rows.1)
-
 pub saved_base : (base : BaseSeen) (es : List Entry) → CanBeSaved base es → IsBase base
 saved_base base es can = (can.is_base, can.rows)
 
@@ -96,18 +87,6 @@ texts_are once equal version records base es others two three later is are a b e
     (both_each records es (recursion_from_All (IsEntry records) es is.entries_are.each) (recursion_from_All IsSpelled es is.spelled))
     (both_each records others (recursion_from_All (IsEntry records) others are.entries_are.each) (recursion_from_All IsSpelled others are.spelled)) a b (sym e ∙ f)
 
--- there are no more elements than bytes
-pub small_base : (one two : List ℕ) (base : BaseSeen) → IsBase base → one ≡ records_part base.records ++ (rows_part base.rows ++ two) → length one < 2 ^ 64 → (length base.records < 2 ^ 64) × (length base.rows < 2 ^ 64)
-small_base one two base is e short =
-    let whole = ap length e in
-    let first = length-append (records_part base.records) (rows_part base.rows ++ two) in
-    let second = length-append (rows_part base.rows) two in
-    let records = length-append (counted (codes "RECORDS") (length base.records)) (saved base.records) in
-    let rows = length-append (counted (codes "STATIONS") (length base.rows)) (flat_map row_line base.rows) in
-    let one_size = records_size base.records is.0 in
-    let two_size = rows_size base.rows is.1 in
-    (omega (arith, whole, first, records, one_size, short), omega (arith, whole, first, second, rows, two_size, short))
-
 pub small_records : (one two : List ℕ) (records : List Record) → IsBaseRecords records → one ≡ records_part records ++ two → length one < 2 ^ 64 → length records < 2 ^ 64
 small_records one two records is e short =
     let whole = ap length e in
@@ -115,11 +94,6 @@ small_records one two records is e short =
     let part = length-append (counted (codes "RECORDS") (length records)) (saved records) in
     let size = records_size records is in
     omega (arith, whole, first, part, size, short)
-
--- the records, and then the rows, are a base
-pub both_read : (one two after later : List ℕ) (records : List Record) (rows : List Row) → IsBaseRecords records → All IsRow rows
-    → one ≡ records_part records ++ two → after ≡ two → after ≡ rows_part rows ++ later → IsBase (base_with records rows) × (one ≡ records_part records ++ (rows_part rows ++ later))
-both_read one two after later records rows is all e f g = ((is, all), e ∙ ap (λ (xs : List ℕ). records_part records ++ xs) (sym f ∙ g))
 
 pub small_texts : (two three : List ℕ) (es : List Entry) → two ≡ texts_part es ++ three → length two < 2 ^ 64 → length es < 2 ^ 64
 small_texts two three es e short =
@@ -132,12 +106,22 @@ small_texts two three es e short =
 pub shorter : (bytes first rest : List ℕ) → bytes ≡ first ++ rest → length bytes < 2 ^ 64 → length rest < 2 ^ 64
 shorter bytes first rest e short = omega (arith, ap length e, length-append first rest, short)
 
--- what a file has after its base
-pub record IsAfterBase (version : FileVersion) (records : List Record) (two : List ℕ) (es : List Entry) : Type 0 where
-  pub read : two ≡ texts_part es ++ end_line
+-- the rows, and what follows them, are the same
+pub rows_are : SavedIsOne → EqualWhereWrittenEqual → (bytes two later : List ℕ) (mine rows : List Row) → length bytes < 2 ^ 64 → All IsRow mine → All IsRow rows → length rows < 2 ^ 64
+    → bytes ≡ rows_part mine ++ two → bytes ≡ rows_part rows ++ later → two ≡ later
+rows_are once equal bytes two later mine rows short is are low e f =
+    let whole = ap length e in
+    let first = length-append (rows_part mine) two in
+    let part = length-append (counted (codes "STATIONS") (length mine)) (flat_map row_line mine) in
+    let size = rows_size mine is in
+    (rows_next once equal (base_with [] mine) (base_with [] rows) [] [] two later (recursion_from_All IsRow mine is) (recursion_from_All IsRow rows are) (omega (arith, whole, first, part, size, short)) low (sym e ∙ f)).1
+
+-- what a file has after its records
+pub record IsAfterRecords (version : FileVersion) (records : List Record) (two : List ℕ) (base : BaseSeen) (es : List Entry) : Type 0 where
+  pub read : two ≡ rows_part base.rows ++ (texts_part es ++ end_line)
   pub held : AreHeld version records es
+  pub rows : length base.rows < 2 ^ 64
   pub texts : length es < 2 ^ 64
-  pub short : length two < 2 ^ 64
 
 module _ (once : SavedIsOne) (equal : EqualWhereWrittenEqual) (bytes one : List ℕ) (version : FileVersion) (small_file : length bytes < 2 ^ 64) (first : bytes ≡ first_line version ++ one) where
   -- after its first line a desk file has its base
@@ -146,35 +130,19 @@ module _ (once : SavedIsOne) (equal : EqualWhereWrittenEqual) (bytes one : List 
       let f = file_in bytes base es small_file file in
       (f.records, f.rows, (version_is bytes one version base es f first).1)
 
-  -- after its records a desk file has its rows
+  -- after its records a desk file has its rows and its messages
   pub after_records : (two : List ℕ) (records : List Record) → IsBaseRecords records → one ≡ records_part records ++ two → (base : BaseSeen) (es : List Entry) → IsDeskFile bytes base es
-      → two ≡ rows_part base.rows ++ (texts_part es ++ end_line)
+      → IsAfterRecords version records two base es
   after_records two records are e base es file =
       let f = file_in bytes base es small_file file in
       let v = version_is bytes one version base es f first in
       let short = shorter bytes (first_line version) one first small_file in
       let few = small_records one two records are e short in
-      (records_first once equal (record { records = records; rows = [] }) base [] [] two (rows_part base.rows ++ (texts_part es ++ end_line)) are file.saved.is_base few f.records (sym e ∙ v.1)).1
-
-  -- after a base that was read, a desk file has its messages
-  pub after_base : (two : List ℕ) (other : BaseSeen) → IsBase other → one ≡ records_part other.records ++ (rows_part other.rows ++ two) → (base : BaseSeen) (es : List Entry) → IsDeskFile bytes base es → IsAfterBase version other.records two es
-  after_base two other are e base es file =
-      let f = file_in bytes base es small_file file in
-      let v = version_is bytes one version base es f first in
-      let short = shorter bytes (first_line version) one first small_file in
-      let few = small_base one two other are e short in
-      let b = base_is once equal one two (texts_part es ++ end_line) other base are (saved_base base es file.saved) few.0 f.records few.1 f.rows e v.1 in
+      let b = records_first once equal (record { records = records; rows = [] }) base [] [] two (rows_part base.rows ++ (texts_part es ++ end_line)) are file.saved.is_base few f.records (sym e ∙ v.1) in
       let its = saved_texts f.version base es file.saved f.of_version in
       record {
-        read = b.2;
+        read = b.1;
         held = subst (λ (rs : List Record). AreHeld version rs es) (sym b.0) (subst (λ (w : FileVersion). AreHeld w base.records es) (sym v.0) its);
+        rows = f.rows;
         texts = f.texts;
-        short = shorter (rows_part other.rows ++ two) (rows_part other.rows) two refl (shorter one (records_part other.records) (rows_part other.rows ++ two) e short);
       }
-
-  -- after its messages a desk file has its end
-  pub after_texts : (two three : List ℕ) (other : BaseSeen) (others : List Entry) → IsBase other → one ≡ records_part other.records ++ (rows_part other.rows ++ two) → AreHeld version other.records others → two ≡ texts_part others ++ three
-      → (base : BaseSeen) (es : List Entry) → IsDeskFile bytes base es → three ≡ end_line
-  after_texts two three other others are e held read base es file =
-      let a = after_base two other are e base es file in
-      (texts_are once equal version other.records other others es two three end_line held a.held (small_texts two three others read a.short) a.texts read a.read).1

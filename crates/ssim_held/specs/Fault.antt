@@ -15,6 +15,9 @@ use Rattle.ssim_held.specs.declared.fault.DeskFault.TheVariants.{Memory, Text, R
 use Rattle.ssim_held.specs.declared.fault.DeskFault.TheVariants.{Read, File}
 use Rattle.ssim_base.specs.declared.resolution.ResolveFault.TheVariants as resolve_fault
 use Rattle.ssim_text.specs.declared.fault.TextFault.TheVariants as text_fault
+use Rattle.ssim_records.specs.declared.fault.RecordFault.TheVariants as record_fault
+use Rattle.ssim_records.specs.declared.input_buffer.InputFault.{InputFault}
+use Rattle.ssim_records.specs.declared.input_buffer.InputFault.TheVariants as input_fault
 
 -- the number by which a fault is known
 abbrev pub desk_fault_number : DeskFault → ℕ
@@ -55,3 +58,8 @@ text_refused fault = Text fault
 abbrev pub message_refused : ResolveFault → DeskFault
 message_refused resolve_fault.Memory = Memory
 message_refused fault = Resolve fault
+
+-- the fault of a desk file whose reader stopped, with record number 0
+abbrev pub input_stopped : InputFault → DeskFault
+input_stopped input_fault.ReadFault = Read (record_fault.ReadFault 0)
+input_stopped input_fault.ReaderNeverEnds = Read (record_fault.ReaderNeverEnds 0)

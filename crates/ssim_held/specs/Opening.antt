@@ -30,13 +30,6 @@ Opens limit None base entries =
     (bytes : List ℕ) × (length bytes ≤ limit) × IsDeskFile bytes base entries
 Opens limit (Some bytes) base entries = (length bytes ≤ limit) × IsDeskFile bytes base entries
 
--- why bytes are read as no desk: they are the file of none (62), or out of memory
-abbrev pub RefusesBytes : List ℕ → DeskFault → Type 0
-RefusesBytes bytes desk_fault.Memory = Unit {0}
-RefusesBytes bytes (desk_fault.File offset) =
-    (base : BaseSeen) (entries : List Entry) → IsDeskFile bytes base entries → ⊥
-RefusesBytes _ _ = ⊥
-
 -- the bytes, no more than the limit, are the file of no base and no messages
 abbrev pub OpensNone : ℕ → Option (List ℕ) → Type 0
 OpensNone limit None = Unit {0}

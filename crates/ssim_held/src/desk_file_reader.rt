@@ -1,34 +1,40 @@
 //! A desk file as it is read: its parts, one after another.
 
-ghost use Rattle.std.specs.Prelude.{◌≡◌, ◌≢◌, IfErr, IfOk, List, OnErr, OnOk};
+ghost use Rattle.std.specs.Prelude.{◌≡◌, ◌≢◌, ◌++◌, ◌≤◌, ◌<◌, ◌^◌, [], ℕ, List, All, length};
+ghost use Rattle.std.specs.Prelude.{IfErr, IfOk, IfSome, OnErr, OnOk};
+ghost use Rattle.std.specs.Io.KnownBytes.{IsAtEnd};
+ghost use Rattle.ssim_records.specs.InputBuffer.{Gives, Uses, ahead};
 ghost use Rattle.ssim_base.specs.BaseSeen.{BaseSeen, base_with};
-ghost use Rattle.ssim_held.specs.File.{IsDeskFile, end_line};
 ghost use Rattle.ssim_base.specs.Reading.{Came};
-ghost use Rattle.ssim_held.specs.Opening.{FailsAs, NeverEnds, Opens, RefusesBytes, RefusesFile};
+ghost use Rattle.ssim_base.specs.SavedBase.{StopsSaved};
+ghost use Rattle.ssim_base.specs.Stations.{Row};
+ghost use Rattle.ssim_held.specs.File.{IsDeskFile, IsRow, end_line, rows_part, texts_part};
+ghost use Rattle.ssim_held.specs.Opening.{FailsAs, NeverEnds, Opens, RefusesFile};
+ghost use Rattle.ssim_held.specs.internal.DeskFileReader.{AreHeld, IfInvalid};
 ghost use Rattle.ssim_held.specs.Entries.{Entry};
 
 mod count_line;
 mod fault;
+mod rest;
 mod saved_records;
 mod saved_rows;
 mod saved_texts;
 mod version;
-mod whole_input;
 
 use crate::fault::DeskFault;
 use crate::held::Held;
 use count_line::after_prefix;
 use fault::PartFault;
+use rest::read_rest;
 use saved_records::read_records;
 use saved_rows::read_rows;
 use saved_texts::read_texts;
 use ssim_base::laws::saved_records_are_read;
-use ssim_base::{DataSet, Stations};
-use ssim_records::{Parts, Source};
+use ssim_base::{DataSet, SavedFault, Stations};
+use ssim_records::{InputBuffer, Source};
 use ssim_text::laws::equal_where_written_equal;
 use std::alloc::Global;
-use version::take_version;
-use whole_input::read_whole;
+use version::{FileVersion, take_version};
 
 /// What a desk file has: a base, which is a data set with a station table, and messages in order of
 /// reference.
@@ -51,73 +57,82 @@ fn read_end(bytes: &[u8]) -> Result<(), PartFault>
     }
 }
 
-/// The bytes that are left.
-fn rest_of(alloc: Global, parts: &mut Parts) -> Result<Vec<u8>, PartFault>
-    ensures ok { IfOk result (λ bytes. bytes.items ≡ parts.old) }
-    ensures err { IfErr result (λ e. e ≡ PartFault.Memory) }
-{
-    match read_whole(alloc, parts, u64::MAX) {
-        Ok(bytes) => Ok(bytes),
-        Err(_) => Err(PartFault::Memory),
-    }
-}
-
-/// The base and the messages whose desk file the bytes are.
+/// The rows of the station table and the messages, which are all that the bytes have.
 ///
 /// The error names the first element that is invalid, by the number of the bytes from it on.
-fn read_file(alloc: Global, mut parts: Parts) -> Result<Opened, PartFault>
-    ensures ok { IfOk result
-        (λ desk. IsDeskFile parts (base_with desk.data_set desk.stations) desk.held.items) }
-    ensures err { IfErr result (λ e. e ≢ PartFault.Memory → (base : BaseSeen) (entries : List Entry)
-        → IsDeskFile parts base entries → ⊥) }
+fn read_after(
+    alloc: Global,
+    data_set: &DataSet,
+    version: FileVersion,
+    bytes: &[u8],
+) -> Result<(Stations, Vec<Held>), PartFault>
+    ensures ok { IfOk result (λ read. All IsRow read.0 × AreHeld version data_set.now read.1.items
+        × (bytes.now ≡ rows_part read.0 ++ (texts_part read.1.items ++ end_line))) }
+    ensures err { IfErr result (λ e. e ≢ PartFault.Memory → (rows : List Row) (entries : List Entry)
+        → length rows < 2 ^ 64 → All IsRow rows → length entries < 2 ^ 64
+        → AreHeld version data_set.now entries
+        → bytes.now ≡ rows_part rows ++ (texts_part entries ++ end_line) → ⊥) }
 {
     saved_records_are_read();
     equal_where_written_equal();
-    let all = parts.len();
-    let Some(version) = take_version(&mut parts) else {
-        return Err(PartFault::Invalid(all));
-    };
-    let data_set = read_records(alloc, &mut parts)?;
-    let after = rest_of(alloc, &mut parts)?;
-    let (stations, rest) = read_rows(alloc, &after)?;
-    let (held, rest) = read_texts(alloc, &data_set, version, rest)?;
+    let (stations, rest) = read_rows(alloc, bytes)?;
+    let (held, rest) = read_texts(alloc, data_set, version, rest)?;
     read_end(rest)?;
-    Ok(Opened {
-        data_set,
-        stations,
-        held,
-    })
+    Ok((stations, held))
 }
 
-/// The base and the messages whose desk file the bytes are, which are freed as they are read. The
-/// errors are 90, and 62 with the number of the bytes before the first element that is invalid.
-pub fn read_parts(alloc: Global, parts: Parts) -> Result<Opened, DeskFault>
-    ensures ok { IfOk result
-        (λ desk. IsDeskFile parts (base_with desk.data_set desk.stations) desk.held.items) }
-    ensures err { IfErr result (RefusesBytes parts) }
+/// The base and the messages whose desk file the bytes of the reader are.
+///
+/// The error names the first element that is invalid, by the number of the bytes before it. What
+/// comes after it may not be read.
+fn read_file<R: Source>(
+    alloc: Global,
+    input: &mut InputBuffer,
+    reader: &mut R,
+) -> Result<Opened, SavedFault>
+    ensures limit { input.new.limit ≡ input.old.limit }
+    ensures ok { IfOk result (λ desk. (bytes : List ℕ)
+        × Uses bytes input.old (R.left reader.old) input.new (R.left reader.new)
+        × IsDeskFile bytes (base_with desk.data_set desk.stations) desk.held.items) }
+    ensures within { OnOk result (input.new.came ≤ input.new.limit) }
+    ensures all { OnOk result ((input.new.held ≡ []) × IsAtEnd (R.left reader.new)) }
+    ensures err { IfErr result (λ e. IfInvalid e (IfSome (ahead input.old (R.left reader.old))
+        (λ bytes. length bytes < 2 ^ 64 → (base : BaseSeen) (entries : List Entry)
+        → IsDeskFile bytes base entries → ⊥))) }
+    ensures gives { OnOk result (Gives (R.left reader.old) (R.left reader.new)
+        (R.came reader.old) (R.came reader.new) (R.failures reader.old) (R.failures reader.new)
+        input.old.came input.new.came) }
+    ensures stops { IfErr result (StopsSaved input.old.limit (R.left reader.old) (R.left reader.new)
+        (R.came reader.old) (R.came reader.new) (R.failures reader.old) (R.failures reader.new)
+        input.old.came input.new.came) }
 {
-    let all = parts.len();
-    match read_file(alloc, parts) {
-        Ok(desk) => Ok(desk),
-        Err(PartFault::Memory) => Err(DeskFault::Memory),
-        Err(PartFault::Invalid(left)) => Err(DeskFault::File(all.saturating_sub(left) as u64)),
+    saved_records_are_read();
+    equal_where_written_equal();
+    let Some(version) = take_version(input, reader)? else {
+        return Err(SavedFault::Invalid(0));
+    };
+    let data_set = read_records(alloc, input, reader)?;
+    let used = input.used();
+    let rest = read_rest(alloc, input, reader)?;
+    match read_after(alloc, &data_set, version, &rest) {
+        Ok((stations, held)) => Ok(Opened {
+            data_set,
+            stations,
+            held,
+        }),
+        Err(PartFault::Memory) => Err(SavedFault::Memory),
+        Err(PartFault::Invalid(left)) => {
+            let before = rest.len().saturating_sub(left) as u64;
+            Err(SavedFault::Invalid(used.saturating_add(before)))
+        }
     }
 }
 
-/// Does what `read_parts` does for bytes in one list.
-fn read_one(alloc: Global, bytes: Vec<u8>) -> Result<Opened, DeskFault>
-    ensures ok { IfOk result
-        (λ desk. IsDeskFile bytes.items (base_with desk.data_set desk.stations) desk.held.items) }
-    ensures err { IfErr result (RefusesBytes bytes.items) }
-{
-    let mut parts = Parts::new(alloc);
-    match parts.push(bytes) {
-        Ok(()) => read_parts(alloc, parts),
-        Err(_) => Err(DeskFault::Memory),
-    }
-}
-
-/// Reads all bytes of a reader, and then the base and the messages whose desk file they are.
+/// Reads the base and the messages whose desk file the bytes of a reader are. The records are read
+/// as their bytes come.
+///
+/// The errors are 90; 13 and 14, also if the reader fails or more bytes come than the limit after
+/// an element that is invalid; and 62 with the number of the bytes before the first such element.
 pub fn read_desk<R: Source>(alloc: Global, reader: &mut R, limit: u64) -> Result<Opened, DeskFault>
     ensures ok { IfOk result (λ desk. Opens limit (R.left reader.old)
         (base_with desk.data_set desk.stations) desk.held.items) }
@@ -128,6 +143,14 @@ pub fn read_desk<R: Source>(alloc: Global, reader: &mut R, limit: u64) -> Result
     ensures never_ends { IfErr result (λ e. NeverEnds limit
         (Came (R.left reader.old) (R.left reader.new) (R.came reader.old) (R.came reader.new)) e) }
 {
-    let bytes = read_whole(alloc, reader, limit)?;
-    read_one(alloc, bytes)
+    let mut input = InputBuffer::new(limit);
+    match read_file(alloc, &mut input, reader) {
+        Ok(desk) => Ok(desk),
+        Err(SavedFault::Memory) => Err(DeskFault::Memory),
+        Err(SavedFault::Read(stop)) => Err(DeskFault::from(stop)),
+        Err(SavedFault::Invalid(offset)) => {
+            input.skip_rest(reader)?;
+            Err(DeskFault::File(offset))
+        }
+    }
 }

@@ -3,7 +3,7 @@
 ghost use Rattle.std.specs.Prelude.{◌≡◌};
 
 use ssim_base::{Place, ResolveFault};
-use ssim_records::RecordFault;
+use ssim_records::{InputFault, RecordFault};
 use ssim_text::{Reference, TextFault};
 use std::alloc::{AllocError, AllocFailed};
 use thiserror::Error;
@@ -90,6 +90,21 @@ impl From<ssim_values::Memory> for DeskFault {
 
     fn from(_refused: ssim_values::Memory) -> DeskFault {
         DeskFault::Memory
+    }
+}
+
+impl From<InputFault> for DeskFault {
+    ghost use Rattle.ssim_held.specs.Fault.{input_stopped};
+
+    ghost from_gives = { λ fault e. e ≡ input_stopped fault };
+
+    fn from(fault: InputFault) -> DeskFault {
+        match fault {
+            InputFault::ReadFault => DeskFault::Read(RecordFault::ReadFault { record: 0 }),
+            InputFault::ReaderNeverEnds => {
+                DeskFault::Read(RecordFault::ReaderNeverEnds { record: 0 })
+            }
+        }
     }
 }
 

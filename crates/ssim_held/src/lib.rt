@@ -7,8 +7,8 @@
 //! - [`first_conflict`], [`first_new`], [`merged`]: two such lists, compared and put together.
 //! - [`put_desk`]: writes the desk file of a base and the messages that are held over it; or
 //!   [`WriteFault`], 52.
-//! - [`read_parts`], [`read_desk`]: read a desk file from bytes in parts or from a reader, and
-//!   return its base and messages ([`Opened`]) or a [`DeskFault`].
+//! - [`read_desk`]: reads a desk file from a reader, and returns its base and messages ([`Opened`])
+//!   or a [`DeskFault`].
 //! - [`laws`]: no two desks have one file, and what was opened is saved as it was.
 //!
 //! The definitions that the contracts cite are in `specs/`: `Held` (messages by reference, and what
@@ -29,7 +29,7 @@ mod lookup;
 mod row_line;
 mod union;
 
-pub use desk_file_reader::{Opened, read_desk, read_parts};
+pub use desk_file_reader::{Opened, read_desk};
 pub use desk_file_writer::put_desk;
 pub use fault::DeskFault;
 pub use held::Held;

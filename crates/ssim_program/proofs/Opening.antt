@@ -1,19 +1,37 @@
--- A file is refused if its bytes are read as no desk.
-use Rattle.std.proofs.Common.{◌≡◌, inl, inr, ℕ, List, Option}
-use Rattle.ssim_held.specs.Opening.{RefusesBytes}
+-- Why a file that was opened is refused as a desk file.
+use Rattle.std.proofs.Common.{◌≡◌, ◌∙◌, inl, inr, ℕ, List, [], Option, Some, None, refl, sym, arith}
+use Rattle.ssim_records.specs.declared.fault.RecordFault.{RecordFault}
+use Rattle.ssim_base.specs.BaseSeen.{BaseSeen}
+use Rattle.ssim_held.specs.Entries.{Entry}
+use Rattle.ssim_held.specs.File.{IsFileOf}
+use Rattle.ssim_held.specs.Opening.{RefusesFile}
 use Rattle.ssim_held.specs.declared.fault.DeskFault.{DeskFault}
 use Rattle.ssim_held.specs.declared.fault.DeskFault.TheVariants.{Memory, Text, Resolve, Conflict, OtherBase, Read, File}
-use Rattle.ssim_program.specs.Desks.{RefusesDeskFile}
-use Rattle.ssim_program.specs.Files.{Files}
-use Rattle.ssim_program.specs.Made.{HasFile}
+use Rattle.ssim_command_line.specs.Line.{Text as Name}
+use Rattle.ssim_program.specs.Desks.{IsNoDeskFile, RefusesDeskFile}
+use Rattle.ssim_program.specs.Files.{Files, IsOpened}
+use Rattle.ssim_program.specs.Made.{file_limit}
 use Rattle.ssim_program.specs.print.Refusal.{refusal_of_desk}
 use Rattle.ssim_program.specs.declared.refusal.Refusal.{Refusal}
 
-pub refuses_file : (files : Option Files) (name bytes : List ℕ) (fault : DeskFault) (refusal : Refusal) → HasFile files name bytes → RefusesBytes bytes fault → refusal ≡ refusal_of_desk fault → RefusesDeskFile files name refusal
-refuses_file files name bytes Memory refusal has none is = inl (inl is)
-refuses_file files name bytes (File offset) refusal has none is = inr (bytes, has, none, offset, is)
-refuses_file files name bytes (Text fault) refusal has none is = absurd none
-refuses_file files name bytes (Resolve fault) refusal has none is = absurd none
-refuses_file files name bytes (Conflict reference) refusal has none is = absurd none
-refuses_file files name bytes OtherBase refusal has none is = absurd none
-refuses_file files name bytes (Read fault) refusal has none is = absurd none
+-- no bytes are no desk file
+no_file : (base : BaseSeen) (entries : List Entry) → IsFileOf [] base entries → ⊥
+no_file base entries (inl e) = absurd cc
+no_file base entries (inr e) = let is = e.0 in absurd cc
+
+no_bytes : IsNoDeskFile []
+no_bytes base entries is = no_file base entries is.is_file
+
+-- a file whose bytes are no desk file, or for which memory ran out
+pub refuses_bytes : (files : Option Files) (name : Name) (left : Option (List ℕ)) (e : DeskFault) (refusal : Refusal) → ((fault : RecordFault) → e ≡ Read fault → ⊥) → IsOpened files name left
+    → RefusesFile file_limit left e → refusal ≡ refusal_of_desk e → RefusesDeskFile files name refusal
+refuses_bytes files name left Memory refusal read opened none is = inl (inl is)
+refuses_bytes None name None (File offset) refusal read opened none is = inr ([], (omega arith, tt), no_bytes, offset, is)
+refuses_bytes None name (Some bytes) (File offset) refusal read opened none is = inr (bytes, (none.0, tt), none.1, offset, is)
+refuses_bytes (Some all) name None (File offset) refusal read opened none is = let e = opened.2 in absurd cc
+refuses_bytes (Some all) name (Some bytes) (File offset) refusal read opened none is = inr (bytes, (none.0, opened.1 ∙ sym opened.2), none.1, offset, is)
+refuses_bytes files name left (Read fault) refusal read opened none is = absurd (read fault refl)
+refuses_bytes files name left (Text fault) refusal read opened none is = absurd none
+refuses_bytes files name left (Resolve fault) refusal read opened none is = absurd none
+refuses_bytes files name left (Conflict reference) refusal read opened none is = absurd none
+refuses_bytes files name left OtherBase refusal read opened none is = absurd none

@@ -1,11 +1,7 @@
 -- Named files.
-use Rattle.std.specs.Prelude.{Vec, ◌≡◌, ◌<◌, ◌≤◌, ◌+◌, ◌%◌, ◌^◌, ℕ, IfSome, List, [], ◌∷◌, ⊤}
-use Rattle.std.specs.Prelude.{Option, Some, None, Result, Ok, Err, false, find, length, nat_eq}
-use Rattle.std.specs.Prelude.{option_map}
-use Rattle.std.specs.List.{starts_with}
+use Rattle.std.specs.Prelude.{Vec, ◌≡◌, ◌<◌, ◌+◌, ◌%◌, ◌^◌, ℕ, IfSome, List, [], ◌∷◌, ⊤}
+use Rattle.std.specs.Prelude.{Option, Some, None, Result, Ok, Err, find, length, option_map}
 use Rattle.std.specs.Str.{bytes_eq}
-use Rattle.ssim_program.specs.declared.store.Peeked.{Peeked}
-use Rattle.ssim_program.specs.declared.store.Peeked.TheVariants.{Loaded, Opened}
 use Rattle.ssim_program.specs.declared.store.StoreFault.{StoreFault}
 use Rattle.ssim_program.specs.declared.store.StoreFault.TheVariants as fault
 
@@ -18,10 +14,10 @@ abbrev pub file_of : Files → List ℕ → Option (List ℕ)
 file_of all name = option_map (λ f. f.1) (find (λ f. bytes_eq f.0 name) all)
 
 -- a load gives the bytes of the file, and fails only if there is none within the limit
-abbrev pub LoadsBytes : Files → List ℕ → ℕ → Result (List ℕ) StoreFault → Type 0
-LoadsBytes all name limit (Ok bytes) = file_of all name ≡ Some bytes
-LoadsBytes all name limit (Err fault.Memory) = ⊤
-LoadsBytes all name limit (Err fault.Fault) = IfSome (file_of all name) (λ bytes. limit < length bytes)
+abbrev pub LoadsFile : {A : Type 0} → Files → List ℕ → ℕ → Result (Vec ℕ A) StoreFault → Type 0
+LoadsFile all name limit (Ok v) = file_of all name ≡ Some v.items
+LoadsFile all name limit (Err fault.Memory) = ⊤
+LoadsFile all name limit (Err fault.Fault) = IfSome (file_of all name) (λ bytes. limit < length bytes)
 
 -- An opened file has exactly these bytes to give, if the contract can see the files: those of the
 -- file of this name.
@@ -35,28 +31,6 @@ abbrev pub OpensFile : {F : Type 0} → (F → Option (List ℕ)) → Option Fil
 OpensFile left files name (Ok file) = IsOpened files name (left file)
 OpensFile left files name (Err fault.Memory) = ⊤
 OpensFile left files name (Err fault.Fault) = IfSome files (λ all. IfSome (file_of all name) (λ bytes. ⊥))
-
--- a file is loaded whole, or it is opened and does not begin with these bytes; it is neither only if
--- there is none within the limit
-abbrev pub PeeksFile : {F : Type 0} → (F → Option (List ℕ)) → Files → List ℕ → List ℕ → ℕ
-    → Result (Peeked F) StoreFault → Type 0
-PeeksFile left all name beginning limit (Ok (Loaded bytes)) = file_of all name ≡ Some bytes
-PeeksFile left all name beginning limit (Ok (Opened file)) =
-    (bytes : List ℕ) × (file_of all name ≡ Some bytes) × (left file ≡ Some bytes)
-    × (starts_with nat_eq bytes beginning ≡ false)
-PeeksFile left all name beginning limit (Err fault.Memory) = ⊤
-PeeksFile left all name beginning limit (Err fault.Fault) =
-    IfSome (file_of all name) (λ bytes. limit < length bytes)
-
--- a file that was loaded has at most this many bytes
-abbrev pub IsWithin : {F : Type 0} → ℕ → Peeked F → Type 0
-IsWithin limit (Loaded bytes) = length bytes ≤ limit
-IsWithin limit (Opened file) = ⊤
-
--- a load into a vector
-abbrev pub LoadsFile : {A : Type 0} → Files → List ℕ → ℕ → Result (Vec ℕ A) StoreFault → Type 0
-LoadsFile all name limit (Ok v) = LoadsBytes all name limit (Ok v.items)
-LoadsFile all name limit (Err e) = LoadsBytes all name limit (Err e)
 
 -- a file that is kept comes first; after a fault the files are as they were
 abbrev pub KeepsFile : Option Files → Option Files → List ℕ → List ℕ → Result ⊤ StoreFault → Type 0

@@ -9,4 +9,3 @@ pub mod DataSet
 pub mod Rehearse
 pub mod Print
 pub mod Diff
-pub mod Timetables

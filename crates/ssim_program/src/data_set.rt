@@ -16,7 +16,7 @@ ghost use Rattle.ssim_program.specs.internal.DataSet.{SumsFile, IsUnread};
 use crate::refusal::Refusal;
 use crate::store::{Store, StoreFault};
 use ssim_base::{BaseFault, DataSet, Problems, Stations, Summary};
-use ssim_records::{Parts, RecordFault, Source};
+use ssim_records::{RecordFault, Source};
 use std::alloc::Global;
 
 /// The most bytes that a file may have.
@@ -41,27 +41,12 @@ pub(crate) fn load_file<S: Store>(
     }
 }
 
-/// Loads the file of this name in parts. Returns 91 if there is no such file within the limit.
-pub(crate) fn load_parts<S: Store>(
+/// Opens the file of this name. Returns 91 if there is no such file.
+pub(crate) fn open_file<S: Store>(
     alloc: Global,
     name: &str,
     store: &mut S,
-) -> Result<Parts, Refusal>
-    ensures bytes { IfOk result (λ parts. HasFile (S.files store.old) name.now parts) }
-    ensures within { IfOk result (λ parts. length parts ≤ file_limit) }
-    ensures refused { IfErr result (RefusesLoad (S.files store.old) name.now) }
-    ensures same { S.files store.new ≡ S.files store.old }
-    ensures counted { S.failures store.new ≡ S.failures store.old }
-{
-    match store.load_parts(alloc, name, LIMIT) {
-        Ok(parts) => Ok(parts),
-        Err(StoreFault::Memory) => Err(Refusal::Memory),
-        Err(StoreFault::Fault) => Err(Refusal::of_file(alloc, name)),
-    }
-}
-
-/// Opens the file of this name. Returns 91 if there is no such file.
-fn open_file<S: Store>(alloc: Global, name: &str, store: &mut S) -> Result<S::File, Refusal>
+) -> Result<S::File, Refusal>
     ensures opened { IfOk result
         (λ file. IsOpened (S.files store.old) name.now (S.File.left file)) }
     ensures refused { IfErr result (RefusesLoad (S.files store.old) name.now) }

@@ -1,18 +1,20 @@
 //! The desk in a file.
 
-ghost use Rattle.std.specs.Prelude.{◌≡◌, [], ◌∷◌, IfErr, IfOk, OnErr, OnOk};
+ghost use Rattle.std.specs.Prelude.{◌≡◌, [], ◌∷◌, IfErr, IfOk, IfSome, OnErr, OnOk, Option};
 ghost use Rattle.ssim_held.specs.File.{desk_file};
 ghost use Rattle.ssim_program.specs.Desks.{ReadsDesk, RefusesDeskFile, RefusesKeep};
-ghost use Rattle.ssim_program.specs.Files.{with_kept};
+ghost use Rattle.ssim_program.specs.Files.{Files, IsOpened, with_kept};
 
 use crate::content::Content;
-use crate::data_set::load_parts;
+use crate::data_set::{LIMIT, open_file};
 use crate::refusal::Refusal;
 use crate::store::{Store, StoreFault};
-use ssim_desk::Holdings;
+use ssim_desk::{DeskFault, Holdings};
+use ssim_records::Source;
 use std::alloc::Global;
 
-/// What the desk in the file of this name holds. The file's bytes are freed as they are read.
+/// What the desk in the file of this name holds. Returns 91 if there is no such file within the
+/// limit.
 pub(crate) fn open_holdings<S: Store>(
     alloc: Global,
     name: &str,
@@ -23,10 +25,29 @@ pub(crate) fn open_holdings<S: Store>(
     ensures same { S.files store.new ≡ S.files store.old }
     ensures counted { S.failures store.new ≡ S.failures store.old }
 {
-    let parts = load_parts(alloc, name, store)?;
-    match Holdings::open(alloc, parts) {
+    let file = open_file(alloc, name, store)?;
+    read_desk(alloc, name, file)
+}
+
+/// What the desk holds whose desk file was opened under this name. Returns 91 if the file has more
+/// bytes than the limit, or fails.
+pub(crate) fn read_desk<F: Source + Drop>(
+    alloc: Global,
+    name: &str,
+    mut file: F,
+) -> Result<Holdings, Refusal>
+    ensures read { (files : Option Files) → IsOpened files name.now (F.left file)
+        → IfOk result (ReadsDesk files name.now) }
+    ensures refused { (files : Option Files) → IsOpened files name.now (F.left file)
+        → IfSome files (λ _. (other : F) → F.failures other ≡ 0)
+        → IfErr result (RefusesDeskFile files name.now) }
+{
+    match Holdings::open(alloc, &mut file, LIMIT) {
         Ok(holdings) => Ok(holdings),
-        Err(fault) => Err(Refusal::from(fault)),
+        Err(fault) => match fault {
+            DeskFault::Read(_) => Err(Refusal::of_file(alloc, name)),
+            _ => Err(Refusal::from(fault)),
+        },
     }
 }
 

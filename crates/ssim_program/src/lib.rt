@@ -40,4 +40,4 @@ pub use print::printer::Printer;
 pub use program::{run, run_on};
 pub use refusal::Refusal;
 pub use ssim_command_line::{LineFault, ListForm, Request, parse};
-pub use store::{Peeked, Store, StoreFault};
+pub use store::{Store, StoreFault};

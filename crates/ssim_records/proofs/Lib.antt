@@ -1,6 +1,6 @@
 pub mod LineEnds
+pub mod FirstBytes
 pub mod Windows
-pub mod Beginnings
 pub mod Framing
 pub mod Headers
 pub mod Carriers
@@ -8,6 +8,7 @@ pub mod Trailers
 pub mod AnyRecord
 pub mod Lines
 pub mod Readings
+pub mod InputBuffers
 pub mod FrameLaws
 pub mod Examples
 pub use Rattle.ssim_columns.proofs.lemmas.CarriedTexts

@@ -6,6 +6,7 @@ pub mod Carrier
 pub mod Trailer
 pub mod Record
 pub mod Reading
+pub mod InputBuffer
 pub mod examples
 pub mod internal
 pub use Rattle.ssim_columns.specs.Numbers

@@ -116,7 +116,7 @@ pub fn next_other<R: Source>(
         if !is_fill(window.front()) {
             return Ok(true);
         }
-        window.skip();
+        window.skip(200);
     }
 }
 

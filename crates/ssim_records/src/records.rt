@@ -108,7 +108,7 @@ impl Records {
                 let read = self
                     .records
                     .read_into(self.window.front(), self.number, into);
-                self.window.skip();
+                self.window.skip(200);
                 match read {
                     Ok(()) => Ok(self.number),
                     Err(fault) => Err(fault),
@@ -237,7 +237,7 @@ impl Records {
             Ok(false) => Ok(None),
             Ok(true) => {
                 let block = *self.window.front();
-                self.window.skip();
+                self.window.skip(200);
                 Ok(Some((self.number, block)))
             }
             Err(Stop::Short) => Err(RecordFault::Short {

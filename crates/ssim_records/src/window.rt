@@ -130,17 +130,25 @@ impl Window {
         }
     }
 
-    /// Skips the block at the beginning.
-    pub fn skip(&mut self)
-        requires { 200 ≤ length self.old }
-        ensures { self.new ≡ drop 200 self.old }
+    /// The bytes at the beginning, this many, by reference.
+    pub fn first(&self, count: usize) -> &[u8]
+        requires { count ≤ length self.now }
+        ensures { result.now ≡ take count self.now }
     {
-        self.start += 200;
+        &self.bytes[self.start..self.start + count]
+    }
+
+    /// Skips the bytes at the beginning, this many.
+    pub fn skip(&mut self, count: usize)
+        requires { count ≤ length self.old }
+        ensures { self.new ≡ drop count self.old }
+    {
+        self.start += count;
     }
 
     /// Fetches more bytes, at most that many.
     pub fn fetch<R: Source>(&mut self, reader: &mut R, most: usize) -> Result<usize, DeviceFault>
-        requires len { length self.old ≤ 200 }
+        requires len { length self.old < 65536 }
         requires some { 0 < most }
         ensures ok { IfOk result (λ n. (n ≤ most) × (length self.new ≡ length self.old + n)) }
         ensures err { OnErr result (length self.new ≡ length self.old) }

@@ -1,13 +1,10 @@
 //! A store whose files are the system's, with `-` as the standard input.
 
-ghost use Rattle.std.specs.Prelude.{◌≡◌};
-
 use crate::draft::fault_of;
 use crate::open_file::OpenFile;
-use crate::reading::{Begun, begun, peek_within, read_parts_within, read_within};
+use crate::reading::read_within;
 use crate::whole_file::write_whole;
-use ssim_program::{Content, Peeked, Store, StoreFault};
-use ssim_records::Parts;
+use ssim_program::{Content, Store, StoreFault};
 use std::alloc::{AllocError, Global};
 use std::fs;
 use std::fs::OpenFile as _;
@@ -16,20 +13,13 @@ use std::rt::Files;
 /// How many bytes are read at once.
 const ROOM: usize = 65_536;
 
-/// How much larger the parts of a file are than those of the file before.
-const MORE: usize = 4_096;
-
 /// The files of the system. The name `-` is the standard input, and nothing is kept under it.
 #[derive(Drop)]
 pub struct FileStore<'r, R> {
     rt: &'r R,
     alloc: Global,
-    /// Bytes pass through it as they are read.
+    /// The bytes of a file that is loaded pass through it.
     chunk: Vec<u8>,
-    /// How much larger the parts of the next file are than the least size. The C library takes large
-    /// blocks from the system, and gives each back when it is freed; but once it has freed one, it
-    /// keeps those that are not larger. So the parts of each file are larger than those before.
-    more: usize,
     /// How many calls of `keep` failed with 91. It wraps at 2^64.
     failures: u64,
 }
@@ -41,32 +31,22 @@ impl<'r, R> FileStore<'r, R> {
             rt,
             alloc,
             chunk,
-            more: 0,
             failures: 0,
         })
-    }
-
-    /// How much larger than the least size the parts of a file are that is loaded now.
-    fn next_more(&mut self) -> usize
-        ensures { self.new.failures ≡ self.old.failures }
-    {
-        let more = self.more;
-        self.more = more.saturating_add(MORE);
-        more
     }
 }
 
 impl<R: Files + Input> Store for FileStore<'_, R> {
-    type File = OpenFile<Begun<R::File>, Begun<R::Reader>>;
+    type File = OpenFile<R::File, R::Reader>;
 
     ghost failures = { λ s. s.failures };
 
-    fn open(&mut self, alloc: Global, name: &str) -> Result<Self::File, StoreFault> {
+    fn open(&mut self, _alloc: Global, name: &str) -> Result<Self::File, StoreFault> {
         if name == "-" {
-            return Ok(OpenFile::standard(begun(alloc, self.rt.reader())));
+            return Ok(OpenFile::standard(self.rt.reader()));
         }
         match fs::open(self.rt, name) {
-            Ok(file) => Ok(OpenFile::named(begun(alloc, file))),
+            Ok(file) => Ok(OpenFile::named(file)),
             Err(error) => Err(fault_of(&error)),
         }
     }
@@ -84,42 +64,6 @@ impl<R: Files + Input> Store for FileStore<'_, R> {
                 read_within(alloc, file, &mut self.chunk, expected, limit)
             }
             Err(error) => Err(fault_of(&error)),
-        }
-    }
-
-    fn load_parts(&mut self, alloc: Global, name: &str, limit: u64) -> Result<Parts, StoreFault> {
-        let more = self.next_more();
-        if name == "-" {
-            return read_parts_within(alloc, self.rt.reader(), &mut self.chunk, more, limit);
-        }
-        match fs::open(self.rt, name) {
-            Ok(file) => read_parts_within(alloc, file, &mut self.chunk, more, limit),
-            Err(error) => Err(fault_of(&error)),
-        }
-    }
-
-    fn peek(
-        &mut self,
-        alloc: Global,
-        name: &str,
-        beginning: &[u8],
-        limit: u64,
-    ) -> Result<Peeked<Self::File>, StoreFault> {
-        let more = self.next_more();
-        if name == "-" {
-            let input = self.rt.reader();
-            return match peek_within(alloc, input, beginning, &mut self.chunk, more, limit)? {
-                Peeked::Loaded(parts) => Ok(Peeked::Loaded(parts)),
-                Peeked::Opened(input) => Ok(Peeked::Opened(OpenFile::standard(input))),
-            };
-        }
-        let file = match fs::open(self.rt, name) {
-            Ok(file) => file,
-            Err(error) => return Err(fault_of(&error)),
-        };
-        match peek_within(alloc, file, beginning, &mut self.chunk, more, limit)? {
-            Peeked::Loaded(parts) => Ok(Peeked::Loaded(parts)),
-            Peeked::Opened(file) => Ok(Peeked::Opened(OpenFile::named(file))),
         }
     }
 

@@ -1,15 +1,16 @@
 //! The records of a base as they are saved: each as it is written, followed by LF.
 
-ghost use Rattle.std.specs.Prelude.{◌≡◌, ◌≢◌, ◌↔◌, ◌++◌, ℕ, List, IfErr, IfNone, IfOk, IfSome, IsFalse, IsTrue, length};
+ghost use Rattle.std.specs.Prelude.{◌≡◌, ◌≤◌, ◌↔◌, ℕ, List, [], IfErr, IfNone, IfOk, IfSome, IsTrue, Ok, OnOk, false, length, take, true};
+ghost use Rattle.ssim_records.specs.InputBuffer.{Gives, Stops, Uses, ahead};
 ghost use Rattle.ssim_records.specs.declared.record.Record.{Record};
-ghost use Rattle.ssim_base.specs.SavedBase.{IsBare, IsBaseRecords, IsWithin, saved};
+ghost use Rattle.ssim_base.specs.SavedBase.{IsAfterUsed, IsBare, IsBaseRecords, RefusesLines, StopsSaved, saved};
 ghost use Rattle.ssim_base.specs.internal.SavedLines.{IsLine, IsLineOf};
 
 use crate::data_set::DataSet;
 use crate::data_set::acceptance::Acceptance;
 use crate::data_set::accepted_records::AcceptedRecords;
 use crate::fault::BaseFault;
-use ssim_records::{Parts, Record, RecordReader};
+use ssim_records::{InputBuffer, InputFault, Record, RecordReader, Source};
 use ssim_values::Memory;
 use std::alloc::{AllocError, Global};
 use thiserror::Error;
@@ -20,10 +21,13 @@ pub enum SavedFault {
     /// Out of memory.
     #[error("out of memory")]
     Memory,
-    /// A line is invalid, or a record is missing after the last. This is the number of bytes from
-    /// there on.
-    #[error("the line {0} bytes before the end is invalid, or a record is missing there")]
-    Invalid(usize),
+    /// The next line was not read.
+    #[error(transparent)]
+    Read(InputFault),
+    /// A line is invalid, or a record is missing after the last. This is the number of bytes before
+    /// it.
+    #[error("the line after {0} bytes is invalid, or a record is missing there")]
+    Invalid(u64),
 }
 
 impl From<Memory> for SavedFault {
@@ -33,6 +37,16 @@ impl From<Memory> for SavedFault {
 
     fn from(_refused: Memory) -> SavedFault {
         SavedFault::Memory
+    }
+}
+
+impl From<InputFault> for SavedFault {
+    ghost use Rattle.ssim_base.specs.declared.data_set.saved_lines.SavedFault.TheVariants.{Read};
+
+    ghost from_gives = { λ fault e. e ≡ Read fault };
+
+    fn from(fault: InputFault) -> SavedFault {
+        SavedFault::Read(fault)
     }
 }
 
@@ -89,59 +103,75 @@ fn read_line<'a>(
     }
 }
 
-// Takes the next line, and puts its record into `into`, if a base can have it. Nearly every line is
-// in one part, and is read without a copy.
-fn next_line(reader: &mut RecordReader, parts: &mut Parts, into: &mut Option<Record>) -> bool
-    ensures some { IsTrue result → IsLineOf into.new parts.old parts.new }
-    ensures none { IsFalse result → (r : Record) (rest : List ℕ) → IsLine r parts.old rest → ⊥ }
+// Brings the next line to the beginning of the input, and puts its record into `into`. Says whether
+// a base can have it.
+#[inline]
+fn next_line<R: Source>(
+    records: &mut RecordReader,
+    input: &mut InputBuffer,
+    reader: &mut R,
+    into: &mut Option<Record>,
+) -> Result<bool, InputFault>
+    ensures limit { input.new.limit ≡ input.old.limit }
+    ensures uses { OnOk result (Uses [] input.old (R.left reader.old) input.new (R.left reader.new)) }
+    ensures some { result ≡ Ok true → (201 ≤ length input.new.held) × IsLineOf into.new (take 201 input.new.held) [] }
+    ensures none { result ≡ Ok false → IfSome (ahead input.new (R.left reader.new)) (λ bytes. (r : Record) (rest : List ℕ) → IsLine r bytes rest → ⊥) }
+    ensures gives { OnOk result (Gives (R.left reader.old) (R.left reader.new) (R.came reader.old) (R.came reader.new) (R.failures reader.old) (R.failures reader.new) input.old.came input.new.came) }
+    ensures stops { IfErr result (Stops input.old.limit (R.left reader.old) (R.left reader.new) (R.came reader.old) (R.came reader.new) (R.failures reader.old) (R.failures reader.new) input.old.came) }
 {
-    let Some(line) = parts.front(RECORD_LINE) else {
-        return next_line_copied(reader, parts, into);
-    };
-    let is_line = read_line(reader, line, into).is_some();
-    parts.skip(RECORD_LINE);
-    is_line
+    if !input.has(reader, RECORD_LINE)? {
+        return Ok(false);
+    }
+    match read_line(records, input.first(RECORD_LINE), into) {
+        Some(_) => Ok(true),
+        None => Ok(false),
+    }
 }
 
-// Does what `next_line` does if the line may go on in the next part.
-fn next_line_copied(reader: &mut RecordReader, parts: &mut Parts, into: &mut Option<Record>) -> bool
-    ensures some { IsTrue result → IsLineOf into.new parts.old parts.new }
-    ensures none { IsFalse result → (r : Record) (rest : List ℕ) → IsLine r parts.old rest → ⊥ }
-{
-    let mut line = [0; RECORD_LINE];
-    parts.fill(&mut line) && read_line(reader, &line, into).is_some()
-}
-
-/// The data set whose records the next `count` lines of the parts are. Each line is read once: what
-/// it spells is compared with it as it is written, and kept.
+/// The data set whose records the next `count` lines of the reader are. Each line is read once: what
+/// it spells is compared with it as it is written, and kept. The lines are used, and what comes
+/// after them is not.
 ///
 /// The error names the first line that is no record as a base has it, or at which the base is
-/// invalid. A base without header, carrier or trailer is invalid after its lines.
-pub fn read_saved(alloc: Global, count: usize, parts: &mut Parts) -> Result<DataSet, SavedFault>
-    ensures ok { IfOk result (λ read. IsBaseRecords read × (length read ≡ count) × (parts.old ≡ saved read ++ parts.new)) }
-    ensures err { IfErr result (λ e. e ≢ SavedFault.Memory → (records : List Record) (later : List ℕ) → IsBaseRecords records → length records ≡ count → parts.old ≡ saved records ++ later → ⊥) }
-    ensures within { IfErr result (λ e. IsWithin parts.old e) }
+/// invalid: the lines before it are used. A base without header, carrier or trailer is invalid
+/// after its lines.
+pub fn read_saved<R: Source>(
+    alloc: Global,
+    count: usize,
+    input: &mut InputBuffer,
+    reader: &mut R,
+) -> Result<DataSet, SavedFault>
+    ensures ok { IfOk result (λ read. IsBaseRecords read × (length read ≡ count) × Uses (saved read) input.old (R.left reader.old) input.new (R.left reader.new)) }
+    ensures err { IfErr result (RefusesLines count (ahead input.old (R.left reader.old))) }
+    ensures offset { IfErr result (IsAfterUsed input.new) }
+    ensures limit { input.new.limit ≡ input.old.limit }
+
+    // What the reader gave, and whether it failed.
+    ensures gives { OnOk result (Gives (R.left reader.old) (R.left reader.new) (R.came reader.old) (R.came reader.new) (R.failures reader.old) (R.failures reader.new) input.old.came input.new.came) }
+    ensures stops { IfErr result (StopsSaved input.old.limit (R.left reader.old) (R.left reader.new) (R.came reader.old) (R.came reader.new) (R.failures reader.old) (R.failures reader.new) input.old.came input.new.came) }
 {
     let mut kept = Acceptance::new(alloc, AcceptedRecords::Kept(Vec::new(alloc)));
-    let mut reader = RecordReader::new();
+    let mut records = RecordReader::new();
     let mut next = None;
     let mut done = 0;
     while done < count {
-        let left = parts.len();
-        if !next_line(&mut reader, parts, &mut next) {
-            return Err(SavedFault::Invalid(left));
+        if !next_line(&mut records, input, reader, &mut next)? {
+            return Err(SavedFault::Invalid(input.used()));
         }
         let Some(one) = &mut next else { unreachable!() };
-        // A refusal has the number that is given here; the place is the number of bytes that are
-        // left.
+        // A refusal has the number that is given here; the place is the number of bytes that were
+        // used.
         match kept.put(0, one) {
-            Ok(()) => done += 1,
-            Err(BaseFault::Refused(_, _)) => return Err(SavedFault::Invalid(left)),
+            Ok(()) => {
+                input.skip(RECORD_LINE);
+                done += 1;
+            }
+            Err(BaseFault::Refused(_, _)) => return Err(SavedFault::Invalid(input.used())),
             Err(_) => return Err(SavedFault::Memory),
         }
     }
     if kept.missing().is_some() {
-        return Err(SavedFault::Invalid(parts.len()));
+        return Err(SavedFault::Invalid(input.used()));
     }
     Ok(DataSet::of_kept(alloc, kept)?)
 }

@@ -3,12 +3,24 @@ use Rattle.std.specs.Prelude.{◌≡◌, ℕ, Bool, true, false, ◌==◌, if◌
 use Rattle.std.specs.List.{list_all}
 use Rattle.ssim_records.specs.Record.{written}
 use Rattle.ssim_records.specs.declared.record.Record.{Record}
+use Rattle.ssim_base.specs.declared.data_set.saved_lines.SavedFault.{SavedFault}
+use Rattle.ssim_base.specs.declared.data_set.saved_lines.SavedFault.TheVariants as fault
 use Rattle.ssim_text.specs.Canonical.{canonical}
 use Rattle.ssim_values.specs.Characters.{is_digit}
 use Rattle.ssim_held.specs.File.{HasNoOriginator, IsSpelled, counted}
 use Rattle.ssim_held.specs.Entries.{AreEntries, AreRising, Entry, IsEntry}
 use Rattle.ssim_held.specs.declared.desk_file_reader.version.FileVersion.{FileVersion}
 use Rattle.ssim_held.specs.declared.desk_file_reader.version.FileVersion.TheVariants.{One, Two}
+
+-- if an element is invalid, this holds
+abbrev pub IfInvalid : SavedFault → Type 0 → Type 0
+IfInvalid fault.Memory P = Unit {0}
+IfInvalid (fault.Read stop) P = Unit {0}
+IfInvalid (fault.Invalid offset) P = P
+
+-- no element is invalid
+abbrev pub IsNotInvalid : SavedFault → Type 0
+IsNotInvalid e = IfInvalid e ⊥
 
 -- whether there are no bytes
 abbrev pub is_empty : List ℕ → Bool

@@ -1,30 +1,47 @@
 //! The records of a base as a desk file has them.
 
-ghost use Rattle.std.specs.Prelude.{◌≡◌, ◌≢◌, ◌++◌, ◌∷◌, [], ◌<◌, ◌^◌, List, ℕ, codes, length};
-ghost use Rattle.std.specs.Prelude.{IfErr, IfNone, IfOk, IfSome, IsSomeAnd, Some};
+ghost use Rattle.std.specs.Prelude.{◌≡◌, ◌++◌, ◌∷◌, [], ◌<◌, ◌^◌, List, ℕ, codes, length};
+ghost use Rattle.std.specs.Prelude.{IfErr, IfNone, IfOk, IfSome, OnOk, Some};
+ghost use Rattle.ssim_records.specs.InputBuffer.{Gives, Uses, ahead};
 ghost use Rattle.ssim_records.specs.declared.record.Record.{Record};
-ghost use Rattle.ssim_base.specs.SavedBase.{IsBaseRecords, saved};
-ghost use Rattle.ssim_text.specs.Bytes.{before, from};
+ghost use Rattle.ssim_base.specs.SavedBase.{IsBaseRecords, StopsSaved, saved};
+ghost use Rattle.ssim_text.specs.Bytes.{from};
 ghost use Rattle.ssim_held.specs.File.{counted, records_part};
+ghost use Rattle.ssim_held.specs.internal.DeskFileReader.{IfInvalid, IsNotInvalid};
 
 use crate::desk_file_reader::count_line::{Count, count_line};
-use crate::desk_file_reader::fault::PartFault;
 use ssim_base::{DataSet, SavedFault, read_saved};
-use ssim_records::Parts;
+use ssim_records::{InputBuffer, Source};
 use std::alloc::Global;
 
 /// The next line with its LF, if an LF follows.
-fn take_line(alloc: Global, parts: &mut Parts) -> Result<Option<Vec<u8>>, PartFault>
-    ensures some { IfOk result (λ read. IfSome read (λ line.
-        (line.items ≡ before 10 parts.old ++ 10 ∷ []) × (parts.old ≡ line.items ++ parts.new))) }
-    ensures none { IfOk result (λ read. IfNone read (from 10 parts.old ≡ [])) }
-    ensures err { IfErr result (λ e. e ≡ PartFault.Memory) }
+fn take_line<R: Source>(
+    alloc: Global,
+    input: &mut InputBuffer,
+    reader: &mut R,
+) -> Result<Option<Vec<u8>>, SavedFault>
+    ensures limit { input.new.limit ≡ input.old.limit }
+    ensures some { IfOk result (λ read. IfSome read (λ line. (text : List ℕ)
+        × (from 10 text ≡ []) × (line.items ≡ text ++ 10 ∷ [])
+        × Uses line.items input.old (R.left reader.old) input.new (R.left reader.new))) }
+    ensures none { IfOk result (λ read. IfNone read
+        (IfSome (ahead input.old (R.left reader.old)) (λ bytes. from 10 bytes ≡ []))) }
+    ensures err { IfErr result IsNotInvalid }
+    ensures gives { OnOk result (Gives (R.left reader.old) (R.left reader.new)
+        (R.came reader.old) (R.came reader.new) (R.failures reader.old) (R.failures reader.new)
+        input.old.came input.new.came) }
+    ensures stops { IfErr result (StopsSaved input.old.limit (R.left reader.old) (R.left reader.new)
+        (R.came reader.old) (R.came reader.new) (R.failures reader.old) (R.failures reader.new)
+        input.old.came input.new.came) }
 {
     let mut line = Vec::new(alloc);
-    let mut byte = [0];
-    while parts.fill(&mut byte) {
-        line.push(byte[0])?;
-        if byte[0] == b'\n' {
+    while input.has(reader, 1)? {
+        let byte = input.first(1)[0];
+        if line.push(byte).is_err() {
+            return Err(SavedFault::Memory);
+        }
+        input.skip(1);
+        if byte == b'\n' {
             return Ok(Some(line));
         }
     }
@@ -45,41 +62,59 @@ fn records_line(line: &[u8]) -> Option<Count>
 }
 
 /// The number of records that the next line says.
-fn take_count(alloc: Global, parts: &mut Parts) -> Result<Option<Count>, PartFault>
-    ensures some { IfOk result (λ read. IfSome read
-        (λ count. IfSome count (λ n. parts.old ≡ counted (codes "RECORDS") n ++ parts.new))) }
-    ensures only { (n : ℕ) (later : List ℕ) → n < 2 ^ 64
-        → parts.old ≡ counted (codes "RECORDS") n ++ later
-        → IfOk result (λ read. (read ≡ Some (Some n)) × (parts.new ≡ later)) }
-    ensures err { IfErr result (λ e. e ≡ PartFault.Memory) }
+fn take_count<R: Source>(
+    alloc: Global,
+    input: &mut InputBuffer,
+    reader: &mut R,
+) -> Result<Option<Count>, SavedFault>
+    ensures limit { input.new.limit ≡ input.old.limit }
+    ensures some { IfOk result (λ read. IfSome read (λ count. IfSome count (λ n.
+        Uses (counted (codes "RECORDS") n) input.old (R.left reader.old)
+        input.new (R.left reader.new)))) }
+    ensures only { IfOk result (λ read. IfSome (ahead input.old (R.left reader.old)) (λ bytes.
+        (n : ℕ) (later : List ℕ) → n < 2 ^ 64 → bytes ≡ counted (codes "RECORDS") n ++ later
+        → read ≡ Some (Some n))) }
+    ensures err { IfErr result IsNotInvalid }
+    ensures gives { OnOk result (Gives (R.left reader.old) (R.left reader.new)
+        (R.came reader.old) (R.came reader.new) (R.failures reader.old) (R.failures reader.new)
+        input.old.came input.new.came) }
+    ensures stops { IfErr result (StopsSaved input.old.limit (R.left reader.old) (R.left reader.new)
+        (R.came reader.old) (R.came reader.new) (R.failures reader.old) (R.failures reader.new)
+        input.old.came input.new.came) }
 {
-    match take_line(alloc, parts)? {
+    match take_line(alloc, input, reader)? {
         Some(line) => Ok(records_line(&line)),
         None => Ok(None),
     }
 }
 
-/// The data set whose records the next lines are.
-fn read_lines(alloc: Global, count: Count, parts: &mut Parts) -> Result<DataSet, PartFault>
+/// The data set whose records the next lines are. If there are to be more than any memory can hold,
+/// the error names the first line that is invalid.
+fn read_lines<R: Source>(
+    alloc: Global,
+    count: Count,
+    input: &mut InputBuffer,
+    reader: &mut R,
+) -> Result<DataSet, SavedFault>
+    ensures limit { input.new.limit ≡ input.old.limit }
     ensures ok { IfOk result (λ read. IsBaseRecords read × (count ≡ Some (length read))
-        × (parts.old ≡ saved read ++ parts.new)) }
-    ensures err { IfErr result (λ e. e ≢ PartFault.Memory → (records : List Record) (later : List ℕ)
-        → IsBaseRecords records → count ≡ Some (length records) → parts.old ≡ saved records ++ later
-        → ⊥) }
+        × Uses (saved read) input.old (R.left reader.old) input.new (R.left reader.new)) }
+    ensures err { IfErr result (λ e. IfInvalid e (IfSome (ahead input.old (R.left reader.old))
+        (λ bytes. (records : List Record) (later : List ℕ) → IsBaseRecords records
+        → count ≡ Some (length records) → bytes ≡ saved records ++ later → ⊥))) }
+    ensures gives { OnOk result (Gives (R.left reader.old) (R.left reader.new)
+        (R.came reader.old) (R.came reader.new) (R.failures reader.old) (R.failures reader.new)
+        input.old.came input.new.came) }
+    ensures stops { IfErr result (StopsSaved input.old.limit (R.left reader.old) (R.left reader.new)
+        (R.came reader.old) (R.came reader.new) (R.failures reader.old) (R.failures reader.new)
+        input.old.came input.new.came) }
 {
-    let lines = match count {
-        Some(lines) => lines,
-        None => usize::MAX,
-    };
-    match read_saved(alloc, lines, parts) {
-        Ok(data_set) => {
-            if count.is_none() {
-                return Err(PartFault::Invalid(parts.len()));
-            }
-            Ok(data_set)
+    match count {
+        Some(lines) => read_saved(alloc, lines, input, reader),
+        None => {
+            read_saved(alloc, usize::MAX, input, reader)?;
+            Err(SavedFault::Invalid(input.used()))
         }
-        Err(SavedFault::Memory) => Err(PartFault::Memory),
-        Err(SavedFault::Invalid(left)) => Err(PartFault::Invalid(left)),
     }
 }
 
@@ -88,16 +123,27 @@ fn read_lines(alloc: Global, count: Count, parts: &mut Parts) -> Result<DataSet,
 /// The error names the line of the number, or the first line that is no record as a base has it, or
 /// at which the base is invalid. A base without header, carrier or trailer is invalid after its
 /// lines.
-pub(crate) fn read_records(alloc: Global, parts: &mut Parts) -> Result<DataSet, PartFault>
-    ensures ok { IfOk result
-        (λ read. IsBaseRecords read × (parts.old ≡ records_part read ++ parts.new)) }
-    ensures err { IfErr result (λ e. e ≢ PartFault.Memory → (records : List Record) (later : List ℕ)
-        → length records < 2 ^ 64 → IsBaseRecords records
-        → parts.old ≡ records_part records ++ later → ⊥) }
+pub(crate) fn read_records<R: Source>(
+    alloc: Global,
+    input: &mut InputBuffer,
+    reader: &mut R,
+) -> Result<DataSet, SavedFault>
+    ensures limit { input.new.limit ≡ input.old.limit }
+    ensures ok { IfOk result (λ read. IsBaseRecords read
+        × Uses (records_part read) input.old (R.left reader.old) input.new (R.left reader.new)) }
+    ensures err { IfErr result (λ e. IfInvalid e (IfSome (ahead input.old (R.left reader.old))
+        (λ bytes. (records : List Record) (later : List ℕ) → length records < 2 ^ 64
+        → IsBaseRecords records → bytes ≡ records_part records ++ later → ⊥))) }
+    ensures gives { OnOk result (Gives (R.left reader.old) (R.left reader.new)
+        (R.came reader.old) (R.came reader.new) (R.failures reader.old) (R.failures reader.new)
+        input.old.came input.new.came) }
+    ensures stops { IfErr result (StopsSaved input.old.limit (R.left reader.old) (R.left reader.new)
+        (R.came reader.old) (R.came reader.new) (R.failures reader.old) (R.failures reader.new)
+        input.old.came input.new.came) }
 {
-    let left = parts.len();
-    match take_count(alloc, parts)? {
-        Some(count) => read_lines(alloc, count, parts),
-        None => Err(PartFault::Invalid(left)),
+    let used = input.used();
+    match take_count(alloc, input, reader)? {
+        Some(count) => read_lines(alloc, count, input, reader),
+        None => Err(SavedFault::Invalid(used)),
     }
 }

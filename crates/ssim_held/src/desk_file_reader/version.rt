@@ -1,13 +1,18 @@
 //! The versions of desk files.
 
-ghost use Rattle.std.specs.Prelude.{◌≡◌, ◌↔◌, ◌++◌, List, ℕ, IfNone, IfSome, IsTrue};
+ghost use Rattle.std.specs.Prelude.{◌≡◌, ◌↔◌, ◌++◌, List, ℕ, IfErr, IfNone, IfOk, IfSome, IsTrue};
+ghost use Rattle.std.specs.Prelude.{OnOk};
+ghost use Rattle.ssim_records.specs.InputBuffer.{Gives, Stops, Uses, ahead};
 ghost use Rattle.ssim_text.specs.Values.{no_originator};
 ghost use Rattle.ssim_held.specs.internal.DeskFileReader.{IsOf, first_line};
 ghost use Rattle.ssim_held.specs.declared.desk_file_reader.version.FileVersion.{FileVersion};
 
 use crate::desk_file_reader::count_line::after_prefix;
 use crate::held::Held;
-use ssim_records::Parts;
+use ssim_records::{InputBuffer, InputFault, Source};
+
+/// The number of bytes of the first line.
+const FIRST_LINE: usize = 11;
 
 /// The version of a desk file, which its first line says.
 #[derive(Clone, Copy, Debug, PartialEq, Eq)]
@@ -44,17 +49,32 @@ fn read_version(bytes: &[u8]) -> Option<(FileVersion, &[u8])>
 }
 
 /// The version that the next 11 bytes say.
-pub(crate) fn take_version(parts: &mut Parts) -> Option<FileVersion>
-    ensures some { IfSome result (λ version. parts.old ≡ first_line version ++ parts.new) }
-    ensures none { IfNone result
-        ((version : FileVersion) (rest : List ℕ) → parts.old ≡ first_line version ++ rest → ⊥) }
+pub(crate) fn take_version<R: Source>(
+    input: &mut InputBuffer,
+    reader: &mut R,
+) -> Result<Option<FileVersion>, InputFault>
+    ensures limit { input.new.limit ≡ input.old.limit }
+    ensures some { IfOk result (λ read. IfSome read (λ version.
+        Uses (first_line version) input.old (R.left reader.old)
+        input.new (R.left reader.new))) }
+    ensures none { IfOk result (λ read. IfNone read (IfSome (ahead input.old (R.left reader.old))
+        (λ bytes. (version : FileVersion) (rest : List ℕ) → bytes ≡ first_line version ++ rest
+        → ⊥))) }
+    ensures gives { OnOk result (Gives (R.left reader.old) (R.left reader.new)
+        (R.came reader.old) (R.came reader.new) (R.failures reader.old) (R.failures reader.new)
+        input.old.came input.new.came) }
+    ensures stops { IfErr result (Stops input.old.limit (R.left reader.old) (R.left reader.new)
+        (R.came reader.old) (R.came reader.new) (R.failures reader.old) (R.failures reader.new)
+        input.old.came) }
 {
-    let mut line = [0; 11];
-    if !parts.fill(&mut line) {
-        return None;
+    if !input.has(reader, FIRST_LINE)? {
+        return Ok(None);
     }
-    match read_version(&line) {
-        Some((version, _)) => Some(version),
-        None => None,
+    match read_version(input.first(FIRST_LINE)) {
+        Some((version, _)) => {
+            input.skip(FIRST_LINE);
+            Ok(Some(version))
+        }
+        None => Ok(None),
     }
 }

@@ -8,13 +8,12 @@ ghost use Rattle.ssim_program.specs.declared.explain.file_kind.FileKind.TheVaria
 
 use super::file_kind::{FileKind, kind_of};
 use super::on_refusal;
-use crate::data_set::sum_bytes;
+use crate::data_set::{LIMIT, sum_bytes};
 use crate::refusal::Refusal;
 use crate::rehearse::script::Script;
 use ssim_base::{BaseFault, BaseRefusal, Place, StationFault, Stations};
 use ssim_desk::{DeskFault, Holdings};
 use ssim_guide::{words_on_line, words_on_offset, words_on_overlap, words_on_record};
-use ssim_records::Parts;
 use ssim_text::{TextFault, decode};
 use ssim_values::Memory;
 use std::alloc::{AllocError, Global};
@@ -90,9 +89,8 @@ fn desk_file(alloc: Global, bytes: &[u8]) -> Result<Option<Refusal>, Memory>
     requires { length bytes.now ≤ file_limit }
     ensures { IfOk result (λ found. Judges kind.Desk bytes.now found) }
 {
-    let mut parts = Parts::new(alloc);
-    parts.push(Vec::from_slice(alloc, bytes)?)?;
-    match Holdings::open(alloc, parts) {
+    let mut left = bytes;
+    match Holdings::open(alloc, &mut left, LIMIT) {
         Ok(_) => Ok(None),
         Err(DeskFault::File(offset)) => Ok(Some(Refusal::Desk(DeskFault::File(offset)))),
         Err(_) => Err(Memory),

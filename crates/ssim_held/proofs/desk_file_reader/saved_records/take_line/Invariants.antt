@@ -1,10 +1,18 @@
--- The bytes so far are a line without LF, and fewer bytes are left each time.
-use Rattle.std.proofs.Common.{◌≡◌, length}
-use Rattle.ssim_held.proofs.NextLines.{IsRead}
+-- The bytes so far are a line without LF, and were used.
+use Rattle.std.proofs.Common.{◌≡◌, ◌-◌, ◌^◌, ℕ, List, [], length}
+use Rattle.std.specs.Prelude.{Option}
+use Rattle.ssim_records.specs.InputBuffer.{Gives, Input, Uses}
+use Rattle.ssim_text.specs.Bytes.{from}
 use Rattle.ssim_held.proofs.desk_file_reader.saved_records.take_line.Given as goal
 
-abbrev pub invariant-loop-byte : goal.invariant-loop-byte
-invariant-loop-byte l = IsRead l.initial.parts l.line.items l.parts × (length l.byte ≡ 1)
+pub record Goes {R : Type 0} (left : R → Option (List ℕ)) (came_of failures : R → ℕ) (line : List ℕ) (old new : Input) (before reader : R) : Type 0 where
+  pub no_end : from 10 line ≡ []
+  pub limit : new.limit ≡ old.limit
+  pub uses : Uses line old (left before) new (left reader)
+  pub gives : Gives (left before) (left reader) (came_of before) (came_of reader) (failures before) (failures reader) old.came new.came
 
-abbrev pub decreases-loop-byte : goal.decreases-loop-byte
-decreases-loop-byte l = length l.parts
+abbrev pub invariant-loop-line : goal.invariant-loop-line
+invariant-loop-line g l = Goes g.R.Source.left g.R.Source.came g.R.Source.failures l.line.items l.initial.input l.input l.initial.reader l.reader
+
+abbrev pub decreases-loop-line : goal.decreases-loop-line
+decreases-loop-line g l = 2 ^ 64 - length l.line.items

@@ -1,0 +1,97 @@
+-- The steps of an input: bytes that are fetched are held, bytes that are skipped were used, and one
+-- step follows another.
+use Rattle.std.proofs.Common.{◌≡◌, ℕ, ◌+◌, List, [], ◌++◌, length, take, drop, Option, Some, None, Ok, refl, sym, ap, ◌∙◌, append_assoc, arith}
+use Rattle.std.specs.Io.KnownBytes.{Consumes}
+use Rattle.std.proofs.lemmas.List.{length-append, take-append-drop}
+use Rattle.ssim_records.specs.Blocks.{CameOn, SameAhead}
+use Rattle.ssim_records.specs.Device.{CountsBytes}
+use Rattle.ssim_records.specs.InputBuffer.{Gives, Input, Stops, Uses, ahead}
+use Rattle.ssim_records.specs.declared.input_buffer.InputFault.{InputFault}
+use Rattle.ssim_records.specs.declared.input_buffer.InputFault.TheVariants.{ReadFault, ReaderNeverEnds}
+use Rattle.ssim_records.proofs.Framing.{counts_none, counts_on, counts_twice}
+
+-- ---- what is used
+
+consumes_none : (a : Option (List ℕ)) → Consumes a a []
+consumes_none None = tt
+consumes_none (Some xs) = refl
+
+consumes_then : (one two : List ℕ) (a b c : Option (List ℕ)) → Consumes a b one → Consumes b c two → Consumes a c (one ++ two)
+consumes_then one two None b c h k = tt
+consumes_then one two (Some x) None c h k = absurd h
+consumes_then one two (Some x) (Some y) None h k = absurd k
+consumes_then one two (Some x) (Some y) (Some z) h k = h ∙ ap (λ bs. one ++ bs) k ∙ sym (append_assoc one two z)
+
+-- nothing is used
+pub uses_none : (b : Input) (left : Option (List ℕ)) → Uses [] b left b left
+uses_none b left = record { next = consumes_none (ahead b left); counted = omega arith }
+
+-- bytes are used, and then others
+pub uses_then : (one two : List ℕ) (a b c : Input) (l0 l1 l2 : Option (List ℕ)) → Uses one a l0 b l1 → Uses two b l1 c l2 → Uses (one ++ two) a l0 c l2
+uses_then one two a b c l0 l1 l2 h k = record {
+  next = consumes_then one two (ahead a l0) (ahead b l1) (ahead c l2) h.next k.next;
+  counted = omega (arith, h.counted, k.counted, length-append one two);
+}
+
+held_next : (held held' : List ℕ) (limit came came' : ℕ) (l0 l1 : Option (List ℕ)) → SameAhead held l0 held' l1
+    → Consumes (ahead (record { limit = limit; came = came; held = held }) l0) (ahead (record { limit = limit; came = came'; held = held' }) l1) []
+held_next held held' limit came came' None l1 h = tt
+held_next held held' limit came came' (Some x) None h = absurd h
+held_next held held' limit came came' (Some x) (Some y) h = sym h
+
+-- fetched bytes are held
+pub uses_fetched : (held held' : List ℕ) (limit came n : ℕ) (l0 l1 : Option (List ℕ)) → SameAhead held l0 held' l1 → length held' ≡ length held + n
+    → Uses [] (record { limit = limit; came = came; held = held }) l0 (record { limit = limit; came = came + n; held = held' }) l1
+uses_fetched held held' limit came n l0 l1 h long = record { next = held_next held held' limit came (came + n) l0 l1 h; counted = omega (arith, long) }
+
+skipped_next : (b : Input) (n : ℕ) (left : Option (List ℕ)) → Consumes (ahead b left) (ahead (record { limit = b.limit; came = b.came; held = drop n b.held }) left) (take n b.held)
+skipped_next b n None = tt
+skipped_next b n (Some x) = ap (λ bs. bs ++ x) (sym (take-append-drop n b.held)) ∙ append_assoc (take n b.held) (drop n b.held) x
+
+-- skipped bytes are used
+pub uses_skipped : (b : Input) (n : ℕ) (left : Option (List ℕ)) → Uses (take n b.held) b left (record { limit = b.limit; came = b.came; held = drop n b.held }) left
+uses_skipped b n left = record {
+  next = skipped_next b n left;
+  counted = let whole = ap length (take-append-drop n b.held) in omega (arith, whole, length-append (take n b.held) (drop n b.held));
+}
+
+-- ---- what the reader gives
+
+came_none : (l : Option (List ℕ)) (came : ℕ) → CameOn l l came came
+came_none None came = tt
+came_none (Some x) came = refl
+
+came_then : (l0 l1 l2 : Option (List ℕ)) (a b c : ℕ) → CameOn l0 l1 a b → CameOn l1 l2 b c → CameOn l0 l2 a c
+came_then None l1 l2 a b c h k = tt
+came_then (Some x) None l2 a b c h k = absurd h
+came_then (Some x) (Some y) None a b c h k = k
+came_then (Some x) (Some y) (Some z) a b c h k = k ∙ h
+
+pub gives_none : (l : Option (List ℕ)) (r f came : ℕ) → Gives l l r r f f came came
+gives_none l r f came = record { total = came_none l came; counts = counts_none l r came; no_failure = refl }
+
+pub gives_then : (l0 l1 l2 : Option (List ℕ)) (r0 r1 r2 f0 f1 f2 a b c : ℕ) → Gives l0 l1 r0 r1 f0 f1 a b → Gives l1 l2 r1 r2 f1 f2 b c → Gives l0 l2 r0 r2 f0 f2 a c
+gives_then l0 l1 l2 r0 r1 r2 f0 f1 f2 a b c h k = record {
+  total = came_then l0 l1 l2 a b c h.total k.total;
+  counts = counts_twice l0 l1 l2 r0 r1 r2 a b c h.counts k.counts;
+  no_failure = k.no_failure ∙ h.no_failure;
+}
+
+-- a fault after what the reader gave
+pub stops_then : (limit : ℕ) (l0 l1 l2 : Option (List ℕ)) (r0 r1 r2 f0 f1 f2 a b : ℕ) (e : InputFault) → Gives l0 l1 r0 r1 f0 f1 a b → Stops limit l1 l2 r1 r2 f1 f2 b e → Stops limit l0 l2 r0 r2 f0 f2 a e
+stops_then limit l0 l1 l2 r0 r1 r2 f0 f1 f2 a b ReadFault h k = rw (← h.no_failure) k
+stops_then limit l0 l1 l2 r0 r1 r2 f0 f1 f2 a b ReaderNeverEnds h k = gives_then l0 l1 l2 r0 r1 r2 f0 f1 f2 a b (limit + 1) h k
+
+came_fetched : (held held' : List ℕ) (came n : ℕ) (l0 l1 : Option (List ℕ)) → SameAhead held l0 held' l1 → length held' ≡ length held + n → CameOn l0 l1 came (came + n)
+came_fetched held held' came n None l1 h long = tt
+came_fetched held held' came n (Some x) None h long = h
+came_fetched held held' came n (Some x) (Some y) h long = omega (arith, ap length h, length-append held x, length-append held' y, long)
+
+-- fetched bytes came
+pub gives_fetched : (held held' : List ℕ) (came n : ℕ) (l0 l1 : Option (List ℕ)) (r0 r1 f0 f1 : ℕ) → SameAhead held l0 held' l1 → length held' ≡ length held + n → CountsBytes l0 l1 r0 r1 (Ok n) → f1 ≡ f0
+    → Gives l0 l1 r0 r1 f0 f1 came (came + n)
+gives_fetched held held' came n l0 l1 r0 r1 f0 f1 h long counted none = record {
+  total = came_fetched held held' came n l0 l1 h long;
+  counts = counts_on l0 l0 l1 r0 r0 r1 came came n (counts_none l0 r0 came) counted;
+  no_failure = none;
+}
