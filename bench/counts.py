@@ -5,8 +5,8 @@
   20,000 and 60,000 records. The shapes are those of `figures.py` and `large.py`.
 - Commands on a desk of 40,000 records and 3,000 texts that change 933 flights (`desks.py` says which texts): whole runs, in millions.
 
-callgrind counts byte by byte where the processor copies or fills a block at once. So `take` has some 25 million instructions that take
-next to no time (the system's names of 3,000 files), and each command eight million for a desk file of 8 MB.
+callgrind counts byte by byte where the processor fills a block at once. So `take` has some 25 million instructions that take next to no
+time (the system's names of 3,000 files).
 """
 import os
 import subprocess
