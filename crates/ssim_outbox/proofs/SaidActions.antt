@@ -2,17 +2,15 @@
 -- at most 171 bytes.
 use Rattle.std.proofs.Common.{◌≡◌, ◌≤◌, ◌<◌, ◌+◌, ◌*◌, ◌/◌, ◌%◌, ◌∙◌, ℕ, Bool, true, false, if◌then◌else◌}
 use Rattle.std.proofs.Common.{List, [], ◌∷◌, ◌++◌, map, length, length-append, ap, subst, arith, codes}
-use Rattle.std.proofs.Common.{None, Some, append-nil, drop, eqb-true, refl, sym, take}
+use Rattle.std.proofs.Common.{None, Some, append-nil, drop, eqb-true, sym, take}
 use Rattle.std.specs.Prelude.{◌==◌, nat_lt, slice_index_or}
 use Rattle.std.specs.List.{AllByRecursion}
 use Rattle.std.specs.Str.{bytes_eq}
 use Rattle.std.proofs.lemmas.List.Elements.{All-from_recursion}
-use Rattle.ssim_values.specs.Clock.{clock_text}
 use Rattle.ssim_values.specs.Station.{is_station}
 use Rattle.ssim_text.specs.Bounds.{AreNewLegsBounded, IsActionBounded, IsEquipmentBounded, IsSegmentBounded}
 use Rattle.ssim_text.specs.Bytes.{◌>>=◌, after_word, word}
-use Rattle.ssim_text.specs.Canonical.{leg_end_text, part_text, passenger_text, short_digits, unless_empty}
-use Rattle.ssim_text.specs.Canonical.{variation_text, written}
+use Rattle.ssim_text.specs.Canonical.{leg_end_text, part_text, short_digits, unless_empty, written}
 use Rattle.ssim_text.specs.Grammar.{EquipmentPart, IsBody, IsNewLegs, IsSub, LegPart, Part, SegmentPart}
 use Rattle.ssim_text.specs.Grammar.{body_parts, flight_parts, free_parts, later_parts, new_parts, sub_parts}
 use Rattle.ssim_text.specs.Grammar.{subs_parts}
@@ -22,7 +20,6 @@ use Rattle.ssim_text.specs.declared.action.Action.{Action}
 use Rattle.ssim_text.specs.declared.action.Action.TheVariants.{Cnl, Eqt, New, Rpl, Tim}
 use Rattle.ssim_text.specs.declared.action.NewLegs.{NewLegs}
 use Rattle.ssim_text.specs.declared.action.Sub.{Sub}
-use Rattle.ssim_text.specs.declared.leg.LegEnd.{LegEnd}
 use Rattle.ssim_text.specs.declared.leg.LegLine.{LegLine}
 use Rattle.ssim_text.specs.declared.segment.SegmentLine.{SegmentLine}
 use Rattle.ssim_text.proofs.BoundsLemmas.{spelled_subs_bounded}
@@ -32,6 +29,7 @@ use Rattle.ssim_text.proofs.ReadsBack.{all_left, all_right}
 use Rattle.ssim_text.proofs.Runs.{some_same}
 use Rattle.ssim_text.proofs.Words.{bound, only_else, only_if}
 use Rattle.ssim_publish.specs.Reach.{IsSaid}
+use Rattle.ssim_publish.proofs.ActionTexts.{IsShort, end_short, ends_short, marked_short}
 use Rattle.ssim_outbox.proofs.PartsAgain.{spelled_again}
 
 -- ---- the parts of an action
@@ -85,13 +83,6 @@ known action said =
 
 -- ---- no line is longer than 170 bytes
 
-abbrev IsShort : Part → Type 0
-IsShort part = length (part_text part) ≤ 170
-
-marked_short : (mark : ℕ) (text : List ℕ) → length (unless_empty mark text) ≤ 1 + length text
-marked_short mark [] = omega arith
-marked_short mark (b ∷ text) = omega arith
-
 equipment_short : (e : EquipmentValue) → IsEquipmentBounded e → IsShort (EquipmentPart e)
 equipment_short e h =
     let last = unless_empty 46 e.configuration in
@@ -109,47 +100,13 @@ equipment_short e h =
       configuration,
     )
 
-variation_short : (b : Bool) (x y : ℕ) → length (if b then [] else x ∷ y ∷ []) ≤ 2
-variation_short true x y = omega arith
-variation_short false x y = omega arith
-
-passenger_short : (b : Bool) (p : ℕ) → length (if b then [] else 47 ∷ clock_text p) ≤ 5
-passenger_short true p = omega arith
-passenger_short false p = omega arith
-
-four_short : (a b c d : List ℕ) → length a ≡ 3 → length b ≡ 4 → length c ≤ 2 → length d ≤ 5
-    → length (a ++ b ++ c ++ d) ≤ 14
-four_short a b c d three four two five =
-    omega (
-      arith,
-      length-append (a ++ b ++ c) d,
-      length-append (a ++ b) c,
-      length-append a b,
-      three,
-      four,
-      two,
-      five,
-    )
-
-end_short : (e : LegEnd) → length e.station ≡ 3 → length (leg_end_text e) ≤ 14
-end_short e three =
-    four_short e.station (clock_text e.time) (variation_text e.variation)
-    (passenger_text e.time e.passenger) three refl
-    (variation_short (e.variation == 0) 47 (48 + e.variation % 10))
-    (passenger_short (e.passenger == e.time) e.passenger)
-
 leg_short : (leg : LegLine) → ReadsAgain (LegPart leg) → IsShort (LegPart leg)
 leg_short leg h =
     let line = part_text (LegPart leg) in
     let s = leg_sound line leg h.spelled in
     let departure = end_short leg.departure (end_sound (word line) leg.departure s.departure).station.long in
     let arrival = end_short leg.arrival (end_sound (after_word line) leg.arrival s.arrival).station.long in
-    omega (
-      arith,
-      length-append (leg_end_text leg.departure) (32 ∷ leg_end_text leg.arrival),
-      departure,
-      arrival,
-    )
+    ends_short (leg_end_text leg.departure) (leg_end_text leg.arrival) departure arrival
 
 abbrev two : List ℕ → List ℕ → List ℕ × List ℕ
 two board off = (board, off)

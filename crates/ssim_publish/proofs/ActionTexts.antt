@@ -129,10 +129,11 @@ segment_reads s h = segment_again s h.line h.spells (a_line h.line h.is_line)
 
 -- ---- no line is longer than 170 bytes
 
-abbrev IsShort : Part → Type 0
+abbrev pub IsShort : Part → Type 0
 IsShort part = length (part_text part) ≤ 170
 
-marked_short : (mark : ℕ) (text : List ℕ) → length (unless_empty mark text) ≤ 1 + length text
+-- a text after its mark, if there is any
+pub marked_short : (mark : ℕ) (text : List ℕ) → length (unless_empty mark text) ≤ 1 + length text
 marked_short mark [] = omega arith
 marked_short mark (b ∷ text) = omega arith
 
@@ -199,14 +200,16 @@ four_short a b c d three four two five =
       five,
     )
 
-end_short : (e : LegEnd) → length e.station ≡ 3 → length (leg_end_text e) ≤ 14
+-- an end of a leg
+pub end_short : (e : LegEnd) → length e.station ≡ 3 → length (leg_end_text e) ≤ 14
 end_short e three =
     four_short e.station (clock_text e.time) (variation_text e.variation)
     (passenger_text e.time e.passenger) three refl
     (variation_short (e.variation == 0) 47 (48 + e.variation % 10))
     (passenger_short (e.passenger == e.time) e.passenger)
 
-ends_short : (a b : List ℕ) → length a ≤ 14 → length b ≤ 14 → length (a ++ 32 ∷ b) ≤ 170
+-- both ends of a leg
+pub ends_short : (a b : List ℕ) → length a ≤ 14 → length b ≤ 14 → length (a ++ 32 ∷ b) ≤ 170
 ends_short a b h k = omega (arith, length-append a (32 ∷ b), h, k)
 
 leg_short : (line : LegLine) → IsLegLine line → IsShort (LegPart line)
