@@ -1,7 +1,7 @@
--- Lists that grow by one element: of loaded steps, of the lines of steps, of exports. Each result
--- of a run has its line.
-use Rattle.std.proofs.Common.{◌≡◌, ◌∙◌, ◌+◌, ◌++◌, ◌<◌, ◌==◌, ℕ, Bool, true, false, List, [], ◌∷◌, All, length, map, take, drop, get_or, Option, Some, None, refl, sym, ap, subst, add-one, drop-cons, take-append-drop, inr, ◌≤◌, arith}
-use Rattle.std.proofs.lemmas.List.{map-append}
+-- Lists that grow by one element: of loaded steps, of the lines of steps, of exports and their lines.
+-- Each result of a run has its line.
+use Rattle.std.proofs.Common.{◌≡◌, ◌∙◌, ◌+◌, ◌++◌, ◌<◌, ◌==◌, ℕ, suc, Bool, true, false, List, [], ◌∷◌, All, length, map, take, drop, get_or, Option, Some, None, refl, sym, ap, subst, add-one, drop-cons, take-append-drop, inr, ◌≤◌, arith}
+use Rattle.std.proofs.lemmas.List.{length_push, map-append}
 use Rattle.std.proofs.lemmas.List.{take_more}
 use Rattle.ssim_base.specs.BaseSeen.{BaseSeen}
 use Rattle.ssim_text.specs.Grammar.{OneMessage}
@@ -13,7 +13,7 @@ use Rattle.ssim_desk.specs.declared.steps.Step.{Step}
 use Rattle.ssim_desk.specs.declared.steps.Step.TheVariants.{Take, Merge}
 use Rattle.ssim_desk.proofs.Moments.{Moment, at_step}
 use Rattle.ssim_program.specs.Files.{Files}
-use Rattle.ssim_program.specs.rehearse.Rehearsal.{AreExports, AreLoaded, AreStepLines, IsLoaded, IsOutcome, IsStepLine, Outcome, RefusesStep, RefusesTexts}
+use Rattle.ssim_program.specs.rehearse.Rehearsal.{AreExports, AreLoaded, AreStepLines, IsLoaded, IsOutcome, IsStepLine, Outcome, RefusesStep, RefusesTexts, desk_line, desk_lines}
 use Rattle.ssim_program.specs.internal.Rehearse.{HasLine, HasMergeLine, HasTakeLine, HaveLines, desk_of}
 use Rattle.ssim_program.specs.rehearse.Script.{IsFirstOther, Written, step_in}
 use Rattle.ssim_program.specs.declared.refusal.Refusal.{Refusal}
@@ -27,12 +27,6 @@ loaded_more files [] [] w s are is = (is, tt)
 loaded_more files [] (x ∷ ss) w s are is = absurd are
 loaded_more files (y ∷ ws) [] w s are is = absurd are
 loaded_more files (y ∷ ws) (x ∷ ss) w s are is = (are.0, loaded_more files ws ss w s are.1 is)
-
-exports_more : (desks : List DeskState) (os : List Outcome) (desk : DeskState) (o : Outcome) → AreExports desks os → IsOutcome desk o → AreExports (desks ++ desk ∷ []) (os ++ o ∷ [])
-exports_more [] [] desk o are is = (is, tt)
-exports_more [] (x ∷ os) desk o are is = absurd are
-exports_more (d ∷ desks) [] desk o are is = absurd are
-exports_more (d ∷ desks) (x ∷ os) desk o are is = (are.0, exports_more desks os desk o are.1 is)
 
 lines_more : (base : BaseSeen) (ss : List Step) (us : List Answer) (ls : List RehearsalLine) (s : Step) (u : Answer) (l : RehearsalLine)
     → AreStepLines base ss us ls → IsStepLine base s u l → AreStepLines base (ss ++ s ∷ []) (us ++ u ∷ []) (ls ++ l ∷ [])
@@ -57,13 +51,6 @@ loaded_next f files xs i x ss new s lt at are is pushed =
     (subst (AreLoaded files (map f (take i xs) ++ f (get_or xs i x) ∷ [])) (sym pushed)
     (loaded_more files (map f (take i xs)) ss (f (get_or xs i x)) s are (subst (λ y. IsLoaded files (f y) s) at is)))
 
-pub exports_next : {X : Type 0} (f : X → DeskState) (xs : List X) (i : ℕ) (x : X) (os new : List Outcome) (o : Outcome) → i < length xs → x ≡ get_or xs i x
-    → AreExports (map f (take i xs)) os → IsOutcome (f x) o → new ≡ os ++ o ∷ [] → AreExports (map f (take (i + 1) xs)) new
-exports_next f xs i x os new o lt at are is pushed =
-    subst (λ ws. AreExports ws new) (sym (map_more f xs i x lt))
-    (subst (AreExports (map f (take i xs) ++ f (get_or xs i x) ∷ [])) (sym pushed)
-    (exports_more (map f (take i xs)) os (f (get_or xs i x)) o are (subst (λ y. IsOutcome (f y) o) at is)))
-
 pub lines_next : (base : BaseSeen) (ss : List Step) (us : List Answer) (i : ℕ) (s : Step) (u : Answer) (ls new : List RehearsalLine) (l : RehearsalLine) → i < length ss → i < length us
     → s ≡ get_or ss i s → u ≡ get_or us i u → AreStepLines base (take i ss) (take i us) ls → IsStepLine base s u l → new ≡ ls ++ l ∷ [] → AreStepLines base (take (i + 1) ss) (take (i + 1) us) new
 lines_next base ss us i s u ls new l lt lt' at at' are is pushed =
@@ -72,6 +59,39 @@ lines_next base ss us i s u ls new l lt lt' at at' are is pushed =
     (subst (AreStepLines base (take i ss ++ get_or ss i s ∷ []) (take i us ++ get_or us i u ∷ [])) (sym pushed)
     (lines_more base (take i ss) (take i us) ls (get_or ss i s) (get_or us i u) l are
     (subst (λ (x : Step). IsStepLine base x (get_or us i u) l) at (subst (λ (x : Answer). IsStepLine base s x l) at' is)))))
+
+-- ---- one more desk has its export and its line
+
+exports_pushed : {X Y : Type 0} (f : X → DeskState) (g : Y → Outcome) (xs : List X) (ys : List Y) (x : X) (y : Y) → AreExports (map f xs) (map g ys) → IsOutcome (f x) (g y)
+    → AreExports (map f (xs ++ x ∷ [])) (map g (ys ++ y ∷ []))
+exports_pushed f g [] [] x y are is = (is, tt)
+exports_pushed f g [] (b ∷ ys) x y are is = absurd are
+exports_pushed f g (a ∷ xs) [] x y are is = absurd are
+exports_pushed f g (a ∷ xs) (b ∷ ys) x y are is = (are.0, exports_pushed f g xs ys x y are.1 is)
+
+lines_pushed : {X Y : Type 0} (f : X → DeskState) (g : Y → Outcome) (n : ℕ) (xs : List X) (ys : List Y) (x : X) (y : Y) → AreExports (map f xs) (map g ys)
+    → desk_lines n (map f (xs ++ x ∷ [])) (map g (ys ++ y ∷ [])) ≡ desk_lines n (map f xs) (map g ys) ++ desk_line (n + length xs) (f x) (g y) ∷ []
+lines_pushed f g n [] [] x y are = let same : n ≡ n + 0 = omega arith in ap (λ k. desk_line k (f x) (g y) ∷ []) same
+lines_pushed f g n [] (b ∷ ys) x y are = absurd are
+lines_pushed f g n (a ∷ xs) [] x y are = absurd are
+lines_pushed f g n (a ∷ xs) (b ∷ ys) x y are =
+    let same : (n + 1) + length xs ≡ n + suc (length xs) = omega arith in
+    ap (λ rest. desk_line n (f a) (g b) ∷ rest)
+    (lines_pushed f g (n + 1) xs ys x y are.1 ∙ ap (λ k. desk_lines (n + 1) (map f xs) (map g ys) ++ desk_line k (f x) (g y) ∷ []) same)
+
+pub ends_next : {X Y : Type 0} (f : X → DeskState) (g : Y → Outcome) (xs : List X) (ys more_ys : List Y) (ls more_ls : List RehearsalLine) (x : X) (y : Y) (l : RehearsalLine) (k : ℕ)
+    → AreExports (map f xs) (map g ys) → ls ≡ desk_lines 1 (map f xs) (map g ys) → length ls ≡ length xs
+    → IsOutcome (f x) (g y) → k ≡ length ls → l ≡ desk_line (k + 1) (f x) (g y) → more_ls ≡ ls ++ l ∷ [] → more_ys ≡ ys ++ y ∷ []
+    → AreExports (map f (xs ++ x ∷ [])) (map g more_ys) × (more_ls ≡ desk_lines 1 (map f (xs ++ x ∷ [])) (map g more_ys)) × (length more_ls ≡ length (xs ++ x ∷ []))
+ends_next f g xs ys more_ys ls more_ls x y l k are lines count is before line_is pushed_line pushed = (
+  subst (λ os. AreExports (map f (xs ++ x ∷ [])) (map g os)) (sym pushed) (exports_pushed f g xs ys x y are is),
+  pushed_line ∙ ap (λ all. all ++ l ∷ []) lines ∙ ap (λ one. desk_lines 1 (map f xs) (map g ys) ++ one ∷ []) (line_is ∙ ap (λ n. desk_line n (f x) (g y)) number)
+      ∙ sym (lines_pushed f g 1 xs ys x y are) ∙ ap (λ os. desk_lines 1 (map f (xs ++ x ∷ [])) (map g os)) (sym pushed),
+  ap length pushed_line ∙ length_push ls l ∙ ap (λ n. n + 1) count ∙ sym (length_push xs x),
+)
+  where
+    number : k + 1 ≡ 1 + length xs
+    number = omega (arith, before, count)
 
 -- ---- a line that is no step
 

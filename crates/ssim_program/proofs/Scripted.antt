@@ -1,17 +1,21 @@
 -- What a script that is read says of its lines, and of its steps with their texts; and desks that
 -- hold nothing.
-use Rattle.std.proofs.Common.{◌≡◌, ◌+◌, ◌++◌, ◌<◌, inl, inr, ℕ, zero, suc, List, [], ◌∷◌, All, get_or, length, map, take, Option, Some, refl, sym, ap, subst, arith}
+use Rattle.std.proofs.Common.{◌≡◌, ◌∙◌, ◌+◌, ◌++◌, ◌<◌, inl, inr, ℕ, zero, suc, List, [], ◌∷◌, All, get_or, length, map, take, Option, Some, refl, sym, ap, subst, arith}
+use Rattle.ssim_text.specs.Grammar.{OneMessage}
 use Rattle.ssim_text.specs.Left.{lines_left}
 use Rattle.ssim_held.specs.Entries.{DeskSeen, state_of}
-use Rattle.ssim_desk.specs.Steps.{IsInRange}
+use Rattle.ssim_held.specs.Held.{DeskState, no_desk}
+use Rattle.ssim_desk.specs.Steps.{IsInRange, Runs, desk_at}
+use Rattle.ssim_desk.specs.declared.steps.Answer.{Answer}
 use Rattle.ssim_desk.specs.declared.steps.Step.{Step}
 use Rattle.ssim_desk.specs.declared.steps.Step.TheVariants.{Take, Merge}
+use Rattle.ssim_desk.proofs.Moments.{at_end}
 use Rattle.ssim_program.specs.Files.{Files}
-use Rattle.ssim_program.specs.rehearse.Rehearsal.{AreLoaded, IsLoaded, RefusesStep, RefusesTexts}
+use Rattle.ssim_program.specs.rehearse.Rehearsal.{AreLoaded, IsLoaded, RefusesStep, RefusesTexts, fresh}
 use Rattle.ssim_program.specs.rehearse.Script.{RefusesScript, Written, Takes, Merges, count_in}
-use Rattle.ssim_program.specs.internal.Rehearse.{IsOtherLine, IsStepOf}
+use Rattle.ssim_program.specs.internal.Rehearse.{HaveLines, IsOtherLine, IsStepOf}
 use Rattle.ssim_program.specs.declared.refusal.Refusal.{Refusal}
-use Rattle.ssim_program.proofs.Rehearsing.{loaded_next, refuses_next}
+use Rattle.ssim_program.proofs.Rehearsing.{have_lines, loaded_next, refuses_next}
 
 -- the first line is DESKS n, and another spells no step
 pub refuses_script : {X : Type 0} (f : X → ℕ × List ℕ) (text : List ℕ) (first : X) (others : List X) (count : ℕ) (refusal : Refusal) → lines_left text ≡ f first ∷ map f others
@@ -49,6 +53,40 @@ one_state new (x ∷ xs) are (suc k) d lt = one_state new xs (λ i e l. are (suc
 pub length-map-one : {X Y : Type 0} (f : X → Y) (xs : List X) → length (map f xs) ≡ length xs
 length-map-one f [] = refl
 length-map-one f (x ∷ xs) = ap suc (length-map-one f xs)
+
+-- ---- a run on equal desks that hold nothing
+
+module _ (one : OneMessage) (empty : DeskSeen) (is_fresh : empty ≡ fresh empty.base) (count : ℕ) (before after : List DeskSeen) (steps : List Step) (answers : List Answer)
+    (each : All (λ desk. desk ≡ empty) before) (many : length before ≡ count) (within : All (IsInRange count) steps) (runs : Runs (map state_of before) steps answers (map state_of after)) where
+  abbrev start : List DeskState
+  start = map state_of before
+
+  pub number : length start ≡ count
+  number = length-map-one state_of before ∙ many
+
+  pub each_fresh : All (λ desk. desk ≡ state_of (fresh empty.base)) start
+  each_fresh = one_state (fresh empty.base) before (subst (λ (d : DeskSeen). All (λ desk. desk ≡ d) before) is_fresh each)
+
+  in_range : All (IsInRange (length start)) steps
+  in_range = subst (λ n. All (IsInRange n) steps) (sym number) within
+
+  -- each result has its line
+  pub run_has_lines : HaveLines empty.base steps answers
+  run_has_lines = have_lines one empty.base (state_of (fresh empty.base)) refl start (map state_of after) steps answers each_fresh in_range runs
+
+  -- the first desk has the base of all desks at the start
+  pub first_has_base : 0 < count → length after ≡ length before → (desk other : DeskSeen) (desks : List DeskSeen) → desk ≡ get_or desks 0 other → desks ≡ after → desk.base ≡ empty.base
+  first_has_base some same desk other desks is all = by after all same kept
+    where
+      kept : (let x = desk_at (map state_of after) 0 in let y = desk_at start 0 in x.base ≡ y.base)
+      kept = let far = at_end one start (map state_of after) steps answers in_range runs in far.base 0
+
+      first : (let x = desk_at start 0 in x.base ≡ empty.base)
+      first = ap (λ (x : DeskState). x.base) (each_fresh 0 no_desk (omega (arith, some, number)))
+
+      by : (ds : List DeskSeen) → desks ≡ ds → length ds ≡ length before → (let x = desk_at (map state_of ds) 0 in let y = desk_at start 0 in x.base ≡ y.base) → desk.base ≡ empty.base
+      by [] these size at = absurd (omega (arith, some, size, many))
+      by (d ∷ ds) these size at = ap (λ (x : DeskSeen). x.base) (is ∙ ap (λ (xs : List DeskSeen). get_or xs 0 other) these) ∙ at ∙ first
 
 -- one more step has its text, or has none
 pub loaded_at : {X : Type 0} (f : X → Written) (before files : Option Files) (xs : List X) (i : ℕ) (d : X) (ss new : List Step) (s : Step) → i < length xs → before ≡ files

@@ -43,7 +43,7 @@ pub(crate) fn rehearse<S: Store>(
     let desk = Holdings::start(alloc, data_set, stations);
     // No effect at run time. The proof reads from this use what is always true of a base.
     let _ = desk.base().records();
-    let lines = rehearsal_of(alloc, &desk, count, &steps)?;
+    let lines = rehearsal_of(alloc, desk, count, &steps)?;
     let bytes = bytes_of(alloc, &lines)?;
     Ok(bytes)
 }

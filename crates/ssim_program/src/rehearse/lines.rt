@@ -35,24 +35,25 @@ fn reference_of(alloc: Global, desk: &Holdings, text: &[u8]) -> Result<Reference
     }
 }
 
-/// The line of a text that was taken or refused.
+/// The line of a text that was taken or refused by the desk with this number. All desks have the
+/// base of this one.
 fn take_line(
     alloc: Global,
-    empty: &Holdings,
+    any: &Holdings,
     desk: usize,
     text: &[u8],
     answer: &Answer,
 ) -> Result<RehearsalLine, Memory>
-    requires { HasTakeLine empty.now.base desk text.now answer.now }
-    ensures { IfOk result (IsTakeLine empty.now.base desk text.now answer.now) }
+    requires { HasTakeLine any.now.base desk text.now answer.now }
+    ensures { IfOk result (IsTakeLine any.now.base desk text.now answer.now) }
 {
     match answer {
         Answer::Taken => {
-            let reference = reference_of(alloc, empty, text)?;
+            let reference = reference_of(alloc, any, text)?;
             Ok(RehearsalLine::Taken { desk, reference })
         }
         Answer::Repeated => {
-            let reference = reference_of(alloc, empty, text)?;
+            let reference = reference_of(alloc, any, text)?;
             Ok(RehearsalLine::Repeated { desk, reference })
         }
         Answer::Merged => unreachable!(),
@@ -78,54 +79,56 @@ fn merge_line(desk: usize, answer: &Answer) -> RehearsalLine
     }
 }
 
-/// The line of a step.
+/// The line of a step. All desks have the base of this one.
 fn step_line(
     alloc: Global,
-    empty: &Holdings,
+    any: &Holdings,
     step: &Step,
     answer: &Answer,
 ) -> Result<RehearsalLine, Memory>
     requires desk { desk_of step.now < 9 }
-    requires has { HasLine empty.now.base step.now answer.now }
-    ensures { IfOk result (IsStepLine empty.now.base step.now answer.now) }
+    requires has { HasLine any.now.base step.now answer.now }
+    ensures { IfOk result (IsStepLine any.now.base step.now answer.now) }
 {
     match step {
-        Step::Take(desk, text) => take_line(alloc, empty, *desk + 1, text, answer),
+        Step::Take(desk, text) => take_line(alloc, any, *desk + 1, text, answer),
         Step::Merge(into, _) => Ok(merge_line(*into + 1, answer)),
     }
 }
 
-/// The lines of steps, in their order.
+/// The lines of steps, in their order. All desks have the base of this one.
 fn step_lines(
     alloc: Global,
-    empty: &Holdings,
+    any: &Holdings,
     steps: &[Step],
     answers: &[Answer],
 ) -> Result<Vec<RehearsalLine>, Memory>
     requires desks { All (λ step. desk_of step < 9) steps.now }
     requires count { length answers.now ≡ length steps.now }
-    requires have { HaveLines empty.now.base steps.now answers.now }
-    ensures { IfOk result (λ lines. AreStepLines empty.now.base steps.now answers.now lines.items) }
+    requires have { HaveLines any.now.base steps.now answers.now }
+    ensures { IfOk result (λ lines. AreStepLines any.now.base steps.now answers.now lines.items) }
 {
     // No effect at run time. The borrow checker learns from these uses which types a line contains.
     let _fault: Option<DeskFault> = None;
     let _export: Option<ExportFault> = None;
     let mut lines = Vec::with_capacity(alloc, steps.len())?;
     for (place, step) in steps.iter().enumerate() {
-        lines.push(step_line(alloc, empty, step, &answers[place])?)?;
+        lines.push(step_line(alloc, any, step, &answers[place])?)?;
     }
     Ok(lines)
 }
 
-/// New desks, each equal to this one.
-fn new_desks(alloc: Global, empty: &Holdings, count: usize) -> Result<Vec<Holdings>, Memory>
+/// This number of desks, each equal to this one, which is the last of them.
+fn equal_desks(alloc: Global, desk: Holdings, count: usize) -> Result<Vec<Holdings>, Memory>
+    requires { 0 < count }
     ensures count { IfOk result (λ desks. length desks.items ≡ count) }
-    ensures each { IfOk result (λ desks. All (λ desk. desk ≡ empty.now) desks.items) }
+    ensures each { IfOk result (λ desks. All (λ one. one ≡ desk) desks.items) }
 {
     let mut desks = Vec::with_capacity(alloc, count)?;
-    for _ in 0..count {
-        desks.push(empty.copy()?)?;
+    for _ in 1..count {
+        desks.push(desk.copy()?)?;
     }
+    desks.push(desk)?;
     Ok(desks)
 }
 
@@ -133,20 +136,21 @@ fn new_desks(alloc: Global, empty: &Holdings, count: usize) -> Result<Vec<Holdin
 /// results and of the desks, and the line that says whether all exports are equal.
 pub(crate) fn rehearsal_of(
     alloc: Global,
-    empty: &Holdings,
+    empty: Holdings,
     count: usize,
     steps: &[Step],
 ) -> Result<Vec<RehearsalLine>, Memory>
-    requires fresh { empty.now ≡ fresh empty.now.base }
+    requires fresh { empty ≡ fresh empty.base }
+    requires least { 0 < count }
     requires most { count ≤ 9 }
     requires in_range { All (IsInRange count) steps.now }
-    ensures { IfOk result (λ lines. Rehearses empty.now.base count steps.now lines.items) }
+    ensures { IfOk result (λ lines. Rehearses empty.base count steps.now lines.items) }
 {
     one_message();
-    let mut desks = new_desks(alloc, empty, count)?;
+    let mut desks = equal_desks(alloc, empty, count)?;
     let answers = run_steps(alloc, &mut desks, steps)?;
-    let mut lines = step_lines(alloc, empty, steps, &answers)?;
-    let ends = ends_of(alloc, &desks)?;
+    let mut lines = step_lines(alloc, &desks[0], steps, &answers)?;
+    let ends = ends_of(alloc, desks)?;
     lines.extend_from_slice(&ends)?;
     Ok(lines)
 }

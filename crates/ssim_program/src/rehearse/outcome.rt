@@ -1,17 +1,19 @@
 //! The exports of desks, and whether they are equal.
-ghost use Rattle.std.specs.Prelude.{◌≡◌, ◌↔◌, ◌<◌, ◌+◌, ◌%◌, ◌^◌, ◌≤◌, ◌++◌, [], IfOk, IsTrue};
+ghost use Rattle.std.specs.Prelude.{◌≡◌, ◌↔◌, ◌+◌, ◌%◌, ◌^◌, ◌≤◌, [], IfOk, IsTrue};
 ghost use Rattle.std.specs.Prelude.{OnErr, OnOk, length, map};
+ghost use Rattle.std.specs.FinMap.{entries};
+ghost use Rattle.ssim_base.specs.Base.{airline_of};
 ghost use Rattle.ssim_held.specs.Entries.{state_of};
-ghost use Rattle.ssim_program.specs.rehearse.Rehearsal.{AreEqualTo, AreExports, AreSame, HasEnds};
-ghost use Rattle.ssim_program.specs.rehearse.Rehearsal.{IsOutcome, IsVerdict, desk_line};
-ghost use Rattle.ssim_program.specs.rehearse.Rehearsal.{desk_lines};
+ghost use Rattle.ssim_held.specs.Held.{DeskState};
+ghost use Rattle.ssim_program.specs.rehearse.Rehearsal.{AreEqualTo, AreSame, HasEnds, IsOutcome};
+ghost use Rattle.ssim_program.specs.rehearse.Rehearsal.{IsVerdict, desk_line};
 ghost use Rattle.ssim_program.specs.internal.Rehearse.{outcome_of, outcome_with};
 
 use crate::rehearse::line::RehearsalLine;
 use ssim_desk::{DeskFault, Holdings};
 use ssim_records::Bytes;
 use ssim_schedule::ExportFault;
-use ssim_values::Memory;
+use ssim_values::{Airline, Memory};
 use std::alloc::Global;
 
 /// The export of a desk.
@@ -23,30 +25,26 @@ pub(crate) enum Outcome {
     Refused(ExportFault),
 }
 
-/// Exports a desk into an empty buffer. An export consumes its desk, so a copy of the desk is
-/// exported. Returns why there is no export, if there is none. `Err` if memory ran out for the
-/// bytes in the buffer.
-fn export_into(desk: &Holdings, out: &mut Bytes) -> Result<Option<ExportFault>, Memory>
+/// Exports a desk into an empty buffer. Returns why there is no export, if there is none. `Err` if
+/// memory ran out for the bytes in the buffer.
+fn export_into(desk: Holdings, out: &mut Bytes) -> Result<Option<ExportFault>, Memory>
     requires empty { out.now.bytes ≡ [] }
     ensures ok { IfOk result
-        (λ fault. IsOutcome (state_of desk.now) (outcome_with out.new.bytes fault)) }
+        (λ fault. IsOutcome (state_of desk) (outcome_with out.new.bytes fault)) }
     ensures err { OnErr result (out.new.failures ≡ (out.old.failures + 1) % 2 ^ 64) }
 {
-    match desk.copy() {
-        Ok(copy) => match copy.export(out) {
-            Ok(()) => Ok(None),
-            Err(fault) => match fault {
-                ExportFault::WriteFault => Err(Memory),
-                _ => Ok(Some(fault)),
-            },
+    match desk.export(out) {
+        Ok(()) => Ok(None),
+        Err(fault) => match fault {
+            ExportFault::WriteFault => Err(Memory),
+            _ => Ok(Some(fault)),
         },
-        Err(_) => Ok(Some(ExportFault::Memory)),
     }
 }
 
 /// Exports a desk into memory.
-fn export_of(alloc: Global, desk: &Holdings) -> Result<Outcome, Memory>
-    ensures { IfOk result (λ outcome. IsOutcome (state_of desk.now) (outcome_of outcome)) }
+fn export_of(alloc: Global, desk: Holdings) -> Result<Outcome, Memory>
+    ensures { IfOk result (λ outcome. IsOutcome (state_of desk) (outcome_of outcome)) }
 {
     let mut out = Bytes::new(alloc);
     match export_into(desk, &mut out) {
@@ -56,58 +54,37 @@ fn export_of(alloc: Global, desk: &Holdings) -> Result<Outcome, Memory>
     }
 }
 
-/// The exports of desks, in their order.
-fn exports_of(alloc: Global, desks: &[Holdings]) -> Result<Vec<Outcome>, Memory>
-    ensures are { IfOk result
-        (λ outcomes. AreExports (map state_of desks.now) (map outcome_of outcomes.items)) }
-    ensures count { IfOk result (λ outcomes. length outcomes.items ≡ length desks.now) }
-{
-    let mut outcomes = Vec::with_capacity(alloc, desks.len())?;
-    for desk in desks {
-        outcomes.push(export_of(alloc, desk)?)?;
-    }
-    Ok(outcomes)
-}
-
-/// The line of a desk and its export.
-fn line_of(number: usize, desk: &Holdings, outcome: &Outcome) -> RehearsalLine
-    ensures { result ≡ desk_line number (state_of desk.now) (outcome_of outcome.now) }
+/// The line of the desk with this number, which held this many messages over a base of this
+/// carrier, and has this export.
+fn line_of(number: usize, messages: usize, airline: Airline, outcome: &Outcome) -> RehearsalLine
+    ensures { (desk : DeskState) → messages ≡ length (entries desk.held)
+        → airline ≡ airline_of desk.base.records
+        → result ≡ desk_line number desk (outcome_of outcome.now) }
 {
     match outcome {
         Outcome::Exported(bytes) => RehearsalLine::Exported {
             desk: number,
-            messages: desk.held().len(),
+            messages,
             bytes: bytes.bytes().len(),
         },
         Outcome::Refused(fault) => RehearsalLine::NotExported {
             desk: number,
-            airline: desk.data_set().airline(),
+            airline,
             fault: *fault,
         },
     }
 }
 
-/// Adds the lines of desks and their exports; `number` is the number of the first desk.
-fn add_lines(
-    lines: &mut Vec<RehearsalLine>,
-    number: usize,
-    desks: &[Holdings],
-    outcomes: &[Outcome],
-) -> Result<(), Memory>
-    requires { number + length desks.now < 2 ^ 64 }
-    ensures { OnOk result (lines.new.items ≡ lines.old.items
-        ++ desk_lines number (map state_of desks.now) (map outcome_of outcomes.now)) }
+/// Exports the desk with this number, counted from 1: its line, and its export.
+fn end_of(alloc: Global, number: usize, desk: Holdings) -> Result<(RehearsalLine, Outcome), Memory>
+    ensures export { IfOk result (λ end. IsOutcome (state_of desk) (outcome_of end.1)) }
+    ensures line { IfOk result
+        (λ end. end.0 ≡ desk_line number (state_of desk) (outcome_of end.1)) }
 {
-    // No effect at run time. The borrow checker learns from these uses which types a line contains.
-    let _fault: Option<DeskFault> = None;
-    let _export: Option<ExportFault> = None;
-    match (desks.split_first(), outcomes.split_first()) {
-        (Some((desk, desks)), Some((outcome, outcomes))) => {
-            lines.push(line_of(number, desk, outcome))?;
-            add_lines(lines, number + 1, desks, outcomes)
-        }
-        _ => Ok(()),
-    }
+    let messages = desk.held().len();
+    let airline = desk.data_set().airline();
+    let outcome = export_of(alloc, desk)?;
+    Ok((line_of(number, messages, airline, &outcome), outcome))
 }
 
 /// Whether two exports are the same bytes, or refusals of the same number and place.
@@ -158,17 +135,21 @@ fn verdict(outcomes: &[Outcome]) -> RehearsalLine
 }
 
 /// The lines of desks after a run: a line for each desk, counted from 1, and whether all exports
-/// are equal.
-pub(crate) fn ends_of(alloc: Global, desks: &[Holdings]) -> Result<Vec<RehearsalLine>, Memory>
-    requires { length desks.now ≤ 9 }
-    ensures { IfOk result (λ lines. HasEnds (map state_of desks.now) lines.items) }
+/// are equal. Each desk is freed as it is exported.
+pub(crate) fn ends_of(alloc: Global, desks: Vec<Holdings>) -> Result<Vec<RehearsalLine>, Memory>
+    requires { length desks.items ≤ 9 }
+    ensures { IfOk result (λ lines. HasEnds (map state_of desks.items) lines.items) }
 {
     // No effect at run time. The borrow checker learns from these uses which types a line contains.
     let _fault: Option<DeskFault> = None;
     let _export: Option<ExportFault> = None;
-    let outcomes = exports_of(alloc, desks)?;
     let mut lines = Vec::new(alloc);
-    add_lines(&mut lines, 1, desks, &outcomes)?;
+    let mut outcomes = Vec::new(alloc);
+    for desk in desks {
+        let (line, outcome) = end_of(alloc, lines.len() + 1, desk)?;
+        lines.push(line)?;
+        outcomes.push(outcome)?;
+    }
     lines.push(verdict(&outcomes))?;
     Ok(lines)
 }

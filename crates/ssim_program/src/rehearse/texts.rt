@@ -59,6 +59,7 @@ pub(crate) fn load_steps<S: Store>(
     store: &mut S,
 ) -> Result<(usize, Vec<Step>), Refusal>
     ensures ok { IfOk result (λ run. HasSteps (S.files store.old) script.now run.0 run.1.items) }
+    ensures least { IfOk result (λ run. 0 < run.0) }
     ensures most { IfOk result (λ run. run.0 ≤ 9) }
     ensures in_range { IfOk result (λ run. All (IsInRange run.0) run.1.items) }
     ensures err { IfErr result (RefusesSteps (S.files store.old) script.now) }

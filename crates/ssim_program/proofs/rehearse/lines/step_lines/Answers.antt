@@ -20,5 +20,5 @@ step_line-requires-clause-desk c =
 pub loop-place-preserved : goal.loop-place-preserved
 loop-place-preserved c =
     let k = c.loop-place.place in let s = c.index-steps-place.result in let a = c.index-answers-place.result in
-    lines_next c.args.empty.now.base c.args.steps.now c.args.answers.now k s a c.loop-place.lines.items _ c.in_ok-step_line.field-0 c.loop-place-test.true
+    lines_next c.args.any.now.base c.args.steps.now c.args.answers.now k s a c.loop-place.lines.items _ c.in_ok-step_line.field-0 c.loop-place-test.true
     (subst (λ n. k < n) (sym c.requires.count) c.loop-place-test.true) c.index-steps-place.is c.index-answers-place.is c.loop-place.invariant c.in_ok-step_line.ensures c.in_ok-push.ensures.items
