@@ -459,8 +459,8 @@ pub rest-fails : (r : Reading) (old mid new : ℕ) (f : RecordFault) → mid ≡
 rest-fails r old mid new (Short n) same h = absurd h
 rest-fails r old mid new (BadType n) same h = absurd h
 rest-fails r old mid new (BadColumn n column) same h = absurd h
-rest-fails r old mid new (ReadFault n) same h = h ∙ ap (λ k. (k + 1) % 2 ^ 64) same
-rest-fails r old mid new (ReaderNeverEnds n) same h = h.0 ∙ same
+rest-fails r old mid new (ReadFault n) same h = h.1 ∙ ap (λ k. (k + 1) % 2 ^ 64) same
+rest-fails r old mid new (ReaderNeverEnds n) same h = h.1 ∙ same
 
 -- a fault of the rest: how many bytes came
 pub rest-ends : (limit : ℕ) (told left left' : Option (List ℕ)) (start mid now came : ℕ) (r : Reading) (old new : ℕ) (f : RecordFault) → r.limit ≡ limit → Came told left start mid came → CameOn left left' came r.came
@@ -470,7 +470,7 @@ rest-ends limit told left left' start mid now came r old new (BadType n) same c 
 rest-ends limit told left left' start mid now came r old new (BadColumn n column) same c on counts h = tt
 rest-ends limit told left left' start mid now came r old new (ReadFault n) same c on counts h = tt
 rest-ends limit told left left' start mid now came r old new (ReaderNeverEnds n) same c on counts h =
-    subst (Came told left' start now) (h.1 ∙ ap (λ k. k + 1) same) (came-then told left left' start mid now came r.came c on counts)
+    subst (Came told left' start now) (h.2 ∙ ap (λ k. k + 1) same) (came-then told left left' start mid now came r.came c on counts)
 
 -- a fault of the rest says nothing of the bytes
 pub rest-other : (limit : ℕ) (told : Option (List ℕ)) (r : Reading) (old new : ℕ) (f : RecordFault) → RestFails r old new (Err f) → RefusesWhole limit told (Read f)

@@ -103,9 +103,6 @@ pub record IsLeft (bytes rest : List ℕ) (count : ℕ) (earlier : List Record) 
   pub only : (records : List Record) (tail : List ℕ) → bytes ≡ saved records ++ tail → length records ≡ count → Completes [] records
       → (later : List Record) × (rest ≡ saved later ++ tail) × (length earlier + length later ≡ count) × Completes earlier later
 
-pub left-first : (bytes : List ℕ) (count : ℕ) → IsLeft bytes bytes count []
-left-first bytes count = record { whole = λ later tail e c. (e, c); only = λ records tail e n c. (records, e, omega (arith, n), c) }
-
 -- the lines of a record and others
 first-line : (x : Record) (more : List Record) (tail : List ℕ) → saved (x ∷ more) ++ tail ≡ (written x ++ 10 ∷ []) ++ (saved more ++ tail)
 first-line x more tail = append_assoc (written x ++ 10 ∷ []) (saved more) tail
@@ -212,14 +209,6 @@ line-whole r bytes block after rest end first second cut lf is bare same = recor
       sym (take-append-drop 200 bytes) ∙ ap (λ xs. xs ++ drop 200 bytes) (sym first ∙ same) ∙ ap (λ xs. written r ++ xs) (sym second ∙ cut ∙ ap (λ n. n ∷ rest) lf)
       ∙ sym (append_assoc (written r) (10 ∷ []) rest);
 }
-
--- a line is not empty
-pub line-after : (r : Record) (bytes rest : List ℕ) → IsLine r bytes rest → length rest < length bytes
-line-after r bytes rest line =
-    let whole = ap length line.written_is in
-    let one = length-append (written r ++ 10 ∷ []) rest in
-    let two = length-append (written r) (10 ∷ []) in
-    omega (arith, whole, one, two)
 
 -- ---- the next record, and the end
 

@@ -121,14 +121,15 @@ NeverEnds new (Err (ReaderNeverEnds n)) = (new.came ≡ new.limit + 1) × (lengt
 NeverEnds new (Err fault) = Unit {0}
 
 -- The reader's failures are counted while the rest is skipped: one more if the fault is 13, else
--- none. If the fault is 14, one byte more came than the limit. There is no other fault.
+-- none. If the fault is 14, one byte more came than the limit. There is no other fault, and it names
+-- the record after those that were counted.
 abbrev pub RestFails : Reading → ℕ → ℕ → Result ⊤ RecordFault → Type 0
 RestFails r old new (Ok x) = new ≡ old
 RestFails r old new (Err (Short n)) = ⊥
 RestFails r old new (Err (BadType n)) = ⊥
 RestFails r old new (Err (BadColumn n column)) = ⊥
-RestFails r old new (Err (ReadFault n)) = new ≡ (old + 1) % 2 ^ 64
-RestFails r old new (Err (ReaderNeverEnds n)) = (new ≡ old) × (r.came ≡ r.limit + 1)
+RestFails r old new (Err (ReadFault n)) = (n ≡ r.number + 1) × (new ≡ (old + 1) % 2 ^ 64)
+RestFails r old new (Err (ReaderNeverEnds n)) = (n ≡ r.number + 1) × (new ≡ old) × (r.came ≡ r.limit + 1)
 
 -- what each call returns after the end
 abbrev pub last_answer : Ending → Answer

@@ -295,9 +295,11 @@ impl Records {
     }
 
     /// Fetches the bytes that are left, and uses neither these nor those that are held. 13 is
-    /// returned if the reader failed, 14 if more bytes came than the limit.
+    /// returned if the reader failed, 14 if more bytes came than the limit; both name the record
+    /// after those that were counted.
     pub fn skip_rest<R: Source>(&mut self, reader: &mut R) -> Result<(), RecordFault>
         ensures limit { self.new.limit ≡ self.old.limit }
+        ensures number { self.new.number ≡ self.old.number }
         ensures end { OnOk result (IsAtEnd (R.left reader.new) × (self.new.came ≤ self.new.limit)) }
         ensures fault { RestFails self.new (R.failures reader.old) (R.failures reader.new) result }
 

@@ -111,10 +111,7 @@ fn read_lines<R: Source>(
 {
     match count {
         Some(lines) => read_saved(alloc, lines, input, reader),
-        None => {
-            read_saved(alloc, usize::MAX, input, reader)?;
-            Err(SavedFault::Invalid(input.used()))
-        }
+        None => read_saved(alloc, usize::MAX, input, reader),
     }
 }
 
