@@ -18,7 +18,6 @@ use Rattle.ssim_base.specs.Base.{airline_of, carrier_end, closed, end_of, is_leg
 use Rattle.ssim_base.specs.Base as base
 use Rattle.ssim_base.specs.BaseSeen.{is_leg_of}
 use Rattle.ssim_base.specs.internal.Acceptance.{AreLegs, Follows, HasAccepted, IsExpectedAfter, AcceptsLeg, AcceptsNext, gives}
-use Rattle.ssim_base.specs.internal.AcceptedRecords.{AddsRecord}
 use Rattle.ssim_base.specs.internal.LegTable.{AddsLegAt, has_legs, legs_at, names_leg, uses_date}
 use Rattle.ssim_base.specs.ReadBack.{place_of}
 use Rattle.ssim_base.specs.Timetable.{period_of, same_flight, same_name}
@@ -122,11 +121,11 @@ legs-same old new k earlier legs same unnamed none other = subst (λ t. AreLegs 
 -- ---- the record is allowed
 
 -- a record that gives no leg
-kept-other : (old new : Acceptance) (k : Record) (earlier : List Record) → HasAccepted old earlier → AddsRecord old.records new.records (k) → IsExpectedAfter new.expected (k ∷ earlier)
-    → new.legs ≡ old.legs → ((n : Name) → is_leg_named n k ≡ false) → ((f : FlightNumber) (s n : ℕ) → gives f s n k ≡ false) → ((f : FlightNumber) → is_leg_of f k ≡ false)
+kept-other : (old new : Acceptance) (k : Record) (earlier : List Record) → HasAccepted old earlier
+    → IsExpectedAfter new.expected (k ∷ earlier) → new.legs ≡ old.legs
+    → ((n : Name) → is_leg_named n k ≡ false) → ((f : FlightNumber) (s n : ℕ) → gives f s n k ≡ false) → ((f : FlightNumber) → is_leg_of f k ≡ false)
     → HasAccepted new (k ∷ earlier)
-kept-other old new k earlier is records at legs unnamed none other = record {
-  records = records earlier is.records;
+kept-other old new k earlier is at legs unnamed none other = record {
   is_expected = at;
   legs = legs-same old.legs new.legs k earlier is.legs legs unnamed none other;
 }
@@ -134,17 +133,24 @@ kept-other old new k earlier is records at legs unnamed none other = record {
 abbrev pub kept_carrier : CarrierFields → Record
 kept_carrier r = Carrier (record r { serial = 0 })
 
-pub stood-carrier : (old new : Acceptance) (heading : CarrierTerms) (r : CarrierFields) (earlier : List Record) → old.expected ≡ expected.Carrier → HasAccepted old earlier
-    → AddsRecord old.records new.records (kept_carrier r) → new.expected ≡ expected.Legs heading → heading.airline ≡ r.airline → heading.end ≡ end_of r
-    → new.legs ≡ old.legs → AcceptsNext new earlier (Carrier r)
-stood-carrier old new heading r earlier before is records at airline end legs = by earlier is (subst (λ p. IsExpectedAfter p earlier) before is.is_expected)
+pub stood-carrier : (old new : Acceptance) (heading : CarrierTerms) (r : CarrierFields)
+    (closed' : Record) (earlier : List Record)
+    → old.expected ≡ expected.Carrier → HasAccepted old earlier → closed' ≡ kept_carrier r
+    → new.expected ≡ expected.Legs heading → heading.airline ≡ r.airline → heading.end ≡ end_of r
+    → new.legs ≡ old.legs → AcceptsNext new earlier (Carrier r) closed'
+stood-carrier old new heading r closed' earlier before is same at airline end legs =
+    by earlier is (subst (λ p. IsExpectedAfter p earlier) before is.is_expected)
   where
-    by : (e : List Record) → HasAccepted old e → IsExpectedAfter expected.Carrier e → AcceptsNext new e (Carrier r)
+    by : (e : List Record) → HasAccepted old e → IsExpectedAfter expected.Carrier e
+        → AcceptsNext new e (Carrier r) closed'
     by [] is alone = absurd alone
     by (x ∷ []) is alone = record {
       valid = refl;
+      closed_is = same;
       is_kept =
-          kept-other old new (kept_carrier r) (x ∷ []) is records (subst (λ p. IsExpectedAfter p (kept_carrier r ∷ x ∷ [])) (sym at) (refl, airline, end)) legs (λ n. refl) (λ f s n. refl) (λ f. refl);
+          kept-other old new (kept_carrier r) (x ∷ []) is
+          (subst (λ p. IsExpectedAfter p (kept_carrier r ∷ x ∷ [])) (sym at) (refl, airline, end))
+          legs (λ n. refl) (λ f s n. refl) (λ f. refl);
     }
     by (x ∷ y ∷ e) is alone = absurd alone
 
@@ -174,18 +180,21 @@ more-follow (x ∷ y ∷ e) k ended f is = is
 abbrev pub kept_segment : SegmentFields → Record
 kept_segment r = Segment (record r { overflow = 32; serial = 0 })
 
-pub stood-segment : (old new : Acceptance) (heading : CarrierTerms) (r : SegmentFields) (earlier : List Record) → old.expected ≡ expected.Legs heading → HasAccepted old earlier
-    → AddsRecord old.records new.records (kept_segment r) → new.expected ≡ expected.Legs heading → new.legs ≡ old.legs
+pub stood-segment : (old new : Acceptance) (heading : CarrierTerms) (r : SegmentFields)
+    (closed' : Record) (earlier : List Record)
+    → old.expected ≡ expected.Legs heading → HasAccepted old earlier → closed' ≡ kept_segment r
+    → new.expected ≡ expected.Legs heading → new.legs ≡ old.legs
     → bytes_eq r.name.airline heading.airline ≡ true → is_overflow r.overflow ≡ false → IsFlight r.name.flight → names_leg (legs_at old.legs (place_of r.name.flight)) r.name.sequence r.name.variation ≡ true
-    → AcceptsNext new earlier (Segment r)
-stood-segment old new heading r earlier before is records at legs airline blank flight named =
+    → AcceptsNext new earlier (Segment r) closed'
+stood-segment old new heading r closed' earlier before is same at legs airline blank flight named =
     let here : IsExpectedAfter (expected.Legs heading) earlier = subst (λ p. IsExpectedAfter p earlier) before is.is_expected in
     let own : bytes_eq r.name.airline (airline_of earlier) ≡ true = ap (bytes_eq r.name.airline) (sym here.1) ∙ airline in
     let found : list_any (is_leg_named r.name) earlier ≡ true = sym (is.legs.named r.name flight) ∙ named in
     record {
       valid = rw (legs-follow earlier here.0 (Segment r) refl, own, blank, found) refl;
+      closed_is = same;
       is_kept =
-          kept-other old new (kept_segment r) earlier is records
+          kept-other old new (kept_segment r) earlier is
           (subst (λ p. IsExpectedAfter p (kept_segment r ∷ earlier)) (sym at) (more-follow earlier (kept_segment r) false here.0 refl, here.1, here.2)) legs (λ n. refl) (λ f s n. refl) (λ f. refl);
     }
 
@@ -201,16 +210,20 @@ segment-refused old heading r earlier before is airline blank flight named =
 abbrev pub kept_trailer : TrailerFields → Record
 kept_trailer r = Trailer (record r { check = 0; serial = 0 })
 
-pub stood-trailer : (old new : Acceptance) (heading : CarrierTerms) (r : TrailerFields) (earlier : List Record) → old.expected ≡ expected.Legs heading → HasAccepted old earlier
-    → AddsRecord old.records new.records (kept_trailer r) → new.expected ≡ expected.End → new.legs ≡ old.legs
-    → bytes_eq r.airline heading.airline ≡ true → is_continued r.code ≡ false → AcceptsNext new earlier (Trailer r)
-stood-trailer old new heading r earlier before is records at legs airline code =
+pub stood-trailer : (old new : Acceptance) (heading : CarrierTerms) (r : TrailerFields)
+    (closed' : Record) (earlier : List Record)
+    → old.expected ≡ expected.Legs heading → HasAccepted old earlier → closed' ≡ kept_trailer r
+    → new.expected ≡ expected.End → new.legs ≡ old.legs
+    → bytes_eq r.airline heading.airline ≡ true → is_continued r.code ≡ false
+    → AcceptsNext new earlier (Trailer r) closed'
+stood-trailer old new heading r closed' earlier before is same at legs airline code =
     let here : IsExpectedAfter (expected.Legs heading) earlier = subst (λ p. IsExpectedAfter p earlier) before is.is_expected in
     let own : bytes_eq r.airline (airline_of earlier) ≡ true = ap (bytes_eq r.airline) (sym here.1) ∙ airline in
     record {
       valid = rw (legs-follow earlier here.0 (Trailer r) refl, own, code) refl;
+      closed_is = same;
       is_kept =
-          kept-other old new (kept_trailer r) earlier is records
+          kept-other old new (kept_trailer r) earlier is
           (subst (λ p. IsExpectedAfter p (kept_trailer r ∷ earlier)) (sym at) (more-follow earlier (kept_trailer r) true here.0 refl)) legs (λ n. refl) (λ f s n. refl) (λ f. refl);
     }
 
@@ -251,18 +264,20 @@ leg-allowed old heading r p earlier before is s flight met =
     let free : list_any (overlaps r.name p) earlier ≡ false = sym (overlaps-met old.legs r.name p earlier flight is.legs) ∙ met in
     own-leg heading r p earlier here s ∙ rw free refl
 
-pub stood-leg : (old new : Acceptance) (heading : CarrierTerms) (r : LegFields) (p : DayRange) (earlier : List Record) → old.expected ≡ expected.Legs heading → HasAccepted old earlier → AcceptsLeg heading r p
+pub stood-leg : (old new : Acceptance) (heading : CarrierTerms) (r : LegFields) (p : DayRange)
+    (closed' : Record) (earlier : List Record)
+    → old.expected ≡ expected.Legs heading → HasAccepted old earlier → AcceptsLeg heading r p
     → IsFlight r.name.flight → have_common_date (holds p) (uses_date (legs_at old.legs (place_of r.name.flight)) r.name.sequence) ≡ false
-    → AddsRecord old.records new.records (Leg (kept_leg r p.last)) → new.expected ≡ expected.Legs heading
+    → closed' ≡ Leg (kept_leg r p.last) → new.expected ≡ expected.Legs heading
     → AddsLegAt old.legs new.legs (place_of r.name.flight) r.name.sequence r.name.variation p
-    → AcceptsNext new earlier (Leg r)
-stood-leg old new heading r p earlier before is s flight met records at legs =
+    → AcceptsNext new earlier (Leg r) closed'
+stood-leg old new heading r p closed' earlier before is s flight met same at legs =
     let here : IsExpectedAfter (expected.Legs heading) earlier = subst (λ q. IsExpectedAfter q earlier) before is.is_expected in
     let end : p.last ≡ unwrap_or r.last (carrier_end earlier) = s.last_is ∙ ap (unwrap_or r.last) here.2 in
     record {
       valid = leg-allowed old heading r p earlier before is s flight met;
+      closed_is = same ∙ ap (λ l. Leg (kept_leg r l)) end;
       is_kept = subst (λ l. HasAccepted new (Leg (kept_leg r l) ∷ earlier)) end (record {
-        records = records earlier is.records;
         is_expected = subst (λ q. IsExpectedAfter q (Leg (kept_leg r p.last) ∷ earlier)) (sym at) (more-follow earlier (Leg (kept_leg r p.last)) false here.0 refl, here.1, here.2);
         legs = legs-more old.legs new.legs (kept_leg r p.last) earlier flight is.legs
             (subst (λ q. AddsLegAt old.legs new.legs (place_of r.name.flight) r.name.sequence r.name.variation q) (its-period heading r p s) legs);

@@ -5,8 +5,8 @@ use Rattle.ssim_records.specs.declared.fault.RecordFault.{RecordFault}
 use Rattle.ssim_base.specs.Base.{refusal_at}
 use Rattle.ssim_records.specs.Record.{Spells, fault_of}
 use Rattle.ssim_base.specs.Problems.{Alone, After, Item, Says, Standing, alone_refusal, after_invalid, after_item, is_at_heading, numbered, problem_in}
-use Rattle.ssim_base.specs.internal.Acceptance.{AcceptsNext, HasAccepted, IsLeft, IsRefused, Stays}
-use Rattle.ssim_base.specs.internal.Problems.{Finds, Passes, Stands, after_any_invalid, listed}
+use Rattle.ssim_base.specs.internal.Acceptance.{Accepts, HasAccepted, IsLeft, IsRefused, Stays}
+use Rattle.ssim_base.specs.internal.Problems.{Finds, Passes, Stands, listed}
 use Rattle.ssim_base.specs.declared.data_set.acceptance.Acceptance.{Acceptance}
 use Rattle.ssim_base.specs.declared.fault.BaseFault.{BaseFault}
 use Rattle.ssim_base.specs.declared.fault.BaseFault.TheVariants as fault
@@ -44,10 +44,12 @@ found-alone old new number one problem same alone is Alone stands = (ap (λ c. c
 found-alone old new number one problem same alone is (After earlier) stands = absurd (true≢false (sym alone ∙ stands.0))
 
 -- a record is valid after those before it
-pub found-none : (old new : Checks) (number : ℕ) (one : Record) → old.alone ≡ false → new.alone ≡ false
-    → ((earlier : List Record) → HasAccepted old.accepted earlier → AcceptsNext new.accepted earlier one) → Finds old new number one None
-found-none old new number one alone still accepts Alone stands = absurd (true≢false (sym stands ∙ alone))
-found-none old new number one alone still accepts (After earlier) stands =
+pub found-none : (old new : Checks) (number : ℕ) (one closed : Record)
+    → old.alone ≡ false → new.alone ≡ false → Accepts old.accepted new.accepted one closed
+    → Finds old new number one None
+found-none old new number one closed alone still accepts Alone stands =
+    absurd (true≢false (sym stands ∙ alone))
+found-none old new number one closed alone still accepts (After earlier) stands =
     let a = accepts earlier stands.1 in
     rw a.valid ((still, a.is_kept), refl)
 

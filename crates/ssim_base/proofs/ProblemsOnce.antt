@@ -1,10 +1,9 @@
 -- The same bytes have the same problems: they have one list of blocks, each of which says one thing.
-use Rattle.std.proofs.Common.{◌≡◌, ◌∙◌, ℕ, ◌+◌, false, List, [], ◌∷◌, ◌++◌, length, Some, None, Ok, Err, refl, sym, ap, ap₂, subst}
+use Rattle.std.proofs.Common.{◌≡◌, ◌∙◌, ℕ, ◌+◌, false, List, [], ◌∷◌, ◌++◌, length, Some, Ok, Err, refl, sym, ap, ap₂, subst}
 use Rattle.std.specs.List.{list_any}
 use Rattle.ssim_records.specs.Frames.{FramesAreOne, others}
-use Rattle.ssim_records.specs.Record.{fault_of}
 use Rattle.ssim_records.proofs.AnyRecord.{no_fault, one_record}
-use Rattle.ssim_base.specs.Problems.{AreItems, AreProblems, After, Item, SameBytesSameProblems, Says, begins_as_trailer, end_problem, problems_in, standing_after}
+use Rattle.ssim_base.specs.Problems.{AreItems, After, Item, SameBytesSameProblems, Says, begins_as_trailer, end_problem, problems_in, standing_after}
 use Rattle.ssim_base.specs.declared.fault.BaseFault.{BaseFault}
 
 says-once : (number : ℕ) (block : List ℕ) (i j : Item) → Says number block i → Says number block j → i ≡ j

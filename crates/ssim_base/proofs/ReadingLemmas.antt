@@ -53,10 +53,12 @@ all-one x h zero d below = h
 all-one x h (suc k) d below = absurd (omega (arith, below))
 
 -- one record more was read
-pub one-more : (old new : DataSetReader) (earlier : List Record) (done : List Numbered) (x : Numbered) → IsSoFar old earlier done → AcceptsNext new.kept earlier x.1
+pub one-more : (old new : DataSetReader) (earlier : List Record) (done : List Numbered)
+    (x : Numbered) (closed : Record) → IsSoFar old earlier done
+    → AcceptsNext new.kept earlier x.1 closed
     → new.notes.items ≡ old.notes.items ++ notes_at x.0 old.previous x.1 → new.previous ≡ serial_of x.1 → IsRecord x.1
     → IsSoFar new (kept earlier x.1 ∷ earlier) (done ++ x ∷ [])
-one-more old new earlier done x so_far stood notes previous is = record {
+one-more old new earlier done x closed so_far stood notes previous is = record {
   is_kept = stood.is_kept;
   records = All-append (λ r. IsRecord r.1) done (x ∷ []) so_far.records (all-one x is);
   refused = λ ending later.

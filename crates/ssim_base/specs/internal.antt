@@ -2,7 +2,6 @@
 -- has to believe them.
 pub mod Dates
 pub mod LegTable
-pub mod AcceptedRecords
 pub mod Acceptance
 pub mod DataSetReader
 pub mod StationRows

@@ -1,10 +1,10 @@
 //! The records of a base.
 
-ghost use Rattle.std.specs.Prelude.{◌≡◌, ◌↔◌, ℕ, List, Option, IsTrue, IfOk, IfErr, Ok, reverse};
+ghost use Rattle.std.specs.Prelude.{◌≡◌, ◌↔◌, ℕ, List, Option, IsTrue, IfOk, IfErr, Ok};
 ghost use Rattle.std.specs.List.{All};
 ghost use Rattle.ssim_records.specs.declared.record.Record.{Record};
 ghost use Rattle.ssim_base.specs.Base.{airline_of};
-ghost use Rattle.ssim_base.specs.BaseSeen.{AreFlights};
+ghost use Rattle.ssim_base.specs.BaseSeen.{AreFlights, WasRead};
 ghost use Rattle.ssim_base.specs.Closed.{IsClosed};
 ghost use Rattle.ssim_base.specs.ReadBack.{AreInOrder, CanExport, HasFrame};
 ghost use Rattle.ssim_base.specs.Reading.{Came, FailsAfter, FailsAs, IsReadOf, IsWholeOf, NeverEnds, RefusesWhole};
@@ -14,13 +14,11 @@ ghost use Rattle.ssim_base.specs.SavedBase.{IsBaseRecords};
 ghost use Rattle.ssim_base.specs.Timetable.{days_of};
 
 pub(crate) mod acceptance;
-pub(crate) mod accepted_records;
 pub(crate) mod reader;
+pub(crate) mod record_sink;
 pub(crate) mod saved_lines;
 
 use crate::base_frame::BaseFrame;
-use crate::data_set::acceptance::Acceptance;
-use crate::data_set::accepted_records::AcceptedRecords;
 use crate::data_set::reader::{DataSetReader, read_records, read_whole};
 use crate::fault::BaseFault;
 use crate::note::Note;
@@ -54,9 +52,7 @@ impl Model for DataSet {
 }
 
 impl DataSet {
-    ghost use Rattle.ssim_base.specs.internal.DataSetReader.{HasRead, IsWhole};
-    ghost use Rattle.ssim_base.specs.internal.Acceptance.{HasAccepted, IsWholeBase};
-    ghost use Rattle.ssim_base.specs.internal.AcceptedRecords.{InList, keeps};
+    ghost use Rattle.ssim_base.specs.internal.DataSetReader.{HasRead, IsListOf, IsWhole};
 
     /// Reads a data set, record by record, and its reader to the end. At most `limit` bytes and one
     /// more are fetched. The refusals are those of `Base::read`. But if the reader fails after the
@@ -68,9 +64,9 @@ impl DataSet {
         ensures failure { IfErr result (λ e. FailsAs (R.failures reader.old) (R.failures reader.new) e) }
         ensures never_ends { IfErr result (λ e. NeverEnds limit (Came (R.left reader.old) (R.left reader.new) (R.came reader.old) (R.came reader.new)) e) }
     {
-        let records = AcceptedRecords::Kept(Vec::new(alloc));
-        let (records_read, number) = read_whole(alloc, records, reader, limit)?;
-        let (data_set, _) = DataSet::finish(alloc, records_read, number)?;
+        let mut records = Vec::new(alloc);
+        let (records_read, number) = read_whole(alloc, &mut records, reader, limit)?;
+        let (data_set, _) = DataSet::finish(alloc, records, records_read, number)?;
         Ok(data_set)
     }
 
@@ -86,22 +82,24 @@ impl DataSet {
         ensures fails_after { IfErr result (λ e. FailsAfter (R.left reader.old) (R.left reader.new) e) }
         ensures never_ends { IfErr result (λ e. NeverEnds limit (Came (R.left reader.old) (R.left reader.new) (R.came reader.old) (R.came reader.new)) e) }
     {
-        let records = AcceptedRecords::Kept(Vec::new(alloc));
+        let mut records = Vec::new(alloc);
         let mut blocks = Records::new(limit);
-        let (records_read, number) = read_records(alloc, records, &mut blocks, reader)?;
-        DataSet::finish(alloc, records_read, number)
+        let (records_read, number) = read_records(alloc, &mut records, &mut blocks, reader)?;
+        DataSet::finish(alloc, records, records_read, number)
     }
 
     // The data set of the records that were read, and the notes; an error if a record is missing at
     // the end.
     fn finish(
         alloc: Global,
+        records: Vec<Record>,
         records_read: DataSetReader,
         number: u64,
     ) -> Result<(DataSet, Vec<Note>), BaseFault>
-        requires whole { IsWhole records_read }
-        requires keeps { keeps records_read.kept.records ≡ InList }
-        ensures read { (limit : ℕ) (known : Option (List ℕ)) → HasRead limit known records_read number → ReturnsAs (λ read. (read.0, read.1.items)) result (IsReadOf limit known) }
+        requires { IsWhole (IsListOf records.items) records_read }
+        ensures read { (limit : ℕ) (known : Option (List ℕ))
+            → HasRead limit known (IsListOf records.items) records_read number
+            → ReturnsAs (λ read. (read.0, read.1.items)) result (IsReadOf limit known) }
         ensures failure { (n : ℕ) → IfErr result (λ e. FailsAs n n e) }
         ensures fails_after { (all left : Option (List ℕ)) → IfErr result (λ e. FailsAfter all left e) }
         ensures never_ends { (limit old new : ℕ) (left others : Option (List ℕ)) → IfErr result (λ e. NeverEnds limit (Came left others old new) e) }
@@ -110,27 +108,25 @@ impl DataSet {
         if let Some(refusal) = kept.missing() {
             return Err(BaseFault::Refused(number, refusal));
         }
-        let data_set = DataSet::of_kept(alloc, kept)?;
-        Ok((data_set, notes))
+        let flights = kept.flights()?;
+        Ok((DataSet::of_base(alloc, records, flights), notes))
     }
 
-    /// The data set of the stored records, which are the records of a base.
-    pub(crate) fn of_kept(alloc: Global, kept: Acceptance) -> Result<DataSet, Memory>
-        requires whole { IsWholeBase kept }
-        requires keeps { keeps kept.records ≡ InList }
-        ensures records { (earlier : List Record) → HasAccepted kept earlier → IfOk result (λ read. read ≡ reverse earlier) }
+    /// The data set of these records, which are the records of a base, and the flights of its legs.
+    pub(crate) fn of_base(alloc: Global, records: Vec<Record>, flights: Vec<Flight>) -> DataSet
+        requires was_read { WasRead records.items }
+        requires flights { AreFlights records.items flights.items }
+        ensures { result ≡ records.items }
     {
-        let flights = kept.legs.flights()?;
-        let records = kept.records.into_list();
         let header = &records[0];
         let carrier = &records[1];
         let trailer = &records[records.len() - 1];
         let frame = BaseFrame::of(alloc, header, carrier, trailer);
-        Ok(DataSet {
+        DataSet {
             records,
             frame,
             flights,
-        })
+        }
     }
 
     /// The same data set.

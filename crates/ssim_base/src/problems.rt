@@ -8,7 +8,6 @@ ghost use Rattle.ssim_base.specs.internal.Problems.{Finds, IsNew, Passes, Stands
 ghost use Rattle.ssim_base.specs.internal.Reading.{is_of_bytes};
 
 use crate::data_set::acceptance::{Acceptance, alone_refusal};
-use crate::data_set::accepted_records::AcceptedRecords;
 use crate::fault::{BaseFault, BaseRefusal};
 use ssim_records::{Record, RecordFault, RecordReader, Records, Source, frames_are_one};
 use ssim_values::Memory;
@@ -78,7 +77,7 @@ impl ProblemReader {
     {
         ProblemReader {
             checks: Checks {
-                accepted: Acceptance::new(alloc, AcceptedRecords::Count(0)),
+                accepted: Acceptance::new(alloc),
                 alone: false,
             },
             trailer: false,
@@ -152,7 +151,7 @@ impl ProblemReader {
 /// The check of each record: after the valid ones before it, or by itself.
 #[derive(Drop)]
 pub(crate) struct Checks {
-    /// The valid records so far.
+    /// The check against the valid records so far.
     pub accepted: Acceptance,
     /// Whether the header or the carrier record is invalid.
     pub alone: bool,

@@ -4,7 +4,6 @@ ghost use Rattle.std.specs.Prelude.{◌≡◌, ℕ, List, Option, IfOk, IfErr};
 ghost use Rattle.ssim_base.specs.Reading.{Came, FailsAs, NeverEnds, RefusesWhole};
 ghost use Rattle.ssim_base.specs.Summary.{IsSummary};
 
-use crate::data_set::accepted_records::AcceptedRecords;
 use crate::data_set::reader::{DataSetReader, read_whole};
 use crate::fault::BaseFault;
 use crate::note::Note;
@@ -24,7 +23,7 @@ pub struct Summary {
 }
 
 impl Summary {
-    ghost use Rattle.ssim_base.specs.internal.DataSetReader.{HasRead, IsWhole};
+    ghost use Rattle.ssim_base.specs.internal.DataSetReader.{HasRead, IsCountOf, IsWhole};
 
     /// Reads what a data set has, record by record, and its reader to the end. At most `limit` bytes
     /// and one more are fetched. The refusals are those of `DataSet::read`.
@@ -35,15 +34,24 @@ impl Summary {
         ensures failure { IfErr result (λ e. FailsAs (R.failures reader.old) (R.failures reader.new) e) }
         ensures never_ends { IfErr result (λ e. NeverEnds limit (Came (R.left reader.old) (R.left reader.new) (R.came reader.old) (R.came reader.new)) e) }
     {
-        let (records_read, number) = read_whole(alloc, AcceptedRecords::Count(0), reader, limit)?;
-        Summary::finish(records_read, number)
+        let mut records = 0;
+        let (records_read, number) = read_whole(alloc, &mut records, reader, limit)?;
+        Summary::finish(records, records_read, number)
     }
 
     // The summary of the records that were read; an error if a record is missing at the end.
-    fn finish(records_read: DataSetReader, number: u64) -> Result<Summary, BaseFault>
-        requires { IsWhole records_read }
-        ensures sums { (limit : ℕ) (known : Option (List ℕ)) → HasRead limit known records_read number → IfOk result (IsSummary limit known) }
-        ensures refused { (limit : ℕ) (known : Option (List ℕ)) → HasRead limit known records_read number → IfErr result (RefusesWhole limit known) }
+    fn finish(
+        records: usize,
+        records_read: DataSetReader,
+        number: u64,
+    ) -> Result<Summary, BaseFault>
+        requires { IsWhole (IsCountOf records) records_read }
+        ensures sums { (limit : ℕ) (known : Option (List ℕ))
+            → HasRead limit known (IsCountOf records) records_read number
+            → IfOk result (IsSummary limit known) }
+        ensures refused { (limit : ℕ) (known : Option (List ℕ))
+            → HasRead limit known (IsCountOf records) records_read number
+            → IfErr result (RefusesWhole limit known) }
         ensures failure { (n : ℕ) → IfErr result (λ e. FailsAs n n e) }
         ensures never_ends { (limit old new : ℕ) (left others : Option (List ℕ)) → IfErr result (λ e. NeverEnds limit (Came left others old new) e) }
     {
@@ -51,9 +59,9 @@ impl Summary {
         if let Some(refusal) = kept.missing() {
             return Err(BaseFault::Refused(number, refusal));
         }
-        let flights = kept.legs.flights()?;
+        let flights = kept.flights()?;
         Ok(Summary {
-            records: kept.records.len(),
+            records,
             flights: flights.len(),
             notes,
         })

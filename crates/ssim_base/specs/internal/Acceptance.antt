@@ -1,5 +1,5 @@
 -- What is known of the records that a base has so far, the latest of which comes first.
-use Rattle.std.specs.Prelude.{◌≡◌, ℕ, Bool, true, false, ◌&&◌, nat_eq, nat_lt, unwrap_or, Some, None, List, [], ◌∷◌, reverse}
+use Rattle.std.specs.Prelude.{◌≡◌, ℕ, Bool, true, false, ◌&&◌, nat_eq, nat_lt, unwrap_or, Some, None, List, [], ◌∷◌}
 use Rattle.std.specs.List.{list_any}
 use Rattle.std.specs.Str.{bytes_eq}
 use Rattle.ssim_values.specs.Flight.{FlightNumber, IsFlight}
@@ -9,8 +9,7 @@ use Rattle.ssim_records.specs.Leg.{LegFields, Name}
 use Rattle.ssim_records.specs.declared.record.Record.{Record}
 use Rattle.ssim_records.specs.declared.record.Record.TheVariants.{Header, Carrier, Leg, Segment, Trailer}
 use Rattle.ssim_base.specs.Base.{airline_of, carrier_end, is_trailer, is_leg_named, is_overflow, is_rate, refusal_at, kept}
-use Rattle.ssim_base.specs.BaseSeen.{WasRead, is_leg_of}
-use Rattle.ssim_base.specs.internal.AcceptedRecords.{AddsRecord, AreAccepted}
+use Rattle.ssim_base.specs.BaseSeen.{is_leg_of}
 use Rattle.ssim_base.specs.internal.LegTable.{has_legs, legs_at, names_leg, uses_date}
 use Rattle.ssim_base.specs.ReadBack.{place_of}
 use Rattle.ssim_base.specs.Timetable.{same_flight, period_of}
@@ -18,7 +17,6 @@ use Rattle.ssim_base.specs.declared.data_set.acceptance.CarrierTerms.{CarrierTer
 use Rattle.ssim_base.specs.declared.data_set.acceptance.Acceptance.{Acceptance}
 use Rattle.ssim_base.specs.declared.data_set.acceptance.Expected.{Expected}
 use Rattle.ssim_base.specs.declared.data_set.acceptance.Expected.TheVariants as expected
-use Rattle.ssim_base.specs.declared.data_set.accepted_records.AcceptedRecords.{AcceptedRecords}
 use Rattle.ssim_base.specs.declared.leg_table.LegTable.{LegTable}
 use Rattle.ssim_base.specs.declared.fault.BaseFault.{BaseFault}
 use Rattle.ssim_base.specs.declared.fault.BaseFault.TheVariants as fault
@@ -58,21 +56,20 @@ pub record AreLegs (table : LegTable) (earlier : List Record) : Type 0 where
 
 -- the state of the checker after these records
 pub record HasAccepted (k : Acceptance) (earlier : List Record) : Type 0 where
-  pub records : AreAccepted k.records earlier
   pub is_expected : IsExpectedAfter k.expected earlier
   pub legs : AreLegs k.legs earlier
 
--- one more record is allowed after the earlier ones, and the new state has it
-pub record AcceptsNext (new : Acceptance) (earlier : List Record) (r : Record) : Type 0 where
+-- one more record is allowed after the earlier ones, the base has it as `closed`, and the new state
+-- has it
+pub record AcceptsNext (new : Acceptance) (earlier : List Record) (r closed : Record) : Type 0 where
   pub valid : refusal_at earlier r ≡ None
+  pub closed_is : closed ≡ kept earlier r
   pub is_kept : HasAccepted new (kept earlier r ∷ earlier)
 
--- A record is accepted and closed: it is allowed after the earlier records, and the new state has
--- it once its closed form is among the stored records.
+-- one more record is accepted after any earlier ones that the old state has
 abbrev pub Accepts : Acceptance → Acceptance → Record → Record → Type 0
-Accepts old new one closed =
-    (earlier : List Record) (records : AcceptedRecords) → HasAccepted old earlier → AddsRecord old.records records closed
-    → AcceptsNext (record { records = records; expected = new.expected; legs = new.legs }) earlier one
+Accepts old new r closed =
+    (earlier : List Record) → HasAccepted old earlier → AcceptsNext new earlier r closed
 
 -- the refusal is the record's own, or memory ran out
 abbrev pub IsRefused : ℕ → List Record → Record → BaseFault → Type 0
@@ -106,9 +103,3 @@ pub record AcceptsLeg (heading : CarrierTerms) (r : LegFields) (period : DayRang
   pub last_is : period.last ≡ unwrap_or r.last heading.end
   pub days_is : period.days ≡ r.days
   pub in_order : nat_lt period.last r.first ≡ false
-
--- the records accepted so far are the records of a base
-pub record IsWholeBase (k : Acceptance) : Type 0 where
-  pub earlier : List Record
-  pub is_kept : HasAccepted k earlier
-  pub was_read : WasRead (reverse earlier)

@@ -1,5 +1,5 @@
 -- What is known of the records of a data set so far.
-use Rattle.std.specs.Prelude.{◌≡◌, ℕ, ◌+◌, not, nat_eq, List, [], ◌++◌, reverse, map, Option, None}
+use Rattle.std.specs.Prelude.{◌≡◌, ℕ, ◌+◌, not, nat_eq, List, [], ◌++◌, reverse, length, map, Option, None}
 use Rattle.std.specs.List.{All}
 use Rattle.ssim_records.specs.Reading.{Reading}
 use Rattle.ssim_records.specs.Record.{IsRecord, serial_of}
@@ -28,16 +28,27 @@ pub record IsSoFar (g : DataSetReader) (earlier : List Record) (done : List (ℕ
   pub kept : (later : List (ℕ × Record)) → kept_all [] (map (λ r. r.1) (done ++ later)) ≡ reverse earlier ++ kept_all earlier (map (λ r. r.1) later)
   pub noted : (later : List (ℕ × Record)) → notes_of 0 (done ++ later) ≡ g.notes.items ++ notes_of g.previous later
 
+-- the list has these records, the latest of which comes first
+abbrev pub IsListOf : List Record → List Record → Type 0
+IsListOf records earlier = records ≡ reverse earlier
+
+-- this is the number of these records
+abbrev pub IsCountOf : ℕ → List Record → Type 0
+IsCountOf count earlier = count ≡ length earlier
+
 -- The records done are those of the bytes before the record with this number. If the bytes are not
--- reported, nothing is said of them.
-pub record HasRead (limit : ℕ) (known : Option (List ℕ)) (g : DataSetReader) (number : ℕ) : Type 0 where
+-- reported, nothing is said of them. `Has` says which records are in a list or counted.
+pub record HasRead (limit : ℕ) (known : Option (List ℕ)) (Has : List Record → Type 0)
+    (g : DataSetReader) (number : ℕ) : Type 0 where
   pub earlier : List Record
   pub done : List (ℕ × Record)
+  pub has : Has earlier
   pub so_far : IsSoFar g earlier done
   pub given : AreGivenOf limit known done (Done number)
 
--- the reader's state is that of some records done
-pub record IsWhole (g : DataSetReader) : Type 0 where
+-- the reader's state is that of some records done, and these are in a list or counted
+pub record IsWhole (Has : List Record → Type 0) (g : DataSetReader) : Type 0 where
   pub earlier : List Record
   pub done : List (ℕ × Record)
+  pub has : Has earlier
   pub so_far : IsSoFar g earlier done

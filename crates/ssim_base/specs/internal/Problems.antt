@@ -1,5 +1,5 @@
 -- What is known of the problems of the records so far.
-use Rattle.std.specs.Prelude.{◌≡◌, ℕ, true, false, List, [], ◌∷◌, ◌++◌, Option, Some, None, Ok, Err}
+use Rattle.std.specs.Prelude.{◌≡◌, ℕ, true, false, List, [], ◌∷◌, ◌++◌, Option, Some, None, Ok}
 use Rattle.ssim_records.specs.declared.record.Record.{Record}
 use Rattle.ssim_base.specs.internal.Acceptance.{HasAccepted}
 use Rattle.ssim_base.specs.Problems.{Alone, After, Item, Says, Standing, after_invalid, after_item, numbered, problem_in, refusal_in}

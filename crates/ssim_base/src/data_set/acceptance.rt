@@ -1,20 +1,19 @@
-//! The records accepted so far, and whether the next one is allowed after them.
+//! The check of each record against those accepted before it.
 
-ghost use Rattle.std.specs.Prelude.{◌≡◌, [], false, List, None, IfErr, IfOk, OnOk};
+ghost use Rattle.std.specs.Prelude.{◌≡◌, [], false, List, None, IfErr, IfOk, OnOk, reverse};
 ghost use Rattle.std.specs.Str.{bytes_eq};
 ghost use Rattle.ssim_records.specs.declared.record.Record.{Record};
 ghost use Rattle.ssim_base.specs.Base.{end_of, is_overflow, is_rate, missing, refusal_at};
+ghost use Rattle.ssim_base.specs.BaseSeen.{AreFlights};
 ghost use Rattle.ssim_base.specs.Problems.{alone_refusal, is_at_heading};
-ghost use Rattle.ssim_base.specs.internal.AcceptedRecords.{AddsRecord, AreAccepted, keeps};
-ghost use Rattle.ssim_base.specs.internal.Acceptance.{Accepts, HasAccepted, IsExpectedAfter, IsRefused, AcceptsLeg, AcceptsNext};
-ghost use Rattle.ssim_base.specs.internal.Acceptance.{IsLeft, Stays, is_next_leg};
+ghost use Rattle.ssim_base.specs.internal.Acceptance.{Accepts, AcceptsLeg, HasAccepted, IsExpectedAfter};
+ghost use Rattle.ssim_base.specs.internal.Acceptance.{IsLeft, IsRefused, Stays, is_next_leg};
 ghost use Rattle.ssim_base.specs.declared.data_set.acceptance.Expected.TheVariants as expected;
 
-use crate::data_set::accepted_records::AcceptedRecords;
 use crate::fault::{BaseFault, BaseRefusal};
 use crate::leg_table::LegTable;
 use ssim_records::{Carrier, EndCode, LegRecord, Record, SegmentRecord, Trailer};
-use ssim_values::{Airline, Day, Memory, Period};
+use ssim_values::{Airline, Day, Flight, Memory, Period};
 use std::alloc::Global;
 
 /// What the carrier record says about the records after it.
@@ -39,34 +38,30 @@ pub(crate) enum Expected {
     End,
 }
 
-/// The records accepted so far, and the state for checking the next one.
+/// The state for checking the next record. The records accepted so far are not stored in it.
 #[derive(Drop)]
 pub(crate) struct Acceptance {
-    pub records: AcceptedRecords,
-    pub expected: Expected,
+    expected: Expected,
     /// What the leg records name, and the dates that they have.
-    pub legs: LegTable,
+    legs: LegTable,
 }
 
 impl Acceptance {
     /// No record.
-    pub(crate) fn new(alloc: Global, records: AcceptedRecords) -> Acceptance
-        requires { AreAccepted records [] }
-        ensures kept { HasAccepted result [] }
-        ensures records { result.records ≡ records }
+    pub(crate) fn new(alloc: Global) -> Acceptance
+        ensures { HasAccepted result [] }
     {
         Acceptance {
-            records,
             expected: Expected::Header,
             legs: LegTable::new(alloc),
         }
     }
 
-    /// Accepts one more record with its number, or refuses it. The record may be changed.
+    /// Accepts one more record with its number, or refuses it. An accepted record becomes the
+    /// record as the base has it.
     #[inline(always)]
     pub(crate) fn put(&mut self, number: u64, one: &mut Record) -> Result<(), BaseFault>
-        ensures accepted { OnOk result ((earlier : List Record) → HasAccepted self.old earlier → AcceptsNext self.new earlier one.old) }
-        ensures keeps { OnOk result (keeps self.new.records ≡ keeps self.old.records) }
+        ensures accepts { OnOk result (Accepts self.old self.new one.old one.new) }
         ensures err { IfErr result (λ e. (earlier : List Record) → HasAccepted self.old earlier → IsRefused number earlier one.old e) }
         ensures stays { IfErr result (Stays (is_next_leg self.old.expected one.old) self.old self.new) }
     {
@@ -78,8 +73,7 @@ impl Acceptance {
         }
     }
 
-    // Accepts a record after the carrier, or refuses it. A leg and a segment are closed in place
-    // and then copied.
+    // Accepts a record after the carrier, or refuses it.
     #[inline(always)]
     fn put_next(
         &mut self,
@@ -88,27 +82,24 @@ impl Acceptance {
         one: &mut Record,
     ) -> Result<(), BaseFault>
         requires { self.old.expected ≡ expected.Legs heading }
-        ensures accepted { OnOk result ((earlier : List Record) → HasAccepted self.old earlier → AcceptsNext self.new earlier one.old) }
-        ensures keeps { OnOk result (keeps self.new.records ≡ keeps self.old.records) }
+        ensures accepts { OnOk result (Accepts self.old self.new one.old one.new) }
         ensures err { IfErr result (λ e. (earlier : List Record) → HasAccepted self.old earlier → IsRefused number earlier one.old e) }
         ensures stays { IfErr result (Stays (is_next_leg self.old.expected one.old) self.old self.new) }
     {
         match one {
-            Record::Leg(leg) => self.close_leg(number, heading, leg)?,
-            Record::Segment(segment) => self.close_segment(number, heading, segment)?,
-            Record::Trailer(trailer) => return self.put_trailer(number, heading, trailer),
+            Record::Leg(leg) => self.put_leg(number, heading, leg),
+            Record::Segment(segment) => self.put_segment(number, heading, segment),
+            Record::Trailer(trailer) => self.put_trailer(number, heading, trailer),
             Record::Header(_) | Record::Carrier(_) => {
-                return Err(BaseFault::Refused(number, BaseRefusal::BadType));
+                Err(BaseFault::Refused(number, BaseRefusal::BadType))
             }
         }
-        self.records.push(one)?;
-        Ok(())
     }
 
     /// Does what `put` does, and stays as it was if the record is refused. An overlap is looked for
     /// before the leg is added.
     pub(crate) fn offer(&mut self, number: u64, one: &mut Record) -> Result<(), BaseFault>
-        ensures accepted { OnOk result ((earlier : List Record) → HasAccepted self.old earlier → AcceptsNext self.new earlier one.old) }
+        ensures accepts { OnOk result (Accepts self.old self.new one.old one.new) }
         ensures err { IfErr result (λ e. (earlier : List Record) → HasAccepted self.old earlier → IsLeft self.new number earlier one.old e) }
     {
         if let Expected::Legs(heading) = self.expected {
@@ -159,39 +150,34 @@ impl Acceptance {
         }
     }
 
-    // Adds a record, and sets which record is expected next.
-    fn push(&mut self, expected: Expected, one: Record) -> Result<(), Memory>
-        ensures records { OnOk result (AddsRecord self.old.records self.new.records one) }
-        ensures keeps { OnOk result (keeps self.new.records ≡ keeps self.old.records) }
-        ensures expected { OnOk result (self.new.expected ≡ expected) }
-        ensures legs { self.new.legs ≡ self.old.legs }
+    /// The flights of the leg records so far, each once, by number and suffix.
+    pub(crate) fn flights(&self) -> Result<Vec<Flight>, Memory>
+        ensures { (earlier : List Record) → HasAccepted self.now earlier
+            → IfOk result (λ flights. AreFlights (reverse earlier) flights.items) }
     {
-        self.records.push(&one)?;
-        self.expected = expected;
-        Ok(())
+        self.legs.flights()
     }
 
-    fn put_header(&mut self, number: u64, one: &Record) -> Result<(), BaseFault>
+    fn put_header(&mut self, number: u64, one: &mut Record) -> Result<(), BaseFault>
         requires { self.old.expected ≡ expected.Header }
-        ensures accepted { OnOk result ((earlier : List Record) → HasAccepted self.old earlier → AcceptsNext self.new earlier one.now) }
-        ensures keeps { OnOk result (keeps self.new.records ≡ keeps self.old.records) }
-        ensures err { IfErr result (λ e. (earlier : List Record) → HasAccepted self.old earlier → IsRefused number earlier one.now e) }
+        ensures accepts { OnOk result (Accepts self.old self.new one.old one.new) }
+        ensures err { IfErr result (λ e. (earlier : List Record) → HasAccepted self.old earlier → IsRefused number earlier one.old e) }
         ensures stays { IfErr result (Stays false self.old self.new) }
     {
         match one {
             Record::Header(header) => {
-                self.push(Expected::Carrier, Record::Header(header.with_serial(0)))?;
+                *header = header.with_serial(0);
+                self.expected = Expected::Carrier;
                 Ok(())
             }
             _ => Err(BaseFault::Refused(number, BaseRefusal::NoHeader)),
         }
     }
 
-    fn put_carrier(&mut self, number: u64, one: &Record) -> Result<(), BaseFault>
+    fn put_carrier(&mut self, number: u64, one: &mut Record) -> Result<(), BaseFault>
         requires { self.old.expected ≡ expected.Carrier }
-        ensures accepted { OnOk result ((earlier : List Record) → HasAccepted self.old earlier → AcceptsNext self.new earlier one.now) }
-        ensures keeps { OnOk result (keeps self.new.records ≡ keeps self.old.records) }
-        ensures err { IfErr result (λ e. (earlier : List Record) → HasAccepted self.old earlier → IsRefused number earlier one.now e) }
+        ensures accepts { OnOk result (Accepts self.old self.new one.old one.new) }
+        ensures err { IfErr result (λ e. (earlier : List Record) → HasAccepted self.old earlier → IsRefused number earlier one.old e) }
         ensures stays { IfErr result (Stays false self.old self.new) }
     {
         match one {
@@ -200,19 +186,17 @@ impl Acceptance {
                     airline: carrier.airline(),
                     end: end_of(carrier),
                 };
-                self.push(
-                    Expected::Legs(heading),
-                    Record::Carrier(carrier.with_serial(0)),
-                )?;
+                *carrier = carrier.with_serial(0);
+                self.expected = Expected::Legs(heading);
                 Ok(())
             }
             _ => Err(BaseFault::Refused(number, BaseRefusal::NoCarrier)),
         }
     }
 
-    // Enters a leg that is accepted into the table of legs, and closes its record.
+    // Accepts a leg, and adds it to the table of legs; or refuses it.
     #[inline(always)]
-    fn close_leg(
+    fn put_leg(
         &mut self,
         number: u64,
         heading: CarrierTerms,
@@ -220,7 +204,6 @@ impl Acceptance {
     ) -> Result<(), BaseFault>
         requires { self.old.expected ≡ expected.Legs heading }
         ensures accepts { OnOk result (Accepts self.old self.new (Record.Leg leg.old) (Record.Leg leg.new)) }
-        ensures records { OnOk result (self.new.records ≡ self.old.records) }
         ensures err { IfErr result (λ e. (earlier : List Record) → HasAccepted self.old earlier → IsRefused number earlier (Record.Leg leg.old) e) }
     {
         let period = leg_period(number, heading, leg)?;
@@ -231,9 +214,8 @@ impl Acceptance {
         Ok(())
     }
 
-    // Closes the record of a segment that is accepted.
     #[inline(always)]
-    fn close_segment(
+    fn put_segment(
         &self,
         number: u64,
         heading: CarrierTerms,
@@ -260,12 +242,12 @@ impl Acceptance {
         &mut self,
         number: u64,
         heading: CarrierTerms,
-        trailer: &Trailer,
+        trailer: &mut Trailer,
     ) -> Result<(), BaseFault>
         requires { self.old.expected ≡ expected.Legs heading }
-        ensures accepted { OnOk result ((earlier : List Record) → HasAccepted self.old earlier → AcceptsNext self.new earlier (Record.Trailer trailer.now)) }
-        ensures keeps { OnOk result (keeps self.new.records ≡ keeps self.old.records) }
-        ensures err { IfErr result (λ e. (earlier : List Record) → HasAccepted self.old earlier → IsRefused number earlier (Record.Trailer trailer.now) e) }
+        ensures accepts { OnOk result
+            (Accepts self.old self.new (Record.Trailer trailer.old) (Record.Trailer trailer.new)) }
+        ensures err { IfErr result (λ e. (earlier : List Record) → HasAccepted self.old earlier → IsRefused number earlier (Record.Trailer trailer.old) e) }
         ensures stays { IfErr result (Stays false self.old self.new) }
     {
         if !same_airline(trailer.airline(), heading.airline) {
@@ -274,7 +256,8 @@ impl Acceptance {
         match trailer.code() {
             EndCode::Continuation => Err(BaseFault::Refused(number, BaseRefusal::Continuation)),
             EndCode::End => {
-                self.push(Expected::End, Record::Trailer(trailer.with_serials(0, 0)))?;
+                *trailer = trailer.with_serials(0, 0);
+                self.expected = Expected::End;
                 Ok(())
             }
         }

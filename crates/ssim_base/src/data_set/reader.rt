@@ -1,22 +1,21 @@
-//! The records that are read of a data set, with the notes on them.
+//! The reading of a data set, record by record, with the notes on it.
 
 ghost use Rattle.std.specs.Prelude.{◌≡◌, ◌<◌, ◌^◌, ◌∷◌, ◌++◌, [], List, IfErr, IfOk, OnOk};
 ghost use Rattle.ssim_records.specs.Record.{IsRecord, serial_of};
 ghost use Rattle.ssim_records.specs.declared.record.Record.{Record};
-ghost use Rattle.ssim_base.specs.internal.AcceptedRecords.{AreAccepted, keeps};
 ghost use Rattle.ssim_base.specs.internal.DataSetReader.{HasRead, unread};
 ghost use Rattle.ssim_base.specs.Reading.{Came, FailsAfter, FailsAs, NeverEnds, RefusesWhole};
 ghost use Rattle.ssim_base.specs.internal.Reading.{Refuses, is_of_bytes};
 
 use crate::data_set::acceptance::Acceptance;
-use crate::data_set::accepted_records::AcceptedRecords;
+use crate::data_set::record_sink::RecordSink;
 use crate::fault::BaseFault;
 use crate::note::Note;
 use ssim_records::{Record, RecordFault, Records, Source, frames_are_one};
 use ssim_values::Memory;
 use std::alloc::Global;
 
-/// The records accepted so far, and the notes on them.
+/// The state for checking the next record, and the notes on the records accepted so far.
 #[derive(Drop)]
 pub(crate) struct DataSetReader {
     pub kept: Acceptance,
@@ -26,38 +25,36 @@ pub(crate) struct DataSetReader {
 }
 
 impl DataSetReader {
-    ghost use Rattle.ssim_base.specs.internal.Acceptance.{HasAccepted, IsRefused, AcceptsNext};
+    ghost use Rattle.ssim_base.specs.internal.Acceptance.{Accepts, HasAccepted, IsRefused};
     ghost use Rattle.ssim_base.specs.internal.DataSetReader.{notes_at};
 
     /// No record.
-    pub(crate) fn new(alloc: Global, records: AcceptedRecords) -> DataSetReader
-        requires { AreAccepted records [] }
+    pub(crate) fn new(alloc: Global) -> DataSetReader
         ensures kept { HasAccepted result.kept [] }
-        ensures records { result.kept.records ≡ records }
         ensures notes { result.notes.items ≡ [] }
         ensures previous { result.previous ≡ 0 }
     {
         DataSetReader {
-            kept: Acceptance::new(alloc, records),
+            kept: Acceptance::new(alloc),
             notes: Vec::new(alloc),
             previous: 0,
         }
     }
 
-    /// Accepts one more record, with its number, or refuses it. The record may be changed.
+    /// Accepts one more record with its number, or refuses it. An accepted record becomes the
+    /// record as the base has it.
     ///
     /// This function and those that it calls for each record are inlined into the loop that reads
     /// the records.
     #[inline(always)]
     pub(crate) fn take(&mut self, number: u64, one: &mut Record) -> Result<(), BaseFault>
-        ensures accepted { OnOk result ((earlier : List Record) → HasAccepted self.old.kept earlier → AcceptsNext self.new.kept earlier one.old) }
-        ensures keeps { OnOk result (keeps self.new.kept.records ≡ keeps self.old.kept.records) }
+        ensures accepts { OnOk result (Accepts self.old.kept self.new.kept one.old one.new) }
         ensures noted { OnOk result (self.new.notes.items ≡ self.old.notes.items ++ notes_at number self.old.previous one.old) }
         ensures previous { OnOk result (self.new.previous ≡ serial_of one.old) }
         ensures err { IfErr result (λ e. (earlier : List Record) → HasAccepted self.old.kept earlier → IsRefused number earlier one.old e) }
         ensures is_record { IsRecord one.old }
     {
-        // `put` closes the record, so its serial is read before.
+        // `put` changes the record, so its serial is read before.
         self.note(number, one)?;
         self.kept.put(number, one)
     }
@@ -95,18 +92,19 @@ impl DataSetReader {
     }
 }
 
-/// The records of a reader, and the number after the last of them.
-pub(crate) fn read_records<R: Source>(
+/// Puts the records of a reader into `records`. Returns the state after them, and the number after
+/// the last of them.
+pub(crate) fn read_records<R: Source, L: RecordSink>(
     alloc: Global,
-    records: AcceptedRecords,
+    records: &mut L,
     blocks: &mut Records,
     reader: &mut R,
 ) -> Result<(DataSetReader, u64), BaseFault>
-    requires accepted { AreAccepted records [] }
+    requires empty { L.has records.old [] }
     requires unread { blocks.old ≡ unread blocks.old.limit }
     requires limit { blocks.old.limit < 2 ^ 64 }
-    ensures ok { IfOk result (λ read. HasRead blocks.old.limit (R.left reader.old) read.0 read.1) }
-    ensures keeps { IfOk result (λ read. keeps read.0.kept.records ≡ keeps records) }
+    ensures ok { IfOk result (λ read.
+        HasRead blocks.old.limit (R.left reader.old) (L.has records.new) read.0 read.1) }
     ensures err { IfErr result (λ e. Refuses blocks.old.limit (R.left reader.old) e) }
     ensures no_failure { IfOk result (λ _. R.failures reader.new ≡ R.failures reader.old) }
     ensures failure { IfErr result (λ e. FailsAs (R.failures reader.old) (R.failures reader.new) e) }
@@ -116,12 +114,15 @@ pub(crate) fn read_records<R: Source>(
     ensures came { IfErr result (λ _. Came (R.left reader.old) (R.left reader.new) (R.came reader.old) (R.came reader.new) blocks.new.came) }
 {
     frames_are_one();
-    let mut records_read = DataSetReader::new(alloc, records);
+    let mut records_read = DataSetReader::new(alloc);
     let mut next = None;
     loop {
         match blocks.next_into(reader, &mut next) {
             Ok(number) => match &mut next {
-                Some(record) => records_read.take(number, record)?,
+                Some(record) => {
+                    records_read.take(number, record)?;
+                    records.push_record(record)?;
+                }
                 None => return Ok((records_read, blocks.number() + 1)),
             },
             Err(fault) => return Err(BaseFault::Read(fault)),
@@ -132,15 +133,15 @@ pub(crate) fn read_records<R: Source>(
 /// Does what `read_records` does, and reads the reader to its end: after a fault of the bytes, those
 /// that are left are fetched too. If the reader fails then, or more bytes come than the limit, this
 /// is the fault.
-pub(crate) fn read_whole<R: Source>(
+pub(crate) fn read_whole<R: Source, L: RecordSink>(
     alloc: Global,
-    records: AcceptedRecords,
+    records: &mut L,
     reader: &mut R,
     limit: u64,
 ) -> Result<(DataSetReader, u64), BaseFault>
-    requires { AreAccepted records [] }
-    ensures ok { IfOk result (λ read. HasRead limit (R.left reader.old) read.0 read.1) }
-    ensures keeps { IfOk result (λ read. keeps read.0.kept.records ≡ keeps records) }
+    requires { L.has records.old [] }
+    ensures ok { IfOk result (λ read.
+        HasRead limit (R.left reader.old) (L.has records.new) read.0 read.1) }
     ensures err { IfErr result (RefusesWhole limit (R.left reader.old)) }
     ensures no_failure { IfOk result (λ _. R.failures reader.new ≡ R.failures reader.old) }
     ensures failure { IfErr result (λ e. FailsAs (R.failures reader.old) (R.failures reader.new) e) }

@@ -8,7 +8,7 @@ ghost use Rattle.ssim_base.specs.internal.SavedLines.{IsLine, IsLineOf};
 
 use crate::data_set::DataSet;
 use crate::data_set::acceptance::Acceptance;
-use crate::data_set::accepted_records::AcceptedRecords;
+use crate::data_set::record_sink::RecordSink;
 use crate::fault::BaseFault;
 use ssim_records::{InputBuffer, InputFault, Record, RecordReader, Source};
 use ssim_values::Memory;
@@ -150,12 +150,13 @@ pub fn read_saved<R: Source>(
     ensures gives { OnOk result (Gives (R.left reader.old) (R.left reader.new) (R.came reader.old) (R.came reader.new) (R.failures reader.old) (R.failures reader.new) input.old.came input.new.came) }
     ensures stops { IfErr result (StopsSaved input.old.limit (R.left reader.old) (R.left reader.new) (R.came reader.old) (R.came reader.new) (R.failures reader.old) (R.failures reader.new) input.old.came input.new.came) }
 {
-    let mut kept = Acceptance::new(alloc, AcceptedRecords::Kept(Vec::new(alloc)));
-    let mut records = RecordReader::new();
+    let mut kept = Acceptance::new(alloc);
+    let mut records = Vec::new(alloc);
+    let mut decoder = RecordReader::new();
     let mut next = None;
     let mut done = 0;
     while done < count {
-        if !next_line(&mut records, input, reader, &mut next)? {
+        if !next_line(&mut decoder, input, reader, &mut next)? {
             return Err(SavedFault::Invalid(input.used()));
         }
         let Some(one) = &mut next else { unreachable!() };
@@ -163,6 +164,7 @@ pub fn read_saved<R: Source>(
         // used.
         match kept.put(0, one) {
             Ok(()) => {
+                records.push_record(one)?;
                 input.skip(RECORD_LINE);
                 done += 1;
             }
@@ -173,5 +175,6 @@ pub fn read_saved<R: Source>(
     if kept.missing().is_some() {
         return Err(SavedFault::Invalid(input.used()));
     }
-    Ok(DataSet::of_kept(alloc, kept)?)
+    let flights = kept.flights()?;
+    Ok(DataSet::of_base(alloc, records, flights))
 }

@@ -4,6 +4,7 @@ use Rattle.std.proofs.Common.{rules, ◌≡◌, ℕ, ◌+◌, Some, None, Ok, Er
 use Rattle.ssim_records.specs.Blocks.{CountsOn, Fetches}
 use Rattle.ssim_records.specs.Reading.{Answer, Counts, FailsAs, GivesNext, HasNumber, HoldsFew, NeverEnds, Reading, ending_of, given}
 use Rattle.ssim_records.proofs.Framing.{counts_none, counts_twice, fetches_first, fetches_on}
+use Rattle.ssim_records.specs.declared.record.Record.{Record}
 use Rattle.ssim_base.specs.Base.{Done, kept}
 use Rattle.ssim_base.specs.Reading.{Came}
 use Rattle.ssim_base.specs.internal.Reading.{AreGivenOf}
@@ -22,13 +23,13 @@ loop-number-init g c =
       counted = omega (arith, number);
       earlier = [];
       done = [];
+      has = c.requires.empty;
       so_far = nothing c.new-records_read.result c.new-records_read.ensures.kept c.new-records_read.ensures.notes c.new-records_read.ensures.previous;
       told = subst (λ (r : Reading). Told limit left left r []) (sym fresh) (told-first limit left c.frames_are_one.ensures.exist);
       fetched = subst (λ (r : Reading). Fetches false 0 [] left r.number r.held left) (sym fresh) (fetches_first false 0 [] left);
       counts = subst (λ (r : Reading). CountsOn left left (g.R.Source.came c.args.reader.now) (g.R.Source.came c.args.reader.now) 0 r.came) (sym fresh)
           (counts_none left (g.R.Source.came c.args.reader.now) 0);
       no_failure = refl;
-      keeps_is = refl;
     }
 
 pub loop-number-preserved : goal.loop-number-preserved
@@ -45,18 +46,21 @@ loop-number-preserved g c =
     let same = c.next_into.ensures.limit in
     let limit = i.limit_is in
     let taken = c.in_ok-take-in-Some.ensures in
+    let accepted = taken.accepts i.earlier i.so_far.is_kept in
     record {
       limit_is = same ∙ limit;
       open' = c.next_into.ensures.ended ∙ ap ending_of answer;
       counted = omega (arith, more, same, limit);
       earlier = kept i.earlier x.1 ∷ i.earlier;
       done = i.done ++ x ∷ [];
-      so_far = one-more c.loop-number.records_read c.take.new.self i.earlier i.done x i.so_far (taken.accepted i.earlier i.so_far.is_kept) taken.noted taken.previous taken.is_record;
+      has = subst (λ (r : Record). g.L.RecordSink.has c.push_record.new.self (r ∷ i.earlier))
+          accepted.closed_is (c.in_ok-push_record-in-Some.ensures i.earlier i.has);
+      so_far = one-more c.loop-number.records_read c.take.new.self i.earlier i.done x c.take.new.one
+          i.so_far accepted taken.noted taken.previous taken.is_record;
       told = told-step c.args.blocks.now.limit (g.R.Source.left c.args.reader.now) (g.R.Source.left c.loop-number.reader) (g.R.Source.left c.next_into.new.reader) old new i.done x i.told gives;
       fetched = fetches_on 0 old.number new.number old.number new.number [] old.held new.held _ _ _ i.fetched (while-open old.ended i.open' c.next_into.ensures.fetched) (omega arith);
       counts = counts_twice _ _ _ _ _ _ _ _ _ i.counts (while-open old.ended i.open' c.next_into.ensures.count);
       no_failure = fault ∙ i.no_failure;
-      keeps_is = taken.keeps ∙ i.keeps_is;
     }
 
 pub returns-in_err-take-in-Some-clause-err : goal.returns-in_err-take-in-Some-clause-err
@@ -81,6 +85,7 @@ returns-in-None-clause-ok g c =
     record {
       earlier = i.earlier;
       done = i.done;
+      has = i.has;
       so_far = i.so_far;
       given = subst (λ (n : ℕ). AreGivenOf c.args.blocks.now.limit (g.R.Source.left c.args.reader.now) i.done (Done (n + 1))) (sym c.number.ensures.value)
           (told-end c.args.blocks.now.limit (g.R.Source.left c.args.reader.now) (g.R.Source.left c.loop-number.reader) (g.R.Source.left c.next_into.new.reader) old new i.done i.limit_is i.told gives);

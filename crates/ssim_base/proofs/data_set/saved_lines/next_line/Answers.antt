@@ -1,5 +1,5 @@
 -- The line is held, or fewer bytes are left.
-use Rattle.std.proofs.Common.{◌≡◌, ℕ, List, [], Ok, false, true, rules, subst, sym, take}
+use Rattle.std.proofs.Common.{◌≡◌, ℕ, List, Ok, false, true, rules, subst, sym}
 use Rattle.ssim_base.specs.internal.SavedLines.{IsLine, IsLineOf}
 use Rattle.ssim_base.proofs.NextLines.{held_line, no_line, too_few}
 use Rattle.ssim_base.proofs.data_set.saved_lines.next_line.Goals as goal

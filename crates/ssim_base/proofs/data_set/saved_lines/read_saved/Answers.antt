@@ -1,11 +1,12 @@
 -- Line by line a record is stored that is valid after the earlier ones; if there is none, no base
 -- has the lines.
-use Rattle.std.proofs.Common.{List, ℕ, ◌≡◌, ◌≤◌, ◌++◌, ◌∷◌, [], Ok, false, true, length, take, reverse, refl, rules, sym, ap, subst, ◌∙◌, arith}
+use Rattle.std.proofs.Common.{List, ℕ, ◌≡◌, ◌++◌, ◌∷◌, [], Ok, false, true, length, take, reverse, rules, sym, ap, subst, ◌∙◌, arith}
 use Rattle.std.proofs.lemmas.List.{length-reverse}
 use Rattle.ssim_records.specs.InputBuffer.{Uses}
 use Rattle.ssim_records.specs.declared.record.Record.{Record}
 use Rattle.ssim_records.proofs.InputBuffers.{gives_then}
 use Rattle.ssim_base.specs.internal.Acceptance.{HasAccepted, IsRefused}
+use Rattle.ssim_base.specs.BaseSeen.{AreFlights, WasRead}
 use Rattle.ssim_base.specs.SavedBase.{IsBaseRecords, saved}
 use Rattle.ssim_base.specs.internal.SavedLines.{IsLine}
 use Rattle.ssim_base.specs.declared.fault.BaseFault.TheVariants.{Refused}
@@ -20,13 +21,15 @@ loop-done-preserved g c =
     let r = c.in-Some.one in
     let is : c.next_line.result ≡ Ok true = search rules in
     let line : IsLine r (take 201 c.next_line.new.input.held) [] = rw c.in-Some.is at ((c.next_line.ensures.some is).1) in
-    let stood = c.in-Ok.ensures.accepted i.earlier i.is_kept in
+    let stood = c.in-Ok.ensures.accepts i.earlier i.is_kept in
     let few : length i.earlier ≡ c.args.count → ⊥ = λ all. omega (arith, all, i.number, c.loop-done-test.true) in
     record {
       earlier = r ∷ i.earlier;
       is_kept = subst (λ (k : Record). HasAccepted c.put.new.self (k ∷ i.earlier)) (kept-bare i.earlier r line.bare) stood.is_kept;
       is_left = left_after c.args.count i.earlier r (take 201 c.next_line.new.input.held) i.is_left line stood.valid few;
-      keeps_is = c.in-Ok.ensures.keeps ∙ i.keeps_is;
+      has = c.in_ok-push_record-in-Ok.ensures i.earlier i.has
+          ∙ ap (λ (x : Record). reverse (x ∷ i.earlier))
+          (stood.closed_is ∙ kept-bare i.earlier r line.bare);
       number = omega (arith, i.number);
       few = omega (arith, c.loop-done-test.true);
       limit = rw c.skip.ensures (c.next_line.ensures.limit ∙ i.limit);
@@ -64,17 +67,23 @@ returns-then-is_some-clause-err g c =
     begins_none (saved (reverse i.earlier)) c.args.count _ _ i.uses.next
     (λ rest at. end-lacks (saved (reverse i.earlier) ++ rest) rest c.args.count i.earlier (i.is_left rest) (omega (arith, i.number, i.few, c.loop-done-test.false)) c.missing.result (c.missing.ensures i.earlier i.is_kept) (sym c.is_some.ensures ∙ c.if-is_some.true))
 
-pub of_kept-requires-clause-whole : goal.of_kept-requires-clause-whole
-of_kept-requires-clause-whole g c =
+pub of_base-requires-clause-was_read : goal.of_base-requires-clause-was_read
+of_base-requires-clause-was_read g c =
     let i = c.loop-done.invariant in
     let whole = end-whole (saved (reverse i.earlier) ++ []) [] c.args.count i.earlier (i.is_left []) c.missing.result (c.missing.ensures i.earlier i.is_kept) (sym c.is_some.ensures ∙ c.if-is_some.false) in
-    record { earlier = i.earlier; is_kept = i.is_kept; was_read = whole.1 }
+    subst (λ (rs : List Record). WasRead rs) (sym i.has) whole.1
+
+pub of_base-requires-clause-flights : goal.of_base-requires-clause-flights
+of_base-requires-clause-flights g c =
+    let i = c.loop-done.invariant in
+    subst (λ (rs : List Record). AreFlights rs c.in_ok-flights.flights.items) (sym i.has)
+    (c.in_ok-flights.ensures i.earlier i.is_kept)
 
 pub returns-clause-ok : goal.returns-clause-ok
 returns-clause-ok g c =
     let i = c.loop-done.invariant in
     let whole = end-whole (saved (reverse i.earlier) ++ []) [] c.args.count i.earlier (i.is_left []) c.missing.result (c.missing.ensures i.earlier i.is_kept) (sym c.is_some.ensures ∙ c.if-is_some.false) in
-    let are = c.in_ok-of_kept.ensures.records i.earlier i.is_kept in (
+    let are = c.of_base.ensures ∙ i.has in (
       subst (λ (rs : List Record). IsBaseRecords rs) (sym are) (base-records (reverse i.earlier) whole.1),
       ap (λ (rs : List Record). length rs) are ∙ length-reverse i.earlier ∙ omega (arith, i.number, i.few, c.loop-done-test.false),
       subst (λ (rs : List Record). Uses (saved rs) c.args.input.now (g.R.Source.left c.args.reader.now) c.loop-done.input (g.R.Source.left c.loop-done.reader)) (sym are) i.uses,

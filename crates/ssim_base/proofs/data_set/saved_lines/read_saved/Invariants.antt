@@ -6,16 +6,17 @@ use Rattle.ssim_records.specs.InputBuffer.{Gives, Input, Uses}
 use Rattle.ssim_records.specs.declared.record.Record.{Record}
 use Rattle.ssim_base.specs.SavedBase.{saved}
 use Rattle.ssim_base.specs.internal.Acceptance.{HasAccepted}
-use Rattle.ssim_base.specs.internal.AcceptedRecords.{InList, keeps}
 use Rattle.ssim_base.specs.declared.data_set.acceptance.Acceptance.{Acceptance}
 use Rattle.ssim_base.proofs.SavedLines.{IsLeft}
 use Rattle.ssim_base.proofs.data_set.saved_lines.read_saved.Given as goal
 
-pub record Goes {R : Type 0} (left : R → Option (List ℕ)) (came_of failures : R → ℕ) (count done : ℕ) (kept : Acceptance) (old new : Input) (before reader : R) : Type 0 where
+pub record Goes {R : Type 0} (left : R → Option (List ℕ)) (came_of failures : R → ℕ)
+    (count done : ℕ) (kept : Acceptance) (records : List Record)
+    (old new : Input) (before reader : R) : Type 0 where
   pub earlier : List Record
   pub is_kept : HasAccepted kept earlier
   pub is_left : (rest : List ℕ) → IsLeft (saved (reverse earlier) ++ rest) rest count earlier
-  pub keeps_is : keeps kept.records ≡ InList
+  pub has : records ≡ reverse earlier
   pub number : length earlier ≡ done
   pub few : done ≤ count
   pub limit : new.limit ≡ old.limit
@@ -23,7 +24,8 @@ pub record Goes {R : Type 0} (left : R → Option (List ℕ)) (came_of failures 
   pub gives : Gives (left before) (left reader) (came_of before) (came_of reader) (failures before) (failures reader) old.came new.came
 
 abbrev pub invariant-loop-done : goal.invariant-loop-done
-invariant-loop-done g l = Goes g.R.Source.left g.R.Source.came g.R.Source.failures l.count l.done l.kept l.initial.input l.input l.initial.reader l.reader
+invariant-loop-done g l = Goes g.R.Source.left g.R.Source.came g.R.Source.failures
+    l.count l.done l.kept l.records.items l.initial.input l.input l.initial.reader l.reader
 
 abbrev pub decreases-loop-done : goal.decreases-loop-done
 decreases-loop-done g l = l.count - l.done

@@ -1,7 +1,7 @@
 -- From block to block, by the lemmas on what was read so far.
-use Rattle.std.proofs.Common.{rules, ◌≡◌, ◌∙◌, ℕ, ◌+◌, ◌*◌, ◌≤◌, ◌<◌, Some, None, Ok, Err, [], ◌∷◌, ◌++◌, refl, sym, ap, subst, arith}
+use Rattle.std.proofs.Common.{rules, ◌≡◌, ◌∙◌, ℕ, ◌+◌, Some, None, Ok, Err, [], ◌∷◌, ◌++◌, refl, sym, ap, subst, arith}
 use Rattle.ssim_records.specs.Blocks.{CountsOn}
-use Rattle.ssim_records.specs.Reading.{BlockAnswer, CountsBlock, FailsAs, GivesNextBlock, HasNumber, NeverEnds, Reading, block_ending, without_block}
+use Rattle.ssim_records.specs.Reading.{BlockAnswer, CountsBlock, FailsAs, GivesNextBlock, HasNumber, Reading, block_ending, without_block}
 use Rattle.ssim_records.specs.declared.fault.RecordFault.TheVariants.{Short}
 use Rattle.ssim_records.proofs.Framing.{counts_none, counts_twice}
 use Rattle.ssim_base.specs.Problems.{missing_in, numbered}

@@ -1,10 +1,7 @@
 -- The summary of the records that were read, if none is missing.
-use Rattle.std.proofs.Common.{◌≡◌, List, reverse, Err, None, rules, sym, subst, ◌∙◌}
+use Rattle.std.proofs.Common.{◌≡◌, reverse, Err, None, rules, sym, ◌∙◌}
 use Rattle.std.proofs.lemmas.List.{length-reverse}
-use Rattle.ssim_values.specs.Flight.{FlightNumber}
-use Rattle.ssim_base.specs.BaseSeen.{AreFlights}
 use Rattle.ssim_base.specs.declared.fault.BaseFault.TheVariants.{Refused}
-use Rattle.ssim_base.proofs.LegTables.{flights-are}
 use Rattle.ssim_base.proofs.ReadingLemmas.{missing-outcome, of-all, whole-outcome, whole-within}
 use Rattle.ssim_base.proofs.summary.Summary.finish.Goals as goal
 
@@ -26,8 +23,7 @@ returns-clause-sums c = λ limit told h.
             (whole-outcome c.args.records_read h.earlier h.done c.args.number h.so_far (sym (c.missing.ensures h.earlier h.so_far.is_kept) ∙ none)) h.so_far.records,
         whole-within limit told h.done c.args.number h.given,
       );
-      are_flights = subst (λ (fs : List FlightNumber). AreFlights (reverse h.earlier) fs) (sym c.in_ok-flights.ensures)
-          (flights-are c.args.records_read.kept.legs h.earlier h.so_far.is_kept.legs.flown);
-      records_are = c.len.ensures h.earlier h.so_far.is_kept.records ∙ sym (length-reverse h.earlier);
+      are_flights = c.in_ok-flights.ensures h.earlier h.so_far.is_kept;
+      records_are = h.has ∙ sym (length-reverse h.earlier);
       flights_are = search rules;
     }
