@@ -18,7 +18,7 @@ use Rattle.ssim_records.proofs.Framing.{takes_all}
 use Rattle.ssim_base.specs.Base.{Ending, Done, Broken, Outcome, at_record, check_notes, data_set, first_refusal, kept, kept_all, missing, note_if, notes_of, refusal_at, unless_refused}
 use Rattle.ssim_base.specs.internal.DataSetReader.{IsSoFar, notes_at}
 use Rattle.ssim_base.specs.internal.Acceptance.{HasAccepted, IsRefused, AcceptsNext}
-use Rattle.ssim_base.specs.Reading.{AreBlocks, AreGiven, Begins, Came, FailsAfter, FailsAs, Gives, IsReadOf, NeverEnds, RefusesWhole, Stops}
+use Rattle.ssim_base.specs.Reading.{AreBlocks, AreGiven, Begins, Came, FailsAfter, FailsAs, Gives, IsReadOf, IsRecordAfter, NamesNext, NeverEnds, RefusesWhole, Stops}
 use Rattle.ssim_base.specs.internal.Reading.{ReturnsAs, AreGivenOf, Refuses, is_of_bytes}
 use Rattle.ssim_base.specs.ReadBack.{EachSpells}
 use Rattle.ssim_base.specs.declared.fault.BaseFault.{BaseFault}
@@ -481,3 +481,66 @@ rest-other limit told r old new (BadType n) h = absurd h
 rest-other limit told r old new (BadColumn n column) h = absurd h
 rest-other limit told r old new (ReadFault n) h = tt
 rest-other limit told r old new (ReaderNeverEnds n) h = tt
+
+-- ---- which record a fault of the rest names
+
+-- a refused record has the number of the records that were counted
+pub after-refused : (number n : ℕ) (earlier : List Record) (r : Record) (e : BaseFault)
+    → IsRefused n earlier r e → n ≡ number → is_of_bytes e ≡ true → IsRecordAfter e (number + 1)
+after-refused number n earlier r fault.Memory is same of_bytes = absurd cc
+after-refused number n earlier r (Read f) is same of_bytes = absurd is
+after-refused number n earlier r (Refused m refusal) is same of_bytes =
+    ap (λ k. k + 1) (sym (is.0 ∙ same))
+
+-- so has a block that spells no record
+pub after-fault : (number : ℕ) (f : RecordFault) → HasNumber number (Err f)
+    → is_of_bytes (Read f) ≡ true → IsRecordAfter (Read f) (number + 1)
+after-fault number (Short n) is of_bytes = sym is
+after-fault number (BadType n) is of_bytes = ap (λ k. k + 1) (sym is)
+after-fault number (BadColumn n column) is of_bytes = ap (λ k. k + 1) (sym is)
+after-fault number (ReadFault n) is of_bytes = absurd cc
+after-fault number (ReaderNeverEnds n) is of_bytes = absurd cc
+
+-- the fault came before any invalid record
+pub names-first : (limit : ℕ) (all left : Option (List ℕ)) (e : BaseFault) → Refuses limit all e
+    → FailsAfter all left e → NamesNext limit all left e
+names-first limit all left fault.Memory h after = tt
+names-first limit all left (Read (Short n)) h after = tt
+names-first limit all left (Read (BadType n)) h after = tt
+names-first limit all left (Read (BadColumn n column)) h after = tt
+names-first limit all left (Read (ReadFault n)) h after = inl after
+names-first limit all left (Read (ReaderNeverEnds n)) h after = inl h
+names-first limit all left (Refused n refusal) h after = tt
+
+-- a fault of the bytes names no record after the invalid one
+pub names-own : (limit : ℕ) (all left : Option (List ℕ)) (e : BaseFault) → is_of_bytes e ≡ true
+    → NamesNext limit all left e
+names-own limit all left fault.Memory is = tt
+names-own limit all left (Read (Short n)) is = tt
+names-own limit all left (Read (BadType n)) is = tt
+names-own limit all left (Read (BadColumn n column)) is = tt
+names-own limit all left (Read (ReadFault n)) is = absurd cc
+names-own limit all left (Read (ReaderNeverEnds n)) is = absurd cc
+names-own limit all left (Refused n refusal) is = tt
+
+invalid-read : (limit : ℕ) (all : Option (List ℕ)) (e : BaseFault) → is_of_bytes e ≡ true
+    → Refuses limit all e → IsReadOf limit all (Err e)
+invalid-read limit all fault.Memory is h = absurd cc
+invalid-read limit all (Read f) is h = h
+invalid-read limit all (Refused n refusal) is h = h
+
+-- the fault came after an invalid record
+pub names-rest : (limit : ℕ) (all left : Option (List ℕ)) (e : BaseFault) (number old new : ℕ)
+    (r : Reading) (f : RecordFault) → is_of_bytes e ≡ true → Refuses limit all e
+    → IsRecordAfter e (number + 1) → r.number ≡ number → RestFails r old new (Err f)
+    → NamesNext limit all left (Read f)
+names-rest limit all left e number old new r (Short n) is h next same fails = absurd fails
+names-rest limit all left e number old new r (BadType n) is h next same fails = absurd fails
+names-rest limit all left e number old new r (BadColumn n column) is h next same fails =
+    absurd fails
+names-rest limit all left e number old new r (ReadFault n) is h next same fails =
+    let named : number + 1 ≡ n = sym (fails.0 ∙ ap (λ k. k + 1) same) in
+    inr (e, invalid-read limit all e is h, subst (λ k. IsRecordAfter e k) named next)
+names-rest limit all left e number old new r (ReaderNeverEnds n) is h next same fails =
+    let named : number + 1 ≡ n = sym (fails.0 ∙ ap (λ k. k + 1) same) in
+    inr (e, invalid-read limit all e is h, subst (λ k. IsRecordAfter e k) named next)

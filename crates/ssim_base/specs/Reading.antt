@@ -161,6 +161,35 @@ RefusesWhole limit known (fault.Read (ReadFault number)) = Unit {0}
 RefusesWhole limit known (fault.Read (ReaderNeverEnds number)) = Unit {0}
 RefusesWhole limit known (fault.Refused number refusal) = IsWholeOf limit known (Err (fault.Refused number refusal))
 
+-- The record after the invalid one has this number. An incomplete record is not counted: bytes that
+-- come later belong to it.
+abbrev pub IsRecordAfter : BaseFault → ℕ → Type 0
+IsRecordAfter fault.Memory number = ⊥
+IsRecordAfter (fault.Read (Short n)) number = number ≡ n
+IsRecordAfter (fault.Read (BadType n)) number = number ≡ n + 1
+IsRecordAfter (fault.Read (BadColumn n column)) number = number ≡ n + 1
+IsRecordAfter (fault.Read (ReadFault n)) number = ⊥
+IsRecordAfter (fault.Read (ReaderNeverEnds n)) number = ⊥
+IsRecordAfter (fault.Refused n refusal) number = number ≡ n + 1
+
+-- The bytes have an invalid record, or lack one at their end. The record after it has this number.
+abbrev pub IsAfterInvalid : ℕ → Option (List ℕ) → ℕ → Type 0
+IsAfterInvalid limit known number =
+    (invalid : BaseFault) × IsReadOf limit known (Err invalid) × IsRecordAfter invalid number
+
+-- Which record a 13 or a 14 names: the record after the invalid one, if one came before. Else at 13
+-- the record after the complete ones that came, and at 14 the record that the bytes are read as.
+abbrev pub NamesNext : ℕ → Option (List ℕ) → Option (List ℕ) → BaseFault → Type 0
+NamesNext limit all left fault.Memory = Unit {0}
+NamesNext limit all left (fault.Read (Short n)) = Unit {0}
+NamesNext limit all left (fault.Read (BadType n)) = Unit {0}
+NamesNext limit all left (fault.Read (BadColumn n column)) = Unit {0}
+NamesNext limit all left (fault.Read (ReadFault n)) =
+    IsAfterComplete all left n ⊎ IsAfterInvalid limit all n
+NamesNext limit all left (fault.Read (ReaderNeverEnds n)) =
+    IsReadOf limit all (Err (fault.Read (ReaderNeverEnds n))) ⊎ IsAfterInvalid limit all n
+NamesNext limit all left (fault.Refused n refusal) = Unit {0}
+
 -- ---- reading back what was written
 
 -- the reader failed, which the bytes do not determine

@@ -7,7 +7,8 @@ ghost use Rattle.ssim_base.specs.Base.{airline_of};
 ghost use Rattle.ssim_base.specs.BaseSeen.{AreFlights, WasRead};
 ghost use Rattle.ssim_base.specs.Closed.{IsClosed};
 ghost use Rattle.ssim_base.specs.ReadBack.{AreInOrder, CanExport, HasFrame};
-ghost use Rattle.ssim_base.specs.Reading.{Came, FailsAfter, FailsAs, IsReadOf, IsWholeOf, NeverEnds, RefusesWhole};
+ghost use Rattle.ssim_base.specs.Reading.{Came, FailsAfter, FailsAs, IsReadOf, IsWholeOf};
+ghost use Rattle.ssim_base.specs.Reading.{NamesNext, NeverEnds, RefusesWhole};
 ghost use Rattle.ssim_base.specs.internal.Reading.{ReturnsAs};
 ghost use Rattle.ssim_base.specs.declared.note.Note.{Note};
 ghost use Rattle.ssim_base.specs.SavedBase.{IsBaseRecords};
@@ -56,12 +57,15 @@ impl DataSet {
 
     /// Reads a data set, record by record, and its reader to the end. At most `limit` bytes and one
     /// more are fetched. The refusals are those of `Base::read`. But if the reader fails after the
-    /// record that is refused, or more bytes come than the limit, 13 or 14 is returned.
+    /// record that is refused, or more bytes come than the limit, 13 or 14 is returned. This names
+    /// the record after the one that is refused.
     pub fn read<R: Source>(alloc: Global, reader: &mut R, limit: u64) -> Result<DataSet, BaseFault>
         ensures read { IfOk result (λ read. (notes : List Note) × IsWholeOf limit (R.left reader.old) (Ok (read, notes))) }
         ensures refused { IfErr result (RefusesWhole limit (R.left reader.old)) }
         ensures no_failure { IfOk result (λ _. R.failures reader.new ≡ R.failures reader.old) }
         ensures failure { IfErr result (λ e. FailsAs (R.failures reader.old) (R.failures reader.new) e) }
+        ensures names { IfErr result (λ e.
+            NamesNext limit (R.left reader.old) (R.left reader.new) e) }
         ensures never_ends { IfErr result (λ e. NeverEnds limit (Came (R.left reader.old) (R.left reader.new) (R.came reader.old) (R.came reader.new)) e) }
     {
         let mut records = Vec::new(alloc);
@@ -102,6 +106,8 @@ impl DataSet {
             → ReturnsAs (λ read. (read.0, read.1.items)) result (IsReadOf limit known) }
         ensures failure { (n : ℕ) → IfErr result (λ e. FailsAs n n e) }
         ensures fails_after { (all left : Option (List ℕ)) → IfErr result (λ e. FailsAfter all left e) }
+        ensures names { (limit : ℕ) (all left : Option (List ℕ))
+            → IfErr result (NamesNext limit all left) }
         ensures never_ends { (limit old new : ℕ) (left others : Option (List ℕ)) → IfErr result (λ e. NeverEnds limit (Came left others old new) e) }
     {
         let DataSetReader { kept, notes, .. } = records_read;

@@ -1,7 +1,7 @@
 //! What a data set has, without its records.
 
 ghost use Rattle.std.specs.Prelude.{◌≡◌, ℕ, List, Option, IfOk, IfErr};
-ghost use Rattle.ssim_base.specs.Reading.{Came, FailsAs, NeverEnds, RefusesWhole};
+ghost use Rattle.ssim_base.specs.Reading.{Came, FailsAs, NamesNext, NeverEnds, RefusesWhole};
 ghost use Rattle.ssim_base.specs.Summary.{IsSummary};
 
 use crate::data_set::reader::{DataSetReader, read_whole};
@@ -32,6 +32,8 @@ impl Summary {
         ensures refused { IfErr result (RefusesWhole limit (R.left reader.old)) }
         ensures no_failure { IfOk result (λ _. R.failures reader.new ≡ R.failures reader.old) }
         ensures failure { IfErr result (λ e. FailsAs (R.failures reader.old) (R.failures reader.new) e) }
+        ensures names { IfErr result (λ e.
+            NamesNext limit (R.left reader.old) (R.left reader.new) e) }
         ensures never_ends { IfErr result (λ e. NeverEnds limit (Came (R.left reader.old) (R.left reader.new) (R.came reader.old) (R.came reader.new)) e) }
     {
         let mut records = 0;
@@ -53,6 +55,8 @@ impl Summary {
             → HasRead limit known (IsCountOf records) records_read number
             → IfErr result (RefusesWhole limit known) }
         ensures failure { (n : ℕ) → IfErr result (λ e. FailsAs n n e) }
+        ensures names { (limit : ℕ) (all left : Option (List ℕ))
+            → IfErr result (NamesNext limit all left) }
         ensures never_ends { (limit old new : ℕ) (left others : Option (List ℕ)) → IfErr result (λ e. NeverEnds limit (Came left others old new) e) }
     {
         let DataSetReader { kept, notes, .. } = records_read;

@@ -6,8 +6,9 @@ ghost use Rattle.ssim_records.specs.declared.record.Record.{Record};
 ghost use Rattle.ssim_base.specs.Base.{end_of, is_overflow, is_rate, missing, refusal_at};
 ghost use Rattle.ssim_base.specs.BaseSeen.{AreFlights};
 ghost use Rattle.ssim_base.specs.Problems.{alone_refusal, is_at_heading};
-ghost use Rattle.ssim_base.specs.internal.Acceptance.{Accepts, AcceptsLeg, HasAccepted, IsExpectedAfter};
-ghost use Rattle.ssim_base.specs.internal.Acceptance.{IsLeft, IsRefused, Stays, is_next_leg};
+ghost use Rattle.ssim_base.specs.internal.Acceptance.{Accepts, AcceptsLeg, HasAccepted};
+ghost use Rattle.ssim_base.specs.internal.Acceptance.{IsExpectedAfter, IsLeft, IsRefused};
+ghost use Rattle.ssim_base.specs.internal.Acceptance.{Stays, is_next_leg};
 ghost use Rattle.ssim_base.specs.declared.data_set.acceptance.Expected.TheVariants as expected;
 
 use crate::fault::{BaseFault, BaseRefusal};

@@ -1,10 +1,11 @@
 //! The reading of a data set, record by record, with the notes on it.
 
-ghost use Rattle.std.specs.Prelude.{◌≡◌, ◌<◌, ◌^◌, ◌∷◌, ◌++◌, [], List, IfErr, IfOk, OnOk};
+ghost use Rattle.std.specs.Prelude.{◌≡◌, ◌+◌, ◌<◌, ◌^◌, ◌∷◌, ◌++◌, [], true, List, IfErr, IfOk, OnOk};
 ghost use Rattle.ssim_records.specs.Record.{IsRecord, serial_of};
 ghost use Rattle.ssim_records.specs.declared.record.Record.{Record};
 ghost use Rattle.ssim_base.specs.internal.DataSetReader.{HasRead, unread};
-ghost use Rattle.ssim_base.specs.Reading.{Came, FailsAfter, FailsAs, NeverEnds, RefusesWhole};
+ghost use Rattle.ssim_base.specs.Reading.{Came, FailsAfter, FailsAs, IsRecordAfter, NamesNext};
+ghost use Rattle.ssim_base.specs.Reading.{NeverEnds, RefusesWhole};
 ghost use Rattle.ssim_base.specs.internal.Reading.{Refuses, is_of_bytes};
 
 use crate::data_set::acceptance::Acceptance;
@@ -110,6 +111,8 @@ pub(crate) fn read_records<R: Source, L: RecordSink>(
     ensures failure { IfErr result (λ e. FailsAs (R.failures reader.old) (R.failures reader.new) e) }
     ensures fails_after { IfErr result (λ e. FailsAfter (R.left reader.old) (R.left reader.new) e) }
     ensures never_ends { IfErr result (λ e. NeverEnds blocks.old.limit (Came (R.left reader.old) (R.left reader.new) (R.came reader.old) (R.came reader.new)) e) }
+    ensures next { IfErr result (λ e.
+        is_of_bytes e ≡ true → IsRecordAfter e (blocks.new.number + 1)) }
     ensures limit { IfErr result (λ _. blocks.new.limit ≡ blocks.old.limit) }
     ensures came { IfErr result (λ _. Came (R.left reader.old) (R.left reader.new) (R.came reader.old) (R.came reader.new) blocks.new.came) }
 {
@@ -132,7 +135,7 @@ pub(crate) fn read_records<R: Source, L: RecordSink>(
 
 /// Does what `read_records` does, and reads the reader to its end: after a fault of the bytes, those
 /// that are left are fetched too. If the reader fails then, or more bytes come than the limit, this
-/// is the fault.
+/// is the fault, and it names the record after the invalid one.
 pub(crate) fn read_whole<R: Source, L: RecordSink>(
     alloc: Global,
     records: &mut L,
@@ -145,6 +148,7 @@ pub(crate) fn read_whole<R: Source, L: RecordSink>(
     ensures err { IfErr result (RefusesWhole limit (R.left reader.old)) }
     ensures no_failure { IfOk result (λ _. R.failures reader.new ≡ R.failures reader.old) }
     ensures failure { IfErr result (λ e. FailsAs (R.failures reader.old) (R.failures reader.new) e) }
+    ensures names { IfErr result (λ e. NamesNext limit (R.left reader.old) (R.left reader.new) e) }
     ensures never_ends { IfErr result (λ e. NeverEnds limit (Came (R.left reader.old) (R.left reader.new) (R.came reader.old) (R.came reader.new)) e) }
 {
     let mut blocks = Records::new(limit);

@@ -24,6 +24,13 @@ returns-in_err-data_set-clause-never_ends g c =
     let e : c.from_residual-in_err-data_set.result ≡ Err c.in_err-data_set.field-0.0 = search rules in
     rw e (c.in_err-data_set.ensures.never_ends c.args.limit (g.R.Source.came c.args.reader.now) (g.R.Source.came c.read_whole.new.reader) (g.R.Source.left c.args.reader.now) (g.R.Source.left c.read_whole.new.reader))
 
+pub returns-in_err-data_set-clause-names : goal.returns-in_err-data_set-clause-names
+returns-in_err-data_set-clause-names g c =
+    let fault = c.in_err-data_set.field-0.0 in
+    let e : c.from_residual-in_err-data_set.result ≡ Err fault = search rules in
+    rw e (c.in_err-data_set.ensures.names c.args.limit (g.R.Source.left c.args.reader.now)
+    (g.R.Source.left c.read_whole.new.reader))
+
 pub returns-clause-read : goal.returns-clause-read
 returns-clause-read g c =
     let told = g.R.Source.left c.args.reader.now in

@@ -8,7 +8,7 @@ use Rattle.ssim_records.specs.declared.record.Record.{Record}
 use Rattle.ssim_base.specs.Base.{Done, kept}
 use Rattle.ssim_base.specs.Reading.{Came}
 use Rattle.ssim_base.specs.internal.Reading.{AreGivenOf}
-use Rattle.ssim_base.proofs.ReadingLemmas.{Numbered, Told, came-in, ended-beyond, fails-after, never-refused, never-fails, step-refused, while-open, nothing, one-more, told-end, told-fault, told-first, told-step}
+use Rattle.ssim_base.proofs.ReadingLemmas.{Numbered, Told, after-fault, after-refused, came-in, ended-beyond, fails-after, never-refused, never-fails, step-refused, while-open, nothing, one-more, told-end, told-fault, told-first, told-step}
 use Rattle.ssim_base.proofs.data_set.reader.read_records.Goals as goal
 
 pub loop-number-init : goal.loop-number-init
@@ -162,3 +162,29 @@ returns-in-Err-clause-came g c =
 
 pub overflow_add-result : goal.overflow_add-result
 overflow_add-result g c = omega (arith, c.number.ensures.small, c.next_into.ensures.limit, c.loop-number.invariant.limit_is, c.requires.limit)
+
+pub returns-in_err-take-in-Some-clause-next : goal.returns-in_err-take-in-Some-clause-next
+returns-in_err-take-in-Some-clause-next g c =
+    let i = c.loop-number.invariant in
+    let old = c.loop-number.blocks in
+    let new = c.next_into.new.self in
+    let x : Numbered = (c.in-Ok.number, c.in-Some.record) in
+    let answer : given c.next_into.new.into c.next_into.result ≡ Ok (Some x) =
+    rw (c.in-Ok.is, c.in-Some.is) refl in
+    let number = subst (λ (a : Answer). HasNumber new.number a) answer
+    (while-open old.ended i.open' c.next_into.ensures.number) in
+    let fault = c.in_err-take-in-Some.field-0.0 in
+    let refusal : c.from_residual.result ≡ Err fault = search rules in
+    rw refusal (after-refused new.number x.0 i.earlier x.1 fault
+    (c.in_err-take-in-Some.ensures.err i.earlier i.so_far.is_kept) number)
+
+pub returns-in-Err-clause-next : goal.returns-in-Err-clause-next
+returns-in-Err-clause-next g c =
+    let i = c.loop-number.invariant in
+    let old = c.loop-number.blocks in
+    let new = c.next_into.new.self in
+    let answer : given c.next_into.new.into c.next_into.result ≡ Err c.in-Err.fault =
+    rw c.in-Err.is refl in
+    let number = subst (λ (a : Answer). HasNumber new.number a) answer
+    (while-open old.ended i.open' c.next_into.ensures.number) in
+    after-fault new.number c.in-Err.fault number

@@ -10,3 +10,8 @@ returns-clause-failure g c =
 pub returns-clause-never_ends : goal.returns-clause-never_ends
 returns-clause-never_ends g c =
     c.finish.ensures.never_ends c.args.limit (g.R.Source.came c.args.reader.now) (g.R.Source.came c.read_whole.new.reader) (g.R.Source.left c.args.reader.now) (g.R.Source.left c.read_whole.new.reader)
+
+pub returns-clause-names : goal.returns-clause-names
+returns-clause-names g c =
+    c.finish.ensures.names c.args.limit (g.R.Source.left c.args.reader.now)
+    (g.R.Source.left c.read_whole.new.reader)
