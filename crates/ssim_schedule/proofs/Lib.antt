@@ -7,7 +7,7 @@ pub mod TableBuilderLemmas
 pub mod Planning
 pub mod Puts
 pub mod RunLemmas
-pub mod InsertedLegLemmas
+pub mod PlacedLegLemmas
 pub mod SameTails
 pub mod Serials
 pub mod TableLemmas

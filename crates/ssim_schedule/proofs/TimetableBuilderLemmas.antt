@@ -20,8 +20,8 @@ use Rattle.ssim_base.specs.Timetable.{Days, LegValue, Legs, itinerary, leg_of, p
 use Rattle.ssim_schedule.specs.internal.LegKey.{IsPlaced, name_place}
 use Rattle.ssim_schedule.specs.internal.TimetableBuilder.{IsBuilt, IsCut, LeavesOut, OpensGroup, PutsGroup, PutsLeg, TakesLeg, TakesSegment, days_with}
 use Rattle.ssim_schedule.specs.internal.WantedDates.{IsPart, is_wanted, itinerary_wanted}
-use Rattle.ssim_schedule.specs.internal.LegGroup.{Group, IsBound, no_group, with_legs}
-use Rattle.ssim_schedule.specs.internal.InsertedLegs.{StartsFrom, placed_each}
+use Rattle.ssim_schedule.specs.internal.LegGroup.{Group, IsBound, StartsFrom, no_group, with_legs}
+use Rattle.ssim_schedule.specs.internal.PlacedLegs.{placed_each}
 use Rattle.ssim_base.specs.ReadBack.{place_of}
 use Rattle.ssim_base.proofs.Places.{same_flight-place}
 use Rattle.ssim_schedule.specs.DivisionPoints.{is_point}
@@ -29,7 +29,7 @@ use Rattle.ssim_schedule.specs.internal.Table.{Table, table_cuts, table_days}
 use Rattle.ssim_schedule.specs.internal.PendingSegments.{waiting_at}
 use Rattle.ssim_schedule.specs.declared.builder.timetable_builder.TimetableBuilder.{TimetableBuilder}
 use Rattle.ssim_schedule.specs.declared.builder.leg_group.Heading.{Heading}
-use Rattle.ssim_schedule.proofs.InsertedLegLemmas.{changed_not, changed_twice}
+use Rattle.ssim_schedule.proofs.PlacedLegLemmas.{placed_more}
 
 parts_told : (x y v w s t : ℕ) → v < 100 → w < 100 → s < 100 → t < 100 → (x * 100 + v) * 100 + s ≡ (y * 100 + w) * 100 + t → (x ≡ y) × (v ≡ w) × (s ≡ t)
 parts_told x y v w s t a b c d e = (omega arith, omega arith, omega arith)
@@ -168,15 +168,49 @@ module _ (wanted : Option (ℕ × ℕ)) where
 
 -- ---- the group
 
+changed_twice : (s : ℕ → Bool) (after before : Legs → Legs) (n : ℕ) (days : Days)
+    → changed_on s (λ legs. after (before legs)) n days
+    ≡ changed_on s after n (changed_on s before n days)
+changed_twice s after before n [] = refl
+changed_twice s after before n (old ∷ days) =
+    let rest = changed_on s after (n + 1) (changed_on s before (n + 1) days) in
+    let later = changed_twice s after before (n + 1) days in
+    ap (λ (ds : Days). (if s n then after (before old) else old) ∷ ds) later
+    ∙ ap (λ (legs : Legs). legs ∷ rest) (by (s n))
+  where
+    by : (b : Bool) → (if b then after (before old) else old)
+        ≡ (if b then after (if b then before old else old) else (if b then before old else old))
+    by true = refl
+    by false = refl
+
+changed_not : (s : ℕ → Bool) (n : ℕ) (days : Days) → changed_on s (λ legs. legs) n days ≡ days
+changed_not s n [] = refl
+changed_not s n (old ∷ days) =
+    ap (λ (legs : Legs). legs ∷ changed_on s (λ legs. legs) (n + 1) days) (by (s n))
+    ∙ ap (λ (ds : Days). old ∷ ds) (changed_not s (n + 1) days)
+  where
+    by : (b : Bool) → (if b then old else old) ≡ old
+    by true = refl
+    by false = refl
+
 -- one more leg before those of a group is put after them
 pub one_more : (h : Heading) (l : LegValue) (legs : Legs) (g : FlightNumber) (days : Days)
+    → StartsFrom l.sequence legs
     → with_legs (Some h) (l ∷ legs) g days
     ≡ (if nat_eq (place_of h.flight) (place_of g) then changed_on (holds h.period) (placed l) 0 (with_legs (Some h) legs g days) else with_legs (Some h) legs g days)
-one_more h l legs g days = by (nat_eq (place_of h.flight) (place_of g))
+one_more h l legs g days starts = by (nat_eq (place_of h.flight) (place_of g))
   where
+    more : placed_each (l ∷ legs) ≡ (λ others. placed l (placed_each legs others))
+    more = λ i others. placed_more l legs others starts i
+
+    before : Bool → Days
+    before b = if b then changed_on (holds h.period) (placed_each legs) 0 days else days
+
     by : (b : Bool) → (if b then changed_on (holds h.period) (placed_each (l ∷ legs)) 0 days else days)
-        ≡ (if b then changed_on (holds h.period) (placed l) 0 (if b then changed_on (holds h.period) (placed_each legs) 0 days else days) else (if b then changed_on (holds h.period) (placed_each legs) 0 days else days))
-    by true = changed_twice (holds h.period) (placed l) (placed_each legs) 0 days
+        ≡ (if b then changed_on (holds h.period) (placed l) 0 (before b) else before b)
+    by true =
+        ap (λ (after : Legs → Legs). changed_on (holds h.period) after 0 days) more
+        ∙ changed_twice (holds h.period) (placed l) (placed_each legs) 0 days
     by false = refl
 
 -- a group without legs puts nothing
@@ -209,14 +243,15 @@ opened old put new h sequence puts table waiting wanted group = record {
     by g cut (inr bound) = inr (subst (λ (a : Group). IsBound a.heading g cut) group bound)
 
 -- a leg joins the pending legs
-module _ (old opened new : TimetableBuilder) (h : Heading) (l : LegValue) (sequence : ℕ) (opens : OpensGroup old opened h sequence) (table : new.table ≡ opened.table)
+module _ (old opened new : TimetableBuilder) (h : Heading) (l : LegValue)
+    (opens : OpensGroup old opened h l.sequence) (table : new.table ≡ opened.table)
     (group : new.group ≡ record { heading = opened.group.heading; legs = l ∷ opened.group.legs }) where
   pub joined_days : (g : FlightNumber) → days_with new g ≡ (if nat_eq (place_of h.flight) (place_of g) then changed_on (holds h.period) (placed l) 0 (days_with old g) else days_with old g)
   joined_days g =
       ap (λ (a : Group). with_legs a.heading a.legs g (table_days new.table g)) group
       ∙ ap (λ (t : Table). with_legs opened.group.heading (l ∷ opened.group.legs) g (table_days t g)) table
       ∙ ap (λ (o : Option Heading). with_legs o (l ∷ opened.group.legs) g (table_days opened.table g)) opens.heading
-      ∙ one_more h l opened.group.legs g (table_days opened.table g)
+      ∙ one_more h l opened.group.legs g (table_days opened.table g) opens.order
       ∙ ap (λ (ds : Days). if nat_eq (place_of h.flight) (place_of g) then changed_on (holds h.period) (placed l) 0 ds else ds)
       (ap (λ (o : Option Heading). with_legs o opened.group.legs g (table_days opened.table g)) (sym opens.heading) ∙ opens.days g)
 

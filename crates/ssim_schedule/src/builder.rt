@@ -2,7 +2,6 @@
 
 pub(crate) mod current_flight;
 pub(crate) mod flight_set;
-pub(crate) mod inserted_legs;
 pub(crate) mod leg_group;
 pub(crate) mod leg_key;
 pub(crate) mod pending_segments;

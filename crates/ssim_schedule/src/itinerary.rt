@@ -1,13 +1,15 @@
 //! The legs of a flight on one date, shared by all dates that have them.
 
-ghost use Rattle.std.specs.Prelude.{◌≡◌, ◌<◌, ◌≤◌, ◌%◌, ◌^◌, ◌∷◌, [], IfNone, IfOk, IfSome, OnOk, reverse};
+ghost use Rattle.std.specs.Prelude.{◌≡◌, ◌<◌, ◌≤◌, ◌%◌, ◌^◌, ◌∷◌, ◌++◌, [], IfNone, IfOk, IfSome};
+ghost use Rattle.std.specs.Prelude.{OnOk, length, reverse};
 ghost use Rattle.ssim_base.specs.Export.{same_itinerary};
 ghost use Rattle.ssim_base.specs.ItineraryLaws.{exact_itinerary};
+ghost use Rattle.ssim_schedule.specs.internal.PlacedLegs.{legs_before, placed_each};
 ghost use Rattle.ssim_schedule.specs.internal.SharedLegs.{legs_count};
 ghost use Rattle.ssim_schedule.specs.internal.SharedLegs.{CountsRecords, hash_of, legs_of};
 
 use crate::leg::PlacedLeg;
-use ssim_periods::Value;
+use ssim_periods::{Change, Value};
 use ssim_values::Memory;
 use std::alloc::Global;
 use std::marker::Model;
@@ -220,6 +222,49 @@ fn hash_of(legs: &[PlacedLeg]) -> u64
     }
 }
 
+// Legs placed among others: each comes before the first of those that are left of the others whose
+// leg sequence is not lower.
+fn placed_each(
+    alloc: Global,
+    legs: &[PlacedLeg],
+    others: &[PlacedLeg],
+) -> Result<Vec<PlacedLeg>, Memory>
+    ensures { IfOk result (λ all. all.items ≡ placed_each legs.now others.now) }
+{
+    let mut all = Vec::with_capacity(alloc, legs.len() + others.len())?;
+    let mut from = 0;
+    for leg in legs {
+        let place = from + place_among(leg, &others[from..]);
+        push_copies(alloc, &mut all, &others[from..place])?;
+        all.push(leg.copy(alloc)?)?;
+        from = place;
+    }
+    push_copies(alloc, &mut all, &others[from..])?;
+    Ok(all)
+}
+
+// The index of the first leg whose leg sequence is not lower.
+fn place_among(leg: &PlacedLeg, legs: &[PlacedLeg]) -> usize
+    ensures within { result ≤ length legs.now }
+    ensures place { result ≡ legs_before leg.now.sequence legs.now }
+{
+    for (place, other) in legs.iter().enumerate() {
+        if other.sequence() >= leg.sequence() {
+            return place;
+        }
+    }
+    legs.len()
+}
+
+fn push_copies(alloc: Global, all: &mut Vec<PlacedLeg>, legs: &[PlacedLeg]) -> Result<(), Memory>
+    ensures { OnOk result (all.new.items ≡ all.old.items ++ legs.now) }
+{
+    for leg in legs {
+        all.push(leg.copy(alloc)?)?;
+    }
+    Ok(())
+}
+
 // Whether the two lists are one.
 fn same_legs(mine: &[PlacedLeg], theirs: &[PlacedLeg]) -> bool
     ensures { result ≡ same_itinerary mine.now theirs.now }
@@ -263,4 +308,25 @@ impl Value for Itinerary {
     }
 
     ghost exact = { exact_itinerary };
+}
+
+/// As a change, an itinerary puts its legs among those of a date, each by its leg sequence. All
+/// dates that had none before share its legs.
+impl Change<Itinerary> for Itinerary {
+    ghost use Rattle.ssim_schedule.specs.internal.PlacedLegs.{placed_each};
+
+    ghost outcome = { placed_each };
+
+    ghost class_of = { λ _ _. 0 };
+
+    fn after(&self, alloc: Global, old: &Itinerary) -> Result<Itinerary, Memory> {
+        if old.is_empty() {
+            return self.copy(alloc);
+        }
+        Itinerary::of(alloc, placed_each(alloc, self.legs(), old.legs())?)
+    }
+
+    fn class(&self, _old: &Itinerary) -> u8 {
+        0
+    }
 }

@@ -10,8 +10,7 @@ use Rattle.ssim_records.specs.Segment.{SegmentFields}
 use Rattle.ssim_records.specs.declared.record.Record.{Record}
 use Rattle.ssim_base.specs.Timetable.{Days, period_of, placed, tails_of}
 use Rattle.ssim_schedule.specs.internal.LegKey.{IsPlaced, name_place}
-use Rattle.ssim_schedule.specs.internal.LegGroup.{IsBound, no_group, with_legs}
-use Rattle.ssim_schedule.specs.internal.InsertedLegs.{StartsFrom}
+use Rattle.ssim_schedule.specs.internal.LegGroup.{IsBound, StartsFrom, no_group, with_legs}
 use Rattle.ssim_base.specs.ReadBack.{place_of}
 use Rattle.ssim_schedule.specs.DivisionPoints.{is_point}
 use Rattle.ssim_schedule.specs.internal.Table.{table_cuts, table_days}

@@ -4,7 +4,7 @@ ghost use Rattle.std.specs.Prelude.{◌≡◌, ℕ, ◌+◌, ◌++◌, [], Conta
 ghost use Rattle.ssim_periods.specs.Calendar.{holds};
 ghost use Rattle.ssim_periods.specs.Days.{AddsOnly, Seen, changed_on};
 ghost use Rattle.ssim_base.specs.Timetable.{Legs};
-ghost use Rattle.ssim_schedule.specs.internal.InsertedLegs.{placed_each};
+ghost use Rattle.ssim_schedule.specs.internal.PlacedLegs.{placed_each};
 
 use crate::builder::leg_group::LegGroup;
 use crate::builder::run::{Run, take_legs, widen};
@@ -32,7 +32,7 @@ pub(crate) struct CurrentFlight {
 impl Model for CurrentFlight {
     ghost use Rattle.std.specs.Prelude.{◌++◌};
     ghost use Rattle.ssim_periods.specs.Days.{changed_by_each, ends_of};
-    ghost use Rattle.ssim_schedule.specs.internal.InsertedLegs.{placed_each};
+    ghost use Rattle.ssim_schedule.specs.internal.PlacedLegs.{placed_each};
     ghost use Rattle.ssim_schedule.specs.declared.timetable.flight_table.FlightPeriods.{FlightPeriods};
 
     ghost Value = { FlightPeriods };

@@ -2,11 +2,10 @@
 
 ghost use Rattle.std.specs.Prelude.{◌≡◌, ◌<◌, ◌%◌, ◌^◌, ◌∷◌, [], true, IfOk, OnOk, Some, reverse};
 ghost use Rattle.ssim_base.specs.Export.{same_itinerary};
-ghost use Rattle.ssim_schedule.specs.internal.LegGroup.{no_group};
-ghost use Rattle.ssim_schedule.specs.internal.InsertedLegs.{StartsFrom};
+ghost use Rattle.ssim_schedule.specs.internal.LegGroup.{StartsFrom, no_group};
 ghost use Rattle.ssim_schedule.specs.internal.SharedLegs.{hash_of};
 
-use crate::builder::inserted_legs::InsertedLegs;
+use crate::itinerary::Itinerary;
 use crate::leg::PlacedLeg;
 use ssim_records::{LegRecord, SegmentTail};
 use ssim_values::{Flight, Memory, Period};
@@ -45,13 +44,10 @@ pub(crate) struct LegGroup {
 impl Model for LegGroup {
     ghost use Rattle.std.specs.Prelude.{reverse};
     ghost use Rattle.ssim_schedule.specs.internal.LegGroup.{Group};
-    ghost use Rattle.ssim_schedule.specs.internal.InsertedLegs.{IsOrdered};
 
     ghost Value = { Group };
 
     ghost view = { λ g. record { heading = g.heading; legs = reverse g.legs.items } };
-
-    ghost invariant = { λ g. IsOrdered (reverse g.legs.items) };
 }
 
 impl LegGroup {
@@ -121,16 +117,16 @@ impl LegGroup {
         (hash_of_reversed(&self.legs) % 4_294_967_296) as u32
     }
 
-    /// Takes the legs out, as a change with an itinerary of its own. `hash` is that of the legs.
-    pub(crate) fn take_new(&mut self, hash: u32) -> Result<InsertedLegs, Memory>
+    /// Takes the legs out, as an itinerary of their own. `hash` is that of the legs.
+    pub(crate) fn take_new(&mut self, hash: u32) -> Result<Itinerary, Memory>
         requires { hash ≡ hash_of self.old.legs % 4294967296 }
-        ensures { IfOk result (λ put. put ≡ self.old.legs) }
+        ensures { IfOk result (λ itinerary. itinerary ≡ self.old.legs) }
     {
         let mut room = mem::replace(&mut self.legs, Vec::new(self.alloc));
-        let put = InsertedLegs::of_reversed(self.alloc, &mut room, hash)?;
+        let itinerary = Itinerary::of_reversed(self.alloc, &mut room, hash)?;
         self.legs = room;
         self.made = self.made.saturating_add(1);
-        Ok(put)
+        Ok(itinerary)
     }
 
     /// Leaves no group.

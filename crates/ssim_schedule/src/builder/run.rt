@@ -4,18 +4,18 @@ ghost use Rattle.std.specs.Prelude.{◌≡◌, ◌⊎◌, ℕ, ◌+◌, ◌%◌,
 ghost use Rattle.ssim_periods.specs.Calendar.{holds};
 ghost use Rattle.ssim_periods.specs.Days.{changed_by_each, changed_on, ends_of};
 ghost use Rattle.ssim_base.specs.Timetable.{Days};
-ghost use Rattle.ssim_schedule.specs.internal.InsertedLegs.{placed_each};
+ghost use Rattle.ssim_schedule.specs.internal.PlacedLegs.{placed_each};
 ghost use Rattle.ssim_schedule.specs.internal.SharedLegs.{hash_of};
 ghost use Rattle.ssim_schedule.specs.internal.Runs.{IsWider, is_run_on};
 
-use crate::builder::inserted_legs::InsertedLegs;
 use crate::builder::leg_group::LegGroup;
-use ssim_periods::{are_apart, union};
+use crate::itinerary::Itinerary;
+use ssim_periods::{Value, are_apart, union};
 use ssim_values::{Memory, Period};
 use std::alloc::Global;
 
 /// A period, and legs that are still to be put into its itineraries.
-pub(crate) type Run = (Period, InsertedLegs);
+pub(crate) type Run = (Period, Itinerary);
 
 /// Adds the days of a period to a run with the legs of the group. The result says whether there is
 /// one; if not, nothing is changed. `hash` is that of the legs: a run with another is not compared.
@@ -68,7 +68,7 @@ pub(crate) fn take_legs(
     runs: &[Run],
     group: &mut LegGroup,
     hash: u32,
-) -> Result<InsertedLegs, Memory>
+) -> Result<Itinerary, Memory>
     requires { hash ≡ hash_of group.old.legs % 4294967296 }
     ensures { IfOk result (λ legs. legs ≡ group.old.legs) }
 {

@@ -1,7 +1,7 @@
 -- There is no run yet.
 use Rattle.std.proofs.Common.{List, ◌++◌, ap}
 use Rattle.ssim_periods.specs.Days.{changed_by_each, ends_of}
-use Rattle.ssim_schedule.specs.internal.InsertedLegs.{placed_each}
+use Rattle.ssim_schedule.specs.internal.PlacedLegs.{placed_each}
 use Rattle.ssim_schedule.specs.internal.Runs.{Run}
 use Rattle.ssim_schedule.specs.declared.timetable.flight_table.FlightPeriods.{FlightPeriods}
 use Rattle.ssim_schedule.proofs.builder.current_flight.CurrentFlight.new.Goals as goal

@@ -7,7 +7,7 @@ use Rattle.ssim_periods.specs.Calendar.{holds}
 use Rattle.ssim_periods.specs.Days.{AddsOnly, changed_by_each, changed_on, ends_of}
 use Rattle.ssim_periods.proofs.EachLemmas.{changed-last}
 use Rattle.ssim_base.specs.Timetable.{Legs}
-use Rattle.ssim_schedule.specs.internal.InsertedLegs.{placed_each}
+use Rattle.ssim_schedule.specs.internal.PlacedLegs.{placed_each}
 use Rattle.ssim_schedule.specs.internal.Runs.{Run}
 use Rattle.ssim_schedule.specs.declared.timetable.flight_table.FlightPeriods.{FlightPeriods}
 use Rattle.ssim_schedule.proofs.RunLemmas.{adds-before, adds-more}

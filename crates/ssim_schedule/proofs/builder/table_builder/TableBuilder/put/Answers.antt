@@ -6,7 +6,7 @@ use Rattle.ssim_periods.specs.Calendar.{holds}
 use Rattle.ssim_periods.specs.Days.{changed_on}
 use Rattle.ssim_base.proofs.Results.{on_ok}
 use Rattle.ssim_base.specs.ReadBack.{place_of}
-use Rattle.ssim_schedule.specs.internal.InsertedLegs.{placed_each}
+use Rattle.ssim_schedule.specs.internal.PlacedLegs.{placed_each}
 use Rattle.ssim_schedule.specs.internal.TableBuilder.{with_current}
 use Rattle.ssim_schedule.specs.internal.Table.{AddsOnlyAt, Table, table_cuts, table_days}
 use Rattle.ssim_schedule.specs.declared.timetable.flight_table.FlightPeriods.{FlightPeriods}

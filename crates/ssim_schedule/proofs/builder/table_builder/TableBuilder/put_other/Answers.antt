@@ -3,7 +3,7 @@ use Rattle.std.proofs.Common.{◌≡◌, ◌+◌, Contains, nat_eq, if◌then◌
 use Rattle.ssim_periods.specs.Calendar.{holds}
 use Rattle.ssim_periods.specs.Days.{AddsOnly, changed_on}
 use Rattle.ssim_schedule.specs.internal.TableBuilder.{with_current}
-use Rattle.ssim_schedule.specs.internal.InsertedLegs.{placed_each}
+use Rattle.ssim_schedule.specs.internal.PlacedLegs.{placed_each}
 use Rattle.ssim_base.specs.ReadBack.{place_of}
 use Rattle.ssim_schedule.specs.internal.Table.{AddsOnlyAt, Table, table_cuts, table_days}
 use Rattle.ssim_base.specs.Timetable.{Days}

@@ -5,7 +5,7 @@ use Rattle.ssim_records.specs.Leg.{Name}
 use Rattle.ssim_periods.specs.Calendar.{holds}
 use Rattle.ssim_periods.specs.Days.{changed_on}
 use Rattle.ssim_schedule.specs.internal.LegKey.{IsPlaced, name_place}
-use Rattle.ssim_schedule.specs.internal.TimetableBuilder.{IsCut, days_with}
+use Rattle.ssim_schedule.specs.internal.TimetableBuilder.{IsCut, OpensGroup, days_with}
 use Rattle.ssim_schedule.specs.internal.LegGroup.{IsBound}
 use Rattle.ssim_base.specs.ReadBack.{place_of}
 use Rattle.ssim_base.specs.Timetable.{LegValue, placed}
@@ -28,8 +28,11 @@ returns c =
     let period = c.args.period in
     let given : Heading = record { flight = c.flight.result; period = period } in
     let heading : given ≡ record { flight = r.name.flight; period = period } = ap (λ (f : FlightNumber). record { flight = f; period = period }) flight in
-    let opens = c.in_ok-open_group.ensures in
     let l : LegValue = record { sequence = r.name.sequence; columns = r.columns; tails = c.in_ok-tails.tails.items } in
+    let sequence : c.sequence.result ≡ l.sequence =
+    c.sequence.ensures.value ∙ ap (λ (n : Name). n.sequence) name in
+    let opens : OpensGroup old opened given l.sequence =
+    subst (OpensGroup old opened given) sequence c.in_ok-open_group.ensures in
     let its : LegValue = record { sequence = r.name.sequence; columns = r.columns; tails = waiting_at old.waiting (name_place r.name) } in
     let leg : l ≡ its =
     ap (λ ts. record { sequence = r.name.sequence; columns = r.columns; tails = ts })
@@ -38,12 +41,14 @@ returns c =
       named = subst (λ (n : Name). IsPlaced n) name c.in_ok-tails.ensures.named;
       wanted = opens.wanted;
       days = λ g.
-          joined_days old opened new given l c.sequence.result opens refl added g
+          joined_days old opened new given l opens refl added g
           ∙ ap (λ (h : Heading). if nat_eq (place_of h.flight) (place_of g) then changed_on (holds h.period) (placed l) 0 (days_with old g) else days_with old g) heading
           ∙ ap (λ (m : LegValue). if nat_eq (place_of r.name.flight) (place_of g) then changed_on (holds period) (placed m) 0 (days_with old g) else days_with old g) leg;
       tails = λ place.
           c.in_ok-tails.ensures.others place
           ∙ ap (λ (n : Name). if nat_eq place (name_place n) then [] else waiting_at opened.waiting place) name
           ∙ ap (λ (w : PendingSegments). if nat_eq place (name_place r.name) then [] else waiting_at w place) opens.waiting;
-      cuts = λ g cut has. subst (λ (h : Heading). IsCut old g cut ⊎ IsBound (Some h) g cut) heading (joined_cuts old opened new given l c.sequence.result opens refl added g cut has);
+      cuts = λ g cut has.
+          subst (λ (h : Heading). IsCut old g cut ⊎ IsBound (Some h) g cut) heading
+          (joined_cuts old opened new given l opens refl added g cut has);
     }) c.add.ensures

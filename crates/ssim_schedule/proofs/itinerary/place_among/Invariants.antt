@@ -1,6 +1,6 @@
 use Rattle.std.proofs.Common.{◌≡◌, ◌+◌, drop}
-use Rattle.ssim_schedule.specs.internal.InsertedLegs.{legs_before}
-use Rattle.ssim_schedule.proofs.builder.inserted_legs.place_among.Given as goal
+use Rattle.ssim_schedule.specs.internal.PlacedLegs.{legs_before}
+use Rattle.ssim_schedule.proofs.itinerary.place_among.Given as goal
 
 abbrev pub invariant-loop-place : goal.invariant-loop-place
 invariant-loop-place l = legs_before l.leg.sequence (drop l.place l.legs) + l.place ≡ legs_before l.leg.sequence l.legs
