@@ -26,7 +26,9 @@ use Rattle.ssim_base.specs.ReadBack.{place_of}
 use Rattle.ssim_base.proofs.Places.{same_flight-place}
 use Rattle.ssim_schedule.specs.DivisionPoints.{is_point}
 use Rattle.ssim_schedule.specs.internal.Table.{Table, table_cuts, table_days}
+use Rattle.ssim_schedule.specs.internal.TableBuilder.{table_of}
 use Rattle.ssim_schedule.specs.internal.PendingSegments.{waiting_at}
+use Rattle.ssim_schedule.specs.declared.builder.table_builder.TableBuilder.{TableBuilder}
 use Rattle.ssim_schedule.specs.declared.builder.timetable_builder.TimetableBuilder.{TimetableBuilder}
 use Rattle.ssim_schedule.specs.declared.builder.leg_group.Heading.{Heading}
 use Rattle.ssim_schedule.proofs.PlacedLegLemmas.{placed_more}
@@ -67,10 +69,20 @@ or-true : (a b : Bool) → b ≡ true → (a || b) ≡ true
 or-true true b h = refl
 or-true false b h = h
 
+-- a flight's itineraries once the legs of a group are put into a table
+abbrev days_from : Table → Group → FlightNumber → Days
+days_from t a g = with_legs a.heading a.legs g (table_days t g)
+
+-- a cut of the flight in a table, or one that the legs of a group may add
+abbrev IsCutIn : Table → Group → FlightNumber → ℕ → Type 0
+IsCutIn t a g cut = Contains (table_cuts t g) cut ⊎ IsBound a.heading g cut
+
 -- if table and group are the same, the cuts are
-old_cut : (old new : TimetableBuilder) (g : FlightNumber) (cut : ℕ) → new.group ≡ old.group → new.table ≡ old.table → IsCut new g cut → IsCut old g cut
+old_cut : (old new : TimetableBuilder) (g : FlightNumber) (cut : ℕ)
+    → new.group ≡ old.group → new.table ≡ old.table → IsCut new g cut → IsCut old g cut
 old_cut old new g cut group table has =
-    subst (λ (a : Group). Contains (table_cuts old.table g) cut ⊎ IsBound a.heading g cut) group (subst (λ (t : Table). Contains (table_cuts t g) cut ⊎ IsBound new.group.heading g cut) table has)
+    subst (λ (a : Group). IsCutIn (table_of old.table) a g cut) group
+    (subst (λ (t : TableBuilder). IsCutIn (table_of t) new.group g cut) table has)
 
 module _ (wanted : Option (ℕ × ℕ)) where
   pub built-other : (b : TimetableBuilder) (r : Record) (done : List Record) → ((g : FlightNumber) (n : ℕ) → itinerary (r ∷ done) g n ≡ itinerary done g n) → ((n : Name) → tails_of n (r ∷ done) ≡ tails_of n done)
@@ -229,9 +241,9 @@ opened old put new h sequence puts table waiting wanted group = record {
   heading = ap (λ (a : Group). a.heading) group;
   order = subst (λ (a : Group). StartsFrom sequence a.legs) (sym group) tt;
   days = λ g.
-      ap (λ (a : Group). with_legs a.heading a.legs g (table_days new.table g)) group
-      ∙ none_yet (Some h) g (table_days new.table g)
-      ∙ ap (λ (t : Table). table_days t g) table
+      ap (λ (a : Group). days_from (table_of new.table) a g) group
+      ∙ none_yet (Some h) g (table_days (table_of new.table) g)
+      ∙ ap (λ (t : TableBuilder). table_days (table_of t) g) table
       ∙ puts.days g;
   cuts = λ g cut has. by g cut has;
   waiting = waiting ∙ puts.waiting;
@@ -239,7 +251,9 @@ opened old put new h sequence puts table waiting wanted group = record {
 }
   where
     by : (g : FlightNumber) (cut : ℕ) → IsCut new g cut → IsCut old g cut ⊎ IsBound (Some h) g cut
-    by g cut (inl has) = inl (puts.cuts g cut (subst (λ (t : Table). Contains (table_cuts t g) cut) table has))
+    by g cut (inl has) =
+        let has_cut : TableBuilder → Type 0 = λ t. Contains (table_cuts (table_of t) g) cut in
+        inl (puts.cuts g cut (subst has_cut table has))
     by g cut (inr bound) = inr (subst (λ (a : Group). IsBound a.heading g cut) group bound)
 
 -- a leg joins the pending legs
@@ -248,18 +262,24 @@ module _ (old opened new : TimetableBuilder) (h : Heading) (l : LegValue)
     (group : new.group ≡ record { heading = opened.group.heading; legs = l ∷ opened.group.legs }) where
   pub joined_days : (g : FlightNumber) → days_with new g ≡ (if nat_eq (place_of h.flight) (place_of g) then changed_on (holds h.period) (placed l) 0 (days_with old g) else days_with old g)
   joined_days g =
-      ap (λ (a : Group). with_legs a.heading a.legs g (table_days new.table g)) group
-      ∙ ap (λ (t : Table). with_legs opened.group.heading (l ∷ opened.group.legs) g (table_days t g)) table
-      ∙ ap (λ (o : Option Heading). with_legs o (l ∷ opened.group.legs) g (table_days opened.table g)) opens.heading
-      ∙ one_more h l opened.group.legs g (table_days opened.table g) opens.order
-      ∙ ap (λ (ds : Days). if nat_eq (place_of h.flight) (place_of g) then changed_on (holds h.period) (placed l) 0 ds else ds)
-      (ap (λ (o : Option Heading). with_legs o opened.group.legs g (table_days opened.table g)) (sym opens.heading) ∙ opens.days g)
+      let legs = opened.group.legs in
+      let more : Group = record { heading = opened.group.heading; legs = l ∷ legs } in
+      let days = table_days (table_of opened.table) g in
+      let is_its = nat_eq (place_of h.flight) (place_of g) in
+      let placed_on = changed_on (holds h.period) (placed l) 0 in
+      let before : with_legs (Some h) legs g days ≡ days_with old g =
+      ap (λ (o : Option Heading). with_legs o legs g days) (sym opens.heading) ∙ opens.days g in
+      ap (λ (a : Group). days_from (table_of new.table) a g) group
+      ∙ ap (λ (t : TableBuilder). days_from (table_of t) more g) table
+      ∙ ap (λ (o : Option Heading). with_legs o (l ∷ legs) g days) opens.heading
+      ∙ one_more h l legs g days opens.order
+      ∙ ap (λ (ds : Days). if is_its then placed_on ds else ds) before
 
   pub joined_cuts : (g : FlightNumber) (cut : ℕ) → IsCut new g cut → IsCut old g cut ⊎ IsBound (Some h) g cut
   joined_cuts g cut has =
       opens.cuts g cut
-      (subst (λ (a : Group). Contains (table_cuts opened.table g) cut ⊎ IsBound a.heading g cut) group
-      (subst (λ (t : Table). Contains (table_cuts t g) cut ⊎ IsBound new.group.heading g cut) table has))
+      (subst (λ (a : Group). IsCutIn (table_of opened.table) a g cut) group
+      (subst (λ (t : TableBuilder). IsCutIn (table_of t) new.group g cut) table has))
 
 pub same_period : (p : DayRange) (r : LegFields) (last : ℕ) → p.first ≡ r.first → p.last ≡ last → p.days ≡ r.days → r.last ≡ Some last → p ≡ period_of r
 same_period p r last first end' days some =
@@ -301,8 +321,8 @@ module _ (old new : TimetableBuilder) (r : LegFields) (period : DayRange) (is : 
     named = leaves.named;
     wanted = leaves.wanted;
     days = λ g.
-        ap (λ (a : Group). with_legs a.heading a.legs g (table_days new.table g)) leaves.group
-        ∙ ap (λ (t : Table). with_legs old.group.heading old.group.legs g (table_days t g)) leaves.table
+        ap (λ (a : Group). days_from (table_of new.table) a g) leaves.group
+        ∙ ap (λ (t : TableBuilder). days_from (table_of t) old.group g) leaves.table
         ∙ sym (by (nat_eq (place_of r.name.flight) (place_of g)) (days_with old g));
     tails = leaves.tails;
     cuts = λ whole g cut has. inl (old_cut old new g cut leaves.group leaves.table has);
@@ -322,17 +342,20 @@ nothing none true = refl
 nothing none false = refl
 
 -- a builder that is empty
-pub none_built : (wanted : Option (ℕ × ℕ)) (b : TimetableBuilder) → b.wanted ≡ wanted → b.group ≡ no_group → b.table ≡ [] → ((place : ℕ) → waiting_at b.waiting place ≡ []) → IsBuilt wanted b []
+pub none_built : (wanted : Option (ℕ × ℕ)) (b : TimetableBuilder) → b.wanted ≡ wanted
+    → b.group ≡ no_group → table_of b.table ≡ [] → ((place : ℕ) → waiting_at b.waiting place ≡ [])
+    → IsBuilt wanted b []
 none_built wanted b wants group table tails = record {
   wants = wants;
   days = λ g is.
-      ap (λ (a : Group). with_legs a.heading a.legs g (table_days b.table g)) group
+      ap (λ (a : Group). days_from (table_of b.table) a g) group
       ∙ ap (λ (t : Table). table_days t g) table
       ∙ each_day-same (λ n. []) (itinerary_wanted wanted [] g) (λ n l. nothing [] (is_wanted wanted n));
   tails = λ n is. tails (name_place n);
   cuts = λ whole g is cut has.
       no_cut g cut
-      (subst (λ (a : Group). Contains (table_cuts [] g) cut ⊎ IsBound a.heading g cut) group (subst (λ (t : Table). Contains (table_cuts t g) cut ⊎ IsBound b.group.heading g cut) table has));
+      (subst (λ (a : Group). IsCutIn [] a g cut) group
+      (subst (λ (t : Table). IsCutIn t b.group g cut) table has));
 }
   where
     no_cut : (g : FlightNumber) (cut : ℕ) → Contains [] cut ⊎ ⊥ → IsTrue (list_any (is_point g cut) [])

@@ -1,6 +1,5 @@
 //! A timetable made of records.
 
-pub(crate) mod current_flight;
 pub(crate) mod flight_set;
 pub(crate) mod leg_group;
 pub(crate) mod leg_key;

@@ -1,6 +1,6 @@
 //! The legs of a flight on one date, shared by all dates that have them.
 
-ghost use Rattle.std.specs.Prelude.{◌≡◌, ◌<◌, ◌≤◌, ◌%◌, ◌^◌, ◌∷◌, ◌++◌, [], IfNone, IfOk, IfSome};
+ghost use Rattle.std.specs.Prelude.{◌≡◌, ◌<◌, ◌≤◌, ◌%◌, ◌^◌, ◌++◌, [], IfNone, IfOk, IfSome};
 ghost use Rattle.std.specs.Prelude.{OnOk, length, reverse};
 ghost use Rattle.ssim_base.specs.Export.{same_itinerary};
 ghost use Rattle.ssim_base.specs.ItineraryLaws.{exact_itinerary};

@@ -1,14 +1,25 @@
 -- Legs that are still to be put into the itineraries of a flight.
-use Rattle.std.specs.Prelude.{◌≡◌, ◌⊎◌, ℕ, ◌<◌, Bool, true, false, ◌||◌, List, length, slice_get, Some}
+use Rattle.std.specs.Prelude.{◌≡◌, ◌⊎◌, ℕ, ◌<◌, Bool, true, false, ◌||◌, List, ◌++◌}
+use Rattle.std.specs.Prelude.{length, slice_get, Some}
 use Rattle.std.specs.List.{list_any}
 use Rattle.std.proofs.Math.ListN.{drop}
 use Rattle.ssim_values.specs.Period.{DayRange}
 use Rattle.ssim_periods.specs.Calendar.{holds}
+use Rattle.ssim_periods.specs.Days.{Seen, changed_by_each, ends_of}
 use Rattle.ssim_base.specs.Timetable.{Legs}
+use Rattle.ssim_schedule.specs.internal.PlacedLegs.{placed_each}
 
 -- the legs to put, each with the period of the dates that get them
 abbrev pub Run : Type 0
 Run = DayRange × Legs
+
+-- a flight's itineraries once the legs of the runs are put into them, and the cuts that this may
+-- leave
+abbrev pub with_runs : List Run → Seen Legs → Seen Legs
+with_runs runs periods = record {
+  days = changed_by_each placed_each runs periods.days;
+  cuts = ends_of runs ++ periods.cuts;
+}
 
 -- whether the period of one of the runs holds the day
 abbrev pub is_run_on : List Run → ℕ → Bool

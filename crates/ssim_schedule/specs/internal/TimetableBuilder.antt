@@ -14,6 +14,7 @@ use Rattle.ssim_schedule.specs.internal.LegGroup.{IsBound, StartsFrom, no_group,
 use Rattle.ssim_base.specs.ReadBack.{place_of}
 use Rattle.ssim_schedule.specs.DivisionPoints.{is_point}
 use Rattle.ssim_schedule.specs.internal.Table.{table_cuts, table_days}
+use Rattle.ssim_schedule.specs.internal.TableBuilder.{table_of}
 use Rattle.ssim_schedule.specs.internal.PendingSegments.{waiting_at}
 use Rattle.ssim_schedule.specs.internal.WantedDates.{is_wanted, itinerary_wanted}
 use Rattle.ssim_schedule.specs.declared.builder.timetable_builder.TimetableBuilder.{TimetableBuilder}
@@ -21,11 +22,11 @@ use Rattle.ssim_schedule.specs.declared.builder.leg_group.Heading.{Heading}
 
 -- a flight's itineraries once the pending legs are put into the table
 abbrev pub days_with : TimetableBuilder → FlightNumber → Days
-days_with b g = with_legs b.group.heading b.group.legs g (table_days b.table g)
+days_with b g = with_legs b.group.heading b.group.legs g (table_days (table_of b.table) g)
 
 -- a cut of the flight in the table, or one that the pending legs may add
 abbrev pub IsCut : TimetableBuilder → FlightNumber → ℕ → Type 0
-IsCut b g cut = Contains (table_cuts b.table g) cut ⊎ IsBound b.group.heading g cut
+IsCut b g cut = Contains (table_cuts (table_of b.table) g) cut ⊎ IsBound b.group.heading g cut
 
 -- The builder has the timetable of these records on the wanted dates, and their pending tails. If each
 -- date is wanted, its cuts are division points of the records.
@@ -45,8 +46,9 @@ pub record TakesSegment (old new : TimetableBuilder) (r : SegmentFields) : Type 
 
 -- the pending legs are put into the table
 pub record PutsGroup (old new : TimetableBuilder) : Type 0 where
-  pub days : (g : FlightNumber) → table_days new.table g ≡ days_with old g
-  pub cuts : (g : FlightNumber) (cut : ℕ) → Contains (table_cuts new.table g) cut → IsCut old g cut
+  pub days : (g : FlightNumber) → table_days (table_of new.table) g ≡ days_with old g
+  pub cuts : (g : FlightNumber) (cut : ℕ) → Contains (table_cuts (table_of new.table) g) cut
+      → IsCut old g cut
   pub group : new.group ≡ no_group
   pub waiting : new.waiting ≡ old.waiting
   pub wanted : new.wanted ≡ old.wanted

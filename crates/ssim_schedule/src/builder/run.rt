@@ -1,25 +1,70 @@
 //! The runs of a flight: legs that are still to be put into its itineraries.
 
-ghost use Rattle.std.specs.Prelude.{◌≡◌, ◌⊎◌, ℕ, ◌+◌, ◌%◌, ◌<◌, true, false, Contains, length, IfOk, IfSome};
+ghost use Rattle.std.specs.Prelude.{◌≡◌, ◌⊎◌, ℕ, ◌+◌, ◌%◌, true, false, Contains, IfOk, IfSome};
+ghost use Rattle.std.specs.Prelude.{OnOk};
 ghost use Rattle.ssim_periods.specs.Calendar.{holds};
-ghost use Rattle.ssim_periods.specs.Days.{changed_by_each, changed_on, ends_of};
+ghost use Rattle.ssim_periods.specs.Days.{AddsOnly, changed_by_each, changed_on, ends_of};
 ghost use Rattle.ssim_base.specs.Timetable.{Days};
 ghost use Rattle.ssim_schedule.specs.internal.PlacedLegs.{placed_each};
 ghost use Rattle.ssim_schedule.specs.internal.SharedLegs.{hash_of};
-ghost use Rattle.ssim_schedule.specs.internal.Runs.{IsWider, is_run_on};
+ghost use Rattle.ssim_schedule.specs.internal.Runs.{IsWider, is_run_on, with_runs};
 
 use crate::builder::leg_group::LegGroup;
 use crate::itinerary::Itinerary;
-use ssim_periods::{Value, are_apart, union};
+use ssim_periods::{Periods, Value, are_apart, union};
 use ssim_values::{Memory, Period};
 use std::alloc::Global;
+
+/// The most runs of a flight. One more puts the legs of all of them into its itineraries.
+pub(crate) const MOST: usize = 16;
 
 /// A period, and legs that are still to be put into its itineraries.
 pub(crate) type Run = (Period, Itinerary);
 
-/// Adds the days of a period to a run with the legs of the group. The result says whether there is
-/// one; if not, nothing is changed. `hash` is that of the legs: a run with another is not compared.
-pub(crate) fn widen(runs: &mut Vec<Run>, period: &Period, group: &LegGroup, hash: u32) -> bool
+/// Puts the legs of a group into the itinerary on each date of a period: the dates join those of a
+/// run with these legs, or become one more run. The group may lose its legs.
+pub(crate) fn add_to_runs(
+    alloc: Global,
+    runs: &mut Vec<Run>,
+    periods: &mut Periods<Itinerary>,
+    period: &Period,
+    group: &mut LegGroup,
+) -> Result<(), Memory>
+    ensures days { OnOk result ((with_runs runs.new.items periods.new).days
+        ≡ changed_on (holds period.now) (placed_each group.old.legs) 0
+        (with_runs runs.old.items periods.old).days) }
+    ensures cuts { OnOk result (AddsOnly (with_runs runs.old.items periods.old).cuts
+        (with_runs runs.new.items periods.new).cuts period.now.first (period.now.last + 1)) }
+{
+    let hash = group.hash();
+    if widen(runs, period, group, hash) {
+        return Ok(());
+    }
+    let legs = take_legs(alloc, runs, group, hash)?;
+    make_room(runs, periods)?;
+    runs.push((*period, legs))?;
+    Ok(())
+}
+
+// Puts the legs of all runs into the itineraries, so that no run is left, if no more are allowed.
+fn make_room(runs: &mut Vec<Run>, periods: &mut Periods<Itinerary>) -> Result<(), Memory>
+    ensures days { OnOk result ((with_runs runs.new.items periods.new).days
+        ≡ (with_runs runs.old.items periods.old).days) }
+    ensures cuts { OnOk result ((cut : ℕ)
+        → Contains (with_runs runs.new.items periods.new).cuts cut
+        → Contains (with_runs runs.old.items periods.old).cuts cut) }
+{
+    if runs.len() < MOST {
+        return Ok(());
+    }
+    periods.replace_each(runs)?;
+    runs.clear();
+    Ok(())
+}
+
+// Adds the days of a period to a run with the legs of the group. The result says whether there is
+// one; if not, nothing is changed. `hash` is that of the legs: a run with another is not compared.
+fn widen(runs: &mut Vec<Run>, period: &Period, group: &LegGroup, hash: u32) -> bool
     ensures days { result ≡ true → (days : Days) → changed_by_each placed_each runs.new.items days ≡ changed_on (holds period.now) (placed_each group.now.legs) 0 (changed_by_each placed_each runs.old.items days) }
     ensures ends { result ≡ true → (cut : ℕ) → Contains (ends_of runs.new.items) cut → Contains (ends_of runs.old.items) cut ⊎ (cut ≡ period.now.first) ⊎ (cut ≡ period.now.last + 1) }
     ensures none { result ≡ false → runs.new ≡ runs.old }
@@ -62,8 +107,9 @@ fn are_apart_from(runs: &[Run], period: &Period) -> bool
     }
 }
 
-/// The legs of a group, which may lose them, and their hash. A run with the same legs shares them.
-pub(crate) fn take_legs(
+// The legs of a group, which may lose them. A run with the same legs shares them. `hash` is that of
+// the legs.
+fn take_legs(
     alloc: Global,
     runs: &[Run],
     group: &mut LegGroup,
