@@ -60,9 +60,6 @@ module _ (s : ℕ → Bool) (after : Legs → Legs) where
       ∙ by_test (nat_eq (place_of q) (place_of g)) p.days (changed_on s after 0 (table_days table g)) (table_days table g)
       (λ e. made ∙ ap (changed_on s after 0) (ap days_at here ∙ sym (found_at days_at no_days table rising g i (moved table q g i (same_place q g e) is))))
 
-contains_none : (cut : ℕ) → Contains (let none : List ℕ = [] in none) cut → ⊥
-contains_none cut c = omega (arith, c.1)
-
 module _ (period : DayRange) where
   pub adds : (q g : FlightNumber) (b : Bool) (old had new : List ℕ) → nat_eq (place_of q) (place_of g) ≡ b → (b ≡ true → had ≡ old) → AddsOnly had new period.first (period.last + 1) → AddsOnlyAt q period g old (if b then new else old)
   adds q g true old had new e same only = λ cut c. by cut (only cut c)
