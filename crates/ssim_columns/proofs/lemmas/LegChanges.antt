@@ -312,13 +312,15 @@ equipment_stands e d x h n c =
 
 -- ---- a new leg
 
-abbrev station_widths : List ℕ
+-- the parts of the columns of a new leg, and the length of each
+abbrev pub station_widths : List ℕ
 station_widths = 1 ∷ 3 ∷ 8 ∷ 5 ∷ 2 ∷ 3 ∷ 8 ∷ 5 ∷ 123 ∷ []
 
-abbrev station_rows : LegStations → List (List ℕ)
+abbrev pub station_rows : LegStations → List (List ℕ)
 station_rows s = (32 ∷ []) ∷ s.departure ∷ replicate 8 32 ∷ variation_text s.departure_variation ∷ replicate 2 32 ∷ s.arrival ∷ replicate 8 32 ∷ variation_text s.arrival_variation ∷ replicate 123 32 ∷ []
 
-stations_long : (s : LegStations) → IsTrue (is_station s.departure) → IsTrue (is_station s.arrival) → AllZip (λ w p. length p ≡ w) station_widths (station_rows s)
+pub stations_long : (s : LegStations) → IsTrue (is_station s.departure)
+    → IsTrue (is_station s.arrival) → AllZip (λ w p. length p ≡ w) station_widths (station_rows s)
 stations_long s departure arrival = (refl, (length_station s.departure departure, (refl, (refl, (refl, (length_station s.arrival arrival, (refl, (refl, (refl, tt)))))))))
 
 pub length_stations : (s : LegStations) → IsTrue (is_station s.departure) → IsTrue (is_station s.arrival) → length (station_columns s) ≡ 158
