@@ -1,10 +1,10 @@
 -- Each day of a set is in exactly one period of its cover: by recursion over the periods, a day
 -- before the first, before its break, or after it.
-use Rattle.std.proofs.Common.{◌≡◌, ℕ, zero, suc, ◌-◌, ◌<◌, ◌≤◌, Bool, true, false, ◌&&◌, if◌then◌else◌, nat_lt, nat_le, [], ◌∷◌, slice_index_or, refl, ap, ◌∙◌, sym, arith, inl, inr}
+use Rattle.std.proofs.Common.{◌≡◌, ℕ, zero, suc, ◌-◌, ◌<◌, ◌≤◌, Bool, true, false, ◌&&◌, if◌then◌else◌, nat_le, slice_index_or, refl, ap, ◌∙◌, sym, arith, inl, inr}
 use Rattle.std.proofs.lemmas.Bool.Decides.{nat_tests}
 use Rattle.ssim_periods.specs.Calendar.{slot, holds}
-use Rattle.ssim_periods.specs.Cover.{first_where, last_where, weekdays_of, break_after, period_at, cover_from, holding, CoverLaw}
-use Rattle.ssim_periods.proofs.CoverLemmas.{le_or_lt, first_where-either, last_where-is, break_after-is}
+use Rattle.ssim_periods.specs.Cover.{last_where, weekdays_of, break_after, period_at, cover_from, holding, CoverLaw}
+use Rattle.ssim_periods.proofs.CoverLemmas.{le_or_lt, last_where-is, break_after-is, cover_from-step}
 
 -- a set's day from `from` on
 abbrev from_on : ℕ → (ℕ → Bool) → ℕ → Bool
@@ -62,37 +62,24 @@ later b t k e z = ap (λ c. if c then suc k else k) e ∙ z
 cover_from-holds : (count : ℕ) (is_in : ℕ → Bool) (from end n : ℕ) → end - from ≤ count → ((m : ℕ) → end ≤ m → is_in m ≡ false) → holding (cover_from count is_in from end) n ≡ one_if (from_on from is_in n)
 cover_from-holds zero is_in from end n fuel outside = sym (ap one_if (from_on-off from is_in n (λ h. outside n (omega arith))))
 cover_from-holds (suc count) is_in from end n fuel outside =
-    elim (nat_lt a end) as (λ t. nat_lt a end ≡ t → holding (if t then period_at is_in a after ∷ cover_from count is_in after end else []) n ≡ one_if (from_on from is_in n)) [
-      | true ↦ λ e. elim (first_where-either is_in from (end - from)) [
-        | inl none ↦ let at = none.0 in let lt : a < end = grind (arith, nat_tests) in absurd (omega arith)
-        | inr some ↦
-            let lt : a < end = grind (arith, nat_tests) in
-            let low = some.0 in
-            let b = break_after-is is_in a end lt in let gt = b.0 in
-            let p = period_at-holds is_in a end n lt some.2 in
-            let rest = cover_from-holds count is_in after end n (omega arith) outside in
-            elim (le_or_lt a n) [
-              | inr before ↦ later _ (from_on from is_in n) _ (p.0 before) (rest ∙ ap one_if (from_on-off after is_in n (λ h. absurd (omega arith)) ∙ sym (from_on-off from is_in n (λ h. some.3 n h before))))
-              | inl from_a ↦ elim (le_or_lt after n) [
-                | inr within ↦ here _ (from_on from is_in n) _ (p.1 from_a within ∙ sym (from_on-at from is_in n (omega arith))) (rest ∙ ap one_if (from_on-off after is_in n (λ h. absurd (omega arith))))
-                | inl beyond ↦ later _ (from_on from is_in n) _ (p.2 beyond) (rest ∙ ap one_if (from_on-at after is_in n beyond ∙ sym (from_on-at from is_in n (omega arith))))
-              ]
-            ]
+    cover_from-step count is_in from end (λ ps. holding ps n ≡ one_if (from_on from is_in n))
+    (λ none. sym (ap one_if (from_on-off from is_in n (λ h.
+    elim (le_or_lt end n) [ inl past ↦ outside n past | inr inside ↦ none n h inside ]))))
+    (λ a f.
+    let after = break_after is_in a end in
+    let low = f.low in let lt = f.lt in
+    let b = break_after-is is_in a end lt in let gt = b.0 in
+    let p = period_at-holds is_in a end n lt f.own in
+    let rest = cover_from-holds count is_in after end n (omega arith) outside in
+    elim (le_or_lt a n) [
+      | inr before ↦ later _ (from_on from is_in n) _ (p.0 before)
+          (rest ∙ ap one_if (from_on-off after is_in n (λ h. absurd (omega arith))
+          ∙ sym (from_on-off from is_in n (λ h. f.least n h before))))
+      | inl from_a ↦ elim (le_or_lt after n) [
+        | inr within ↦ here _ (from_on from is_in n) _ (p.1 from_a within ∙ sym (from_on-at from is_in n (omega arith))) (rest ∙ ap one_if (from_on-off after is_in n (λ h. absurd (omega arith))))
+        | inl beyond ↦ later _ (from_on from is_in n) _ (p.2 beyond) (rest ∙ ap one_if (from_on-at after is_in n beyond ∙ sym (from_on-at from is_in n (omega arith))))
       ]
-      | false ↦ λ e. sym (ap one_if (from_on-off from is_in n (λ h. elim (le_or_lt end n) [
-        | inl past ↦ outside n past
-        | inr inside ↦ elim (first_where-either is_in from (end - from)) [
-          | inl none ↦ none.1 n h (omega arith)
-          | inr some ↦ let high = some.1 in let ge : end ≤ a = grind (arith, nat_tests) in absurd (omega arith)
-        ]
-      ])))
-    ] refl
-  where
-    a : ℕ
-    a = first_where is_in from (end - from)
-
-    after : ℕ
-    after = break_after is_in a end
+    ])
 
 pub cover_law : CoverLaw
 cover_law is_in end outside n = cover_from-holds end is_in 0 end n (omega arith) outside ∙ ap one_if (from_on-at 0 is_in n (omega arith))

@@ -1,9 +1,11 @@
 -- The first day that passes, found in at most seven days of a stretch.
-use Rattle.std.proofs.Common.{◌≡◌, ℕ, zero, suc, ◌+◌, ◌-◌, ◌*◌, ◌/◌, ◌%◌, slice_index_or, ◌<◌, ◌≤◌, Bool, true, false, not, if◌then◌else◌, nat_lt, refl, ap, ◌∙◌, sym, arith, ◌⊎◌, inl, inr}
+use Rattle.std.proofs.Common.{◌≡◌, ℕ, zero, suc, ◌+◌, ◌-◌, ◌*◌, ◌/◌, ◌%◌, slice_index_or, ◌<◌, ◌≤◌, Bool, true, false, not, if◌then◌else◌, nat_lt, List, [], ◌∷◌, refl, ap, ◌∙◌, sym, arith, ◌⊎◌, inl, inr}
 use Rattle.std.proofs.Math.Bool.{beq}
 use Rattle.std.proofs.lemmas.Bool.Decides.{nat_tests}
+use Rattle.ssim_values.specs.Period.{DayRange}
 use Rattle.ssim_periods.specs.Calendar.{slot}
 use Rattle.ssim_periods.specs.Cover.{first_where, last_where, weekdays_of, differ, breaks, break_after}
+use Rattle.ssim_periods.specs.Cover.{cover_from, period_at}
 
 pub le_or_lt : (m n : ℕ) → (m ≤ n) ⊎ (n < m)
 le_or_lt m n = elim (nat_lt n m) as (λ t. nat_lt n m ≡ t → (m ≤ n) ⊎ (n < m)) [ true ↦ λ e. inr (grind (arith, nat_tests)) | false ↦ λ e. inl (grind (arith, nat_tests)) ] refl
@@ -159,3 +161,40 @@ differ-tested true true h = h
 differ-tested true false h = refl
 differ-tested false true h = refl
 differ-tested false false h = h
+
+-- the first day of a set from `from` on, which is before `end`
+pub record IsFirst (is_in : ℕ → Bool) (from end first : ℕ) : Type 0 where
+  pub low : from ≤ first
+  pub lt : first < end
+  pub own : is_in first ≡ true
+  pub least : (n : ℕ) → from ≤ n → n < first → is_in n ≡ false
+
+before-by : (m n : ℕ) → nat_lt m n ≡ true → m < n
+before-by m n e = grind (arith, nat_tests)
+
+from-by : (m n : ℕ) → nat_lt m n ≡ false → n ≤ m
+from-by m n e = grind (arith, nat_tests)
+
+-- Induction over the periods of a cover: there is no day left, or the period of the first day is
+-- followed by the cover from its break on.
+pub cover_from-step : (count : ℕ) (is_in : ℕ → Bool) (from end : ℕ) (P : List DayRange → Type 0)
+    → (((n : ℕ) → from ≤ n → n < end → is_in n ≡ false) → P [])
+    → ((a : ℕ) → IsFirst is_in from end a
+    → P (period_at is_in a (break_after is_in a end)
+    ∷ cover_from count is_in (break_after is_in a end) end))
+    → P (cover_from (suc count) is_in from end)
+cover_from-step count is_in from end P none next =
+    let a = first_where is_in from (end - from) in
+    let after = break_after is_in a end in
+    elim (nat_lt a end) as (λ t. nat_lt a end ≡ t
+    → P (if t then period_at is_in a after ∷ cover_from count is_in after end else [])) [
+      | true ↦ λ e. let lt = before-by a end e in
+          elim (first_where-either is_in from (end - from)) [
+            | inl empty ↦ let at = empty.0 in absurd (omega arith)
+            | inr some ↦ next a (record { low = some.0; lt = lt; own = some.2; least = some.3 })
+          ]
+      | false ↦ λ e. let ge = from-by a end e in elim (first_where-either is_in from (end - from)) [
+        | inl empty ↦ none (λ n l h. empty.1 n l (omega arith))
+        | inr some ↦ let high = some.1 in absurd (omega arith)
+      ]
+    ] refl

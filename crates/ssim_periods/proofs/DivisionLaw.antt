@@ -1,11 +1,11 @@
 -- A cover is the one division of a set: its periods are each the next, and two divisions agree period
 -- by period, since the first day, the weekdays, the break and the last day are each determined.
-use Rattle.std.proofs.Common.{◌≡◌, ◌≢◌, ℕ, zero, suc, ◌+◌, ◌-◌, ◌%◌, ◌<◌, ◌≤◌, Bool, true, false, if◌then◌else◌, nat_lt, List, [], ◌∷◌, slice_index_or, refl, ap, ◌∙◌, sym, subst, arith, ◌⊎◌, inl, inr}
+use Rattle.std.proofs.Common.{◌≡◌, ◌≢◌, ℕ, zero, suc, ◌+◌, ◌-◌, ◌%◌, ◌<◌, ◌≤◌, Bool, true, false, nat_lt, List, [], ◌∷◌, slice_index_or, refl, ap, ◌∙◌, sym, subst, arith, ◌⊎◌, inl, inr}
 use Rattle.std.proofs.lemmas.Bool.Decides.{nat_tests}
 use Rattle.ssim_values.specs.Period.{DayRange}
 use Rattle.ssim_periods.specs.Calendar.{slot}
 use Rattle.ssim_periods.specs.Cover.{first_where, weekdays_of, differ, breaks, break_after, period_at, cover_from, cover, IsNextPeriod, AreDivision, DivisionLaw}
-use Rattle.ssim_periods.proofs.CoverLemmas.{le_or_lt, same_or_less, first_where-either, first_where-is, first_where-none, last_where-is, weekdays_of-own, differ-same, same-differ}
+use Rattle.ssim_periods.proofs.CoverLemmas.{le_or_lt, same_or_less, first_where-either, first_where-is, first_where-none, last_where-is, weekdays_of-own, differ-same, same-differ, cover_from-step}
 
 true-false : (b : Bool) → b ≡ true → b ≡ false → ⊥
 true-false b t f = let bad : true ≡ false = sym t ∙ f in cc
@@ -146,41 +146,26 @@ cover-divides : (count : ℕ) (is_in : ℕ → Bool) (from end : ℕ) → end - 
     → AreDivision from is_in (cover_from count is_in from end)
 cover-divides zero is_in from end fuel outside = λ n h. outside n (omega arith)
 cover-divides (suc count) is_in from end fuel outside =
-    elim (nat_lt a end) as (λ t. nat_lt a end ≡ t → AreDivision from is_in (if t then period_at is_in a after ∷ cover_from count is_in after end else [])) [
-      | true ↦ λ e. elim (first_where-either is_in from (end - from)) [
-        | inl none ↦ let at = none.0 in let lt : a < end = grind (arith, nat_tests) in absurd (omega arith)
-        | inr some ↦
-            let lt : a < end = grind (arith, nat_tests) in
-            let found = found-break is_in a end lt some.2 outside in
-            let stop = found.0 in
-            let k = found.1 in
-            let gt = k.after in
-            let one : (stop - 1) + 1 ≡ stop = omega arith in (
-              stop - 1,
-              next-period is_in from a end stop some.0 lt some.2 some.3 outside (stop - 1) one k,
-              elim k.is [
-                | inl at ↦ subst (λ (n : ℕ). AreDivision n is_in (cover_from count is_in after end)) (at ∙ sym one)
-                    (cover-divides count is_in after end (omega arith) outside)
-                | inr at ↦ let high = at.1 in
-                    subst (λ (ps : List DayRange). AreDivision (stop - 1 + 1) is_in ps)
-                    (sym (ap (λ (n : ℕ). cover_from count is_in n end) at.0 ∙ none_from count is_in end)) (λ n h. outside n (omega arith))
-              ],
-            )
-      ]
-      | false ↦ λ e n h. elim (le_or_lt end n) [
-        | inl past ↦ outside n past
-        | inr inside ↦ elim (first_where-either is_in from (end - from)) [
-          | inl none ↦ none.1 n h (omega arith)
-          | inr some ↦ let high = some.1 in let ge : end ≤ a = grind (arith, nat_tests) in absurd (omega arith)
-        ]
-      ]
-    ] refl
-  where
-    a : ℕ
-    a = first_where is_in from (end - from)
-
-    after : ℕ
-    after = break_after is_in a end
+    cover_from-step count is_in from end (AreDivision from is_in)
+    (λ none n h. elim (le_or_lt end n) [ inl past ↦ outside n past | inr inside ↦ none n h inside ])
+    (λ a f.
+    let after = break_after is_in a end in
+    let low = f.low in let lt = f.lt in
+    let found = found-break is_in a end lt f.own outside in
+    let stop = found.0 in
+    let k = found.1 in
+    let gt = k.after in
+    let one : (stop - 1) + 1 ≡ stop = omega arith in (
+      stop - 1,
+      next-period is_in from a end stop low lt f.own f.least outside (stop - 1) one k,
+      elim k.is [
+        | inl at ↦ subst (λ (n : ℕ). AreDivision n is_in (cover_from count is_in after end)) (at ∙ sym one)
+            (cover-divides count is_in after end (omega arith) outside)
+        | inr at ↦ let high = at.1 in
+            subst (λ (ps : List DayRange). AreDivision (stop - 1 + 1) is_in ps)
+            (sym (ap (λ (n : ℕ). cover_from count is_in n end) at.0 ∙ none_from count is_in end)) (λ n h. outside n (omega arith))
+      ],
+    ))
 
 pub division_law : DivisionLaw
 division_law is_in end outside periods = (

@@ -1,5 +1,6 @@
 -- Entries that are done, since a later one has their value.
 use Rattle.std.proofs.Common.{◌≡◌, ℕ, zero, suc, ◌+◌, ◌<◌, ◌≤◌, ◌||◌, Bool, true, false, List, [], ◌∷◌, length, take, drop, slice_get, slice_index_or, slice_set, Some, refl, ap, sym, ◌∙◌, arith, inl, inr, IsTrue, ◌↔◌}
+use Rattle.std.proofs.Math.Bool.{or-true}
 use Rattle.std.specs.List.{list_any}
 use Rattle.std.proofs.lemmas.List.{drop_more}
 use Rattle.ssim_values.specs.Period.{DayRange}
@@ -64,10 +65,6 @@ marked-set alike v xs old now i j x up lt is m same =
       ];
       kept = λ k before. index-other now j k true (λ e. absurd (omega arith)) ∙ m.kept k (omega arith);
     }
-  where
-    or-true : (b : Bool) → (b || true) ≡ true
-    or-true true = refl
-    or-true false = refl
 
 -- ---- the entries before a place
 

@@ -11,10 +11,6 @@ use Rattle.ssim_periods.specs.Days.{each_day, changed_on}
 use Rattle.ssim_periods.specs.Pieces.{held_on}
 use Rattle.ssim_periods.proofs.DayLemmas.{each_day-same, changed_on-each_day}
 
-pub or-false : (b : Bool) → (b || false) ≡ b
-or-false true = refl
-or-false false = refl
-
 or-first : (a b c : Bool) → ((a || b) || c) ≡ (b || (a || c))
 or-first true true c = refl
 or-first true false c = refl

@@ -1,6 +1,7 @@
 -- The pieces of periods without a common day: the days of each value are the days of its periods,
 -- and each value comes last once.
 use Rattle.std.proofs.Common.{◌≡◌, ◌≢◌, ℕ, zero, suc, ◌+◌, ◌-◌, ◌<◌, ◌≤◌, ◌||◌, Bool, true, false, if◌then◌else◌, nat_eq, List, [], ◌∷◌, ◌++◌, length, filter, map, take, drop, slice_index_or, refl, ap, subst, sym, ◌∙◌, arith, ◌⊎◌, inl, inr, IsTrue, ◌↔◌, append-nil, length-drop}
+use Rattle.std.proofs.Math.Bool.{or-false, or-true}
 use Rattle.std.specs.List.{All, flat_map, list_any}
 use Rattle.std.specs.List.Sorted.{IsPermutation, IsNonDecreasingBy}
 use Rattle.std.proofs.Math.Path.{fun_ext}
@@ -24,14 +25,6 @@ use Rattle.ssim_periods.proofs.PiecesFound.{in-append, pieces-once}
 known : (b : Bool) → (b ≡ true) ⊎ (b ≡ false)
 known true = inl refl
 known false = inr refl
-
-or-true : (b : Bool) → (b || true) ≡ true
-or-true true = refl
-or-true false = refl
-
-or-false : (b : Bool) → (b || false) ≡ b
-or-false true = refl
-or-false false = refl
 
 not-alike : {V : Type 0} (alike : V → V → Bool) → ((x y : V) → IsTrue (alike x y) ↔ (x ≡ y)) → (v w : V) → v ≢ w → alike v w ≡ false
 not-alike alike exact v w h = elim (known (alike v w)) [ inl on ↦ absurd (h ((exact v w).0 on)) | inr off ↦ off ]

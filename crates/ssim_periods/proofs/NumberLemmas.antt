@@ -1,6 +1,7 @@
 -- Numbers in place of values: they keep their values when more are known, and two numbers are equal
 -- if their values are.
 use Rattle.std.proofs.Common.{◌≡◌, ℕ, zero, suc, ◌+◌, ◌<◌, Bool, true, false, ◌||◌, if◌then◌else◌, nat_eq, nat_lt, Option, Some, List, [], ◌∷◌, ◌++◌, map, length, slice_get, slice_index_or, refl, ap, ◌∙◌, sym, arith, ◌⊎◌, inl, inr, IsTrue, ◌↔◌, eqb-true, eq-eqb, option_map, length-append, drop, take, slice_set}
+use Rattle.std.proofs.Math.Bool.{or-true}
 use Rattle.std.specs.List.{All, list_any, range_with_len}
 use Rattle.std.proofs.Math.Path.{fun_ext}
 use Rattle.std.proofs.lemmas.List.{map-append, take_more, take_more_set, drop_more}
@@ -34,10 +35,6 @@ pub get-known : {V : Type 0} (alike : V → V → Bool) → ((x y : V) → IsTru
 get-known alike exact [] x n h = cc
 get-known alike exact (v ∷ known) x zero h = let same : x ≡ v = cc in ap (λ b. b || list_any (alike x) known) ((exact x v).1 same)
 get-known alike exact (v ∷ known) x (suc n) h = ap (λ b. alike x v || b) (get-known alike exact known x n h) ∙ or-true (alike x v)
-  where
-    or-true : (b : Bool) → (b || true) ≡ true
-    or-true true = refl
-    or-true false = refl
 
 -- a value with a number is not added again
 pub gathered-numbered : {V : Type 0} (alike : V → V → Bool) (nothing : V) → ((x y : V) → IsTrue (alike x y) ↔ (x ≡ y)) → (known : List V) (x : V) (n : ℕ) → numbered nothing known n ≡ Some x → gathered alike nothing known (x ∷ []) ≡ known

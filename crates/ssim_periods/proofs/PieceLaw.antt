@@ -1,14 +1,14 @@
 -- On each day exactly one piece holds: exactly one of the distinct values is the day's, its cover
 -- holds the day once, and sorting only moves pieces.
 use Rattle.std.proofs.Common.{◌≡◌, ℕ, zero, suc, ◌-◌, ◌<◌, ◌≤◌, Bool, true, false, ◌||◌, if◌then◌else◌, nat_lt, List, [], ◌∷◌, ◌++◌, map, length, slice_index_or, filter, replicate, refl, ap, subst, ◌∙◌, sym, arith, ◌⊎◌, inl, inr, IsTrue, ◌↔◌}
+use Rattle.std.proofs.Math.Bool.{or-false}
 use Rattle.std.specs.List.{All, list_any, flat_map}
-use Rattle.std.proofs.lemmas.Bool.Decides.{nat_tests}
 use Rattle.std.proofs.lemmas.List.Folds.{list_any_at}
 use Rattle.ssim_values.specs.Period.{DayRange}
 use Rattle.ssim_periods.specs.Calendar.{holds}
-use Rattle.ssim_periods.specs.Cover.{first_where, break_after, period_at, cover_from, cover, holding}
+use Rattle.ssim_periods.specs.Cover.{break_after, cover_from, cover, holding}
 use Rattle.ssim_periods.specs.Pieces.{has_value, values_of, pieces_with, insert_by_first, sort_by_first, pieces_of, held_on, alone, ArePieces}
-use Rattle.ssim_periods.proofs.CoverLemmas.{le_or_lt, first_where-either, last_where-is, break_after-is}
+use Rattle.ssim_periods.proofs.CoverLemmas.{le_or_lt, last_where-is, break_after-is, cover_from-step}
 use Rattle.ssim_periods.proofs.CoverLaw.{cover_law, period_at-holds}
 
 -- equality as a test
@@ -24,10 +24,6 @@ alike-turned alike exact x y =
         | false ↦ λ f. refl
       ] refl
     ] refl
-
-or-false : (b : Bool) → (b || false) ≡ b
-or-false true = refl
-or-false false = refl
 
 -- whether a day has a value
 pub has_value-at : {V : Type 0} (alike : V → V → Bool) (nothing : V) (days : List V) (v : V) (n : ℕ) → n < length days → has_value alike days v n ≡ alike v (slice_index_or days n nothing)
@@ -187,23 +183,14 @@ Begins end p = (p.first ≤ p.last) × (p.last < end) × (holds p p.first ≡ tr
 pub cover_from-begins : (count : ℕ) (is_in : ℕ → Bool) (from end : ℕ) → Every (Begins end) (cover_from count is_in from end)
 cover_from-begins zero is_in from end = tt
 cover_from-begins (suc count) is_in from end =
-    elim (nat_lt a end) as (λ t. nat_lt a end ≡ t → Every (Begins end) (if t then period_at is_in a after ∷ cover_from count is_in after end else [])) [
-      | true ↦ λ e. elim (first_where-either is_in from (end - from)) [
-        | inl none ↦ let at = none.0 in let lt : a < end = grind (arith, nat_tests) in absurd (omega arith)
-        | inr some ↦
-            let lt : a < end = grind (arith, nat_tests) in
-            let b = break_after-is is_in a end lt in let gt = b.0 in let le = b.1 in
-            let l = last_where-is is_in a (after - a) some.2 in let low = l.0 in let high = l.1 in
-            ((low, omega arith, (period_at-holds is_in a end a lt some.2).1 (omega arith) gt ∙ some.2), cover_from-begins count is_in after end)
-      ]
-      | false ↦ λ e. tt
-    ] refl
-  where
-    a : ℕ
-    a = first_where is_in from (end - from)
-
-    after : ℕ
-    after = break_after is_in a end
+    cover_from-step count is_in from end (Every (Begins end)) (λ none. tt) (λ a f.
+    let after = break_after is_in a end in
+    let lt = f.lt in
+    let b = break_after-is is_in a end lt in let gt = b.0 in let le = b.1 in
+    let l = last_where-is is_in a (after - a) f.own in let low = l.0 in let high = l.1 in (
+      (low, omega arith, (period_at-holds is_in a end a lt f.own).1 (omega arith) gt ∙ f.own),
+      cover_from-begins count is_in after end,
+    ))
 
 Every-paired : {V : Type 0} (end : ℕ) (v : V) (periods : List DayRange) → Every (Begins end) periods → Every (λ (piece : DayRange × V). Begins end piece.0) (map (λ period. (period, v)) periods)
 Every-paired end v [] e = tt

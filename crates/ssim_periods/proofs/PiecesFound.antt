@@ -1,6 +1,7 @@
 -- The pieces of the collected values, sorted, equal the pieces of the definition: both are the same
 -- pieces, and no day is in two pieces.
 use Rattle.std.proofs.Common.{◌≡◌, ℕ, zero, suc, ◌<◌, ◌≤◌, Bool, true, false, ◌||◌, if◌then◌else◌, List, [], ◌∷◌, ◌++◌, length, slice_index_or, filter, refl, ap, subst, ◌∙◌, sym, arith, ◌⊎◌, inl, inr, IsTrue, ◌↔◌}
+use Rattle.std.proofs.Math.Bool.{or-true}
 use Rattle.std.specs.List.{list_any, flat_map}
 use Rattle.std.specs.List.Sorted.{IsPermutation, IsNonDecreasingBy}
 use Rattle.std.proofs.lemmas.List.Sorted.{All-permutation, IsPermutation-sym}
@@ -81,10 +82,6 @@ any-flat : {V : Type 0} (test : V → Bool) (rows : List (List V)) (k : ℕ) (d 
 any-flat test [] k d h i = absurd (omega arith)
 any-flat test (row ∷ rows) zero d h i = list_any-append test row (flat_map (λ row. row) rows) ∙ ap (λ b. b || list_any test (flat_map (λ row. row) rows)) i
 any-flat test (row ∷ rows) (suc k) d h i = list_any-append test row (flat_map (λ row. row) rows) ∙ ap (λ b. list_any test row || b) (any-flat test rows k d (omega arith) i) ∙ or-true (list_any test row)
-  where
-    or-true : (b : Bool) → (b || true) ≡ true
-    or-true true = refl
-    or-true false = refl
 
 -- a day's value is one of the rows'
 in_rows : {V : Type 0} (alike : V → V → Bool) (nothing : V) → ((x y : V) → IsTrue (alike x y) ↔ (x ≡ y)) → (before : List V) (cuts : List ℕ) (rows : List (List V)) (n : ℕ) → AreRows before cuts rows → list_any (alike (value_on nothing before cuts rows n)) (flat_map (λ row. row) (before ∷ rows)) ≡ true

@@ -1,6 +1,7 @@
 -- The cover of a period and of days that come long after it: the period, then the cover of these
 -- days. Up to the break only the period holds days, and after it only the others do.
 use Rattle.std.proofs.Common.{◌≡◌, ℕ, zero, suc, ◌+◌, ◌-◌, ◌%◌, ◌<◌, ◌≤◌, Bool, true, false, ◌||◌, if◌then◌else◌, nat_lt, List, [], ◌∷◌, ◌++◌, length, map, drop, slice_index_or, refl, ap, subst, sym, ◌∙◌, arith, inl, inr}
+use Rattle.std.proofs.Math.Bool.{or-false}
 use Rattle.std.specs.List.{flat_map}
 use Rattle.std.proofs.Math.Path.{fun_ext}
 use Rattle.std.proofs.lemmas.List.{drop_more, map-append}
@@ -11,7 +12,6 @@ use Rattle.ssim_periods.specs.Cover.{first_where, last_where, weekdays_of, diffe
 use Rattle.ssim_periods.proofs.CoverLemmas.{le_or_lt, first_where-none, first_where-is, first_where-either, first_where-same, last_where-is, last_where-at, last_where-same, differ-same, break_after-is}
 use Rattle.ssim_periods.proofs.CoverSteps.{cover_at, cover_from-at, cover_at-next, cover_at-end, first_where-low, first_where-found, range-is}
 use Rattle.ssim_periods.proofs.DayLemmas.{day_count-is}
-use Rattle.ssim_periods.proofs.JoinLemmas.{or-false}
 
 -- ---- sets that agree from a day on have the same cover from it on
 

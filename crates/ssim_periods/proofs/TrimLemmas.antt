@@ -61,9 +61,19 @@ between p mask n is from to =
     ap (λ x. (x && nat_le n p.last) && slice_index_or p.days (slot n) false) a ∙ ap (λ x. x && slice_index_or p.days (slot n) false) b
     ∙ ap (λ ds. slice_index_or ds (slot n) false) (sym is)
 
-pub trim-none : (p : DayRange) (mask : List Bool) (from end first : ℕ) → mask ≡ p.days → from ≡ p.first → end ≡ p.last + 1 → p.first ≤ p.last → first ≡ first_where (λ n. slice_index_or mask (slot n) false) from (end - from) → first ≡ end → cover (holds p) day_count ≡ []
-trim-none p mask from end first is f e ordered found all =
+-- weekdays and bounds that are those of a period
+pub record AreOwn (p : DayRange) (mask : List Bool) (from end : ℕ) : Type 0 where
+  pub days : mask ≡ p.days
+  pub starts : from ≡ p.first
+  pub ends : end ≡ p.last + 1
+  pub ordered : p.first ≤ p.last
+
+pub trim-none : (p : DayRange) (mask : List Bool) (from end first : ℕ) → AreOwn p mask from end
+    → first ≡ first_where (λ n. slice_index_or mask (slot n) false) from (end - from) → first ≡ end
+    → cover (holds p) day_count ≡ []
+trim-none p mask from end first own found all =
     let test = λ (n : ℕ). slice_index_or mask (slot n) false in
+    let is = own.days in
     cover-none (holds p) day_count (λ n. elim (le_or_lt p.first n) [
       | inr early ↦ before p n early
       | inl low ↦ elim (le_or_lt (p.last + 1) n) [
@@ -89,9 +99,12 @@ pub record First (p : DayRange) (mask : List Bool) (first end : ℕ) : Type 0 wh
   pub on : slice_index_or mask (slot first) false ≡ true
   pub early : (n : ℕ) → n < first → holds p n ≡ false
 
-pub first-of : (p : DayRange) (mask : List Bool) (from end first : ℕ) → mask ≡ p.days → from ≡ p.first → end ≡ p.last + 1 → p.first ≤ p.last → first ≡ first_where (λ n. slice_index_or mask (slot n) false) from (end - from) → (first ≡ end → ⊥) → First p mask first end
-first-of p mask from end first is f e ordered found some_day =
+pub first-of : (p : DayRange) (mask : List Bool) (from end first : ℕ) → AreOwn p mask from end
+    → first ≡ first_where (λ n. slice_index_or mask (slot n) false) from (end - from)
+    → (first ≡ end → ⊥) → First p mask first end
+first-of p mask from end first own found some_day =
     let test = λ (n : ℕ). slice_index_or mask (slot n) false in
+    let is = own.days in
     elim (first_where-either test from (end - from)) [
       | inl none ↦ let at = none.0 in absurd (some_day (omega arith))
       | inr some ↦
@@ -124,9 +137,13 @@ weekdays-are p mask first end is e low =
     let a = at 0 (omega arith) in let b = at 1 (omega arith) in let c = at 2 (omega arith) in let d = at 3 (omega arith) in let f = at 4 (omega arith) in let g = at 5 (omega arith) in let h = at 6 (omega arith) in
     cc
 
-pub trim-some : (p : DayRange) (mask : List Bool) (from end first last : ℕ) (days : List Bool) → mask ≡ p.days → from ≡ p.first → end ≡ p.last + 1 → p.first ≤ p.last → p.last < 36525 → First p mask first end → last ≡ last_where (λ n. slice_index_or mask (slot n) false) first (end - first) → days ≡ weekdays_within mask first end → Trim p first last days
+pub trim-some : (p : DayRange) (mask : List Bool) (from end first last : ℕ) (days : List Bool)
+    → AreOwn p mask from end → p.last < 36525 → First p mask first end
+    → last ≡ last_where (λ n. slice_index_or mask (slot n) false) first (end - first)
+    → days ≡ weekdays_within mask first end → Trim p first last days
 unfolding range
-trim-some p mask from end first last days is f e ordered fits a last_is days_are =
+trim-some p mask from end first last days o fits a last_is days_are =
+    let is = o.days in let e = o.ends in
     let test = λ (n : ℕ). slice_index_or mask (slot n) false in
     let is_in = holds p in
     let low = a.low in let lt = a.lt in
@@ -169,4 +186,7 @@ trim-whole p week fits seven first last =
     let k = p.last + 1 - p.first in
     let a : First p p.days p.first (p.last + 1) = record { low = omega arith; lt = omega arith; on = first; early = before p } in
     let l : p.last ≡ last_where test p.first k = sym (last_where-at test p.first k p.last (omega arith) (omega arith) last (λ m x y. absurd (omega arith))) in
-    (trim-some p p.days p.first (p.last + 1) p.first p.last p.days refl refl refl (omega arith) fits a l (weekdays_within-whole p.days p.first (p.last + 1) seven (omega arith))).cover_is p refl refl refl
+    let own : AreOwn p p.days p.first (p.last + 1) =
+    record { days = refl; starts = refl; ends = refl; ordered = omega arith } in
+    (trim-some p p.days p.first (p.last + 1) p.first p.last p.days own fits a l
+    (weekdays_within-whole p.days p.first (p.last + 1) seven (omega arith))).cover_is p refl refl refl

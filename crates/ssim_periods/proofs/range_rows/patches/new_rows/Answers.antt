@@ -1,5 +1,5 @@
 -- Each range that is passed adds the patch of its row, which has the new value of each of its days.
-use Rattle.std.proofs.Common.{◌≡◌, ◌+◌, ◌-◌, ◌<◌, ◌≤◌, ℕ, false, if◌then◌else◌, List, [], ◌∷◌, ◌++◌, length, map, slice_index_or, vec_len, Option, Some, None, Vec, Global, ap, sym, subst, ◌∙◌, arith, rules, inl, inr}
+use Rattle.std.proofs.Common.{◌≡◌, ◌+◌, ◌-◌, ◌≤◌, false, if◌then◌else◌, List, [], ◌∷◌, ◌++◌, length, map, slice_index_or, vec_len, Option, Some, None, Vec, Global, ap, refl, sym, subst, ◌∙◌, arith, rules, inl, inr}
 use Rattle.std.specs.List.{All}
 use Rattle.ssim_periods.specs.Calendar.{slot}
 use Rattle.ssim_periods.specs.internal.Count.{with_days}
@@ -7,7 +7,8 @@ use Rattle.ssim_periods.specs.internal.Rows.{place, row_on, value_on}
 use Rattle.ssim_periods.proofs.RowLemmas.{place-le, row_on-place, row_on-week, slot-lt}
 use Rattle.ssim_periods.proofs.CutLemmas.{place-mono}
 use Rattle.ssim_periods.proofs.SplitLemmas.{patch_of-at, patch_of-length, length-map-one, map-push, get_or-front, get_or-last, All-push}
-use Rattle.ssim_periods.proofs.CountLemmas.{le_or_lt, place-stays, place-next, longer, with_days-own, length-with_days}
+use Rattle.ssim_periods.proofs.CountLemmas.{le_or_lt, length-with_days, longer, reaches}
+use Rattle.ssim_periods.proofs.CountLemmas.{with_days-own}
 use Rattle.ssim_periods.proofs.range_rows.patches.new_rows.Goals as goal
 
 pub row_at-requires : goal.row_at-requires
@@ -17,9 +18,9 @@ row_at-requires g c =
 
 pub loop-day-smaller : goal.loop-day-smaller
 loop-day-smaller g c =
-    let i = c.loop-day.invariant in let e = c.range_end-next.ensures in let at = i.at c.loop-day-test.true in
-    let gt = longer c.args.cuts.now c.loop-day.day c.range_end-next.result _ c.loop-day.place at c.loop-day-test.true e.at_cut e.before_end in
-    let test = c.loop-day-test.true in
+    let i = c.loop-day.invariant in let e = c.range_end-next.ensures in
+    let gt = longer c.args.cuts.now c.loop-day.day c.range_end-next.result _ c.loop-day.place
+    (i.at c.loop-day-test.true) c.loop-day-test.true e.at_cut e.before_end in
     omega arith
 
 values : {V : Type 0} → Vec (Option V) Global → List (Option V)
@@ -31,9 +32,9 @@ loop-day-preserved g c =
     let i = c.loop-day.invariant in let e = c.range_end-next.ensures in let at = i.at c.loop-day-test.true in
     let cuts = c.args.cuts.now in let day = c.loop-day.day in let next = c.range_end-next.result in let rows = c.args.rows.now in let before = c.args.before.now in
     let first = c.args.first in let mask = c.args.mask.now in let after = g.C.Change.outcome c.args.change.now in let nothing = g.V.Value.nothing in
-    let gt = longer cuts day next _ c.loop-day.place at c.loop-day-test.true e.at_cut e.before_end in
-    let from = i.from in
-    let free : place cuts day < length cuts → next ≤ slice_index_or cuts (place cuts day) 0 = subst (λ q. q < length cuts → next ≤ slice_index_or cuts q 0) at e.before_cut in
+    let r = reaches cuts cuts cuts day next (c.args.last + 1) c.loop-day.place
+    c.requires.rows.rising refl at refl c.loop-day-test.true e.before_end e.before_cut e.at_cut in
+    let gt = r.long in let from = i.from in
     let items = c.loop-day.patches.items in let patch = c.in_ok-patch.patch in
     let more : c.push.new.self.items ≡ items ++ patch ∷ [] = c.in_ok-push.ensures.items in
     let longer_by : vec_len c.push.new.self ≡ vec_len c.loop-day.patches + 1 = c.in_ok-push.ensures.len in
@@ -44,14 +45,11 @@ loop-day-preserved g c =
     let narrow_len : length narrow ≡ 7 = length-with_days 0 mask day next ∙ c.told-mask in
     let fits : vec_len patch ≤ 7 = omega (arith, patch_of-length narrow after c.row_at.result.now, ap length c.in_ok-patch.ensures) in
     let row = c.row_at.result.now in
-    let stays = λ (n : ℕ) (ge : day ≤ n) (lt : n < next). place-stays cuts day n ge (λ q. let f = free q in omega arith) in
+    let stays = r.stays in
     record {
       from = omega arith;
       to = e.before_end;
-      at = λ lt.
-          let f = e.at_cut lt in
-          let here : next ≡ slice_index_or cuts (place cuts day) 0 = f.1 ∙ ap (λ q. slice_index_or cuts q 0) at in
-          ap (λ q. q + 1) at ∙ sym (ap (place cuts) here ∙ place-next cuts day c.requires.rows.rising (let s = f.0 in omega arith));
+      at = r.next_at;
       passed = λ lt. ap (λ q. q + 1) (at ∙ sym (stays (next - 1) (omega arith) (omega arith)));
       len = omega arith;
       short = subst (All (λ patch. vec_len patch ≤ 7)) (sym more) (All-push (λ patch. vec_len patch ≤ 7) items patch i.short fits);
