@@ -16,7 +16,7 @@ use Rattle.ssim_text.specs.Message.{MessageValue}
 use Rattle.ssim_text.specs.Grammar.{Part, OriginatorPart, KindPart, ModePart, ReferencePart, ActionPart, FlightPart, DatedFlightPart, PeriodPart, EquipmentPart, LegPart, SegmentPart, Divider, FreePart, Spells, subs_parts, free_parts, IsOriginatorPart, HasParts, SpellsText}
 use Rattle.ssim_text.specs.Left.{lines_left, pieces, texts}
 use Rattle.ssim_text.specs.Canonical.{part_text, originator_parts, canonical_parts, canonical}
-use Rattle.ssim_text.specs.Spelling.{CanonicalReadsBack, EqualWhereWrittenEqual}
+use Rattle.ssim_text.specs.Spelling.{CanonicalReadsBack, EqualWhereWrittenEqual, SpellsMessage}
 use Rattle.ssim_text.proofs.LinesKept.{IsLine, ReadsAgain, left_lines, written_left, written_printable}
 use Rattle.ssim_text.proofs.HeadingAgain.{originator_again, reference_again}
 use Rattle.ssim_text.proofs.DatesAgain.{flight_again, dated_flight_again, period_again}
@@ -27,26 +27,23 @@ use Rattle.ssim_text.proofs.Runs.{false_true}
 
 -- ---- the words
 
-kind_again : (kind : Kind) → ReadsAgain (KindPart kind)
+pub kind_again : (kind : Kind) → ReadsAgain (KindPart kind)
 kind_again Ssm = record { spelled = refl; line = record { some = omega arith; printable = refl; ended = refl } }
 kind_again Asm = record { spelled = refl; line = record { some = omega arith; printable = refl; ended = refl } }
 
-mode_again : (mode : TimeMode) → ReadsAgain (ModePart mode)
+pub mode_again : (mode : TimeMode) → ReadsAgain (ModePart mode)
 mode_again Utc = record { spelled = refl; line = record { some = omega arith; printable = refl; ended = refl } }
 mode_again Local = record { spelled = refl; line = record { some = omega arith; printable = refl; ended = refl } }
 
-action_again : (a : ActionIdentifier) → ReadsAgain (ActionPart a)
+pub action_again : (a : ActionIdentifier) → ReadsAgain (ActionPart a)
 action_again identifier.New = record { spelled = refl; line = record { some = omega arith; printable = refl; ended = refl } }
 action_again identifier.Cnl = record { spelled = refl; line = record { some = omega arith; printable = refl; ended = refl } }
 action_again identifier.Rpl = record { spelled = refl; line = record { some = omega arith; printable = refl; ended = refl } }
 action_again identifier.Eqt = record { spelled = refl; line = record { some = omega arith; printable = refl; ended = refl } }
 action_again identifier.Tim = record { spelled = refl; line = record { some = omega arith; printable = refl; ended = refl } }
 
-divider_again : ReadsAgain Divider
+pub divider_again : ReadsAgain Divider
 divider_again = record { spelled = refl; line = record { some = omega arith; printable = refl; ended = refl } }
-
-free_again : (free line : List ℕ) → line ≡ free → IsLine line → ReadsAgain (FreePart free)
-free_again free line h l = record { spelled = refl; line = subst IsLine h l }
 
 -- ---- each part
 
@@ -63,7 +60,7 @@ part_again (EquipmentPart equipment) line h l = equipment_again equipment line h
 part_again (LegPart leg) line h l = leg_again leg line h
 part_again (SegmentPart segment) line h l = segment_again segment line h l
 part_again Divider line h l = divider_again
-part_again (FreePart free) line h l = free_again free line h l
+part_again (FreePart free) line h l = record { spelled = refl; line = subst IsLine h l }
 
 parts_again : (parts : List Part) (lines : List (List ℕ)) → AllZip Spells parts lines → AllByRecursion IsLine lines → AllByRecursion ReadsAgain parts
 parts_again [] [] h l = tt
@@ -79,9 +76,18 @@ pub all_right : (P : Part → Type 0) (xs ys : List Part) → AllByRecursion P (
 all_right P [] ys h = h
 all_right P (x ∷ xs) ys h = all_right P xs ys h.1
 
-all_both : (xs ys : List Part) → AllByRecursion ReadsAgain xs → AllByRecursion ReadsAgain ys → AllByRecursion ReadsAgain (xs ++ ys)
-all_both [] ys h k = k
-all_both (x ∷ xs) ys h k = (h.0, all_both xs ys h.1 k)
+-- what holds of the elements of two lists holds of both together
+pub all_both : {X : Type 0} (P : X → Type 0) (xs ys : List X) → AllByRecursion P xs
+    → AllByRecursion P ys → AllByRecursion P (xs ++ ys)
+all_both P [] ys h k = k
+all_both P (x ∷ xs) ys h k = (h.0, all_both P xs ys h.1 k)
+
+-- each part of a text reads again from its written form
+pub spelled_again : (m : MessageValue) (text : List ℕ) (h : SpellsMessage m text)
+    → AllByRecursion ReadsAgain h.spelled.parts
+spelled_again m text h =
+    parts_again h.spelled.parts (texts (lines_left text)) h.spelled.spelled
+    (left_lines 1 (pieces text) h.printable)
 
 -- ---- the lines before the sub-messages
 
@@ -112,7 +118,8 @@ canonical_again m parts h k =
     let middle = all_right ReadsAgain f.originator_parts (KindPart m.kind ∷ (f.mode_parts ++ ReferencePart m.reference ∷ [])) heading in
     let own = all_left ReadsAgain f.originator_parts (KindPart m.kind ∷ (f.mode_parts ++ ReferencePart m.reference ∷ [])) heading in
     let reference = all_right ReadsAgain f.mode_parts (ReferencePart m.reference ∷ []) middle.1 in
-    all_both (originator_parts m.originator) (KindPart m.kind ∷ ModePart m.mode ∷ ReferencePart m.reference ∷ rest)
+    all_both ReadsAgain (originator_parts m.originator)
+    (KindPart m.kind ∷ ModePart m.mode ∷ ReferencePart m.reference ∷ rest)
     (choice_again (bytes_eq m.originator no_originator) m.originator f.originator_parts refl f.is_originator own)
     (kind_again m.kind, (mode_again m.mode, (reference.0, all_right ReadsAgain h.heading rest whole)))
 
@@ -137,8 +144,7 @@ own_spelled (p ∷ parts) h = (h.0.spelled, own_spelled parts h.1)
 pub canonical_reads_back : CanonicalReadsBack
 canonical_reads_back m text h =
     let parts = canonical_parts m in
-    let lines = left_lines 1 (pieces text) h.printable in
-    let again = canonical_again m h.spelled.parts h.spelled.has_parts (parts_again h.spelled.parts (texts (lines_left text)) h.spelled.spelled lines) in
+    let again = canonical_again m h.spelled.parts h.spelled.has_parts (spelled_again m text h) in
     let own = own_lines parts again in
     record {
       short = h.canonical_short;
