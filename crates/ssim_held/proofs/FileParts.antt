@@ -6,7 +6,7 @@ use Rattle.ssim_base.specs.Sinks.{TakesPrefix, TakesUpTo}
 use Rattle.ssim_base.proofs.Each.{item}
 use Rattle.ssim_base.specs.BaseSeen.{base_with}
 use Rattle.ssim_base.specs.Stations.{Row}
-use Rattle.ssim_base.proofs.SinkLemmas.{halt, start, step, step_last}
+use Rattle.ssim_base.proofs.SinkLemmas.{halt, halt_last, start, step, step_last}
 use Rattle.ssim_records.specs.declared.record.Record.{Record}
 use Rattle.ssim_held.specs.Entries.{Entry}
 use Rattle.ssim_held.specs.File.{counted, desk_file, end_line, records_part, rows_part, texts_part}
@@ -48,9 +48,26 @@ module _ (records : List Record) (rows : List Row) (held : List Entry) (h0 : Lis
       ∙ append_assoc first (mine ++ rows_part rows) later
       ∙ ap (λ (bs : List ℕ). first ++ bs) (append_assoc mine (rows_part rows) later)
 
-  pub prefix_of_file : (t : Option (List ℕ)) → TakesPrefix (h0 ++ (base ++ later)) t0 t
+  prefix_of_file : (t : Option (List ℕ)) → TakesPrefix (h0 ++ (base ++ later)) t0 t
       → TakesPrefix file t0 t
   prefix_of_file t put = subst (λ (bs : List ℕ). TakesPrefix bs t0 t) whole put
+
+  -- the sink failed during the base, the texts or the last line
+  pub base_fails : (t : Option (List ℕ)) → TakesPrefix (h0 ++ base) t0 t → TakesPrefix file t0 t
+  base_fails t put = prefix_of_file t (first_fails h0 base later t0 t put)
+
+  pub texts_fail : (h1 : List ℕ) (t1 t : Option (List ℕ)) → TakesUpTo (h0 ++ base) h1 t0 t1
+      → TakesPrefix (h1 ++ texts_part held) t1 t → TakesPrefix file t0 t
+  texts_fail h1 t1 t one put =
+      prefix_of_file t (halt_last h0 base later h1 t0 t1 t one
+      (first_fails h1 (texts_part held) end_line t1 t put))
+
+  pub end_fails : (h1 h2 : List ℕ) (t1 t2 t : Option (List ℕ)) → TakesUpTo (h0 ++ base) h1 t0 t1
+      → TakesUpTo (h1 ++ texts_part held) h2 t1 t2 → TakesPrefix (h2 ++ end_line) t2 t
+      → TakesPrefix file t0 t
+  end_fails h1 h2 t1 t2 t one two put =
+      prefix_of_file t (halt_last h0 base later h1 t0 t1 t one
+      (halt_last h1 (texts_part held) end_line h2 t1 t2 t two put))
 
   pub up_to_file : (h1 h2 h3 : List ℕ) (t1 t2 t3 : Option (List ℕ)) → TakesUpTo (h0 ++ base) h1 t0 t1
       → TakesUpTo (h1 ++ texts_part held) h2 t1 t2 → TakesUpTo (h2 ++ end_line) h3 t2 t3

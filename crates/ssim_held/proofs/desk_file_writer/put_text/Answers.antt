@@ -5,12 +5,19 @@ use Rattle.ssim_base.proofs.SinkLemmas.{at_fault, halt_last, if_err, if_ok, step
 use Rattle.ssim_text.specs.Canonical.{canonical}
 use Rattle.ssim_held.specs.File.{counted}
 use Rattle.ssim_held.proofs.FileParts.{first_fails}
+use Rattle.ssim_held.proofs.desk_file_writer.put_text.Given as given
+use Rattle.ssim_held.proofs.desk_file_writer.put_text.Goals.{After-put_counted}
 use Rattle.ssim_held.proofs.desk_file_writer.put_text.Goals as goal
+
+-- the text is the canonical one
+written : (g : given.Over) (c : After-put_counted g)
+    → c.text-text.result.now ≡ canonical c.args.held.now.message
+written g c = c.text-text.ensures.written ∙ ap canonical c.message.ensures
 
 pub returns-in_err-put_counted-clause-err : goal.returns-in_err-put_counted-clause-err
 returns-in_err-put_counted-clause-err g c =
     let text = canonical c.args.held.now.message in
-    let is : c.text-text.result.now ≡ text = c.text-text.ensures.written ∙ ap canonical c.message.ensures in
+    let is = written g (goal.at.returns-in_err-put_counted-clause-err g c).After-put_counted in
     let t = g.W.Sink.taken c.args.out.now in
     let u = g.W.Sink.taken c.put_counted.new.out in
     let line = subst (λ (bs : List ℕ). TakesPrefix (c.args.block.now ++ counted (codes "TEXT") (length bs)) t u) is c.in_err-put_counted.ensures.err in
@@ -19,7 +26,7 @@ returns-in_err-put_counted-clause-err g c =
 pub returns-clause-ok : goal.returns-clause-ok
 returns-clause-ok g c =
     let text = canonical c.args.held.now.message in
-    let is : c.text-text.result.now ≡ text = c.text-text.ensures.written ∙ ap canonical c.message.ensures in
+    let is = written g (goal.at.returns-clause-ok g c).After-put_counted in
     let held = c.put_counted.new.block in
     let t = g.W.Sink.taken c.args.out.now in
     let u = g.W.Sink.taken c.put_counted.new.out in
@@ -31,7 +38,7 @@ returns-clause-ok g c =
 pub returns-clause-err : goal.returns-clause-err
 returns-clause-err g c =
     let text = canonical c.args.held.now.message in
-    let is : c.text-text.result.now ≡ text = c.text-text.ensures.written ∙ ap canonical c.message.ensures in
+    let is = written g (goal.at.returns-clause-err g c).After-put_counted in
     let held = c.put_counted.new.block in
     let t = g.W.Sink.taken c.args.out.now in
     let u = g.W.Sink.taken c.put_counted.new.out in
