@@ -1,9 +1,9 @@
 -- The export of a schedule is the export of its timetable.
-use Rattle.std.proofs.Common.{◌≡◌, ℕ, List, Option, Result, ap, subst}
+use Rattle.std.proofs.Common.{◌≡◌, ℕ, List, Option, Result, ap, subst, ◌∙◌}
 use Rattle.ssim_records.specs.declared.record.Record.{Record}
 use Rattle.ssim_base.proofs.ReadingBack.{reads_back_as}
 use Rattle.ssim_base.proofs.Whole.{same_export}
-use Rattle.ssim_base.specs.BaseSeen.{BaseSeen}
+use Rattle.ssim_base.specs.BaseSeen.{BaseSeen, base_with}
 use Rattle.ssim_base.specs.Export.{ExportRefusal, Frame, chapter7, export_bytes, result_map}
 use Rattle.ssim_schedule.specs.ExportResult.{ReadsBackBase, Refuses, RefusesBase, Writes, WritesBase}
 use Rattle.ssim_schedule.specs.Schedule.{Flown}
@@ -11,7 +11,7 @@ use Rattle.ssim_base.specs.Stations.{Row}
 use Rattle.ssim_base.specs.Timetable.{Days, itinerary}
 use Rattle.ssim_schedule.specs.declared.export.ExportFault.{ExportFault}
 use Rattle.ssim_values.specs.Flight.{FlightNumber, IsFlight}
-use Rattle.ssim_held.specs.Entries.{Entry}
+use Rattle.ssim_held.specs.Entries.{DeskSeen, Entry}
 use Rattle.ssim_desk.specs.Meaning.{after_entries, left_by}
 use Rattle.ssim_desk.specs.internal.Changes.{Shows}
 
@@ -36,3 +36,18 @@ pub left : (base : BaseSeen) (entries : List Entry) (rows : List Row) (messages 
 left base entries rows messages schedule same_rows same_messages shows =
     subst (λ (es : List Entry). Shows schedule (after_entries base.rows es (itinerary base.records))) same_messages
     (subst (λ (rs : List Row). Shows schedule (after_entries rs messages (itinerary base.records))) same_rows shows)
+
+-- ---- the parts that a desk is taken into
+
+abbrev desk_of : BaseSeen → List Entry → DeskSeen
+desk_of base held = record { base = base; held = held; applied = 0 }
+
+-- a desk whose base has these records and these rows
+abbrev pub desk_with : List Record → List Row → List Entry → DeskSeen
+desk_with records rows held = desk_of (base_with records rows) held
+
+-- it is the desk whose base has these parts
+pub taken_apart : (records : List Record) (rows : List Row) (held : List Entry) (base : BaseSeen)
+    (desk : DeskSeen) → base_with records rows ≡ base
+    → desk_of base held ≡ desk → desk_with records rows held ≡ desk
+taken_apart records rows held base desk parts is = ap (λ (b : BaseSeen). desk_of b held) parts ∙ is

@@ -1,6 +1,6 @@
 -- The messages have acted on the timetable of the data set.
 use Rattle.std.proofs.Common.{ap, ◌∙◌}
-use Rattle.ssim_base.specs.BaseSeen.{BaseSeen, base_with}
+use Rattle.ssim_base.specs.BaseSeen.{base_with}
 use Rattle.ssim_base.specs.Timetable.{itinerary}
 use Rattle.ssim_base.proofs.Results.{if_ok}
 use Rattle.ssim_schedule.specs.FlightPieces.{divided_flights}
@@ -8,24 +8,21 @@ use Rattle.ssim_schedule.specs.Schedule.{days_in}
 use Rattle.ssim_schedule.proofs.Divisions.{divided_flights_agree}
 use Rattle.ssim_held.specs.Entries.{DeskSeen}
 use Rattle.ssim_desk.specs.Desk.{days_of_desk}
-use Rattle.ssim_desk.proofs.Exports.{left}
+use Rattle.ssim_desk.proofs.Exports.{desk_with, left, taken_apart}
 use Rattle.ssim_desk.proofs.holdings.Holdings.into_flights.Goals as goal
-
-abbrev seen : BaseSeen → DeskSeen → DeskSeen
-seen base desk = record desk { base = base }
 
 pub returns : goal.returns
 returns c =
-    let i = c.self.inside in
     let parts = c.into_parts-data_set.result in
-    let base = base_with parts.0 parts.1 in
-    let held = i.held.items in
-    let desk : DeskSeen = record { base = base; held = held; applied = 0 } in
+    let held = c.self.inside.held.items in
     let schedule = c.act_in_order.new.schedule in
-    let shows = left base held c.rows.result.now c.deref.result.now schedule c.rows.ensures c.deref.ensures.value (c.in_ok-act_in_order.ensures (itinerary parts.0) c.in_ok-schedule.ensures.days) in
+    let desk = desk_with parts.0 parts.1 held in
+    let shows = left (base_with parts.0 parts.1) held c.rows.result.now c.deref.result.now schedule
+    c.rows.ensures c.deref.ensures.value
+    (c.in_ok-act_in_order.ensures (itinerary parts.0) c.in_ok-schedule.ensures.days) in
+    let is = taken_apart parts.0 parts.1 held _ c.args.self c.into_parts-data_set.ensures
+    c.self.view_is in
     if_ok c.into_flights.result
-    (λ flights is.
-    is ∙ divided_flights_agree (days_in schedule) (days_of_desk desk) shows
-    ∙ ap (λ (b : BaseSeen). divided_flights (days_of_desk (seen b desk))) c.into_parts-data_set.ensures
-    ∙ ap (λ (d : DeskSeen). divided_flights (days_of_desk d)) c.self.view_is)
+    (λ flights result. result ∙ divided_flights_agree (days_in schedule) (days_of_desk desk) shows
+    ∙ ap (λ (d : DeskSeen). divided_flights (days_of_desk d)) is)
     c.into_flights.ensures
