@@ -23,8 +23,8 @@ use Rattle.ssim_text.specs.Bytes.{◌>>=◌}
 use Rattle.ssim_text.specs.Canonical.{canonical, canonical_parts, leg_end_text, part_text}
 use Rattle.ssim_text.specs.Canonical.{passenger_text, short_digits, unless_empty, variation_text}
 use Rattle.ssim_text.specs.Canonical.{written}
-use Rattle.ssim_text.specs.Grammar.{ActionPart, EquipmentPart, FlightPart, IsBody, KindPart}
-use Rattle.ssim_text.specs.Grammar.{LegPart, ModePart, Part, PeriodPart, ReferencePart, SegmentPart}
+use Rattle.ssim_text.specs.Grammar.{ActionPart, EquipmentPart, FlightPart, IsBody}
+use Rattle.ssim_text.specs.Grammar.{LegPart, Part, PeriodPart, ReferencePart, SegmentPart}
 use Rattle.ssim_text.specs.Grammar.{Spells}
 use Rattle.ssim_text.specs.Grammar.{IsNewLegs, body_parts, identifier_of, new_parts}
 use Rattle.ssim_text.specs.Lines.{configuration_of, designators_of, identifier_text, numbers_of}
@@ -51,14 +51,15 @@ use Rattle.ssim_text.proofs.HeadingAgain.{reference_again}
 use Rattle.ssim_text.proofs.LegsAgain.{end_sound, leg_again, leg_sound, segment_again}
 use Rattle.ssim_text.proofs.LegsAgain.{segment_sound}
 use Rattle.ssim_text.proofs.LinesKept.{IsLine, ReadsAgain, written_left, written_printable}
-use Rattle.ssim_text.proofs.ReadsBack.{canonical_has}
+use Rattle.ssim_text.proofs.ReadsBack.{action_again, all_both, canonical_has, kind_again}
+use Rattle.ssim_text.proofs.ReadsBack.{mode_again}
 use Rattle.ssim_text.proofs.Runs.{none_some, some_same}
 use Rattle.ssim_text.proofs.Words.{bound, only_else, only_if}
 use Rattle.ssim_columns.proofs.lemmas.CarriedTexts.{length_station}
 use Rattle.ssim_publish.specs.Reach.{IsSaid}
 use Rattle.ssim_publish.specs.Sayable.{AreNewLegs, IsEquipment, IsLegLine, IsSpelled, IsTextLine}
 use Rattle.ssim_publish.specs.internal.ActionTexts.{heading, message_of}
-use Rattle.ssim_publish.proofs.Said.{CanAct, all_both}
+use Rattle.ssim_publish.proofs.Said.{CanAct}
 
 -- ---- the message
 
@@ -80,31 +81,11 @@ flight_544 = record {
 
 -- ---- its parts are read from their canonical lines
 
-kind_reads : ReadsAgain (KindPart Ssm)
-kind_reads =
-    record { spelled = refl; line = record { some = omega arith; printable = refl; ended = refl } }
-
-mode_reads : ReadsAgain (ModePart Utc)
-mode_reads =
-    record { spelled = refl; line = record { some = omega arith; printable = refl; ended = refl } }
-
 reference_reads : ReadsAgain (ReferencePart (reference 1 6 1))
 unfolding reference_of numbers_of month_day_of
 reference_reads =
     reference_again (reference 1 6 1) (codes "01JUN00001E001") refl
     (record { some = omega arith; printable = refl; ended = refl })
-
-action_reads : (a : ActionIdentifier) → ReadsAgain (ActionPart a)
-action_reads identifier.New =
-    record { spelled = refl; line = record { some = omega arith; printable = refl; ended = refl } }
-action_reads identifier.Cnl =
-    record { spelled = refl; line = record { some = omega arith; printable = refl; ended = refl } }
-action_reads identifier.Rpl =
-    record { spelled = refl; line = record { some = omega arith; printable = refl; ended = refl } }
-action_reads identifier.Eqt =
-    record { spelled = refl; line = record { some = omega arith; printable = refl; ended = refl } }
-action_reads identifier.Tim =
-    record { spelled = refl; line = record { some = omega arith; printable = refl; ended = refl } }
 
 flight_reads : ReadsAgain (FlightPart (swiss 544))
 flight_reads = flight_again (swiss 544) (codes "LX544") flight_544
@@ -133,7 +114,7 @@ abbrev pub IsShort : Part → Type 0
 IsShort part = length (part_text part) ≤ 170
 
 -- a text after its mark, if there is any
-pub marked_short : (mark : ℕ) (text : List ℕ) → length (unless_empty mark text) ≤ 1 + length text
+marked_short : (mark : ℕ) (text : List ℕ) → length (unless_empty mark text) ≤ 1 + length text
 marked_short mark [] = omega arith
 marked_short mark (b ∷ text) = omega arith
 
@@ -158,13 +139,10 @@ configuration_short (b ∷ text) own h =
     few is_alphanumeric 1 text own
     (and_parts (b == 46) (is_text_of is_alphanumeric 1 20 text) p.0).1 (some_same text own p.1)
 
-equipment_short : (e : EquipmentValue) → IsEquipment e → IsShort (EquipmentPart e)
-equipment_short e h =
-    let s = equipment_sound h.line e h.spells in
-    let third = after_word (after_word h.line) in
-    let a = (aircraft_sound (word (after_word h.line)) e.aircraft s.aircraft).three in
-    let d = designators_short (before 46 third) e.designators s.designators in
-    let c = configuration_short (from 46 third) e.configuration s.configuration in
+-- the parts of an equipment line have bounds, and so has the line
+pub equipment_bounded_short : (e : EquipmentValue) → length e.aircraft ≡ 3
+    → length e.designators ≤ 20 → length e.configuration ≤ 20 → IsShort (EquipmentPart e)
+equipment_bounded_short e three designators configuration =
     let last = unless_empty 46 e.configuration in
     omega (
       arith,
@@ -172,10 +150,16 @@ equipment_short e h =
       marked_short 32 (e.designators ++ last),
       length-append e.designators last,
       marked_short 46 e.configuration,
-      a,
-      d,
-      c,
     )
+
+equipment_short : (e : EquipmentValue) → IsEquipment e → IsShort (EquipmentPart e)
+equipment_short e h =
+    let s = equipment_sound h.line e h.spells in
+    let third = after_word (after_word h.line) in
+    equipment_bounded_short e
+    (aircraft_sound (word (after_word h.line)) e.aircraft s.aircraft).three
+    (designators_short (before 46 third) e.designators s.designators)
+    (configuration_short (from 46 third) e.configuration s.configuration)
 
 variation_short : (b : Bool) (x y : ℕ) → length (if b then [] else x ∷ y ∷ []) ≤ 2
 variation_short true x y = omega arith
@@ -370,14 +354,14 @@ message_good action can =
     let body = body_parts action in
     let rest = all_both IsGood (body ++ []) [] (all_both IsGood body [] (body_good action can) tt)
     tt in (
-      record { reads = kind_reads; short = omega arith },
+      record { reads = kind_again Ssm; short = omega arith },
       (
-        record { reads = mode_reads; short = omega arith },
+        record { reads = mode_again Utc; short = omega arith },
         (
           record { reads = reference_reads; short = omega arith },
           (
             record {
-              reads = action_reads (identifier_of action);
+              reads = action_again (identifier_of action);
               short = identifier_short (identifier_of action);
             },
             (

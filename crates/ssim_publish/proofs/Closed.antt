@@ -16,6 +16,7 @@ use Rattle.ssim_base.specs.Timetable.{Legs}
 use Rattle.ssim_schedule.specs.Acts.{after_on}
 use Rattle.ssim_schedule.specs.Effect.{cancel, create, equipped, new_legs, replace, retime}
 use Rattle.ssim_schedule.specs.Effect.{variation_on, with_line, with_lines}
+use Rattle.ssim_text.proofs.ReadsBack.{all_both}
 use Rattle.ssim_publish.specs.Reach.{IsSaid, Reach, after_all}
 use Rattle.ssim_publish.specs.Sayable.{AreNewLegs, ArePartsOf, HaveColumns, IsEquipment, IsLegLine}
 use Rattle.ssim_publish.specs.Sayable.{IsSayable, IsWhole, equipped_by}
@@ -23,7 +24,7 @@ use Rattle.ssim_publish.proofs.NewLegs.{HasStations, all_replaced, allowed_repla
 use Rattle.ssim_publish.proofs.NewLegs.{equipped_new, replaced_from, replaced_new}
 use Rattle.ssim_publish.proofs.OldLegs.{equip_is, equipped_lines, equipped_long, equipped_twice}
 use Rattle.ssim_publish.proofs.OldLegs.{lines_after, retime_is}
-use Rattle.ssim_publish.proofs.Said.{CanAct, all_both, said_can_act}
+use Rattle.ssim_publish.proofs.Said.{CanAct, said_can_act}
 
 -- ---- a whole new itinerary
 

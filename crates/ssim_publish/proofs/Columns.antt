@@ -2,11 +2,10 @@
 -- one before, the order of the two does not matter, and the stations stay.
 use Rattle.std.proofs.Common.{◌≡◌, ◌≤◌, ◌<◌, ◌∙◌, ℕ, List, [], ◌∷◌, ◌++◌, length, refl, sym, ap}
 use Rattle.std.proofs.Common.{subst, lit<, lit≤, IsTrue, append_assoc}
-use Rattle.std.specs.Prelude.{slice_range, replicate}
-use Rattle.std.specs.List.{AllZip, concat}
+use Rattle.std.specs.Prelude.{slice_range}
+use Rattle.std.specs.List.{concat}
 use Rattle.ssim_values.specs.Clock.{clock_text}
 use Rattle.ssim_values.specs.Station.{is_station}
-use Rattle.ssim_values.specs.Variation.{variation_text}
 use Rattle.ssim_columns.specs.Columns.{filled}
 use Rattle.ssim_columns.specs.Leg.{leg_columns, spread}
 use Rattle.ssim_columns.specs.LegParts.{ChangesEquipment, ChangesTimes, EquipmentFields}
@@ -14,9 +13,10 @@ use Rattle.ssim_columns.specs.LegParts.{date_variations, new_leg, station_column
 use Rattle.ssim_columns.specs.LegParts.{with_times}
 use Rattle.ssim_columns.specs.declared.leg.leg_parts.LegStations.{LegStations}
 use Rattle.ssim_columns.specs.declared.leg.leg_parts.LegTimes.{LegTimes}
-use Rattle.ssim_columns.proofs.lemmas.CarriedTexts.{filled_carried, length_station}
+use Rattle.ssim_columns.proofs.lemmas.CarriedTexts.{filled_carried}
 use Rattle.ssim_columns.proofs.lemmas.LegChanges.{equipment_changes, equipment_writes}
-use Rattle.ssim_columns.proofs.lemmas.LegChanges.{equipment_written, length_stations}
+use Rattle.ssim_columns.proofs.lemmas.LegChanges.{equipment_written, length_stations, station_rows}
+use Rattle.ssim_columns.proofs.lemmas.LegChanges.{station_widths, stations_long}
 use Rattle.ssim_columns.proofs.lemmas.LegChanges.{time_writes, times_change, times_written}
 use Rattle.ssim_columns.proofs.lemmas.OwnColumns.{own_middle}
 use Rattle.ssim_columns.proofs.lemmas.Overwriting.{Fit, length_written, slice_cut}
@@ -116,17 +116,37 @@ times_twice t u d len =
 
 -- ---- stations
 
+-- columns 37 to 72 stay under other equipment
+pub front_equipped : (e : EquipmentFields) (d : List ℕ) → length d ≡ 158 → (first last : ℕ)
+    → 36 < first → first ≤ last → last ≤ 72
+    → leg_columns first last (with_equipment e d) ≡ leg_columns first last d
+front_equipped e d len first last =
+    same_columns (spread (with_equipment e d)) (spread d) 36 72 first last
+    (equipment_changed e d len).columns_37_to_72
+
+-- columns 66 to 127 stay under other times
+pub middle_timed : (t : LegTimes) (d : List ℕ) → length d ≡ 158 → (first last : ℕ)
+    → 65 < first → first ≤ last → last ≤ 127
+    → leg_columns first last (with_times t d) ≡ leg_columns first last d
+middle_timed t d len first last =
+    same_columns (spread (with_times t d)) (spread d) 65 127 first last
+    (times_changed t d len).columns_66_to_127
+
+-- columns 129 to 192 stay under other times
+pub tail_timed : (t : LegTimes) (d : List ℕ) → length d ≡ 158 → (first last : ℕ)
+    → 128 < first → first ≤ last → last ≤ 192
+    → leg_columns first last (with_times t d) ≡ leg_columns first last d
+tail_timed t d len first last =
+    same_columns (spread (with_times t d)) (spread d) 128 192 first last
+    (times_changed t d len).columns_129_to_192
+
 pub departure_equipped : (e : EquipmentFields) (d : List ℕ) → length d ≡ 158
     → leg_columns 37 39 (with_equipment e d) ≡ leg_columns 37 39 d
-departure_equipped e d len =
-    same_columns (spread (with_equipment e d)) (spread d) 36 72 37 39
-    (equipment_changed e d len).columns_37_to_72 (lit< tt) (lit≤ tt) (lit≤ tt)
+departure_equipped e d len = front_equipped e d len 37 39 (lit< tt) (lit≤ tt) (lit≤ tt)
 
 pub arrival_equipped : (e : EquipmentFields) (d : List ℕ) → length d ≡ 158
     → leg_columns 55 57 (with_equipment e d) ≡ leg_columns 55 57 d
-arrival_equipped e d len =
-    same_columns (spread (with_equipment e d)) (spread d) 36 72 55 57
-    (equipment_changed e d len).columns_37_to_72 (lit< tt) (lit≤ tt) (lit≤ tt)
+arrival_equipped e d len = front_equipped e d len 55 57 (lit< tt) (lit≤ tt) (lit≤ tt)
 
 pub departure_timed : (t : LegTimes) (d : List ℕ) → length d ≡ 158
     → leg_columns 37 39 (with_times t d) ≡ leg_columns 37 39 d
@@ -208,15 +228,10 @@ unfolding with_equipment
 equipment_last e t d len =
     let x = with_times t d in
     let c = times_changed t d len in
-    let same : (first last : ℕ) → 65 < first → first ≤ last → last ≤ 127
-    → leg_columns first last x ≡ leg_columns first last d =
-    λ first last low le high. same_columns (spread x) (spread d) 65 127 first last
-    c.columns_66_to_127 low le high in
     let front = cut_front (spread x) in
-    let terminal = same 66 72 (lit< tt) (lit≤ tt) (lit≤ tt) in
-    let rest = same 96 127 (lit< tt) (lit≤ tt) (lit≤ tt) in
-    let meals = same_columns (spread x) (spread d) 128 192 129 172 c.columns_129_to_192
-    (lit< tt) (lit≤ tt) (lit≤ tt) in
+    let terminal = middle_timed t d len 66 72 (lit< tt) (lit≤ tt) (lit≤ tt) in
+    let rest = middle_timed t d len 96 127 (lit< tt) (lit≤ tt) (lit≤ tt) in
+    let meals = tail_timed t d len 129 172 (lit< tt) (lit≤ tt) (lit≤ tt) in
     let behind : List ℕ = filled 3 e.aircraft_type
     ++ (filled 20 e.booking_designators
     ++ (leg_columns 96 127 d
@@ -245,13 +260,9 @@ unfolding with_times
 times_last e t d len =
     let x = with_equipment e d in
     let c = equipment_changed e d len in
-    let same : (first last : ℕ) → 36 < first → first ≤ last → last ≤ 72
-    → leg_columns first last x ≡ leg_columns first last d =
-    λ first last low le high. same_columns (spread x) (spread d) 36 72 first last
-    c.columns_37_to_72 low le high in
-    let departure = same 37 39 (lit< tt) (lit≤ tt) (lit≤ tt) in
-    let between = same 48 57 (lit< tt) (lit≤ tt) (lit≤ tt) in
-    let terminal = same 66 72 (lit< tt) (lit≤ tt) (lit≤ tt) in
+    let departure = front_equipped e d len 37 39 (lit< tt) (lit≤ tt) (lit≤ tt) in
+    let between = front_equipped e d len 48 57 (lit< tt) (lit≤ tt) (lit≤ tt) in
+    let terminal = front_equipped e d len 66 72 (lit< tt) (lit≤ tt) (lit≤ tt) in
     let middle = cut_middle (spread x) in
     let tail = slice_cut (spread x) 128 172 192 (lit≤ tt) (lit≤ tt) in
     let front : List ℕ → List ℕ = λ y. filled 1 (e.service_type ∷ [])
@@ -311,37 +322,12 @@ new_timed t u s e are =
     sym (either_order e t (with_times u d) (length_new s u are))
     ∙ ap (with_equipment e) (times_twice t u d len)
 
-abbrev station_widths : List ℕ
-station_widths = 1 ∷ 3 ∷ 8 ∷ 5 ∷ 2 ∷ 3 ∷ 8 ∷ 5 ∷ 123 ∷ []
-
-abbrev station_rows : LegStations → List (List ℕ)
-station_rows s =
-    (32 ∷ [])
-    ∷ s.departure
-    ∷ replicate 8 32
-    ∷ variation_text s.departure_variation
-    ∷ replicate 2 32
-    ∷ s.arrival
-    ∷ replicate 8 32
-    ∷ variation_text s.arrival_variation
-    ∷ replicate 123 32
-    ∷ []
-
-stations_long : (s : LegStations) → AreStations s
-    → AllZip (λ w p. length p ≡ w) station_widths (station_rows s)
-stations_long s are = (
-  refl,
-  (
-    length_station s.departure are.departure,
-    (refl, (refl, (refl, (length_station s.arrival are.arrival, (refl, (refl, (refl, tt))))))),
-  ),
-)
-
 departure_placed : (s : LegStations) → AreStations s
     → leg_columns 37 39 (station_columns s) ≡ s.departure
 unfolding station_columns
 departure_placed s are =
-    let p = all_placed station_widths (station_rows s) (stations_long s are) in
+    let p = all_placed station_widths (station_rows s)
+    (stations_long s are.departure are.arrival) in
     sym (own_middle (station_columns s) 37 39 (length_stations s are.departure are.arrival)
     (lit≤ tt) (lit≤ tt) (lit≤ tt)) ∙ p.1.0
 
@@ -349,7 +335,8 @@ arrival_placed : (s : LegStations) → AreStations s
     → leg_columns 55 57 (station_columns s) ≡ s.arrival
 unfolding station_columns
 arrival_placed s are =
-    let p = all_placed station_widths (station_rows s) (stations_long s are) in
+    let p = all_placed station_widths (station_rows s)
+    (stations_long s are.departure are.arrival) in
     sym (own_middle (station_columns s) 55 57 (length_stations s are.departure are.arrival)
     (lit≤ tt) (lit≤ tt) (lit≤ tt)) ∙ p.1.1.1.1.1.0
 

@@ -10,7 +10,7 @@ use Rattle.ssim_text.specs.declared.leg.LegLine.{LegLine}
 use Rattle.ssim_text.specs.declared.segment.SegmentLine.{SegmentLine}
 use Rattle.ssim_schedule.specs.MessageColumns.{segment_tail}
 use Rattle.ssim_schedule.specs.Effect.{tail_at, tail_for, tails_for, with_tail}
-use Rattle.ssim_publish.proofs.Said.{all_both}
+use Rattle.ssim_text.proofs.ReadsBack.{all_both}
 
 -- the segment before others, if its pair of points begins with leg i
 abbrev pub own_at : Option (ℕ × ℕ) → ℕ → SegmentLine → List SegmentLine → List SegmentLine

@@ -13,7 +13,7 @@ use Rattle.ssim_periods.proofs.DayLemmas.{length-changed_on, length-each_day}
 use Rattle.ssim_periods.proofs.PieceLaw.{index-past, pieces_law}
 use Rattle.ssim_publish.specs.Unsaid.{GiveReasons, ReasonPiece}
 use Rattle.ssim_publish.specs.internal.Marked.{AreMarked, HaveReasons, other_mark}
-use Rattle.ssim_publish.proofs.PlannedSubs.{all_of_both}
+use Rattle.ssim_text.proofs.ReadsBack.{all_both}
 
 -- ---- which days have a number
 
@@ -164,5 +164,6 @@ more_reasons periods all period found piece is same some have = record {
       ∙ ap₂ (λ (ps : List DayRange) (p : DayRange). ps ++ p ∷ []) have.same_periods same
       ∙ sym (map-append (λ (p : DayRange × ℕ). p.0) periods (period ∷ []))
       ∙ ap (map (λ (p : DayRange × ℕ). p.0)) (sym is);
-  reasons = all_of_both (λ (p : ReasonPiece). 1 ≤ length p.1) found (piece ∷ []) have.reasons (some, tt);
+  reasons = all_both (λ (p : ReasonPiece). 1 ≤ length p.1) found (piece ∷ []) have.reasons
+      (some, tt);
 }

@@ -17,13 +17,14 @@ use Rattle.ssim_base.specs.Timetable.{Legs}
 use Rattle.ssim_schedule.specs.Acts.{after_on}
 use Rattle.ssim_schedule.specs.Effect.{create, equipped, fits, has_leg, have_legs, new_legs}
 use Rattle.ssim_schedule.specs.Effect.{replace, retime, retimed, variation_on, with_line}
+use Rattle.ssim_text.proofs.ReadsBack.{all_both}
 use Rattle.ssim_publish.specs.Reach.{IsSaid, Reach, after_all}
 use Rattle.ssim_publish.specs.Sayable.{HaveColumns}
 use Rattle.ssim_publish.proofs.ActionTexts.{said_if_allowed}
 use Rattle.ssim_publish.proofs.Closed.{cancel_is}
 use Rattle.ssim_publish.proofs.OldLegs.{fits_equipped}
 use Rattle.ssim_publish.proofs.Retimed.{have_kept}
-use Rattle.ssim_publish.proofs.Said.{all_both, said_can_act}
+use Rattle.ssim_publish.proofs.Said.{said_can_act}
 use Rattle.ssim_publish.proofs.SaidAgain.{Change, IsIn, all_once_more, changed, changed_by_all}
 use Rattle.ssim_publish.proofs.SaidAgain.{changed_by_both, changed_by_lines, changed_long}
 use Rattle.ssim_publish.proofs.SaidAgain.Change.{Equipment, Times}

@@ -50,12 +50,6 @@ after_planned rows actions flight period g n legs =
         ∙ ap (λ (b : Bool). if b then after_all rows n actions legs else legs) e
         ∙ ap (λ (b : Bool). if b then after_all rows n (action ∷ actions) legs else legs) (sym e)
 
--- what holds of each element of two lists holds of each of both
-pub all_of_both : {X : Type 0} (P : X → Type 0) (xs ys : List X) → AllByRecursion P xs
-    → AllByRecursion P ys → AllByRecursion P (xs ++ ys)
-all_of_both P [] ys h k = k
-all_of_both P (x ∷ xs) ys h k = (h.0, all_of_both P xs ys h.1 k)
-
 -- a sub-message of a said action is one
 pub said_planned : (flight : FlightNumber) (period : DayRange) (actions : List Action)
     → AllByRecursion IsSaid actions

@@ -24,12 +24,6 @@ CanAct (Rpl new) = AreNewLegs new
 CanAct (Eqt equipment) = IsEquipment equipment
 CanAct (Tim lines) = AllByRecursion IsLegLine lines
 
--- what holds of the elements of two lists holds of both together
-pub all_both : {X : Type 0} (P : X → Type 0) (xs ys : List X) → AllByRecursion P xs
-    → AllByRecursion P ys → AllByRecursion P (xs ++ ys)
-all_both P [] ys h k = k
-all_both P (x ∷ xs) ys h k = (h.0, all_both P xs ys h.1 k)
-
 -- ---- each part of a text
 
 text_line : (line : List ℕ) → IsLine line → IsTextLine line
@@ -52,29 +46,28 @@ all_of : {X : Type 0} (f : X → Part) (xs : List X) → AllByRecursion IsSpelle
 all_of f [] h = tt
 all_of f (x ∷ xs) h = (h.0, all_of f xs h.1)
 
--- the parts of a sub-message after its flight and its dates
-abbrev IsBodySpelled : Sub → Type 0
-IsBodySpelled sub = AllByRecursion IsSpelled (body_parts sub.action)
+-- what holds of all parts of sub-messages holds of the parts of each after its flight and its dates
+module _ (P : Part → Type 0) where
+  abbrev pub HasBody : Sub → Type 0
+  HasBody sub = AllByRecursion P (body_parts sub.action)
 
-body_spelled : (sub : Sub) → AllByRecursion IsSpelled (sub_parts sub) → IsBodySpelled sub
-body_spelled sub h =
-    all_right IsSpelled (flight_parts sub.designator sub.dates) (body_parts sub.action) h.1
+  body_of : (sub : Sub) → AllByRecursion P (sub_parts sub) → HasBody sub
+  body_of sub h = all_right P (flight_parts sub.designator sub.dates) (body_parts sub.action) h.1
 
-later_spelled : (subs : List Sub) → AllByRecursion IsSpelled (later_parts subs)
-    → AllByRecursion IsBodySpelled subs
-later_spelled [] h = tt
-later_spelled (sub ∷ subs) h = (
-  body_spelled sub (all_left IsSpelled (sub_parts sub) (later_parts subs) h.1),
-  later_spelled subs (all_right IsSpelled (sub_parts sub) (later_parts subs) h.1),
-)
+  later_bodies : (subs : List Sub) → AllByRecursion P (later_parts subs)
+      → AllByRecursion HasBody subs
+  later_bodies [] h = tt
+  later_bodies (sub ∷ subs) h = (
+    body_of sub (all_left P (sub_parts sub) (later_parts subs) h.1),
+    later_bodies subs (all_right P (sub_parts sub) (later_parts subs) h.1),
+  )
 
-subs_spelled : (subs : List Sub) → AllByRecursion IsSpelled (subs_parts subs)
-    → AllByRecursion IsBodySpelled subs
-subs_spelled [] h = tt
-subs_spelled (sub ∷ subs) h = (
-  body_spelled sub (all_left IsSpelled (sub_parts sub) (later_parts subs) h),
-  later_spelled subs (all_right IsSpelled (sub_parts sub) (later_parts subs) h),
-)
+  pub bodies : (subs : List Sub) → AllByRecursion P (subs_parts subs) → AllByRecursion HasBody subs
+  bodies [] h = tt
+  bodies (sub ∷ subs) h = (
+    body_of sub (all_left P (sub_parts sub) (later_parts subs) h),
+    later_bodies subs (all_right P (sub_parts sub) (later_parts subs) h),
+  )
 
 -- ---- the action
 
@@ -99,7 +92,7 @@ can_act (Eqt equipment) body h = h.0
 can_act (Tim lines) body h = all_of LegPart lines h
 
 -- an element of which something holds
-element : {X : Type 0} (P : X → Type 0) (xs : List X) (x : X) (k : ℕ) → k < length xs
+pub element : {X : Type 0} (P : X → Type 0) (xs : List X) (x : X) (k : ℕ) → k < length xs
     → slice_index_or xs k x ≡ x → AllByRecursion P xs → P x
 element P xs x k within is h = subst P is (All-from_recursion P xs h k x within)
 
@@ -112,9 +105,9 @@ said_can_act action said =
     let whole = subst (AllByRecursion IsSpelled) text.has_parts.whole parts in
     let rest = all_right IsSpelled text.has_parts.heading (subs_parts m.subs ++ free_parts m.free)
     whole in
-    let subs = subs_spelled m.subs
+    let subs = bodies IsSpelled m.subs
     (all_left IsSpelled (subs_parts m.subs) (free_parts m.free) rest) in
     let c = said.contained in
-    let body = element IsBodySpelled m.subs said.sub c.0 c.1 c.2 subs in
+    let body = element (HasBody IsSpelled) m.subs said.sub c.0 c.1 c.2 subs in
     let allowed = element (IsSub m.kind) m.subs said.sub c.0 c.1 c.2 text.shape.subs in
     subst CanAct said.action_is (can_act said.sub.action allowed.body body)

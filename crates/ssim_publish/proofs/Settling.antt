@@ -17,6 +17,7 @@ use Rattle.ssim_base.specs.Stations.{Row}
 use Rattle.ssim_base.specs.Timetable.{Days, Legs, on_day, same_flight}
 use Rattle.ssim_schedule.specs.Schedule.{days_in}
 use Rattle.ssim_difference.specs.Differences.{differences}
+use Rattle.ssim_text.proofs.ReadsBack.{all_both}
 use Rattle.ssim_publish.specs.Acting.{ActEach, ActOn}
 use Rattle.ssim_publish.specs.Published.{IsPublished, IsPublishedOn, NamesDifferences, legs_after}
 use Rattle.ssim_publish.specs.Reach.{IsSaid, Leads, Reach, after_all}
@@ -29,7 +30,7 @@ use Rattle.ssim_publish.specs.internal.Drafts.{dates_of_flights, dates_of_period
 use Rattle.ssim_publish.specs.internal.Drafts.{planned}
 use Rattle.ssim_publish.proofs.Acting.{on_both, on_planned}
 use Rattle.ssim_publish.proofs.ListedDates.{differing_listed}
-use Rattle.ssim_publish.proofs.PlannedSubs.{after_both, after_planned, all_of_both, any_planned}
+use Rattle.ssim_publish.proofs.PlannedSubs.{after_both, after_planned, any_planned}
 use Rattle.ssim_publish.proofs.PlannedSubs.{reached, said_planned}
 
 both : (a b : Bool) → IsTrue (a && b) → (a ≡ true) × (b ≡ true)
@@ -236,7 +237,7 @@ module _ (rows : List Row) (old new : FlightNumber → Days) where
           (on_day (old g) n))
           ∙ ap (λ (all : List PlannedSub). legs_after rows all g n (on_day (old g) n)) (sym subs);
       said = subst (AllByRecursion (λ (sub : PlannedSub). IsSaid sub.action)) (sym subs)
-          (all_of_both (λ (sub : PlannedSub). IsSaid sub.action) before.subs.items
+          (all_both (λ (sub : PlannedSub). IsSaid sub.action) before.subs.items
           (map (planned flight period) actions) is.said (said_planned flight period actions said));
       acting = λ g n exists within. subst
           (λ (all : List PlannedSub). ActOn rows all g n (on_day (old g) n)) (sym subs)
@@ -246,7 +247,7 @@ module _ (rows : List Row) (old new : FlightNumber → Days) where
           (legs_after rows before.subs.items g n (on_day (old g) n))
           (acts_on g n exists within)));
       differing = subst (AllByRecursion (NamesDifferences old new)) (sym subs)
-          (all_of_both (NamesDifferences old new) before.subs.items
+          (all_both (NamesDifferences old new) before.subs.items
           (map (planned flight period) actions) is.differing
           (any_planned (NamesDifferences old new) flight period actions names));
       as_long = λ g. as_long g ∙ is.as_long g;

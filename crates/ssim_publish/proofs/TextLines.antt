@@ -1,7 +1,7 @@
 -- The line that the columns of a leg make is the canonical line of what they have.
 use Rattle.std.proofs.Common.{◌≡◌, ◌≤◌, ◌+◌, ◌∙◌, ◌%◌, ℕ, suc, zero, Bool, true, false}
 use Rattle.std.proofs.Common.{if◌then◌else◌, List, [], ◌∷◌, ◌++◌, length, refl, sym, ap, arith}
-use Rattle.std.proofs.Common.{bytes_eq, lit<, lit≤, eqb-true, append-nil, ◌<◌, ◌-◌, take_all}
+use Rattle.std.proofs.Common.{bytes_eq, lit<, lit≤, eqb-true, append-nil, ◌-◌, take_all}
 use Rattle.std.specs.Prelude.{◌==◌, slice_range, slice_index_or}
 use Rattle.std.specs.List.{concat, list_all}
 use Rattle.std.proofs.lemmas.Bool.{and_parts}
@@ -11,13 +11,12 @@ use Rattle.ssim_values.specs.Characters.{is_letter}
 use Rattle.ssim_values.specs.Clock.{clock_of, clock_text}
 use Rattle.ssim_values.proofs.ClockLaws.{clock_of-clock_text}
 use Rattle.ssim_columns.specs.Columns.{carried, filled, is_carried}
-use Rattle.ssim_columns.specs.Leg.{leg_columns, spread}
+use Rattle.ssim_columns.specs.Leg.{leg_columns}
 use Rattle.ssim_columns.specs.LegParts as leg
 use Rattle.ssim_columns.specs.LegParts.{date_variations, with_times}
 use Rattle.ssim_columns.specs.declared.leg.leg_parts.LegTimes.{LegTimes}
 use Rattle.ssim_columns.proofs.lemmas.OwnColumns.{own_middle, own_service, own_tail}
 use Rattle.ssim_columns.proofs.lemmas.Overwriting.{slice_cut}
-use Rattle.ssim_columns.proofs.lemmas.Rows.{same_columns}
 use Rattle.ssim_text.specs.Bytes.{after_word, is_alphanumeric, is_printable, word}
 use Rattle.ssim_text.specs.Bounds.{IsEquipmentBounded}
 use Rattle.ssim_text.specs.Canonical.{canonical, equipment_text, leg_text, passenger_text}
@@ -41,7 +40,7 @@ use Rattle.ssim_publish.specs.internal.ColumnLines.{end_line, equipment_line, le
 use Rattle.ssim_publish.specs.internal.ColumnLines.{passenger_line, third_line, variation_line}
 use Rattle.ssim_publish.proofs.ActionTexts.{message_spelled}
 use Rattle.ssim_publish.proofs.Columns.{arrival_timed, departure_timed, equipment_changed}
-use Rattle.ssim_publish.proofs.Columns.{times_changed}
+use Rattle.ssim_publish.proofs.Columns.{middle_timed, tail_timed, times_changed}
 
 -- ---- date variations and passenger times
 
@@ -314,16 +313,9 @@ equipped_has e d len =
 pub timed_keeps : (e : EquipmentValue) (t : LegTimes) (d : List ℕ) → length d ≡ 158
     → HasEquipment e d → HasEquipment e (with_times t d)
 timed_keeps e t d len h =
-    let x = with_times t d in
-    let c = times_changed t d len in
-    let same : (first last : ℕ) → 65 < first → first ≤ last → last ≤ 127
-    → leg_columns first last x ≡ leg_columns first last d =
-    λ first last low le high. same_columns (spread x) (spread d) 65 127 first last
-    c.columns_66_to_127 low le high in
     record {
-      service = c.column_14 ∙ h.service;
-      aircraft = same 73 75 (lit< tt) (lit≤ tt) (lit≤ tt) ∙ h.aircraft;
-      designators = same 76 95 (lit< tt) (lit≤ tt) (lit≤ tt) ∙ h.designators;
-      configuration = same_columns (spread x) (spread d) 128 192 173 192 c.columns_129_to_192
-          (lit< tt) (lit≤ tt) (lit≤ tt) ∙ h.configuration;
+      service = (times_changed t d len).column_14 ∙ h.service;
+      aircraft = middle_timed t d len 73 75 (lit< tt) (lit≤ tt) (lit≤ tt) ∙ h.aircraft;
+      designators = middle_timed t d len 76 95 (lit< tt) (lit≤ tt) (lit≤ tt) ∙ h.designators;
+      configuration = tail_timed t d len 173 192 (lit< tt) (lit≤ tt) (lit≤ tt) ∙ h.configuration;
     }
