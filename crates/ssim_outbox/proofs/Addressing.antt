@@ -1,6 +1,6 @@
 -- A heading that cancels a flight of the carrier's airline, in the carrier's time mode, resolves if
 -- its date means a day: nothing else of it can be refused.
-use Rattle.std.proofs.Common.{◌≡◌, ◌≢◌, ◌⊎◌, ◌<◌, ℕ, Bool, true, false, List, [], ◌∷◌, ◌++◌}
+use Rattle.std.proofs.Common.{◌≡◌, ◌⊎◌, ℕ, true, false, List, [], ◌∷◌}
 use Rattle.std.proofs.Common.{refl, sym, ap, subst, inl, inr, ◌∙◌, arith}
 use Rattle.ssim_values.specs.declared.time_mode.TimeMode.{TimeMode}
 use Rattle.ssim_values.specs.declared.time_mode.TimeMode.TheVariants.{Local, Utc}
@@ -132,40 +132,43 @@ means carrier m reference h =
 
 -- ---- the whole
 
-module _ (from to : DeskSeen) (word : List ℕ) (mine theirs : Frame) (has : HasFrame mine from.base.records)
-    (has_too : HasFrame theirs to.base.records) where
-  abbrev carriers : HaveCarriers from.base.records to.base.records
-  carriers = record { mine = mine; theirs = theirs; has = has; has_too = has_too }
+module _ (from to : DeskSeen) (word : List ℕ)
+    (carriers : HaveCarriers from.base.records to.base.records) where
+  abbrev mine : CarrierFields
+  mine = carriers.mine.carrier
 
-  pub foreign : (refusal : OutboxFault) → RefusesCarriers mine.carrier theirs.carrier refusal
+  abbrev theirs : CarrierFields
+  theirs = carriers.theirs.carrier
+
+  pub foreign : (refusal : OutboxFault) → RefusesCarriers mine theirs refusal
       → RefusesPublication from to word refusal
   foreign refusal (inl h) =
       subst (RefusesPublication from to word) (sym h.0) (record { carriers = carriers; other = h.1 })
   foreign refusal (inr h) =
       subst (RefusesPublication from to word) (sym h.0) (record { carriers = carriers; airline = h.1; other = h.2 })
 
-  module _ (airline : theirs.carrier.airline ≡ mine.carrier.airline)
-      (mode : theirs.carrier.time_mode ≡ mine.carrier.time_mode) where
+  module _ (airline : theirs.airline ≡ mine.airline)
+      (mode : theirs.time_mode ≡ mine.time_mode) where
     abbrev comparable : AreComparable from.base.records to.base.records
     comparable = record { carriers = carriers; airline = airline; mode = mode }
 
-    pub no_heading : (refusal : OutboxFault) → RefusesWord mine.carrier.time_mode word refusal
+    pub no_heading : (refusal : OutboxFault) → RefusesWord mine.time_mode word refusal
         → RefusesPublication from to word refusal
     no_heading refusal (inl e) = subst (RefusesPublication from to word) (sym e) tt
     no_heading refusal (inr h) = subst (RefusesPublication from to word) (sym h.0) (comparable, h.1)
 
-    module _ (heading : MessageValue) (names : NamesHeading mine.carrier.time_mode word heading) where
+    module _ (heading : MessageValue) (names : NamesHeading mine.time_mode word heading) where
       abbrev named : IsHeading from to word heading
       named = record { comparable = comparable; names = names }
 
-      pub no_date : (refusal : OutboxFault) → RefusesDate mine.carrier heading refusal
+      pub no_date : (refusal : OutboxFault) → RefusesDate mine heading refusal
           → RefusesPublication from to word refusal
       no_date refusal (inl e) = subst (RefusesPublication from to word) (sym e) tt
       no_date refusal (inr h) = subst (RefusesPublication from to word) (sym h.0) (heading, named, h.1)
 
-      module _ (reference : Reference) (h : HasReference mine.carrier heading reference) where
+      module _ (reference : Reference) (h : HasReference mine heading reference) where
         abbrev with_reference : BeginAt from to word heading reference
-        with_reference = record { named = named; means = means mine.carrier heading reference h }
+        with_reference = record { named = named; means = means mine heading reference h }
 
         pub not_after : (last : Reference) → RefusesOrder reference from.held last
             → RefusesPublication from to word (fault.Order last)

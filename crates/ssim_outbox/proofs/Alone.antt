@@ -39,7 +39,7 @@ use Rattle.ssim_text.proofs.BoundsLemmas.{spelled_reference_bounded}
 use Rattle.ssim_text.proofs.DatesAgain.{flight_again}
 use Rattle.ssim_text.proofs.HeadingAgain.{address_sound}
 use Rattle.ssim_text.proofs.LinesKept.{ReadsAgain}
-use Rattle.ssim_text.proofs.ReadsBack.{all_left, all_right}
+use Rattle.ssim_text.proofs.ReadsBack.{action_again, all_left, all_right}
 use Rattle.ssim_text.proofs.Words.{only_if}
 use Rattle.ssim_text.proofs.Writing.{written_both}
 use Rattle.ssim_outbox.specs.Dated.{dated}
@@ -48,7 +48,6 @@ use Rattle.ssim_publish.specs.Reach.{IsSaid}
 use Rattle.ssim_outbox.specs.internal.Texts.{heading_parts}
 use Rattle.ssim_outbox.proofs.FullPeriods.{full_again, full_period, full_short}
 use Rattle.ssim_outbox.proofs.OtherGroup.{date_five}
-use Rattle.ssim_outbox.proofs.PartsAgain.{action_again}
 use Rattle.ssim_outbox.proofs.SaidActions.{body_short, known}
 use Rattle.ssim_outbox.proofs.TextLines.{in_two}
 use Rattle.ssim_outbox.proofs.Together.{IsGood, heading_again, text_of}

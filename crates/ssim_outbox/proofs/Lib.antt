@@ -1,4 +1,3 @@
-pub mod PartsAgain
 pub mod OtherGroup
 pub mod Together
 pub mod TextLines

@@ -24,14 +24,13 @@ use Rattle.ssim_text.specs.declared.leg.LegLine.{LegLine}
 use Rattle.ssim_text.specs.declared.segment.SegmentLine.{SegmentLine}
 use Rattle.ssim_text.proofs.BoundsLemmas.{spelled_reference_bounded}
 use Rattle.ssim_text.proofs.LinesKept.{ReadsAgain}
-use Rattle.ssim_text.proofs.ReadsBack.{all_right}
+use Rattle.ssim_text.proofs.ReadsBack.{all_both, all_right, spelled_again}
 use Rattle.ssim_mailbox.specs.Lines.{MailLine, lines_from}
 use Rattle.ssim_mailbox.specs.Texts.{MailText, parts_of, text_from, texts_of, trimmed}
 use Rattle.ssim_outbox.specs.MailFile.{IsMail, MailboxesRead, SentAreMail, is_plain, mail_file, mail_texts}
 use Rattle.ssim_outbox.specs.internal.Texts.{heading_parts}
 use Rattle.ssim_outbox.proofs.MailRead.{IsPlainPart, kind_parts, lines_left, marked, marked_text}
 use Rattle.ssim_outbox.proofs.MailRead.{origin_parts, parts_below}
-use Rattle.ssim_outbox.proofs.PartsAgain.{all_both, spelled_again}
 use Rattle.ssim_outbox.proofs.PlainLines.{IsLaterPart, part_plain}
 use Rattle.ssim_outbox.proofs.Together.{choice, heading_again, own_lines}
 

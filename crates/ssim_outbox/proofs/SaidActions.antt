@@ -1,65 +1,35 @@
 -- An action of a text: its parts read again, and their lines are short. It has at most 120 lines of
 -- at most 171 bytes.
-use Rattle.std.proofs.Common.{◌≡◌, ◌≤◌, ◌<◌, ◌+◌, ◌*◌, ◌/◌, ◌%◌, ◌∙◌, ℕ, Bool, true, false, if◌then◌else◌}
+use Rattle.std.proofs.Common.{◌≡◌, ◌≤◌, ◌+◌, ◌*◌, ◌/◌, ◌%◌, ◌∙◌, ℕ, Bool, true, false, if◌then◌else◌}
 use Rattle.std.proofs.Common.{List, [], ◌∷◌, ◌++◌, map, length, length-append, ap, subst, arith, codes}
 use Rattle.std.proofs.Common.{None, Some, append-nil, drop, eqb-true, sym, take}
-use Rattle.std.specs.Prelude.{◌==◌, nat_lt, slice_index_or}
+use Rattle.std.specs.Prelude.{◌==◌, nat_lt}
 use Rattle.std.specs.List.{AllByRecursion}
 use Rattle.std.specs.Str.{bytes_eq}
-use Rattle.std.proofs.lemmas.List.Elements.{All-from_recursion}
 use Rattle.ssim_values.specs.Station.{is_station}
 use Rattle.ssim_text.specs.Bounds.{AreNewLegsBounded, IsActionBounded, IsEquipmentBounded, IsSegmentBounded}
 use Rattle.ssim_text.specs.Bytes.{◌>>=◌, after_word, word}
-use Rattle.ssim_text.specs.Canonical.{leg_end_text, part_text, short_digits, unless_empty, written}
+use Rattle.ssim_text.specs.Canonical.{leg_end_text, part_text, short_digits, written}
 use Rattle.ssim_text.specs.Grammar.{EquipmentPart, IsBody, IsNewLegs, IsSub, LegPart, Part, SegmentPart}
-use Rattle.ssim_text.specs.Grammar.{body_parts, flight_parts, free_parts, later_parts, new_parts, sub_parts}
-use Rattle.ssim_text.specs.Grammar.{subs_parts}
+use Rattle.ssim_text.specs.Grammar.{body_parts, free_parts, new_parts, subs_parts}
 use Rattle.ssim_text.specs.Lines.{points_of, station_in}
 use Rattle.ssim_text.specs.Values.{EquipmentValue}
 use Rattle.ssim_text.specs.declared.action.Action.{Action}
 use Rattle.ssim_text.specs.declared.action.Action.TheVariants.{Cnl, Eqt, New, Rpl, Tim}
 use Rattle.ssim_text.specs.declared.action.NewLegs.{NewLegs}
-use Rattle.ssim_text.specs.declared.action.Sub.{Sub}
 use Rattle.ssim_text.specs.declared.leg.LegLine.{LegLine}
 use Rattle.ssim_text.specs.declared.segment.SegmentLine.{SegmentLine}
 use Rattle.ssim_text.proofs.BoundsLemmas.{spelled_subs_bounded}
 use Rattle.ssim_text.proofs.LegsAgain.{end_sound, leg_sound, segment_sound}
 use Rattle.ssim_text.proofs.LinesKept.{ReadsAgain}
-use Rattle.ssim_text.proofs.ReadsBack.{all_left, all_right}
+use Rattle.ssim_text.proofs.ReadsBack.{all_left, all_right, spelled_again}
 use Rattle.ssim_text.proofs.Runs.{some_same}
 use Rattle.ssim_text.proofs.Words.{bound, only_else, only_if}
 use Rattle.ssim_publish.specs.Reach.{IsSaid}
-use Rattle.ssim_publish.proofs.ActionTexts.{IsShort, end_short, ends_short, marked_short}
-use Rattle.ssim_outbox.proofs.PartsAgain.{spelled_again}
+use Rattle.ssim_publish.proofs.ActionTexts.{IsShort, end_short, ends_short, equipment_bounded_short}
+use Rattle.ssim_publish.proofs.Said.{HasBody, bodies, element}
 
 -- ---- the parts of an action
-
-abbrev IsAgain : Sub → Type 0
-IsAgain sub = AllByRecursion ReadsAgain (body_parts sub.action)
-
-sub_again : (sub : Sub) → AllByRecursion ReadsAgain (sub_parts sub) → IsAgain sub
-sub_again sub h =
-    all_right ReadsAgain (flight_parts sub.designator sub.dates) (body_parts sub.action) h.1
-
-later_again : (subs : List Sub) → AllByRecursion ReadsAgain (later_parts subs)
-    → AllByRecursion IsAgain subs
-later_again [] h = tt
-later_again (sub ∷ subs) h = (
-  sub_again sub (all_left ReadsAgain (sub_parts sub) (later_parts subs) h.1),
-  later_again subs (all_right ReadsAgain (sub_parts sub) (later_parts subs) h.1),
-)
-
-subs_again : (subs : List Sub) → AllByRecursion ReadsAgain (subs_parts subs) → AllByRecursion IsAgain subs
-subs_again [] h = tt
-subs_again (sub ∷ subs) h = (
-  sub_again sub (all_left ReadsAgain (sub_parts sub) (later_parts subs) h),
-  later_again subs (all_right ReadsAgain (sub_parts sub) (later_parts subs) h),
-)
-
--- an element of which something holds
-element : {X : Type 0} (P : X → Type 0) (xs : List X) (x : X) (k : ℕ) → k < length xs
-    → slice_index_or xs k x ≡ x → AllByRecursion P xs → P x
-element P xs x k within is h = subst P is (All-from_recursion P xs h k x within)
 
 pub record IsKnown (action : Action) : Type 0 where
   pub again : AllByRecursion ReadsAgain (body_parts action)
@@ -72,10 +42,11 @@ known action said =
     let has = said.spelled.spelled.has_parts in
     let whole = subst (AllByRecursion ReadsAgain) has.whole (spelled_again m said.text said.spelled) in
     let rest = all_right ReadsAgain has.heading (subs_parts m.subs ++ free_parts m.free) whole in
-    let subs = subs_again m.subs (all_left ReadsAgain (subs_parts m.subs) (free_parts m.free) rest) in
+    let subs = bodies ReadsAgain m.subs
+    (all_left ReadsAgain (subs_parts m.subs) (free_parts m.free) rest) in
     let c = said.contained in
     subst IsKnown said.action_is (record {
-      again = element IsAgain m.subs said.sub c.0 c.1 c.2 subs;
+      again = element (HasBody ReadsAgain) m.subs said.sub c.0 c.1 c.2 subs;
       allowed = (element (IsSub m.kind) m.subs said.sub c.0 c.1 c.2 said.spelled.spelled.shape.subs).body;
       bounded = element (λ sub. IsActionBounded sub.action) m.subs said.sub c.0 c.1 c.2
           (spelled_subs_bounded m said.text said.spelled);
@@ -85,20 +56,7 @@ known action said =
 
 equipment_short : (e : EquipmentValue) → IsEquipmentBounded e → IsShort (EquipmentPart e)
 equipment_short e h =
-    let last = unless_empty 46 e.configuration in
-    let three = h.aircraft_three in
-    let designators = h.designators_few in
-    let configuration = h.configuration_few in
-    omega (
-      arith,
-      length-append e.aircraft (unless_empty 32 (e.designators ++ last)),
-      marked_short 32 (e.designators ++ last),
-      length-append e.designators last,
-      marked_short 46 e.configuration,
-      three,
-      designators,
-      configuration,
-    )
+    equipment_bounded_short e h.aircraft_three h.designators_few h.configuration_few
 
 leg_short : (leg : LegLine) → ReadsAgain (LegPart leg) → IsShort (LegPart leg)
 leg_short leg h =

@@ -24,6 +24,7 @@ use Rattle.ssim_text.specs.Message.{MessageValue}
 use Rattle.ssim_text.specs.declared.action.Action.{Action}
 use Rattle.ssim_text.specs.declared.action.Sub.{Sub}
 use Rattle.ssim_text.specs.declared.reference.Reference.{Reference}
+use Rattle.ssim_text.proofs.ReadsBack.{all_both}
 use Rattle.ssim_held.specs.Entries.{AreEntries, Entry, IsEntry, keyed}
 use Rattle.ssim_held.specs.Held.{reference_cmp}
 use Rattle.ssim_held.proofs.Entries.{T-from_true, get-map_of}
@@ -39,7 +40,6 @@ use Rattle.ssim_publish.specs.Published.{IsPublishedOn}
 use Rattle.ssim_publish.specs.Reach.{IsSaid, Reach, after_all}
 use Rattle.ssim_publish.specs.Sayable.{HaveColumns}
 use Rattle.ssim_publish.proofs.MoreActions.{given_in, more_reached}
-use Rattle.ssim_publish.proofs.Said.{all_both}
 use Rattle.ssim_publish.proofs.SaidAgain.{IsIn}
 use Rattle.ssim_publish.proofs.Tried.{after_both}
 use Rattle.ssim_outbox.specs.Messages.{IsText}

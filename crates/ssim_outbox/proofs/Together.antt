@@ -16,12 +16,12 @@ use Rattle.ssim_text.specs.Values.{no_originator}
 use Rattle.ssim_text.specs.declared.action.Sub.{Sub}
 use Rattle.ssim_text.specs.declared.kind.Kind.{Kind}
 use Rattle.ssim_text.proofs.LinesKept.{IsLine, ReadsAgain, written_left, written_printable}
-use Rattle.ssim_text.proofs.ReadsBack.{all_left, all_right, canonical_has}
+use Rattle.ssim_text.proofs.ReadsBack.{all_both, all_left, all_right, canonical_has, divider_again}
+use Rattle.ssim_text.proofs.ReadsBack.{kind_again, mode_again, spelled_again}
 use Rattle.ssim_text.proofs.Runs.{false_true}
 use Rattle.ssim_outbox.specs.Messages.{IsAlone, IsText, headed}
 use Rattle.ssim_outbox.specs.internal.Texts.{heading_parts}
 use Rattle.ssim_outbox.proofs.OtherGroup.{other_group}
-use Rattle.ssim_outbox.proofs.PartsAgain.{all_both, divider_again, kind_again, mode_again, spelled_again}
 
 -- a sub-message whose parts read again, in a message of this kind
 pub record IsGood (kind : Kind) (sub : Sub) : Type 0 where
