@@ -77,7 +77,9 @@ is_trailer (Trailer r) = true
 abbrev pub overlaps : Name → DayRange → Record → Bool
 overlaps name period (Header e) = false
 overlaps name period (Carrier e) = false
-overlaps name period (Leg e) = (same_flight name.flight e.name.flight && nat_eq name.sequence e.name.sequence) && meet period (period_of e)
+overlaps name period (Leg e) =
+    (same_flight name.flight e.name.flight && nat_eq name.sequence e.name.sequence)
+    && meet period (period_of e)
 overlaps name period (Segment e) = false
 overlaps name period (Trailer e) = false
 
@@ -156,7 +158,8 @@ missing (last ∷ second ∷ more) = refuse_if (not (is_trailer last)) refused.N
 abbrev pub kept : List Record → Record → Record
 kept earlier (Header r) = Header (record r { serial = 0 })
 kept earlier (Carrier r) = Carrier (record r { serial = 0 })
-kept earlier (Leg r) = Leg (record (closed (carrier_end earlier) r) { rate = 32; overflow = 32; serial = 0 })
+kept earlier (Leg r) =
+    Leg (record (closed (carrier_end earlier) r) { rate = 32; overflow = 32; serial = 0 })
 kept earlier (Segment r) = Segment (record r { overflow = 32; serial = 0 })
 kept earlier (Trailer r) = Trailer (record r { check = 0; serial = 0 })
 
@@ -187,7 +190,8 @@ kept_all earlier (r ∷ later) = kept earlier r ∷ kept_all (kept earlier r ∷
 -- the accepted records, the latest first.
 abbrev pub first_refusal : Ending → List Record → List (ℕ × Record) → Option BaseFault
 first_refusal ending earlier [] = at_end ending (missing earlier)
-first_refusal ending earlier (r ∷ later) = at_record r.0 (refusal_at earlier r.1) (first_refusal ending (kept earlier r.1 ∷ earlier) later)
+first_refusal ending earlier (r ∷ later) =
+    at_record r.0 (refusal_at earlier r.1) (first_refusal ending (kept earlier r.1 ∷ earlier) later)
 
 -- ---- the numbers of refusals
 
@@ -219,7 +223,8 @@ note_if test note = if test then note ∷ [] else []
 
 -- the note on the check reference of a trailer
 abbrev pub check_notes : ℕ → ℕ → Record → List Note
-check_notes number previous (Trailer r) = note_if (not (nat_eq r.check previous)) (CheckReference number)
+check_notes number previous (Trailer r) =
+    note_if (not (nat_eq r.check previous)) (CheckReference number)
 check_notes number previous (Header r) = []
 check_notes number previous (Carrier r) = []
 check_notes number previous (Leg r) = []
@@ -245,7 +250,9 @@ unless_refused None base = Ok base
 
 -- what a data set is read as: its records and notes, or the fault of its first invalid record
 abbrev pub data_set : Ending → List (ℕ × Record) → Outcome
-data_set ending records = unless_refused (first_refusal ending [] records) (kept_all [] (map (λ r. r.1) records), notes_of 0 records)
+data_set ending records =
+    unless_refused (first_refusal ending [] records)
+    (kept_all [] (map (λ r. r.1) records), notes_of 0 records)
 
 -- ---- the first invalid record
 
@@ -255,14 +262,16 @@ before_record records k = reverse (kept_all [] (map (λ r. r.1) (take k records)
 
 -- record k is allowed after the records before it
 abbrev pub IsAllowed : List (ℕ × Record) → ℕ → Type 0
-IsAllowed records k = IfSome (slice_get records k) (λ r. refusal_at (before_record records k) r.1 ≡ None)
+IsAllowed records k =
+    IfSome (slice_get records k) (λ r. refusal_at (before_record records k) r.1 ≡ None)
 
 -- If record k is refused after the records before it, and each of these is allowed, then the data
 -- set is refused for record k.
 abbrev pub NamesTheFirst : Type 0
 NamesTheFirst =
     (ending : Ending) (records : List (ℕ × Record)) (k : ℕ) (r : ℕ × Record) (refusal : BaseRefusal)
-    → ((j : ℕ) → j < k → IsAllowed records j) → slice_get records k ≡ Some r → refusal_at (before_record records k) r.1 ≡ Some refusal
+    → ((j : ℕ) → j < k → IsAllowed records j) → slice_get records k ≡ Some r
+    → refusal_at (before_record records k) r.1 ≡ Some refusal
     → data_set ending records ≡ Err (Refused r.0 refusal)
 
 -- If each record is allowed, the ending and a missing record decide.
@@ -270,4 +279,5 @@ abbrev pub NamesTheEnd : Type 0
 NamesTheEnd =
     (ending : Ending) (records : List (ℕ × Record)) → ((j : ℕ) → IsAllowed records j)
     → let base = kept_all [] (map (λ r. r.1) records) in
-    data_set ending records ≡ unless_refused (at_end ending (missing (reverse base))) (base, notes_of 0 records)
+    data_set ending records ≡ unless_refused (at_end ending (missing (reverse base)))
+    (base, notes_of 0 records)

@@ -39,4 +39,5 @@ is_leg_of flight (Trailer r) = false
 -- the flights of the leg records, each once, rising by number and suffix
 pub record AreFlights (records : List Record) (flights : List FlightNumber) : Type 0 where
   pub rising : Rise 0 flights
-  pub each : (flight : FlightNumber) → IsFlight flight → list_any (same_flight flight) flights ≡ list_any (is_leg_of flight) records
+  pub each : (flight : FlightNumber) → IsFlight flight
+      → list_any (same_flight flight) flights ≡ list_any (is_leg_of flight) records

@@ -37,7 +37,8 @@ same_tails (t ∷ tails) [] = false
 
 -- whether two legs are equal
 abbrev pub same_leg : LegValue → LegValue → Bool
-same_leg l m = nat_eq l.sequence m.sequence && (bytes_eq l.columns m.columns && same_tails l.tails m.tails)
+same_leg l m =
+    nat_eq l.sequence m.sequence && (bytes_eq l.columns m.columns && same_tails l.tails m.tails)
 
 -- whether two itineraries are equal
 abbrev pub same_itinerary : Legs → Legs → Bool
@@ -58,24 +59,41 @@ pieces days = pieces_of same_itinerary [] days
 
 -- the segment record of a tail; its service type is the leg's, column 14
 abbrev pub tail_record : Name → ℕ → List ℕ → Record
-tail_record name service tail = Segment (record { name = name; service = service; tail = tail; overflow = 32; serial = 0 })
+tail_record name service tail =
+    Segment (record { name = name; service = service; tail = tail; overflow = 32; serial = 0 })
 
 -- the record of a leg, followed by the records of its tails
 abbrev pub leg_records : List ℕ → FlightNumber → ℕ → DayRange → LegValue → List Record
 leg_records airline flight variation period l =
-    let name : Name = record { airline = airline; flight = flight; variation = variation; sequence = l.sequence } in
-    Leg (record { name = name; first = period.first; last = Some period.last; days = period.days; rate = 32; columns = l.columns; overflow = 32; serial = 0 })
+    let name : Name = record {
+      airline = airline;
+      flight = flight;
+      variation = variation;
+      sequence = l.sequence;
+    } in
+    Leg (record {
+      name = name;
+      first = period.first;
+      last = Some period.last;
+      days = period.days;
+      rate = 32;
+      columns = l.columns;
+      overflow = 32;
+      serial = 0;
+    })
     ∷ map (tail_record name (slice_index l.columns 0)) l.tails
 
 -- the records of a piece: its legs by sequence, each followed by its tails
 abbrev pub piece_records : List ℕ → FlightNumber → ℕ → Piece → List Record
-piece_records airline flight variation piece = flat_map (leg_records airline flight variation piece.0) piece.1
+piece_records airline flight variation piece =
+    flat_map (leg_records airline flight variation piece.0) piece.1
 
 -- the records of the pieces of a flight, with itinerary variations from `variation` on
 abbrev pub pieces_records : List ℕ → FlightNumber → ℕ → List Piece → List Record
 pieces_records airline flight variation [] = []
 pieces_records airline flight variation (piece ∷ later) =
-    piece_records airline flight variation piece ++ pieces_records airline flight (variation + 1) later
+    piece_records airline flight variation piece
+    ++ pieces_records airline flight (variation + 1) later
 
 -- the records of a flight, with itinerary variations from 1 on
 abbrev pub flight_records : List ℕ → (FlightNumber → Days) → FlightNumber → List Record
@@ -130,7 +148,8 @@ pub data ExportRefusal : Type 0 where
 
 -- the refusal of the first flight that cannot be exported; `count` is the number of records before
 -- it
-abbrev pub export_refusal : List ℕ → (FlightNumber → Days) → ℕ → List FlightNumber → Option ExportRefusal
+abbrev pub export_refusal : List ℕ → (FlightNumber → Days) → ℕ → List FlightNumber
+    → Option ExportRefusal
 export_refusal airline days count [] = None
 export_refusal airline days count (flight ∷ flights) =
     let of_flight = pieces (days flight) in
@@ -140,18 +159,22 @@ export_refusal airline days count (flight ∷ flights) =
     else export_refusal airline days after flights)
 
 -- the refusal, or else the records
-abbrev pub unless_refused : Option ExportRefusal → List (List Record) → Result (List (List Record)) ExportRefusal
+abbrev pub unless_refused : Option ExportRefusal → List (List Record)
+    → Result (List (List Record)) ExportRefusal
 unless_refused (Some refusal) records = Err refusal
 unless_refused None records = Ok records
 
 -- the export of some flights' itineraries by day
-abbrev pub export_of : List FlightNumber → Frame → (FlightNumber → Days) → Result (List (List Record)) ExportRefusal
+abbrev pub export_of : List FlightNumber → Frame → (FlightNumber → Days)
+    → Result (List (List Record)) ExportRefusal
 export_of flights frame days =
     let airline = frame.carrier.airline in
-    unless_refused (export_refusal airline days 2 flights) (sections frame (flights_records airline days flights))
+    unless_refused (export_refusal airline days 2 flights)
+    (sections frame (flights_records airline days flights))
 
 -- the sections of the whole export, or its refusal
-abbrev pub chapter7_records : Frame → (FlightNumber → Days) → Result (List (List Record)) ExportRefusal
+abbrev pub chapter7_records : Frame → (FlightNumber → Days)
+    → Result (List (List Record)) ExportRefusal
 chapter7_records frame days = export_of all_flights frame days
 
 -- ---- bytes
@@ -166,7 +189,9 @@ fill_count n = (5 - n % 5) % 5
 
 -- the bytes of a section: each record with LF, and fill up to a multiple of five
 abbrev pub section_bytes : List Record → List ℕ
-section_bytes records = flat_map (λ r. line (written r)) records ++ flat_map line (replicate (fill_count (length records)) fill)
+section_bytes records =
+    flat_map (λ r. line (written r)) records
+    ++ flat_map line (replicate (fill_count (length records)) fill)
 
 -- the bytes of all sections
 abbrev pub export_bytes : List (List Record) → List ℕ

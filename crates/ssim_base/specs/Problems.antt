@@ -30,7 +30,8 @@ abbrev pub AreItems : List (ℕ × List ℕ) → List (ℕ × Item) → Type 0
 AreItems [] [] = Unit {0}
 AreItems [] (item ∷ items) = ⊥
 AreItems (block ∷ blocks) [] = ⊥
-AreItems (block ∷ blocks) (item ∷ items) = (block.0 ≡ item.0) × Says block.0 block.1 item.1 × AreItems blocks items
+AreItems (block ∷ blocks) (item ∷ items) =
+    (block.0 ≡ item.0) × Says block.0 block.1 item.1 × AreItems blocks items
 
 -- whether a block begins with `5`, as a trailer does
 abbrev pub begins_as_trailer : ℕ × List ℕ → Bool
@@ -94,7 +95,8 @@ after_item Alone item = Alone
 -- Each invalid record has the refusal that it has without the invalid records before it.
 abbrev pub problems_in : Standing → List (ℕ × Item) → List BaseFault
 problems_in standing [] = []
-problems_in standing (item ∷ items) = problem_in standing item ++ problems_in (after_item standing item.1) items
+problems_in standing (item ∷ items) =
+    problem_in standing item ++ problems_in (after_item standing item.1) items
 
 -- how things stand after these items
 abbrev pub standing_after : Standing → List (ℕ × Item) → Standing
@@ -127,7 +129,8 @@ pub record AreProblems (bytes : List ℕ) (problems : Problems) : Type 0 where
   pub counted : problems.records ≡ length items
   pub faults_are : problems.faults.items
       ≡ problems_in (After []) items
-      ++ end_problem (standing_after (After []) items) (list_any begins_as_trailer (others 0 blocks)) (length blocks + 1) rest
+      ++ end_problem (standing_after (After []) items)
+      (list_any begins_as_trailer (others 0 blocks)) (length blocks + 1) rest
 
 -- bytes within the limit have these problems; nothing is said of a reader that does not report its
 -- bytes
@@ -137,5 +140,6 @@ HasProblems limit (Some bytes) problems = (length bytes ≤ limit) × AreProblem
 
 -- Bytes have one list of problems.
 abbrev pub SameBytesSameProblems : Type 0
-SameBytesSameProblems = (bytes : List ℕ) (one other : Problems) → AreProblems bytes one → AreProblems bytes other
+SameBytesSameProblems =
+    (bytes : List ℕ) (one other : Problems) → AreProblems bytes one → AreProblems bytes other
     → (one.records ≡ other.records) × (one.faults.items ≡ other.faults.items)

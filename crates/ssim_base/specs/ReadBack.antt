@@ -21,7 +21,9 @@ use Rattle.ssim_base.specs.Export.{Frame, fill_count, chapter7}
 -- On each date the legs of a flight are ordered by rising leg sequence, from 1 to 99. No sequence
 -- is there twice.
 abbrev pub AreInOrder : (FlightNumber → Days) → Type 0
-AreInOrder days = (flight : FlightNumber) (n : ℕ) → IsFlight flight → n < day_count → Above 0 (on_day (days flight) n)
+AreInOrder days =
+    (flight : FlightNumber) (n : ℕ) → IsFlight flight → n < day_count
+    → Above 0 (on_day (days flight) n)
 
 -- a value for each day of each flight, each with its legs by rising sequence
 pub record IsTimetable (days : FlightNumber → Days) : Type 0 where
@@ -67,7 +69,9 @@ pub record IsWritable (l : LegValue) : Type 0 where
 
 -- all legs of a timetable have columns and tails that records may have
 abbrev pub AreWritable : (FlightNumber → Days) → Type 0
-AreWritable days = (flight : FlightNumber) (n : ℕ) → IsFlight flight → n < day_count → All IsWritable (on_day (days flight) n)
+AreWritable days =
+    (flight : FlightNumber) (n : ℕ) → IsFlight flight → n < day_count
+    → All IsWritable (on_day (days flight) n)
 
 -- the header, carrier and trailer have fields that records may have
 pub record IsWritableFrame (frame : Frame) : Type 0 where
@@ -88,7 +92,8 @@ abbrev pub EachSpells : List (ℕ × List ℕ) → List (ℕ × Record) → Type
 EachSpells [] [] = Unit {0}
 EachSpells [] (r ∷ records) = ⊥
 EachSpells (block ∷ blocks) [] = ⊥
-EachSpells (block ∷ blocks) (r ∷ records) = (block.0 ≡ r.0) × Spells r.1 block.1 × EachSpells blocks records
+EachSpells (block ∷ blocks) (r ∷ records) =
+    (block.0 ≡ r.0) × Spells r.1 block.1 × EachSpells blocks records
 
 -- The bytes are `count` blocks with nothing left over. The blocks that are not fill spell these
 -- records, with their numbers.
@@ -100,19 +105,23 @@ pub record AreRead (bytes : List ℕ) (count : ℕ) (records : List (ℕ × Reco
 
 -- a base begins with the header and the carrier of the frame and ends with its trailer
 abbrev pub HasFrame : Frame → List Record → Type 0
-HasFrame frame base = (body : List Record) × (base ≡ Header frame.header ∷ Carrier frame.carrier ∷ (body ++ Trailer frame.trailer ∷ []))
+HasFrame frame base =
+    (body : List Record) × (base ≡ Header frame.header ∷ Carrier frame.carrier
+    ∷ (body ++ Trailer frame.trailer ∷ []))
 
 -- The bytes of an export read back. They are read as records, of which none is refused and none has
 -- a note. The base has the frame, and on each day the itineraries that were exported. The base's
 -- own export is these bytes again.
-pub record ReadsBackFrom (frame : Frame) (days : FlightNumber → Days) (bytes : List ℕ) : Type 0 where
+pub record ReadsBackFrom (frame : Frame) (days : FlightNumber → Days)
+    (bytes : List ℕ) : Type 0 where
   pub count : ℕ
   pub records : List (ℕ × Record)
   pub base : List Record
   pub read : AreRead bytes count records
   pub valid : data_set (Done (count + 1)) records ≡ Ok (base, [])
   pub frame_is : HasFrame (kept_frame frame) base
-  pub same : (flight : FlightNumber) (n : ℕ) → IsFlight flight → n < day_count → itinerary base flight n ≡ on_day (days flight) n
+  pub same : (flight : FlightNumber) (n : ℕ) → IsFlight flight → n < day_count
+      → itinerary base flight n ≡ on_day (days flight) n
   pub again : chapter7 (kept_frame frame) (days_of base) ≡ Ok bytes
 
 -- the bytes are the export of a frame and of a timetable that a desk may hold
@@ -125,16 +134,22 @@ pub record IsExport (frame : Frame) (days : FlightNumber → Days) (bytes : List
 
 -- Each export reads back from its bytes.
 abbrev pub BytesReadBack : Type 0
-BytesReadBack = (frame : Frame) (days : FlightNumber → Days) (bytes : List ℕ) → IsExport frame days bytes → ReadsBackFrom frame days bytes
+BytesReadBack =
+    (frame : Frame) (days : FlightNumber → Days) (bytes : List ℕ) → IsExport frame days bytes
+    → ReadsBackFrom frame days bytes
 
 -- two timetables have the same itineraries
 abbrev pub HaveSameItineraries : (FlightNumber → Days) → (FlightNumber → Days) → Type 0
-HaveSameItineraries days others = (flight : FlightNumber) (n : ℕ) → IsFlight flight → n < day_count → on_day (days flight) n ≡ on_day (others flight) n
+HaveSameItineraries days others =
+    (flight : FlightNumber) (n : ℕ) → IsFlight flight → n < day_count
+    → on_day (days flight) n ≡ on_day (others flight) n
 
 -- The bytes of two exports are equal exactly if their timetables have the same itineraries and a
 -- base keeps their frames alike.
 abbrev pub ExportsAreOne : Type 0
-ExportsAreOne = (frame other : Frame) (days others : FlightNumber → Days) (bytes these : List ℕ) → IsExport frame days bytes → IsExport other others these
+ExportsAreOne =
+    (frame other : Frame) (days others : FlightNumber → Days) (bytes these : List ℕ)
+    → IsExport frame days bytes → IsExport other others these
     → (bytes ≡ these) ↔ ((kept_frame frame ≡ kept_frame other) × HaveSameItineraries days others)
 
 -- a timetable can be exported and read back: each day has its legs by rising sequence, with columns
@@ -158,5 +173,7 @@ pub record CanExport (base : List Record) : Type 0 where
 
 -- Each base that is read can be exported.
 abbrev pub BasesExport : Type 0
-BasesExport = (ending : Ending) (records : List (ℕ × Record)) (base : List Record) (notes : List Note) → All (λ r. IsRecord r.1) records
+BasesExport =
+    (ending : Ending) (records : List (ℕ × Record)) (base : List Record) (notes : List Note)
+    → All (λ r. IsRecord r.1) records
     → data_set ending records ≡ Ok (base, notes) → CanExport base

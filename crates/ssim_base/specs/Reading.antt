@@ -15,25 +15,32 @@ use Rattle.ssim_base.specs.declared.note.Note.{Note}
 
 -- the first of these numbered blocks spells no record, for the reason that the fault names
 abbrev pub IsFaulty : List (ℕ × List ℕ) → ℕ → RecordFault → Type 0
-IsFaulty left number fault = (block : List ℕ) × (later : List (ℕ × List ℕ)) × (left ≡ (number, block) ∷ later) × (fault_of number block ≡ Some fault)
+IsFaulty left number fault =
+    (block : List ℕ) × (later : List (ℕ × List ℕ)) × (left ≡ (number, block) ∷ later)
+    × (fault_of number block ≡ Some fault)
 
 -- How the records end. `left` has the numbered blocks that are not yet read, none of them fill;
 -- `count` is the number of all blocks, `rest` the bytes after them, `beyond` the number of bytes
 -- after the limit. The records end at the end of the bytes, within a record, at the limit, at a
 -- failure of the reader, or at a block that spells no record.
 abbrev pub Stops : ℕ → List ℕ → ℕ → List (ℕ × List ℕ) → Ending → Type 0
-Stops count rest beyond left (Done number) = (left ≡ []) × (rest ≡ []) × (beyond ≡ 0) × (number ≡ count + 1)
-Stops count rest beyond left (Broken (Short number)) = (left ≡ []) × (0 < length rest) × (beyond ≡ 0) × (number ≡ count + 1)
-Stops count rest beyond left (Broken (ReaderNeverEnds number)) = (left ≡ []) × (0 < beyond) × (number ≡ count + 1)
+Stops count rest beyond left (Done number) =
+    (left ≡ []) × (rest ≡ []) × (beyond ≡ 0) × (number ≡ count + 1)
+Stops count rest beyond left (Broken (Short number)) =
+    (left ≡ []) × (0 < length rest) × (beyond ≡ 0) × (number ≡ count + 1)
+Stops count rest beyond left (Broken (ReaderNeverEnds number)) =
+    (left ≡ []) × (0 < beyond) × (number ≡ count + 1)
 Stops count rest beyond left (Broken (ReadFault number)) = number ≤ count + 1
 Stops count rest beyond left (Broken (BadType number)) = IsFaulty left number (BadType number)
-Stops count rest beyond left (Broken (BadColumn number column)) = IsFaulty left number (BadColumn number column)
+Stops count rest beyond left (Broken (BadColumn number column)) =
+    IsFaulty left number (BadColumn number column)
 
 -- the numbered blocks spell these records, one after another, and then the records end in this way
 abbrev pub Gives : ℕ → List ℕ → ℕ → List (ℕ × List ℕ) → List (ℕ × Record) → Ending → Type 0
 Gives count rest beyond left [] ending = Stops count rest beyond left ending
 Gives count rest beyond [] (r ∷ records) ending = ⊥
-Gives count rest beyond (block ∷ left) (r ∷ records) ending = (block.0 ≡ r.0) × Spells r.1 block.1 × Gives count rest beyond left records ending
+Gives count rest beyond (block ∷ left) (r ∷ records) ending =
+    (block.0 ≡ r.0) × Spells r.1 block.1 × Gives count rest beyond left records ending
 
 -- the first of the numbered blocks spell these records
 abbrev pub Begins : List (ℕ × List ℕ) → List (ℕ × Record) → Type 0
@@ -46,7 +53,8 @@ abbrev pub AreBlocks : ℕ → List ℕ → List (List ℕ) → List ℕ → Typ
 AreBlocks limit bytes blocks rest = Frames (length bytes - limit) false bytes blocks rest
 
 -- the bytes have exactly these records and then this ending
-pub record AreGiven (limit : ℕ) (bytes : List ℕ) (records : List (ℕ × Record)) (ending : Ending) : Type 0 where
+pub record AreGiven (limit : ℕ) (bytes : List ℕ) (records : List (ℕ × Record))
+    (ending : Ending) : Type 0 where
   pub blocks : List (List ℕ)
   pub rest : List ℕ
   pub framed : AreBlocks limit bytes blocks rest
@@ -70,7 +78,8 @@ pub record IsOfAll (limit : ℕ) (bytes : List ℕ) (outcome : Outcome) : Type 0
 pub record IsOfFirst (limit : ℕ) (bytes : List ℕ) (outcome : Outcome) : Type 0 where
   pub records : List (ℕ × Record)
   pub first : AreFirst limit bytes records
-  pub is : (later : List (ℕ × Record)) (ending : Ending) → outcome ≡ data_set ending (records ++ later)
+  pub is : (later : List (ℕ × Record)) (ending : Ending)
+      → outcome ≡ data_set ending (records ++ later)
 
 -- The records of the bytes are checked in order. The outcome is the base with its notes, or the
 -- fault of the first invalid record. The bytes after that record make no difference.
@@ -131,7 +140,8 @@ abbrev pub IsAfterComplete : Option (List ℕ) → Option (List ℕ) → ℕ →
 IsAfterComplete None left number = Unit {0}
 IsAfterComplete (Some all) None number = ⊥
 IsAfterComplete (Some all) (Some left) number =
-    (came : List ℕ) × (blocks : List (List ℕ)) × (rest : List ℕ) × (all ≡ came ++ left) × Frames 0 false came blocks rest × (number ≡ length blocks + 1)
+    (came : List ℕ) × (blocks : List (List ℕ)) × (rest : List ℕ) × (all ≡ came ++ left)
+    × Frames 0 false came blocks rest × (number ≡ length blocks + 1)
 
 -- if the fault is 13, its number is the one after the complete records that came before the reader
 -- failed, fill included
@@ -148,18 +158,23 @@ FailsAfter all left (fault.Refused number refusal) = Unit {0}
 
 -- the outcome is what bytes within the limit are read as
 abbrev pub IsWholeOf : ℕ → Option (List ℕ) → Outcome → Type 0
-IsWholeOf limit known outcome = IsReadOf limit known outcome × IfSome known (λ bytes. length bytes ≤ limit)
+IsWholeOf limit known outcome =
+    IsReadOf limit known outcome × IfSome known (λ bytes. length bytes ≤ limit)
 
 -- If the reader was read to its end, and the fault is of the bytes, the bytes are within the limit,
 -- and the fault is what they are read as.
 abbrev pub RefusesWhole : ℕ → Option (List ℕ) → BaseFault → Type 0
 RefusesWhole limit known fault.Memory = Unit {0}
-RefusesWhole limit known (fault.Read (Short number)) = IsWholeOf limit known (Err (fault.Read (Short number)))
-RefusesWhole limit known (fault.Read (BadType number)) = IsWholeOf limit known (Err (fault.Read (BadType number)))
-RefusesWhole limit known (fault.Read (BadColumn number column)) = IsWholeOf limit known (Err (fault.Read (BadColumn number column)))
+RefusesWhole limit known (fault.Read (Short number)) =
+    IsWholeOf limit known (Err (fault.Read (Short number)))
+RefusesWhole limit known (fault.Read (BadType number)) =
+    IsWholeOf limit known (Err (fault.Read (BadType number)))
+RefusesWhole limit known (fault.Read (BadColumn number column)) =
+    IsWholeOf limit known (Err (fault.Read (BadColumn number column)))
 RefusesWhole limit known (fault.Read (ReadFault number)) = Unit {0}
 RefusesWhole limit known (fault.Read (ReaderNeverEnds number)) = Unit {0}
-RefusesWhole limit known (fault.Refused number refusal) = IsWholeOf limit known (Err (fault.Refused number refusal))
+RefusesWhole limit known (fault.Refused number refusal) =
+    IsWholeOf limit known (Err (fault.Refused number refusal))
 
 -- The record after the invalid one has this number. An incomplete record is not counted: bytes that
 -- come later belong to it.
@@ -199,13 +214,18 @@ FailedReader outcome = (number : ℕ) × (outcome ≡ Err (fault.Read (ReadFault
 -- Bytes within the limit that spell the records of a base, and nothing else, are read as this base
 -- with its notes, unless the reader fails.
 abbrev pub IsReadBack : Type 0
-IsReadBack = (bytes : List ℕ) (count : ℕ) (records : List (ℕ × Record)) (base : List Record) (notes : List Note) (limit : ℕ) (outcome : Outcome)
-    → AreRead bytes count records → data_set (Done (count + 1)) records ≡ Ok (base, notes) → length bytes ≤ limit → IsReadAs limit bytes outcome
+IsReadBack =
+    (bytes : List ℕ) (count : ℕ) (records : List (ℕ × Record)) (base : List Record)
+    (notes : List Note) (limit : ℕ) (outcome : Outcome)
+    → AreRead bytes count records → data_set (Done (count + 1)) records ≡ Ok (base, notes)
+    → length bytes ≤ limit → IsReadAs limit bytes outcome
     → (outcome ≡ Ok (base, notes)) ⊎ FailedReader outcome
 
 -- ---- the same bytes
 
 -- Equal bytes are read as the same base with the same notes, whatever the limits.
 abbrev pub SameBytesSameBase : Type 0
-SameBytesSameBase = (bytes : List ℕ) (limit other : ℕ) (base these : List Record) (notes noted : List Note)
-    → IsReadAs limit bytes (Ok (base, notes)) → IsReadAs other bytes (Ok (these, noted)) → (base ≡ these) × (notes ≡ noted)
+SameBytesSameBase =
+    (bytes : List ℕ) (limit other : ℕ) (base these : List Record) (notes noted : List Note)
+    → IsReadAs limit bytes (Ok (base, notes)) → IsReadAs other bytes (Ok (these, noted))
+    → (base ≡ these) × (notes ≡ noted)

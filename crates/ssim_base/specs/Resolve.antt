@@ -65,19 +65,23 @@ every_day = true ∷ true ∷ true ∷ true ∷ true ∷ true ∷ true ∷ []
 -- has the one date.
 abbrev pub AreDates : CarrierFields → Dates → DayRange → Type 0
 AreDates carrier (Period given) range =
-    Means carrier.first given.first range.first × MeansEnd carrier range.first given.last range.last × (range.first ≤ range.last) × (range.days ≡ given.days)
-AreDates carrier (Date given) range = Means carrier.first given range.first × (range.last ≡ range.first) × (range.days ≡ every_day)
+    Means carrier.first given.first range.first × MeansEnd carrier range.first given.last range.last
+    × (range.first ≤ range.last) × (range.days ≡ given.days)
+AreDates carrier (Date given) range =
+    Means carrier.first given range.first × (range.last ≡ range.first) × (range.days ≡ every_day)
 
 -- one of the dates means no day
 abbrev pub LackYear : CarrierFields → Dates → Type 0
 LackYear carrier (Period given) =
-    MeansNone carrier.first given.first ⊎ ((first : ℕ) × Means carrier.first given.first first × MeansNoEnd first given.last)
+    MeansNone carrier.first given.first
+    ⊎ ((first : ℕ) × Means carrier.first given.first first × MeansNoEnd first given.last)
 LackYear carrier (Date given) = MeansNone carrier.first given
 
 -- the last date is before the first
 abbrev pub AreTurned : CarrierFields → Dates → Type 0
 AreTurned carrier (Period given) =
-    (first : ℕ) × (last : ℕ) × Means carrier.first given.first first × MeansEnd carrier first given.last last × (last < first)
+    (first : ℕ) × (last : ℕ) × Means carrier.first given.first first
+    × MeansEnd carrier first given.last last × (last < first)
 AreTurned carrier (Date given) = ⊥
 
 -- ---- sub-messages
@@ -92,22 +96,27 @@ pub record IsResolved (carrier : CarrierFields) (sub : Sub) (resolved : Resolved
 abbrev pub IsSubRefused : CarrierFields → ℕ → Sub → ResolveFault → Type 0
 IsSubRefused carrier n sub fault.Memory = ⊥
 IsSubRefused carrier n sub fault.TimeMode = ⊥
-IsSubRefused carrier n sub (fault.Airline number) = (number ≡ n) × (sub.designator.airline ≢ carrier.airline)
-IsSubRefused carrier n sub (fault.NoSuchDate number) = (number ≡ n) × (sub.designator.airline ≡ carrier.airline) × LackYear carrier sub.dates
-IsSubRefused carrier n sub (fault.Period number) = (number ≡ n) × (sub.designator.airline ≡ carrier.airline) × AreTurned carrier sub.dates
+IsSubRefused carrier n sub (fault.Airline number) =
+    (number ≡ n) × (sub.designator.airline ≢ carrier.airline)
+IsSubRefused carrier n sub (fault.NoSuchDate number) =
+    (number ≡ n) × (sub.designator.airline ≡ carrier.airline) × LackYear carrier sub.dates
+IsSubRefused carrier n sub (fault.Period number) =
+    (number ≡ n) × (sub.designator.airline ≡ carrier.airline) × AreTurned carrier sub.dates
 
 -- each sub-message resolves, in order
 abbrev pub AreResolved : CarrierFields → List Sub → List ResolvedSub → Type 0
 AreResolved carrier [] [] = Unit {0}
 AreResolved carrier [] (r ∷ resolved) = ⊥
 AreResolved carrier (sub ∷ subs) [] = ⊥
-AreResolved carrier (sub ∷ subs) (r ∷ resolved) = IsResolved carrier sub r × AreResolved carrier subs resolved
+AreResolved carrier (sub ∷ subs) (r ∷ resolved) =
+    IsResolved carrier sub r × AreResolved carrier subs resolved
 
 -- the first sub-message that is refused, among those from number n on
 abbrev pub IsFirstRefused : CarrierFields → ℕ → List Sub → ResolveFault → Type 0
 IsFirstRefused carrier n [] fault = ⊥
 IsFirstRefused carrier n (sub ∷ subs) fault =
-    IsSubRefused carrier n sub fault ⊎ ((r : ResolvedSub) × IsResolved carrier sub r × IsFirstRefused carrier (n + 1) subs fault)
+    IsSubRefused carrier n sub fault
+    ⊎ ((r : ResolvedSub) × IsResolved carrier sub r × IsFirstRefused carrier (n + 1) subs fault)
 
 -- ---- the message
 
@@ -120,7 +129,8 @@ same_mode Local Local = true
 
 -- The message resolves to its reference with a full date, on or after the day on which the data set
 -- was made, and to its sub-messages with full dates.
-pub record Resolves (carrier : CarrierFields) (message : MessageValue) (text : ResolvedText) : Type 0 where
+pub record Resolves (carrier : CarrierFields) (message : MessageValue)
+    (text : ResolvedText) : Type 0 where
   pub mode : same_mode carrier.time_mode message.mode ≡ true
   pub date : IsNext carrier.created message.reference.date text.reference.date
   pub group : text.reference.group ≡ message.reference.group
@@ -134,14 +144,16 @@ abbrev pub HasReferenceDate : CarrierFields → MessageValue → Type 0
 HasReferenceDate carrier message = (day : ℕ) × IsNext carrier.created message.reference.date day
 
 -- the time modes are the same, and the date of the reference means no day
-pub record IsReferenceRefused (carrier : CarrierFields) (message : MessageValue) (number : ℕ) : Type 0 where
+pub record IsReferenceRefused (carrier : CarrierFields) (message : MessageValue)
+    (number : ℕ) : Type 0 where
   pub mode : same_mode carrier.time_mode message.mode ≡ true
   pub is_zero : number ≡ 0
   pub none : HasNone carrier.created message.reference.date
 
 -- the time modes are the same, the reference has a date, and this is the refusal of the first
 -- invalid sub-message
-pub record IsRefusedBySub (carrier : CarrierFields) (message : MessageValue) (fault : ResolveFault) : Type 0 where
+pub record IsRefusedBySub (carrier : CarrierFields) (message : MessageValue)
+    (fault : ResolveFault) : Type 0 where
   pub mode : same_mode carrier.time_mode message.mode ≡ true
   pub date : HasReferenceDate carrier message
   pub first : IsFirstRefused carrier 1 message.subs fault
@@ -151,17 +163,23 @@ pub record IsRefusedBySub (carrier : CarrierFields) (message : MessageValue) (fa
 abbrev pub IsRefused : CarrierFields → MessageValue → ResolveFault → Type 0
 IsRefused carrier message fault.Memory = Unit {0}
 IsRefused carrier message fault.TimeMode = same_mode carrier.time_mode message.mode ≡ false
-IsRefused carrier message (fault.NoSuchDate number) = IsReferenceRefused carrier message number ⊎ IsRefusedBySub carrier message (fault.NoSuchDate number)
-IsRefused carrier message (fault.Airline number) = IsRefusedBySub carrier message (fault.Airline number)
-IsRefused carrier message (fault.Period number) = IsRefusedBySub carrier message (fault.Period number)
+IsRefused carrier message (fault.NoSuchDate number) =
+    IsReferenceRefused carrier message number
+    ⊎ IsRefusedBySub carrier message (fault.NoSuchDate number)
+IsRefused carrier message (fault.Airline number) =
+    IsRefusedBySub carrier message (fault.Airline number)
+IsRefused carrier message (fault.Period number) =
+    IsRefusedBySub carrier message (fault.Period number)
 
 -- a message resolves against a base, by the carrier record of the base
 abbrev pub ResolvesIn : List Record → MessageValue → ResolvedText → Type 0
-ResolvesIn base message text = (frame : Frame) × HasFrame frame base × Resolves frame.carrier message text
+ResolvesIn base message text =
+    (frame : Frame) × HasFrame frame base × Resolves frame.carrier message text
 
 -- a message is refused against a base, by the carrier record of the base
 abbrev pub IsRefusedIn : List Record → MessageValue → ResolveFault → Type 0
-IsRefusedIn base message fault = (frame : Frame) × HasFrame frame base × IsRefused frame.carrier message fault
+IsRefusedIn base message fault =
+    (frame : Frame) × HasFrame frame base × IsRefused frame.carrier message fault
 
 -- ---- one outcome
 
@@ -170,20 +188,25 @@ abbrev pub IsOutcome : List Record → MessageValue → Result ResolvedText Reso
 IsOutcome base message (Ok text) = ResolvesIn base message text
 IsOutcome base message (Err fault.Memory) = ⊥
 IsOutcome base message (Err fault.TimeMode) = IsRefusedIn base message fault.TimeMode
-IsOutcome base message (Err (fault.Airline number)) = IsRefusedIn base message (fault.Airline number)
-IsOutcome base message (Err (fault.NoSuchDate number)) = IsRefusedIn base message (fault.NoSuchDate number)
+IsOutcome base message (Err (fault.Airline number)) =
+    IsRefusedIn base message (fault.Airline number)
+IsOutcome base message (Err (fault.NoSuchDate number)) =
+    IsRefusedIn base message (fault.NoSuchDate number)
 IsOutcome base message (Err (fault.Period number)) = IsRefusedIn base message (fault.Period number)
 
 -- two results have the same reference and the same sub-messages, or the same refusal
-abbrev pub IsSameOutcome : Result ResolvedText ResolveFault → Result ResolvedText ResolveFault → Type 0
-IsSameOutcome (Ok text) (Ok other) = (text.reference ≡ other.reference) × (text.subs.items ≡ other.subs.items)
+abbrev pub IsSameOutcome : Result ResolvedText ResolveFault → Result ResolvedText ResolveFault
+    → Type 0
+IsSameOutcome (Ok text) (Ok other) =
+    (text.reference ≡ other.reference) × (text.subs.items ≡ other.subs.items)
 IsSameOutcome (Ok text) (Err fault) = ⊥
 IsSameOutcome (Err fault) (Ok text) = ⊥
 IsSameOutcome (Err fault) (Err other) = fault ≡ other
 
 -- a base and a message have at most one outcome
 abbrev pub HasOneOutcome : Type 0
-HasOneOutcome = (base : List Record) (message : MessageValue) (outcome other : Result ResolvedText ResolveFault)
+HasOneOutcome =
+    (base : List Record) (message : MessageValue) (outcome other : Result ResolvedText ResolveFault)
     → IsOutcome base message outcome → IsOutcome base message other → IsSameOutcome outcome other
 
 -- ---- the numbers of refusals

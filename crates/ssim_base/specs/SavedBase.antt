@@ -27,7 +27,8 @@ pub record IsBaseRecords (base : List Record) : Type 0 where
   pub framed : (frame : Frame) × HasFrame frame base
   pub each_written : All IsRecord base
   pub each_bare : All IsBare base
-  pub read_again : (number : ℕ) (records : List (ℕ × Record)) → map (λ r. r.1) records ≡ base → data_set (Done number) records ≡ Ok (base, notes_of 0 records)
+  pub read_again : (number : ℕ) (records : List (ℕ × Record)) → map (λ r. r.1) records ≡ base
+      → data_set (Done number) records ≡ Ok (base, notes_of 0 records)
 
 -- each record as it is written, followed by LF
 abbrev pub saved : List Record → List ℕ
@@ -37,7 +38,8 @@ saved = flat_map (λ r. written r ++ 10 ∷ [])
 abbrev pub BeginsNoBase : ℕ → Option (List ℕ) → Type 0
 BeginsNoBase count None = Unit {0}
 BeginsNoBase count (Some bytes) =
-    (records : List Record) (later : List ℕ) → IsBaseRecords records → length records ≡ count → bytes ≡ saved records ++ later → ⊥
+    (records : List Record) (later : List ℕ) → IsBaseRecords records → length records ≡ count
+    → bytes ≡ saved records ++ later → ⊥
 
 -- why bytes are not read as the lines of this many records: there are none, the reader stopped, or
 -- out of memory
@@ -54,10 +56,14 @@ IsAfterUsed input (fault.Invalid offset) = offset ≡ input.came - length input.
 
 -- The reader stopped if the fault says so. Else it did not fail, and at an invalid line it gave the
 -- bytes that came.
-abbrev pub StopsSaved : ℕ → Option (List ℕ) → Option (List ℕ) → ℕ → ℕ → ℕ → ℕ → ℕ → ℕ → SavedFault → Type 0
-StopsSaved limit left left' counted counted' failures failures' came came' fault.Memory = failures' ≡ failures
-StopsSaved limit left left' counted counted' failures failures' came came' (fault.Read stop) = Stops limit left left' counted counted' failures failures' came stop
-StopsSaved limit left left' counted counted' failures failures' came came' (fault.Invalid offset) = Gives left left' counted counted' failures failures' came came'
+abbrev pub StopsSaved : ℕ → Option (List ℕ) → Option (List ℕ) → ℕ → ℕ → ℕ → ℕ → ℕ → ℕ → SavedFault
+    → Type 0
+StopsSaved limit left left' counted counted' failures failures' came came' fault.Memory =
+    failures' ≡ failures
+StopsSaved limit left left' counted counted' failures failures' came came' (fault.Read stop) =
+    Stops limit left left' counted counted' failures failures' came stop
+StopsSaved limit left left' counted counted' failures failures' came came' (fault.Invalid offset) =
+    Gives left left' counted counted' failures failures' came came'
 
 -- the outcome has these records, with any notes
 abbrev pub IsOfRecords : List Record → Outcome → Type 0
@@ -65,13 +71,19 @@ IsOfRecords base outcome = (notes : List Note) × (outcome ≡ Ok (base, notes))
 
 -- Saved records can be read as the same records.
 abbrev pub SavedCanBeRead : Type 0
-SavedCanBeRead = (base : List Record) (limit : ℕ) → IsBaseRecords base → length (saved base) ≤ limit → (notes : List Note) × IsReadAs limit (saved base) (Ok (base, notes))
+SavedCanBeRead =
+    (base : List Record) (limit : ℕ) → IsBaseRecords base → length (saved base) ≤ limit
+    → (notes : List Note) × IsReadAs limit (saved base) (Ok (base, notes))
 
 -- Saved records are read only as the same records, unless the reader fails.
 abbrev pub SavedIsRead : Type 0
-SavedIsRead = (base : List Record) (limit : ℕ) (outcome : Outcome) → IsBaseRecords base → length (saved base) ≤ limit → IsReadAs limit (saved base) outcome
+SavedIsRead =
+    (base : List Record) (limit : ℕ) (outcome : Outcome) → IsBaseRecords base
+    → length (saved base) ≤ limit → IsReadAs limit (saved base) outcome
     → IsOfRecords base outcome ⊎ FailedReader outcome
 
 -- Equal saved bytes are the bytes of equal records.
 abbrev pub SavedIsOne : Type 0
-SavedIsOne = (base other : List Record) → IsBaseRecords base → IsBaseRecords other → saved base ≡ saved other → base ≡ other
+SavedIsOne =
+    (base other : List Record) → IsBaseRecords base → IsBaseRecords other → saved base ≡ saved other
+    → base ≡ other

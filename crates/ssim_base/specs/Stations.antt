@@ -41,13 +41,16 @@ SpellsTable rows text = AreRows rows (lines_left text)
 
 -- Equal bytes are tables of equal rows.
 abbrev pub SameBytesSameRows : Type 0
-SameBytesSameRows = (text : List ℕ) (rows others : List Row) → SpellsTable rows text → SpellsTable others text → rows ≡ others
+SameBytesSameRows =
+    (text : List ℕ) (rows others : List Row) → SpellsTable rows text → SpellsTable others text
+    → rows ≡ others
 
 -- n is the number of the first of these lines that spells no row
 abbrev pub IsFirstOther : List (ℕ × List ℕ) → ℕ → Type 0
 IsFirstOther [] n = ⊥
 IsFirstOther (line ∷ lines) n =
-    ((line.0 ≡ n) × ((row : Row) → SpellsRow row line.1 → ⊥)) ⊎ ((row : Row) × SpellsRow row line.1 × IsFirstOther lines n)
+    ((line.0 ≡ n) × ((row : Row) → SpellsRow row line.1 → ⊥))
+    ⊎ ((row : Row) × SpellsRow row line.1 × IsFirstOther lines n)
 
 -- the fault names the first line that spells no row; out of memory says nothing of the lines
 abbrev pub NamesLine : List (ℕ × List ℕ) → StationFault → Type 0
@@ -63,12 +66,14 @@ Gives rows (Err fault) = fault ≡ Memory
 
 -- whether a row is of the station and has the day
 abbrev pub covers : Row → List ℕ → ℕ → Bool
-covers row station day = bytes_eq row.station station && (nat_le row.first day && nat_le day row.last)
+covers row station day =
+    bytes_eq row.station station && (nat_le row.first day && nat_le day row.last)
 
 -- the variation of the first row that covers the station and the day
 abbrev pub variation_at : List Row → List ℕ → ℕ → Option Offset
 variation_at [] station day = None
-variation_at (row ∷ rows) station day = if covers row station day then Some row.variation else variation_at rows station day
+variation_at (row ∷ rows) station day =
+    if covers row station day then Some row.variation else variation_at rows station day
 
 -- the number of each fault
 abbrev pub station_fault_number : StationFault → ℕ

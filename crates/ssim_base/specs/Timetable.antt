@@ -25,7 +25,9 @@ same_flight a b = nat_eq a.number b.number && nat_eq a.suffix b.suffix
 
 -- whether two legs have the same flight, itinerary variation and leg sequence
 abbrev pub same_name : Name → Name → Bool
-same_name a b = same_flight a.flight b.flight && (nat_eq a.variation b.variation && nat_eq a.sequence b.sequence)
+same_name a b =
+    same_flight a.flight b.flight && (nat_eq a.variation b.variation
+    && nat_eq a.sequence b.sequence)
 
 -- the tails of a leg record: those of the later segment records with its name, up to the next leg
 -- record with that name
@@ -34,12 +36,14 @@ tails_of name [] = []
 tails_of name (Header r ∷ later) = tails_of name later
 tails_of name (Carrier r ∷ later) = tails_of name later
 tails_of name (Leg r ∷ later) = if same_name name r.name then [] else tails_of name later
-tails_of name (Segment r ∷ later) = if same_name name r.name then r.tail ∷ tails_of name later else tails_of name later
+tails_of name (Segment r ∷ later) =
+    if same_name name r.name then r.tail ∷ tails_of name later else tails_of name later
 tails_of name (Trailer r ∷ later) = tails_of name later
 
 -- the leg that a leg record gives, with these records after it
 abbrev pub leg_of : LegFields → List Record → LegValue
-leg_of r later = record { sequence = r.name.sequence; columns = r.columns; tails = tails_of r.name later }
+leg_of r later =
+    record { sequence = r.name.sequence; columns = r.columns; tails = tails_of r.name later }
 
 -- the period of a leg record; the legs of a base have no open end
 abbrev pub period_of : LegFields → DayRange
@@ -61,7 +65,8 @@ itinerary [] flight day = []
 itinerary (Header r ∷ later) flight day = itinerary later flight day
 itinerary (Carrier r ∷ later) flight day = itinerary later flight day
 itinerary (Leg r ∷ later) flight day =
-    if is_on r flight day then placed (leg_of r later) (itinerary later flight day) else itinerary later flight day
+    if is_on r flight day then placed (leg_of r later) (itinerary later flight day)
+    else itinerary later flight day
 itinerary (Segment r ∷ later) flight day = itinerary later flight day
 itinerary (Trailer r ∷ later) flight day = itinerary later flight day
 
@@ -71,7 +76,8 @@ is_among flights flight = list_any (same_flight flight) flights
 
 -- the itinerary of a flight on a day if the flight is in the list; else no legs
 abbrev pub itinerary_among : List FlightNumber → List Record → FlightNumber → ℕ → Legs
-itinerary_among flights records flight day = if is_among flights flight then itinerary records flight day else []
+itinerary_among flights records flight day =
+    if is_among flights flight then itinerary records flight day else []
 
 -- a flight's itinerary on each day
 abbrev pub Days : Type 0

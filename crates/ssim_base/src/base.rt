@@ -66,9 +66,13 @@ impl Base {
         ensures read { Returns result (IsReadOf limit (R.left reader.old)) }
         ensures rows { IfOk result (λ read. read.base.rows ≡ stations) }
         ensures no_failure { IfOk result (λ _. R.failures reader.new ≡ R.failures reader.old) }
-        ensures failure { IfErr result (λ e. FailsAs (R.failures reader.old) (R.failures reader.new) e) }
-        ensures fails_after { IfErr result (λ e. FailsAfter (R.left reader.old) (R.left reader.new) e) }
-        ensures never_ends { IfErr result (λ e. NeverEnds limit (Came (R.left reader.old) (R.left reader.new) (R.came reader.old) (R.came reader.new)) e) }
+        ensures failure { IfErr result
+            (λ e. FailsAs (R.failures reader.old) (R.failures reader.new) e) }
+        ensures fails_after { IfErr result
+            (λ e. FailsAfter (R.left reader.old) (R.left reader.new) e) }
+        ensures never_ends { IfErr result
+            (λ e. NeverEnds limit (Came (R.left reader.old) (R.left reader.new) (R.came reader.old)
+            (R.came reader.new)) e) }
     {
         let (data_set, notes) = DataSet::read_noted(alloc, reader, limit)?;
         let base = Base::of(data_set, stations);

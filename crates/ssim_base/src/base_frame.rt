@@ -35,14 +35,17 @@ impl Model for BaseFrame {
 
     ghost view = { λ f. frame_from f.header f.carrier f.trailer };
 
-    ghost invariant = { λ f. let frame = frame_from f.header f.carrier f.trailer in IsFrame frame × IsWritableFrame frame };
+    ghost invariant = { λ f. let frame = frame_from f.header f.carrier f.trailer in IsFrame frame
+        × IsWritableFrame frame };
 }
 
 impl BaseFrame {
     /// The frame of these records: the first, the second and the last of a base.
     pub(crate) fn of(alloc: Global, first: &Record, second: &Record, last: &Record) -> BaseFrame
-        requires { (frame : Frame) × AreOfFrame frame first.now second.now last.now × IsFrame frame × IsWritableFrame frame }
-        ensures { (frame : Frame) → AreOfFrame frame first.now second.now last.now → result ≡ frame }
+        requires { (frame : Frame) × AreOfFrame frame first.now second.now last.now × IsFrame frame
+            × IsWritableFrame frame }
+        ensures { (frame : Frame) → AreOfFrame frame first.now second.now last.now
+            → result ≡ frame }
     {
         let Record::Header(header) = first else {
             unreachable!();
@@ -89,15 +92,18 @@ impl BaseFrame {
 
     /// The airline of the flights.
     pub(crate) fn airline(&self) -> Airline
-        ensures { (records : List Record) → HasFrame self.now records → result ≡ airline_of records }
+        ensures { (records : List Record) → HasFrame self.now records
+            → result ≡ airline_of records }
     {
         self.carrier.airline()
     }
 
     /// Resolves a message against a base with this frame, as `resolve` does.
     pub fn resolve(&self, message: &Message) -> Result<ResolvedText, ResolveFault>
-        ensures ok { (records : List Record) → HasFrame self.now records → IfOk result (ResolvesIn records message.now) }
-        ensures err { (records : List Record) → HasFrame self.now records → IfErr result (IsRefusedIn records message.now) }
+        ensures ok { (records : List Record) → HasFrame self.now records
+            → IfOk result (ResolvesIn records message.now) }
+        ensures err { (records : List Record) → HasFrame self.now records
+            → IfErr result (IsRefusedIn records message.now) }
     {
         resolve_by(self.alloc, &self.carrier, message)
     }

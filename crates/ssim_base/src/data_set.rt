@@ -49,7 +49,9 @@ impl Model for DataSet {
 
     ghost view = { λ read. read.records.items };
 
-    ghost invariant = { λ read. WasRead read.records.items × AreFlights read.records.items read.flights.items × HasFrame read.frame read.records.items };
+    ghost invariant = { λ read. WasRead read.records.items
+        × AreFlights read.records.items read.flights.items
+        × HasFrame read.frame read.records.items };
 }
 
 impl DataSet {
@@ -60,13 +62,17 @@ impl DataSet {
     /// record that is refused, or more bytes come than the limit, 13 or 14 is returned. This names
     /// the record after the one that is refused.
     pub fn read<R: Source>(alloc: Global, reader: &mut R, limit: u64) -> Result<DataSet, BaseFault>
-        ensures read { IfOk result (λ read. (notes : List Note) × IsWholeOf limit (R.left reader.old) (Ok (read, notes))) }
+        ensures read { IfOk result (λ read. (notes : List Note)
+            × IsWholeOf limit (R.left reader.old) (Ok (read, notes))) }
         ensures refused { IfErr result (RefusesWhole limit (R.left reader.old)) }
         ensures no_failure { IfOk result (λ _. R.failures reader.new ≡ R.failures reader.old) }
-        ensures failure { IfErr result (λ e. FailsAs (R.failures reader.old) (R.failures reader.new) e) }
+        ensures failure { IfErr result
+            (λ e. FailsAs (R.failures reader.old) (R.failures reader.new) e) }
         ensures names { IfErr result (λ e.
             NamesNext limit (R.left reader.old) (R.left reader.new) e) }
-        ensures never_ends { IfErr result (λ e. NeverEnds limit (Came (R.left reader.old) (R.left reader.new) (R.came reader.old) (R.came reader.new)) e) }
+        ensures never_ends { IfErr result
+            (λ e. NeverEnds limit (Came (R.left reader.old) (R.left reader.new) (R.came reader.old)
+            (R.came reader.new)) e) }
     {
         let mut records = Vec::new(alloc);
         let (records_read, number) = read_whole(alloc, &mut records, reader, limit)?;
@@ -80,11 +86,16 @@ impl DataSet {
         reader: &mut R,
         limit: u64,
     ) -> Result<(DataSet, Vec<Note>), BaseFault>
-        ensures read { ReturnsAs (λ read. (read.0, read.1.items)) result (IsReadOf limit (R.left reader.old)) }
+        ensures read { ReturnsAs (λ read. (read.0, read.1.items)) result
+            (IsReadOf limit (R.left reader.old)) }
         ensures no_failure { IfOk result (λ _. R.failures reader.new ≡ R.failures reader.old) }
-        ensures failure { IfErr result (λ e. FailsAs (R.failures reader.old) (R.failures reader.new) e) }
-        ensures fails_after { IfErr result (λ e. FailsAfter (R.left reader.old) (R.left reader.new) e) }
-        ensures never_ends { IfErr result (λ e. NeverEnds limit (Came (R.left reader.old) (R.left reader.new) (R.came reader.old) (R.came reader.new)) e) }
+        ensures failure { IfErr result
+            (λ e. FailsAs (R.failures reader.old) (R.failures reader.new) e) }
+        ensures fails_after { IfErr result
+            (λ e. FailsAfter (R.left reader.old) (R.left reader.new) e) }
+        ensures never_ends { IfErr result
+            (λ e. NeverEnds limit (Came (R.left reader.old) (R.left reader.new) (R.came reader.old)
+            (R.came reader.new)) e) }
     {
         let mut records = Vec::new(alloc);
         let mut blocks = Records::new(limit);
@@ -105,10 +116,12 @@ impl DataSet {
             → HasRead limit known (IsListOf records.items) records_read number
             → ReturnsAs (λ read. (read.0, read.1.items)) result (IsReadOf limit known) }
         ensures failure { (n : ℕ) → IfErr result (λ e. FailsAs n n e) }
-        ensures fails_after { (all left : Option (List ℕ)) → IfErr result (λ e. FailsAfter all left e) }
+        ensures fails_after { (all left : Option (List ℕ))
+            → IfErr result (λ e. FailsAfter all left e) }
         ensures names { (limit : ℕ) (all left : Option (List ℕ))
             → IfErr result (NamesNext limit all left) }
-        ensures never_ends { (limit old new : ℕ) (left others : Option (List ℕ)) → IfErr result (λ e. NeverEnds limit (Came left others old new) e) }
+        ensures never_ends { (limit old new : ℕ) (left others : Option (List ℕ))
+            → IfErr result (λ e. NeverEnds limit (Came left others old new) e) }
     {
         let DataSetReader { kept, notes, .. } = records_read;
         if let Some(refusal) = kept.missing() {
@@ -167,9 +180,9 @@ impl DataSet {
         &self.frame
     }
 
-    /// The records, in order: a header, a carrier, legs and segments, and a trailer. Serials and the
-    /// check reference are 0; rates and overflows are blank. The end of each leg record is a date. Two
-    /// leg records of one flight and leg sequence have no date in common.
+    /// The records, in order: a header, a carrier, legs and segments, and a trailer. Serials and
+    /// the check reference are 0; rates and overflows are blank. The end of each leg record is a
+    /// date. Two leg records of one flight and leg sequence have no date in common.
     pub fn records(&self) -> &[Record]
         ensures value { result.now ≡ self.now }
         ensures is_base { IsBaseRecords result.now }

@@ -49,8 +49,11 @@ impl LegTable {
     /// One more leg record, of a period. Returns whether another one of its flight and leg sequence
     /// had one of the dates.
     pub(crate) fn add(&mut self, name: LegName, period: &Period) -> Result<bool, Memory>
-        ensures ok { OnOk result (AddsLegAt self.old self.new (place_of name.flight) name.sequence name.variation period.now) }
-        ensures met { IfOk result (λ met. met ≡ have_common_date (holds period.now) (uses_date (legs_at self.old (place_of name.flight)) name.sequence)) }
+        ensures ok { OnOk result (AddsLegAt self.old self.new (place_of name.flight) name.sequence
+            name.variation period.now) }
+        ensures met { IfOk result (λ met. met
+            ≡ have_common_date (holds period.now)
+            (uses_date (legs_at self.old (place_of name.flight)) name.sequence)) }
         ensures flight { IsFlight name.flight }
     {
         let (number, suffix) = indexes(name.flight());
@@ -60,7 +63,8 @@ impl LegTable {
 
     /// Whether a leg record has this name.
     pub(crate) fn has(&self, name: LegName) -> bool
-        ensures value { result ≡ names_leg (legs_at self.now (place_of name.flight)) name.sequence name.variation }
+        ensures value { result ≡ names_leg (legs_at self.now (place_of name.flight)) name.sequence
+            name.variation }
         ensures flight { IsFlight name.flight }
     {
         let (number, suffix) = indexes(name.flight());
@@ -69,7 +73,8 @@ impl LegTable {
 
     /// Whether a leg record of the same flight and leg sequence has one of the dates of a period.
     pub(crate) fn meets(&self, name: LegName, period: &Period) -> bool
-        ensures value { result ≡ have_common_date (holds period.now) (uses_date (legs_at self.now (place_of name.flight)) name.sequence) }
+        ensures value { result ≡ have_common_date (holds period.now)
+            (uses_date (legs_at self.now (place_of name.flight)) name.sequence) }
         ensures flight { IsFlight name.flight }
     {
         let (number, suffix) = indexes(name.flight());
@@ -112,7 +117,8 @@ fn grow_numbers(
 ) -> Result<(), Memory>
     requires { number < 10000 }
     ensures there { OnOk result (number < length numbers.new.items) }
-    ensures same { OnOk result ((k : ℕ) → flights_of (slice_get numbers.new.items k) ≡ flights_of (slice_get numbers.old.items k)) }
+    ensures same { OnOk result ((k : ℕ)
+        → flights_of (slice_get numbers.new.items k) ≡ flights_of (slice_get numbers.old.items k)) }
 {
     if number < numbers.len() {
         return Ok(());
@@ -129,7 +135,8 @@ fn push_numbers(
 ) -> Result<(), Memory>
     requires { number < 10000 }
     ensures there { OnOk result (number < length numbers.new.items) }
-    ensures same { OnOk result ((k : ℕ) → flights_of (slice_get numbers.new.items k) ≡ flights_of (slice_get numbers.old.items k)) }
+    ensures same { OnOk result ((k : ℕ)
+        → flights_of (slice_get numbers.new.items k) ≡ flights_of (slice_get numbers.old.items k)) }
 {
     for _ in numbers.len()..number + 1 {
         numbers.push(Vec::new(alloc))?;
@@ -146,9 +153,13 @@ fn add_to(
     period: &Period,
 ) -> Result<bool, Memory>
     requires { suffix < 27 }
-    ensures ok { OnOk result (AddsLeg (legs_in flights.old.items suffix) (legs_in flights.new.items suffix) name.sequence name.variation period.now) }
-    ensures others { OnOk result ((k : ℕ) → k ≢ suffix → legs_in flights.new.items k ≡ legs_in flights.old.items k) }
-    ensures met { IfOk result (λ met. met ≡ have_common_date (holds period.now) (uses_date (legs_in flights.old.items suffix) name.sequence)) }
+    ensures ok { OnOk result (AddsLeg (legs_in flights.old.items suffix)
+        (legs_in flights.new.items suffix) name.sequence name.variation period.now) }
+    ensures others { OnOk result ((k : ℕ) → k ≢ suffix
+        → legs_in flights.new.items k ≡ legs_in flights.old.items k) }
+    ensures met { IfOk result (λ met. met
+        ≡ have_common_date (holds period.now)
+        (uses_date (legs_in flights.old.items suffix) name.sequence)) }
 {
     grow_flights(alloc, flights, suffix)?;
     flights[suffix].add(alloc, name.sequence(), name.variation(), period)
@@ -159,7 +170,8 @@ fn add_to(
 fn grow_flights(alloc: Global, flights: &mut Vec<FlightLegs>, suffix: usize) -> Result<(), Memory>
     requires { suffix < 27 }
     ensures there { OnOk result (suffix < length flights.new.items) }
-    ensures same { OnOk result ((k : ℕ) → legs_in flights.new.items k ≡ legs_in flights.old.items k) }
+    ensures same { OnOk result ((k : ℕ)
+        → legs_in flights.new.items k ≡ legs_in flights.old.items k) }
 {
     if suffix < flights.len() {
         return Ok(());
@@ -172,7 +184,8 @@ fn grow_flights(alloc: Global, flights: &mut Vec<FlightLegs>, suffix: usize) -> 
 fn push_missing(alloc: Global, flights: &mut Vec<FlightLegs>, suffix: usize) -> Result<(), Memory>
     requires { suffix < 27 }
     ensures there { OnOk result (suffix < length flights.new.items) }
-    ensures same { OnOk result ((k : ℕ) → legs_in flights.new.items k ≡ legs_in flights.old.items k) }
+    ensures same { OnOk result ((k : ℕ)
+        → legs_in flights.new.items k ≡ legs_in flights.old.items k) }
 {
     if flights.is_empty() {
         // Most flights are the only ones of their number.
@@ -194,14 +207,18 @@ fn has_in(flights: &[FlightLegs], suffix: usize, name: LegName) -> bool
 // Whether a leg record of the flight at an index, and of the leg sequence of this name, has one of
 // the dates of a period.
 fn meets_in(flights: &[FlightLegs], suffix: usize, name: LegName, period: &Period) -> bool
-    ensures { result ≡ have_common_date (holds period.now) (uses_date (legs_in flights.now suffix) name.sequence) }
+    ensures { result ≡ have_common_date (holds period.now)
+        (uses_date (legs_in flights.now suffix) name.sequence) }
 {
     suffix < flights.len() && flights[suffix].meets(name.sequence(), period)
 }
 
 // Pushes the flights of all numbers.
 fn push_all(all: &mut Vec<Flight>, numbers: &[Vec<FlightLegs>]) -> Result<(), Memory>
-    ensures { OnOk result (all.new.items ≡ all.old.items ++ flights_left (λ place. has_legs (legs_in (flights_of (slice_get numbers.now (place / 27))) (place % 27))) 0) }
+    ensures { OnOk result (all.new.items
+        ≡ all.old.items ++ flights_left
+        (λ place. has_legs (legs_in (flights_of (slice_get numbers.now (place / 27))) (place % 27)))
+        0) }
 {
     for number in 0..numbers.len().min(NUMBERS) {
         push_flights(all, number, &numbers[number])?;
@@ -212,7 +229,11 @@ fn push_all(all: &mut Vec<Flight>, numbers: &[Vec<FlightLegs>]) -> Result<(), Me
 // Pushes the flights of a number that have leg records.
 fn push_flights(all: &mut Vec<Flight>, number: usize, flights: &[FlightLegs]) -> Result<(), Memory>
     requires { number < 10000 }
-    ensures { OnOk result ((has : ℕ → Bool) → ((suffix : ℕ) → suffix < 27 → has (27 * number + suffix) ≡ has_legs (legs_in flights.now suffix)) → all.new.items ++ flights_left has (27 * number + 27) ≡ all.old.items ++ flights_left has (27 * number)) }
+    ensures { OnOk result ((has : ℕ → Bool)
+        → ((suffix : ℕ) → suffix < 27 → has (27 * number + suffix)
+        ≡ has_legs (legs_in flights.now suffix))
+        → all.new.items ++ flights_left has (27 * number + 27)
+        ≡ all.old.items ++ flights_left has (27 * number)) }
 {
     for suffix in 0..flights.len().min(SUFFIXES) {
         if flights[suffix].has_legs() {

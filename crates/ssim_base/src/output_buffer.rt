@@ -111,7 +111,17 @@ impl OutputBuffer {
     fn push_leg(&mut self, name: &NameText, period: &PeriodText, columns: &LegColumns, serial: u32)
         requires serial { serial < 1000000 }
         requires room { length self.old + 201 ≤ 64320 }
-        ensures value { self.new ≡ self.old ++ line (written_leg (record { name = name.now; first = period.now.first; last = Some period.now.last; days = period.now.days; rate = 32; columns = columns.now; overflow = 32; serial = serial })) }
+        ensures value { self.new ≡ self.old
+            ++ line (written_leg (record {
+              name = name.now;
+              first = period.now.first;
+              last = Some period.now.last;
+              days = period.now.days;
+              rate = 32;
+              columns = columns.now;
+              overflow = 32;
+              serial = serial;
+            })) }
         ensures columns { AreLegColumns columns.now }
     {
         let end = self.end + 200;
@@ -129,7 +139,14 @@ impl OutputBuffer {
     )
         requires serial { serial < 1000000 }
         requires room { length self.old + 201 ≤ 64320 }
-        ensures value { self.new ≡ self.old ++ line (written_segment (record { name = name.now; service = slice_index columns.now 0; tail = tail.now; overflow = 32; serial = serial })) }
+        ensures value { self.new ≡ self.old
+            ++ line (written_segment (record {
+              name = name.now;
+              service = slice_index columns.now 0;
+              tail = tail.now;
+              overflow = 32;
+              serial = serial;
+            })) }
         ensures tail { IsTail tail.now }
     {
         let end = self.end + 200;
@@ -206,8 +223,10 @@ pub fn put_record<W: Sink>(
     block: &mut OutputBuffer,
     one: &Record,
 ) -> Result<(), WriteFault>
-    ensures ok { OnOk result (TakesUpTo (block.old ++ line (written one.now)) block.new (W.taken out.old) (W.taken out.new)) }
-    ensures err { OnErr result (TakesPrefix (block.old ++ line (written one.now)) (W.taken out.old) (W.taken out.new)) }
+    ensures ok { OnOk result (TakesUpTo (block.old ++ line (written one.now)) block.new
+        (W.taken out.old) (W.taken out.new)) }
+    ensures err { OnErr result (TakesPrefix (block.old ++ line (written one.now)) (W.taken out.old)
+        (W.taken out.new)) }
     ensures unchanged { OnErr result (block.new ≡ block.old) }
     ensures failures { CountsFault (W.failures out.old) (W.failures out.new) result }
     ensures device { W.device out.new ≡ W.device out.old }
@@ -227,9 +246,31 @@ pub fn put_leg<W: Sink>(
     serial: u32,
 ) -> Result<(), WriteFault>
     requires { serial < 1000000 }
-    ensures ok { OnOk result (TakesUpTo (block.old ++ line (written_leg (record { name = name.now; first = period.now.first; last = Some period.now.last; days = period.now.days; rate = 32; columns = columns.now; overflow = 32; serial = serial }))) block.new (W.taken out.old) (W.taken out.new)) }
+    ensures ok { OnOk result (TakesUpTo
+        (block.old ++ line (written_leg
+        (record {
+          name = name.now;
+          first = period.now.first;
+          last = Some period.now.last;
+          days = period.now.days;
+          rate = 32;
+          columns = columns.now;
+          overflow = 32;
+          serial = serial;
+        }))) block.new (W.taken out.old) (W.taken out.new)) }
     ensures columns { OnOk result (AreLegColumns columns.now) }
-    ensures err { OnErr result (TakesPrefix (block.old ++ line (written_leg (record { name = name.now; first = period.now.first; last = Some period.now.last; days = period.now.days; rate = 32; columns = columns.now; overflow = 32; serial = serial }))) (W.taken out.old) (W.taken out.new)) }
+    ensures err { OnErr result (TakesPrefix
+        (block.old ++ line (written_leg
+        (record {
+          name = name.now;
+          first = period.now.first;
+          last = Some period.now.last;
+          days = period.now.days;
+          rate = 32;
+          columns = columns.now;
+          overflow = 32;
+          serial = serial;
+        }))) (W.taken out.old) (W.taken out.new)) }
     ensures failures { CountsFault (W.failures out.old) (W.failures out.new) result }
     ensures device { W.device out.new ≡ W.device out.old }
 {
@@ -248,9 +289,25 @@ pub fn put_segment<W: Sink>(
     serial: u32,
 ) -> Result<(), WriteFault>
     requires { serial < 1000000 }
-    ensures ok { OnOk result (TakesUpTo (block.old ++ line (written_segment (record { name = name.now; service = slice_index columns.now 0; tail = tail.now; overflow = 32; serial = serial }))) block.new (W.taken out.old) (W.taken out.new)) }
+    ensures ok { OnOk result (TakesUpTo
+        (block.old ++ line (written_segment
+        (record {
+          name = name.now;
+          service = slice_index columns.now 0;
+          tail = tail.now;
+          overflow = 32;
+          serial = serial;
+        }))) block.new (W.taken out.old) (W.taken out.new)) }
     ensures tail { OnOk result (IsTail tail.now) }
-    ensures err { OnErr result (TakesPrefix (block.old ++ line (written_segment (record { name = name.now; service = slice_index columns.now 0; tail = tail.now; overflow = 32; serial = serial }))) (W.taken out.old) (W.taken out.new)) }
+    ensures err { OnErr result (TakesPrefix
+        (block.old ++ line (written_segment
+        (record {
+          name = name.now;
+          service = slice_index columns.now 0;
+          tail = tail.now;
+          overflow = 32;
+          serial = serial;
+        }))) (W.taken out.old) (W.taken out.new)) }
     ensures failures { CountsFault (W.failures out.old) (W.failures out.new) result }
     ensures device { W.device out.new ≡ W.device out.old }
 {
@@ -267,8 +324,10 @@ pub fn put_bytes<W: Sink>(
     block: &mut OutputBuffer,
     bytes: &[u8],
 ) -> Result<(), WriteFault>
-    ensures ok { OnOk result (TakesUpTo (block.old ++ bytes.now) block.new (W.taken out.old) (W.taken out.new)) }
-    ensures err { OnErr result (TakesPrefix (block.old ++ bytes.now) (W.taken out.old) (W.taken out.new)) }
+    ensures ok { OnOk result (TakesUpTo (block.old ++ bytes.now) block.new (W.taken out.old)
+        (W.taken out.new)) }
+    ensures err { OnErr result (TakesPrefix (block.old ++ bytes.now) (W.taken out.old)
+        (W.taken out.new)) }
     ensures unchanged { OnErr result (block.new ≡ block.old) }
     ensures failures { CountsFault (W.failures out.old) (W.failures out.new) result }
     ensures device { W.device out.new ≡ W.device out.old }
@@ -294,8 +353,10 @@ pub fn put_fill<W: Sink>(
     block: &mut OutputBuffer,
     count: usize,
 ) -> Result<(), WriteFault>
-    ensures ok { OnOk result (TakesUpTo (block.old ++ flat_map line (replicate count fill)) block.new (W.taken out.old) (W.taken out.new)) }
-    ensures err { OnErr result (TakesPrefix (block.old ++ flat_map line (replicate count fill)) (W.taken out.old) (W.taken out.new)) }
+    ensures ok { OnOk result (TakesUpTo (block.old ++ flat_map line (replicate count fill))
+        block.new (W.taken out.old) (W.taken out.new)) }
+    ensures err { OnErr result (TakesPrefix (block.old ++ flat_map line (replicate count fill))
+        (W.taken out.old) (W.taken out.new)) }
     ensures failures { CountsFault (W.failures out.old) (W.failures out.new) result }
     ensures device { W.device out.new ≡ W.device out.old }
 {

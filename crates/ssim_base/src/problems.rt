@@ -32,8 +32,11 @@ impl Problems {
         ensures ok { IfOk result (HasProblems limit (R.left reader.old)) }
         ensures err { IfErr result (λ e. is_of_bytes e ≡ false) }
         ensures no_failure { IfOk result (λ _. R.failures reader.new ≡ R.failures reader.old) }
-        ensures failure { IfErr result (λ e. FailsAs (R.failures reader.old) (R.failures reader.new) e) }
-        ensures never_ends { IfErr result (λ e. NeverEnds limit (Came (R.left reader.old) (R.left reader.new) (R.came reader.old) (R.came reader.new)) e) }
+        ensures failure { IfErr result
+            (λ e. FailsAs (R.failures reader.old) (R.failures reader.new) e) }
+        ensures never_ends { IfErr result
+            (λ e. NeverEnds limit (Came (R.left reader.old) (R.left reader.new) (R.came reader.old)
+            (R.came reader.new)) e) }
     {
         frames_are_one();
         let mut blocks = Records::new(limit);
@@ -92,7 +95,8 @@ impl ProblemReader {
         requires { self.old.records < 2 ^ 64 - 1 }
         ensures takes { OnOk result (Takes self.old self.new number block.now) }
         ensures records { self.new.records ≡ self.old.records + 1 }
-        ensures trailer { self.new.trailer ≡ (self.old.trailer || begins_as_trailer (number, block.now)) }
+        ensures trailer { self.new.trailer
+            ≡ (self.old.trailer || begins_as_trailer (number, block.now)) }
     {
         self.records += 1;
         self.trailer = self.trailer || block[0] == b'5';
@@ -117,8 +121,10 @@ impl ProblemReader {
     /// The problems if the bytes end before the record with this number.
     fn finish(self, number: u64) -> Result<Problems, Memory>
         ensures records { IfOk result (λ problems. problems.records ≡ self.records) }
-        ensures faults { IfOk result (λ problems. (standing : Standing) → Stands self.checks standing
-            → problems.faults.items ≡ self.faults.items ++ numbered number (missing_in standing self.trailer)) }
+        ensures faults { IfOk result (λ problems. (standing : Standing)
+            → Stands self.checks standing
+            → problems.faults.items ≡ self.faults.items
+            ++ numbered number (missing_in standing self.trailer)) }
     {
         let ProblemReader {
             checks,
@@ -136,7 +142,8 @@ impl ProblemReader {
     /// The problems if the bytes end within the record with this number.
     fn cut_off(self, number: u64) -> Result<Problems, Memory>
         ensures records { IfOk result (λ problems. problems.records ≡ self.records) }
-        ensures faults { IfOk result (λ problems. problems.faults.items ≡ self.faults.items ++ BaseFault.Read (RecordFault.Short number) ∷ []) }
+        ensures faults { IfOk result (λ problems. problems.faults.items
+            ≡ self.faults.items ++ BaseFault.Read (RecordFault.Short number) ∷ []) }
     {
         let ProblemReader {
             records,
@@ -187,7 +194,8 @@ impl Checks {
 
     /// What is missing if no record follows. `trailer` says whether a record began with `5`.
     fn missing(&self, trailer: bool) -> Option<BaseRefusal>
-        ensures { (standing : Standing) → Stands self.now standing → result ≡ missing_in standing trailer }
+        ensures { (standing : Standing) → Stands self.now standing
+            → result ≡ missing_in standing trailer }
     {
         if self.alone {
             return None;

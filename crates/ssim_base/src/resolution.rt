@@ -159,7 +159,8 @@ fn period_meant(carrier: &Carrier, dates: Dates) -> Result<Period, DatesFault>
 
 // The period of one day, with all weekdays.
 fn one_day(day: Day) -> Result<Period, DatesFault>
-    ensures ok { IfOk result (λ period. (period.first ≡ day) × (period.last ≡ day) × (period.days ≡ every_day)) }
+    ensures ok { IfOk result (λ period. (period.first ≡ day) × (period.last ≡ day)
+        × (period.days ≡ every_day)) }
     ensures is_ok { IsOk result }
 {
     match Period::new(day, day, every_day()) {
@@ -216,7 +217,8 @@ fn resolve_subs(
     subs: &[Sub],
 ) -> Result<Vec<ResolvedSub>, ResolveFault>
     ensures ok { IfOk result (λ resolved. AreResolved carrier.now subs.now resolved.items) }
-    ensures err { IfErr result (λ e. (e ≡ ResolveFault.Memory) ⊎ IsFirstRefused carrier.now 1 subs.now e) }
+    ensures err { IfErr result (λ e. (e ≡ ResolveFault.Memory)
+        ⊎ IsFirstRefused carrier.now 1 subs.now e) }
 {
     let mut resolved = Vec::with_capacity(alloc, subs.len())?;
     for (place, sub) in subs.iter().enumerate() {

@@ -85,11 +85,21 @@ impl Model for StationRow {
 
     ghost Value = { Row };
 
-    ghost view = { λ r. record { station = r.station; first = r.first; last = r.last; variation = r.variation } };
+    ghost view = { λ r. record {
+      station = r.station;
+      first = r.first;
+      last = r.last;
+      variation = r.variation;
+    } };
 
     ghost invariant = { λ r. r.first ≤ r.last };
 
-    ghost inverse = { λ v. record { station = v.station; first = v.first; last = v.last; variation = v.variation } };
+    ghost inverse = { λ v. record {
+      station = v.station;
+      first = v.first;
+      last = v.last;
+      variation = v.variation;
+    } };
 }
 
 impl StationRow {
@@ -281,7 +291,8 @@ fn with_row(
     number: u64,
     line: &[u8],
 ) -> Result<Vec<StationRow>, StationFault>
-    ensures ok { IfOk result (λ all. (more : List Row) × (all.items ≡ rows.items ++ more) × (rows_of (numbered number line.now []) ≡ Ok more)) }
+    ensures ok { IfOk result (λ all. (more : List Row) × (all.items ≡ rows.items ++ more)
+        × (rows_of (numbered number line.now []) ≡ Ok more)) }
     ensures err { IfErr result (λ fault. StopsAs (rows_of (numbered number line.now [])) fault) }
 {
     let mut rows = rows;

@@ -25,16 +25,19 @@ pub struct Summary {
 impl Summary {
     ghost use Rattle.ssim_base.specs.internal.DataSetReader.{HasRead, IsCountOf, IsWhole};
 
-    /// Reads what a data set has, record by record, and its reader to the end. At most `limit` bytes
-    /// and one more are fetched. The refusals are those of `DataSet::read`.
+    /// Reads what a data set has, record by record, and its reader to the end. At most `limit`
+    /// bytes and one more are fetched. The refusals are those of `DataSet::read`.
     pub fn read<R: Source>(alloc: Global, reader: &mut R, limit: u64) -> Result<Summary, BaseFault>
         ensures sums { IfOk result (IsSummary limit (R.left reader.old)) }
         ensures refused { IfErr result (RefusesWhole limit (R.left reader.old)) }
         ensures no_failure { IfOk result (λ _. R.failures reader.new ≡ R.failures reader.old) }
-        ensures failure { IfErr result (λ e. FailsAs (R.failures reader.old) (R.failures reader.new) e) }
+        ensures failure { IfErr result
+            (λ e. FailsAs (R.failures reader.old) (R.failures reader.new) e) }
         ensures names { IfErr result (λ e.
             NamesNext limit (R.left reader.old) (R.left reader.new) e) }
-        ensures never_ends { IfErr result (λ e. NeverEnds limit (Came (R.left reader.old) (R.left reader.new) (R.came reader.old) (R.came reader.new)) e) }
+        ensures never_ends { IfErr result
+            (λ e. NeverEnds limit (Came (R.left reader.old) (R.left reader.new) (R.came reader.old)
+            (R.came reader.new)) e) }
     {
         let mut records = 0;
         let (records_read, number) = read_whole(alloc, &mut records, reader, limit)?;
@@ -57,7 +60,8 @@ impl Summary {
         ensures failure { (n : ℕ) → IfErr result (λ e. FailsAs n n e) }
         ensures names { (limit : ℕ) (all left : Option (List ℕ))
             → IfErr result (NamesNext limit all left) }
-        ensures never_ends { (limit old new : ℕ) (left others : Option (List ℕ)) → IfErr result (λ e. NeverEnds limit (Came left others old new) e) }
+        ensures never_ends { (limit old new : ℕ) (left others : Option (List ℕ))
+            → IfErr result (λ e. NeverEnds limit (Came left others old new) e) }
     {
         let DataSetReader { kept, notes, .. } = records_read;
         if let Some(refusal) = kept.missing() {

@@ -32,9 +32,9 @@ pub struct Board {
 
 impl Board {
     /// The departures and arrivals at the station on the local date, by time, departures first,
-    /// then by flight, date of origin and leg sequence. The flights are those that fly on some date,
-    /// as `Schedule::into_flights` gives them, of the timetable or of one that agrees with it from
-    /// `first_date` to `last_date`.
+    /// then by flight, date of origin and leg sequence. The flights are those that fly on some
+    /// date, as `Schedule::into_flights` gives them, of the timetable or of one that agrees with it
+    /// from `first_date` to `last_date`.
     pub fn movements(
         &self,
         alloc: Global,

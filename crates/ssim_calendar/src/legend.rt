@@ -13,7 +13,8 @@ use std::alloc::Global;
 use std::io::Write;
 
 /// Adds the legend of cells: for each letter the number of its dates, aligned right, and its texts,
-/// the second and later ones in lines of their own; then the number of dates of #, if there are any.
+/// the second and later ones in lines of their own; then the number of dates of #, if there are
+/// any.
 pub fn push_legend(
     alloc: Global,
     lines: &mut Vec<u8>,

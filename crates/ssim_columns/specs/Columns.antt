@@ -57,19 +57,24 @@ day_from start (Some end') = if nat_lt end' start then None else Some (Some end'
 -- the day on which a period ends: none if its end is open
 unfoldable pub end_from : Option ℕ → List ℕ → Option (Option ℕ)
 end_from None text = None
-end_from (Some start) text = if bytes_eq text (codes "00XXX00") then Some None else day_from start (day_of text)
+end_from (Some start) text =
+    if bytes_eq text (codes "00XXX00") then Some None else day_from start (day_of text)
 
 -- the time of a text, or none for blanks
 unfoldable pub passenger_time_of : List ℕ → Option (Option ℕ)
-passenger_time_of text = if list_all is_blank text then Some None else option_map (λ t. Some t) (clock_of text)
+passenger_time_of text =
+    if list_all is_blank text then Some None else option_map (λ t. Some t) (clock_of text)
 
 -- the UTC variation of a text, or none for blanks
 unfoldable pub utc_variation_of : List ℕ → Option (Option Offset)
-utc_variation_of text = if list_all is_blank text then Some None else option_map (λ v. Some v) (variation_of text)
+utc_variation_of text =
+    if list_all is_blank text then Some None else option_map (λ v. Some v) (variation_of text)
 
 -- the time mode of `U` or `L`
 unfoldable pub time_mode_of : List ℕ → Option TimeMode
-time_mode_of text = if bytes_eq text (codes "U") then Some Utc else (if bytes_eq text (codes "L") then Some Local else None)
+time_mode_of text =
+    if bytes_eq text (codes "U") then Some Utc
+    else (if bytes_eq text (codes "L") then Some Local else None)
 
 -- the letter of a time mode
 abbrev pub time_mode_text : TimeMode → List ℕ
@@ -78,7 +83,9 @@ time_mode_text Local = codes "L"
 
 -- the end code of `C` or `E`
 unfoldable pub end_code_of : List ℕ → Option EndCode
-end_code_of text = if bytes_eq text (codes "C") then Some Continuation else (if bytes_eq text (codes "E") then Some End else None)
+end_code_of text =
+    if bytes_eq text (codes "C") then Some Continuation
+    else (if bytes_eq text (codes "E") then Some End else None)
 
 -- the letter of an end code
 abbrev pub end_code_text : EndCode → List ℕ
@@ -107,7 +114,9 @@ unless ok = if ok then None else Some 0
 -- a start and an end of seven columns each: 0 names the start, 7 the end
 unfoldable pub dates_fault : List ℕ → Option ℕ
 dates_fault text =
-    if is_some (day_of (take 7 text)) then (if is_some (end_from (day_of (take 7 text)) (drop 7 text)) then None else Some 7) else Some 0
+    if is_some (day_of (take 7 text))
+    then (if is_some (end_from (day_of (take 7 text)) (drop 7 text)) then None else Some 7)
+    else Some 0
 
 -- The index of the column that a fault names, counted from 0 in a field of this kind, if the text
 -- is invalid. In carried columns, each a field of its own, it is the first invalid one.
@@ -155,7 +164,8 @@ first_fault bytes (f ∷ fs) = or_else (field_fault bytes f) (first_fault bytes 
 -- each field of a table is valid
 abbrev pub EachIsValid : List ℕ → List Field → Type 0
 EachIsValid bytes [] = Unit {0}
-EachIsValid bytes (f ∷ fs) = (fault_in f.kind (columns f.first f.last bytes) ≡ None) × EachIsValid bytes fs
+EachIsValid bytes (f ∷ fs) =
+    (fault_in f.kind (columns f.first f.last bytes) ≡ None) × EachIsValid bytes fs
 
 -- ---- tables that are in order
 

@@ -41,7 +41,9 @@ pub record SpellsName (n : Name) (bytes : List ℕ) : Type 0 where
 
 -- the fields of a leg's name as they are written
 abbrev pub name_texts : Name → List (List ℕ)
-name_texts n = (n.flight.suffix ∷ []) ∷ n.airline ∷ digits 4 n.flight.number ∷ digits 2 n.variation ∷ digits 2 n.sequence ∷ []
+name_texts n =
+    (n.flight.suffix ∷ []) ∷ n.airline ∷ digits 4 n.flight.number ∷ digits 2 n.variation
+    ∷ digits 2 n.sequence ∷ []
 
 -- the name is one that a record may have
 pub record IsName (n : Name) : Type 0 where
@@ -78,7 +80,9 @@ own_columns bytes = concat (columns 14 14 bytes ∷ columns 37 127 bytes ∷ col
 
 -- a leg's 158 own columns at their positions in a record, with blanks elsewhere
 abbrev pub spread : List ℕ → List ℕ
-spread d = concat (replicate 13 32 ∷ slice_range d 0 1 ∷ replicate 22 32 ∷ slice_range d 1 92 ∷ (32 ∷ []) ∷ slice_range d 92 158 ∷ replicate 6 32 ∷ [])
+spread d =
+    concat (replicate 13 32 ∷ slice_range d 0 1 ∷ replicate 22 32 ∷ slice_range d 1 92 ∷ (32 ∷ [])
+    ∷ slice_range d 92 158 ∷ replicate 6 32 ∷ [])
 
 -- columns first to last of a leg, counted as in its record
 abbrev pub leg_columns : ℕ → ℕ → List ℕ → List ℕ
@@ -86,20 +90,26 @@ leg_columns first last d = columns first last (spread d)
 
 -- the field is one of a leg's own columns
 abbrev pub is_own : Field → Bool
-is_own f = nat_le f.first f.last && ((nat_eq f.first 14 && nat_eq f.last 14) || ((nat_le 37 f.first && nat_le f.last 127) || (nat_le 129 f.first && nat_le f.last 194)))
+is_own f =
+    nat_le f.first f.last && ((nat_eq f.first 14 && nat_eq f.last 14)
+    || ((nat_le 37 f.first && nat_le f.last 127) || (nat_le 129 f.first && nat_le f.last 194)))
 
 -- the number that three bytes spell, the first as its highest digit
 abbrev pub three_bytes : List ℕ → ℕ
-three_bytes text = slice_index_or text 0 0 * 65536 + slice_index_or text 1 0 * 256 + slice_index_or text 2 0
+three_bytes text =
+    slice_index_or text 0 0 * 65536 + slice_index_or text 1 0 * 256 + slice_index_or text 2 0
 
 -- the number that four bytes spell, the first as its highest digit
 abbrev pub four_bytes : List ℕ → ℕ
-four_bytes text = (slice_index_or text 0 0 * 16777216 + slice_index_or text 1 0 * 65536) + slice_index_or text 2 0 * 256 + slice_index_or text 3 0
+four_bytes text =
+    (slice_index_or text 0 0 * 16777216 + slice_index_or text 1 0 * 65536)
+    + slice_index_or text 2 0 * 256 + slice_index_or text 3 0
 
 -- a hash of a leg's stations, aircraft times and aircraft type
 abbrev pub quick_hash : List ℕ → ℕ
 quick_hash d =
-    three_bytes (leg_columns 37 39 d) + 31 * four_bytes (leg_columns 44 47 d) + 1009 * three_bytes (leg_columns 55 57 d)
+    three_bytes (leg_columns 37 39 d) + 31 * four_bytes (leg_columns 44 47 d)
+    + 1009 * three_bytes (leg_columns 55 57 d)
     + 32749 * four_bytes (leg_columns 58 61 d) + 1000003 * three_bytes (leg_columns 73 75 d)
 
 -- each of these bytes is allowed in its column

@@ -15,7 +15,9 @@ tail_of bytes = concat (columns 15 27 bytes ∷ columns 29 194 bytes ∷ [])
 
 -- a tail's 179 columns at their positions in a record, with blanks elsewhere
 abbrev pub spread_tail : List ℕ → List ℕ
-spread_tail d = concat (replicate 14 32 ∷ slice_range d 0 13 ∷ (32 ∷ []) ∷ slice_range d 13 179 ∷ replicate 6 32 ∷ [])
+spread_tail d =
+    concat (replicate 14 32 ∷ slice_range d 0 13 ∷ (32 ∷ []) ∷ slice_range d 13 179 ∷ replicate 6 32
+    ∷ [])
 
 -- columns first to last of a tail, counted as in its record
 abbrev pub tail_columns : ℕ → ℕ → List ℕ → List ℕ
@@ -31,7 +33,8 @@ pub record IsTail (d : List ℕ) : Type 0 where
 -- blanks after it
 unfoldable pub new_tail : List ℕ → ℕ → List ℕ → List ℕ → List ℕ → List ℕ
 new_tail points identifier board off text =
-    concat (replicate 13 32 ∷ filled 2 points ∷ digits 3 identifier ∷ board ∷ off ∷ filled 155 text ∷ [])
+    concat (replicate 13 32 ∷ filled 2 points ∷ digits 3 identifier ∷ board ∷ off ∷ filled 155 text
+    ∷ [])
 
 -- ---- the record
 

@@ -128,8 +128,8 @@ fn day_after(months: &mut LatestMonths, first: Day, first_text: &[u8], text: &[u
     months.day_of(text)
 }
 
-/// The latest flight, the latest ends of a period, the latest days of operation and the first digits
-/// of the latest serial of the records so far, and the months of the latest dates.
+/// The latest flight, the latest ends of a period, the latest days of operation and the first
+/// digits of the latest serial of the records so far, and the months of the latest dates.
 #[derive(Drop)]
 pub struct LatestColumns {
     flight: Repeated<8, AirlineFlight>,
@@ -174,7 +174,8 @@ impl LatestColumns {
     #[inline(always)]
     pub(crate) fn serial_in(&mut self, bytes: &[u8; 200]) -> Option<u32>
         ensures below { IfSome result (λ serial. serial < 1000000) }
-        ensures value { IfSome result (λ serial. digits_of (columns 195 200 bytes.now) ≡ Some serial) }
+        ensures value { IfSome result (λ serial. digits_of (columns 195 200 bytes.now)
+            ≡ Some serial) }
     {
         let front = self.serial.value_in(bytes, &mut self.months)?;
         let last = digits_of(SERIAL_END.text(bytes))?;

@@ -1,4 +1,5 @@
-//! Leg and segment records of the texts of their names and dates. Each kind of record has one writer.
+//! Leg and segment records of the texts of their names and dates. Each kind of record has one
+//! writer.
 
 ghost use Rattle.std.specs.Prelude.{◌≡◌, ◌<◌, length};
 ghost use Rattle.ssim_columns.specs.Leg.{AreLegColumns, leg_of_texts};
@@ -11,7 +12,8 @@ use crate::text::array::bytes_of;
 use crate::text::number::six_digits;
 use crate::text::overwriting::append;
 
-/// Writes a leg record over 200 bytes: of the texts of its name and dates, its frequency rate, columns, overflow and serial.
+/// Writes a leg record over 200 bytes: of the texts of its name and dates, its frequency rate,
+/// columns, overflow and serial.
 pub fn write_leg(
     out: &mut [u8],
     name: &[u8; 12],
@@ -37,7 +39,8 @@ pub fn write_leg(
     append(out, at, &six_digits(serial));
 }
 
-/// Writes a segment record over 200 bytes: of the text of its name, its service type, tail, overflow and serial.
+/// Writes a segment record over 200 bytes: of the text of its name, its service type, tail,
+/// overflow and serial.
 pub fn write_segment(
     out: &mut [u8],
     name: &[u8; 12],

@@ -25,7 +25,8 @@ pub(crate) trait InColumns<const N: usize>: Copy {
     /// The value that they spell, if there is one: each record with the same columns spells it. The
     /// months are those of the latest dates.
     fn read(bytes: &[u8; 200], months: &mut LatestMonths) -> Option<Self>
-        ensures { IfSome result (λ value. Everywhere columns_in (columns_in bytes.now) (Spells value)) };
+        ensures { IfSome result (λ value.
+            Everywhere columns_in (columns_in bytes.now) (Spells value)) };
 }
 
 /// A value, and the columns that spell it.

@@ -35,7 +35,8 @@ three_values = needed (codes "first") ∷ needed (codes "second") ∷ needed (co
 -- the values of a command with four values
 abbrev pub four_values : List Rule
 four_values =
-    needed (codes "first") ∷ needed (codes "second") ∷ needed (codes "third") ∷ needed (codes "fourth") ∷ []
+    needed (codes "first") ∷ needed (codes "second") ∷ needed (codes "third")
+    ∷ needed (codes "fourth") ∷ []
 
 -- the values of a command with two values and one or more texts
 abbrev pub two_values_and_texts : List Rule
@@ -45,8 +46,8 @@ two_values_and_texts = needed (codes "first") ∷ needed (codes "second") ∷ se
 abbrev pub optional : List ℕ → Rule
 optional name = record (new_rule name) { long = Some name; value_names = 1 }
 
--- the values of a command with two values and one or more texts, and an option for a file of refused
--- texts
+-- the values of a command with two values and one or more texts, and an option for a file of
+-- refused texts
 abbrev pub two_values_and_texts_or_refused : List Rule
 two_values_and_texts_or_refused = two_values_and_texts ++ optional (codes "refused") ∷ []
 
@@ -109,8 +110,8 @@ on_timetables =
     ∷ leaf (codes "board") three_values
     ∷ leaf (codes "calendar") two_values ∷ []
 
--- the commands that print how two timetables differ, make the messages that say it, or print the page
--- of one
+-- the commands that print how two timetables differ, make the messages that say it, or print the
+-- page of one
 abbrev pub of_timetables : List Shape
 of_timetables =
     leaf (codes "diff") two_values
@@ -131,6 +132,8 @@ explanations = leaf (codes "explain") one_value ∷ []
 
 -- the program with all its commands
 abbrev pub whole_program : App
-whole_program = add_all (add_all (add_all (add_all (add_all (add_all (add_all (add_all (add_all (add_all
-    bare_program on_data_sets) beginnings) on_desks) on_messages) on_dates) on_timetables) of_timetables) of_desks)
+whole_program =
+    add_all (add_all (add_all (add_all (add_all (add_all (add_all (add_all (add_all (add_all
+    bare_program on_data_sets) beginnings) on_desks) on_messages) on_dates) on_timetables)
+    of_timetables) of_desks)
     rehearsals) explanations

@@ -107,8 +107,8 @@ is_plain [] = false
 is_plain (x ∷ []) = true
 is_plain (x ∷ y ∷ rest) = not (x == 45)
 
--- The words are the program's name, the command's name and its values, which are plain: no option is
--- given.
+-- The words are the program's name, the command's name and its values, which are plain: no option
+-- is given.
 pub record Spells (words : List Text) (line : Line) : Type 0 where
   pub program : Text
   pub words_are : words ≡ program ∷ name_of line ∷ values_of line

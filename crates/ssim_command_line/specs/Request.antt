@@ -47,7 +47,8 @@ two_of rows = option_and_then (λ a. option_map (λ b. (a, b)) (first_of (codes 
 -- the first value, the second and the third, if all are given
 abbrev pub three_of : List Row → Option (Text × Text × Text)
 three_of rows =
-    option_and_then (λ p. option_map (λ c. (p.0, p.1, c)) (first_of (codes "third") rows)) (two_of rows)
+    option_and_then (λ p. option_map (λ c. (p.0, p.1, c)) (first_of (codes "third") rows))
+    (two_of rows)
 
 -- the four values, if all are given
 abbrev pub four_of : List Row → Option (Text × Text × Text × Text)
@@ -105,7 +106,8 @@ abbrev pub with_form : List Row → Option Line
 with_form rows =
     option_map (λ file. Listing (form_of rows) file (texts_of rows)) (first_of (codes "first") rows)
 
--- the line of show, history, board, list or calendar, if the name is one of them and its values are given
+-- the line of show, history, board, list or calendar, if the name is one of them and its values are
+-- given
 abbrev pub view_at : Text → List Row → Option Line
 view_at name rows =
     if bytes_eq name (codes "show") then with_three Show rows

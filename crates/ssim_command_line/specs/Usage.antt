@@ -38,7 +38,8 @@ is_help _ = false
 
 -- the words ask for help, or are wrong
 abbrev pub HasFault : List Text → Bool → Type 0
-HasFault words help = (k : ErrorKind) × IsAmong k (fault_of whole_program words) × (is_help k ≡ help)
+HasFault words help =
+    (k : ErrorKind) × IsAmong k (fault_of whole_program words) × (is_help k ≡ help)
 
 -- the fault of the command line is one of these words
 abbrev pub IsFaultOf : List Text → LineFault → Type 0

@@ -24,8 +24,9 @@ pub struct ListForm {
 }
 
 /// A command with its values: names of files, but for the flights of `Texts` and of `List`, the
-/// references of `Withdraw`, the flight and the date of `Show` and of `History`, the station and the
-/// date of `Board`, the flight of `Calendar`, the reference of `Publish`, and the word of `Explain`.
+/// references of `Withdraw`, the flight and the date of `Show` and of `History`, the station and
+/// the date of `Board`, the flight of `Calendar`, the reference of `Publish`, and the word of
+/// `Explain`.
 #[derive(Drop)]
 pub enum Request<'a> {
     /// Print the notes on a data set and a summary.
@@ -203,7 +204,8 @@ fn showing_texts<'a>(
     alloc: Global,
     inner: &ArgMatches<'a>,
 ) -> Result<Option<Request<'a>>, AllocError>
-    ensures { IfOk result (λ r. option_map line_of r ≡ with_flights (rows_of (found_of inner.now))) }
+    ensures { IfOk result (λ r. option_map line_of r
+        ≡ with_flights (rows_of (found_of inner.now))) }
 {
     let Some(desk) = one(inner) else {
         return Ok(None);

@@ -19,8 +19,8 @@ use std::alloc::{AllocError, Global};
 /// The version that `--version` prints.
 const VERSION: &str = "1.0.0";
 
-/// A value that has to be there. `clap` knows it by `id`, and help shows it as `shown`, with what it
-/// is.
+/// A value that has to be there. `clap` knows it by `id`, and help shows it as `shown`, with what
+/// it is.
 fn described<'a>(alloc: Global, id: &'a str, shown: &'a str, about: &'static str) -> Arg<'a>
     ensures rule { rule_of result ≡ needed id.entry.now }
     ensures local { result.global ≡ false }

@@ -89,7 +89,8 @@ abbrev pub DesksAgree : List DeskState → List Step → List Answer → List De
 DesksAgree start steps answers after =
     (d e : ℕ) → d < length start → e < length start → BeganAlike (desk_at start d) (desk_at start e)
     → ((reference : Reference) (message : MessageValue)
-    → Reached start steps answers d reference message ↔ Reached start steps answers e reference message)
+    → Reached start steps answers d reference message
+    ↔ Reached start steps answers e reference message)
     → AreAgreed (desk_at after d) (desk_at after e)
 
 -- a desk holds the message at the start, or a step offers a text that says it
@@ -116,7 +117,8 @@ NoConflict =
 abbrev pub OfferedIsReached : Type 0
 OfferedIsReached =
     (run : Run) → AreApart run.start run.steps
-    → (k d : ℕ) (text : Vec ℕ Global) (answer : Answer) (reference : Reference) (message : MessageValue)
+    → (k d : ℕ) (text : Vec ℕ Global) (answer : Answer) (reference : Reference)
+    (message : MessageValue)
     → IsStep run.steps run.answers k (Take d text) answer → answer ≢ Refused Memory
     → SaysTo run.start d text.items reference message
     → Reached run.start run.steps run.answers d reference message

@@ -46,7 +46,8 @@ pub data Brings (start : List DeskState) (steps : List Step)
       → Brings start steps answers k d reference message
 
 -- the message has reached the desk in a run: some step brings it
-abbrev pub Reached : List DeskState → List Step → List Answer → ℕ → Reference → MessageValue → Type 0
+abbrev pub Reached : List DeskState → List Step → List Answer → ℕ → Reference → MessageValue
+    → Type 0
 Reached start steps answers d reference message =
     (k : ℕ) × Brings start steps answers k d reference message
 

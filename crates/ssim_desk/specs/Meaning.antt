@@ -103,7 +103,8 @@ pub record Exports (desk : DeskState) (answer : Result (List ℕ) ExportRefusal)
 -- Every desk has an export result.
 abbrev pub HasExport : Type 0
 HasExport =
-    (desk : DeskState) → IsDesk desk → (answer : Result (List ℕ) ExportRefusal) × Exports desk answer
+    (desk : DeskState) → IsDesk desk → (answer : Result (List ℕ) ExportRefusal)
+    × Exports desk answer
 
 -- A desk has at most one export result.
 abbrev pub HasOneExport : Type 0

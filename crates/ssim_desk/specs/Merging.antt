@@ -25,7 +25,8 @@ merged mine theirs = record mine { held = union mine.held theirs.held }
 -- unless memory is refused, the merge returns Merged and leaves this desk
 abbrev pub IsMergedTo : DeskState → DeskState → DeskState → Type 0
 IsMergedTo mine theirs after =
-    (answer : Answer) (held : HeldMessages) → Merges mine theirs answer held → answer ≢ Refused Memory
+    (answer : Answer) (held : HeldMessages) → Merges mine theirs answer held
+    → answer ≢ Refused Memory
     → (answer ≡ Merged) × (record mine { held = held } ≡ after)
 
 -- three desks over one base, of which no two hold different messages under one reference

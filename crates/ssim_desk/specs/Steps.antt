@@ -102,7 +102,8 @@ desk_at desks i = slice_index_or desks i no_desk
 
 -- the desks after desk i holds these messages
 abbrev pub with_held : List DeskState → ℕ → HeldMessages → List DeskState
-with_held desks i held = let desk = desk_at desks i in slice_set desks i (record desk { held = held })
+with_held desks i held =
+    let desk = desk_at desks i in slice_set desks i (record desk { held = held })
 
 -- the desks that a step names exist
 abbrev pub IsInRange : ℕ → Step → Type 0
@@ -154,10 +155,12 @@ is_change _ _ _ = false
 
 -- no step of the run may have changed the desk
 abbrev pub IsIdle : ℕ → List Step → List Answer → Type 0
-IsIdle d (step ∷ steps) (answer ∷ answers) = (is_change d step answer ≡ false) × IsIdle d steps answers
+IsIdle d (step ∷ steps) (answer ∷ answers) =
+    (is_change d step answer ≡ false) × IsIdle d steps answers
 IsIdle _ _ _ = Unit {0}
 
 -- An idle desk, one that no step changed, is what it was, with the same count of messages applied
 -- by its latest change.
 abbrev pub LeavesIdle : {X : Type 0} → List X → List Step → List Answer → List X → Type 0
-LeavesIdle old steps answers new = (d : ℕ) → IsIdle d steps answers → slice_get new d ≡ slice_get old d
+LeavesIdle old steps answers new =
+    (d : ℕ) → IsIdle d steps answers → slice_get new d ≡ slice_get old d

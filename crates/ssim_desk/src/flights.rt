@@ -94,7 +94,8 @@ fn schedule_of(
     messages: &[Held],
     flights: &[Flight],
 ) -> Result<Schedule, Memory>
-    ensures { IfOk result (λ schedule. (g : FlightNumber) → IsFlight g → is_among flights.now g ≡ true
+    ensures { IfOk result (λ schedule. (g : FlightNumber) → IsFlight g
+        → is_among flights.now g ≡ true
         → days_in schedule g ≡ each_day (left_by base.now messages.now g)) }
 {
     let mut schedule = Schedule::of_flights(base.data_set(), flights)?;

@@ -74,7 +74,8 @@ impl Schedules {
     fn schedule(&self, count: usize, from: usize) -> &Schedule
         requires within { from ≤ count }
         requires kept { (from ≡ count) ⊎ (from ≡ 32 * (from / 32)) }
-        requires schedules { (base : BaseSeen) × (held : List Entry) × AreSchedules base held self.now
+        requires schedules { (base : BaseSeen) × (held : List Entry)
+            × AreSchedules base held self.now
             × (count ≡ length held) }
         ensures { (base : BaseSeen) (held : List Entry) → count ≡ length held
             → AreSchedules base held self.now → IsAfter base (take from held) result.now }

@@ -39,7 +39,8 @@ pub record Says (base : BaseSeen) (text : List ℕ) (reference : Reference)
   pub referred : resolved.reference ≡ reference
 
 -- the base gives the message this reference
-pub record HasReference (base : BaseSeen) (reference : Reference) (message : MessageValue) : Type 0 where
+pub record HasReference (base : BaseSeen) (reference : Reference)
+    (message : MessageValue) : Type 0 where
   pub resolved : ResolvedText
   pub resolves : ResolvesIn base.records message resolved
   pub referred : resolved.reference ≡ reference

@@ -53,7 +53,8 @@ IsNext (m ∷ mine) (t ∷ theirs) e mine_left theirs_left =
 abbrev pub IsMerged : List Entry → List Entry → List Entry → Type 0
 IsMerged mine theirs [] = (mine ≡ []) × (theirs ≡ [])
 IsMerged mine theirs (e ∷ all) =
-    (mine_left : List Entry) × (theirs_left : List Entry) × IsNext mine theirs e mine_left theirs_left
+    (mine_left : List Entry) × (theirs_left : List Entry)
+    × IsNext mine theirs e mine_left theirs_left
     × IsMerged mine_left theirs_left all
 
 -- the entry at an index of `theirs` is the first whose reference is not in `mine`, and this is the

@@ -15,8 +15,8 @@ use Rattle.ssim_listing.specs.Lines.{flight_name, no_flight}
 abbrev pub FlightDate : Type 0
 FlightDate = ℕ × Legs
 
--- The dates of pieces on a day: one for each piece that holds the day, with its value. By the law of
--- pieces that is the piece with the legs of the day, or none if the flight does not fly.
+-- The dates of pieces on a day: one for each piece that holds the day, with its value. By the law
+-- of pieces that is the piece with the legs of the day, or none if the flight does not fly.
 abbrev pub dates_on : {V : Type 0} → List (DayRange × V) → ℕ → List (ℕ × V)
 dates_on pieces day = map (λ value. (day, value)) (held_on pieces day)
 

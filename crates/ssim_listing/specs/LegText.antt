@@ -17,7 +17,8 @@ shown first last columns = 32 ∷ dotted (leg_columns first last columns)
 -- aircraft type.
 abbrev pub columns_text : List ℕ → List ℕ
 columns_text d =
-    shown 37 39 d ++ shown 40 43 d ++ shown 44 47 d ++ shown 48 52 d ++ shown 55 57 d ++ shown 58 61 d
+    shown 37 39 d ++ shown 40 43 d ++ shown 44 47 d ++ shown 48 52 d ++ shown 55 57 d
+    ++ shown 58 61 d
     ++ shown 62 65 d ++ shown 66 70 d
     ++ shown 193 194 d ++ shown 14 14 d ++ shown 73 75 d
 

@@ -26,8 +26,8 @@ period_text period =
 abbrev pub legs_of : List Piece → Legs
 legs_of pieces = flat_map (λ piece. piece.1) pieces
 
--- A piece of a flight with this name: its period, and a line for each leg. A leg is marked if one of
--- all legs of the flight differs from it, but has the same line.
+-- A piece of a flight with this name: its period, and a line for each leg. A leg is marked if one
+-- of all legs of the flight differs from it, but has the same line.
 abbrev pub piece_lines : List ℕ → Legs → Piece → List ℕ
 piece_lines name all piece =
     line (name ++ 32 ∷ period_text piece.0) ++ flat_map (marked_line all) piece.1

@@ -18,7 +18,7 @@ is_like_one legs leg = list_any (λ other. is_like other leg) legs
 abbrev pub mark_text : Bool → List ℕ
 mark_text is_marked = if is_marked then codes " *" else []
 
--- The line of a leg, two blanks before it, and a mark after it if one of the other legs differs from
--- it, but has the same line.
+-- The line of a leg, two blanks before it, and a mark after it if one of the other legs differs
+-- from it, but has the same line.
 abbrev pub marked_line : Legs → LegValue → List ℕ
 marked_line others leg = line (32 ∷ 32 ∷ leg_text leg ++ mark_text (is_like_one others leg))

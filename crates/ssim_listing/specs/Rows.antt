@@ -24,7 +24,8 @@ row fields = row_text default_writer (map trimmed fields)
 abbrev pub header : List (List ℕ)
 header =
     codes "flight" ∷ codes "first" ∷ codes "last" ∷ codes "days" ∷ codes "leg"
-    ∷ codes "from" ∷ codes "passenger_departure" ∷ codes "departure" ∷ codes "departure_utc_variation"
+    ∷ codes "from" ∷ codes "passenger_departure" ∷ codes "departure"
+    ∷ codes "departure_utc_variation"
     ∷ codes "to" ∷ codes "arrival" ∷ codes "passenger_arrival" ∷ codes "arrival_utc_variation"
     ∷ codes "departure_date_variation" ∷ codes "arrival_date_variation"
     ∷ codes "service" ∷ codes "aircraft" ∷ codes "bookings" ∷ codes "configuration"

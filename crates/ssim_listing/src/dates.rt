@@ -23,7 +23,8 @@ const DAYS: u16 = 75;
 /// A leg as text, with its period.
 type LegText = (Period, Vec<u8>);
 
-/// Adds the lines of the dates of a flight. Each leg is made text once, for all dates of its period.
+/// Adds the lines of the dates of a flight. Each leg is made text once, for all dates of its
+/// period.
 pub(crate) fn push_dates(
     alloc: Global,
     lines: &mut Vec<u8>,
@@ -90,8 +91,8 @@ fn push_line(lines: &mut Vec<u8>, name: &[u8], day: Day, leg: &[u8]) -> Result<(
     Ok(())
 }
 
-/// The dates of pieces in order, each with the value of the piece that holds it. The calendar is cut
-/// into parts, so that a day is compared only to the pieces that meet its part.
+/// The dates of pieces in order, each with the value of the piece that holds it. The calendar is
+/// cut into parts, so that a day is compared only to the pieces that meet its part.
 pub(crate) fn dates_of<'a, V>(
     alloc: Global,
     pieces: &'a [(Period, V)],
@@ -114,7 +115,8 @@ fn near_part<'a, V>(
 ) -> Result<Vec<&'a (Period, V)>, Memory>
     requires { from + 75 < 65536 }
     ensures { IfOk result
-        (λ near. map (λ p. p.now) near.items ≡ filter (λ piece. meets_days from piece.0) pieces.now) }
+        (λ near. map (λ p. p.now) near.items
+        ≡ filter (λ piece. meets_days from piece.0) pieces.now) }
 {
     let mut near = Vec::new(alloc);
     for piece in pieces {

@@ -7,11 +7,11 @@
 //! - [`push_leg_text`]: a leg as one line, which shows some of its columns; [`is_like_one`]: whether
 //!   a leg differs from another one that has the same line.
 //!
-//! The flights are those that `ssim_schedule` gives, each with its pieces: the periods of the export.
-//! The only error is [`Memory`].
+//! The flights are those that `ssim_schedule` gives, each with its pieces: the periods of the
+//! export. The only error is [`Memory`].
 //!
-//! **Promise.** Each piece and each date of a piece is there once, in order, with all its legs. CSV is
-//! what the crate `csv` writes of the fields.
+//! **Promise.** Each piece and each date of a piece is there once, in order, with all its legs. CSV
+//! is what the crate `csv` writes of the fields.
 #![tactic(auto)]
 
 mod dates;

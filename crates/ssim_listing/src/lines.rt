@@ -21,8 +21,8 @@ use ssim_schedule::{FlightPieces, Itinerary, PlacedLeg};
 use ssim_values::{Airline, Day, Designator, Flight, Memory, Period};
 use std::alloc::Global;
 
-/// The flights of an airline, each with its periods, and the legs of each period. A leg is marked if
-/// one of all legs of the flight differs from it, but has the same line.
+/// The flights of an airline, each with its periods, and the legs of each period. A leg is marked
+/// if one of all legs of the flight differs from it, but has the same line.
 pub fn listing(alloc: Global, airline: Airline, flights: &[FlightPieces]) -> Result<Vec<u8>, Memory>
     ensures { IfOk result (λ lines. lines.items ≡ listing airline flights.now) }
 {
@@ -153,7 +153,8 @@ fn push_piece(
     legs: &[PlacedLeg],
 ) -> Result<(), Memory>
     ensures { OnOk result (lines.new.items ≡ lines.old.items
-        ++ grouped_lines name.now (λ text. is_mixed (group_in groups.now text)) (period, legs.now)) }
+        ++ grouped_lines name.now (λ text. is_mixed (group_in groups.now text))
+        (period, legs.now)) }
 {
     push_period(lines, name, period)?;
     push_legs(lines, groups, legs)

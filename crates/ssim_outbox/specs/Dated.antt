@@ -7,11 +7,16 @@ use Rattle.ssim_text.specs.declared.dates.Dates.TheVariants.{Period}
 use Rattle.ssim_text.specs.declared.dates.GivenDate.TheVariants.{Full}
 use Rattle.ssim_text.specs.declared.dates.GivenEnd.TheVariants.{Until}
 
--- the sub-message with this action for the flight on the days of a period, whose first and last date
--- have their years
+-- the sub-message with this action for the flight on the days of a period, whose first and last
+-- date have their years
 abbrev pub dated : Designator → DayRange → Action → Sub
 dated designator period action = record {
   designator = designator;
-  dates = Period (record { first = Full period.first; last = Until (Full period.last); days = period.days });
+  dates =
+      Period (record {
+        first = Full period.first;
+        last = Until (Full period.last);
+        days = period.days;
+      });
   action = action;
 }

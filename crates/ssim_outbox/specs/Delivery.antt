@@ -17,7 +17,8 @@ use Rattle.ssim_outbox.specs.Order.{Follows}
 
 -- The base of these records resolves the message whose heading it is. The reference is that of this
 -- message, but with the group serial, and the sub-messages have these full dates.
-pub record AreAddressed (records : List Record) (heading : MessageValue) (group : ℕ) (subs : List Sub)
+pub record AreAddressed (records : List Record) (heading : MessageValue) (group : ℕ)
+    (subs : List Sub)
     (reference : Reference) (dates : List ResolvedSub) : Type 0 where
   pub frame : Frame
   pub in_base : HasFrame frame records
@@ -32,7 +33,8 @@ abbrev pub entries_of : Reference → List ResolvedSub → List MessageValue →
 entries_of reference dates [] = []
 entries_of reference dates (m ∷ messages) =
     record { reference = reference; message = m; dates = take (length m.subs) dates }
-    ∷ entries_of (record reference { group = reference.group + 1 }) (drop (length m.subs) dates) messages
+    ∷ entries_of (record reference { group = reference.group + 1 }) (drop (length m.subs) dates)
+    messages
 
 -- messages that can be delivered to a desk: they send these sub-messages, its base gives the first
 -- message this reference and the sub-messages these dates, and the reference follows all that the

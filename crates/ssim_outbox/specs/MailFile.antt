@@ -28,7 +28,8 @@ pub record IsMail (m : MessageValue) : Type 0 where
 abbrev pub mail_texts : ℕ → List MessageValue → List MailText
 mail_texts n [] = []
 mail_texts n (m ∷ messages) =
-    record { line = n; bytes = canonical m } ∷ mail_texts (n + length (canonical_parts m) + 1) messages
+    record { line = n; bytes = canonical m } ∷ mail_texts (n + length (canonical_parts m) + 1)
+    messages
 
 -- a mailbox with the bytes of the file of such messages has their canonical texts and no others, in
 -- order, the first of which begins on line 1

@@ -34,13 +34,15 @@ IsFull m (sub ∷ left) = (length m.subs ≡ 250) ⊎ (65536 < length (canonical
 
 -- the message has the heading, the group serial, and as many of the sub-messages, from the first
 -- on, as a text can have
-pub record IsFirst (heading : MessageValue) (group : ℕ) (subs : List Sub) (m : MessageValue) : Type 0 where
+pub record IsFirst (heading : MessageValue) (group : ℕ) (subs : List Sub)
+    (m : MessageValue) : Type 0 where
   pub own : m ≡ headed heading group (take (length m.subs) subs)
   pub text : IsText m
   pub full : IsFull m (drop (length m.subs) subs)
 
--- The messages send the sub-messages: the first message has this group serial and as many of them as
--- a text can have, and the later messages, from the next group serial on, send those that are left.
+-- The messages send the sub-messages: the first message has this group serial and as many of them
+-- as a text can have, and the later messages, from the next group serial on, send those that are
+-- left.
 abbrev pub Send : MessageValue → ℕ → List Sub → List MessageValue → Type 0
 Send heading group subs [] = subs ≡ []
 Send heading group subs (m ∷ messages) =

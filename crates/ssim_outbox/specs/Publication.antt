@@ -42,7 +42,8 @@ pub record IsHeading (from to : DeskSeen) (word : List ℕ) (heading : MessageVa
 
 -- The reference of the first message, with its year: its date is the next such date from the day on
 -- which the data set was made.
-pub record IsFirstReference (carrier : CarrierFields) (heading : MessageValue) (reference : Reference)
+pub record IsFirstReference (carrier : CarrierFields) (heading : MessageValue)
+    (reference : Reference)
     : Type 0 where
   pub date : IsNext carrier.created heading.reference.date reference.date
   pub group : reference.group ≡ heading.reference.group
@@ -80,8 +81,8 @@ dates_of_plan = map (λ sub. record { flight = sub.flight; period = sub.period }
 
 -- ---- the lines
 
--- the line of a message: its reference, which has the date, the message serial and the originator of
--- the first one, and how many sub-messages it has
+-- the line of a message: its reference, which has the date, the message serial and the originator
+-- of the first one, and how many sub-messages it has
 abbrev pub text_line : Reference → MessageValue → List ℕ
 text_line first m =
     line (codes "text " ++ printed_reference (record first { group = m.reference.group })
@@ -123,7 +124,8 @@ pub record Publishes (from to : DeskSeen) (word lines mail : List ℕ) : Type 0 
       (subs_of_plan (airline_of from.base.records) plan) reference (dates_of_plan plan) messages
   pub delivered : AreDelivered from (subs_of_plan (airline_of from.base.records) plan) reference
       (dates_of_plan plan) messages after
-  pub is_plan : IsPlan from.base.rows (days_of_desk from) (days_of_desk to) plan (days_of_desk after)
+  pub is_plan : IsPlan from.base.rows (days_of_desk from) (days_of_desk to) plan
+      (days_of_desk after)
   pub lines_are : AreLines (airline_of from.base.records) reference messages (length plan)
       (days_of_desk after) (days_of_desk to) lines
   pub mail_is : mail ≡ mail_file messages

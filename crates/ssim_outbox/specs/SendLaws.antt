@@ -22,16 +22,16 @@ pub record IsHeaded (heading : MessageValue) (group : ℕ) (m : MessageValue) : 
   pub own : m ≡ headed heading group m.subs
   pub text : IsText m
 
--- message k, counted from 0, is one that a text can have, with the heading and the k-th group serial
--- after the first
+-- message k, counted from 0, is one that a text can have, with the heading and the k-th group
+-- serial after the first
 abbrev pub SerialsRise : Type 0
 SerialsRise =
     (heading : MessageValue) (group : ℕ) (subs : List Sub) (messages : List MessageValue)
     → Send heading group subs messages
     → (k : ℕ) → IfSome (slice_get messages k) (IsHeaded heading (group + k))
 
--- a sub-message with full dates for a flight of the carrier's airline resolves to its flight and its
--- period, whatever the validity of the carrier record
+-- a sub-message with full dates for a flight of the carrier's airline resolves to its flight and
+-- its period, whatever the validity of the carrier record
 abbrev pub FullDatesResolve : Type 0
 FullDatesResolve =
     (carrier : CarrierFields) (designator : Designator) (period : DayRange) (action : Action)

@@ -23,7 +23,8 @@ pub fn dated_sub(heading: &Message, designator: Designator, period: Period, acti
     ensures resolves { (carrier : CarrierFields) → designator.airline ≡ carrier.airline
         → IsResolved carrier result (record { flight = designator.flight; period = period }) }
 {
-    // No effect at run time. The proof reads from these that texts spell the heading and the flight.
+    // No effect at run time. The proof reads from these that texts spell the heading and the
+    // flight.
     let _ = heading.text();
     spells(&designator);
     Sub {

@@ -14,4 +14,5 @@ slot n = (n + 5) % 7
 
 -- whether a day is one of the period
 abbrev pub holds : DayRange → ℕ → Bool
-holds period n = (nat_le period.first n && nat_le n period.last) && slice_index_or period.days (slot n) false
+holds period n =
+    (nat_le period.first n && nat_le n period.last) && slice_index_or period.days (slot n) false

@@ -19,12 +19,14 @@ values_of alike nothing (v ∷ days) =
 
 -- the cover of the days that have a value, each period with the value
 abbrev pub pieces_with : {V : Type 0} → (V → V → Bool) → List V → V → List (DayRange × V)
-pieces_with alike days v = map (λ period. (period, v)) (cover (has_value alike days v) (length days))
+pieces_with alike days v =
+    map (λ period. (period, v)) (cover (has_value alike days v) (length days))
 
 -- a piece put among others by its first day
 abbrev pub insert_by_first : {V : Type 0} → DayRange × V → List (DayRange × V) → List (DayRange × V)
 insert_by_first p [] = p ∷ []
-insert_by_first p (q ∷ pieces) = if nat_lt p.0.first q.0.first then p ∷ q ∷ pieces else q ∷ insert_by_first p pieces
+insert_by_first p (q ∷ pieces) =
+    if nat_lt p.0.first q.0.first then p ∷ q ∷ pieces else q ∷ insert_by_first p pieces
 
 -- the pieces in order of their first day
 abbrev pub sort_by_first : {V : Type 0} → List (DayRange × V) → List (DayRange × V)
@@ -34,7 +36,8 @@ sort_by_first (p ∷ pieces) = insert_by_first p (sort_by_first pieces)
 -- the covers of the distinct values other than the empty one, each period with its value, sorted by
 -- first day
 abbrev pub pieces_of : {V : Type 0} → (V → V → Bool) → V → List V → List (DayRange × V)
-pieces_of alike nothing days = sort_by_first (flat_map (pieces_with alike days) (values_of alike nothing days))
+pieces_of alike nothing days =
+    sort_by_first (flat_map (pieces_with alike days) (values_of alike nothing days))
 
 -- the values of the pieces that hold a day
 abbrev pub held_on : {V : Type 0} → List (DayRange × V) → ℕ → List V
@@ -48,6 +51,8 @@ alone alike nothing v = if alike v nothing then [] else v ∷ []
 -- The law of pieces. On each day exactly one piece holds, the one with the day's value; none does
 -- if the value is empty or the day is past the end. Each piece is a period of these days that holds
 -- its own first day.
-pub record ArePieces {V : Type 0} (alike : V → V → Bool) (nothing : V) (days : List V) (pieces : List (DayRange × V)) : Type 0 where
+pub record ArePieces {V : Type 0} (alike : V → V → Bool) (nothing : V) (days : List V)
+    (pieces : List (DayRange × V)) : Type 0 where
   pub on_each_day : (n : ℕ) → held_on pieces n ≡ alone alike nothing (slice_index_or days n nothing)
-  pub each_begins : All (λ piece. (piece.0.first ≤ piece.0.last) × (piece.0.last < length days) × (holds piece.0 piece.0.first ≡ true)) pieces
+  pub each_begins : All (λ piece. (piece.0.first ≤ piece.0.last) × (piece.0.last < length days)
+      × (holds piece.0 piece.0.first ≡ true)) pieces

@@ -59,9 +59,13 @@ impl<V: Value> Model for ApartPeriods<V> {
 
     ghost Value = { Seen V };
 
-    ghost view = { λ p. record { days = each_day (value_in V.nothing p.entries.items); cuts = p.cuts.days } };
+    ghost view = { λ p. record {
+      days = each_day (value_in V.nothing p.entries.items);
+      cuts = p.cuts.days;
+    } };
 
-    ghost invariant = { λ p. (p.empty ≡ empty_week V.nothing) × AreApart V.nothing p.entries.items p.cuts.days };
+    ghost invariant = { λ p. (p.empty ≡ empty_week V.nothing)
+        × AreApart V.nothing p.entries.items p.cuts.days };
 }
 
 impl<V: Value> ApartPeriods<V> {
@@ -107,7 +111,8 @@ impl<V: Value> ApartPeriods<V> {
         ensures days { OnOk result
             (self.new.days ≡ changed_on (holds period.now) (C.outcome change.now) 0 self.old.days) }
         ensures counts { IfOk result
-            (λ counts. counts ≡ counts_on (holds period.now) (C.class_of change.now) self.old.days) }
+            (λ counts. counts ≡ counts_on (holds period.now) (C.class_of change.now)
+            self.old.days) }
         ensures cuts { OnOk result
             (AddsOnly self.old.cuts self.new.cuts period.now.first (period.now.last + 1)) }
         ensures err { OnErr result (self.new ≡ self.old) }
@@ -140,8 +145,9 @@ impl<V: Value> ApartPeriods<V> {
         Ok(())
     }
 
-    /// Applies changes one after another if no day has a value yet. Returns false and changes nothing
-    /// if a day has one, if two of the periods have a common day, or if there are too many of them.
+    /// Applies changes one after another if no day has a value yet. Returns false and changes
+    /// nothing if a day has one, if two of the periods have a common day, or if there are too many
+    /// of them.
     pub(crate) fn begin<C: Change<V>>(&mut self, changes: &[(Period, C)]) -> Result<bool, Memory>
         ensures days { IfOk result
             (λ done. done ≡ true
@@ -165,8 +171,9 @@ impl<V: Value> ApartPeriods<V> {
 
     /// Replaces the value of each day of the period by the outcome of the change, and returns for
     /// each class the number of these days whose old value is of that class. A period of the list
-    /// that has such a day is divided, and no other one is touched. Returns None and changes nothing
-    /// if days that no period of the list has would get a value, or if the list would be too long.
+    /// that has such a day is divided, and no other one is touched. Returns None and changes
+    /// nothing if days that no period of the list has would get a value, or if the list would be
+    /// too long.
     pub(crate) fn apply_within<C: Change<V>>(
         &mut self,
         period: &Period,
@@ -174,10 +181,12 @@ impl<V: Value> ApartPeriods<V> {
     ) -> Result<Option<[u32; 5]>, Memory>
         ensures days { IfOk result
             (λ done. OnSome done
-            (self.new.days ≡ changed_on (holds period.now) (C.outcome change.now) 0 self.old.days)) }
+            (self.new.days ≡ changed_on (holds period.now) (C.outcome change.now) 0
+            self.old.days)) }
         ensures counts { IfOk result
             (λ done. IfSome done
-            (λ counts. counts ≡ counts_on (holds period.now) (C.class_of change.now) self.old.days)) }
+            (λ counts. counts ≡ counts_on (holds period.now) (C.class_of change.now)
+            self.old.days)) }
         ensures none { IfOk result (λ done. IfNone done (self.new ≡ self.old)) }
         ensures cuts { IfOk result
             (λ done. OnSome done

@@ -24,7 +24,9 @@ pub(crate) fn unlike_in_row<V: Value>(
 ) -> u32
     requires ordered { from ≤ to }
     requires in_calendar { to ≤ 36525 }
-    ensures { result ≡ first_where (λ n. differ (V.alike value.now (slice_index_or row.now (slot n) V.nothing)) (slice_index_or days.now (slot n) false)) from (to - from) }
+    ensures { result ≡ first_where
+        (λ n. differ (V.alike value.now (slice_index_or row.now (slot n) V.nothing))
+        (slice_index_or days.now (slot n) false)) from (to - from) }
 {
     let week = if to - from < 7 { to } else { from + 7 };
     for day in from..week {
@@ -42,7 +44,8 @@ pub(crate) fn unlike_in_row<V: Value>(
 pub(crate) fn last_in(days: &[bool; 7], first: u32, after: u32) -> u32
     requires ordered { first < after }
     requires own { slice_index_or days.now (slot first) false ≡ true }
-    ensures { result ≡ last_where (λ n. slice_index_or days.now (slot n) false) first (after - first) }
+    ensures { result ≡ last_where (λ n. slice_index_or days.now (slot n) false) first
+        (after - first) }
 {
     let mut day = after - 1;
     while first < day {

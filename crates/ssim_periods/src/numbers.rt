@@ -58,7 +58,8 @@ pub(crate) const NONE: ValueNumber = ValueNumber { number: 0 };
 
 // Whether a number refers to a value that is not empty.
 fn is_number_of<V: Value>(values: &[&V], number: ValueNumber, value: &V) -> bool
-    ensures { IsTrue result → numbered V.nothing (map (λ other. other.now) values.now) number ≡ Some value.now }
+    ensures { IsTrue result → numbered V.nothing (map (λ other. other.now) values.now) number
+        ≡ Some value.now }
 {
     let number = number.number;
     if number == 0 || values.len() < number {
@@ -70,8 +71,10 @@ fn is_number_of<V: Value>(values: &[&V], number: ValueNumber, value: &V) -> bool
 
 // The number of a value which is not empty, if it is known.
 fn known_number<V: Value>(values: &[&V], value: &V) -> Option<ValueNumber>
-    ensures some { IfSome result (λ number. numbered V.nothing (map (λ other. other.now) values.now) number ≡ Some value.now) }
-    ensures none { IfNone result (list_any (V.alike value.now) (map (λ other. other.now) values.now) ≡ false) }
+    ensures some { IfSome result (λ number. numbered V.nothing (map (λ other. other.now) values.now)
+        number ≡ Some value.now) }
+    ensures none { IfNone result (list_any (V.alike value.now) (map (λ other. other.now) values.now)
+        ≡ false) }
 {
     for place in 0..values.len() {
         if value.same(values[place]) {
@@ -89,8 +92,10 @@ fn number_of<'a, V: Value>(
     above: ValueNumber,
     beside: ValueNumber,
 ) -> Result<ValueNumber, Memory>
-    ensures values { OnOk result (map (λ other. other.now) values.new.items ≡ gathered V.alike V.nothing (map (λ other. other.now) values.old.items) (value.now ∷ [])) }
-    ensures number { IfOk result (λ number. numbered V.nothing (map (λ other. other.now) values.new.items) number ≡ Some value.now) }
+    ensures values { OnOk result (map (λ other. other.now) values.new.items
+        ≡ gathered V.alike V.nothing (map (λ other. other.now) values.old.items) (value.now ∷ [])) }
+    ensures number { IfOk result (λ number.
+        numbered V.nothing (map (λ other. other.now) values.new.items) number ≡ Some value.now) }
 {
     if value.is_empty() {
         return Ok(NONE);
@@ -117,8 +122,11 @@ fn number_row<'a, V: Value>(
     row: &'a [V; 7],
     above: &[ValueNumber; 7],
 ) -> Result<[ValueNumber; 7], Memory>
-    ensures values { OnOk result (map (λ other. other.now) values.new.items ≡ gathered V.alike V.nothing (map (λ other. other.now) values.old.items) row.now) }
-    ensures numbers { IfOk result (λ numbers. map (numbered V.nothing (map (λ other. other.now) values.new.items)) numbers ≡ map Some row.now) }
+    ensures values { OnOk result (map (λ other. other.now) values.new.items
+        ≡ gathered V.alike V.nothing (map (λ other. other.now) values.old.items) row.now) }
+    ensures numbers { IfOk result (λ numbers.
+        map (numbered V.nothing (map (λ other. other.now) values.new.items)) numbers
+        ≡ map Some row.now) }
 {
     let mut numbers = [NONE; 7];
     let mut beside = NONE;
@@ -136,8 +144,12 @@ fn number_rows<'a, V: Value>(
     before: &[ValueNumber; 7],
     rows: &'a [[V; 7]],
 ) -> Result<Vec<[ValueNumber; 7]>, Memory>
-    ensures values { OnOk result (map (λ other. other.now) values.new.items ≡ gathered V.alike V.nothing (map (λ other. other.now) values.old.items) (flat_map (λ row. row) rows.now)) }
-    ensures numbers { IfOk result (λ numbers. map (map (numbered V.nothing (map (λ other. other.now) values.new.items))) numbers.items ≡ map (map Some) rows.now) }
+    ensures values { OnOk result (map (λ other. other.now) values.new.items
+        ≡ gathered V.alike V.nothing (map (λ other. other.now) values.old.items)
+        (flat_map (λ row. row) rows.now)) }
+    ensures numbers { IfOk result (λ numbers.
+        map (map (numbered V.nothing (map (λ other. other.now) values.new.items))) numbers.items
+        ≡ map (map Some) rows.now) }
 {
     let mut numbers = Vec::new(alloc);
     numbers.reserve(rows.len())?;
@@ -157,8 +169,11 @@ pub(crate) fn numbered_days<'a, V: Value>(
     rows: &'a [[V; 7]],
 ) -> Result<(Vec<&'a V>, RangeRows<ValueNumber>), Memory>
     requires { AreRows before.now cuts.now rows.now }
-    ensures values { IfOk result (λ found. map (λ other. other.now) found.0.items ≡ gathered V.alike V.nothing [] (flat_map (λ row. row) (before.now ∷ rows.now))) }
-    ensures days { IfOk result (λ found. map (numbered V.nothing (map (λ other. other.now) found.0.items)) found.1.days ≡ map Some (each_day (value_on V.nothing before.now cuts.now rows.now))) }
+    ensures values { IfOk result (λ found. map (λ other. other.now) found.0.items
+        ≡ gathered V.alike V.nothing [] (flat_map (λ row. row) (before.now ∷ rows.now))) }
+    ensures days { IfOk result (λ found.
+        map (numbered V.nothing (map (λ other. other.now) found.0.items)) found.1.days
+        ≡ map Some (each_day (value_on V.nothing before.now cuts.now rows.now))) }
 {
     let mut values = Vec::new(alloc);
     let first = number_row(&mut values, before, &[NONE; 7])?;

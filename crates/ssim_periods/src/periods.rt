@@ -65,19 +65,22 @@ impl<V: Value> Periods<V> {
     /// value is of that class.
     ///
     /// All new values are computed, and all memory is reserved, before the first value is replaced:
-    /// after an error nothing has changed. While no two periods that were applied have a common day,
-    /// a change costs one new value and the comparison of its period with the earlier ones, and
-    /// copies no value. A change of days of earlier periods makes one new value for each of these
-    /// periods. What is left of such a period is up to three parts, and each but the first gets a
-    /// copy of its value. The values so far are copied into rows, one value for each range and
-    /// weekday, by the first such change that also gives values to days that no period has, or after
-    /// which there would be too many parts (more than 64, or 512 if one is added at most), and by the
-    /// 513th period. From then on the cost grows with the ranges that the period touches and with the
-    /// later ranges, which are moved.
+    /// after an error nothing has changed. While no two periods that were applied have a common
+    /// day, a change costs one new value and the comparison of its period with the earlier ones,
+    /// and copies no value. A change of days of earlier periods makes one new value for each of
+    /// these periods. What is left of such a period is up to three parts, and each but the first
+    /// gets a copy of its value. The values so far are copied into rows, one value for each range
+    /// and weekday, by the first such change that also gives values to days that no period has, or
+    /// after which there would be too many parts (more than 64, or 512 if one is added at most),
+    /// and by the 513th period. From then on the cost grows with the ranges that the period touches
+    /// and with the later ranges, which are moved.
     pub fn apply<C: Change<V>>(&mut self, period: &Period, change: &C) -> Result<[u32; 5], Memory>
-        ensures days { OnOk result (self.new.days ≡ changed_on (holds period.now) (C.outcome change.now) 0 self.old.days) }
-        ensures counts { IfOk result (λ counts. counts ≡ counts_on (holds period.now) (C.class_of change.now) self.old.days) }
-        ensures cuts { OnOk result (AddsOnly self.old.cuts self.new.cuts period.now.first (period.now.last + 1)) }
+        ensures days { OnOk result (self.new.days
+            ≡ changed_on (holds period.now) (C.outcome change.now) 0 self.old.days) }
+        ensures counts { IfOk result (λ counts. counts
+            ≡ counts_on (holds period.now) (C.class_of change.now) self.old.days) }
+        ensures cuts { OnOk result (AddsOnly self.old.cuts self.new.cuts period.now.first
+            (period.now.last + 1)) }
         ensures err { OnErr result (self.new ≡ self.old) }
     {
         match &mut self.form {
@@ -99,8 +102,10 @@ impl<V: Value> Periods<V> {
 
     /// Replaces the values of the days of the period as `apply` does, and counts no days.
     pub fn replace<C: Change<V>>(&mut self, period: &Period, change: &C) -> Result<(), Memory>
-        ensures days { OnOk result (self.new.days ≡ changed_on (holds period.now) (C.outcome change.now) 0 self.old.days) }
-        ensures cuts { OnOk result (AddsOnly self.old.cuts self.new.cuts period.now.first (period.now.last + 1)) }
+        ensures days { OnOk result (self.new.days
+            ≡ changed_on (holds period.now) (C.outcome change.now) 0 self.old.days) }
+        ensures cuts { OnOk result (AddsOnly self.old.cuts self.new.cuts period.now.first
+            (period.now.last + 1)) }
         ensures err { OnErr result (self.new ≡ self.old) }
     {
         match &mut self.form {
@@ -123,8 +128,10 @@ impl<V: Value> Periods<V> {
     /// Applies changes one after another, each to the days of its period, as `replace` does. If no
     /// day has a value yet and no two of the periods have a common day, they become a list at once.
     pub fn replace_each<C: Change<V>>(&mut self, changes: &[(Period, C)]) -> Result<(), Memory>
-        ensures days { OnOk result (self.new.days ≡ changed_by_each C.outcome changes.now self.old.days) }
-        ensures cuts { OnOk result ((cut : ℕ) → Contains self.new.cuts cut → Contains (ends_of changes.now ++ self.old.cuts) cut) }
+        ensures days { OnOk result (self.new.days
+            ≡ changed_by_each C.outcome changes.now self.old.days) }
+        ensures cuts { OnOk result ((cut : ℕ) → Contains self.new.cuts cut
+            → Contains (ends_of changes.now ++ self.old.cuts) cut) }
     {
         if self.begin(changes)? {
             return Ok(());
@@ -135,11 +142,13 @@ impl<V: Value> Periods<V> {
         Ok(())
     }
 
-    // Makes a list of the periods of changes, if that has the effect of the changes. The result says
-    // whether it has; if not, nothing is changed.
+    // Makes a list of the periods of changes, if that has the effect of the changes. The result
+    // says whether it has; if not, nothing is changed.
     fn begin<C: Change<V>>(&mut self, changes: &[(Period, C)]) -> Result<bool, Memory>
-        ensures days { IfOk result (λ done. done ≡ true → self.new.days ≡ changed_by_each C.outcome changes.now self.old.days) }
-        ensures cuts { IfOk result (λ done. done ≡ true → (cut : ℕ) → Contains self.new.cuts cut → Contains (ends_of changes.now) cut) }
+        ensures days { IfOk result (λ done. done ≡ true
+            → self.new.days ≡ changed_by_each C.outcome changes.now self.old.days) }
+        ensures cuts { IfOk result (λ done. done ≡ true → (cut : ℕ) → Contains self.new.cuts cut
+            → Contains (ends_of changes.now) cut) }
         ensures other { IfOk result (λ done. done ≡ false → self.new ≡ self.old) }
     {
         if let Form::Apart(periods) = &mut self.form {
@@ -181,7 +190,9 @@ impl<V: Value> Periods<V> {
 
         // Two days of one weekday have the same value if no cut is after the earlier and not after
         // the later.
-        ensures weekly { (m n : ℕ) → m ≤ n → n < 36525 → weekday m ≡ weekday n → ((cut : ℕ) → Contains result.now cut → m < cut → n < cut) → slice_get self.now.days m ≡ slice_get self.now.days n }
+        ensures weekly { (m n : ℕ) → m ≤ n → n < 36525 → weekday m ≡ weekday n
+            → ((cut : ℕ) → Contains result.now cut → m < cut → n < cut)
+            → slice_get self.now.days m ≡ slice_get self.now.days n }
     {
         match &self.form {
             Form::Apart(periods) => periods.cuts(),

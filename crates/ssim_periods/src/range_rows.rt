@@ -37,7 +37,11 @@ impl<V: Value> Model for RangeRows<V> {
 
     ghost Value = { Seen V };
 
-    ghost view = { λ p. record { days = each_day (value_on V.nothing p.before p.cuts.items p.rows.items); cuts = p.cuts.items } };
+    ghost view = { λ p. record {
+      days = each_day
+          (value_on V.nothing p.before p.cuts.items p.rows.items);
+      cuts = p.cuts.items;
+    } };
 
     ghost invariant = { λ p. AreRows p.before p.cuts.items p.rows.items };
 }
@@ -90,9 +94,12 @@ impl<V: Value> RangeRows<V> {
         period: &Period,
         change: &C,
     ) -> Result<[u32; 5], Memory>
-        ensures days { OnOk result (self.new.days ≡ changed_on (holds period.now) (C.outcome change.now) 0 self.old.days) }
-        ensures counts { IfOk result (λ counts. counts ≡ counts_on (holds period.now) (C.class_of change.now) self.old.days) }
-        ensures cuts { OnOk result (AddsOnly self.old.cuts self.new.cuts period.now.first (period.now.last + 1)) }
+        ensures days { OnOk result (self.new.days
+            ≡ changed_on (holds period.now) (C.outcome change.now) 0 self.old.days) }
+        ensures counts { IfOk result (λ counts. counts
+            ≡ counts_on (holds period.now) (C.class_of change.now) self.old.days) }
+        ensures cuts { OnOk result (AddsOnly self.old.cuts self.new.cuts period.now.first
+            (period.now.last + 1)) }
         ensures err { OnErr result (self.new ≡ self.old) }
     {
         let first = period.first().number() as u32;
@@ -117,8 +124,10 @@ impl<V: Value> RangeRows<V> {
         period: &Period,
         change: &C,
     ) -> Result<(), Memory>
-        ensures days { OnOk result (self.new.days ≡ changed_on (holds period.now) (C.outcome change.now) 0 self.old.days) }
-        ensures cuts { OnOk result (AddsOnly self.old.cuts self.new.cuts period.now.first (period.now.last + 1)) }
+        ensures days { OnOk result (self.new.days
+            ≡ changed_on (holds period.now) (C.outcome change.now) 0 self.old.days) }
+        ensures cuts { OnOk result (AddsOnly self.old.cuts self.new.cuts period.now.first
+            (period.now.last + 1)) }
         ensures err { OnErr result (self.new ≡ self.old) }
     {
         let alloc = self.alloc;
@@ -176,7 +185,9 @@ impl<V: Value> RangeRows<V> {
 
         // Two days of one weekday have the same value if no cut is after the earlier and not after
         // the later.
-        ensures weekly { (m n : ℕ) → m ≤ n → n < 36525 → weekday m ≡ weekday n → ((cut : ℕ) → Contains result.now cut → m < cut → n < cut) → slice_get self.now.days m ≡ slice_get self.now.days n }
+        ensures weekly { (m n : ℕ) → m ≤ n → n < 36525 → weekday m ≡ weekday n
+            → ((cut : ℕ) → Contains result.now cut → m < cut → n < cut)
+            → slice_get self.now.days m ≡ slice_get self.now.days n }
     {
         &self.cuts
     }

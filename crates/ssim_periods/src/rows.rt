@@ -93,7 +93,8 @@ pub(crate) fn row_at<'a, V: Value>(
 pub(crate) fn range_end(cuts: &[u32], place: usize, end: u32) -> u32
     ensures before_end { result ≤ end }
     ensures before_cut { place < length cuts.now → result ≤ slice_index cuts.now place }
-    ensures at_cut { result < end → (place < length cuts.now) × (result ≡ slice_index cuts.now place) }
+    ensures at_cut { result < end → (place < length cuts.now)
+        × (result ≡ slice_index cuts.now place) }
 {
     if place < cuts.len() && cuts[place] < end {
         cuts[place]
@@ -116,7 +117,8 @@ pub(crate) fn has_days(mask: &[bool; 7], weekday: u32, from: u32, to: u32) -> bo
     requires weekday { weekday < 7 }
     requires from { from ≤ 36525 }
     requires to { to ≤ 36525 }
-    ensures { result ≡ (slice_index_or mask.now weekday false && nat_lt (below weekday from) (below weekday to)) }
+    ensures { result ≡ (slice_index_or mask.now weekday false
+        && nat_lt (below weekday from) (below weekday to)) }
 {
     if mask[weekday as usize] {
         days_before(weekday, from) < days_before(weekday, to)
@@ -165,7 +167,8 @@ pub(crate) fn row_for_cut<V: Value>(
     requires rising { IsStrictlyIncreasing cuts.now }
     requires row_count { length rows.now ≡ length cuts.now }
     ensures missing { IfOk result (λ row. is_none row ≡ has_cut cuts.now day) }
-    ensures row { IfOk result (λ row. IfSome row (λ r. r ≡ row_on before.now cuts.now rows.now day)) }
+    ensures row { IfOk result (λ row.
+        IfSome row (λ r. r ≡ row_on before.now cuts.now rows.now day)) }
 {
     if has_cut(cuts, day) {
         return Ok(None);

@@ -75,11 +75,12 @@ impl WeekdayBits {
         (self.bits >> weekday) & 1 == 1
     }
 
-    /// Bits of the seven days from a day on: bit i is set if the weekday of the i-th day after it is
-    /// in the set.
+    /// Bits of the seven days from a day on: bit i is set if the weekday of the i-th day after it
+    /// is in the set.
     #[inline(always)]
     pub(crate) fn from_day(self, day: u32) -> u32
-        ensures bits { (i : ℕ) → i < 7 → nat_eq (bit_at result i) 1 ≡ slice_index_or self.days (slot (day + i)) false }
+        ensures bits { (i : ℕ) → i < 7
+            → nat_eq (bit_at result i) 1 ≡ slice_index_or self.days (slot (day + i)) false }
     {
         ((self.bits as u32) * 129) >> weekday_of(day)
     }
@@ -95,7 +96,8 @@ impl WeekdayBits {
     /// The weekdays of either of two sets.
     #[inline(always)]
     pub(crate) fn either(self, other: WeekdayBits) -> WeekdayBits
-        ensures { (w : ℕ) → slice_index_or result.days w false ≡ (slice_index_or self.days w false || slice_index_or other.days w false) }
+        ensures { (w : ℕ) → slice_index_or result.days w false
+            ≡ (slice_index_or self.days w false || slice_index_or other.days w false) }
     {
         WeekdayBits {
             bits: self.bits | other.bits,
@@ -105,7 +107,8 @@ impl WeekdayBits {
     /// The weekdays of exactly one of two sets.
     #[inline(always)]
     pub(crate) fn unlike(self, other: WeekdayBits) -> WeekdayBits
-        ensures { (w : ℕ) → slice_index_or result.days w false ≡ differ (slice_index_or self.days w false) (slice_index_or other.days w false) }
+        ensures { (w : ℕ) → slice_index_or result.days w false
+            ≡ differ (slice_index_or self.days w false) (slice_index_or other.days w false) }
     {
         WeekdayBits {
             bits: self.bits ^ other.bits,

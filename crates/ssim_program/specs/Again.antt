@@ -32,5 +32,6 @@ PrintsItself _ before after = ⊤
 -- From a file of bytes that are read as themselves `tidy` makes the same bytes.
 abbrev pub TidiesOnce : Type 0
 TidiesOnce = (all : Files) (name : Text) (bytes again : List ℕ) (kept : Kept) → ReadsAsItself bytes
-    → file_of all name ≡ Some bytes → length bytes ≤ file_limit → Makes (Tidy name) (Some all) again kept
+    → file_of all name ≡ Some bytes → length bytes ≤ file_limit
+    → Makes (Tidy name) (Some all) again kept
     → again ≡ bytes

@@ -31,8 +31,8 @@ pub record ShowsBoard (desk : DeskSeen) (station date : Text) (printed : List �
   pub printed_is : printed ≡ board_lines carrier.airline day
       (board_of (board_at carrier.time_mode station day) (days_of_desk desk))
 
--- Why no board is shown. Memory ran out. Or the first word is no station (3). Or the first word is a
--- station, and the second no date (1).
+-- Why no board is shown. Memory ran out. Or the first word is no station (3). Or the first word is
+-- a station, and the second no date (1).
 abbrev pub RefusesBoard : Text → Text → Refusal → Type 0
 RefusesBoard station date refusal =
     (refusal ≡ refused.Memory)

@@ -38,7 +38,8 @@ use Rattle.ssim_program.specs.declared.refusal.Refusal.TheVariants as refused
 
 -- the file of this name is the desk file of this desk
 abbrev pub ReadsDesk : Option Files → Text → DeskSeen → Type 0
-ReadsDesk files name desk = (bytes : List ℕ) × HasFile files name bytes × IsDeskFile bytes desk.base desk.held
+ReadsDesk files name desk =
+    (bytes : List ℕ) × HasFile files name bytes × IsDeskFile bytes desk.base desk.held
 
 -- the bytes are no desk file
 abbrev pub IsNoDeskFile : List ℕ → Type 0
@@ -52,11 +53,12 @@ RefusesDeskFile files name refusal =
     ⊎ ((bytes : List ℕ) × HasFile files name bytes × IsNoDeskFile bytes × (offset : ℕ)
     × (refusal ≡ refused.Desk (desk_fault.File offset)))
 
--- Why a file is not kept, by the count of the store's failures: memory ran out; or the store counted
--- one failure more, and the refusal is 91 with the name.
+-- Why a file is not kept, by the count of the store's failures: memory ran out; or the store
+-- counted one failure more, and the refusal is 91 with the name.
 abbrev pub RefusesKeep : ℕ → ℕ → Text → Refusal → Type 0
 RefusesKeep old new name refusal =
-    ((refusal ≡ refused.Memory) × (new ≡ old)) ⊎ (IsOfFile name refusal × (new ≡ (old + 1) % 2 ^ 64))
+    ((refusal ≡ refused.Memory) × (new ≡ old))
+    ⊎ (IsOfFile name refusal × (new ≡ (old + 1) % 2 ^ 64))
 
 -- the line with the number of messages that a desk holds
 abbrev pub held_line : ℕ → List ℕ
@@ -109,7 +111,8 @@ abbrev pub TakesFirst : Option Files → List Text → ℕ → DeskSeen → Desk
 TakesFirst files names n before after printed = TakesTexts files (take n names) before after printed
 
 -- text n + 1 is refused, after the first n were taken and their lines printed
-pub record RefusesTexts (files : Option Files) (names : List Text) (before : DeskSeen) (printed : List ℕ)
+pub record RefusesTexts (files : Option Files) (names : List Text) (before : DeskSeen)
+    (printed : List ℕ)
     (refusal : Refusal) : Type 0 where
   pub n : ℕ
   pub between : DeskSeen
@@ -127,13 +130,15 @@ pub record IsMergeOf (mine theirs after : DeskSeen) : Type 0 where
 
 -- why two desks are not merged
 abbrev pub RefusesMerge : DeskSeen → DeskSeen → Refusal → Type 0
-RefusesMerge mine theirs refusal = (fault : DeskFault) × RefusesDesk (state_of mine) (state_of theirs) fault
+RefusesMerge mine theirs refusal =
+    (fault : DeskFault) × RefusesDesk (state_of mine) (state_of theirs) fault
     × (refusal ≡ refusal_of_desk fault)
 
 -- ---- what a desk shows
 
 -- one word names a flight of the desk's airline, the other a date
-pub record NamesDate (desk : DeskSeen) (flight date : Text) (designator : Designator) (day : ℕ) : Type 0 where
+pub record NamesDate (desk : DeskSeen) (flight date : Text) (designator : Designator)
+    (day : ℕ) : Type 0 where
   pub spelled : SpellsDesignator designator flight
   pub dated : day_in date ≡ Some day
   pub airline : designator.airline ≡ airline_of desk.base.records
@@ -146,13 +151,14 @@ pub record Shows (desk : DeskSeen) (flight date : Text) (printed : List ℕ) : T
   pub named : NamesDate desk flight date designator day
   pub printed_is : printed ≡ shown_flight designator day (timetable_of desk designator.flight day)
 
--- the lines have what the data set has for the flight on the date that the words name, and what each
--- sub-message of the desk did with it
+-- the lines have what the data set has for the flight on the date that the words name, and what
+-- each sub-message of the desk did with it
 pub record ShowsHistory (desk : DeskSeen) (flight date : Text) (printed : List ℕ) : Type 0 where
   pub designator : Designator
   pub day : ℕ
   pub named : NamesDate desk flight date designator day
-  pub printed_is : printed ≡ history_lines designator day (itinerary desk.base.records designator.flight day) (steps_on desk designator.flight day)
+  pub printed_is : printed ≡ history_lines designator day
+      (itinerary desk.base.records designator.flight day) (steps_on desk designator.flight day)
 
 -- Why no flight is shown. Memory ran out. Or the first word names no flight (6). Or the first word
 -- names a flight, and the second no date (1). Or both are valid, and the flight is another

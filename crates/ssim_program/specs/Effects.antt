@@ -51,11 +51,13 @@ Makes (Take file out names) files printed kept =
     (before : DeskSeen) × (after : DeskSeen) × ReadsDesk files file before
     × TakesTexts files names before after printed × AreRising after.held
     × (kept ≡ (out, desk_file after.base after.held) ∷ [])
-Makes (Receive refused file out names) files printed kept = Receives files refused file out names printed kept
+Makes (Receive refused file out names) files printed kept =
+    Receives files refused file out names printed kept
 Makes (Merge file other out) files printed kept =
     (mine : DeskSeen) × (theirs : DeskSeen) × (after : DeskSeen) × ReadsDesk files file mine
     × ReadsDesk files other theirs × IsMergeOf mine theirs after × AreRising after.held
-    × (printed ≡ held_line (length after.held)) × (kept ≡ (out, desk_file after.base after.held) ∷ [])
+    × (printed ≡ held_line (length after.held))
+    × (kept ≡ (out, desk_file after.base after.held) ∷ [])
 Makes (Withdraw file out references) files printed kept =
     (before : DeskSeen) × (after : DeskSeen) × ReadsDesk files file before
     × WithdrawsFrom references before after printed × AreRising after.held
@@ -65,21 +67,26 @@ Makes (Texts file flights) files printed kept =
 Makes (Show file flight date) files printed kept =
     (desk : DeskSeen) × ReadsDesk files file desk × Shows desk flight date printed × (kept ≡ [])
 Makes (History file flight date) files printed kept =
-    (desk : DeskSeen) × ReadsDesk files file desk × ShowsHistory desk flight date printed × (kept ≡ [])
+    (desk : DeskSeen) × ReadsDesk files file desk × ShowsHistory desk flight date printed
+    × (kept ≡ [])
 Makes (Board file station date) files printed kept =
     (desk : DeskSeen) × ReadsTimetable files file desk × ShowsBoard desk station date printed
     × (kept ≡ [])
 Makes (Listing form file flights) files printed kept =
-    (desk : DeskSeen) × ReadsTimetable files file desk × Lists desk form flights printed × (kept ≡ [])
+    (desk : DeskSeen) × ReadsTimetable files file desk × Lists desk form flights printed
+    × (kept ≡ [])
 Makes (Calendar file flight) files printed kept =
-    (desk : DeskSeen) × ReadsTimetable files file desk × ShowsCalendar desk flight printed × (kept ≡ [])
+    (desk : DeskSeen) × ReadsTimetable files file desk × ShowsCalendar desk flight printed
+    × (kept ≡ [])
 Makes (Page file) files printed kept =
     (desk : DeskSeen) × ReadsTimetable files file desk × ShowsPage desk printed × (kept ≡ [])
 Makes (Diff from to) files printed kept =
-    (old : DeskSeen) × (new : DeskSeen) × ReadsTimetable files from old × ReadsTimetable files to new
+    (old : DeskSeen) × (new : DeskSeen) × ReadsTimetable files from old
+    × ReadsTimetable files to new
     × PrintsDifferences old new printed × (kept ≡ [])
 Makes (Publish from to reference out) files printed kept =
-    (mail : List ℕ) × PublishesFiles files from to reference printed mail × (kept ≡ (out, mail) ∷ [])
+    (mail : List ℕ) × PublishesFiles files from to reference printed mail
+    × (kept ≡ (out, mail) ∷ [])
 Makes (Findings file) files printed kept =
     (desk : DeskSeen) × ReadsDesk files file desk × (printed ≡ findings_lines (finding_lines desk))
     × (kept ≡ [])

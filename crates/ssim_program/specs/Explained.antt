@@ -96,7 +96,8 @@ IsInvalid kind.Message bytes refusal =
     (fault : TextFault) × (refusal ≡ refused.Desk (desk_fault.Text fault)) × NoMessage bytes fault
     × IsRefusal bytes fault
 IsInvalid kind.Stations bytes refusal =
-    (fault : StationFault) × (refusal ≡ refusal_of_stations fault) × NamesLine (lines_left bytes) fault
+    (fault : StationFault) × (refusal ≡ refusal_of_stations fault)
+    × NamesLine (lines_left bytes) fault
 
 -- the bytes are a valid file of this kind
 abbrev pub IsValid : FileKind → List ℕ → Type 0
@@ -115,7 +116,8 @@ ExplainsBytes bytes printed =
 
 -- the lines explain the bytes of a named file
 abbrev pub ExplainsFile : Option Files → Text → List ℕ → Type 0
-ExplainsFile files name printed = (bytes : List ℕ) × HasFile files name bytes × ExplainsBytes bytes printed
+ExplainsFile files name printed =
+    (bytes : List ℕ) × HasFile files name bytes × ExplainsBytes bytes printed
 
 -- the lines explain a fault's number or, if the word is no number, a file
 abbrev pub Explains : Option Files → Text → List ℕ → Type 0

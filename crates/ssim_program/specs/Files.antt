@@ -17,20 +17,24 @@ file_of all name = option_map (λ f. f.1) (find (λ f. bytes_eq f.0 name) all)
 abbrev pub LoadsFile : {A : Type 0} → Files → List ℕ → ℕ → Result (Vec ℕ A) StoreFault → Type 0
 LoadsFile all name limit (Ok v) = file_of all name ≡ Some v.items
 LoadsFile all name limit (Err fault.Memory) = ⊤
-LoadsFile all name limit (Err fault.Fault) = IfSome (file_of all name) (λ bytes. limit < length bytes)
+LoadsFile all name limit (Err fault.Fault) =
+    IfSome (file_of all name) (λ bytes. limit < length bytes)
 
 -- An opened file has exactly these bytes to give, if the contract can see the files: those of the
 -- file of this name.
 abbrev pub IsOpened : Option Files → List ℕ → Option (List ℕ) → Type 0
 IsOpened None name left = ⊤
-IsOpened (Some all) name left = (bytes : List ℕ) × (file_of all name ≡ Some bytes) × (left ≡ Some bytes)
+IsOpened (Some all) name left =
+    (bytes : List ℕ) × (file_of all name ≡ Some bytes) × (left ≡ Some bytes)
 
 -- the file of this name is opened, or there is none; `left` has the bytes that a file has to give
-abbrev pub OpensFile : {F : Type 0} → (F → Option (List ℕ)) → Option Files → List ℕ → Result F StoreFault
+abbrev pub OpensFile : {F : Type 0} → (F → Option (List ℕ)) → Option Files → List ℕ
+    → Result F StoreFault
     → Type 0
 OpensFile left files name (Ok file) = IsOpened files name (left file)
 OpensFile left files name (Err fault.Memory) = ⊤
-OpensFile left files name (Err fault.Fault) = IfSome files (λ all. IfSome (file_of all name) (λ bytes. ⊥))
+OpensFile left files name (Err fault.Fault) =
+    IfSome files (λ all. IfSome (file_of all name) (λ bytes. ⊥))
 
 -- a file that is kept comes first; after a fault the files are as they were
 abbrev pub KeepsFile : Option Files → Option Files → List ℕ → List ℕ → Result ⊤ StoreFault → Type 0

@@ -8,7 +8,8 @@ use Rattle.ssim_program.specs.declared.refusal.Refusal.TheVariants as refused
 
 -- help was printed: `out` has taken a text, and was flushed after it; and `err` is as it was
 abbrev pub PrintsHelp : Paper → Paper → Paper → Paper → Type 0
-PrintsHelp out out' err err' = ((text : List ℕ) × Grows text out out') × (out'.flushed ≡ true) × (err' ≡ err)
+PrintsHelp out out' err err' =
+    ((text : List ℕ) × Grows text out out') × (out'.flushed ≡ true) × (err' ≡ err)
 
 -- Help was not printed. Either memory ran out (90), and `out` is as it was; or a call of `out`
 -- failed (52), and it took a prefix of a text. `err` has taken the line of that refusal.

@@ -10,8 +10,8 @@ use Rattle.ssim_command_line.specs.declared.command_line.ListForm.{ListForm}
 use Rattle.ssim_program.specs.Messages.{NameFlights}
 use Rattle.ssim_program.specs.print.Listing.{printed_list}
 
--- The flights with the pieces of their dates, by number and then by suffix: all that fly on some date
--- if none is named, or else those that are named, each once.
+-- The flights with the pieces of their dates, by number and then by suffix: all that fly on some
+-- date if none is named, or else those that are named, each once.
 abbrev pub chosen : DeskSeen → List Designator → List Divided
 chosen desk [] = divided_flights (days_of_desk desk)
 chosen desk (flight ∷ later) =

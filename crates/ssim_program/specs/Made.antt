@@ -80,7 +80,8 @@ file_limit = 268435456
 -- the bytes are within the limit, and the file of this name has them, if the contract can see the
 -- files
 abbrev pub HasFile : Option Files → Text → List ℕ → Type 0
-HasFile files name bytes = (length bytes ≤ file_limit) × IfSome files (λ all. file_of all name ≡ Some bytes)
+HasFile files name bytes =
+    (length bytes ≤ file_limit) × IfSome files (λ all. file_of all name ≡ Some bytes)
 
 -- The data set in the file of this name is within the limit, and is read as this. If the contract
 -- cannot see the files, some data set is.
@@ -103,11 +104,13 @@ FindsProblems files name problems =
 
 -- there is no file of this name within the limit, if the contract can see the files
 abbrev pub IsMissing : Option Files → Text → Type 0
-IsMissing files name = IfSome files (λ all. IfSome (file_of all name) (λ bytes. file_limit < length bytes))
+IsMissing files name =
+    IfSome files (λ all. IfSome (file_of all name) (λ bytes. file_limit < length bytes))
 
 -- why a file is not loaded: memory ran out, or there is no such file within the limit
 abbrev pub RefusesLoad : Option Files → Text → Refusal → Type 0
-RefusesLoad files name refusal = (refusal ≡ refused.Memory) ⊎ (IsOfFile name refusal × IsMissing files name)
+RefusesLoad files name refusal =
+    (refusal ≡ refused.Memory) ⊎ (IsOfFile name refusal × IsMissing files name)
 
 -- why no data set is read from a file: the file is not loaded, or the data set is refused
 abbrev pub RefusesFile : Option Files → Text → Refusal → Type 0
@@ -131,8 +134,10 @@ abbrev pub RefusesBase : Option Files → Text → Text → Refusal → Type 0
 RefusesBase files dataset stations refusal =
     RefusesLoad files dataset refusal
     ⊎ (((bytes : List ℕ) × HasFile files dataset bytes) × RefusesLoad files stations refusal)
-    ⊎ (((bytes : List ℕ) × HasFile files dataset bytes) × (table : List ℕ) × HasFile files stations table
-    × (fault : StationFault) × (refusal ≡ refusal_of_stations fault) × NamesLine (lines_left table) fault)
+    ⊎ (((bytes : List ℕ) × HasFile files dataset bytes) × (table : List ℕ)
+    × HasFile files stations table
+    × (fault : StationFault) × (refusal ≡ refusal_of_stations fault)
+    × NamesLine (lines_left table) fault)
     ⊎ (((rows : List Row) × ReadsTable files stations rows)
     × (fault : BaseFault) × (refusal ≡ refusal_of_base fault) × IsOfBytes fault
     × ReadsFile files dataset (Err fault))

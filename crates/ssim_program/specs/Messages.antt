@@ -27,7 +27,8 @@ abbrev pub IsOf : List ℕ → Designator → Type 0
 IsOf airline flight = flight.airline ≡ airline
 
 -- the words name these flights, all of the airline
-pub record NameFlights (airline : List ℕ) (words : List Text) (flights : List Designator) : Type 0 where
+pub record NameFlights (airline : List ℕ) (words : List Text)
+    (flights : List Designator) : Type 0 where
   pub spelled : SpellEach words flights
   pub of_airline : All (IsOf airline) flights
 
@@ -39,7 +40,8 @@ HasNoFlight words = (n : ℕ) × (word : Text) × (slice_get words n ≡ Some wo
 -- one of the flights is another airline's
 abbrev pub HasOther : List ℕ → List Designator → Type 0
 HasOther airline flights =
-    (n : ℕ) × (flight : Designator) × (slice_get flights n ≡ Some flight) × (flight.airline ≢ airline)
+    (n : ℕ) × (flight : Designator) × (slice_get flights n ≡ Some flight)
+    × (flight.airline ≢ airline)
 
 -- Why no flights are named. Memory ran out. Or one of the words is no designator (6). Or each is
 -- one, and one of the flights is another airline's (41, sub-message 0).
@@ -54,7 +56,8 @@ RefusesFlights airline words refusal =
 
 -- whether a sub-message of the message names one of the flights
 abbrev pub names_one : List Designator → Entry → Bool
-names_one flights e = list_any (λ sub. list_any (λ d. same_flight sub.flight d.flight) flights) e.dates
+names_one flights e =
+    list_any (λ sub. list_any (λ d. same_flight sub.flight d.flight) flights) e.dates
 
 -- whether no flight is named, or the message names one of them
 abbrev pub is_chosen : List Designator → Entry → Bool

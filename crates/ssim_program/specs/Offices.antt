@@ -31,17 +31,17 @@ IsHalfMade line old new =
     × Makes line old printed ((name, bytes) ∷ later) × (new ≡ with_kept ((name, bytes) ∷ []) old)
 
 -- The command has made it, or the files are as they were, or only the first of its files was kept.
--- So a call of the program on the words of a command is an event of a history: `Done` (`Received` for
--- `receive`, and `Came` of its messages for `publish`), or `Refused`, or `Came` of that file.
+-- So a call of the program on the words of a command is an event of a history: `Done` (`Received`
+-- for `receive`, and `Came` of its messages for `publish`), or `Refused`, or `Came` of that file.
 abbrev pub Did : Line → Option Files → Option Files → Type 0
 Did line old new = IsMade line old new ⊎ (new ≡ old) ⊎ IsHalfMade line old new
 
 -- ---- histories
 
--- What happens to named files: a command is done, and if it is `receive`, what became of each text; a
--- command is refused, and they stay as they were; a file is copied under another name; a file comes
--- from elsewhere, as a telegram does. The messages that `publish` keeps are such a file: it makes no
--- desk.
+-- What happens to named files: a command is done, and if it is `receive`, what became of each text;
+-- a command is refused, and they stay as they were; a file is copied under another name; a file
+-- comes from elsewhere, as a telegram does. The messages that `publish` keeps are such a file: it
+-- makes no desk.
 pub data Event : Type 0 where
   Done : Line → Event
   Received : Option Text → Text → Text → List Text → List Receipt → Event
@@ -59,8 +59,8 @@ abbrev pub files_of : History → Files
 files_of (Began files) = files
 files_of (Then history event files) = files
 
--- `receive` has made what it makes of the old files, with these receipts, and the new files are these
--- with the files that it keeps
+-- `receive` has made what it makes of the old files, with these receipts, and the new files are
+-- these with the files that it keeps
 pub record IsReceived (refused : Option Text) (desk out : Text) (names : List Text)
     (receipts : List Receipt) (old new : Files) : Type 0 where
   pub printed : List ℕ
@@ -69,8 +69,9 @@ pub record IsReceived (refused : Option Text) (desk out : Text) (names : List Te
   pub receipts_are : receives.receipts ≡ receipts
   pub files : Some new ≡ with_kept kept (Some old)
 
--- The event leaves these files. No `receive` and no `publish` is an event `Done`: that of a `receive` is
--- `Received`, which has the receipts too, and that of a `publish` is `Came`, of the messages' file.
+-- The event leaves these files. No `receive` and no `publish` is an event `Done`: that of a
+-- `receive` is `Received`, which has the receipts too, and that of a `publish` is `Came`, of the
+-- messages' file.
 abbrev pub Leaves : Event → Files → Files → Type 0
 Leaves (Done (Receive refused desk out names)) old new = ⊥
 Leaves (Done (Publish from to reference out)) old new = ⊥
@@ -90,9 +91,9 @@ Happened (Then history event files) = Happened history × Leaves event (files_of
 -- ---- where the file of a name comes from
 
 -- The file of a name after an event: it is the file of some name before; `start` made it of a data
--- set and a station table; `take` of a desk file and texts; `receive` of a desk file and those texts
--- of mailboxes that have such receipts; `merge` of two desk files; `withdraw` of a desk file and
--- references; or it came from elsewhere.
+-- set and a station table; `take` of a desk file and texts; `receive` of a desk file and those
+-- texts of mailboxes that have such receipts; `merge` of two desk files; `withdraw` of a desk file
+-- and references; or it came from elsewhere.
 pub data Origin : Type 0 where
   Was : Text → Origin
   Started : Text → Text → Origin
@@ -102,18 +103,21 @@ pub data Origin : Type 0 where
   Withdrew : Text → List Text → Origin
   Given : List ℕ → Origin
 
--- Where the file of this name comes from, if `receive` did not keep its desk there. Its refused texts
--- come from elsewhere, as all texts do.
+-- Where the file of this name comes from, if `receive` did not keep its desk there. Its refused
+-- texts come from elsewhere, as all texts do.
 abbrev pub origin_of_refused : Option Text → List ℕ → Text → Origin
 origin_of_refused None texts name = Was name
-origin_of_refused (Some refused) texts name = if bytes_eq refused name then Given texts else Was name
+origin_of_refused (Some refused) texts name =
+    if bytes_eq refused name then Given texts else Was name
 
 -- where the file of this name comes from
 abbrev pub origin_of : Event → Text → Origin
 origin_of (Done (Start dataset stations out)) name =
     if bytes_eq out name then Started dataset stations else Was name
-origin_of (Done (Take desk out texts)) name = if bytes_eq out name then Took desk texts else Was name
-origin_of (Done (Merge mine theirs out)) name = if bytes_eq out name then Merged mine theirs else Was name
+origin_of (Done (Take desk out texts)) name =
+    if bytes_eq out name then Took desk texts else Was name
+origin_of (Done (Merge mine theirs out)) name =
+    if bytes_eq out name then Merged mine theirs else Was name
 origin_of (Done (Withdraw desk out references)) name =
     if bytes_eq out name then Withdrew desk references else Was name
 origin_of (Received refused desk out names receipts) name = if bytes_eq out name
@@ -127,7 +131,8 @@ origin_of event name = Was name
 -- the bytes, within the limit, are the desk file of a desk that holds the message
 abbrev pub IsIn : List ℕ → Reference → MessageValue → Type 0
 IsIn bytes reference message =
-    (base : BaseSeen) × (held : List Entry) × (length bytes ≤ file_limit) × IsDeskFile bytes base held
+    (base : BaseSeen) × (held : List Entry) × (length bytes ≤ file_limit)
+    × IsDeskFile bytes base held
     × Holds (record { base = base; held = map_of held }) reference message
 
 -- a text in one of the files of these names says the message over the base
@@ -140,11 +145,14 @@ IsSaid files base (name ∷ names) reference message =
 -- one of the texts says the message to the desk in the file of this name
 abbrev pub IsSaidTo : Files → Text → List Text → Reference → MessageValue → Type 0
 IsSaidTo files name texts reference message =
-    (desk : DeskSeen) × ReadsDesk (Some files) name desk × IsSaid files desk.base texts reference message
+    (desk : DeskSeen) × ReadsDesk (Some files) name desk
+    × IsSaid files desk.base texts reference message
 
 -- one of the texts that have such receipts says the message to the desk in the file of this name
-abbrev pub IsAcceptedBy : Files → Text → List Text → List Receipt → Reference → MessageValue → Type 0
-IsAcceptedBy files name names receipts reference message = (desk : DeskSeen) × ReadsDesk (Some files) name desk
+abbrev pub IsAcceptedBy : Files → Text → List Text → List Receipt → Reference → MessageValue
+    → Type 0
+IsAcceptedBy files name names receipts reference message =
+    (desk : DeskSeen) × ReadsDesk (Some files) name desk
     × IsAccepted desk.base (texts_received files names) receipts reference message
 
 -- which messages, each under its reference, were brought to the files of which names
@@ -171,8 +179,8 @@ BroughtBy (Given bytes) files before reference message = IsIn bytes reference me
 
 -- The message was brought to the file of this name: by a text that a `take` took or a `receive`
 -- accepted, by a desk file to which it had been brought, or in a desk file that came from elsewhere
--- or was there at the beginning. It was not withdrawn after this; a message that was withdrawn can be
--- brought again, also by a merge with a desk from which it was not withdrawn.
+-- or was there at the beginning. It was not withdrawn after this; a message that was withdrawn can
+-- be brought again, also by a merge with a desk from which it was not withdrawn.
 abbrev pub Brought : History → Bringing
 Brought (Began files) name reference message =
     (bytes : List ℕ) × (file_of files name ≡ Some bytes) × IsIn bytes reference message
@@ -239,5 +247,6 @@ abbrev pub PrintsTheSame : (Text → Line) → Type 0
 PrintsTheSame command =
     (files others : Files) (name another : Text) (printed again : List ℕ) (kept none : Kept)
     → IsSameFile files name others another
-    → Makes (command name) (Some files) printed kept → Makes (command another) (Some others) again none
+    → Makes (command name) (Some files) printed kept
+    → Makes (command another) (Some others) again none
     → printed ≡ again

@@ -40,7 +40,8 @@ abbrev pub Tries : Text → DeskSeen → MailText → Receipt → DeskSeen → T
 Tries file before text (Accepted name n answer reference) after =
     (name ≡ file) × (n ≡ text.line) × IsTaken before text.bytes answer reference after
 Tries file before text (Refused name refused fault) after =
-    (name ≡ file) × (refused ≡ text) × RefusesText (state_of before) text.bytes fault × (after ≡ before)
+    (name ≡ file) × (refused ≡ text) × RefusesText (state_of before) text.bytes fault
+    × (after ≡ before)
 Tries file before text (Unread name) after = ⊥
 
 -- the texts of a file are tried one after another
@@ -55,7 +56,8 @@ TriesEach file before (text ∷ texts) receipts after =
 -- limit
 abbrev pub ReceivesFile : Option Files → Text → DeskSeen → List Receipt → DeskSeen → Type 0
 ReceivesFile files name before receipts after =
-    ((bytes : List ℕ) × HasFile files name bytes × TriesEach name before (texts_in bytes) receipts after)
+    ((bytes : List ℕ) × HasFile files name bytes
+    × TriesEach name before (texts_in bytes) receipts after)
     ⊎ (IsMissing files name × (receipts ≡ Unread name ∷ []) × (after ≡ before))
 
 -- the files of these names are received one after another

@@ -34,8 +34,8 @@ ReadsAsDesk files name desk =
     (records : List Record) × (notes : List Note) × ReadsFile files name (Ok (records, notes))
     × (desk.base ≡ base_with records []) × (desk.held ≡ [])
 
--- The file of this name has the timetable of this desk: it begins as a desk file, and is that of the
--- desk; or it is a data set, and the desk is that of the data set.
+-- The file of this name has the timetable of this desk: it begins as a desk file, and is that of
+-- the desk; or it is a data set, and the desk is that of the data set.
 abbrev pub ReadsTimetable : Option Files → Text → DeskSeen → Type 0
 ReadsTimetable files name desk =
     (BeginsAs kind.Desk files name × ReadsDesk files name desk)

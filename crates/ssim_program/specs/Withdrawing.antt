@@ -32,7 +32,8 @@ Withdraws (word ∷ words) before after printed =
     × (printed ≡ withdrawn_line (contains_key before reference) reference ++ later)
 
 -- the desk holds what it held without the messages that are withdrawn, and their lines are printed
-pub record WithdrawsFrom (words : List Text) (before after : DeskSeen) (printed : List ℕ) : Type 0 where
+pub record WithdrawsFrom (words : List Text) (before after : DeskSeen)
+    (printed : List ℕ) : Type 0 where
   pub withdraws : Withdraws words (map_of before.held) (map_of after.held) printed
   pub base : after.base ≡ before.base
 

@@ -49,7 +49,8 @@ IsKeptBefore line kept = kept ≡ []
 
 -- a command has made all that it makes, and the store has kept the first of its files, but not the
 -- next one
-pub record IsNotKept (line : Line) (files : Option Files) (failures failures' : ℕ) (printed : List ℕ)
+pub record IsNotKept (line : Line) (files : Option Files) (failures failures' : ℕ)
+    (printed : List ℕ)
     (kept : Kept) (refusal : Refusal) : Type 0 where
   pub made : List ℕ
   pub name : Text
@@ -90,7 +91,8 @@ pub record IsCutOff (line : Line) (before after : World) (refusal : Refusal) : T
 
 -- a command is refused: it stops for a reason, or `out` failed
 abbrev pub IsRefused : Line → World → World → Refusal → Type 0
-IsRefused line before after refusal = IsStopped line before after refusal ⊎ IsCutOff line before after refusal
+IsRefused line before after refusal =
+    IsStopped line before after refusal ⊎ IsCutOff line before after refusal
 
 -- a command was refused, and `err` has taken the line of the refusal
 abbrev pub EndsWithLine : Line → World → World → Paper → Paper → Type 0
@@ -100,4 +102,5 @@ EndsWithLine line before after err err' =
 -- What a writer of std holds, as a printer, with the number of its calls that failed. It was
 -- flushed last, and nothing is said of the writer.
 abbrev pub paper : Option (List ℕ) → ℕ → Paper
-paper contents failures = record { taken = contents; failures = failures; flushed = true; device = 0 }
+paper contents failures =
+    record { taken = contents; failures = failures; flushed = true; device = 0 }

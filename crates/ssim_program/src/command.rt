@@ -1,5 +1,5 @@
-//! The commands, each in a module of its own: what it prints, and the files that it keeps. `explain`
-//! and `rehearse` have their own folders.
+//! The commands, each in a module of its own: what it prints, and the files that it keeps.
+//! `explain` and `rehearse` have their own folders.
 
 pub(crate) mod board;
 pub(crate) mod calendar;

@@ -18,7 +18,8 @@ pub trait Content {
     /// Puts the bytes into the sink. Fails only if the sink fails, which then has a prefix of them.
     fn put<W: Sink>(&self, out: &mut W) -> Result<(), WriteFault>
         ensures ok { OnOk result (Appends (W.taken out.old) (W.taken out.new) (bytes self.now)) }
-        ensures err { OnErr result (TakesPrefix (bytes self.now) (W.taken out.old) (W.taken out.new)) }
+        ensures err { OnErr result (TakesPrefix (bytes self.now) (W.taken out.old)
+            (W.taken out.new)) }
         ensures failures { CountsFault (W.failures out.old) (W.failures out.new) result };
 }
 

@@ -27,10 +27,10 @@ pub fn tidied_once()
     written_bases_are_read();
 }
 
-/// Two offices have the same desk file, byte for byte, if their desks began by `start` from the same
-/// data set and the same station table and the same messages were brought to both, by texts that
-/// `take` took or `receive` accepted or by `merge`, in any order and however often. Each desk file
-/// that can be read holds the messages that were brought to it, and no others. A message that
+/// Two offices have the same desk file, byte for byte, if their desks began by `start` from the
+/// same data set and the same station table and the same messages were brought to both, by texts
+/// that `take` took or `receive` accepted or by `merge`, in any order and however often. Each desk
+/// file that can be read holds the messages that were brought to it, and no others. A message that
 /// `withdraw` took out of a desk file does not count as brought to it until it is brought again.
 pub fn offices_agree()
     ensures agree { OfficesAgree }
@@ -45,10 +45,11 @@ pub fn offices_agree()
 }
 
 /// Of two equal desk files `texts`, `show`, `history`, `list`, `board`, `calendar`, `findings` and
-/// `export` print the same: the messages, each flight on each date, which message did what to it, the
-/// periods or the dates of each flight, what is on a board, its calendar, what each sub-message found,
-/// and the chapter 7 data set, byte for byte. So do `list`, `board`, `calendar` and `problems` of two
-/// equal data sets, and `withdraw` of two equal desk files: what became of each reference.
+/// `export` print the same: the messages, each flight on each date, which message did what to it,
+/// the periods or the dates of each flight, what is on a board, its calendar, what each sub-message
+/// found, and the chapter 7 data set, byte for byte. So do `list`, `board`, `calendar` and
+/// `problems` of two equal data sets, and `withdraw` of two equal desk files: what became of each
+/// reference.
 pub fn equal_files_print_the_same()
     ensures texts { (flights : List Text) → PrintsTheSame (λ file. Texts file flights) }
     ensures withdraw { (out : Text) (references : List Text)

@@ -75,8 +75,8 @@ pub fn run<S: Store, O: Write, E: Write>(
         × Keeps (E.contents err.old) (E.contents err.new) }
 
     // With some number of failed calls of each writer: a refused command printed nothing but the
-    // lines of `take` and `receive`, unless a call of `out` failed; and its line is on `err`, unless
-    // a call of `err` failed.
+    // lines of `take` and `receive`, unless a call of `out` failed; and its line is on `err`,
+    // unless a call of `err` failed.
     ensures ends { (line : Line) → Names (map (λ w. w.now) words.now) line → result ≡ 1
         → (failed : ℕ) × (err_failed : ℕ)
         × EndsWithLine line
@@ -84,8 +84,8 @@ pub fn run<S: Store, O: Write, E: Write>(
         (world (S.files store.new) (S.failures store.new) (paper (O.contents out.new) failed))
         (paper (E.contents err.old) 0) (paper (E.contents err.new) err_failed) }
 
-    // Whatever its status, a command has kept the files of what it makes, or no file changed, or only
-    // the first of them was kept.
+    // Whatever its status, a command has kept the files of what it makes, or no file changed, or
+    // only the first of them was kept.
     ensures did { (line : Line) → Names (map (λ w. w.now) words.now) line
         → Did line (S.files store.old) (S.files store.new) }
 
@@ -168,8 +168,8 @@ pub fn run_on<S: Store, O: Write, E: Write>(
         → EndsWithLine line (world (S.files store.old) (S.failures store.old) out.old)
         (world (S.files store.new) (S.failures store.new) out.new) err.old err.new }
 
-    // Whatever its status, a command has kept the files of what it makes, or no file changed, or only
-    // the first of them was kept.
+    // Whatever its status, a command has kept the files of what it makes, or no file changed, or
+    // only the first of them was kept.
     ensures did { (line : Line) → Names (map (λ w. w.now) words.now) line
         → Did line (S.files store.old) (S.files store.new) }
 

@@ -25,11 +25,13 @@ ActEach rows day (action ∷ actions) legs =
 abbrev pub ActOn : List Row → List PlannedSub → FlightNumber → ℕ → Legs → Type 0
 ActOn rows [] flight day legs = Unit {0}
 ActOn rows (sub ∷ subs) flight day legs =
-    ((same_flight sub.flight flight && holds sub.period day) ≡ true → DoesAct rows sub.action day legs)
+    ((same_flight sub.flight flight && holds sub.period day) ≡ true
+    → DoesAct rows sub.action day legs)
     × ActOn rows subs flight day
     (itinerary_after rows sub.action sub.flight sub.period flight day legs)
 
 -- The sub-messages act in the timetable, one after another, on every date that they name.
 abbrev pub ActOnTheirDates : List Row → List PlannedSub → (FlightNumber → Days) → Type 0
-ActOnTheirDates rows subs old = (flight : FlightNumber) (day : ℕ) → IsFlight flight → day < day_count
+ActOnTheirDates rows subs old =
+    (flight : FlightNumber) (day : ℕ) → IsFlight flight → day < day_count
     → ActOn rows subs flight day (on_day (old flight) day)

@@ -18,7 +18,8 @@ legs_after rows (sub ∷ subs) flight day legs =
     (itinerary_after rows sub.action sub.flight sub.period flight day legs)
 
 -- The sub-messages leave the timetable `after` of the old one: on each date of each flight.
-abbrev pub Leave : List Row → List PlannedSub → (FlightNumber → Days) → (FlightNumber → Days) → Type 0
+abbrev pub Leave : List Row → List PlannedSub → (FlightNumber → Days) → (FlightNumber → Days)
+    → Type 0
 Leave rows subs old after = (flight : FlightNumber) (day : ℕ) → IsFlight flight → day < day_count
     → on_day (after flight) day ≡ legs_after rows subs flight day (on_day (old flight) day)
 
@@ -30,9 +31,12 @@ IsPublishedOn rows day old new after =
 
 -- The timetable `after` is what messages make of the old one on the way to the new one: on each
 -- date of each flight the new itinerary if messages can reach it, and the old one if not.
-abbrev pub IsPublished : List Row → (FlightNumber → Days) → (FlightNumber → Days) → (FlightNumber → Days) → Type 0
-IsPublished rows old new after = (flight : FlightNumber) (day : ℕ) → IsFlight flight → day < day_count
-    → IsPublishedOn rows day (on_day (old flight) day) (on_day (new flight) day) (on_day (after flight) day)
+abbrev pub IsPublished : List Row → (FlightNumber → Days) → (FlightNumber → Days)
+    → (FlightNumber → Days) → Type 0
+IsPublished rows old new after =
+    (flight : FlightNumber) (day : ℕ) → IsFlight flight → day < day_count
+    → IsPublishedOn rows day (on_day (old flight) day) (on_day (new flight) day)
+    (on_day (after flight) day)
 
 -- a sub-message names at least one date of its flight, and on each date that it names the flight
 -- has another itinerary in the new timetable than in the old one

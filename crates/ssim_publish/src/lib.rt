@@ -30,8 +30,8 @@
 //! its period, and makes it; whatever is left then is said date by date. So nothing rests on how
 //! the periods are found. It is not promised that the sub-messages are the fewest.
 //!
-//! Exactly one of the periods of `unsaid_lines` holds each date that is unsaid, and no other date is
-//! in any. It is not promised which words a reason has, other than that there is one.
+//! Exactly one of the periods of `unsaid_lines` holds each date that is unsaid, and no other date
+//! is in any. It is not promised which words a reason has, other than that there is one.
 #![tactic(auto)]
 
 mod action_text;

@@ -109,7 +109,8 @@ fn push_variation(text: &mut Vec<u8>, digit: u8) -> Result<(), Memory>
 
 // Adds a passenger time, unless it is the aircraft's time.
 fn push_passenger(text: &mut Vec<u8>, time: &[u8], passenger: &[u8]) -> Result<(), Memory>
-    ensures { OnOk result (text.new.items ≡ text.old.items ++ passenger_line time.now passenger.now) }
+    ensures { OnOk result (text.new.items
+        ≡ text.old.items ++ passenger_line time.now passenger.now) }
 {
     if passenger == time {
         return Ok(());

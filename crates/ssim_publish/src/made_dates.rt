@@ -19,9 +19,11 @@ const WEEK: u16 = 7;
 /// Whether the period holds its first day, and the new itinerary is made on each day that it holds,
 /// on none of which it was there before.
 ///
-/// Between two cuts all days of one weekday have the same itineraries, so that one week is compared.
+/// Between two cuts all days of one weekday have the same itineraries, so that one week is
+/// compared.
 pub(crate) fn is_made(made: &Schedule, change: &FlightChange, period: Period) -> bool
-    ensures first { result ≡ true → (period.first < day_count) × (holds period period.first ≡ true) }
+    ensures first { result ≡ true → (period.first < day_count)
+        × (holds period period.first ≡ true) }
     ensures made { result ≡ true → (n : ℕ) → n < day_count → holds period n ≡ true
         → IsMadeOn (days_in made.now change.now.flight) change.now.old.days change.now.new.days n }
 {

@@ -1,5 +1,5 @@
-//! The legs whose times are not those of the old legs, and whether other times can make the new legs
-//! of the old ones.
+//! The legs whose times are not those of the old legs, and whether other times can make the new
+//! legs of the old ones.
 
 ghost use Rattle.std.specs.Prelude.{◌≡◌, ◌++◌, IfOk, IsTrue, OnOk};
 ghost use Rattle.std.specs.Str.{bytes_eq};

@@ -42,7 +42,8 @@ pub(crate) struct SaidPeriods<T: SaidOfDay> {
     pub periods: Vec<(Period, Mark)>,
 }
 
-/// What is said of each day of a flight, by its number. Nothing rests on which days have one number.
+/// What is said of each day of a flight, by its number. Nothing rests on which days have one
+/// number.
 #[derive(Drop)]
 struct SaidDays<T: SaidOfDay> {
     /// Different things that are said, by number.

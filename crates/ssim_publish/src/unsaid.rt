@@ -18,8 +18,8 @@ use ssim_values::{Airline, Memory, Period};
 use std::alloc::Global;
 
 /// The lines of what no messages can say: for each flight of an airline, in order, the periods of
-/// the dates on which it still differs, each with the reason. These rows of a station table give the
-/// UTC variations of new legs.
+/// the dates on which it still differs, each with the reason. These rows of a station table give
+/// the UTC variations of new legs.
 pub fn unsaid_lines(
     alloc: Global,
     airline: Airline,

@@ -17,7 +17,9 @@ beyond limit came left = (came + length left) - limit
 -- held bytes do not count.
 abbrev pub Takes : Bool → List ℕ → List (List ℕ) → List ℕ → Type 0
 Takes after_block bytes [] held = trim after_block bytes ≡ trim after_block held
-Takes after_block bytes (block ∷ blocks) held = (later : List ℕ) × (length block ≡ 200) × (trim after_block bytes ≡ block ++ later) × Takes true later blocks held
+Takes after_block bytes (block ∷ blocks) held =
+    (later : List ℕ) × (length block ≡ 200) × (trim after_block bytes ≡ block ++ later)
+    × Takes true later blocks held
 
 -- Some of the reader's bytes were fetched. Together with the bytes held before, they are the blocks
 -- counted since, followed by the bytes held now.
@@ -25,7 +27,8 @@ abbrev pub Fetches : Bool → ℕ → List ℕ → Option (List ℕ) → ℕ →
 Fetches after_block number held None number' held' left' = Unit {0}
 Fetches after_block number held (Some left) number' held' None = ⊥
 Fetches after_block number held (Some left) number' held' (Some left') =
-    (fetched : List ℕ) × (blocks : List (List ℕ)) × (left ≡ fetched ++ left') × (number' ≡ number + length blocks) × Takes after_block (held ++ fetched) blocks held'
+    (fetched : List ℕ) × (blocks : List (List ℕ)) × (left ≡ fetched ++ left')
+    × (number' ≡ number + length blocks) × Takes after_block (held ++ fetched) blocks held'
 
 -- The bytes that came are those that the reader no longer has left. Nothing is said if the reader
 -- does not report its bytes.

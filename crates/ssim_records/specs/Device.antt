@@ -19,7 +19,8 @@ CountsFailure old new (Err e) = new ≡ (old + 1) % 2 ^ 64
 -- wraps.
 abbrev pub CountsPut : ℕ → ℕ → Result ℕ DeviceFault → List ℕ → Type 0
 CountsPut old new (Err e) bytes = new ≡ (old + 1) % 2 ^ 64
-CountsPut old new (Ok n) bytes = new ≡ (if n == 0 && nat_lt 0 (length bytes) then (old + 1) % 2 ^ 64 else old)
+CountsPut old new (Ok n) bytes =
+    new ≡ (if n == 0 && nat_lt 0 (length bytes) then (old + 1) % 2 ^ 64 else old)
 
 -- a buffer: what it holds, and how often it could not grow
 pub record Buffer : Type 0 where

@@ -18,17 +18,21 @@ ahead input (Some left) = Some (input.held ++ left)
 
 -- These bytes were used. They are the first of the bytes that came next, and each byte that came is
 -- used or held.
-pub record Uses (used : List ℕ) (old : Input) (left : Option (List ℕ)) (new : Input) (left' : Option (List ℕ)) : Type 0 where
+pub record Uses (used : List ℕ) (old : Input) (left : Option (List ℕ)) (new : Input)
+    (left' : Option (List ℕ)) : Type 0 where
   pub next : Consumes (ahead old left) (ahead new left') used
   pub counted : new.came + length old.held ≡ old.came + length used + length new.held
 
 -- The reader did not fail, and the number of bytes that came went from one to the other.
-pub record Gives (left left' : Option (List ℕ)) (counted counted' failures failures' came came' : ℕ) : Type 0 where
+pub record Gives (left left' : Option (List ℕ))
+    (counted counted' failures failures' came came' : ℕ) : Type 0 where
   pub total : CameOn left left' came came'
   pub counts : CountsOn left left' counted counted' came came'
   pub no_failure : failures' ≡ failures
 
 -- The reader failed, which is counted, and the count wraps; or one byte more came than the limit.
 abbrev pub Stops : ℕ → Option (List ℕ) → Option (List ℕ) → ℕ → ℕ → ℕ → ℕ → ℕ → InputFault → Type 0
-Stops limit left left' counted counted' failures failures' came ReadFault = failures' ≡ (failures + 1) % 2 ^ 64
-Stops limit left left' counted counted' failures failures' came ReaderNeverEnds = Gives left left' counted counted' failures failures' came (limit + 1)
+Stops limit left left' counted counted' failures failures' came ReadFault =
+    failures' ≡ (failures + 1) % 2 ^ 64
+Stops limit left left' counted counted' failures failures' came ReaderNeverEnds =
+    Gives left left' counted counted' failures failures' came (limit + 1)

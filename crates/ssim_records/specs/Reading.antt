@@ -21,7 +21,8 @@ pub record Reading : Type 0 where
 -- The held bytes, followed by the bytes that the reader has left, are these blocks and this rest.
 -- No block extends past the limit.
 abbrev pub IsAhead : Reading → List ℕ → List (List ℕ) → List ℕ → Type 0
-IsAhead r left blocks rest = Frames (beyond r.limit r.came left) (nat_lt 0 r.number) (r.held ++ left) blocks rest
+IsAhead r left blocks rest =
+    Frames (beyond r.limit r.came left) (nat_lt 0 r.number) (r.held ++ left) blocks rest
 
 -- what a call returns: a record with its number, the end, or a fault
 abbrev pub Answer : Type 0
@@ -44,26 +45,37 @@ IsLast old blocks new = (others old.number blocks ≡ []) × (new.number ≡ old
 -- this is the next block that is not fill, and it has the new number
 abbrev pub IsNext : Reading → List (List ℕ) → Reading → List ℕ → List (List ℕ) → Type 0
 IsNext old blocks new block later =
-    (others old.number blocks ≡ (new.number, block) ∷ others new.number later) × (new.number + length later ≡ old.number + length blocks)
+    (others old.number blocks ≡ (new.number, block) ∷ others new.number later)
+    × (new.number + length later ≡ old.number + length blocks)
 
 -- the next block that is not fill spells no record, for the reason that the fault names
 abbrev pub IsRefused : Reading → List (List ℕ) → Reading → RecordFault → Type 0
-IsRefused old blocks new fault = (block : List ℕ) × (later : List (List ℕ)) × IsNext old blocks new block later × (fault_of new.number block ≡ Some fault)
+IsRefused old blocks new fault =
+    (block : List ℕ) × (later : List (List ℕ)) × IsNext old blocks new block later
+    × (fault_of new.number block ≡ Some fault)
 
 -- The result of reading the next record, if these blocks and this rest are ahead. A record: the
 -- next block other than fill spells it, its number is the block's, and the blocks after it satisfy
 -- `After`. The end: only fill is left. A fault: the next block spells no record, the bytes end
 -- within a record, more bytes came than the limit, or the reader failed after nothing but fill.
-abbrev pub Returns : Reading → List ℕ → List (List ℕ) → List ℕ → Reading → (List (List ℕ) → Type 0) → Answer → Type 0
-Returns old left blocks rest new After (Ok None) = IsLast old blocks new × (rest ≡ []) × (beyond old.limit old.came left ≡ 0)
+abbrev pub Returns : Reading → List ℕ → List (List ℕ) → List ℕ → Reading → (List (List ℕ) → Type 0)
+    → Answer → Type 0
+Returns old left blocks rest new After (Ok None) =
+    IsLast old blocks new × (rest ≡ []) × (beyond old.limit old.came left ≡ 0)
 Returns old left blocks rest new After (Ok (Some found)) =
-    (block : List ℕ) × (later : List (List ℕ)) × IsNext old blocks new block later × (found.0 ≡ new.number) × Spells found.1 block × After later
-Returns old left blocks rest new After (Err (Short n)) = IsLast old blocks new × (0 < length rest) × (length rest < 200) × (beyond old.limit old.came left ≡ 0)
+    (block : List ℕ) × (later : List (List ℕ)) × IsNext old blocks new block later
+    × (found.0 ≡ new.number) × Spells found.1 block × After later
+Returns old left blocks rest new After (Err (Short n)) =
+    IsLast old blocks new × (0 < length rest) × (length rest < 200)
+    × (beyond old.limit old.came left ≡ 0)
 Returns old left blocks rest new After (Err (BadType n)) = IsRefused old blocks new (BadType n)
-Returns old left blocks rest new After (Err (BadColumn n column)) = IsRefused old blocks new (BadColumn n column)
+Returns old left blocks rest new After (Err (BadColumn n column)) =
+    IsRefused old blocks new (BadColumn n column)
 Returns old left blocks rest new After (Err (ReadFault n)) =
-    (later : List (List ℕ)) × (others old.number blocks ≡ others new.number later) × (new.number + length later ≡ old.number + length blocks)
-Returns old left blocks rest new After (Err (ReaderNeverEnds n)) = IsLast old blocks new × (0 < beyond old.limit old.came left)
+    (later : List (List ℕ)) × (others old.number blocks ≡ others new.number later)
+    × (new.number + length later ≡ old.number + length blocks)
+Returns old left blocks rest new After (Err (ReaderNeverEnds n)) =
+    IsLast old blocks new × (0 < beyond old.limit old.came left)
 
 -- The result is right for whatever blocks and rest are ahead. Nothing is said if the reader does
 -- not report its bytes.
@@ -78,7 +90,8 @@ GivesNext old (Some left) new (Some left') result =
 -- Some of the reader's bytes were fetched. Together with the bytes held before, they are the
 -- records counted since, fill included, followed by the bytes held now.
 abbrev pub FetchesNext : Reading → Option (List ℕ) → Reading → Option (List ℕ) → Type 0
-FetchesNext old left new left' = Fetches (nat_lt 0 old.number) old.number old.held left new.number new.held left'
+FetchesNext old left new left' =
+    Fetches (nat_lt 0 old.number) old.number old.held left new.number new.held left'
 
 -- after a failure of the reader too few bytes are held for a record
 abbrev pub HoldsFew : List ℕ → Answer → Type 0
@@ -121,15 +134,16 @@ NeverEnds new (Err (ReaderNeverEnds n)) = (new.came ≡ new.limit + 1) × (lengt
 NeverEnds new (Err fault) = Unit {0}
 
 -- The reader's failures are counted while the rest is skipped: one more if the fault is 13, else
--- none. If the fault is 14, one byte more came than the limit. There is no other fault, and it names
--- the record after those that were counted.
+-- none. If the fault is 14, one byte more came than the limit. There is no other fault, and it
+-- names the record after those that were counted.
 abbrev pub RestFails : Reading → ℕ → ℕ → Result ⊤ RecordFault → Type 0
 RestFails r old new (Ok x) = new ≡ old
 RestFails r old new (Err (Short n)) = ⊥
 RestFails r old new (Err (BadType n)) = ⊥
 RestFails r old new (Err (BadColumn n column)) = ⊥
 RestFails r old new (Err (ReadFault n)) = (n ≡ r.number + 1) × (new ≡ (old + 1) % 2 ^ 64)
-RestFails r old new (Err (ReaderNeverEnds n)) = (n ≡ r.number + 1) × (new ≡ old) × (r.came ≡ r.limit + 1)
+RestFails r old new (Err (ReaderNeverEnds n)) =
+    (n ≡ r.number + 1) × (new ≡ old) × (r.came ≡ r.limit + 1)
 
 -- what each call returns after the end
 abbrev pub last_answer : Ending → Answer
@@ -151,19 +165,26 @@ BlockAnswer = Result (Option (ℕ × List ℕ)) RecordFault
 -- The result of reading the next block, if these blocks and this rest are ahead: the next block
 -- other than fill, with its number; the blocks after it satisfy `After`. The end and the faults are
 -- those of records, but that no block is invalid.
-abbrev pub ReturnsBlock : Reading → List ℕ → List (List ℕ) → List ℕ → Reading → (List (List ℕ) → Type 0) → BlockAnswer → Type 0
-ReturnsBlock old left blocks rest new After (Ok None) = Returns old left blocks rest new After (Ok None)
+abbrev pub ReturnsBlock : Reading → List ℕ → List (List ℕ) → List ℕ → Reading
+    → (List (List ℕ) → Type 0) → BlockAnswer → Type 0
+ReturnsBlock old left blocks rest new After (Ok None) =
+    Returns old left blocks rest new After (Ok None)
 ReturnsBlock old left blocks rest new After (Ok (Some found)) =
-    (later : List (List ℕ)) × IsNext old blocks new found.1 later × (found.0 ≡ new.number) × After later
-ReturnsBlock old left blocks rest new After (Err (Short n)) = Returns old left blocks rest new After (Err (Short n))
+    (later : List (List ℕ)) × IsNext old blocks new found.1 later × (found.0 ≡ new.number)
+    × After later
+ReturnsBlock old left blocks rest new After (Err (Short n)) =
+    Returns old left blocks rest new After (Err (Short n))
 ReturnsBlock old left blocks rest new After (Err (BadType n)) = ⊥
 ReturnsBlock old left blocks rest new After (Err (BadColumn n column)) = ⊥
-ReturnsBlock old left blocks rest new After (Err (ReadFault n)) = Returns old left blocks rest new After (Err (ReadFault n))
-ReturnsBlock old left blocks rest new After (Err (ReaderNeverEnds n)) = Returns old left blocks rest new After (Err (ReaderNeverEnds n))
+ReturnsBlock old left blocks rest new After (Err (ReadFault n)) =
+    Returns old left blocks rest new After (Err (ReadFault n))
+ReturnsBlock old left blocks rest new After (Err (ReaderNeverEnds n)) =
+    Returns old left blocks rest new After (Err (ReaderNeverEnds n))
 
 -- The result is right for whatever blocks and rest are ahead. Nothing is said if the reader does
 -- not report its bytes.
-abbrev pub GivesNextBlock : Reading → Option (List ℕ) → Reading → Option (List ℕ) → BlockAnswer → Type 0
+abbrev pub GivesNextBlock : Reading → Option (List ℕ) → Reading → Option (List ℕ) → BlockAnswer
+    → Type 0
 GivesNextBlock old None new left' result = Unit {0}
 GivesNextBlock old (Some left) new None result = ⊥
 GivesNextBlock old (Some left) new (Some left') result =
@@ -179,7 +200,8 @@ without_block (Err fault) = Err fault
 -- a returned block is counted, and its 200 bytes are within the limit
 abbrev pub CountsBlock : Reading → Reading → BlockAnswer → Type 0
 CountsBlock old new (Ok None) = Unit {0}
-CountsBlock old new (Ok (Some found)) = (old.number < new.number) × (200 * new.number ≤ new.limit + 1) × (found.0 ≡ new.number)
+CountsBlock old new (Ok (Some found)) =
+    (old.number < new.number) × (200 * new.number ≤ new.limit + 1) × (found.0 ≡ new.number)
 CountsBlock old new (Err fault) = Unit {0}
 
 -- the faults are 10, 13 and 14

@@ -141,7 +141,8 @@ AreItems (x ∷ later) = IsItem x × AreItems later
 -- numbers.
 abbrev pub WrittenIsFramed : Type 0
 WrittenIsFramed = (items : List (Option Record)) → AreItems items
-    → Frames 0 false (lines items) (map block_of items) [] × (others 0 (map block_of items) ≡ numbered 0 items)
+    → Frames 0 false (lines items) (map block_of items) []
+    × (others 0 (map block_of items) ≡ numbered 0 items)
 
 -- The bytes as which a record is written spell it.
 abbrev pub WrittenSpells : Type 0

@@ -37,7 +37,8 @@ pub trait Source {
     fn fetch(&mut self, into: &mut [u8]) -> Result<usize, DeviceFault>
         ensures bound { ReadsAtMost result into.new }
         ensures bytes { ReadConsumes (left self.old) (left self.new) result into.new }
-        ensures count { CountsBytes (left self.old) (left self.new) (came self.old) (came self.new) result }
+        ensures count { CountsBytes (left self.old) (left self.new) (came self.old) (came self.new)
+            result }
         ensures failures { CountsFailure (failures self.old) (failures self.new) result };
 }
 

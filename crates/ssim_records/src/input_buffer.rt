@@ -84,7 +84,11 @@ impl InputBuffer {
     #[inline]
     pub fn skip(&mut self, count: usize)
         requires { count ≤ length self.old.held }
-        ensures { self.new ≡ record { limit = self.old.limit; came = self.old.came; held = drop count self.old.held } }
+        ensures { self.new ≡ record {
+          limit = self.old.limit;
+          came = self.old.came;
+          held = drop count self.old.held;
+        } }
     {
         self.window.skip(count);
     }
@@ -94,11 +98,16 @@ impl InputBuffer {
         requires { length self.old.held < 65536 }
         ensures limit { self.new.limit ≡ self.old.limit }
         ensures within { self.new.came ≤ self.new.limit }
-        ensures uses { OnOk result (Uses [] self.old (R.left reader.old) self.new (R.left reader.new)) }
+        ensures uses { OnOk result (Uses [] self.old (R.left reader.old) self.new
+            (R.left reader.new)) }
         ensures end { result ≡ Ok 0 → IsAtEnd (R.left reader.new) }
         ensures more { IfOk result (λ n. self.new.came ≡ self.old.came + n) }
-        ensures gives { OnOk result (Gives (R.left reader.old) (R.left reader.new) (R.came reader.old) (R.came reader.new) (R.failures reader.old) (R.failures reader.new) self.old.came self.new.came) }
-        ensures stops { IfErr result (Stops self.old.limit (R.left reader.old) (R.left reader.new) (R.came reader.old) (R.came reader.new) (R.failures reader.old) (R.failures reader.new) self.old.came) }
+        ensures gives { OnOk result (Gives (R.left reader.old) (R.left reader.new)
+            (R.came reader.old) (R.came reader.new) (R.failures reader.old) (R.failures reader.new)
+            self.old.came self.new.came) }
+        ensures stops { IfErr result (Stops self.old.limit (R.left reader.old) (R.left reader.new)
+            (R.came reader.old) (R.came reader.new) (R.failures reader.old) (R.failures reader.new)
+            self.old.came) }
     {
         let room = self.limit - self.came;
         let most = room.saturating_add(1).min(ROOM as u64) as usize;
@@ -122,11 +131,17 @@ impl InputBuffer {
         requires within { self.old.came ≤ self.old.limit }
         ensures limit { self.new.limit ≡ self.old.limit }
         ensures within { self.new.came ≤ self.new.limit }
-        ensures uses { OnOk result (Uses [] self.old (R.left reader.old) self.new (R.left reader.new)) }
+        ensures uses { OnOk result (Uses [] self.old (R.left reader.old) self.new
+            (R.left reader.new)) }
         ensures held { result ≡ Ok true → count ≤ length self.new.held }
-        ensures end { result ≡ Ok false → (length self.new.held < count) × IsAtEnd (R.left reader.new) }
-        ensures gives { OnOk result (Gives (R.left reader.old) (R.left reader.new) (R.came reader.old) (R.came reader.new) (R.failures reader.old) (R.failures reader.new) self.old.came self.new.came) }
-        ensures stops { IfErr result (Stops self.old.limit (R.left reader.old) (R.left reader.new) (R.came reader.old) (R.came reader.new) (R.failures reader.old) (R.failures reader.new) self.old.came) }
+        ensures end { result ≡ Ok false → (length self.new.held < count)
+            × IsAtEnd (R.left reader.new) }
+        ensures gives { OnOk result (Gives (R.left reader.old) (R.left reader.new)
+            (R.came reader.old) (R.came reader.new) (R.failures reader.old) (R.failures reader.new)
+            self.old.came self.new.came) }
+        ensures stops { IfErr result (Stops self.old.limit (R.left reader.old) (R.left reader.new)
+            (R.came reader.old) (R.came reader.new) (R.failures reader.old) (R.failures reader.new)
+            self.old.came) }
     {
         while self.len() < count {
             if self.fetch(reader)? == 0 {
@@ -145,11 +160,17 @@ impl InputBuffer {
         requires { count ≤ 65536 }
         ensures limit { self.new.limit ≡ self.old.limit }
         ensures within { self.new.came ≤ self.new.limit }
-        ensures uses { OnOk result (Uses [] self.old (R.left reader.old) self.new (R.left reader.new)) }
+        ensures uses { OnOk result (Uses [] self.old (R.left reader.old) self.new
+            (R.left reader.new)) }
         ensures held { result ≡ Ok true → count ≤ length self.new.held }
-        ensures end { result ≡ Ok false → (length self.new.held < count) × IsAtEnd (R.left reader.new) }
-        ensures gives { OnOk result (Gives (R.left reader.old) (R.left reader.new) (R.came reader.old) (R.came reader.new) (R.failures reader.old) (R.failures reader.new) self.old.came self.new.came) }
-        ensures stops { IfErr result (Stops self.old.limit (R.left reader.old) (R.left reader.new) (R.came reader.old) (R.came reader.new) (R.failures reader.old) (R.failures reader.new) self.old.came) }
+        ensures end { result ≡ Ok false → (length self.new.held < count)
+            × IsAtEnd (R.left reader.new) }
+        ensures gives { OnOk result (Gives (R.left reader.old) (R.left reader.new)
+            (R.came reader.old) (R.came reader.new) (R.failures reader.old) (R.failures reader.new)
+            self.old.came self.new.came) }
+        ensures stops { IfErr result (Stops self.old.limit (R.left reader.old) (R.left reader.new)
+            (R.came reader.old) (R.came reader.new) (R.failures reader.old) (R.failures reader.new)
+            self.old.came) }
     {
         if self.window.len() >= count {
             return Ok(true);
@@ -164,8 +185,12 @@ impl InputBuffer {
         ensures limit { self.new.limit ≡ self.old.limit }
         ensures within { self.new.came ≤ self.new.limit }
         ensures end { OnOk result (IsAtEnd (R.left reader.new)) }
-        ensures gives { OnOk result (Gives (R.left reader.old) (R.left reader.new) (R.came reader.old) (R.came reader.new) (R.failures reader.old) (R.failures reader.new) self.old.came self.new.came) }
-        ensures stops { IfErr result (Stops self.old.limit (R.left reader.old) (R.left reader.new) (R.came reader.old) (R.came reader.new) (R.failures reader.old) (R.failures reader.new) self.old.came) }
+        ensures gives { OnOk result (Gives (R.left reader.old) (R.left reader.new)
+            (R.came reader.old) (R.came reader.new) (R.failures reader.old) (R.failures reader.new)
+            self.old.came self.new.came) }
+        ensures stops { IfErr result (Stops self.old.limit (R.left reader.old) (R.left reader.new)
+            (R.came reader.old) (R.came reader.new) (R.failures reader.old) (R.failures reader.new)
+            self.old.came) }
     {
         loop {
             self.window.clear();

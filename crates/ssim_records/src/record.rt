@@ -47,8 +47,10 @@ fn put_other(bytes: &[u8; 200], into: &mut Option<Record>) -> Result<bool, usize
     requires leg { columns 1 1 bytes.now ≢ 51 ∷ [] }
     requires segment { columns 1 1 bytes.now ≢ 52 ∷ [] }
     ensures ok { IfOk result (λ known. IsTrue known → HasSpelt into.new bytes.now) }
-    ensures none { IfOk result (λ known. known ≡ false → (number : ℕ) → fault_of number bytes.now ≡ Some (RecordFault.BadType number)) }
-    ensures err { IfErr result (λ column. (number : ℕ) → fault_of number bytes.now ≡ Some (RecordFault.BadColumn number column)) }
+    ensures none { IfOk result (λ known. known ≡ false → (number : ℕ)
+        → fault_of number bytes.now ≡ Some (RecordFault.BadType number)) }
+    ensures err { IfErr result (λ column. (number : ℕ)
+        → fault_of number bytes.now ≡ Some (RecordFault.BadColumn number column)) }
 {
     match kind_of(bytes) {
         b'1' => *into = Some(Record::Header(read_header(bytes)?)),
@@ -68,7 +70,8 @@ fn put_leg(
 ) -> Result<(), usize>
     requires { columns 1 1 bytes.now ≡ 51 ∷ [] }
     ensures ok { OnOk result (HasSpelt into.new bytes.now) }
-    ensures err { IfErr result (λ column. (number : ℕ) → fault_of number bytes.now ≡ Some (RecordFault.BadColumn number column)) }
+    ensures err { IfErr result (λ column. (number : ℕ)
+        → fault_of number bytes.now ≡ Some (RecordFault.BadColumn number column)) }
 {
     let head = read_leg_head(bytes, latest)?;
     match into {
@@ -87,7 +90,8 @@ fn put_segment(
 ) -> Result<(), usize>
     requires { columns 1 1 bytes.now ≡ 52 ∷ [] }
     ensures ok { OnOk result (HasSpelt into.new bytes.now) }
-    ensures err { IfErr result (λ column. (number : ℕ) → fault_of number bytes.now ≡ Some (RecordFault.BadColumn number column)) }
+    ensures err { IfErr result (λ column. (number : ℕ)
+        → fault_of number bytes.now ≡ Some (RecordFault.BadColumn number column)) }
 {
     let head = read_segment_head(bytes, latest)?;
     match into {
@@ -109,8 +113,10 @@ fn put_record(
     into: &mut Option<Record>,
 ) -> Result<bool, usize>
     ensures ok { IfOk result (λ known. IsTrue known → HasSpelt into.new bytes.now) }
-    ensures none { IfOk result (λ known. known ≡ false → (number : ℕ) → fault_of number bytes.now ≡ Some (RecordFault.BadType number)) }
-    ensures err { IfErr result (λ column. (number : ℕ) → fault_of number bytes.now ≡ Some (RecordFault.BadColumn number column)) }
+    ensures none { IfOk result (λ known. known ≡ false → (number : ℕ)
+        → fault_of number bytes.now ≡ Some (RecordFault.BadType number)) }
+    ensures err { IfErr result (λ column. (number : ℕ)
+        → fault_of number bytes.now ≡ Some (RecordFault.BadColumn number column)) }
 {
     match kind_of(bytes) {
         b'3' => put_leg(bytes, latest, into)?,

@@ -48,7 +48,13 @@ impl Model for Records {
 
     ghost Value = { Reading };
 
-    ghost view = { λ r. record { limit = r.limit; came = r.came; number = r.number; held = r.window; ended = r.ended } };
+    ghost view = { λ r. record {
+      limit = r.limit;
+      came = r.came;
+      number = r.number;
+      held = r.window;
+      ended = r.ended;
+    } };
 
     ghost invariant = { λ r. (r.came ≤ r.limit + 1) × (200 * r.number + length r.window ≤ r.came) };
 }
@@ -83,14 +89,17 @@ impl Records {
         into: &mut Option<Record>,
     ) -> Result<u64, RecordFault>
         ensures limit { self.new.limit ≡ self.old.limit }
-        ensures record { GivesNext self.old (R.left reader.old) self.new (R.left reader.new) (given into.new result) }
+        ensures record { GivesNext self.old (R.left reader.old) self.new (R.left reader.new)
+            (given into.new result) }
         ensures number { HasNumber self.new.number (given into.new result) }
         ensures counts { Counts self.old self.new (given into.new result) }
         ensures never_ends { NeverEnds self.new (given into.new result) }
         ensures fetched { FetchesNext self.old (R.left reader.old) self.new (R.left reader.new) }
         ensures few_left { HoldsFew self.new.held (given into.new result) }
-        ensures fault { FailsAs (R.failures reader.old) (R.failures reader.new) (given into.new result) }
-        ensures count { CountsOn (R.left reader.old) (R.left reader.new) (R.came reader.old) (R.came reader.new) self.old.came self.new.came }
+        ensures fault { FailsAs (R.failures reader.old) (R.failures reader.new)
+            (given into.new result) }
+        ensures count { CountsOn (R.left reader.old) (R.left reader.new) (R.came reader.old)
+            (R.came reader.new) self.old.came self.new.came }
         ensures returned { IfOk result (λ number. number ≡ self.new.number) }
     {
         match next_other(
@@ -136,7 +145,8 @@ impl Records {
         into: &mut Option<Record>,
     ) -> Result<u64, RecordFault>
         // After an end the same result is returned, and nothing else happens.
-        ensures again { IfSome self.old.ended (λ e. (given into.new result ≡ last_answer e) × (self.new ≡ self.old) × (reader.new ≡ reader.old)) }
+        ensures again { IfSome self.old.ended (λ e. (given into.new result ≡ last_answer e)
+            × (self.new ≡ self.old) × (reader.new ≡ reader.old)) }
         ensures ended { self.new.ended ≡ ending_of (given into.new result) }
         ensures limit { self.new.limit ≡ self.old.limit }
 
@@ -145,20 +155,26 @@ impl Records {
 
         // If the contract knows the reader's bytes, the result is the next record of the bytes
         // ahead.
-        ensures record { IfNone self.old.ended (GivesNext self.old (R.left reader.old) self.new (R.left reader.new) (given into.new result)) }
+        ensures record { IfNone self.old.ended
+            (GivesNext self.old (R.left reader.old) self.new (R.left reader.new)
+            (given into.new result)) }
         ensures number { IfNone self.old.ended (HasNumber self.new.number (given into.new result)) }
         ensures counts { IfNone self.old.ended (Counts self.old self.new (given into.new result)) }
 
         // The counted records, and then the held bytes, are the bytes that came. At 13 the held
         // bytes are too few for a record.
-        ensures fetched { IfNone self.old.ended (FetchesNext self.old (R.left reader.old) self.new (R.left reader.new)) }
+        ensures fetched { IfNone self.old.ended
+            (FetchesNext self.old (R.left reader.old) self.new (R.left reader.new)) }
         ensures few_left { IfNone self.old.ended (HoldsFew self.new.held (given into.new result)) }
 
         // 13 is returned if the reader failed, 14 after the limit. The bytes that came are those of
         // the reader.
-        ensures fault { IfNone self.old.ended (FailsAs (R.failures reader.old) (R.failures reader.new) (given into.new result)) }
+        ensures fault { IfNone self.old.ended
+            (FailsAs (R.failures reader.old) (R.failures reader.new) (given into.new result)) }
         ensures never_ends { IfNone self.old.ended (NeverEnds self.new (given into.new result)) }
-        ensures count { IfNone self.old.ended (CountsOn (R.left reader.old) (R.left reader.new) (R.came reader.old) (R.came reader.new) self.old.came self.new.came) }
+        ensures count { IfNone self.old.ended
+            (CountsOn (R.left reader.old) (R.left reader.new) (R.came reader.old)
+            (R.came reader.new) self.old.came self.new.came) }
         ensures returned { IfOk result (λ number. number ≡ self.new.number) }
     {
         match self.ended {
@@ -184,7 +200,8 @@ impl Records {
     /// call returns the same.
     pub fn next<R: Source>(&mut self, reader: &mut R) -> Result<Option<(u64, Record)>, RecordFault>
         // After an end the same result is returned, and nothing else happens.
-        ensures again { IfSome self.old.ended (λ e. (result ≡ last_answer e) × (self.new ≡ self.old) × (reader.new ≡ reader.old)) }
+        ensures again { IfSome self.old.ended (λ e. (result ≡ last_answer e) × (self.new ≡ self.old)
+            × (reader.new ≡ reader.old)) }
         ensures ended { self.new.ended ≡ ending_of result }
         ensures limit { self.new.limit ≡ self.old.limit }
 
@@ -193,20 +210,25 @@ impl Records {
 
         // If the contract knows the reader's bytes, the result is the next record of the bytes
         // ahead.
-        ensures record { IfNone self.old.ended (GivesNext self.old (R.left reader.old) self.new (R.left reader.new) result) }
+        ensures record { IfNone self.old.ended
+            (GivesNext self.old (R.left reader.old) self.new (R.left reader.new) result) }
         ensures number { IfNone self.old.ended (HasNumber self.new.number result) }
         ensures counts { IfNone self.old.ended (Counts self.old self.new result) }
 
         // The counted records, and then the held bytes, are the bytes that came. At 13 the held
         // bytes are too few for a record.
-        ensures fetched { IfNone self.old.ended (FetchesNext self.old (R.left reader.old) self.new (R.left reader.new)) }
+        ensures fetched { IfNone self.old.ended
+            (FetchesNext self.old (R.left reader.old) self.new (R.left reader.new)) }
         ensures few_left { IfNone self.old.ended (HoldsFew self.new.held result) }
 
         // 13 is returned if the reader failed, 14 after the limit. The bytes that came are those of
         // the reader.
-        ensures fault { IfNone self.old.ended (FailsAs (R.failures reader.old) (R.failures reader.new) result) }
+        ensures fault { IfNone self.old.ended
+            (FailsAs (R.failures reader.old) (R.failures reader.new) result) }
         ensures never_ends { IfNone self.old.ended (NeverEnds self.new result) }
-        ensures count { IfNone self.old.ended (CountsOn (R.left reader.old) (R.left reader.new) (R.came reader.old) (R.came reader.new) self.old.came self.new.came) }
+        ensures count { IfNone self.old.ended
+            (CountsOn (R.left reader.old) (R.left reader.new) (R.came reader.old)
+            (R.came reader.new) self.old.came self.new.came) }
     {
         let mut record = None;
         let number = self.next_into(reader, &mut record)?;
@@ -219,12 +241,15 @@ impl Records {
     // Returns what `next_block` returns before the end.
     fn block<R: Source>(&mut self, reader: &mut R) -> Result<Option<(u64, [u8; 200])>, RecordFault>
         ensures limit { self.new.limit ≡ self.old.limit }
-        ensures record { GivesNextBlock self.old (R.left reader.old) self.new (R.left reader.new) result }
+        ensures record { GivesNextBlock self.old (R.left reader.old) self.new (R.left reader.new)
+            result }
         ensures counts { CountsBlock self.old self.new result }
         ensures number { HasNumber self.new.number (without_block result) }
         ensures never_ends { NeverEnds self.new (without_block result) }
-        ensures fault { FailsAs (R.failures reader.old) (R.failures reader.new) (without_block result) }
-        ensures count { CountsOn (R.left reader.old) (R.left reader.new) (R.came reader.old) (R.came reader.new) self.old.came self.new.came }
+        ensures fault { FailsAs (R.failures reader.old) (R.failures reader.new)
+            (without_block result) }
+        ensures count { CountsOn (R.left reader.old) (R.left reader.new) (R.came reader.old)
+            (R.came reader.new) self.old.came self.new.came }
         ensures stops { IfErr result IsNoBlockFault }
     {
         match next_other(
@@ -253,14 +278,15 @@ impl Records {
     }
 
     /// The next block that is not fill, and its number, whether it spells a record or not: an
-    /// invalid block does not end the reading. After the end, and after a refusal, each call returns
-    /// the same. A refusal is 10 `Short`, 13 `ReadFault` or 14 `ReaderNeverEnds`.
+    /// invalid block does not end the reading. After the end, and after a refusal, each call
+    /// returns the same. A refusal is 10 `Short`, 13 `ReadFault` or 14 `ReaderNeverEnds`.
     pub fn next_block<R: Source>(
         &mut self,
         reader: &mut R,
     ) -> Result<Option<(u64, [u8; 200])>, RecordFault>
         // After an end the same result is returned, and nothing else happens.
-        ensures again { IfSome self.old.ended (λ e. (result ≡ last_block e) × (self.new ≡ self.old) × (reader.new ≡ reader.old)) }
+        ensures again { IfSome self.old.ended (λ e. (result ≡ last_block e) × (self.new ≡ self.old)
+            × (reader.new ≡ reader.old)) }
         ensures ended { self.new.ended ≡ block_ending result }
         ensures limit { self.new.limit ≡ self.old.limit }
 
@@ -269,16 +295,20 @@ impl Records {
 
         // If the contract knows the reader's bytes, the result is the next block of the bytes
         // ahead.
-        ensures record { IfNone self.old.ended (GivesNextBlock self.old (R.left reader.old) self.new (R.left reader.new) result) }
+        ensures record { IfNone self.old.ended
+            (GivesNextBlock self.old (R.left reader.old) self.new (R.left reader.new) result) }
         ensures counts { IfNone self.old.ended (CountsBlock self.old self.new result) }
         ensures number { IfNone self.old.ended (HasNumber self.new.number (without_block result)) }
 
         // 13 is returned if the reader failed, 14 after the limit, and no fault of a block. The
         // bytes that came are those of the reader.
         ensures stops { IfNone self.old.ended (IfErr result IsNoBlockFault) }
-        ensures fault { IfNone self.old.ended (FailsAs (R.failures reader.old) (R.failures reader.new) (without_block result)) }
+        ensures fault { IfNone self.old.ended
+            (FailsAs (R.failures reader.old) (R.failures reader.new) (without_block result)) }
         ensures never_ends { IfNone self.old.ended (NeverEnds self.new (without_block result)) }
-        ensures count { IfNone self.old.ended (CountsOn (R.left reader.old) (R.left reader.new) (R.came reader.old) (R.came reader.new) self.old.came self.new.came) }
+        ensures count { IfNone self.old.ended
+            (CountsOn (R.left reader.old) (R.left reader.new) (R.came reader.old)
+            (R.came reader.new) self.old.came self.new.came) }
     {
         match self.ended {
             Some(Ending::End) => return Ok(None),
@@ -305,7 +335,8 @@ impl Records {
 
         // The bytes that came are those of the reader.
         ensures total { CameOn (R.left reader.old) (R.left reader.new) self.old.came self.new.came }
-        ensures count { CountsOn (R.left reader.old) (R.left reader.new) (R.came reader.old) (R.came reader.new) self.old.came self.new.came }
+        ensures count { CountsOn (R.left reader.old) (R.left reader.new) (R.came reader.old)
+            (R.came reader.new) self.old.came self.new.came }
     {
         match skip_rest(&mut self.window, &mut self.came, self.limit, reader) {
             Ok(()) => Ok(()),

@@ -44,7 +44,8 @@ impl<R: Read> Source for Input<R> {
         ensures failures { CountsFailure self.old.failures self.new.failures result }
 
         // If the contract knows the reader's bytes, these are given.
-        ensures reader { ReadConsumes (R.remaining self.old.reader) (R.remaining self.new.reader) result into.new }
+        ensures reader { ReadConsumes (R.remaining self.old.reader) (R.remaining self.new.reader)
+            result into.new }
     {
         match self.reader.read(into) {
             Ok(n) => {
@@ -89,7 +90,8 @@ impl<W: Write> Sink for Output<W> {
         ensures failures { CountsPut self.old.failures self.new.failures result bytes.now }
 
         // If the contract knows the writer's bytes, these are appended.
-        ensures writer { WriteAppends (W.contents self.old.writer) (W.contents self.new.writer) result bytes.now }
+        ensures writer { WriteAppends (W.contents self.old.writer) (W.contents self.new.writer)
+            result bytes.now }
     {
         match self.writer.write(bytes) {
             Ok(n) => {

@@ -155,7 +155,8 @@ impl Window {
         ensures ahead { SameAhead self.old (R.left reader.old) self.new (R.left reader.new) }
         ensures end { result ≡ Ok 0 → IsAtEnd (R.left reader.new) }
         ensures none { result ≡ Ok 0 → self.new ≡ self.old }
-        ensures count { CountsBytes (R.left reader.old) (R.left reader.new) (R.came reader.old) (R.came reader.new) result }
+        ensures count { CountsBytes (R.left reader.old) (R.left reader.new) (R.came reader.old)
+            (R.came reader.new) result }
         ensures failures { CountsFailure (R.failures reader.old) (R.failures reader.new) result }
     {
         self.bytes.copy_within(self.start..self.end, 0);

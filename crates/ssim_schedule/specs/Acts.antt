@@ -17,7 +17,8 @@ use Rattle.ssim_schedule.specs.declared.finding.Finding.{Finding}
 -- the days of a flight, from day n on, with those of a set changed, each by itself
 abbrev pub changed_by : (ℕ → Bool) → (ℕ → Legs → Legs) → ℕ → Days → Days
 changed_by is_in after n [] = []
-changed_by is_in after n (old ∷ days) = (if is_in n then after n old else old) ∷ changed_by is_in after (n + 1) days
+changed_by is_in after n (old ∷ days) =
+    (if is_in n then after n old else old) ∷ changed_by is_in after (n + 1) days
 
 -- how many days of the set are of class k
 abbrev pub counted_by : (ℕ → Bool) → (ℕ → Legs → ℕ) → ℕ → ℕ → Days → ℕ
@@ -38,13 +39,15 @@ abbrev pub acted_on : List Row → Action → DayRange → Days → Days
 acted_on rows action period days = changed_by (holds period) (after_on rows action) 0 days
 
 -- the days of each flight after a sub-message, which changes the flight that it names
-abbrev pub after_sub : List Row → Action → FlightNumber → DayRange → (FlightNumber → Days) → FlightNumber → Days
+abbrev pub after_sub : List Row → Action → FlightNumber → DayRange → (FlightNumber → Days)
+    → FlightNumber → Days
 after_sub rows action flight period days g =
     if nat_eq (place_of flight) (place_of g) then acted_on rows action period (days g) else days g
 
 -- what flight g has on a day after the sub-message: the effect if it names g and its period holds
 -- the day, else the old legs
-abbrev pub itinerary_after : List Row → Action → FlightNumber → DayRange → FlightNumber → ℕ → Legs → Legs
+abbrev pub itinerary_after : List Row → Action → FlightNumber → DayRange → FlightNumber → ℕ → Legs
+    → Legs
 itinerary_after rows action flight period g day old =
     if same_flight flight g && holds period day then after_on rows action day old else old
 
@@ -72,7 +75,8 @@ lines_of (Tim lines) = []
 
 -- whether a leg line departs from the station or arrives at it
 abbrev pub is_at : List ℕ → LegLine → Bool
-is_at station line = bytes_eq line.departure.station station || bytes_eq line.arrival.station station
+is_at station line =
+    bytes_eq line.departure.station station || bytes_eq line.arrival.station station
 
 -- whether a leg line of the action names the station
 abbrev pub is_named : Action → List ℕ → Bool
@@ -80,7 +84,8 @@ is_named action station = list_any (is_at station) (lines_of action)
 
 -- the row is of a station that the action names, and begins on this day or ended on the day before
 abbrev pub divides : Action → ℕ → Row → Bool
-divides action cut row = is_named action row.station && (nat_eq cut row.first || nat_eq cut (row.last + 1))
+divides action cut row =
+    is_named action row.station && (nat_eq cut row.first || nat_eq cut (row.last + 1))
 
 -- whether the day is a division point of an action: the period, or a row of a station that the
 -- action names, begins on this day or ended on the day before
@@ -90,6 +95,8 @@ is_point_of rows action period cut =
 
 -- new cuts of a flight are old ones or division points of the action, and the latter only for the
 -- flight that is named
-abbrev pub AddsPointsOf : FlightNumber → List Row → Action → DayRange → FlightNumber → List ℕ → List ℕ → Type 0
+abbrev pub AddsPointsOf : FlightNumber → List Row → Action → DayRange → FlightNumber → List ℕ
+    → List ℕ → Type 0
 AddsPointsOf flight rows action period g old new =
-    (cut : ℕ) → Contains new cut → Contains old cut ⊎ ((place_of flight ≡ place_of g) × IsTrue (is_point_of rows action period cut))
+    (cut : ℕ) → Contains new cut → Contains old cut
+    ⊎ ((place_of flight ≡ place_of g) × IsTrue (is_point_of rows action period cut))

@@ -10,10 +10,12 @@ use Rattle.ssim_base.specs.Timetable.{same_flight, period_of}
 abbrev pub is_point : FlightNumber → ℕ → Record → Bool
 is_point flight day (Header r) = false
 is_point flight day (Carrier r) = false
-is_point flight day (Leg r) = same_flight r.name.flight flight && (nat_eq day r.first || nat_eq day ((period_of r).last + 1))
+is_point flight day (Leg r) =
+    same_flight r.name.flight flight && (nat_eq day r.first || nat_eq day ((period_of r).last + 1))
 is_point flight day (Segment r) = false
 is_point flight day (Trailer r) = false
 
 -- each cut is a division point of the flight's leg records
 abbrev pub AreAtPoints : List ℕ → FlightNumber → List Record → Type 0
-AreAtPoints cuts flight records = (cut : ℕ) → Contains cuts cut → IsTrue (list_any (is_point flight cut) records)
+AreAtPoints cuts flight records =
+    (cut : ℕ) → Contains cuts cut → IsTrue (list_any (is_point flight cut) records)

@@ -30,7 +30,8 @@ Variations = List ℕ → Option Offset
 -- the tail of a segment line, if its pair of points begins with leg line i, counted from 0
 abbrev pub tail_at : ℕ → SegmentLine → Option (ℕ × ℕ) → Option (List ℕ)
 tail_at i segment None = None
-tail_at i segment (Some pair) = if nat_eq pair.0 i then Some (segment_tail pair.0 pair.1 segment) else None
+tail_at i segment (Some pair) =
+    if nat_eq pair.0 i then Some (segment_tail pair.0 pair.1 segment) else None
 
 -- the tail that a segment line gives the leg of leg line i, if any
 abbrev pub tail_for : ℕ → List LegLine → SegmentLine → Option (List ℕ)
@@ -44,14 +45,19 @@ with_tail (Some tail) tails = tail ∷ tails
 -- the tails of the leg of leg line i, in the order of the segment lines
 abbrev pub tails_for : ℕ → List LegLine → List SegmentLine → List (List ℕ)
 tails_for i lines [] = []
-tails_for i lines (segment ∷ segments) = with_tail (tail_for i lines segment) (tails_for i lines segments)
+tails_for i lines (segment ∷ segments) =
+    with_tail (tail_for i lines segment) (tails_for i lines segments)
 
 -- the leg of leg line i, if its two stations have UTC variations
 abbrev pub leg_at : Option Offset → Option Offset → ℕ → LegLine → NewLegs → Option LegValue
 leg_at None there i line new = None
 leg_at (Some here) None i line new = None
 leg_at (Some here) (Some there) i line new =
-    Some (record { sequence = i + 1; columns = new_columns here there line new.equipment; tails = tails_for i new.legs new.segments })
+    Some (record {
+      sequence = i + 1;
+      columns = new_columns here there line new.equipment;
+      tails = tails_for i new.legs new.segments;
+    })
 
 -- a leg before the later legs, if all of them exist
 abbrev pub joined : Option LegValue → Option Legs → Option Legs
@@ -62,7 +68,8 @@ joined (Some leg) legs = option_map (λ legs. leg ∷ legs) legs
 abbrev pub legs_from : Variations → NewLegs → ℕ → List LegLine → Option Legs
 legs_from variation new i [] = Some []
 legs_from variation new i (line ∷ lines) =
-    joined (leg_at (variation line.departure.station) (variation line.arrival.station) i line new) (legs_from variation new (i + 1) lines)
+    joined (leg_at (variation line.departure.station) (variation line.arrival.station) i line new)
+    (legs_from variation new (i + 1) lines)
 
 -- the legs that new legs give; None if a station has no variation
 abbrev pub new_legs : Variations → NewLegs → Option Legs
@@ -73,7 +80,8 @@ new_legs variation new = legs_from variation new 0 new.legs
 -- whether the leg departs and arrives at the stations of the leg line
 abbrev pub fits : LegLine → LegValue → Bool
 fits line leg =
-    bytes_eq (leg_columns 37 39 leg.columns) line.departure.station && bytes_eq (leg_columns 55 57 leg.columns) line.arrival.station
+    bytes_eq (leg_columns 37 39 leg.columns) line.departure.station
+    && bytes_eq (leg_columns 55 57 leg.columns) line.arrival.station
 
 -- the leg with the times of a leg line
 abbrev pub retimed : LegLine → LegValue → LegValue
@@ -82,7 +90,8 @@ retimed line leg = record leg { columns = with_times line leg.columns }
 -- the legs with the times of a leg line at the first leg that fits it
 abbrev pub with_line : LegLine → Legs → Legs
 with_line line [] = []
-with_line line (leg ∷ legs) = if fits line leg then retimed line leg ∷ legs else leg ∷ with_line line legs
+with_line line (leg ∷ legs) =
+    if fits line leg then retimed line leg ∷ legs else leg ∷ with_line line legs
 
 -- the legs with the times of all leg lines, one line after another
 abbrev pub with_lines : List LegLine → Legs → Legs
@@ -134,7 +143,8 @@ equip equipment (leg ∷ legs) = (map (equipped equipment) (leg ∷ legs), Acted
 abbrev pub retime : List LegLine → Legs → Outcome
 retime lines [] = ([], Absent)
 retime lines (leg ∷ legs) =
-    if have_legs (leg ∷ legs) lines then (with_lines lines (leg ∷ legs), Acted) else (leg ∷ legs, Leg)
+    if have_legs (leg ∷ legs) lines then (with_lines lines (leg ∷ legs), Acted)
+    else (leg ∷ legs, Leg)
 
 -- the outcome of an action, by the UTC variation of each station on the date
 abbrev pub outcome : Variations → Action → Legs → Outcome

@@ -50,9 +50,11 @@ with_times line d = leg.with_times (times_of line) d
 -- the columns of a new leg: stations and times of its leg line, UTC variations of the stations, and
 -- the equipment
 abbrev pub new_columns : Offset → Offset → LegLine → EquipmentValue → List ℕ
-new_columns here there line e = new_leg (stations_of here there line) (times_of line) (equipment_of e)
+new_columns here there line e =
+    new_leg (stations_of here there line) (times_of line) (equipment_of e)
 
 -- the tail of a segment line whose pair of points is leg lines i to j, counted from 0: the letters
 -- of the points, the identifier, the stations and the text
 abbrev pub segment_tail : ℕ → ℕ → SegmentLine → List ℕ
-segment_tail i j segment = new_tail ((65 + i) ∷ (66 + j) ∷ []) segment.identifier segment.board segment.off segment.text
+segment_tail i j segment =
+    new_tail ((65 + i) ∷ (66 + j) ∷ []) segment.identifier segment.board segment.off segment.text

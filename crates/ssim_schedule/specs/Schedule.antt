@@ -27,4 +27,5 @@ flown_by table = record { table = table }
 
 -- by this code a proof tells two values apart
 abbrev pub flown_code : Coded Flown
-flown_code = code_by Table (coded_list entry.the_row.coded) (λ flown. flown.table) flown_by (λ _. refl)
+flown_code =
+    code_by Table (coded_list entry.the_row.coded) (λ flown. flown.table) flown_by (λ _. refl)

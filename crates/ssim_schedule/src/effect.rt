@@ -46,16 +46,25 @@ impl Schedule {
     /// no row of their stations begins or ends. If there are several such parts, the flight's
     /// periods are copied first; they are also copied if a copy of the schedule shares them.
     pub fn apply_sub(&mut self, base: &Base, sub: &Resolved) -> Result<Finding, Memory>
-        ensures days { OnOk result ((g : FlightNumber) → days_in self.new g ≡ after_sub base.now.rows sub.now.action.now sub.now.flight sub.now.period (days_in self.old) g) }
-        ensures finding { IfOk result (λ finding. finding ≡ finding_of base.now.rows sub.now.action.now sub.now.period (days_in self.old sub.now.flight)) }
+        ensures days { OnOk result ((g : FlightNumber)
+            → days_in self.new g ≡ after_sub base.now.rows sub.now.action.now sub.now.flight
+            sub.now.period (days_in self.old) g) }
+        ensures finding { IfOk result (λ finding. finding
+            ≡ finding_of base.now.rows sub.now.action.now sub.now.period
+            (days_in self.old sub.now.flight)) }
 
         // A new cut is the first day or the day after the last of the period, or of a row whose
         // station the new legs have.
-        ensures cuts { OnOk result ((g : FlightNumber) → AddsPointsOf sub.now.flight base.now.rows sub.now.action.now sub.now.period g (cuts_in self.old g) (cuts_in self.new g)) }
+        ensures cuts { OnOk result ((g : FlightNumber)
+            → AddsPointsOf sub.now.flight base.now.rows sub.now.action.now sub.now.period g
+            (cuts_in self.old g) (cuts_in self.new g)) }
 
         // The itinerary of a date afterwards is the action's effect if the sub-message names the
         // flight and its period holds the date, else the itinerary before.
-        ensures each_date { OnOk result ((g : FlightNumber) (n : ℕ) → IsFlight g → n < day_count → on_day (days_in self.new g) n ≡ itinerary_after base.now.rows sub.now.action.now sub.now.flight sub.now.period g n (on_day (days_in self.old g) n)) }
+        ensures each_date { OnOk result ((g : FlightNumber) (n : ℕ) → IsFlight g → n < day_count
+            → on_day (days_in self.new g) n
+            ≡ itinerary_after base.now.rows sub.now.action.now sub.now.flight sub.now.period g n
+            (on_day (days_in self.old g) n)) }
         ensures err { OnErr result (self.new ≡ self.old) }
     {
         self.apply_by(base.rows(), sub)
@@ -63,16 +72,25 @@ impl Schedule {
 
     /// Does what `apply_sub` does, by these rows of a station table.
     pub fn apply_by(&mut self, rows: &[StationRow], sub: &Resolved) -> Result<Finding, Memory>
-        ensures days { OnOk result ((g : FlightNumber) → days_in self.new g ≡ after_sub rows.now sub.now.action.now sub.now.flight sub.now.period (days_in self.old) g) }
-        ensures finding { IfOk result (λ finding. finding ≡ finding_of rows.now sub.now.action.now sub.now.period (days_in self.old sub.now.flight)) }
+        ensures days { OnOk result ((g : FlightNumber)
+            → days_in self.new g ≡ after_sub rows.now sub.now.action.now sub.now.flight
+            sub.now.period (days_in self.old) g) }
+        ensures finding { IfOk result (λ finding. finding
+            ≡ finding_of rows.now sub.now.action.now sub.now.period
+            (days_in self.old sub.now.flight)) }
 
         // A new cut is the first day or the day after the last of the period, or of a row whose
         // station the new legs have.
-        ensures cuts { OnOk result ((g : FlightNumber) → AddsPointsOf sub.now.flight rows.now sub.now.action.now sub.now.period g (cuts_in self.old g) (cuts_in self.new g)) }
+        ensures cuts { OnOk result ((g : FlightNumber)
+            → AddsPointsOf sub.now.flight rows.now sub.now.action.now sub.now.period g
+            (cuts_in self.old g) (cuts_in self.new g)) }
 
         // The itinerary of a date afterwards is the action's effect if the sub-message names the
         // flight and its period holds the date, else the itinerary before.
-        ensures each_date { OnOk result ((g : FlightNumber) (n : ℕ) → IsFlight g → n < day_count → on_day (days_in self.new g) n ≡ itinerary_after rows.now sub.now.action.now sub.now.flight sub.now.period g n (on_day (days_in self.old g) n)) }
+        ensures each_date { OnOk result ((g : FlightNumber) (n : ℕ) → IsFlight g → n < day_count
+            → on_day (days_in self.new g) n
+            ≡ itinerary_after rows.now sub.now.action.now sub.now.flight sub.now.period g n
+            (on_day (days_in self.old g) n)) }
         ensures err { OnErr result (self.new ≡ self.old) }
     {
         // No effect at run time. The proof reads from these uses that there are at most twenty new
@@ -92,9 +110,14 @@ impl FlightBlocks {
         flight: Flight,
         period: &Period,
     ) -> Result<[u32; 5], Memory>
-        ensures days { OnOk result ((g : FlightNumber) → table_days self.new g ≡ after_sub rows.now action.now flight period.now (table_days self.old) g) }
-        ensures counts { IfOk result (λ counts. counts ≡ counts_by rows.now action.now (holds period.now) (table_days self.old flight)) }
-        ensures cuts { OnOk result ((g : FlightNumber) → AddsPointsOf flight rows.now action.now period.now g (table_cuts self.old g) (table_cuts self.new g)) }
+        ensures days { OnOk result ((g : FlightNumber)
+            → table_days self.new g ≡ after_sub rows.now action.now flight period.now
+            (table_days self.old) g) }
+        ensures counts { IfOk result (λ counts. counts
+            ≡ counts_by rows.now action.now (holds period.now) (table_days self.old flight)) }
+        ensures cuts { OnOk result ((g : FlightNumber)
+            → AddsPointsOf flight rows.now action.now period.now g (table_cuts self.old g)
+            (table_cuts self.new g)) }
         ensures err { OnErr result (self.new ≡ self.old) }
     {
         if is_uniform(rows, action, period) {
@@ -113,9 +136,14 @@ impl FlightBlocks {
         period: &Period,
     ) -> Result<[u32; 5], Memory>
         requires { IsUniform rows.now action.now period.now }
-        ensures days { OnOk result ((g : FlightNumber) → table_days self.new g ≡ after_sub rows.now action.now flight period.now (table_days self.old) g) }
-        ensures counts { IfOk result (λ counts. counts ≡ counts_by rows.now action.now (holds period.now) (table_days self.old flight)) }
-        ensures cuts { OnOk result ((g : FlightNumber) → AddsPointsOf flight rows.now action.now period.now g (table_cuts self.old g) (table_cuts self.new g)) }
+        ensures days { OnOk result ((g : FlightNumber)
+            → table_days self.new g ≡ after_sub rows.now action.now flight period.now
+            (table_days self.old) g) }
+        ensures counts { IfOk result (λ counts. counts
+            ≡ counts_by rows.now action.now (holds period.now) (table_days self.old flight)) }
+        ensures cuts { OnOk result ((g : FlightNumber)
+            → AddsPointsOf flight rows.now action.now period.now g (table_cuts self.old g)
+            (table_cuts self.new g)) }
         ensures err { OnErr result (self.new ≡ self.old) }
     {
         let change = SubMessageChange::on(self.allocator(), rows, action, period.first())?;
@@ -130,9 +158,14 @@ impl FlightBlocks {
         flight: Flight,
         period: &Period,
     ) -> Result<[u32; 5], Memory>
-        ensures days { OnOk result ((g : FlightNumber) → table_days self.new g ≡ after_sub rows.now action.now flight period.now (table_days self.old) g) }
-        ensures counts { IfOk result (λ counts. counts ≡ counts_by rows.now action.now (holds period.now) (table_days self.old flight)) }
-        ensures cuts { OnOk result ((g : FlightNumber) → AddsPointsOf flight rows.now action.now period.now g (table_cuts self.old g) (table_cuts self.new g)) }
+        ensures days { OnOk result ((g : FlightNumber)
+            → table_days self.new g ≡ after_sub rows.now action.now flight period.now
+            (table_days self.old) g) }
+        ensures counts { IfOk result (λ counts. counts
+            ≡ counts_by rows.now action.now (holds period.now) (table_days self.old flight)) }
+        ensures cuts { OnOk result ((g : FlightNumber)
+            → AddsPointsOf flight rows.now action.now period.now g (table_cuts self.old g)
+            (table_cuts self.new g)) }
         ensures err { OnErr result (self.new ≡ self.old) }
     {
         let alloc = self.allocator();

@@ -53,7 +53,13 @@ pub struct Finding {
 impl Finding {
     /// The counts of the classes.
     pub(crate) fn of(counts: &[u32; 5]) -> Finding
-        ensures { result ≡ record { acted = slice_index_or counts.now 0 0; absent = slice_index_or counts.now 1 0; present = slice_index_or counts.now 2 0; leg = slice_index_or counts.now 3 0; station = slice_index_or counts.now 4 0 } }
+        ensures { result ≡ record {
+          acted = slice_index_or counts.now 0 0;
+          absent = slice_index_or counts.now 1 0;
+          present = slice_index_or counts.now 2 0;
+          leg = slice_index_or counts.now 3 0;
+          station = slice_index_or counts.now 4 0;
+        } }
     {
         Finding {
             acted: counts[0],

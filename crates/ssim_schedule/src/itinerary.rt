@@ -48,7 +48,8 @@ impl Model for Itinerary {
 
     ghost view = { λ i. legs_of i.legs };
 
-    ghost invariant = { λ i. (i.hash ≡ hash_of (legs_of i.legs) % 4294967296) × CountsRecords i.records (legs_of i.legs) };
+    ghost invariant = { λ i. (i.hash ≡ hash_of (legs_of i.legs) % 4294967296)
+        × CountsRecords i.records (legs_of i.legs) };
 }
 
 impl Itinerary {

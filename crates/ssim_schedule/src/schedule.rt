@@ -63,7 +63,9 @@ impl Schedule {
 
         // Two days of one weekday have the same itinerary if no cut is after the earlier and not
         // after the later.
-        ensures weekly { (m n : ℕ) → m ≤ n → n < 36525 → weekday m ≡ weekday n → ((cut : ℕ) → Contains result.now cut → m < cut → n < cut) → on_day (days_in self.now flight.now) m ≡ on_day (days_in self.now flight.now) n }
+        ensures weekly { (m n : ℕ) → m ≤ n → n < 36525 → weekday m ≡ weekday n
+            → ((cut : ℕ) → Contains result.now cut → m < cut → n < cut)
+            → on_day (days_in self.now flight.now) m ≡ on_day (days_in self.now flight.now) n }
     {
         self.table.cuts(flight)
     }

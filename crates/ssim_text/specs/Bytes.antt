@@ -43,4 +43,5 @@ is_printable b = nat_le 32 b && nat_le b 126
 
 -- whether a text has a length in bounds and each byte passes the test
 abbrev pub is_text_of : (ℕ → Bool) → ℕ → ℕ → List ℕ → Bool
-is_text_of test low high text = nat_le low (length text) && nat_le (length text) high && list_all test text
+is_text_of test low high text =
+    nat_le low (length text) && nat_le (length text) high && list_all test text

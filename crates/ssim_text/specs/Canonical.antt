@@ -32,7 +32,8 @@ three_digits n = (48 + n / 100 % 10) ∷ (48 + n / 10 % 10) ∷ (48 + n % 10) �
 
 -- a number in five digits
 abbrev pub five_digits : ℕ → List ℕ
-five_digits n = (48 + n / 10000 % 10) ∷ (48 + n / 1000 % 10) ∷ (48 + n / 100 % 10) ∷ (48 + n / 10 % 10)
+five_digits n =
+    (48 + n / 10000 % 10) ∷ (48 + n / 1000 % 10) ∷ (48 + n / 100 % 10) ∷ (48 + n / 10 % 10)
     ∷ (48 + n % 10) ∷ []
 
 -- a number in one to three digits, without leading zeros
@@ -94,7 +95,8 @@ passenger_text time passenger = if passenger == time then [] else 47 ∷ clock_t
 -- the canonical text of the departure or the arrival of a leg
 abbrev pub leg_end_text : LegEnd → List ℕ
 leg_end_text e =
-    e.station ++ clock_text e.time ++ variation_text e.variation ++ passenger_text e.time e.passenger
+    e.station ++ clock_text e.time ++ variation_text e.variation
+    ++ passenger_text e.time e.passenger
 
 -- the canonical leg line
 abbrev pub leg_text : LegLine → List ℕ
@@ -112,7 +114,8 @@ part_text (ModePart mode) = mode_text mode
 part_text (ReferencePart reference) = reference_text reference
 part_text (ActionPart identifier) = identifier_text identifier
 part_text (FlightPart designator) = designator_text designator
-part_text (DatedFlightPart designator date) = designator_text designator ++ 47 ∷ given_date_text date
+part_text (DatedFlightPart designator date) =
+    designator_text designator ++ 47 ∷ given_date_text date
 part_text (PeriodPart period) = period_text period
 part_text (EquipmentPart equipment) = equipment_text equipment
 part_text (LegPart leg) = leg_text leg
@@ -126,7 +129,8 @@ written = flat_map (λ p. part_text p ++ 10 ∷ [])
 
 -- the part of an originator; none if the originator is blank
 abbrev pub originator_parts : List ℕ → List Part
-originator_parts originator = if bytes_eq originator no_originator then [] else OriginatorPart originator ∷ []
+originator_parts originator =
+    if bytes_eq originator no_originator then [] else OriginatorPart originator ∷ []
 
 -- the parts of a message as it is written, always with the line of the time mode
 abbrev pub canonical_parts : MessageValue → List Part

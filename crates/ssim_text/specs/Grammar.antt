@@ -90,7 +90,8 @@ body_parts (action.Tim legs) = map LegPart legs
 -- the parts of a sub-message: the action, the flight with its period or date, and the rest
 abbrev pub sub_parts : Sub → List Part
 sub_parts sub =
-    ActionPart (identifier_of sub.action) ∷ (flight_parts sub.designator sub.dates ++ body_parts sub.action)
+    ActionPart (identifier_of sub.action)
+    ∷ (flight_parts sub.designator sub.dates ++ body_parts sub.action)
 
 -- the parts of the sub-messages after the first
 abbrev pub later_parts : List Sub → List Part
@@ -131,7 +132,8 @@ abbrev pub leg_pair : List ℕ → List ℕ → ℕ → List LegLine → Option 
 leg_pair board off n [] = None
 leg_pair board off n (leg ∷ legs) =
     pair_at (bytes_eq leg.departure.station board)
-    (position (λ l. bytes_eq l.arrival.station off) (leg ∷ legs)) n (leg_pair board off (n + 1) legs)
+    (position (λ l. bytes_eq l.arrival.station off) (leg ∷ legs)) n
+    (leg_pair board off (n + 1) legs)
 
 -- the legs fly the segment's pair of points
 abbrev pub flies : List LegLine → SegmentLine → Bool
@@ -178,13 +180,15 @@ pub record IsShape (m : MessageValue) : Type 0 where
 -- ---- texts
 
 -- the parts before the sub-messages
-pub record IsHeading (originator : List ℕ) (kind : Kind) (mode : TimeMode) (reference : GivenReference)
+pub record IsHeading (originator : List ℕ) (kind : Kind) (mode : TimeMode)
+    (reference : GivenReference)
     (heading : List Part) : Type 0 where
   pub originator_parts : List Part
   pub is_originator : IsOriginatorPart originator originator_parts
   pub mode_parts : List Part
   pub is_mode : IsModePart mode mode_parts
-  pub whole : heading ≡ originator_parts ++ (KindPart kind ∷ (mode_parts ++ ReferencePart reference ∷ []))
+  pub whole : heading ≡ originator_parts
+      ++ (KindPart kind ∷ (mode_parts ++ ReferencePart reference ∷ []))
 
 -- the message's parts are these, in order
 pub record HasParts (m : MessageValue) (parts : List Part) : Type 0 where
@@ -216,4 +220,5 @@ pub record NamesPlace (lines : List (List ℕ)) (index : ℕ) : Type 0 where
 
 -- No text spells two messages.
 abbrev pub OneMessage : Type 0
-OneMessage = (a b : MessageValue) (lines : List (List ℕ)) → SpellsText a lines → SpellsText b lines → a ≡ b
+OneMessage =
+    (a b : MessageValue) (lines : List (List ℕ)) → SpellsText a lines → SpellsText b lines → a ≡ b

@@ -46,9 +46,11 @@ texts lines = map (λ l. l.1) lines
 
 -- the number of the line at an index; past the last line, its number plus one; 1 without lines
 abbrev pub place_number : List ℕ → ℕ → ℕ
-place_number ns i = if nat_lt i (length ns) then slice_index ns i else slice_index ns (length ns - 1) + 1
+place_number ns i =
+    if nat_lt i (length ns) then slice_index ns i else slice_index ns (length ns - 1) + 1
 
 -- the number of the first line with a byte outside 32 to 126
 abbrev pub first_unprintable : List (ℕ × List ℕ) → Option ℕ
 first_unprintable [] = None
-first_unprintable (line ∷ more) = if list_all is_printable line.1 then first_unprintable more else Some line.0
+first_unprintable (line ∷ more) =
+    if list_all is_printable line.1 then first_unprintable more else Some line.0

@@ -51,7 +51,8 @@ is_blank_or_none text = bytes_eq text [] || bytes_eq text (codes " ")
 unfoldable pub originator_of : List ℕ → Option (List ℕ)
 originator_of l =
     if bytes_eq (take 1 l) (codes ".")
-    then (if is_blank_or_none (take 1 (drop 7 (drop 1 l))) then address_of (take 7 (drop 1 l)) else None)
+    then (if is_blank_or_none (take 1 (drop 7 (drop 1 l))) then address_of (take 7 (drop 1 l))
+    else None)
     else None
 
 -- the line of a message kind
@@ -77,7 +78,8 @@ group_code_of text = None
 abbrev pub creator_of : List ℕ → Option (Option (List ℕ))
 creator_of [] = Some None
 creator_of (b ∷ text) =
-    if (b == 47) && nat_le 1 (length text) && nat_le (length text) 35 then Some (Some text) else None
+    if (b == 47) && nat_le 1 (length text) && nat_le (length text) 35 then Some (Some text)
+    else None
 
 -- the reference without its creator: day and month, five digits, the group code, three digits
 unfoldable pub numbers_of : List ℕ → Option (MonthDay × ℕ × GroupCode × ℕ)
@@ -104,18 +106,21 @@ day_in text = if length text == 7 then day_of text else None
 -- the date of a text, with a year or without
 abbrev pub date_of : List ℕ → Option GivenDate
 date_of text =
-    if length text == 7 then option_map Full (day_of text) else option_map Yearless (month_day_in text)
+    if length text == 7 then option_map Full (day_of text)
+    else option_map Yearless (month_day_in text)
 
 -- the last date of a text, or the open end
 abbrev pub last_date_of : List ℕ → Option GivenEnd
-last_date_of text = if bytes_eq text (codes "00XXX00") then Some Open else option_map Until (date_of text)
+last_date_of text =
+    if bytes_eq text (codes "00XXX00") then Some Open else option_map Until (date_of text)
 
 -- the days of operation of a text without blanks
 abbrev pub compact_days_of : List ℕ → Option (List Bool)
 compact_days_of text = if list_all is_digit text then days_of text else None
 
 -- the flight line of an ASM: a designator, a solidus and a date
-pub record SpellsDatedFlight (designator : Designator) (date : GivenDate) (line : List ℕ) : Type 0 where
+pub record SpellsDatedFlight (designator : Designator) (date : GivenDate)
+    (line : List ℕ) : Type 0 where
   pub designator_spelled : SpellsDesignator designator (before 47 line)
   pub date_spelled : date_of (drop 1 (from 47 line)) ≡ Some date
 
@@ -145,7 +150,8 @@ designators_of text = if is_text_of is_letter 0 20 text then Some text else None
 -- the configuration: nothing, or a dot and 1 to 20 letters or digits
 abbrev pub configuration_of : List ℕ → Option (List ℕ)
 configuration_of [] = Some []
-configuration_of (b ∷ text) = if (b == 46) && is_text_of is_alphanumeric 1 20 text then Some text else None
+configuration_of (b ∷ text) =
+    if (b == 46) && is_text_of is_alphanumeric 1 20 text then Some text else None
 
 -- the equipment of a line: service type, aircraft type, and a third part that may be left out
 unfoldable pub equipment_of : List ℕ → Option EquipmentValue
@@ -154,7 +160,12 @@ equipment_of line = do
   aircraft ← aircraft_of (word (after_word line))
   letters ← designators_of (before 46 (after_word (after_word line)))
   layout ← configuration_of (from 46 (after_word (after_word line)))
-  Some (record { service = service; aircraft = aircraft; designators = letters; configuration = layout })
+  Some (record {
+    service = service;
+    aircraft = aircraft;
+    designators = letters;
+    configuration = layout;
+  })
 
 -- ---- the leg lines
 
@@ -211,7 +222,8 @@ segment_text_of (b ∷ text) =
 abbrev pub points_of : List ℕ → Option (List ℕ × List ℕ)
 points_of text =
     if bytes_eq text (codes "QQQQQQ") then None
-    else (station_in (take 3 text) >>= λ board. station_in (drop 3 text) >>= λ off. Some (board, off))
+    else (station_in (take 3 text) >>= λ board. station_in (drop 3 text) >>= λ off.
+    Some (board, off))
 
 -- the segment of a line: board and off point, identifier, and a text
 unfoldable pub segment_of : List ℕ → Option SegmentLine

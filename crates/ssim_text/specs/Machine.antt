@@ -46,7 +46,8 @@ flight_expected Asm m a = AtDatedFlight m a
 
 -- a sub-message that has no leg line yet
 abbrev pub no_legs : Designator → Dates → Change → Body
-no_legs d dates change = record { designator = d; dates = dates; change = change; legs = []; segments = [] }
+no_legs d dates change =
+    record { designator = d; dates = dates; change = change; legs = []; segments = [] }
 
 -- the state after the flight with its period or date: expects the lines that the action needs
 abbrev pub body_expected : ActionIdentifier → MessageValue → Designator → Dates → State
@@ -122,12 +123,14 @@ step (AtDatedFlight m a) (DatedFlightPart d date) = Some (body_expected a m d (D
 step (AtPeriod m a d) (PeriodPart period) = Some (body_expected a m d (Period period))
 step (AtEquipment m e d dates) (EquipmentPart new) = Some (after_equipment e m d dates new)
 step (AtLegs m b) (LegPart leg) = if takes_leg b then Some (AtLegs m (with_leg b leg)) else None
-step (AtLegs m b) (SegmentPart s) = if takes_segment b s then Some (AtLegs m (with_segment b s)) else None
+step (AtLegs m b) (SegmentPart s) =
+    if takes_segment b s then Some (AtLegs m (with_segment b s)) else None
 step (AtLegs m b) Divider = if is_whole b then Some (AtNext (with_body m b)) else None
 step (AtEnd m) Divider = Some (AtNext m)
 step (AtNext m) (ActionPart a) =
     if nat_lt (length m.subs) 250 then Some (flight_expected m.kind m a) else None
-step (AtNext m) (FreePart line) = if begins_free line then Some (AtFree (with_free m line)) else None
+step (AtNext m) (FreePart line) =
+    if begins_free line then Some (AtFree (with_free m line)) else None
 step (AtFree m) (FreePart line) = Some (AtFree (with_free m line))
 step s p = None
 

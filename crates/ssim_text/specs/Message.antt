@@ -16,7 +16,8 @@ pub record MessageValue : Type 0 where
 
 -- a message that has no sub-message yet
 abbrev pub begun : List ℕ → Kind → TimeMode → GivenReference → MessageValue
-begun o kind mode r = record { originator = o; kind = kind; mode = mode; reference = r; subs = []; free = [] }
+begun o kind mode r =
+    record { originator = o; kind = kind; mode = mode; reference = r; subs = []; free = [] }
 
 -- the message with one more sub-message
 abbrev pub with_sub : MessageValue → Sub → MessageValue

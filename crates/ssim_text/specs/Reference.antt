@@ -28,7 +28,8 @@ printed_originator originator = if bytes_eq originator no_originator then [] els
 -- 01JUN25 00001 001
 abbrev pub printed_reference : Reference → List ℕ
 printed_reference r =
-    kind_text r.kind ++ 32 ∷ day_text r.date ++ 32 ∷ five_digits r.group ++ 32 ∷ three_digits r.serial
+    kind_text r.kind ++ 32 ∷ day_text r.date ++ 32 ∷ five_digits r.group
+    ++ 32 ∷ three_digits r.serial
     ++ printed_originator r.originator
 
 -- whether a text is an originator: seven letters or digits, or the seven blanks of none
@@ -49,4 +50,5 @@ pub record SpellsReference (r : Reference) (text : List ℕ) : Type 0 where
 
 -- no text spells two references
 abbrev pub OneReference : Type 0
-OneReference = (a b : Reference) (text : List ℕ) → SpellsReference a text → SpellsReference b text → a ≡ b
+OneReference =
+    (a b : Reference) (text : List ℕ) → SpellsReference a text → SpellsReference b text → a ≡ b

@@ -14,7 +14,8 @@ pub record SpellsMessage (m : MessageValue) (text : List ℕ) : Type 0 where
 
 -- If some text spells a message, the canonical text of the message spells it.
 abbrev pub CanonicalReadsBack : Type 0
-CanonicalReadsBack = (m : MessageValue) (text : List ℕ) → SpellsMessage m text → SpellsMessage m (canonical m)
+CanonicalReadsBack =
+    (m : MessageValue) (text : List ℕ) → SpellsMessage m text → SpellsMessage m (canonical m)
 
 -- Two texts spell equal messages exactly if the canonical texts of the messages are equal.
 abbrev pub EqualWhereWrittenEqual : Type 0

@@ -15,4 +15,5 @@ two_digits n = (48 + n / 10) ∷ (48 + n % 10) ∷ []
 
 -- the number that two digits spell
 abbrev pub two_digits_of : ℕ → ℕ → Option ℕ
-two_digits_of tens units = if is_digit tens && is_digit units then Some ((tens - 48) * 10 + (units - 48)) else None
+two_digits_of tens units =
+    if is_digit tens && is_digit units then Some ((tens - 48) * 10 + (units - 48)) else None

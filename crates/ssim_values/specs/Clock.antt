@@ -15,13 +15,15 @@ pub record SpellsClock (minutes : ℕ) (text : List ℕ) : Type 0 where
 
 -- the minutes of hours and minutes, if both are there and the sum is at most the limit
 abbrev pub minutes_to : ℕ → Option ℕ → Option ℕ → Option ℕ
-minutes_to limit (Some h) (Some m) = if nat_lt m 60 && nat_le (h * 60 + m) limit then Some (h * 60 + m) else None
+minutes_to limit (Some h) (Some m) =
+    if nat_lt m 60 && nat_le (h * 60 + m) limit then Some (h * 60 + m) else None
 minutes_to limit (Some h) None = None
 minutes_to limit None minutes = None
 
 -- the minutes of a text of four digits, hours and then minutes, if the sum is at most the limit
 abbrev pub hours_and_minutes : ℕ → List ℕ → Option ℕ
-hours_and_minutes limit (h₁ ∷ h₂ ∷ m₁ ∷ m₂ ∷ []) = minutes_to limit (two_digits_of h₁ h₂) (two_digits_of m₁ m₂)
+hours_and_minutes limit (h₁ ∷ h₂ ∷ m₁ ∷ m₂ ∷ []) =
+    minutes_to limit (two_digits_of h₁ h₂) (two_digits_of m₁ m₂)
 hours_and_minutes limit _ = None
 
 -- the minutes of the time that a text spells

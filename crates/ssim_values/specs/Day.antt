@@ -8,7 +8,8 @@ use Rattle.ssim_values.specs.Characters.{two_digits, two_digits_of}
 -- the three letters of each month, from January to December
 abbrev pub month_names : List (List ℕ)
 month_names =
-    codes "JAN" ∷ codes "FEB" ∷ codes "MAR" ∷ codes "APR" ∷ codes "MAY" ∷ codes "JUN" ∷ codes "JUL" ∷ codes "AUG"
+    codes "JAN" ∷ codes "FEB" ∷ codes "MAR" ∷ codes "APR" ∷ codes "MAY" ∷ codes "JUN" ∷ codes "JUL"
+    ∷ codes "AUG"
     ∷ codes "SEP" ∷ codes "OCT" ∷ codes "NOV" ∷ codes "DEC" ∷ []
 
 -- the name of a month from 1 to 12

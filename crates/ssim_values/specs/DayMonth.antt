@@ -30,5 +30,6 @@ month_day None day = None
 
 -- the day of a month that a text spells
 unfoldable pub month_day_of : List ℕ → Option MonthDay
-month_day_of (d₁ ∷ d₂ ∷ m₁ ∷ m₂ ∷ m₃ ∷ []) = month_day (month_named (m₁ ∷ m₂ ∷ m₃ ∷ [])) (two_digits_of d₁ d₂)
+month_day_of (d₁ ∷ d₂ ∷ m₁ ∷ m₂ ∷ m₃ ∷ []) =
+    month_day (month_named (m₁ ∷ m₂ ∷ m₃ ∷ [])) (two_digits_of d₁ d₂)
 month_day_of _ = None

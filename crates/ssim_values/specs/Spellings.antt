@@ -30,7 +30,8 @@ DayMonthsAreRead = Reads month_day_of SpellsDayMonth
 
 -- The text of a day and month reads back as the same day and month.
 abbrev pub DayMonthsReadBack : Type 0
-DayMonthsReadBack = (x : MonthDay) → IsDayMonth x.month x.day → month_day_of (month_day_text x) ≡ Some x
+DayMonthsReadBack =
+    (x : MonthDay) → IsDayMonth x.month x.day → month_day_of (month_day_text x) ≡ Some x
 
 -- Reading days of operation succeeds exactly on the texts that spell them, with those days.
 abbrev pub DayMasksAreRead : Type 0
@@ -38,7 +39,9 @@ DayMasksAreRead = Reads days_of SpellsDays
 
 -- Each of the two texts of days of operation reads back as the same days.
 abbrev pub DayMasksReadBack : Type 0
-DayMasksReadBack = (days : List Bool) → IsMask days → (days_of (places_of days) ≡ Some days) × (days_of (digits_of days) ≡ Some days)
+DayMasksReadBack =
+    (days : List Bool) → IsMask days → (days_of (places_of days) ≡ Some days)
+    × (days_of (digits_of days) ≡ Some days)
 
 -- Reading a time succeeds exactly on the texts that spell one, with that time.
 abbrev pub ClocksAreRead : Type 0

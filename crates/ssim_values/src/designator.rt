@@ -93,7 +93,8 @@ fn split_airline(text: &[u8]) -> Option<(u8, u8, u8, &[u8])>
     ensures whole { IfSome result (λ r. text.now ≡ airline_text (r.0 ∷ r.1 ∷ r.2 ∷ []) ++ r.3.now) }
     ensures only { IfSome result (λ r. (columns : List ℕ) → (rest : List ℕ)
         → length columns ≡ 3 → IsTrue (is_airline columns) → is_digit (slice_index rest 0) ≡ true
-        → text.now ≡ airline_text columns ++ rest → (columns ≡ r.0 ∷ r.1 ∷ r.2 ∷ []) × (rest ≡ r.3.now)) }
+        → text.now ≡ airline_text columns ++ rest → (columns ≡ r.0 ∷ r.1 ∷ r.2 ∷ [])
+        × (rest ≡ r.3.now)) }
     ensures none { IfNone result (length text.now < 2) }
 {
     if third_is_letter(text) {

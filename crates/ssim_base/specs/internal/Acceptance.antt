@@ -37,22 +37,28 @@ IsHeaderAlone (last ∷ second ∷ more) = ⊥
 abbrev pub IsExpectedAfter : Expected → List Record → Type 0
 IsExpectedAfter expected.Header earlier = earlier ≡ []
 IsExpectedAfter expected.Carrier earlier = IsHeaderAlone earlier
-IsExpectedAfter (expected.Legs heading) earlier = Follows false earlier × (heading.airline ≡ airline_of earlier) × (heading.end ≡ carrier_end earlier)
+IsExpectedAfter (expected.Legs heading) earlier =
+    Follows false earlier × (heading.airline ≡ airline_of earlier)
+    × (heading.end ≡ carrier_end earlier)
 IsExpectedAfter expected.End earlier = Follows true earlier
 
 -- whether a record gives a leg of this flight and sequence on a day
 abbrev pub gives : FlightNumber → ℕ → ℕ → Record → Bool
 gives flight sequence day (Header e) = false
 gives flight sequence day (Carrier e) = false
-gives flight sequence day (Leg e) = (same_flight flight e.name.flight && nat_eq sequence e.name.sequence) && holds (period_of e) day
+gives flight sequence day (Leg e) =
+    (same_flight flight e.name.flight && nat_eq sequence e.name.sequence) && holds (period_of e) day
 gives flight sequence day (Segment e) = false
 gives flight sequence day (Trailer e) = false
 
 -- the names, dates and flights of the table are those of these records
 pub record AreLegs (table : LegTable) (earlier : List Record) : Type 0 where
-  pub named : (name : Name) → IsFlight name.flight → names_leg (legs_at table (place_of name.flight)) name.sequence name.variation ≡ list_any (is_leg_named name) earlier
+  pub named : (name : Name) → IsFlight name.flight
+      → names_leg (legs_at table (place_of name.flight)) name.sequence name.variation
+      ≡ list_any (is_leg_named name) earlier
   pub used : (flight : FlightNumber) (sequence day : ℕ) → IsFlight flight → uses_date (legs_at table (place_of flight)) sequence day ≡ list_any (gives flight sequence day) earlier
-  pub flown : (flight : FlightNumber) → IsFlight flight → has_legs (legs_at table (place_of flight)) ≡ list_any (is_leg_of flight) earlier
+  pub flown : (flight : FlightNumber) → IsFlight flight
+      → has_legs (legs_at table (place_of flight)) ≡ list_any (is_leg_of flight) earlier
 
 -- the state of the checker after these records
 pub record HasAccepted (k : Acceptance) (earlier : List Record) : Type 0 where
@@ -75,13 +81,15 @@ Accepts old new r closed =
 abbrev pub IsRefused : ℕ → List Record → Record → BaseFault → Type 0
 IsRefused number earlier r fault.Memory = Unit {0}
 IsRefused number earlier r (fault.Read f) = ⊥
-IsRefused number earlier r (fault.Refused n refusal) = (n ≡ number) × (refusal_at earlier r ≡ Some refusal)
+IsRefused number earlier r (fault.Refused n refusal) =
+    (n ≡ number) × (refusal_at earlier r ≡ Some refusal)
 
 -- the refusal is the record's own, and the state still has the earlier records; or memory ran out
 abbrev pub IsLeft : Acceptance → ℕ → List Record → Record → BaseFault → Type 0
 IsLeft new number earlier r fault.Memory = Unit {0}
 IsLeft new number earlier r (fault.Read f) = ⊥
-IsLeft new number earlier r (fault.Refused n refusal) = (n ≡ number) × (refusal_at earlier r ≡ Some refusal) × HasAccepted new earlier
+IsLeft new number earlier r (fault.Refused n refusal) =
+    (n ≡ number) × (refusal_at earlier r ≡ Some refusal) × HasAccepted new earlier
 
 -- whether a record is a leg, where legs are expected
 abbrev pub is_next_leg : Expected → Record → Bool

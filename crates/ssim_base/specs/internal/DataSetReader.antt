@@ -17,16 +17,23 @@ unread limit = record { limit = limit; came = 0; number = 0; held = []; ended = 
 
 -- the notes of one record
 abbrev pub notes_at : ℕ → ℕ → Record → List Note
-notes_at number previous r = note_if (not (nat_eq (serial_of r) (previous + 1))) (Serial number) ++ check_notes number previous r
+notes_at number previous r =
+    note_if (not (nat_eq (serial_of r) (previous + 1))) (Serial number)
+    ++ check_notes number previous r
 
 -- The reader's state has exactly these earlier records and their notes. Reading the numbered
 -- records done and then any later ones gives the same as reading the later ones from this state.
-pub record IsSoFar (g : DataSetReader) (earlier : List Record) (done : List (ℕ × Record)) : Type 0 where
+pub record IsSoFar (g : DataSetReader) (earlier : List Record)
+    (done : List (ℕ × Record)) : Type 0 where
   pub is_kept : HasAccepted g.kept earlier
   pub records : All (λ r. IsRecord r.1) done
-  pub refused : (ending : Ending) (later : List (ℕ × Record)) → first_refusal ending [] (done ++ later) ≡ first_refusal ending earlier later
-  pub kept : (later : List (ℕ × Record)) → kept_all [] (map (λ r. r.1) (done ++ later)) ≡ reverse earlier ++ kept_all earlier (map (λ r. r.1) later)
-  pub noted : (later : List (ℕ × Record)) → notes_of 0 (done ++ later) ≡ g.notes.items ++ notes_of g.previous later
+  pub refused : (ending : Ending) (later : List (ℕ × Record))
+      → first_refusal ending [] (done ++ later) ≡ first_refusal ending earlier later
+  pub kept : (later : List (ℕ × Record))
+      → kept_all [] (map (λ r. r.1) (done ++ later))
+      ≡ reverse earlier ++ kept_all earlier (map (λ r. r.1) later)
+  pub noted : (later : List (ℕ × Record))
+      → notes_of 0 (done ++ later) ≡ g.notes.items ++ notes_of g.previous later
 
 -- the list has these records, the latest of which comes first
 abbrev pub IsListOf : List Record → List Record → Type 0

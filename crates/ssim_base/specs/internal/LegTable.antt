@@ -43,7 +43,8 @@ is_of sequence (Some legs) = is_numbered sequence legs
 -- the first index of such an entry, or the number of entries if there is none
 abbrev pub index_of : List LegSequence → ℕ → ℕ
 index_of entries sequence =
-    if is_of sequence (slice_get entries (sequence - 1)) then sequence - 1 else position_or_len (is_numbered sequence) entries
+    if is_of sequence (slice_get entries (sequence - 1)) then sequence - 1
+    else position_or_len (is_numbered sequence) entries
 
 -- the entry of a leg sequence, if there is one
 abbrev pub entry_of : List LegSequence → ℕ → Option LegSequence
@@ -73,8 +74,10 @@ has_legs [] = false
 has_legs (legs ∷ entries) = true
 
 -- one more leg record of the flight, of a leg sequence, an itinerary variation and a period
-pub record AddsLeg (old new : List LegSequence) (sequence variation : ℕ) (period : DayRange) : Type 0 where
-  pub named : (s v : ℕ) → names_leg new s v ≡ ((nat_eq s sequence && nat_eq v variation) || names_leg old s v)
+pub record AddsLeg (old new : List LegSequence) (sequence variation : ℕ)
+    (period : DayRange) : Type 0 where
+  pub named : (s v : ℕ) → names_leg new s v
+      ≡ ((nat_eq s sequence && nat_eq v variation) || names_leg old s v)
   pub used : (s n : ℕ) → uses_date new s n ≡ ((nat_eq s sequence && holds period n) || uses_date old s n)
   pub there : has_legs new ≡ true
 
@@ -99,7 +102,8 @@ abbrev pub legs_at : LegTable → ℕ → List LegSequence
 legs_at table place = legs_in (flights_of (slice_get table.numbers.items (place / 27))) (place % 27)
 
 -- one more leg record of the flight with this rank; the records of the others stay
-pub record AddsLegAt (old new : LegTable) (place sequence variation : ℕ) (period : DayRange) : Type 0 where
+pub record AddsLegAt (old new : LegTable) (place sequence variation : ℕ)
+    (period : DayRange) : Type 0 where
   pub its : AddsLeg (legs_at old place) (legs_at new place) sequence variation period
   pub others : (k : ℕ) → k ≢ place → legs_at new k ≡ legs_at old k
 
@@ -108,7 +112,9 @@ pub record AddsLegAt (old new : LegTable) (place sequence variation : ℕ) (peri
 -- the flights that pass a test, in order, among the `count` flights from an index on
 abbrev pub flights_from : (ℕ → Bool) → ℕ → ℕ → List FlightNumber
 flights_from has place zero = []
-flights_from has place (suc count) = if has place then flight_at place ∷ flights_from has (place + 1) count else flights_from has (place + 1) count
+flights_from has place (suc count) =
+    if has place then flight_at place ∷ flights_from has (place + 1) count
+    else flights_from has (place + 1) count
 
 -- the flights that pass a test, in order, among all flights from a rank on
 abbrev pub flights_left : (ℕ → Bool) → ℕ → List FlightNumber

@@ -21,7 +21,8 @@ listed None = []
 abbrev pub Finds : declared.Checks → declared.Checks → ℕ → Record → Option BaseFault → Type 0
 Finds old new number one problem =
     (standing : Standing) → Stands old standing
-    → Stands new (after_item standing (Ok one)) × (listed problem ≡ numbered number (refusal_in standing one))
+    → Stands new (after_item standing (Ok one))
+    × (listed problem ≡ numbered number (refusal_in standing one))
 
 -- how things stand after an invalid record
 abbrev pub after_any_invalid : Standing → Standing
@@ -30,14 +31,16 @@ after_any_invalid Alone = Alone
 
 -- the checks stand after an invalid record
 abbrev pub Passes : declared.Checks → declared.Checks → Type 0
-Passes old new = (standing : Standing) → Stands old standing → Stands new (after_any_invalid standing)
+Passes old new =
+    (standing : Standing) → Stands old standing → Stands new (after_any_invalid standing)
 
 -- the problem of one more block is added, if it has one
 abbrev pub Takes : ProblemReader → ProblemReader → ℕ → List ℕ → Type 0
 Takes old new number block =
     (item : Item) × Says number block item
     × ((standing : Standing) → Stands old.checks standing
-    → Stands new.checks (after_item standing item) × (new.faults.items ≡ old.faults.items ++ problem_in standing (number, item)))
+    → Stands new.checks (after_item standing item)
+    × (new.faults.items ≡ old.faults.items ++ problem_in standing (number, item)))
 
 -- nothing was read
 pub record IsNew (found : ProblemReader) : Type 0 where

@@ -22,7 +22,8 @@ AreGivenOf limit (Some bytes) records ending = AreGiven limit bytes records endi
 
 -- a result whose value has records and notes, read by `seen`, has as an outcome the property P; out
 -- of memory is no outcome
-abbrev pub ReturnsAs : {X : Type 0} → (X → List Record × List Note) → Result X BaseFault → (Outcome → Type 0) → Type 0
+abbrev pub ReturnsAs : {X : Type 0} → (X → List Record × List Note) → Result X BaseFault
+    → (Outcome → Type 0) → Type 0
 ReturnsAs seen (Ok read) P = P (Ok (seen read))
 ReturnsAs seen (Err fault.Memory) P = Unit {0}
 ReturnsAs seen (Err (fault.Read f)) P = P (Err (fault.Read f))
@@ -32,10 +33,11 @@ ReturnsAs seen (Err (fault.Refused number refusal)) P = P (Err (fault.Refused nu
 abbrev pub Refuses : ℕ → Option (List ℕ) → BaseFault → Type 0
 Refuses limit known fault.Memory = Unit {0}
 Refuses limit known (fault.Read f) = IsReadOf limit known (Err (fault.Read f))
-Refuses limit known (fault.Refused number refusal) = IsReadOf limit known (Err (fault.Refused number refusal))
+Refuses limit known (fault.Refused number refusal) =
+    IsReadOf limit known (Err (fault.Refused number refusal))
 
--- whether a fault is of the bytes: neither did memory run out, nor did the reader fail (13), nor did
--- more bytes come than the limit (14)
+-- whether a fault is of the bytes: neither did memory run out, nor did the reader fail (13), nor
+-- did more bytes come than the limit (14)
 abbrev pub is_of_bytes : BaseFault → Bool
 is_of_bytes fault.Memory = false
 is_of_bytes (fault.Read (Short number)) = true
@@ -47,7 +49,9 @@ is_of_bytes (fault.Refused number refusal) = true
 
 -- the three records are the header, the carrier record and the trailer of the frame
 abbrev pub AreOfFrame : Frame → Record → Record → Record → Type 0
-AreOfFrame frame first second last = (first ≡ Header frame.header) × (second ≡ Carrier frame.carrier) × (last ≡ Trailer frame.trailer)
+AreOfFrame frame first second last =
+    (first ≡ Header frame.header) × (second ≡ Carrier frame.carrier)
+    × (last ≡ Trailer frame.trailer)
 
 -- why dates mean no period: a date that does not exist, or a last date before the first
 abbrev pub AreFaulty : CarrierFields → Dates → DatesFault → Type 0

@@ -13,7 +13,8 @@ row_of line = do
   first ← day_in (word (after_word line))
   last ← day_in (word (after_word (after_word line)))
   variation ← variation_in (after_word (after_word (after_word line)))
-  if nat_le first last then Some (record { station = station; first = first; last = last; variation = variation }) else None
+  if nat_le first last then Some
+      (record { station = station; first = first; last = last; variation = variation }) else None
 
 -- a row before the rows of the later lines
 abbrev pub row_before : Row → Result (List Row) ℕ → Result (List Row) ℕ

@@ -63,8 +63,10 @@ impl Acceptance {
     #[inline(always)]
     pub(crate) fn put(&mut self, number: u64, one: &mut Record) -> Result<(), BaseFault>
         ensures accepts { OnOk result (Accepts self.old self.new one.old one.new) }
-        ensures err { IfErr result (λ e. (earlier : List Record) → HasAccepted self.old earlier → IsRefused number earlier one.old e) }
-        ensures stays { IfErr result (Stays (is_next_leg self.old.expected one.old) self.old self.new) }
+        ensures err { IfErr result (λ e. (earlier : List Record) → HasAccepted self.old earlier
+            → IsRefused number earlier one.old e) }
+        ensures stays { IfErr result (Stays (is_next_leg self.old.expected one.old) self.old
+            self.new) }
     {
         match self.expected {
             Expected::Header => self.put_header(number, one),
@@ -84,8 +86,10 @@ impl Acceptance {
     ) -> Result<(), BaseFault>
         requires { self.old.expected ≡ expected.Legs heading }
         ensures accepts { OnOk result (Accepts self.old self.new one.old one.new) }
-        ensures err { IfErr result (λ e. (earlier : List Record) → HasAccepted self.old earlier → IsRefused number earlier one.old e) }
-        ensures stays { IfErr result (Stays (is_next_leg self.old.expected one.old) self.old self.new) }
+        ensures err { IfErr result (λ e. (earlier : List Record) → HasAccepted self.old earlier
+            → IsRefused number earlier one.old e) }
+        ensures stays { IfErr result (Stays (is_next_leg self.old.expected one.old) self.old
+            self.new) }
     {
         match one {
             Record::Leg(leg) => self.put_leg(number, heading, leg),
@@ -101,7 +105,8 @@ impl Acceptance {
     /// before the leg is added.
     pub(crate) fn offer(&mut self, number: u64, one: &mut Record) -> Result<(), BaseFault>
         ensures accepts { OnOk result (Accepts self.old self.new one.old one.new) }
-        ensures err { IfErr result (λ e. (earlier : List Record) → HasAccepted self.old earlier → IsLeft self.new number earlier one.old e) }
+        ensures err { IfErr result (λ e. (earlier : List Record) → HasAccepted self.old earlier
+            → IsLeft self.new number earlier one.old e) }
     {
         if let Expected::Legs(heading) = self.expected {
             if let Record::Leg(leg) = &*one {
@@ -119,8 +124,10 @@ impl Acceptance {
         leg: &LegRecord,
     ) -> Result<(), BaseFault>
         requires { self.now.expected ≡ expected.Legs heading }
-        ensures ok { OnOk result ((earlier : List Record) → HasAccepted self.now earlier → refusal_at earlier (Record.Leg leg.now) ≡ None) }
-        ensures err { IfErr result (λ e. (earlier : List Record) → HasAccepted self.now earlier → IsLeft self.now number earlier (Record.Leg leg.now) e) }
+        ensures ok { OnOk result ((earlier : List Record) → HasAccepted self.now earlier
+            → refusal_at earlier (Record.Leg leg.now) ≡ None) }
+        ensures err { IfErr result (λ e. (earlier : List Record) → HasAccepted self.now earlier
+            → IsLeft self.now number earlier (Record.Leg leg.now) e) }
     {
         let period = leg_period(number, heading, leg)?;
         if self.legs.meets(leg.name(), &period) {
@@ -131,7 +138,8 @@ impl Acceptance {
 
     /// Whether the next record is expected to be the header or the carrier.
     pub(crate) fn is_at_heading(&self) -> bool
-        ensures { (earlier : List Record) → HasAccepted self.now earlier → result ≡ is_at_heading earlier }
+        ensures { (earlier : List Record) → HasAccepted self.now earlier
+            → result ≡ is_at_heading earlier }
     {
         match self.expected {
             Expected::Header | Expected::Carrier => true,
@@ -141,7 +149,8 @@ impl Acceptance {
 
     /// What is missing if no record follows.
     pub(crate) fn missing(&self) -> Option<BaseRefusal>
-        ensures { (earlier : List Record) → HasAccepted self.now earlier → result ≡ missing earlier }
+        ensures { (earlier : List Record) → HasAccepted self.now earlier
+            → result ≡ missing earlier }
     {
         match self.expected {
             Expected::Header => Some(BaseRefusal::NoHeader),
@@ -162,7 +171,8 @@ impl Acceptance {
     fn put_header(&mut self, number: u64, one: &mut Record) -> Result<(), BaseFault>
         requires { self.old.expected ≡ expected.Header }
         ensures accepts { OnOk result (Accepts self.old self.new one.old one.new) }
-        ensures err { IfErr result (λ e. (earlier : List Record) → HasAccepted self.old earlier → IsRefused number earlier one.old e) }
+        ensures err { IfErr result (λ e. (earlier : List Record) → HasAccepted self.old earlier
+            → IsRefused number earlier one.old e) }
         ensures stays { IfErr result (Stays false self.old self.new) }
     {
         match one {
@@ -178,7 +188,8 @@ impl Acceptance {
     fn put_carrier(&mut self, number: u64, one: &mut Record) -> Result<(), BaseFault>
         requires { self.old.expected ≡ expected.Carrier }
         ensures accepts { OnOk result (Accepts self.old self.new one.old one.new) }
-        ensures err { IfErr result (λ e. (earlier : List Record) → HasAccepted self.old earlier → IsRefused number earlier one.old e) }
+        ensures err { IfErr result (λ e. (earlier : List Record) → HasAccepted self.old earlier
+            → IsRefused number earlier one.old e) }
         ensures stays { IfErr result (Stays false self.old self.new) }
     {
         match one {
@@ -204,8 +215,10 @@ impl Acceptance {
         leg: &mut LegRecord,
     ) -> Result<(), BaseFault>
         requires { self.old.expected ≡ expected.Legs heading }
-        ensures accepts { OnOk result (Accepts self.old self.new (Record.Leg leg.old) (Record.Leg leg.new)) }
-        ensures err { IfErr result (λ e. (earlier : List Record) → HasAccepted self.old earlier → IsRefused number earlier (Record.Leg leg.old) e) }
+        ensures accepts { OnOk result (Accepts self.old self.new (Record.Leg leg.old)
+            (Record.Leg leg.new)) }
+        ensures err { IfErr result (λ e. (earlier : List Record) → HasAccepted self.old earlier
+            → IsRefused number earlier (Record.Leg leg.old) e) }
     {
         let period = leg_period(number, heading, leg)?;
         if self.legs.add(leg.name(), &period)? {
@@ -223,8 +236,10 @@ impl Acceptance {
         segment: &mut SegmentRecord,
     ) -> Result<(), BaseFault>
         requires { self.now.expected ≡ expected.Legs heading }
-        ensures accepts { OnOk result (Accepts self.now self.now (Record.Segment segment.old) (Record.Segment segment.new)) }
-        ensures err { IfErr result (λ e. (earlier : List Record) → HasAccepted self.now earlier → IsRefused number earlier (Record.Segment segment.old) e) }
+        ensures accepts { OnOk result (Accepts self.now self.now (Record.Segment segment.old)
+            (Record.Segment segment.new)) }
+        ensures err { IfErr result (λ e. (earlier : List Record) → HasAccepted self.now earlier
+            → IsRefused number earlier (Record.Segment segment.old) e) }
     {
         if !same_airline(segment.name().airline(), heading.airline) {
             return Err(BaseFault::Refused(number, BaseRefusal::OtherAirline));
@@ -248,7 +263,8 @@ impl Acceptance {
         requires { self.old.expected ≡ expected.Legs heading }
         ensures accepts { OnOk result
             (Accepts self.old self.new (Record.Trailer trailer.old) (Record.Trailer trailer.new)) }
-        ensures err { IfErr result (λ e. (earlier : List Record) → HasAccepted self.old earlier → IsRefused number earlier (Record.Trailer trailer.old) e) }
+        ensures err { IfErr result (λ e. (earlier : List Record) → HasAccepted self.old earlier
+            → IsRefused number earlier (Record.Trailer trailer.old) e) }
         ensures stays { IfErr result (Stays false self.old self.new) }
     {
         if !same_airline(trailer.airline(), heading.airline) {
@@ -268,7 +284,9 @@ impl Acceptance {
 // The period of a leg record, if its airline, overflow, rate and end are valid.
 fn leg_period(number: u64, heading: CarrierTerms, leg: &LegRecord) -> Result<Period, BaseFault>
     ensures ok { IfOk result (AcceptsLeg heading leg.now) }
-    ensures err { IfErr result (λ e. (earlier : List Record) → IsExpectedAfter (expected.Legs heading) earlier → IsRefused number earlier (Record.Leg leg.now) e) }
+    ensures err { IfErr result (λ e. (earlier : List Record)
+        → IsExpectedAfter (expected.Legs heading) earlier
+        → IsRefused number earlier (Record.Leg leg.now) e) }
 {
     if !same_airline(leg.airline(), heading.airline) {
         return Err(BaseFault::Refused(number, BaseRefusal::OtherAirline));

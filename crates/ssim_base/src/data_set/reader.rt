@@ -50,9 +50,11 @@ impl DataSetReader {
     #[inline(always)]
     pub(crate) fn take(&mut self, number: u64, one: &mut Record) -> Result<(), BaseFault>
         ensures accepts { OnOk result (Accepts self.old.kept self.new.kept one.old one.new) }
-        ensures noted { OnOk result (self.new.notes.items ≡ self.old.notes.items ++ notes_at number self.old.previous one.old) }
+        ensures noted { OnOk result (self.new.notes.items
+            ≡ self.old.notes.items ++ notes_at number self.old.previous one.old) }
         ensures previous { OnOk result (self.new.previous ≡ serial_of one.old) }
-        ensures err { IfErr result (λ e. (earlier : List Record) → HasAccepted self.old.kept earlier → IsRefused number earlier one.old e) }
+        ensures err { IfErr result (λ e. (earlier : List Record) → HasAccepted self.old.kept earlier
+            → IsRefused number earlier one.old e) }
         ensures is_record { IsRecord one.old }
     {
         // `put` changes the record, so its serial is read before.
@@ -63,7 +65,8 @@ impl DataSetReader {
     // Adds the notes on a record.
     #[inline(always)]
     fn note(&mut self, number: u64, one: &Record) -> Result<(), Memory>
-        ensures noted { OnOk result (self.new.notes.items ≡ self.old.notes.items ++ notes_at number self.old.previous one.now) }
+        ensures noted { OnOk result (self.new.notes.items
+            ≡ self.old.notes.items ++ notes_at number self.old.previous one.now) }
         ensures previous { OnOk result (self.new.previous ≡ serial_of one.now) }
         ensures kept { self.new.kept ≡ self.old.kept }
         ensures is_record { IsRecord one.now }
@@ -108,13 +111,18 @@ pub(crate) fn read_records<R: Source, L: RecordSink>(
         HasRead blocks.old.limit (R.left reader.old) (L.has records.new) read.0 read.1) }
     ensures err { IfErr result (λ e. Refuses blocks.old.limit (R.left reader.old) e) }
     ensures no_failure { IfOk result (λ _. R.failures reader.new ≡ R.failures reader.old) }
-    ensures failure { IfErr result (λ e. FailsAs (R.failures reader.old) (R.failures reader.new) e) }
+    ensures failure { IfErr result
+        (λ e. FailsAs (R.failures reader.old) (R.failures reader.new) e) }
     ensures fails_after { IfErr result (λ e. FailsAfter (R.left reader.old) (R.left reader.new) e) }
-    ensures never_ends { IfErr result (λ e. NeverEnds blocks.old.limit (Came (R.left reader.old) (R.left reader.new) (R.came reader.old) (R.came reader.new)) e) }
+    ensures never_ends { IfErr result
+        (λ e. NeverEnds blocks.old.limit
+        (Came (R.left reader.old) (R.left reader.new) (R.came reader.old) (R.came reader.new)) e) }
     ensures next { IfErr result (λ e.
         is_of_bytes e ≡ true → IsRecordAfter e (blocks.new.number + 1)) }
     ensures limit { IfErr result (λ _. blocks.new.limit ≡ blocks.old.limit) }
-    ensures came { IfErr result (λ _. Came (R.left reader.old) (R.left reader.new) (R.came reader.old) (R.came reader.new) blocks.new.came) }
+    ensures came { IfErr result (λ _.
+        Came (R.left reader.old) (R.left reader.new) (R.came reader.old) (R.came reader.new)
+        blocks.new.came) }
 {
     frames_are_one();
     let mut records_read = DataSetReader::new(alloc);
@@ -133,9 +141,9 @@ pub(crate) fn read_records<R: Source, L: RecordSink>(
     }
 }
 
-/// Does what `read_records` does, and reads the reader to its end: after a fault of the bytes, those
-/// that are left are fetched too. If the reader fails then, or more bytes come than the limit, this
-/// is the fault, and it names the record after the invalid one.
+/// Does what `read_records` does, and reads the reader to its end: after a fault of the bytes,
+/// those that are left are fetched too. If the reader fails then, or more bytes come than the
+/// limit, this is the fault, and it names the record after the invalid one.
 pub(crate) fn read_whole<R: Source, L: RecordSink>(
     alloc: Global,
     records: &mut L,
@@ -147,9 +155,12 @@ pub(crate) fn read_whole<R: Source, L: RecordSink>(
         HasRead limit (R.left reader.old) (L.has records.new) read.0 read.1) }
     ensures err { IfErr result (RefusesWhole limit (R.left reader.old)) }
     ensures no_failure { IfOk result (λ _. R.failures reader.new ≡ R.failures reader.old) }
-    ensures failure { IfErr result (λ e. FailsAs (R.failures reader.old) (R.failures reader.new) e) }
+    ensures failure { IfErr result
+        (λ e. FailsAs (R.failures reader.old) (R.failures reader.new) e) }
     ensures names { IfErr result (λ e. NamesNext limit (R.left reader.old) (R.left reader.new) e) }
-    ensures never_ends { IfErr result (λ e. NeverEnds limit (Came (R.left reader.old) (R.left reader.new) (R.came reader.old) (R.came reader.new)) e) }
+    ensures never_ends { IfErr result
+        (λ e. NeverEnds limit (Came (R.left reader.old) (R.left reader.new) (R.came reader.old)
+        (R.came reader.new)) e) }
 {
     let mut blocks = Records::new(limit);
     match read_records(alloc, records, &mut blocks, reader) {

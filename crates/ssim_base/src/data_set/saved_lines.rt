@@ -113,11 +113,19 @@ fn next_line<R: Source>(
     into: &mut Option<Record>,
 ) -> Result<bool, InputFault>
     ensures limit { input.new.limit ≡ input.old.limit }
-    ensures uses { OnOk result (Uses [] input.old (R.left reader.old) input.new (R.left reader.new)) }
-    ensures some { result ≡ Ok true → (201 ≤ length input.new.held) × IsLineOf into.new (take 201 input.new.held) [] }
-    ensures none { result ≡ Ok false → IfSome (ahead input.new (R.left reader.new)) (λ bytes. (r : Record) (rest : List ℕ) → IsLine r bytes rest → ⊥) }
-    ensures gives { OnOk result (Gives (R.left reader.old) (R.left reader.new) (R.came reader.old) (R.came reader.new) (R.failures reader.old) (R.failures reader.new) input.old.came input.new.came) }
-    ensures stops { IfErr result (Stops input.old.limit (R.left reader.old) (R.left reader.new) (R.came reader.old) (R.came reader.new) (R.failures reader.old) (R.failures reader.new) input.old.came) }
+    ensures uses { OnOk result (Uses [] input.old (R.left reader.old) input.new
+        (R.left reader.new)) }
+    ensures some { result ≡ Ok true → (201 ≤ length input.new.held)
+        × IsLineOf into.new (take 201 input.new.held) [] }
+    ensures none { result ≡ Ok false
+        → IfSome (ahead input.new (R.left reader.new)) (λ bytes. (r : Record) (rest : List ℕ)
+        → IsLine r bytes rest → ⊥) }
+    ensures gives { OnOk result (Gives (R.left reader.old) (R.left reader.new) (R.came reader.old)
+        (R.came reader.new) (R.failures reader.old) (R.failures reader.new) input.old.came
+        input.new.came) }
+    ensures stops { IfErr result (Stops input.old.limit (R.left reader.old) (R.left reader.new)
+        (R.came reader.old) (R.came reader.new) (R.failures reader.old) (R.failures reader.new)
+        input.old.came) }
 {
     if !input.has(reader, RECORD_LINE)? {
         return Ok(false);
@@ -128,9 +136,9 @@ fn next_line<R: Source>(
     }
 }
 
-/// The data set whose records the next `count` lines of the reader are. Each line is read once: what
-/// it spells is compared with it as it is written, and kept. The lines are used, and what comes
-/// after them is not.
+/// The data set whose records the next `count` lines of the reader are. Each line is read once:
+/// what it spells is compared with it as it is written, and kept. The lines are used, and what
+/// comes after them is not.
 ///
 /// The error names the first line that is no record as a base has it, or at which the base is
 /// invalid: the lines before it are used. A base without header, carrier or trailer is invalid
@@ -141,14 +149,19 @@ pub fn read_saved<R: Source>(
     input: &mut InputBuffer,
     reader: &mut R,
 ) -> Result<DataSet, SavedFault>
-    ensures ok { IfOk result (λ read. IsBaseRecords read × (length read ≡ count) × Uses (saved read) input.old (R.left reader.old) input.new (R.left reader.new)) }
+    ensures ok { IfOk result (λ read. IsBaseRecords read × (length read ≡ count)
+        × Uses (saved read) input.old (R.left reader.old) input.new (R.left reader.new)) }
     ensures err { IfErr result (RefusesLines count (ahead input.old (R.left reader.old))) }
     ensures offset { IfErr result (IsAfterUsed input.new) }
     ensures limit { input.new.limit ≡ input.old.limit }
 
     // What the reader gave, and whether it failed.
-    ensures gives { OnOk result (Gives (R.left reader.old) (R.left reader.new) (R.came reader.old) (R.came reader.new) (R.failures reader.old) (R.failures reader.new) input.old.came input.new.came) }
-    ensures stops { IfErr result (StopsSaved input.old.limit (R.left reader.old) (R.left reader.new) (R.came reader.old) (R.came reader.new) (R.failures reader.old) (R.failures reader.new) input.old.came input.new.came) }
+    ensures gives { OnOk result (Gives (R.left reader.old) (R.left reader.new) (R.came reader.old)
+        (R.came reader.new) (R.failures reader.old) (R.failures reader.new) input.old.came
+        input.new.came) }
+    ensures stops { IfErr result (StopsSaved input.old.limit (R.left reader.old) (R.left reader.new)
+        (R.came reader.old) (R.came reader.new) (R.failures reader.old) (R.failures reader.new)
+        input.old.came input.new.came) }
 {
     let mut kept = Acceptance::new(alloc);
     let mut records = Vec::new(alloc);

@@ -31,7 +31,8 @@ impl DaySet {
 
     /// Adds the dates of a period. Returns whether one of them was in the set.
     pub(crate) fn add_period(&mut self, period: &Period) -> bool
-        ensures days { (n : ℕ) → has_date self.new.words.items n ≡ (holds period.now n || has_date self.old.words.items n) }
+        ensures days { (n : ℕ) → has_date self.new.words.items n
+            ≡ (holds period.now n || has_date self.old.words.items n) }
         ensures met { result ≡ have_common_date (holds period.now) (has_date self.old.words.items) }
     {
         let first = period.first().number() as usize;
@@ -75,7 +76,8 @@ impl DaySet {
     // Adds a date. Returns whether it was in the set.
     fn add(&mut self, day: usize) -> bool
         requires { day < 36525 }
-        ensures days { (n : ℕ) → has_date self.new.words.items n ≡ (nat_eq n day || has_date self.old.words.items n) }
+        ensures days { (n : ℕ) → has_date self.new.words.items n
+            ≡ (nat_eq n day || has_date self.old.words.items n) }
         ensures met { result ≡ has_date self.old.words.items day }
     {
         let met = self.has(day);

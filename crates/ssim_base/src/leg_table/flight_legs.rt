@@ -37,8 +37,10 @@ impl FlightLegs {
         period: &Period,
     ) -> Result<bool, Memory>
         requires { variation < 128 }
-        ensures ok { OnOk result (AddsLeg self.old.entries.items self.new.entries.items sequence variation period.now) }
-        ensures met { IfOk result (λ met. met ≡ have_common_date (holds period.now) (uses_date self.old.entries.items sequence)) }
+        ensures ok { OnOk result (AddsLeg self.old.entries.items self.new.entries.items sequence
+            variation period.now) }
+        ensures met { IfOk result (λ met. met
+            ≡ have_common_date (holds period.now) (uses_date self.old.entries.items sequence)) }
     {
         let index = self.index_of(sequence);
         if index < self.entries.len() {
@@ -59,7 +61,8 @@ impl FlightLegs {
 
     /// Whether a leg record of this leg sequence has one of the dates of a period.
     pub(crate) fn meets(&self, sequence: u8, period: &Period) -> bool
-        ensures { result ≡ have_common_date (holds period.now) (uses_date self.now.entries.items sequence) }
+        ensures { result ≡ have_common_date (holds period.now)
+            (uses_date self.now.entries.items sequence) }
     {
         let index = self.index_of(sequence);
         index < self.entries.len() && self.entries[index].meets(period)
@@ -83,8 +86,10 @@ impl FlightLegs {
     ) -> Result<bool, Memory>
         requires variation { variation < 128 }
         requires first { entry_of self.old.entries.items sequence ≡ None }
-        ensures ok { OnOk result (AddsLeg self.old.entries.items self.new.entries.items sequence variation period.now) }
-        ensures met { IfOk result (λ met. met ≡ have_common_date (holds period.now) (uses_date self.old.entries.items sequence)) }
+        ensures ok { OnOk result (AddsLeg self.old.entries.items self.new.entries.items sequence
+            variation period.now) }
+        ensures met { IfOk result (λ met. met
+            ≡ have_common_date (holds period.now) (uses_date self.old.entries.items sequence)) }
     {
         let mut entry = LegSequence::new(sequence);
         let met = entry.add(alloc, variation, period)?;

@@ -44,9 +44,12 @@ impl LegSequence {
     ) -> Result<bool, Memory>
         requires { variation < 128 }
         ensures number { self.new.number ≡ self.old.number }
-        ensures variations { OnOk result ((v : ℕ) → has_variation self.new v ≡ (nat_eq v variation || has_variation self.old v)) }
-        ensures dates { OnOk result ((n : ℕ) → is_used self.new.dates n ≡ (holds period.now n || is_used self.old.dates n)) }
-        ensures met { IfOk result (λ met. met ≡ have_common_date (holds period.now) (is_used self.old.dates)) }
+        ensures variations { OnOk result ((v : ℕ)
+            → has_variation self.new v ≡ (nat_eq v variation || has_variation self.old v)) }
+        ensures dates { OnOk result ((n : ℕ)
+            → is_used self.new.dates n ≡ (holds period.now n || is_used self.old.dates n)) }
+        ensures met { IfOk result (λ met. met
+            ≡ have_common_date (holds period.now) (is_used self.old.dates)) }
     {
         self.variations |= 1 << variation;
         self.dates.take(alloc, period)

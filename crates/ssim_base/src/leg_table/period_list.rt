@@ -51,7 +51,8 @@ impl PeriodList {
 
     // Whether each period ends before another one begins.
     fn ends_before(&self, period: &Period) -> bool
-        ensures { result ≡ true → have_common_date (holds period.now) (is_in self.now.periods.items) ≡ false }
+        ensures { result ≡ true → have_common_date (holds period.now) (is_in self.now.periods.items)
+            ≡ false }
     {
         self.latest < period.first().number()
     }
@@ -79,8 +80,11 @@ impl PeriodList {
 
     /// One more period. Returns whether it has a date in common with another one.
     pub(crate) fn add(&mut self, period: &Period) -> Result<bool, Memory>
-        ensures days { OnOk result ((n : ℕ) → is_in self.new.periods.items n ≡ (holds period.now n || is_in self.old.periods.items n)) }
-        ensures met { IfOk result (λ met. met ≡ have_common_date (holds period.now) (is_in self.old.periods.items)) }
+        ensures days { OnOk result ((n : ℕ)
+            → is_in self.new.periods.items n
+            ≡ (holds period.now n || is_in self.old.periods.items n)) }
+        ensures met { IfOk result (λ met. met
+            ≡ have_common_date (holds period.now) (is_in self.old.periods.items)) }
     {
         let met = self.meets_any(period);
         self.periods.push(*period)?;

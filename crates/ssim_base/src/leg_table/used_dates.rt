@@ -36,8 +36,10 @@ impl UsedDates {
 
     /// The dates of a period are used. Returns whether one of them was used before.
     pub(crate) fn take(&mut self, alloc: Global, period: &Period) -> Result<bool, Memory>
-        ensures days { OnOk result ((n : ℕ) → is_used self.new n ≡ (holds period.now n || is_used self.old n)) }
-        ensures met { IfOk result (λ met. met ≡ have_common_date (holds period.now) (is_used self.old)) }
+        ensures days { OnOk result ((n : ℕ)
+            → is_used self.new n ≡ (holds period.now n || is_used self.old n)) }
+        ensures met { IfOk result (λ met. met
+            ≡ have_common_date (holds period.now) (is_used self.old)) }
     {
         if let UsedDates::Few(periods) = self {
             if periods.has_room_for(period) {
@@ -63,8 +65,10 @@ impl UsedDates {
     // of its own so that `take` stays short.
     #[inline(never)]
     fn take_in_next_form(&mut self, alloc: Global, period: &Period) -> Result<bool, Memory>
-        ensures days { OnOk result ((n : ℕ) → is_used self.new n ≡ (holds period.now n || is_used self.old n)) }
-        ensures met { IfOk result (λ met. met ≡ have_common_date (holds period.now) (is_used self.old)) }
+        ensures days { OnOk result ((n : ℕ)
+            → is_used self.new n ≡ (holds period.now n || is_used self.old n)) }
+        ensures met { IfOk result (λ met. met
+            ≡ have_common_date (holds period.now) (is_used self.old)) }
     {
         match self {
             UsedDates::Empty => {

@@ -8,4 +8,6 @@ pub record IsAfter (before : ℕ) (field : Field) : Type 0 where
   pub low : before ≤ field.first
   pub some : field.first ≤ field.last
   pub high : field.last < before + 158
-  pub value : (d : List ℕ) → length d ≡ 158 → slice_range d (field.first - before) (field.last - before + 1) ≡ leg_columns field.first field.last d
+  pub value : (d : List ℕ) → length d ≡ 158
+      → slice_range d (field.first - before) (field.last - before + 1)
+      ≡ leg_columns field.first field.last d

@@ -1,4 +1,5 @@
-//! The fields of a flight leg record, type 3: the one table of its columns. Each constant is a field with its columns, counted from 1.
+//! The fields of a flight leg record, type 3: the one table of its columns. Each constant is a
+//! field with its columns, counted from 1.
 
 use crate::field::{Field, Kind};
 

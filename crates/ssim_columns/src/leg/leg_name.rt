@@ -29,11 +29,27 @@ impl Model for LegName {
 
     ghost Value = { Name };
 
-    ghost view = { λ n. record { airline = n.airline; flight = n.flight; variation = n.variation; sequence = n.sequence } };
+    ghost view = { λ n. record {
+      airline = n.airline;
+      flight = n.flight;
+      variation = n.variation;
+      sequence = n.sequence;
+    } };
 
-    ghost invariant = { λ n. IsName (record { airline = n.airline; flight = n.flight; variation = n.variation; sequence = n.sequence }) };
+    ghost invariant = { λ n. IsName
+        (record {
+          airline = n.airline;
+          flight = n.flight;
+          variation = n.variation;
+          sequence = n.sequence;
+        }) };
 
-    ghost inverse = { λ v. record { airline = v.airline; flight = v.flight; variation = v.variation; sequence = v.sequence } };
+    ghost inverse = { λ v. record {
+      airline = v.airline;
+      flight = v.flight;
+      variation = v.variation;
+      sequence = v.sequence;
+    } };
 }
 
 /// The name in columns 2 to 13.
@@ -127,7 +143,12 @@ impl LegName {
         requires variation { variation < 100 }
         requires sequence_from { 0 < sequence }
         requires sequence_to { sequence < 100 }
-        ensures { result ≡ record { airline = airline; flight = flight; variation = variation; sequence = sequence } }
+        ensures { result ≡ record {
+          airline = airline;
+          flight = flight;
+          variation = variation;
+          sequence = sequence;
+        } }
     {
         let _ = airline.write();
         let _ = flight.number();

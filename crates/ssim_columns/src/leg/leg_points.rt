@@ -1,4 +1,5 @@
-//! Whether the departure and the arrival of a flight leg record are valid, each field looked at once.
+//! Whether the departure and the arrival of a flight leg record are valid, each field looked at
+//! once.
 
 ghost use Rattle.std.specs.Prelude.{◌≡◌, length, IsTrue, is_some};
 ghost use Rattle.ssim_values.specs.Clock.{clock_of};
@@ -29,7 +30,8 @@ fn is_signed_clock(text: &[u8]) -> bool
     (text[0] == b'+' || text[0] == b'-') && is_clock_to(&text[1..5], 15)
 }
 
-// `is_variation` for the other texts. It is not put into its caller, which looks at most texts as numbers.
+// `is_variation` for the other texts. It is not put into its caller, which looks at most texts as
+// numbers.
 #[inline(never)]
 fn is_other_variation(text: &[u8]) -> bool
     requires { length text.now ≡ 5 }

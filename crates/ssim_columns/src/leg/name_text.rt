@@ -77,7 +77,17 @@ impl NameText {
     pub fn write_leg(&self, period: &PeriodText, columns: &LegColumns, serial: u32, out: &mut [u8])
         requires serial { serial < 1000000 }
         requires room { length out.old ≡ 200 }
-        ensures value { out.new ≡ written_leg (record { name = self.now; first = period.now.first; last = Some period.now.last; days = period.now.days; rate = 32; columns = columns.now; overflow = 32; serial = serial }) }
+        ensures value { out.new ≡ written_leg
+            (record {
+              name = self.now;
+              first = period.now.first;
+              last = Some period.now.last;
+              days = period.now.days;
+              rate = 32;
+              columns = columns.now;
+              overflow = 32;
+              serial = serial;
+            }) }
         ensures columns { AreLegColumns columns.now }
     {
         write_leg(out, &self.text, period.text(), b' ', columns, b' ', serial);
@@ -94,7 +104,14 @@ impl NameText {
     )
         requires serial { serial < 1000000 }
         requires room { length out.old ≡ 200 }
-        ensures value { out.new ≡ written_segment (record { name = self.now; service = slice_index columns.now 0; tail = tail.now; overflow = 32; serial = serial }) }
+        ensures value { out.new ≡ written_segment
+            (record {
+              name = self.now;
+              service = slice_index columns.now 0;
+              tail = tail.now;
+              overflow = 32;
+              serial = serial;
+            }) }
         ensures tail { IsTail tail.now }
     {
         let service = columns.bytes_held()[0];

@@ -22,7 +22,8 @@ pub(crate) fn append(out: &mut [u8], at: usize, part: &[u8]) -> usize
     requires { at + length part.now ≤ length out.old }
     ensures place { result ≡ at + length part.now }
     ensures room { length out.new ≡ length out.old }
-    ensures value { (rest : List ℕ) → take result out.new ++ rest ≡ take at out.old ++ (part.now ++ rest) }
+    ensures value { (rest : List ℕ)
+        → take result out.new ++ rest ≡ take at out.old ++ (part.now ++ rest) }
 {
     put(out, at, part);
     at + part.len()

@@ -91,16 +91,19 @@ pub record AreCheckpoints (base : BaseSeen) (entries : List Entry) (first : ℕ)
       → IfSome (slice_get checkpoints k) (IsAfter base (take (32 * (first + k)) entries))
 
 -- the schedules of a base and messages
-pub record AreSchedules (base : BaseSeen) (entries : List Entry) (schedules : Schedules) : Type 0 where
+pub record AreSchedules (base : BaseSeen) (entries : List Entry)
+    (schedules : Schedules) : Type 0 where
   pub latest_is : IsAfter base entries schedules.latest
   pub found_is : schedules.found.items ≡ found_by base entries
   pub kept : AreCheckpoints base entries 0 schedules.checkpoints.items
 
--- what follows the first messages: the checkpoints, the findings, and how many messages were applied
+-- what follows the first messages: the checkpoints, the findings, and how many messages were
+-- applied
 pub record IsReplay (base : BaseSeen) (entries : List Entry) (replay : Replay) : Type 0 where
   pub within : replay.from ≤ length entries
   pub latest_is : IsAfter base entries replay.latest
-  pub found_is : found_by base (take replay.from entries) ++ replay.found.items ≡ found_by base entries
+  pub found_is : found_by base (take replay.from entries) ++ replay.found.items
+      ≡ found_by base entries
   pub kept : AreCheckpoints base entries (replay.from / 32 + 1) replay.checkpoints.items
   pub counted : replay.applied + replay.from ≡ length entries
   pub since_is : replay.since ≡ length entries % 32

@@ -58,7 +58,8 @@ pub record IsTextOf (records : List Record) (text : List ℕ) (e : Entry) : Type
   pub text_is : text ≡ canonical e.message
 
 -- messages that a file of the version may hold
-pub record AreHeld (version : FileVersion) (records : List Record) (entries : List Entry) : Type 0 where
+pub record AreHeld (version : FileVersion) (records : List Record)
+    (entries : List Entry) : Type 0 where
   pub entries_are : AreEntries records entries
   pub spelled : All IsSpelled entries
   pub of_version : All (IsOf version) entries

@@ -23,7 +23,8 @@ has_line text leg = bytes_eq (leg_text leg) text
 
 -- the group of the legs with this line
 abbrev pub group_of : Legs → List ℕ → Option GroupSeen
-group_of legs text = option_map (λ first. (first, is_like_one legs first)) (find (has_line text) legs)
+group_of legs text =
+    option_map (λ first. (first, is_like_one legs first)) (find (has_line text) legs)
 
 -- a group with one more leg
 abbrev pub grown : LegValue → Option GroupSeen → GroupSeen
@@ -37,7 +38,8 @@ with_leg leg text group = if has_line text leg then Some (grown leg group) else 
 -- the group with this line in a map
 abbrev pub group_in : {A : Type 0} → BTreeMap (Vec ℕ A) Group → List ℕ → Option GroupSeen
 group_in map text =
-    option_map (λ g. (g.first.now, g.is_mixed)) (get_by (λ key. slice_cmp nat_cmp text key.items) map)
+    option_map (λ g. (g.first.now, g.is_mixed))
+    (get_by (λ key. slice_cmp nat_cmp text key.items) map)
 
 -- whether the legs of a group differ
 abbrev pub is_mixed : Option GroupSeen → Bool

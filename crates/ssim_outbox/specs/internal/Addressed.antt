@@ -26,7 +26,8 @@ use Rattle.ssim_outbox.specs.declared.fault.OutboxFault.{OutboxFault}
 use Rattle.ssim_outbox.specs.declared.fault.OutboxFault.TheVariants as fault
 
 -- the message resolves by the carrier record, and this is its reference
-pub record HasReference (carrier : CarrierFields) (m : MessageValue) (reference : Reference) : Type 0 where
+pub record HasReference (carrier : CarrierFields) (m : MessageValue)
+    (reference : Reference) : Type 0 where
   pub text : ResolvedText
   pub resolves : Resolves carrier m text
   pub reference_is : reference ≡ text.reference
@@ -54,7 +55,8 @@ RefusesDate carrier m refusal =
 
 -- The word names the heading of messages to the first desk, whose first reference follows all that
 -- the desk holds.
-pub record IsAddressed (from to : DeskSeen) (word : List ℕ) (heading : MessageValue) (reference : Reference)
+pub record IsAddressed (from to : DeskSeen) (word : List ℕ) (heading : MessageValue)
+    (reference : Reference)
     : Type 0 where
   pub named : BeginAt from to word heading reference
   pub has : HasReference named.named.comparable.carriers.mine.carrier heading reference
@@ -62,7 +64,8 @@ pub record IsAddressed (from to : DeskSeen) (word : List ℕ) (heading : Message
 
 -- the sub-messages are a plan between two desks, each of a flight that exists and of an action that
 -- a text can have, and these are the dates that they leave unsaid
-pub record HasPlan (from to : DeskSeen) (subs : List PlannedSub) (unsaid : List Compared) : Type 0 where
+pub record HasPlan (from to : DeskSeen) (subs : List PlannedSub)
+    (unsaid : List Compared) : Type 0 where
   pub after : FlightNumber → Days
   pub is_plan : IsPlan from.base.rows (days_of_desk from) (days_of_desk to) subs after
   pub said : AllByRecursion (λ sub. IsSaid sub.action) subs

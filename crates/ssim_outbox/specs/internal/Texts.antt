@@ -15,8 +15,10 @@ heading_parts heading group =
     ∷ ReferencePart (record heading.reference { group = group })
     ∷ [])
 
--- the text is the canonical text of a message with the first sub-messages, which takes no further one
-pub record IsFullText (heading : MessageValue) (group : ℕ) (subs : List Sub) (text : List ℕ) : Type 0 where
+-- the text is the canonical text of a message with the first sub-messages, which takes no further
+-- one
+pub record IsFullText (heading : MessageValue) (group : ℕ) (subs : List Sub)
+    (text : List ℕ) : Type 0 where
   pub count : ℕ
   pub some : 1 ≤ count
   pub few : count ≤ 250

@@ -27,11 +27,13 @@ value_in nothing (given ∷ later) n = value_in (if holds given.0 n then given.1
 
 -- the cuts have the first day of each period and the day after its last
 abbrev pub AreDivided : {V : Type 0} → List ℕ → List (DayRange × V) → Type 0
-AreDivided cuts periods = All (λ given. Contains cuts given.0.first × Contains cuts (given.0.last + 1)) periods
+AreDivided cuts periods =
+    All (λ given. Contains cuts given.0.first × Contains cuts (given.0.last + 1)) periods
 
 -- no day is held twice, no value is empty, and the cuts rise to at most 36,525 and have the ends of
 -- each period
-pub record AreApart {V : Type 0} (nothing : V) (periods : List (DayRange × V)) (cuts : List ℕ) : Type 0 where
+pub record AreApart {V : Type 0} (nothing : V) (periods : List (DayRange × V))
+    (cuts : List ℕ) : Type 0 where
   pub once : (n : ℕ) → length (held_on periods n) ≤ 1
   pub given : All (λ (given : DayRange × V). given.1 ≢ nothing) periods
   pub divided : AreDivided cuts periods
@@ -43,14 +45,17 @@ pub record AreCutsOf {V : Type 0} (periods : List (DayRange × V)) (cuts : List 
   pub divided : AreDivided cuts periods
   pub rising : IsStrictlyIncreasing cuts
   pub in_calendar : All (λ cut. cut ≤ 36525) cuts
-  pub only : (others : List ℕ) → AreDivided others periods → (cut : ℕ) → Contains cuts cut → Contains others cut
+  pub only : (others : List ℕ) → AreDivided others periods → (cut : ℕ) → Contains cuts cut
+      → Contains others cut
 
 -- The periods with values are those of changes of days that all have the empty value, each with the
 -- outcome of its change. None holds a day of another.
-pub record AreOutcomes {V C : Type 0} (nothing : V) (after : C → V → V) (changes : List (DayRange × C)) (periods : List (DayRange × V)) : Type 0 where
+pub record AreOutcomes {V C : Type 0} (nothing : V) (after : C → V → V)
+    (changes : List (DayRange × C)) (periods : List (DayRange × V)) : Type 0 where
   pub once : (n : ℕ) → length (held_on periods n) ≤ 1
   pub given : All (λ (given : DayRange × V). given.1 ≢ nothing) periods
-  pub days : each_day (value_in nothing periods) ≡ changed_by_each after changes (each_day (λ _. nothing))
+  pub days : each_day (value_in nothing periods)
+      ≡ changed_by_each after changes (each_day (λ _. nothing))
   pub ends : AreDivided (ends_of changes) periods
 
 -- whether a period with the value holds the day
@@ -58,8 +63,10 @@ abbrev pub given_on : {V : Type 0} → (V → V → Bool) → List (DayRange × 
 given_on alike periods v n = list_any (alike v) (held_on periods n)
 
 -- the cover of the days of a value, each period with the value
-abbrev pub given_cover : {V : Type 0} → (V → V → Bool) → List (DayRange × V) → V → List (DayRange × V)
-given_cover alike periods v = map (λ period. (period, v)) (cover (given_on alike periods v) day_count)
+abbrev pub given_cover : {V : Type 0} → (V → V → Bool) → List (DayRange × V) → V
+    → List (DayRange × V)
+given_cover alike periods v =
+    map (λ period. (period, v)) (cover (given_on alike periods v) day_count)
 
 -- whether one of the periods holds the day
 abbrev pub is_held : List DayRange → ℕ → Bool
@@ -77,9 +84,11 @@ mark_on periods n = if is_held periods n then 1 else 0
 abbrev pub last_values : {V : Type 0} → (V → V → Bool) → List (DayRange × V) → List V
 last_values alike [] = []
 last_values alike (given ∷ later) =
-    if list_any (λ other. alike given.1 other.1) later then last_values alike later else last_values alike later ++ given.1 ∷ []
+    if list_any (λ other. alike given.1 other.1) later then last_values alike later
+    else last_values alike later ++ given.1 ∷ []
 
 -- which of the weekdays, Monday first, have one of the seven days from `first` on before `end`
 abbrev pub weekdays_within : List Bool → ℕ → ℕ → List Bool
 weekdays_within days first end =
-    map (λ weekday. nat_lt (first + (weekday + 7 - slot first) % 7) end && slice_index_or days weekday false) (0 ∷ 1 ∷ 2 ∷ 3 ∷ 4 ∷ 5 ∷ 6 ∷ [])
+    map (λ weekday. nat_lt (first + (weekday + 7 - slot first) % 7) end
+    && slice_index_or days weekday false) (0 ∷ 1 ∷ 2 ∷ 3 ∷ 4 ∷ 5 ∷ 6 ∷ [])

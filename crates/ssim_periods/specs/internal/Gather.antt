@@ -6,7 +6,8 @@ use Rattle.std.specs.List.{list_any}
 abbrev pub gathered : {V : Type 0} → (V → V → Bool) → V → List V → List V → List V
 gathered alike nothing known [] = known
 gathered alike nothing known (v ∷ values) =
-    gathered alike nothing (if alike v nothing || list_any (alike v) known then known else known ++ v ∷ []) values
+    gathered alike nothing (if alike v nothing || list_any (alike v) known then known
+    else known ++ v ∷ []) values
 
 -- the value with a number: number 0 is the empty value, number n is the n-th of the values
 abbrev pub numbered : {V : Type 0} → V → List V → ℕ → Option V

@@ -143,7 +143,8 @@ pub(crate) fn take_days_of_value<V: Value>(
     ensures days { OnOk result ((n : ℕ) → is_held periods.new.items n
         ≡ given_on V.alike (earlier.now ++ entry.now ∷ []) entry.now.1 n) }
     ensures size { length done.new.items ≡ length done.old.items }
-    ensures done { OnOk result ((i : ℕ) (other : DayRange × V) → slice_get earlier.now i ≡ Some other
+    ensures done { OnOk result ((i : ℕ) (other : DayRange × V)
+        → slice_get earlier.now i ≡ Some other
         → slice_index_or done.new.items i false
         ≡ (slice_index_or done.old.items i false || V.alike entry.now.1 other.1)) }
 {

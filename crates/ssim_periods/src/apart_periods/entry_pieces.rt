@@ -22,7 +22,8 @@ pub(crate) fn covers<V: Value>(
     entries: &[(Period, V)],
 ) -> Result<Vec<(Period, V)>, Memory>
     requires { All (λ entry. entry.0.last < 36525) entries.now }
-    ensures { IfOk result (λ pieces. pieces.items ≡ flat_map (given_cover V.alike entries.now) (last_values V.alike entries.now)) }
+    ensures { IfOk result (λ pieces. pieces.items
+        ≡ flat_map (given_cover V.alike entries.now) (last_values V.alike entries.now)) }
 {
     let mut pieces = Vec::with_capacity(alloc, entries.len().min(FIRST))?;
     let mut periods = Vec::new(alloc);
@@ -52,10 +53,15 @@ fn push_value<V: Value>(
     requires earlier { All (λ other. other.0.last < 36525) earlier.now }
     requires own { entry.now.0.last < 36525 }
     requires size { length earlier.now ≤ length done.old.items }
-    requires others { (i : ℕ) (other : DayRange × V) → slice_get earlier.now i ≡ Some other → slice_index_or done.old.items i false ≡ true → V.alike entry.now.1 other.1 ≡ false }
-    ensures pieces { OnOk result (pieces.new.items ≡ pieces.old.items ++ given_cover V.alike (earlier.now ++ entry.now ∷ []) entry.now.1) }
+    requires others { (i : ℕ) (other : DayRange × V) → slice_get earlier.now i ≡ Some other
+        → slice_index_or done.old.items i false ≡ true → V.alike entry.now.1 other.1 ≡ false }
+    ensures pieces { OnOk result (pieces.new.items
+        ≡ pieces.old.items ++ given_cover V.alike (earlier.now ++ entry.now ∷ []) entry.now.1) }
     ensures size { length done.new.items ≡ length done.old.items }
-    ensures done { OnOk result ((i : ℕ) (other : DayRange × V) → slice_get earlier.now i ≡ Some other → slice_index_or done.new.items i false ≡ (slice_index_or done.old.items i false || V.alike entry.now.1 other.1)) }
+    ensures done { OnOk result ((i : ℕ) (other : DayRange × V)
+        → slice_get earlier.now i ≡ Some other
+        → slice_index_or done.new.items i false
+        ≡ (slice_index_or done.old.items i false || V.alike entry.now.1 other.1)) }
 {
     take_days_of_value(periods, done, earlier, entry)?;
     periods.sort_by_key(|period| period.first().number())?;
@@ -70,7 +76,8 @@ fn push_days<V: Value>(
     value: &V,
 ) -> Result<(), Memory>
     requires in_calendar { (n : ℕ) → 36525 ≤ n → is_held periods.now n ≡ false }
-    ensures { OnOk result (pieces.new.items ≡ pieces.old.items ++ held_cover periods.now value.now) }
+    ensures { OnOk result (pieces.new.items
+        ≡ pieces.old.items ++ held_cover periods.now value.now) }
 {
     if periods.len() == 1 {
         return push_period(alloc, pieces, &periods[0], value);
@@ -89,7 +96,8 @@ fn push_each<V: Value>(
     periods: &[Period],
     value: &V,
 ) -> Result<(), Memory>
-    ensures { OnOk result (pieces.new.items ≡ pieces.old.items ++ flat_map (λ period. held_cover (period ∷ []) value.now) periods.now) }
+    ensures { OnOk result (pieces.new.items
+        ≡ pieces.old.items ++ flat_map (λ period. held_cover (period ∷ []) value.now) periods.now) }
 {
     for period in periods {
         push_period(alloc, pieces, period, value)?;
@@ -105,7 +113,8 @@ fn push_period<V: Value>(
     period: &Period,
     value: &V,
 ) -> Result<(), Memory>
-    ensures { OnOk result (pieces.new.items ≡ pieces.old.items ++ held_cover (period.now ∷ []) value.now) }
+    ensures { OnOk result (pieces.new.items
+        ≡ pieces.old.items ++ held_cover (period.now ∷ []) value.now) }
 {
     if let Some(own) = trimmed(period) {
         let value = value.copy(alloc)?;

@@ -20,7 +20,8 @@ pub(crate) fn outcomes_of<V: Value, C: Change<V>>(
     changes: &[(Period, C)],
 ) -> Result<Option<Vec<(Period, V)>>, Memory>
     requires { empty.now ≡ V.nothing }
-    ensures { IfOk result (λ made. IfSome made (λ entries. AreOutcomes V.nothing C.outcome changes.now entries.items)) }
+    ensures { IfOk result (λ made.
+        IfSome made (λ entries. AreOutcomes V.nothing C.outcome changes.now entries.items)) }
 {
     let mut entries = Vec::with_capacity(alloc, changes.len())?;
     for change in changes {
@@ -32,8 +33,8 @@ pub(crate) fn outcomes_of<V: Value, C: Change<V>>(
     Ok(Some(entries))
 }
 
-/// The rising days at which a period begins, or the day after one ends. Periods mostly come from the
-/// last to the first, so they are taken from the end: few days are moved then.
+/// The rising days at which a period begins, or the day after one ends. Periods mostly come from
+/// the last to the first, so they are taken from the end: few days are moved then.
 pub(crate) fn cuts_of<V: Value>(alloc: Global, entries: &[(Period, V)]) -> Result<Vec<u32>, Memory>
     ensures { IfOk result (λ cuts. AreCutsOf entries.now cuts.items) }
 {

@@ -19,7 +19,8 @@ impl RangeRows<ValueNumber> {
     /// Gives each day of the period the number 1. A period that comes after all earlier ones is
     /// appended, at the cost of two rows.
     pub(crate) fn mark(&mut self, period: &Period) -> Result<(), Memory>
-        ensures { OnOk result (self.new.days ≡ changed_on (holds period.now) (λ _. 1) 0 self.old.days) }
+        ensures { OnOk result (self.new.days
+            ≡ changed_on (holds period.now) (λ _. 1) 0 self.old.days) }
     {
         let first = period.first().number() as u32;
         if !is_after_cuts(&self.cuts, first) {
@@ -54,7 +55,9 @@ fn append(
     requires ordered { first ≤ last }
     requires in_calendar { last < 36525 }
     ensures valid { AreRows before.now cuts.new.items rows.new.items }
-    ensures values { OnOk result ((n : ℕ) → value_on 0 before.now cuts.new.items rows.new.items n ≡ (if is_within first last mask.now n then 1 else value_on 0 before.now cuts.old.items rows.old.items n)) }
+    ensures values { OnOk result ((n : ℕ) → value_on 0 before.now cuts.new.items rows.new.items n
+        ≡ (if is_within first last mask.now n then 1
+        else value_on 0 before.now cuts.old.items rows.old.items n)) }
 {
     let old = *row_at(before, rows, rows.len());
     set_from(cuts, rows, first, marked(&old, mask))?;
@@ -64,7 +67,9 @@ fn append(
 
 // A row with 1 on the weekdays of a mask.
 fn marked(row: &[ValueNumber; 7], mask: &[bool; 7]) -> [ValueNumber; 7]
-    ensures { (slot : ℕ) → slot < 7 → slice_index_or result slot 0 ≡ (if slice_index_or mask.now slot false then 1 else slice_index_or row.now slot 0) }
+    ensures { (slot : ℕ) → slot < 7
+        → slice_index_or result slot 0
+        ≡ (if slice_index_or mask.now slot false then 1 else slice_index_or row.now slot 0) }
 {
     let mut marked = *row;
     for weekday in 0..7 {
@@ -86,9 +91,12 @@ fn set_from(
     requires rising { IsStrictlyIncreasing cuts.old.items }
     requires until { All (λ cut. cut ≤ day) cuts.old.items }
     requires in_calendar { day ≤ 36525 }
-    ensures valid { (before : List ℕ) → AreRows before cuts.old.items rows.old.items → AreRows before cuts.new.items rows.new.items }
+    ensures valid { (before : List ℕ) → AreRows before cuts.old.items rows.old.items
+        → AreRows before cuts.new.items rows.new.items }
     ensures until { OnOk result (All (λ cut. cut ≤ day) cuts.new.items) }
-    ensures row_on { OnOk result ((before : List ℕ) (n : ℕ) → row_on before cuts.new.items rows.new.items n ≡ (if nat_lt n day then row_on before cuts.old.items rows.old.items n else row)) }
+    ensures row_on { OnOk result ((before : List ℕ) (n : ℕ)
+        → row_on before cuts.new.items rows.new.items n
+        ≡ (if nat_lt n day then row_on before cuts.old.items rows.old.items n else row)) }
 {
     let count = cuts.len();
     if 0 < count && cuts[count - 1] == day {

@@ -30,7 +30,11 @@ impl Model for SpacedDays {
 
     ghost Value = { DaysAndRoom };
 
-    ghost view = { λ p. record { days = drop p.front p.items.items; front = p.front; back = vec_capacity p.items - vec_len p.items } };
+    ghost view = { λ p. record {
+      days = drop p.front p.items.items;
+      front = p.front;
+      back = vec_capacity p.items - vec_len p.items;
+    } };
 
     ghost invariant = { λ p. p.front ≤ length p.items.items };
 }
@@ -134,7 +138,8 @@ fn put_at(items: &mut Vec<u32>, front: usize, place: usize, day: u32)
     requires within { front + place ≤ length items.old.items }
     ensures len { vec_len items.new ≡ vec_len items.old }
     ensures capacity { vec_capacity items.new ≡ vec_capacity items.old }
-    ensures days { drop (front - 1) items.new.items ≡ insert (drop front items.old.items) place day }
+    ensures days { drop (front - 1) items.new.items
+        ≡ insert (drop front items.old.items) place day }
 {
     let start = front - 1;
     for moved in 0..place {

@@ -13,7 +13,8 @@ const TRIED: usize = 4;
 /// Adds the days of a period to those of a list: to one of the last periods of the list, if one
 /// period has the days of both, else as a new last period.
 pub(crate) fn join(periods: &mut Vec<Period>, period: &Period) -> Result<(), Memory>
-    ensures { OnOk result ((n : ℕ) → is_held periods.new.items n ≡ (holds period.now n || is_held periods.old.items n)) }
+    ensures { OnOk result ((n : ℕ)
+        → is_held periods.new.items n ≡ (holds period.now n || is_held periods.old.items n)) }
 {
     if let Some(found) = joined_with_last(periods, period) {
         periods[found.0] = found.1;
@@ -27,7 +28,9 @@ pub(crate) fn join(periods: &mut Vec<Period>, period: &Period) -> Result<(), Mem
 // another period.
 fn joined_with_last(periods: &[Period], period: &Period) -> Option<(usize, Period)>
     ensures place { IfSome result (λ found. found.0 < length periods.now) }
-    ensures days { IfSome result (λ found. (n : ℕ) → holds found.1 n ≡ (holds (slice_index_or periods.now found.0 found.1) n || holds period.now n)) }
+    ensures days { IfSome result (λ found. (n : ℕ)
+        → holds found.1 n ≡ (holds (slice_index_or periods.now found.0 found.1) n
+        || holds period.now n)) }
 {
     let mut place = periods.len();
     let least = place.saturating_sub(TRIED);
@@ -42,9 +45,12 @@ fn joined_with_last(periods: &[Period], period: &Period) -> Option<(usize, Perio
 
 /// The period with exactly the days of two periods. May be none although there is one.
 pub fn union(one: &Period, other: &Period) -> Option<Period>
-    ensures days { IfSome result (λ both. (n : ℕ) → holds both n ≡ (holds one.now n || holds other.now n)) }
-    ensures first { IfSome result (λ both. (both.first ≡ one.now.first) ⊎ (both.first ≡ other.now.first)) }
-    ensures last { IfSome result (λ both. (both.last ≡ one.now.last) ⊎ (both.last ≡ other.now.last)) }
+    ensures days { IfSome result (λ both. (n : ℕ)
+        → holds both n ≡ (holds one.now n || holds other.now n)) }
+    ensures first { IfSome result (λ both. (both.first ≡ one.now.first)
+        ⊎ (both.first ≡ other.now.first)) }
+    ensures last { IfSome result (λ both. (both.last ≡ one.now.last)
+        ⊎ (both.last ≡ other.now.last)) }
 {
     if one.first().number() <= other.first().number() {
         in_order(one, other)
@@ -56,9 +62,11 @@ pub fn union(one: &Period, other: &Period) -> Option<Period>
 // The same if the first period begins no later than the other.
 fn in_order(one: &Period, other: &Period) -> Option<Period>
     requires { one.now.first ≤ other.now.first }
-    ensures days { IfSome result (λ both. (n : ℕ) → holds both n ≡ (holds one.now n || holds other.now n)) }
+    ensures days { IfSome result (λ both. (n : ℕ)
+        → holds both n ≡ (holds one.now n || holds other.now n)) }
     ensures first { IfSome result (λ both. both.first ≡ one.now.first) }
-    ensures last { IfSome result (λ both. (both.last ≡ one.now.last) ⊎ (both.last ≡ other.now.last)) }
+    ensures last { IfSome result (λ both. (both.last ≡ one.now.last)
+        ⊎ (both.last ≡ other.now.last)) }
 {
     if lie_apart(one, other) {
         return None;
@@ -78,7 +86,8 @@ fn lie_apart(one: &Period, other: &Period) -> bool {
 // The other period, begun with the first one, if that is of one day and the other begins on its
 // next day. Records of one date mostly are.
 fn begun_earlier(one: &Period, other: &Period) -> Option<Period>
-    ensures days { IfSome result (λ both. (n : ℕ) → holds both n ≡ (holds one.now n || holds other.now n)) }
+    ensures days { IfSome result (λ both. (n : ℕ)
+        → holds both n ≡ (holds one.now n || holds other.now n)) }
     ensures first { IfSome result (λ both. both.first ≡ one.now.first) }
     ensures last { IfSome result (λ both. both.last ≡ other.now.last) }
 {
@@ -104,9 +113,11 @@ fn begun_earlier(one: &Period, other: &Period) -> Option<Period>
 // The same if the first period begins no later than the other.
 fn joined_in_order(one: &Period, other: &Period) -> Option<Period>
     requires { one.now.first ≤ other.now.first }
-    ensures days { IfSome result (λ both. (n : ℕ) → holds both n ≡ (holds one.now n || holds other.now n)) }
+    ensures days { IfSome result (λ both. (n : ℕ)
+        → holds both n ≡ (holds one.now n || holds other.now n)) }
     ensures first { IfSome result (λ both. both.first ≡ one.now.first) }
-    ensures last { IfSome result (λ both. (both.last ≡ one.now.last) ⊎ (both.last ≡ other.now.last)) }
+    ensures last { IfSome result (λ both. (both.last ≡ one.now.last)
+        ⊎ (both.last ≡ other.now.last)) }
 {
     let days = WeekdayBits::of(one.mask().days());
     let others = WeekdayBits::of(other.mask().days());
@@ -138,8 +149,10 @@ fn have_days(
     requires ordered { one.now.first ≤ other.now.first }
     requires days { days.days ≡ one.now.days }
     requires others { others.days ≡ other.now.days }
-    requires all { (w : ℕ) → slice_index_or all.days w false ≡ (slice_index_or one.now.days w false || slice_index_or other.now.days w false) }
-    ensures { IsTrue result → (n : ℕ) → one.now.first ≤ n → n ≤ max one.now.last other.now.last → slice_index_or all.days (slot n) false ≡ (holds one.now n || holds other.now n) }
+    requires all { (w : ℕ) → slice_index_or all.days w false
+        ≡ (slice_index_or one.now.days w false || slice_index_or other.now.days w false) }
+    ensures { IsTrue result → (n : ℕ) → one.now.first ≤ n → n ≤ max one.now.last other.now.last
+        → slice_index_or all.days (slot n) false ≡ (holds one.now n || holds other.now n) }
 {
     let first = one.first().number() as u32;
     let next = other.first().number() as u32;
@@ -154,7 +167,8 @@ fn have_days(
 // Whether the weekday of each day of a range is in both of two sets or in none.
 #[inline(always)]
 fn agree(days: WeekdayBits, others: WeekdayBits, from: u32, to: u32) -> bool
-    ensures { IsTrue result → (n : ℕ) → from ≤ n → n < to → slice_index_or days.days (slot n) false ≡ slice_index_or others.days (slot n) false }
+    ensures { IsTrue result → (n : ℕ) → from ≤ n → n < to
+        → slice_index_or days.days (slot n) false ≡ slice_index_or others.days (slot n) false }
 {
     have_no_day(days.unlike(others), from, to)
 }
@@ -162,7 +176,8 @@ fn agree(days: WeekdayBits, others: WeekdayBits, from: u32, to: u32) -> bool
 // Whether no day of a range has one of these weekdays. Of any seven days one has.
 #[inline(always)]
 fn have_no_day(days: WeekdayBits, from: u32, to: u32) -> bool
-    ensures { IsTrue result → (n : ℕ) → from ≤ n → n < to → slice_index_or days.days (slot n) false ≡ false }
+    ensures { IsTrue result → (n : ℕ) → from ≤ n → n < to
+        → slice_index_or days.days (slot n) false ≡ false }
 {
     if to <= from || days.is_empty() {
         return true;

@@ -15,7 +15,8 @@ use ssim_values::Period;
 // although it is so.
 pub(crate) fn are_separate(periods: &[Period]) -> bool
     requires in_calendar { (n : ℕ) → 36525 ≤ n → is_held periods.now n ≡ false }
-    ensures { IsTrue result → cover (is_held periods.now) day_count ≡ flat_map (λ period. cover (is_held (period ∷ [])) day_count) periods.now }
+    ensures { IsTrue result → cover (is_held periods.now) day_count
+        ≡ flat_map (λ period. cover (is_held (period ∷ [])) day_count) periods.now }
 {
     let mut next = DAYS;
     let mut place = periods.len();
@@ -37,7 +38,8 @@ pub(crate) fn are_separate(periods: &[Period]) -> bool
 fn breaks_off_before(period: &Period, day: u32) -> bool
     requires in_calendar { day ≤ 36525 }
     ensures week { IsTrue result → period.now.first + 7 ≤ day }
-    ensures between { IsTrue result → (n : ℕ) × (period.now.last < n) × (n < day) × (slice_index_or period.now.days (slot n) false ≡ true) }
+    ensures between { IsTrue result → (n : ℕ) × (period.now.last < n) × (n < day)
+        × (slice_index_or period.now.days (slot n) false ≡ true) }
 {
     let first = period.first().number() as u32;
     let end = period.last().number() as u32 + 1;

@@ -35,8 +35,10 @@ pub(crate) fn trimmed(period: &Period) -> Option<Period>
 fn is_trimmed(period: &Period) -> bool
     ensures valid { IsTrue result → IsPeriod period.now }
     ensures week { IsTrue result → period.now.first + 6 ≤ period.now.last }
-    ensures first { IsTrue result → slice_index_or period.now.days (slot period.now.first) false ≡ true }
-    ensures last { IsTrue result → slice_index_or period.now.days (slot period.now.last) false ≡ true }
+    ensures first { IsTrue result → slice_index_or period.now.days (slot period.now.first) false
+        ≡ true }
+    ensures last { IsTrue result → slice_index_or period.now.days (slot period.now.last) false
+        ≡ true }
 {
     let days = period.mask().days();
     let first = period.first().number() as u32;
@@ -69,7 +71,8 @@ pub(crate) fn first_in(days: &[bool; 7], from: u32, to: u32) -> u32
 fn has_weekday(days: &[bool; 7], weekday: u32, first: u32, end: u32) -> bool
     requires weekday { weekday < 7 }
     requires in_calendar { first < 36525 }
-    ensures { result ≡ (nat_lt (first + (weekday + 7 - slot first) % 7) end && slice_index_or days.now weekday false) }
+    ensures { result ≡ (nat_lt (first + (weekday + 7 - slot first) % 7) end
+        && slice_index_or days.now weekday false) }
 {
     let day = first_on(weekday, first);
     if day < end {

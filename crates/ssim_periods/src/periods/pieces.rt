@@ -21,7 +21,8 @@ impl<V: Value> Periods<V> {
     /// compared. Each distinct value costs one pass over the ranges, with at most seven comparisons
     /// in each.
     pub fn pieces(&self) -> Result<Vec<(Period, V)>, Memory>
-        ensures pieces { IfOk result (λ pieces. pieces.items ≡ pieces_of V.alike V.nothing self.now.days) }
+        ensures pieces { IfOk result (λ pieces. pieces.items
+            ≡ pieces_of V.alike V.nothing self.now.days) }
         ensures each_day { OnOk result (length self.now.days ≡ day_count) }
     {
         match &self.form {
@@ -46,7 +47,8 @@ pub fn a_cover_is_the_division()
 /// The law of pieces: exactly one piece holds each day, the piece with the value of that day; if
 /// that value is empty, none does. Each piece holds its own first day.
 pub fn pieces_hold_each_day_once<V: Value>()
-    ensures { (days : List V) → ArePieces V.alike V.nothing days (pieces_of V.alike V.nothing days) }
+    ensures { (days : List V) → ArePieces V.alike V.nothing days
+        (pieces_of V.alike V.nothing days) }
 {}
 
 /// Covers and pieces worked out by hand agree with the definitions.

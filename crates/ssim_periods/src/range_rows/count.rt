@@ -46,7 +46,9 @@ fn count_range<V: Value, C: Change<V>>(
     requires ordered { from ≤ to }
     requires in_calendar { to ≤ 36525 }
     requires low { All (λ n. n ≤ from) counts.old }
-    ensures { (k : ℕ) → k < 5 → slice_index counts.new k ≡ slice_index counts.old k + tally (λ n. is_counted V.nothing mask.now (C.class_of change.now) row.now k (slot n)) from (to - from) }
+    ensures { (k : ℕ) → k < 5 → slice_index counts.new k ≡ slice_index counts.old k
+        + tally (λ n. is_counted V.nothing mask.now (C.class_of change.now) row.now k (slot n)) from
+        (to - from) }
 {
     for weekday in 0..7u32 {
         let wanted = has_days(mask, weekday, from, to);
@@ -72,7 +74,10 @@ pub(crate) fn class_counts<V: Value, C: Change<V>>(
     requires ordered { first ≤ last }
     requires in_calendar { last < 36525 }
     ensures len { length result ≡ 5 }
-    ensures counts { (k : ℕ) → k < 5 → slice_index result k ≡ tally (is_of_class V.nothing (C.class_of change.now) before.now cuts.now rows.now first last mask.now k) first (last + 1 - first) }
+    ensures counts { (k : ℕ) → k < 5
+        → slice_index result k ≡ tally
+        (is_of_class V.nothing (C.class_of change.now) before.now cuts.now rows.now first last
+        mask.now k) first (last + 1 - first) }
 {
     let mut counts = [0; 5];
     let end = last + 1;
@@ -100,7 +105,8 @@ pub(crate) fn counts_of<'a, V: Value, C: Change<V>>(
     change: &'a C,
     value: &'a V,
 ) -> [u32; 5]
-    ensures { result ≡ counts_on {V = ℕ} (holds period.now) (λ _. C.class_of change.now value.now) (each_day (λ _. 0)) }
+    ensures { result ≡ counts_on {V = ℕ} (holds period.now) (λ _. C.class_of change.now value.now)
+        (each_day (λ _. 0)) }
 {
     let first = period.first().number() as u32;
     let last = period.last().number() as u32;

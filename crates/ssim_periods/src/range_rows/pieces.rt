@@ -23,7 +23,8 @@ impl<V: Value> RangeRows<V> {
     /// only numbers are compared. Each distinct value costs one pass over the ranges, with at most
     /// seven comparisons in each.
     pub(crate) fn pieces(&self) -> Result<Vec<(Period, V)>, Memory>
-        ensures pieces { IfOk result (λ pieces. pieces.items ≡ pieces_of V.alike V.nothing self.now.days) }
+        ensures pieces { IfOk result (λ pieces. pieces.items
+            ≡ pieces_of V.alike V.nothing self.now.days) }
         ensures each_day { OnOk result (length self.now.days ≡ day_count) }
     {
         let (values, numbers) = numbered_days(self.alloc, &self.before, &self.cuts, &self.rows)?;
@@ -43,7 +44,9 @@ impl<V: Value> RangeRows<V> {
         label: &L,
         pieces: &mut Vec<(Period, L)>,
     ) -> Result<(), Memory>
-        ensures { OnOk result (pieces.new.items ≡ pieces.old.items ++ map (λ period. (period, label.now)) (cover (has_value V.alike self.now.days value.now) (length self.now.days))) }
+        ensures { OnOk result (pieces.new.items
+            ≡ pieces.old.items ++ map (λ period. (period, label.now))
+            (cover (has_value V.alike self.now.days value.now) (length self.now.days))) }
     {
         let mut first = self.first_unlike(value, &NO_DAYS, 0);
         while first < DAYS {
@@ -60,7 +63,8 @@ impl<V: Value> RangeRows<V> {
     // does not have it although its weekday is one. 36,525 if there is none.
     fn first_unlike(&self, value: &V, days: &[bool; 7], from: u32) -> u32
         requires { from ≤ 36525 }
-        ensures { result ≡ first_where (breaks (has_value V.alike self.now.days value.now) days.now) from (length self.now.days - from) }
+        ensures { result ≡ first_where (breaks (has_value V.alike self.now.days value.now) days.now)
+            from (length self.now.days - from) }
     {
         let mut day = from;
         let mut place = place_of(&self.cuts, from);
@@ -81,7 +85,8 @@ impl<V: Value> RangeRows<V> {
     // day on.
     fn break_after(&self, value: &V, days: &[bool; 7], first: u32) -> u32
         requires { first ≤ 36525 }
-        ensures { result ≡ first_where (breaks (has_value V.alike self.now.days value.now) days.now) first (length self.now.days - first) }
+        ensures { result ≡ first_where (breaks (has_value V.alike self.now.days value.now) days.now)
+            first (length self.now.days - first) }
     {
         self.first_unlike(value, days, first)
     }
@@ -91,7 +96,8 @@ impl<V: Value> RangeRows<V> {
         requires weekday { weekday < 7 }
         requires in_calendar { first < 36525 }
         requires all_days { length self.now.days ≡ 36525 }
-        ensures { result ≡ has_value V.alike self.now.days value.now (first + (weekday + 7 - slot first) % 7) }
+        ensures { result ≡ has_value V.alike self.now.days value.now
+            (first + (weekday + 7 - slot first) % 7) }
     {
         let day = first_on(weekday, first);
         match Day::from_number(day as u16) {

@@ -43,8 +43,8 @@ zurich_began : (before started taken merged : Files) (dataset stations : List �
     × (file_of before (codes "stations.txt") ≡ Some stations))
 zurich_began before started taken merged dataset stations = refl
 
--- After `withdraw zurich.desk zurich.desk 'SSM 15MAR27 00002 001'` what was brought to Zurich's desk
--- is what was brought to it before, but for the message under this reference.
+-- After `withdraw zurich.desk zurich.desk 'SSM 15MAR27 00002 001'` what was brought to Zurich's
+-- desk is what was brought to it before, but for the message under this reference.
 withdrawn_from_zurich : (before : History) (after : Files) (reference : Reference) (message : MessageValue)
     → Brought (Then before (Done (Withdraw zurich zurich (codes "SSM 15MAR27 00002 001" ∷ []))) after) zurich
     reference message

@@ -30,7 +30,8 @@ pub record IsWritten (base : List Record) (days : FlightNumber → Days) (before
 
 -- The export is printed, and reads back as itself. Or there is no export, and the printer is
 -- unchanged. Or a call of the printer fails, and the printer has taken a prefix of the export.
-abbrev pub PrintsExport : List Record → (FlightNumber → Days) → Paper → Paper → Result (Unit {0}) Refusal
+abbrev pub PrintsExport : List Record → (FlightNumber → Days) → Paper → Paper
+    → Result (Unit {0}) Refusal
     → Type 0
 PrintsExport base days before after (Ok x) =
     ((bytes : List ℕ) × IsExport base days bytes × Grows bytes before after)

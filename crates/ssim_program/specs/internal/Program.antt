@@ -34,10 +34,12 @@ printing w out = world w.files w.failures out
 -- changes.
 abbrev pub Prepares : {A : Type 0} → Line → World → World → Result (Vec ℕ A) Refusal → Type 0
 Prepares line before after (Ok text) =
-    (kept : Kept) × Makes line before.files text.items kept × (after.files ≡ with_kept kept before.files)
+    (kept : Kept) × Makes line before.files text.items kept
+    × (after.files ≡ with_kept kept before.files)
     × (after.failures ≡ before.failures)
 Prepares line before after (Err refusal) =
-    Stops line before.files before.failures after.failures [] [] refusal × (after.files ≡ before.files)
+    Stops line before.files before.failures after.failures [] [] refusal
+    × (after.files ≡ before.files)
 
 -- a command is done, or refused
 abbrev pub Does : Line → World → World → Result (Unit {0}) Refusal → Type 0
@@ -62,4 +64,5 @@ EndsWithoutRequest fault.Memory out out' err err' status =
 EndsWithoutRequest (fault.Shown error) out out' err err' status =
     ((is_help (kind_of error) ≡ true) × SaysHelp out out' err err' status)
     ⊎ ((is_help (kind_of error) ≡ false) × (status ≡ 2) × SaysWrong out out' err err')
-EndsWithoutRequest fault.NoCommand out out' err err' status = (status ≡ 2) × SaysWrong out out' err err'
+EndsWithoutRequest fault.NoCommand out out' err err' status =
+    (status ≡ 2) × SaysWrong out out' err err'

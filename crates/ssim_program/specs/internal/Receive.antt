@@ -40,8 +40,10 @@ pub record HasReceived (files : Option Files) (file : Text) (names : List Text) 
   pub texts_are : refused ≡ refused_texts receipts
 
 -- files are kept one after another; or one of them is not kept, but those before it are
-abbrev pub KeepsEach : Kept → Option Files → Option Files → ℕ → ℕ → Result (Unit {0}) Refusal → Type 0
+abbrev pub KeepsEach : Kept → Option Files → Option Files → ℕ → ℕ → Result (Unit {0}) Refusal
+    → Type 0
 KeepsEach kept old new n m (Ok x) = (new ≡ with_kept kept old) × (m ≡ n)
 KeepsEach kept old new n m (Err refusal) =
     (first : Kept) × (name : Text) × (bytes : List ℕ) × (later : Kept)
-    × (kept ≡ first ++ (name, bytes) ∷ later) × (new ≡ with_kept first old) × RefusesKeep n m name refusal
+    × (kept ≡ first ++ (name, bytes) ∷ later) × (new ≡ with_kept first old)
+    × RefusesKeep n m name refusal

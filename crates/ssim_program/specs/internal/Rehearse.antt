@@ -56,7 +56,8 @@ HasLine base step answer = (l : RehearsalLine) × IsStepLine base step answer l
 -- the result of each step has a line
 abbrev pub HaveLines : BaseSeen → List Step → List Answer → Type 0
 HaveLines base steps answers =
-    (k : ℕ) (step : Step) (answer : Answer) → IsStep steps answers k step answer → HasLine base step answer
+    (k : ℕ) (step : Step) (answer : Answer) → IsStep steps answers k step answer
+    → HasLine base step answer
 
 -- the export of a desk as the specification sees it
 abbrev pub outcome_of : kept.Outcome → Outcome

@@ -16,7 +16,8 @@ abbrev pub printed_text : Printed → List ℕ
 printed_text (printed.SerialNote n) = codes "note Serial record " ++ decimal n
 printed_text (printed.CheckReferenceNote n) = codes "note CheckReference record " ++ decimal n
 printed_text (printed.Summary records flights notes) =
-    codes "ok records " ++ decimal records ++ codes " flights " ++ decimal flights ++ codes " notes "
+    codes "ok records " ++ decimal records ++ codes " flights " ++ decimal flights
+    ++ codes " notes "
     ++ decimal notes
 printed_text (printed.ProblemCount records problems) =
     codes "records " ++ decimal records ++ codes " problems " ++ decimal problems

@@ -52,7 +52,8 @@ RefusesExport base days refusal = (fault : ExportFault) × HasNoExport base days
 abbrev pub RefusesTake : Option Files → Text → List Text → List ℕ → Refusal → Type 0
 RefusesTake files file names printed refusal =
     ((printed ≡ []) × RefusesDeskFile files file refusal)
-    ⊎ ((desk : DeskSeen) × ReadsDesk files file desk × RefusesTexts files names desk printed refusal)
+    ⊎ ((desk : DeskSeen) × ReadsDesk files file desk
+    × RefusesTexts files names desk printed refusal)
 
 -- Why a command is refused, other than that `out` failed or that a file was not kept, and what it
 -- has printed before, which is nothing but for `take`. The reason is a file that it reads, or what
@@ -74,7 +75,8 @@ Refuses (Merge file other out) files printed refusal =
     (printed ≡ [])
     × (RefusesDeskFile files file refusal
     ⊎ (((mine : DeskSeen) × ReadsDesk files file mine) × RefusesDeskFile files other refusal)
-    ⊎ ((mine : DeskSeen) × (theirs : DeskSeen) × ReadsDesk files file mine × ReadsDesk files other theirs
+    ⊎ ((mine : DeskSeen) × (theirs : DeskSeen) × ReadsDesk files file mine
+    × ReadsDesk files other theirs
     × RefusesMerge mine theirs refusal))
 Refuses (Withdraw file out references) files printed refusal =
     (printed ≡ []) × (RefusesDeskFile files file refusal
@@ -105,7 +107,8 @@ Refuses (Page file) files printed refusal =
 Refuses (Diff from to) files printed refusal =
     (printed ≡ []) × (RefusesTimetable files from refusal
     ⊎ (((old : DeskSeen) × ReadsTimetable files from old) × RefusesTimetable files to refusal)
-    ⊎ ((old : DeskSeen) × (new : DeskSeen) × ReadsTimetable files from old × ReadsTimetable files to new
+    ⊎ ((old : DeskSeen) × (new : DeskSeen) × ReadsTimetable files from old
+    × ReadsTimetable files to new
     × RefusesComparison old new refusal))
 Refuses (Publish from to reference out) files printed refusal =
     (printed ≡ []) × RefusesPublishing files from to reference refusal

@@ -144,11 +144,13 @@ refusal_of_outbox outbox.References = refusal.Publication outbox.References
 
 -- the refusal for a fault of an export; a flight is named by its designator
 abbrev pub refusal_of_export : List ℕ → ExportFault → Refusal
-refusal_of_export airline (export.Variations flight) = refusal.Export airline (export.Variations flight)
+refusal_of_export airline (export.Variations flight) =
+    refusal.Export airline (export.Variations flight)
 refusal_of_export airline export.Records = refusal.Export airline export.Records
 refusal_of_export airline export.WriteFault = refusal.WriteFault
 refusal_of_export airline export.Memory = refusal.Memory
 
 -- the refusal is 91 with this name as it is printed, or memory ran out
 abbrev pub IsOfFile : List ℕ → Refusal → Type 0
-IsOfFile name r = (r ≡ refusal.Memory) ⊎ (refusal_text r ≡ codes "refused 91 File " ++ printed_name name)
+IsOfFile name r =
+    (r ≡ refusal.Memory) ⊎ (refusal_text r ≡ codes "refused 91 File " ++ printed_name name)

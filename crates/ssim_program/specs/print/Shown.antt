@@ -28,7 +28,8 @@ leg_lines (leg ∷ legs) = flat_map leg_line (leg ∷ legs)
 
 -- the lines of a flight on a date: a heading, then its legs
 abbrev pub shown_flight : Designator → ℕ → Legs → List ℕ
-shown_flight designator day legs = line (designator_text designator ++ 32 ∷ day_text day) ++ leg_lines legs
+shown_flight designator day legs =
+    line (designator_text designator ++ 32 ∷ day_text day) ++ leg_lines legs
 
 -- ---- the history of a flight on a date
 
@@ -53,7 +54,8 @@ reason_word Station = codes "station"
 -- a sub-message on a date: the reference, its number, its action, and what it found
 abbrev pub step_text : DateStep → List ℕ
 step_text step =
-    printed_reference step.reference ++ 32 ∷ decimal step.sub ++ 32 ∷ identifier_text step.action ++ 32 ∷ reason_word step.reason
+    printed_reference step.reference ++ 32 ∷ decimal step.sub ++ 32 ∷ identifier_text step.action
+    ++ 32 ∷ reason_word step.reason
 
 -- the lines of the legs after a sub-message that acted; none after one that did not
 abbrev pub legs_after : Legs → DateStep → List ℕ
@@ -62,13 +64,15 @@ legs_after before step = if is_acted step.reason then indented_lines before step
 -- the lines of sub-messages, the first of which found these legs
 abbrev pub step_lines : Legs → List DateStep → List ℕ
 step_lines before [] = []
-step_lines before (step ∷ steps) = line (step_text step) ++ legs_after before step ++ step_lines step.itinerary steps
+step_lines before (step ∷ steps) =
+    line (step_text step) ++ legs_after before step ++ step_lines step.itinerary steps
 
 -- the lines of a flight on a date: a heading, the legs of the data set, and what each sub-message
 -- did with them
 abbrev pub history_lines : Designator → ℕ → Legs → List DateStep → List ℕ
 history_lines designator day first steps =
-    line (designator_text designator ++ 32 ∷ day_text day) ++ line (codes "data set") ++ indented_lines [] first ++ step_lines first steps
+    line (designator_text designator ++ 32 ∷ day_text day) ++ line (codes "data set")
+    ++ indented_lines [] first ++ step_lines first steps
 
 -- a line for each sub-message
 abbrev pub findings_lines : List FindingLine → List ℕ

@@ -39,13 +39,16 @@ use Rattle.ssim_program.specs.declared.rehearse.line.RehearsalLine.TheVariants a
 -- the text of a line: for a step the desk and the result; for a desk what it holds and exports; for
 -- the last line whether all exports are equal
 abbrev pub rehearsal_text : RehearsalLine → List ℕ
-rehearsal_text (printed.Taken desk reference) = decimal desk ++ codes " taken " ++ printed_reference reference
+rehearsal_text (printed.Taken desk reference) =
+    decimal desk ++ codes " taken " ++ printed_reference reference
 rehearsal_text (printed.Repeated desk reference) =
     decimal desk ++ codes " repeated " ++ printed_reference reference
 rehearsal_text (printed.Merged desk) = decimal desk ++ codes " merged"
-rehearsal_text (printed.Refused desk fault) = decimal desk ++ 32 ∷ refusal_text (refusal_of_desk fault)
+rehearsal_text (printed.Refused desk fault) =
+    decimal desk ++ 32 ∷ refusal_text (refusal_of_desk fault)
 rehearsal_text (printed.Exported desk messages bytes) =
-    codes "desk " ++ decimal desk ++ codes " held " ++ decimal messages ++ codes " bytes " ++ decimal bytes
+    codes "desk " ++ decimal desk ++ codes " held " ++ decimal messages ++ codes " bytes "
+    ++ decimal bytes
 rehearsal_text (printed.NotExported desk airline fault) =
     codes "desk " ++ decimal desk ++ 32 ∷ refusal_text (refusal_of_export airline fault)
 rehearsal_text printed.Same = codes "same"
@@ -179,15 +182,18 @@ abbrev pub AreLoaded : Option Files → List Written → List Step → Type 0
 AreLoaded files [] [] = Unit {0}
 AreLoaded files [] (step ∷ steps) = ⊥
 AreLoaded files (written ∷ script) [] = ⊥
-AreLoaded files (written ∷ script) (step ∷ steps) = IsLoaded files written step × AreLoaded files script steps
+AreLoaded files (written ∷ script) (step ∷ steps) =
+    IsLoaded files written step × AreLoaded files script steps
 
 -- the file of this name is this script
 abbrev pub ReadsScript : Option Files → Text → Script → Type 0
-ReadsScript files name script = (bytes : List ℕ) × HasFile files name bytes × SpellsScript script bytes
+ReadsScript files name script =
+    (bytes : List ℕ) × HasFile files name bytes × SpellsScript script bytes
 
 -- the file of this name is a script of this number of desks, and these are its steps with their
 -- texts
-pub record HasSteps (files : Option Files) (name : Text) (count : ℕ) (steps : List Step) : Type 0 where
+pub record HasSteps (files : Option Files) (name : Text) (count : ℕ)
+    (steps : List Step) : Type 0 where
   pub script : Script
   pub reads : ReadsScript files name script
   pub desks : script.count ≡ count
@@ -218,7 +224,8 @@ RefusesStep files (Merges into from) refusal = ⊥
 abbrev pub RefusesTexts : Option Files → List Written → Refusal → Type 0
 RefusesTexts files script refusal =
     (refusal ≡ refused.Memory)
-    ⊎ ((before : List Written) × (step : Written) × (after : List Written) × (script ≡ before ++ step ∷ after)
+    ⊎ ((before : List Written) × (step : Written) × (after : List Written)
+    × (script ≡ before ++ step ∷ after)
     × ((steps : List Step) × AreLoaded files before steps) × RefusesStep files step refusal)
 
 -- the script is not loaded, or is no script, or one of its texts is not loaded

@@ -16,18 +16,21 @@ pub data Written : Type 0 where
 -- the desk that a digit from 1 up to the number of desks names
 abbrev pub desk_in : ℕ → List ℕ → Option ℕ
 desk_in count [] = None
-desk_in count (digit ∷ []) = if nat_le 49 digit && nat_lt digit (49 + count) then Some (digit - 49) else None
+desk_in count (digit ∷ []) =
+    if nat_le 49 digit && nat_lt digit (49 + count) then Some (digit - 49) else None
 desk_in count (digit ∷ other ∷ rest) = None
 
 -- the number of desks in a line DESKS n, with n from 1 to 9
 abbrev pub count_in : List ℕ → Option ℕ
 count_in line =
-    if bytes_eq (word line) (codes "DESKS") then option_map (λ n. n + 1) (desk_in 9 (after_word line)) else None
+    if bytes_eq (word line) (codes "DESKS")
+    then option_map (λ n. n + 1) (desk_in 9 (after_word line)) else None
 
 -- the name of a file in a word: at least one byte, no blank, valid UTF-8
 abbrev pub name_in : List ℕ → Option (List ℕ)
 name_in text =
-    if nat_lt 0 (length text) && (not (list_any (λ b. b == 32) text) && is_utf8 text) then Some text else None
+    if nat_lt 0 (length text) && (not (list_any (λ b. b == 32) text) && is_utf8 text) then Some text
+    else None
 
 -- the step of a line TAKE d NAME
 abbrev pub take_in : ℕ → List ℕ → Option Written
@@ -91,4 +94,5 @@ IsNoScriptAt text number =
 -- the bytes are no script, and the refusal names the line; or memory ran out
 abbrev pub RefusesScript : List ℕ → Refusal → Type 0
 RefusesScript text refusal =
-    (refusal ≡ refused.Memory) ⊎ ((number : ℕ) × (refusal ≡ refused.Script number) × IsNoScriptAt text number)
+    (refusal ≡ refused.Memory) ⊎ ((number : ℕ) × (refusal ≡ refused.Script number)
+    × IsNoScriptAt text number)

@@ -23,7 +23,8 @@ IsWithoutMemory _ = ⊥
 abbrev pub ReachedAll : List DeskState → List Step → List Answer → Type 0
 ReachedAll start steps answers =
     (d e : ℕ) (reference : Reference) (message : MessageValue) → d < length start → e < length start
-    → Reached start steps answers d reference message → Reached start steps answers e reference message
+    → Reached start steps answers d reference message
+    → Reached start steps answers e reference message
 
 -- If the same messages reached all desks of a script, the last line that `rehearse` prints is
 -- `same`, unless a line of a desk says that there was no memory for its export.
@@ -31,5 +32,6 @@ abbrev pub EndsWithSame : Type 0
 EndsWithSame =
     (files : Option Files) (dataset stations script : Text) (bytes : List ℕ)
     (r : RehearsesFiles files dataset stations script bytes)
-    → ReachedAll r.rehearsed.start r.steps r.rehearsed.answers → All (λ l. IsWithoutMemory l → ⊥) r.lines
+    → ReachedAll r.rehearsed.start r.steps r.rehearsed.answers
+    → All (λ l. IsWithoutMemory l → ⊥) r.lines
     → (before : List ℕ) × (bytes ≡ before ++ line (codes "same"))

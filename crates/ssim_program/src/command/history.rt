@@ -55,7 +55,8 @@ fn lines_of(
     day: Day,
     history: &DateHistory,
 ) -> Result<Vec<u8>, Memory>
-    ensures { IfOk result (λ lines. lines.items ≡ history_lines designator day history.now.first history.now.steps.items) }
+    ensures { IfOk result (λ lines. lines.items
+        ≡ history_lines designator day history.now.first history.now.steps.items) }
 {
     let mut lines = Vec::new(alloc);
     push_heading(&mut lines, designator, day)?;
@@ -89,7 +90,8 @@ fn push_step(
     before: &[PlacedLeg],
     step: &DateStep,
 ) -> Result<(), Memory>
-    ensures { OnOk result (lines.new.items ≡ lines.old.items ++ line (step_text step.now) ++ legs_after before.now step.now) }
+    ensures { OnOk result (lines.new.items ≡ lines.old.items ++ line (step_text step.now)
+        ++ legs_after before.now step.now) }
 {
     push_step_text(lines, step)?;
     if step.reason == Reason::Acted {
@@ -125,15 +127,16 @@ fn word_of(reason: Reason) -> &'static str
     }
 }
 
-/// Adds a line for each leg, two blanks before it, or `no flight`. A leg is marked if one of the legs
-/// before differs from it, but has the same line.
+/// Adds a line for each leg, two blanks before it, or `no flight`. A leg is marked if one of the
+/// legs before differs from it, but has the same line.
 fn push_legs(
     alloc: Global,
     lines: &mut Vec<u8>,
     before: &[PlacedLeg],
     legs: &[PlacedLeg],
 ) -> Result<(), Memory>
-    ensures { OnOk result (lines.new.items ≡ lines.old.items ++ indented_lines before.now legs.now) }
+    ensures { OnOk result (lines.new.items
+        ≡ lines.old.items ++ indented_lines before.now legs.now) }
 {
     match legs.split_first() {
         None => {
@@ -151,7 +154,8 @@ fn push_each(
     before: &[PlacedLeg],
     legs: &[PlacedLeg],
 ) -> Result<(), Memory>
-    ensures { OnOk result (lines.new.items ≡ lines.old.items ++ flat_map (marked_line before.now) legs.now) }
+    ensures { OnOk result (lines.new.items
+        ≡ lines.old.items ++ flat_map (marked_line before.now) legs.now) }
 {
     for leg in legs {
         push_marked(alloc, lines, before, leg)?;

@@ -34,7 +34,8 @@ pub(crate) fn named_flights(
     airline: Airline,
     words: &[&str],
 ) -> Result<Vec<Designator>, Refusal>
-    ensures ok { IfOk result (λ flights. NameFlights airline (map (λ t. t.now) words.now) flights.items) }
+    ensures ok { IfOk result (λ flights.
+        NameFlights airline (map (λ t. t.now) words.now) flights.items) }
     ensures err { IfErr result (RefusesFlights airline (map (λ t. t.now) words.now)) }
 {
     let flights = designators(alloc, words)?;
@@ -48,7 +49,8 @@ pub(crate) fn named_flights(
 fn designators(alloc: Global, words: &[&str]) -> Result<Vec<Designator>, Refusal>
     ensures ok { IfOk result (λ flights. SpellEach (map (λ t. t.now) words.now) flights.items) }
     ensures err { IfErr result (λ refusal. (refusal ≡ refused.Memory)
-        ⊎ ((refusal ≡ refused.Value value_fault.BadDesignator) × HasNoFlight (map (λ t. t.now) words.now))) }
+        ⊎ ((refusal ≡ refused.Value value_fault.BadDesignator)
+        × HasNoFlight (map (λ t. t.now) words.now))) }
 {
     let mut flights = Vec::with_capacity(alloc, words.len())?;
     for word in words {

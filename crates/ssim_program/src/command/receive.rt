@@ -85,7 +85,8 @@ fn keep_both<S: Store>(
     name: &str,
     store: &mut S,
 ) -> Result<(), Refusal>
-    ensures { KeepsEach (file_of_refused (option_map (λ t. t.now) refused.entry) received.now.refused.items
+    ensures { KeepsEach (file_of_refused (option_map (λ t. t.now) refused.entry)
+        received.now.refused.items
         ++ (name.now, desk_file received.now.desk.base received.now.desk.held) ∷ [])
         (S.files store.old) (S.files store.new) (S.failures store.old) (S.failures store.new) result }
 {
@@ -96,8 +97,8 @@ fn keep_both<S: Store>(
 /// Tries the texts of mailbox files at the desk in a file, and prints what became of each. Then
 /// keeps the refused texts, if a file is named for them, and the desk file.
 ///
-/// A text that is refused, with 90 too, is a line, and so is a file that cannot be read. If there is
-/// no memory for the texts of a file or for the lines, the command is refused with 90.
+/// A text that is refused, with 90 too, is a line, and so is a file that cannot be read. If there
+/// is no memory for the texts of a file or for the lines, the command is refused with 90.
 pub(crate) fn receive<S: Store, W: Write>(
     alloc: Global,
     refused: Option<&str>,

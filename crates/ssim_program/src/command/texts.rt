@@ -36,7 +36,8 @@ pub(crate) fn texts<S: Store>(
 
 /// The texts of the messages that the words choose.
 fn shown(alloc: Global, desk: &Holdings, words: &[&str]) -> Result<Vec<u8>, Refusal>
-    ensures ok { IfOk result (λ texts. ShowsTexts desk.now (map (λ t. t.now) words.now) texts.items) }
+    ensures ok { IfOk result (λ texts.
+        ShowsTexts desk.now (map (λ t. t.now) words.now) texts.items) }
     ensures err { IfErr result
         (RefusesFlights (airline_of desk.now.base.records) (map (λ t. t.now) words.now)) }
 {
@@ -64,7 +65,8 @@ fn texts_of(alloc: Global, held: &[Held], flights: &[Designator]) -> Result<Vec<
 /// Adds the text of a message, and before it an empty line if it is not the first.
 fn push_text(texts: &mut Vec<u8>, is_first: bool, message: &Held) -> Result<(), Memory>
     ensures { OnOk result (texts.new.items
-        ≡ texts.old.items ++ ((if is_first then [] else 10 ∷ []) ++ canonical message.now.message)) }
+        ≡ texts.old.items ++ ((if is_first then [] else 10 ∷ [])
+        ++ canonical message.now.message)) }
 {
     texts.extend_from_slice(separator(is_first))?;
     texts.extend_from_slice(message.text())?;

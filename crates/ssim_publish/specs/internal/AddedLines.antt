@@ -14,4 +14,5 @@ pub record AddsFlight (airline : List ℕ) (flight : Compared) (before after : L
 abbrev pub AddFlights : List ℕ → List Compared → List ℕ → List ℕ → Type 0
 AddFlights airline [] before after = after ≡ before
 AddFlights airline (flight ∷ flights) before after =
-    (between : List ℕ) × AddsFlight airline flight before between × AddFlights airline flights between after
+    (between : List ℕ) × AddsFlight airline flight before between
+    × AddFlights airline flights between after

@@ -23,8 +23,8 @@ pub record AddsTimes (lines : List LegLine) (before after : List Action) : Type 
   pub added : after ≡ before ++ more
   pub times : AreTimes lines more
 
--- The candidate makes the new itinerary of the old one. EQT alone is EQT and then no TIM, so nothing
--- is said of it here. RPL and EQT change a flight that flies.
+-- The candidate makes the new itinerary of the old one. EQT alone is EQT and then no TIM, so
+-- nothing is said of it here. RPL and EQT change a flight that flies.
 abbrev pub Makes : List Row → ℕ → Candidate → Legs → Legs → Type 0
 Makes rows day candidate.NewFlight old new = (old ≡ []) × IsWhole rows day new
 Makes rows day candidate.Times old new = (p : ArePartsOf old new) × (p.equipment ≡ None)

@@ -111,7 +111,8 @@ dates_of_pieces flight pieces g n = list_any (λ piece. dates_of_period flight p
 
 -- the dates on which flights differ
 abbrev pub dates_of_flights : List Compared → Dates
-dates_of_flights flights g n = list_any (λ compared. dates_of_pieces compared.0 compared.1 g n) flights
+dates_of_flights flights g n =
+    list_any (λ compared. dates_of_pieces compared.0 compared.1 g n) flights
 
 -- a flight with these itineraries has the new one on the day, where it had another one before
 abbrev pub IsMadeOn : Days → Days → Days → ℕ → Type 0

@@ -9,22 +9,26 @@ use Rattle.ssim_records.specs.Blocks.{beyond}
 -- none; `over` is the number of bytes after the limit
 abbrev pub NextBlock : ℕ → List ℕ → List ℕ → Result (Option (List ℕ)) Stop → Type 0
 NextBlock over ahead later (Ok None) = (ahead ≡ []) × (over ≡ 0)
-NextBlock over ahead later (Ok (Some block)) = (length block ≡ 200) × (ahead ≡ block ++ later) × (over ≤ length later)
+NextBlock over ahead later (Ok (Some block)) =
+    (length block ≡ 200) × (ahead ≡ block ++ later) × (over ≤ length later)
 NextBlock over ahead later (Err Short) = (0 < length ahead) × (length ahead < 200) × (over ≡ 0)
 NextBlock over ahead later (Err ReadFault) = Unit {0}
 NextBlock over ahead later (Err ReaderNeverEnds) = (0 < over) × (length ahead < 200 + over)
 
 -- the result of fetching the next block is right for the bytes that were held and left; nothing is
 -- said if the reader does not report its bytes
-abbrev pub GivesBlock : ℕ → Bool → ℕ → List ℕ → Option (List ℕ) → ℕ → List ℕ → Option (List ℕ) → Result (Option (List ℕ)) Stop → Type 0
+abbrev pub GivesBlock : ℕ → Bool → ℕ → List ℕ → Option (List ℕ) → ℕ → List ℕ → Option (List ℕ)
+    → Result (Option (List ℕ)) Stop → Type 0
 GivesBlock limit after_block came held None came' held' left' result = Unit {0}
 GivesBlock limit after_block came held (Some left) came' held' None result = ⊥
 GivesBlock limit after_block came held (Some left) came' held' (Some left') result =
-    (came' + length left' ≡ came + length left) × NextBlock (beyond limit came left) (trim after_block (held ++ left)) (held' ++ left') result
+    (came' + length left' ≡ came + length left)
+    × NextBlock (beyond limit came left) (trim after_block (held ++ left)) (held' ++ left') result
 
 -- the blocks and the rest ahead of a reading that has counted this number of blocks
 abbrev pub Ahead : ℕ → ℕ → ℕ → List ℕ → List ℕ → List (List ℕ) → List ℕ → Type 0
-Ahead limit number came held left blocks rest = Frames (beyond limit came left) (nat_lt 0 number) (held ++ left) blocks rest
+Ahead limit number came held left blocks rest =
+    Frames (beyond limit came left) (nat_lt 0 number) (held ++ left) blocks rest
 
 -- the next block as a result, if the call says whether the held bytes begin with it
 abbrev pub with_front : List ℕ → Result Bool Stop → Result (Option (List ℕ)) Stop
@@ -53,23 +57,33 @@ HoldsFew held (Err ReaderNeverEnds) = Unit {0}
 
 -- The result for the blocks and the rest ahead: the next block that is not fill, with its number;
 -- or the end; or the fault at the end. A failure of the reader leaves only fill counted.
-abbrev pub NextOther : ℕ → ℕ → List (List ℕ) → List ℕ → ℕ → (List (List ℕ) → Type 0) → Result (Option (List ℕ)) Stop → Type 0
-NextOther over number blocks rest number' After (Ok None) = (others number blocks ≡ []) × (number' ≡ number + length blocks) × (rest ≡ []) × (over ≡ 0)
+abbrev pub NextOther : ℕ → ℕ → List (List ℕ) → List ℕ → ℕ → (List (List ℕ) → Type 0)
+    → Result (Option (List ℕ)) Stop → Type 0
+NextOther over number blocks rest number' After (Ok None) =
+    (others number blocks ≡ []) × (number' ≡ number + length blocks) × (rest ≡ []) × (over ≡ 0)
 NextOther over number blocks rest number' After (Ok (Some block)) =
-    (later : List (List ℕ)) × (others number blocks ≡ (number', block) ∷ others number' later) × (number' + length later ≡ number + length blocks) × After later
-NextOther over number blocks rest number' After (Err Short) = (others number blocks ≡ []) × (number' ≡ number + length blocks) × (0 < length rest) × (length rest < 200) × (over ≡ 0)
-NextOther over number blocks rest number' After (Err ReadFault) = (later : List (List ℕ)) × (others number blocks ≡ others number' later) × (number' + length later ≡ number + length blocks)
-NextOther over number blocks rest number' After (Err ReaderNeverEnds) = (others number blocks ≡ []) × (number' ≡ number + length blocks) × (0 < over)
+    (later : List (List ℕ)) × (others number blocks ≡ (number', block) ∷ others number' later)
+    × (number' + length later ≡ number + length blocks) × After later
+NextOther over number blocks rest number' After (Err Short) =
+    (others number blocks ≡ []) × (number' ≡ number + length blocks) × (0 < length rest)
+    × (length rest < 200) × (over ≡ 0)
+NextOther over number blocks rest number' After (Err ReadFault) =
+    (later : List (List ℕ)) × (others number blocks ≡ others number' later)
+    × (number' + length later ≡ number + length blocks)
+NextOther over number blocks rest number' After (Err ReaderNeverEnds) =
+    (others number blocks ≡ []) × (number' ≡ number + length blocks) × (0 < over)
 
 -- the result of fetching the next block other than fill is right for the blocks and the rest that
 -- were ahead; nothing is said if the reader does not report its bytes
-abbrev pub GivesOther : ℕ → ℕ → ℕ → List ℕ → Option (List ℕ) → ℕ → ℕ → List ℕ → Option (List ℕ) → Result (Option (List ℕ)) Stop → Type 0
+abbrev pub GivesOther : ℕ → ℕ → ℕ → List ℕ → Option (List ℕ) → ℕ → ℕ → List ℕ → Option (List ℕ)
+    → Result (Option (List ℕ)) Stop → Type 0
 GivesOther limit number came held None number' came' held' left' result = Unit {0}
 GivesOther limit number came held (Some left) number' came' held' None result = ⊥
 GivesOther limit number came held (Some left) number' came' held' (Some left') result =
     (came' + length left' ≡ came + length left)
     × ((blocks : List (List ℕ)) → (rest : List ℕ) → Ahead limit number came held left blocks rest
-    → NextOther (beyond limit came left) number blocks rest number' (λ later. Ahead limit number' came' held' left' later rest) result)
+    → NextOther (beyond limit came left) number blocks rest number'
+    (λ later. Ahead limit number' came' held' left' later rest) result)
 
 -- the reader's failures are counted: one more if the result is a read fault, else none
 abbrev pub FailsOnce : ℕ → ℕ → Result (Option (List ℕ)) Stop → Type 0

@@ -74,11 +74,39 @@ impl Model for Carrier {
 
     ghost Value = { CarrierFields };
 
-    ghost view = { λ r. record { time_mode = r.time_mode; airline = r.airline; season = r.season; first = r.first; last = r.last; created = r.created; details = r.details; serial = r.serial } };
+    ghost view = { λ r. record {
+      time_mode = r.time_mode;
+      airline = r.airline;
+      season = r.season;
+      first = r.first;
+      last = r.last;
+      created = r.created;
+      details = r.details;
+      serial = r.serial;
+    } };
 
-    ghost invariant = { λ r. IsCarrier (record { time_mode = r.time_mode; airline = r.airline; season = r.season; first = r.first; last = r.last; created = r.created; details = r.details; serial = r.serial }) };
+    ghost invariant = { λ r. IsCarrier
+        (record {
+          time_mode = r.time_mode;
+          airline = r.airline;
+          season = r.season;
+          first = r.first;
+          last = r.last;
+          created = r.created;
+          details = r.details;
+          serial = r.serial;
+        }) };
 
-    ghost inverse = { λ v. record { time_mode = v.time_mode; airline = v.airline; season = v.season; first = v.first; last = v.last; created = v.created; details = v.details; serial = v.serial } };
+    ghost inverse = { λ v. record {
+      time_mode = v.time_mode;
+      airline = v.airline;
+      season = v.season;
+      first = v.first;
+      last = v.last;
+      created = v.created;
+      details = v.details;
+      serial = v.serial;
+    } };
 }
 
 fn carrier_of(bytes: &[u8; 200]) -> Carrier

@@ -40,11 +40,39 @@ impl Model for LegRecord {
 
     ghost Value = { LegFields };
 
-    ghost view = { λ r. record { name = r.name; first = r.first; last = r.last; days = r.days; rate = r.rate; columns = r.columns; overflow = r.overflow; serial = r.serial } };
+    ghost view = { λ r. record {
+      name = r.name;
+      first = r.first;
+      last = r.last;
+      days = r.days;
+      rate = r.rate;
+      columns = r.columns;
+      overflow = r.overflow;
+      serial = r.serial;
+    } };
 
-    ghost invariant = { λ r. IsLeg (record { name = r.name; first = r.first; last = r.last; days = r.days; rate = r.rate; columns = r.columns; overflow = r.overflow; serial = r.serial }) };
+    ghost invariant = { λ r. IsLeg
+        (record {
+          name = r.name;
+          first = r.first;
+          last = r.last;
+          days = r.days;
+          rate = r.rate;
+          columns = r.columns;
+          overflow = r.overflow;
+          serial = r.serial;
+        }) };
 
-    ghost inverse = { λ v. record { name = v.name; first = v.first; last = v.last; days = v.days; rate = v.rate; columns = v.columns; overflow = v.overflow; serial = v.serial } };
+    ghost inverse = { λ v. record {
+      name = v.name;
+      first = v.first;
+      last = v.last;
+      days = v.days;
+      rate = v.rate;
+      columns = v.columns;
+      overflow = v.overflow;
+      serial = v.serial;
+    } };
 }
 
 /// The flight leg that a record spells, of the columns that were parsed. The other columns are
@@ -83,7 +111,16 @@ impl LegRecord {
     /// The record of a leg in a period, with blanks for frequency rate and overflow, and the serial
     /// 0.
     pub fn new(name: LegName, period: Period, columns: LegColumns) -> LegRecord
-        ensures { result ≡ record { name = name; first = period.first; last = Some period.last; days = period.days; rate = 32; columns = columns; overflow = 32; serial = 0 } }
+        ensures { result ≡ record {
+          name = name;
+          first = period.first;
+          last = Some period.last;
+          days = period.days;
+          rate = 32;
+          columns = columns;
+          overflow = 32;
+          serial = 0;
+        } }
     {
         // No effect at run time. The proof reads from these uses that the parts are valid.
         let _ = name.airline();
@@ -186,7 +223,12 @@ impl LegRecord {
     /// becomes 0.
     pub fn close(&mut self, last: Day)
         requires { self.old.first ≤ last }
-        ensures { self.new ≡ record self.old { last = Some last; rate = 32; overflow = 32; serial = 0 } }
+        ensures { self.new ≡ record self.old {
+          last = Some last;
+          rate = 32;
+          overflow = 32;
+          serial = 0;
+        } }
     {
         // No effect at run time. The proof reads from this use that the day is in range.
         let _ = last.number();

@@ -33,18 +33,43 @@ impl Model for SegmentRecord {
 
     ghost Value = { SegmentFields };
 
-    ghost view = { λ r. record { name = r.name; service = r.service; tail = r.tail; overflow = r.overflow; serial = r.serial } };
+    ghost view = { λ r. record {
+      name = r.name;
+      service = r.service;
+      tail = r.tail;
+      overflow = r.overflow;
+      serial = r.serial;
+    } };
 
-    ghost invariant = { λ r. IsSegment (record { name = r.name; service = r.service; tail = r.tail; overflow = r.overflow; serial = r.serial }) };
+    ghost invariant = { λ r. IsSegment
+        (record {
+          name = r.name;
+          service = r.service;
+          tail = r.tail;
+          overflow = r.overflow;
+          serial = r.serial;
+        }) };
 
-    ghost inverse = { λ v. record { name = v.name; service = v.service; tail = v.tail; overflow = v.overflow; serial = v.serial } };
+    ghost inverse = { λ v. record {
+      name = v.name;
+      service = v.service;
+      tail = v.tail;
+      overflow = v.overflow;
+      serial = v.serial;
+    } };
 }
 
 impl SegmentRecord {
     /// The record of a tail, with a blank for overflow, and the serial 0.
     pub fn new(name: LegName, service: u8, tail: SegmentTail) -> SegmentRecord
         requires { IsTrue (is_carried service) }
-        ensures { result ≡ record { name = name; service = service; tail = tail; overflow = 32; serial = 0 } }
+        ensures { result ≡ record {
+          name = name;
+          service = service;
+          tail = tail;
+          overflow = 32;
+          serial = 0;
+        } }
     {
         // No effect at run time. The proof reads from these uses that the parts are valid.
         let _ = name.airline();

@@ -70,11 +70,33 @@ impl Model for Trailer {
 
     ghost Value = { TrailerFields };
 
-    ghost view = { λ r. record { spare = r.spare; airline = r.airline; release = r.release; check = r.check; code = r.code; serial = r.serial } };
+    ghost view = { λ r. record {
+      spare = r.spare;
+      airline = r.airline;
+      release = r.release;
+      check = r.check;
+      code = r.code;
+      serial = r.serial;
+    } };
 
-    ghost invariant = { λ r. IsTrailer (record { spare = r.spare; airline = r.airline; release = r.release; check = r.check; code = r.code; serial = r.serial }) };
+    ghost invariant = { λ r. IsTrailer
+        (record {
+          spare = r.spare;
+          airline = r.airline;
+          release = r.release;
+          check = r.check;
+          code = r.code;
+          serial = r.serial;
+        }) };
 
-    ghost inverse = { λ v. record { spare = v.spare; airline = v.airline; release = v.release; check = v.check; code = v.code; serial = v.serial } };
+    ghost inverse = { λ v. record {
+      spare = v.spare;
+      airline = v.airline;
+      release = v.release;
+      check = v.check;
+      code = v.code;
+      serial = v.serial;
+    } };
 }
 
 fn trailer_of(bytes: &[u8; 200]) -> Trailer

@@ -12,7 +12,8 @@ use Rattle.ssim_base.specs.Timetable.{Days, Legs}
 
 -- the counts of the classes 0 to 4 on the days of a set
 abbrev pub counts_by : List Row → Action → (ℕ → Bool) → Days → List ℕ
-counts_by rows action is_in days = map (λ k. counted_by is_in (class_on rows action) k 0 days) (0 ∷ 1 ∷ 2 ∷ 3 ∷ 4 ∷ [])
+counts_by rows action is_in days =
+    map (λ k. counted_by is_in (class_on rows action) k 0 days) (0 ∷ 1 ∷ 2 ∷ 3 ∷ 4 ∷ [])
 
 -- new cuts are old cuts or division points of the action
 abbrev pub AddsPoints : List Row → Action → DayRange → List ℕ → List ℕ → Type 0
@@ -25,7 +26,9 @@ IsSteady d e row = ((row.first ≤ d) ⊎ (e < row.first)) × ((row.last < d) �
 
 -- the action has the same effect on all days of the period
 abbrev pub IsUniform : List Row → Action → DayRange → Type 0
-IsUniform rows action period = (day : ℕ) → holds period day ≡ true → (old : Legs) → effect rows action period.first old ≡ effect rows action day old
+IsUniform rows action period =
+    (day : ℕ) → holds period day ≡ true → (old : Legs)
+    → effect rows action period.first old ≡ effect rows action day old
 
 -- the days of a period before a day
 abbrev pub before : DayRange → ℕ → ℕ → Bool

@@ -35,4 +35,5 @@ with_legs (Some h) legs g days =
 -- the day is the first of the period, or the day after its last, and the flight is the heading's
 abbrev pub IsBound : Option Heading → FlightNumber → ℕ → Type 0
 IsBound None g day = ⊥
-IsBound (Some h) g day = (place_of h.flight ≡ place_of g) × ((day ≡ h.period.first) ⊎ (day ≡ h.period.last + 1))
+IsBound (Some h) g day =
+    (place_of h.flight ≡ place_of g) × ((day ≡ h.period.first) ⊎ (day ≡ h.period.last + 1))

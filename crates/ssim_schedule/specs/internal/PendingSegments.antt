@@ -13,4 +13,5 @@ in_order (Some tails) = reverse tails.items
 
 -- the pending tails of the leg whose name has this number
 abbrev pub waiting_at : PendingSegments → ℕ → List (List ℕ)
-waiting_at w place = if nat_eq place w.latest then reverse w.tails.items else in_order (get nat_cmp w.others place)
+waiting_at w place =
+    if nat_eq place w.latest then reverse w.tails.items else in_order (get nat_cmp w.others place)

@@ -27,10 +27,14 @@ is_run_on runs n = list_any (λ run. holds run.0 n) runs
 
 -- the run at an index has the legs, and `both` has its days and those of the period; no day of the
 -- period is one of this run or of a later one
-pub record IsWider (runs : List Run) (period : DayRange) (legs : Legs) (place : ℕ) (both : DayRange) : Type 0 where
+pub record IsWider (runs : List Run) (period : DayRange) (legs : Legs) (place : ℕ)
+    (both : DayRange) : Type 0 where
   pub in_range : place < length runs
   pub same_legs : (run : Run) → slice_get runs place ≡ Some run → run.1 ≡ legs
-  pub days : (run : Run) → slice_get runs place ≡ Some run → (n : ℕ) → holds both n ≡ (holds run.0 n || holds period n)
-  pub first : (run : Run) → slice_get runs place ≡ Some run → (both.first ≡ run.0.first) ⊎ (both.first ≡ period.first)
-  pub last : (run : Run) → slice_get runs place ≡ Some run → (both.last ≡ run.0.last) ⊎ (both.last ≡ period.last)
+  pub days : (run : Run) → slice_get runs place ≡ Some run → (n : ℕ)
+      → holds both n ≡ (holds run.0 n || holds period n)
+  pub first : (run : Run) → slice_get runs place ≡ Some run → (both.first ≡ run.0.first)
+      ⊎ (both.first ≡ period.first)
+  pub last : (run : Run) → slice_get runs place ≡ Some run → (both.last ≡ run.0.last)
+      ⊎ (both.last ≡ period.last)
   pub free : (n : ℕ) → holds period n ≡ true → is_run_on (drop place runs) n ≡ false

@@ -14,7 +14,8 @@ Table = List FlightPeriods
 -- a field of a flight's entry, or `other` if the flight has no entry
 abbrev pub found : {X : Type 0} → (FlightPeriods → X) → X → Table → FlightNumber → X
 found field other [] flight = other
-found field other (f ∷ table) flight = if nat_eq (place_of f.flight) (place_of flight) then field f else found field other table flight
+found field other (f ∷ table) flight =
+    if nat_eq (place_of f.flight) (place_of flight) then field f else found field other table flight
 
 -- a flight's itinerary on each day; no legs on any day if it was never named
 abbrev pub table_days : Table → FlightNumber → Days
@@ -26,7 +27,11 @@ table_cuts = found (λ f. f.periods.cuts) []
 
 -- an entry in place of one that does not exist
 abbrev pub no_entry : FlightPeriods
-no_entry = record { flight = record { number = 0; suffix = 32 }; periods = record { days = []; cuts = [] } }
+no_entry =
+    record {
+      flight = record { number = 0; suffix = 32 };
+      periods = record { days = []; cuts = [] };
+    }
 
 -- the rank of the flight of the entry at i
 abbrev pub key_at : Table → ℕ → ℕ
@@ -52,4 +57,5 @@ pub record IsGapFor (table : Table) (flight : FlightNumber) (i : ℕ) : Type 0 w
 abbrev pub AddsOnlyAt : FlightNumber → DayRange → FlightNumber → List ℕ → List ℕ → Type 0
 AddsOnlyAt flight period g old new =
     (cut : ℕ) → Contains new cut
-    → Contains old cut ⊎ ((place_of flight ≡ place_of g) × ((cut ≡ period.first) ⊎ (cut ≡ period.last + 1)))
+    → Contains old cut ⊎ ((place_of flight ≡ place_of g)
+    × ((cut ≡ period.first) ⊎ (cut ≡ period.last + 1)))

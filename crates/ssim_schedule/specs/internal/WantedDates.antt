@@ -13,10 +13,12 @@ is_wanted (Some dates) day = nat_le dates.0 day && nat_le day dates.1
 
 -- the itinerary of a flight on a wanted day; no legs on any other day
 abbrev pub itinerary_wanted : Option (ℕ × ℕ) → List Record → FlightNumber → ℕ → Legs
-itinerary_wanted wanted records flight day = if is_wanted wanted day then itinerary records flight day else []
+itinerary_wanted wanted records flight day =
+    if is_wanted wanted day then itinerary records flight day else []
 
 -- the part of a period with its wanted days, if it has any; the whole period if each day is wanted
 abbrev pub IsPart : Option (ℕ × ℕ) → DayRange → Option DayRange → Type 0
 IsPart wanted period None = (n : ℕ) → (holds period n && is_wanted wanted n) ≡ false
 IsPart wanted period (Some part) =
-    ((n : ℕ) → holds part n ≡ (holds period n && is_wanted wanted n)) × (wanted ≡ None → part ≡ period)
+    ((n : ℕ) → holds part n ≡ (holds period n && is_wanted wanted n))
+    × (wanted ≡ None → part ≡ period)

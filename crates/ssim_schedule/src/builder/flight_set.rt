@@ -25,7 +25,8 @@ pub(crate) struct FlightSet {
 impl FlightSet {
     /// The set of these flights, which need not be in order and may repeat.
     pub(crate) fn of(alloc: Global, flights: &[Flight]) -> Result<FlightSet, Memory>
-        ensures { IfOk result (λ set. (g : FlightNumber) → IsFlight g → is_marked set.marks.items g ≡ is_among flights.now g) }
+        ensures { IfOk result (λ set. (g : FlightNumber) → IsFlight g
+            → is_marked set.marks.items g ≡ is_among flights.now g) }
     {
         let mut marks = blank(alloc, PLACES)?;
         for flight in flights {

@@ -72,7 +72,8 @@ impl LegGroup {
 
     /// Whether a leg of this flight, period and leg sequence is allowed before the legs.
     pub(crate) fn takes(&self, flight: Flight, period: Period, sequence: u8) -> bool
-        ensures heading { result ≡ true → self.now.heading ≡ Some (record { flight = flight; period = period }) }
+        ensures heading { result ≡ true
+            → self.now.heading ≡ Some (record { flight = flight; period = period }) }
         ensures order { result ≡ true → StartsFrom sequence self.now.legs }
     {
         match self.heading {
@@ -87,7 +88,10 @@ impl LegGroup {
     /// Begins a group with this flight and period.
     pub(crate) fn begin(&mut self, flight: Flight, period: Period)
         requires { self.old ≡ no_group }
-        ensures { self.new ≡ record { heading = Some (record { flight = flight; period = period }); legs = [] } }
+        ensures { self.new ≡ record {
+          heading = Some (record { flight = flight; period = period });
+          legs = [];
+        } }
     {
         self.heading = Some(Heading { flight, period });
     }
@@ -95,7 +99,14 @@ impl LegGroup {
     /// Adds the leg of a record, with these tails, before the others.
     pub(crate) fn add(&mut self, leg: &LegRecord, tails: Vec<SegmentTail>) -> Result<(), Memory>
         requires { StartsFrom leg.now.name.sequence self.old.legs }
-        ensures { OnOk result (self.new ≡ record self.old { legs = record { sequence = leg.now.name.sequence; columns = leg.now.columns; tails = tails.items } ∷ self.old.legs }) }
+        ensures { OnOk result (self.new
+            ≡ record self.old {
+              legs = record {
+                sequence = leg.now.name.sequence;
+                columns = leg.now.columns;
+                tails = tails.items;
+              } ∷ self.old.legs;
+            }) }
     {
         // If the room is made first, the columns are copied once.
         self.legs.reserve(1)?;

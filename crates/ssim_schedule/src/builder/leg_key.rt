@@ -66,7 +66,8 @@ impl Ord for LegKey {
 impl PartialOrd for LegKey {
     ghost partial_cmp = { as_partial_cmp nat_cmp };
 
-    ghost laws = { partial_order_from_own_ties (Prim.search (comparing, rules)) (Prim.search (comparing, rules)) };
+    ghost laws = { partial_order_from_own_ties (Prim.search (comparing, rules))
+        (Prim.search (comparing, rules)) };
 
     fn partial_cmp(&self, other: &LegKey) -> Option<Ordering> {
         Some(self.cmp(other))

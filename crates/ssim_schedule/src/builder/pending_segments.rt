@@ -46,7 +46,9 @@ impl PendingSegments {
 
     /// Adds the tail of one more segment record, before the pending tails of its leg.
     pub(crate) fn add(&mut self, segment: &SegmentRecord) -> Result<(), Memory>
-        ensures ok { OnOk result ((place : ℕ) → waiting_at self.new place ≡ (if nat_eq place (name_place segment.now.name) then segment.now.tail ∷ waiting_at self.old place else waiting_at self.old place)) }
+        ensures ok { OnOk result ((place : ℕ)
+            → waiting_at self.new place ≡ (if nat_eq place (name_place segment.now.name)
+            then segment.now.tail ∷ waiting_at self.old place else waiting_at self.old place)) }
         ensures named { IsPlaced segment.now.name }
     {
         self.turn_to(LegKey::of(segment.name()))?;
@@ -59,7 +61,8 @@ impl PendingSegments {
     // Makes this leg the latest.
     fn turn_to(&mut self, key: LegKey) -> Result<(), Memory>
         ensures latest { OnOk result (self.new.latest ≡ key) }
-        ensures same { OnOk result ((place : ℕ) → waiting_at self.new place ≡ waiting_at self.old place) }
+        ensures same { OnOk result ((place : ℕ)
+            → waiting_at self.new place ≡ waiting_at self.old place) }
     {
         if key == self.latest {
             return Ok(());
@@ -80,7 +83,9 @@ impl PendingSegments {
     pub(crate) fn take(&mut self, name: LegName) -> Result<Vec<SegmentTail>, Memory>
         ensures tails { IfOk result (λ tails. tails.items ≡ waiting_at self.old (name_place name)) }
         ensures named { IsPlaced name }
-        ensures others { OnOk result ((place : ℕ) → waiting_at self.new place ≡ (if nat_eq place (name_place name) then [] else waiting_at self.old place)) }
+        ensures others { OnOk result ((place : ℕ)
+            → waiting_at self.new place ≡ (if nat_eq place (name_place name) then []
+            else waiting_at self.old place)) }
     {
         let key = LegKey::of(name);
         if key != self.latest {
@@ -95,7 +100,8 @@ impl PendingSegments {
     /// Drops the tails of a leg, so that none of them is pending any more.
     pub(crate) fn leave_out(&mut self, name: LegName)
         ensures named { IsPlaced name }
-        ensures others { (place : ℕ) → waiting_at self.new place ≡ (if nat_eq place (name_place name) then [] else waiting_at self.old place) }
+        ensures others { (place : ℕ) → waiting_at self.new place
+            ≡ (if nat_eq place (name_place name) then [] else waiting_at self.old place) }
     {
         let key = LegKey::of(name);
         if key == self.latest {
@@ -109,7 +115,8 @@ impl PendingSegments {
     fn take_other(&mut self, key: LegKey) -> Vec<SegmentTail>
         requires { nat_eq key self.old.latest ≡ false }
         ensures tails { result.items ≡ waiting_at self.old key }
-        ensures others { (place : ℕ) → waiting_at self.new place ≡ (if nat_eq place key then [] else waiting_at self.old place) }
+        ensures others { (place : ℕ) → waiting_at self.new place
+            ≡ (if nat_eq place key then [] else waiting_at self.old place) }
     {
         // A file without segments has no tails at all.
         if self.others.is_empty() {

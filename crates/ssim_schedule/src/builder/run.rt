@@ -65,8 +65,13 @@ fn make_room(runs: &mut Vec<Run>, periods: &mut Periods<Itinerary>) -> Result<()
 // Adds the days of a period to a run with the legs of the group. The result says whether there is
 // one; if not, nothing is changed. `hash` is that of the legs: a run with another is not compared.
 fn widen(runs: &mut Vec<Run>, period: &Period, group: &LegGroup, hash: u32) -> bool
-    ensures days { result ≡ true → (days : Days) → changed_by_each placed_each runs.new.items days ≡ changed_on (holds period.now) (placed_each group.now.legs) 0 (changed_by_each placed_each runs.old.items days) }
-    ensures ends { result ≡ true → (cut : ℕ) → Contains (ends_of runs.new.items) cut → Contains (ends_of runs.old.items) cut ⊎ (cut ≡ period.now.first) ⊎ (cut ≡ period.now.last + 1) }
+    ensures days { result ≡ true → (days : Days)
+        → changed_by_each placed_each runs.new.items days
+        ≡ changed_on (holds period.now) (placed_each group.now.legs) 0
+        (changed_by_each placed_each runs.old.items days) }
+    ensures ends { result ≡ true → (cut : ℕ) → Contains (ends_of runs.new.items) cut
+        → Contains (ends_of runs.old.items) cut ⊎ (cut ≡ period.now.first)
+        ⊎ (cut ≡ period.now.last + 1) }
     ensures none { result ≡ false → runs.new ≡ runs.old }
 {
     if let Some(found) = wider(runs, period, group, hash) {

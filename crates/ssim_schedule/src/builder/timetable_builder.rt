@@ -60,10 +60,12 @@ impl Schedule {
     /// The timetable of a base: on each date of origin, the legs of the leg records whose period
     /// holds the date.
     pub fn of(base: &Base) -> Result<Schedule, Memory>
-        ensures days { IfOk result (λ s. (g : FlightNumber) → IsFlight g → days_in s g ≡ days_of base.now.records g) }
+        ensures days { IfOk result (λ s. (g : FlightNumber) → IsFlight g
+            → days_in s g ≡ days_of base.now.records g) }
 
         // A cut is the first day of a leg record of the flight, or the day after its last.
-        ensures cuts { IfOk result (λ s. (g : FlightNumber) → IsFlight g → AreAtPoints (cuts_in s g) g base.now.records) }
+        ensures cuts { IfOk result (λ s. (g : FlightNumber) → IsFlight g
+            → AreAtPoints (cuts_in s g) g base.now.records) }
     {
         let mut building = TimetableBuilder::new(base.allocator(), None)?;
         building.put_all(base.records())?;
@@ -75,7 +77,8 @@ impl Schedule {
     /// The timetable of these flights of a data set, as in `of`. No other flight flies on any date.
     /// It takes less time and memory than the whole timetable if the flights are few.
     pub fn of_flights(data_set: &DataSet, flights: &[Flight]) -> Result<Schedule, Memory>
-        ensures days { IfOk result (λ s. (g : FlightNumber) → IsFlight g → days_in s g ≡ each_day (itinerary_among flights.now data_set.now g)) }
+        ensures days { IfOk result (λ s. (g : FlightNumber) → IsFlight g
+            → days_in s g ≡ each_day (itinerary_among flights.now data_set.now g)) }
 
         // A cut is one as in `of`, and is of one of these flights.
         ensures cuts { IfOk result (λ s. (g : FlightNumber) → IsFlight g
@@ -94,7 +97,8 @@ impl Schedule {
     /// The timetable of a data set, and the frame of its export. The records are freed while the
     /// timetable is made, so it takes the memory of one of the two.
     pub fn of_data_set(data_set: DataSet) -> Result<(Schedule, BaseFrame), Memory>
-        ensures days { IfOk result (λ made. (g : FlightNumber) → IsFlight g → days_in made.0 g ≡ days_of data_set g) }
+        ensures days { IfOk result (λ made. (g : FlightNumber) → IsFlight g
+            → days_in made.0 g ≡ days_of data_set g) }
         ensures cuts { IfOk result (λ made. (g : FlightNumber) → IsFlight g
             → AreAtPoints (cuts_in made.0 g) g data_set) }
         ensures frame { IfOk result (λ made. HasFrame made.1 data_set) }
@@ -148,7 +152,8 @@ impl TimetableBuilder {
     /// Adds records before the others, from the last to the first.
     fn put_all(&mut self, records: &[Record]) -> Result<(), Memory>
         requires { All IsClosed records.now }
-        ensures { OnOk result ((wanted : Option (ℕ × ℕ)) (done : List Record) → IsBuilt wanted self.old done → IsBuilt wanted self.new (records.now ++ done)) }
+        ensures { OnOk result ((wanted : Option (ℕ × ℕ)) (done : List Record)
+            → IsBuilt wanted self.old done → IsBuilt wanted self.new (records.now ++ done)) }
     {
         let mut place = records.len();
         while place > 0 {
@@ -162,7 +167,10 @@ impl TimetableBuilder {
     /// first.
     fn put_those_of(&mut self, flights: &FlightSet, records: &[Record]) -> Result<(), Memory>
         requires { All IsClosed records.now }
-        ensures { OnOk result ((wanted : Option (ℕ × ℕ)) (done : List Record) → IsBuilt wanted self.old done → IsBuilt wanted self.new (filter (is_record_of (is_marked flights.now.marks.items)) records.now ++ done)) }
+        ensures { OnOk result ((wanted : Option (ℕ × ℕ)) (done : List Record)
+            → IsBuilt wanted self.old done
+            → IsBuilt wanted self.new (filter (is_record_of (is_marked flights.now.marks.items))
+            records.now ++ done)) }
     {
         let mut place = records.len();
         while place > 0 {
@@ -175,11 +183,13 @@ impl TimetableBuilder {
         Ok(())
     }
 
-    /// Adds the records of a list before the others, from the last to the first, and frees each part
-    /// of the list once it is added. So the timetable and the list never take the memory of both.
+    /// Adds the records of a list before the others, from the last to the first, and frees each
+    /// part of the list once it is added. So the timetable and the list never take the memory of
+    /// both.
     fn put_list(&mut self, records: Vec<Record>) -> Result<(), Memory>
         requires { All IsClosed records.items }
-        ensures { OnOk result ((wanted : Option (ℕ × ℕ)) (done : List Record) → IsBuilt wanted self.old done → IsBuilt wanted self.new (records.items ++ done)) }
+        ensures { OnOk result ((wanted : Option (ℕ × ℕ)) (done : List Record)
+            → IsBuilt wanted self.old done → IsBuilt wanted self.new (records.items ++ done)) }
     {
         let mut left = records;
         while !left.is_empty() {
@@ -194,8 +204,11 @@ impl TimetableBuilder {
 
     /// The timetable of the records that were added.
     fn into_table(self) -> Result<FlightBlocks, Memory>
-        ensures days { IfOk result (λ table. (wanted : Option (ℕ × ℕ)) (done : List Record) → IsBuilt wanted self done → (g : FlightNumber) → IsFlight g → table_days table g ≡ each_day (itinerary_wanted wanted done g)) }
-        ensures cuts { IfOk result (λ table. (done : List Record) → IsBuilt None self done → (g : FlightNumber) → IsFlight g → AreAtPoints (table_cuts table g) g done) }
+        ensures days { IfOk result (λ table. (wanted : Option (ℕ × ℕ)) (done : List Record)
+            → IsBuilt wanted self done → (g : FlightNumber) → IsFlight g
+            → table_days table g ≡ each_day (itinerary_wanted wanted done g)) }
+        ensures cuts { IfOk result (λ table. (done : List Record) → IsBuilt None self done
+            → (g : FlightNumber) → IsFlight g → AreAtPoints (table_cuts table g) g done) }
     {
         let mut building = self;
         building.put_group(None)?;
@@ -206,7 +219,8 @@ impl TimetableBuilder {
     /// Adds a record before the others.
     pub(crate) fn put(&mut self, one: &Record) -> Result<(), Memory>
         requires { IsClosed one.now }
-        ensures { OnOk result ((wanted : Option (ℕ × ℕ)) (done : List Record) → IsBuilt wanted self.old done → IsBuilt wanted self.new (one.now ∷ done)) }
+        ensures { OnOk result ((wanted : Option (ℕ × ℕ)) (done : List Record)
+            → IsBuilt wanted self.old done → IsBuilt wanted self.new (one.now ∷ done)) }
     {
         match one {
             Record::Leg(leg) => self.put_leg(leg),
@@ -265,7 +279,8 @@ impl TimetableBuilder {
     /// Makes the group one that a leg with this flight, period and leg sequence can join: another
     /// group is first put into the table.
     fn open_group(&mut self, flight: Flight, period: Period, sequence: u8) -> Result<(), Memory>
-        ensures { OnOk result (OpensGroup self.old self.new (record { flight = flight; period = period }) sequence) }
+        ensures { OnOk result (OpensGroup self.old self.new
+            (record { flight = flight; period = period }) sequence) }
     {
         if self.group.takes(flight, period, sequence) {
             return Ok(());

@@ -24,9 +24,12 @@ fn act_on_part(
     periods: &mut Periods<Itinerary>,
 ) -> Result<[u32; 5], Memory>
     requires { IsUniform rows.now action.now part.now }
-    ensures days { OnOk result (periods.new.days ≡ acted_on rows.now action.now part.now periods.old.days) }
-    ensures counts { IfOk result (λ counts. counts ≡ counts_by rows.now action.now (holds part.now) periods.old.days) }
-    ensures cuts { OnOk result (AddsOnly periods.old.cuts periods.new.cuts part.now.first (part.now.last + 1)) }
+    ensures days { OnOk result (periods.new.days
+        ≡ acted_on rows.now action.now part.now periods.old.days) }
+    ensures counts { IfOk result (λ counts. counts
+        ≡ counts_by rows.now action.now (holds part.now) periods.old.days) }
+    ensures cuts { OnOk result (AddsOnly periods.old.cuts periods.new.cuts part.now.first
+        (part.now.last + 1)) }
 {
     let change = SubMessageChange::on(alloc, rows, action, part.first())?;
     periods.apply(part, &change)
@@ -59,7 +62,8 @@ fn day_at(number: u32) -> Day
 }
 
 fn sums(counts: &[u32; 5], more: &[u32; 5]) -> [u32; 5]
-    requires { (k : ℕ) → k < 5 → slice_index_or counts.now k 0 + slice_index_or more.now k 0 ≤ 36525 }
+    requires { (k : ℕ) → k < 5 → slice_index_or counts.now k 0 + slice_index_or more.now k 0
+        ≤ 36525 }
     ensures { result ≡ sums_of counts.now more.now }
 {
     [
@@ -80,9 +84,12 @@ pub(crate) fn act_on_parts(
     period: &Period,
     periods: &mut Periods<Itinerary>,
 ) -> Result<[u32; 5], Memory>
-    ensures days { OnOk result (periods.new.days ≡ acted_on rows.now action.now period.now periods.old.days) }
-    ensures counts { IfOk result (λ counts. counts ≡ counts_by rows.now action.now (holds period.now) periods.old.days) }
-    ensures cuts { OnOk result (AddsPoints rows.now action.now period.now periods.old.cuts periods.new.cuts) }
+    ensures days { OnOk result (periods.new.days
+        ≡ acted_on rows.now action.now period.now periods.old.days) }
+    ensures counts { IfOk result (λ counts. counts
+        ≡ counts_by rows.now action.now (holds period.now) periods.old.days) }
+    ensures cuts { OnOk result (AddsPoints rows.now action.now period.now periods.old.cuts
+        periods.new.cuts) }
 {
     let mut counts = [0; 5];
     let mut at = period.first().number() as u32;

@@ -63,7 +63,8 @@ fn before_row(row: &StationRow, from: u32, next: u32) -> u32
     ensures after { from < result }
     ensures before { result ≤ next }
     ensures steady { IsSteady from (result - 1) row.now }
-    ensures point { (result ≡ next) ⊎ IsTrue (nat_eq result row.now.first || nat_eq result (row.now.last + 1)) }
+    ensures point { (result ≡ next)
+        ⊎ IsTrue (nat_eq result row.now.first || nat_eq result (row.now.last + 1)) }
 {
     let begun = earlier(row.first().number() as u32, from, next);
     earlier(row.last().number() as u32 + 1, from, begun)
@@ -74,7 +75,8 @@ fn before_named(action: &Action, row: &StationRow, from: u32, next: u32) -> u32
     requires { from < next }
     ensures after { from < result }
     ensures before { result ≤ next }
-    ensures steady { IsTrue (is_named action.now row.now.station) → IsSteady from (result - 1) row.now }
+    ensures steady { IsTrue (is_named action.now row.now.station)
+        → IsSteady from (result - 1) row.now }
     ensures point { (result ≡ next) ⊎ IsTrue (divides action.now result row.now) }
 {
     if is_named(action, row.station()) {
@@ -90,7 +92,9 @@ pub(crate) fn next_point(rows: &[StationRow], action: &Action, from: u32, limit:
     requires { from < limit }
     ensures after { from < result }
     ensures before { result ≤ limit }
-    ensures steady { (k : ℕ) (r : Row) → k < length rows.now → IsTrue (is_named action.now (slice_index_or rows.now k r).station) → IsSteady from (result - 1) (slice_index_or rows.now k r) }
+    ensures steady { (k : ℕ) (r : Row) → k < length rows.now
+        → IsTrue (is_named action.now (slice_index_or rows.now k r).station)
+        → IsSteady from (result - 1) (slice_index_or rows.now k r) }
     ensures point { (result ≡ limit) ⊎ IsTrue (list_any (divides action.now result) rows.now) }
 {
     let mut next = limit;

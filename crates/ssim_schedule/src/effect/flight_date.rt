@@ -59,7 +59,8 @@ impl FlightDate {
 
     /// An action acts on the date, by these rows of a station table. Returns what it found.
     pub fn act(&mut self, rows: &[StationRow], action: &Action) -> Result<Reason, Memory>
-        ensures ok { IfOk result (λ reason. (self.new.legs, reason) ≡ effect rows.now action.now self.old.day self.old.legs) }
+        ensures ok { IfOk result (λ reason. (self.new.legs, reason)
+            ≡ effect rows.now action.now self.old.day self.old.legs) }
         ensures day { self.new.day ≡ self.old.day }
         ensures err { OnErr result (self.new ≡ self.old) }
     {

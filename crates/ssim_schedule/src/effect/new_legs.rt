@@ -58,7 +58,9 @@ fn leg_on(
     new: &NewLegs,
 ) -> Result<Option<PlacedLeg>, Memory>
     requires { place < 20 }
-    ensures { IfOk result (λ made. made ≡ leg_at (variation_on rows.now day line.now.departure.station) (variation_on rows.now day line.now.arrival.station) place line.now new.now) }
+    ensures { IfOk result (λ made. made
+        ≡ leg_at (variation_on rows.now day line.now.departure.station)
+        (variation_on rows.now day line.now.arrival.station) place line.now new.now) }
 {
     match variation_at(rows, line.departure.station, day) {
         None => Ok(None),
@@ -93,7 +95,8 @@ fn legs_of_lines(
     lines: &[LegLine],
 ) -> Result<Option<Itinerary>, Memory>
     requires { length lines.now ≤ 20 }
-    ensures { IfOk result (λ made. made ≡ legs_from (variation_on rows.now day) new.now 0 lines.now) }
+    ensures { IfOk result (λ made. made
+        ≡ legs_from (variation_on rows.now day) new.now 0 lines.now) }
 {
     let mut legs = Vec::with_capacity(alloc, lines.len())?;
     let mut place: usize = 0;

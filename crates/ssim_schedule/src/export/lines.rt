@@ -30,9 +30,12 @@ pub(crate) fn put_export<W: Sink>(
 ) -> Result<(), WriteFault>
     requires few { All (λ p. length p.1 ≤ 99) plan.items }
     requires room { 3 + plan_count plan.items < 1000000 }
-    ensures ok { OnOk result (Appends (W.taken out.old) (W.taken out.new) (plan_bytes (frame_from header.now carrier.now trailer.now) plan.items)) }
+    ensures ok { OnOk result (Appends (W.taken out.old) (W.taken out.new)
+        (plan_bytes (frame_from header.now carrier.now trailer.now) plan.items)) }
     ensures writable { OnOk result (All HasWritablePieces plan.items) }
-    ensures err { OnErr result (TakesPrefix (plan_bytes (frame_from header.now carrier.now trailer.now) plan.items) (W.taken out.old) (W.taken out.new)) }
+    ensures err { OnErr result (TakesPrefix
+        (plan_bytes (frame_from header.now carrier.now trailer.now) plan.items) (W.taken out.old)
+        (W.taken out.new)) }
     ensures failures { CountsFault (W.failures out.old) (W.failures out.new) result }
     ensures device { W.device out.new ≡ W.device out.old }
 {
@@ -50,8 +53,10 @@ pub(crate) fn put_export<W: Sink>(
 
 // Puts one record, and fill up to five records.
 fn put_alone<W: Sink>(out: &mut W, block: &mut OutputBuffer, one: &Record) -> Result<(), WriteFault>
-    ensures ok { OnOk result (TakesUpTo (block.old ++ section_bytes (one.now ∷ [])) block.new (W.taken out.old) (W.taken out.new)) }
-    ensures err { OnErr result (TakesPrefix (block.old ++ section_bytes (one.now ∷ [])) (W.taken out.old) (W.taken out.new)) }
+    ensures ok { OnOk result (TakesUpTo (block.old ++ section_bytes (one.now ∷ [])) block.new
+        (W.taken out.old) (W.taken out.new)) }
+    ensures err { OnErr result (TakesPrefix (block.old ++ section_bytes (one.now ∷ []))
+        (W.taken out.old) (W.taken out.new)) }
     ensures failures { CountsFault (W.failures out.old) (W.failures out.new) result }
     ensures device { W.device out.new ≡ W.device out.old }
 {
@@ -69,9 +74,13 @@ fn put_body<W: Sink>(
     requires few { All (λ p. length p.1 ≤ 99) plan.items }
     requires room { 3 + plan_count plan.items ≤ 1000000 }
     ensures next { IfOk result (λ next. next ≡ 3 + plan_count plan.items) }
-    ensures ok { OnOk result (TakesUpTo (block.old ++ section_bytes (numbered 3 (plan_records airline plan.items))) block.new (W.taken out.old) (W.taken out.new)) }
+    ensures ok { OnOk result (TakesUpTo
+        (block.old ++ section_bytes (numbered 3 (plan_records airline plan.items))) block.new
+        (W.taken out.old) (W.taken out.new)) }
     ensures writable { OnOk result (All HasWritablePieces plan.items) }
-    ensures err { OnErr result (TakesPrefix (block.old ++ section_bytes (numbered 3 (plan_records airline plan.items))) (W.taken out.old) (W.taken out.new)) }
+    ensures err { OnErr result (TakesPrefix
+        (block.old ++ section_bytes (numbered 3 (plan_records airline plan.items)))
+        (W.taken out.old) (W.taken out.new)) }
     ensures failures { CountsFault (W.failures out.old) (W.failures out.new) result }
     ensures device { W.device out.new ≡ W.device out.old }
 {
@@ -97,9 +106,13 @@ fn put_flights<W: Sink>(
     requires few { All (λ p. length p.1 ≤ 99) plan.items }
     requires room { serial + plan_count plan.items ≤ 1000000 }
     ensures next { IfOk result (λ next. next ≡ serial + plan_count plan.items) }
-    ensures ok { OnOk result (TakesUpTo (block.old ++ numbered_lines serial (plan_records airline plan.items)) block.new (W.taken out.old) (W.taken out.new)) }
+    ensures ok { OnOk result (TakesUpTo
+        (block.old ++ numbered_lines serial (plan_records airline plan.items)) block.new
+        (W.taken out.old) (W.taken out.new)) }
     ensures writable { OnOk result (All HasWritablePieces plan.items) }
-    ensures err { OnErr result (TakesPrefix (block.old ++ numbered_lines serial (plan_records airline plan.items)) (W.taken out.old) (W.taken out.new)) }
+    ensures err { OnErr result (TakesPrefix
+        (block.old ++ numbered_lines serial (plan_records airline plan.items)) (W.taken out.old)
+        (W.taken out.new)) }
     ensures failures { CountsFault (W.failures out.old) (W.failures out.new) result }
     ensures device { W.device out.new ≡ W.device out.old }
 {
@@ -129,9 +142,13 @@ fn put_pieces<W: Sink>(
     requires few { length pieces.now ≤ 99 }
     requires room { serial + pieces_count pieces.now ≤ 1000000 }
     ensures next { IfOk result (λ next. next ≡ serial + pieces_count pieces.now) }
-    ensures ok { OnOk result (TakesUpTo (block.old ++ numbered_lines serial (pieces_records airline flight 1 pieces.now)) block.new (W.taken out.old) (W.taken out.new)) }
+    ensures ok { OnOk result (TakesUpTo
+        (block.old ++ numbered_lines serial (pieces_records airline flight 1 pieces.now)) block.new
+        (W.taken out.old) (W.taken out.new)) }
     ensures writable { OnOk result (All HasWritableLegs pieces.now) }
-    ensures err { OnErr result (TakesPrefix (block.old ++ numbered_lines serial (pieces_records airline flight 1 pieces.now)) (W.taken out.old) (W.taken out.new)) }
+    ensures err { OnErr result (TakesPrefix
+        (block.old ++ numbered_lines serial (pieces_records airline flight 1 pieces.now))
+        (W.taken out.old) (W.taken out.new)) }
     ensures failures { CountsFault (W.failures out.old) (W.failures out.new) result }
     ensures device { W.device out.new ≡ W.device out.old }
 {
@@ -168,9 +185,15 @@ fn put_legs<W: Sink>(
     requires variation { variation < 100 }
     requires room { serial + legs_count legs.now ≤ 1000000 }
     ensures next { IfOk result (λ next. next ≡ serial + legs_count legs.now) }
-    ensures ok { OnOk result (TakesUpTo (block.old ++ numbered_lines serial (flat_map (leg_records airline flight variation period) legs.now)) block.new (W.taken out.old) (W.taken out.new)) }
+    ensures ok { OnOk result (TakesUpTo
+        (block.old ++ numbered_lines serial
+        (flat_map (leg_records airline flight variation period) legs.now)) block.new
+        (W.taken out.old) (W.taken out.new)) }
     ensures writable { OnOk result (All IsWritable legs.now) }
-    ensures err { OnErr result (TakesPrefix (block.old ++ numbered_lines serial (flat_map (leg_records airline flight variation period) legs.now)) (W.taken out.old) (W.taken out.new)) }
+    ensures err { OnErr result (TakesPrefix
+        (block.old ++ numbered_lines serial
+        (flat_map (leg_records airline flight variation period) legs.now)) (W.taken out.old)
+        (W.taken out.new)) }
     ensures failures { CountsFault (W.failures out.old) (W.failures out.new) result }
     ensures device { W.device out.new ≡ W.device out.old }
 {
@@ -196,9 +219,15 @@ fn put_tails<W: Sink>(
 ) -> Result<u32, WriteFault>
     requires { serial + length tails.now ≤ 1000000 }
     ensures next { IfOk result (λ next. next ≡ serial + length tails.now) }
-    ensures ok { OnOk result (TakesUpTo (block.old ++ numbered_lines serial (map (tail_record name.now (slice_index columns.now 0)) tails.now)) block.new (W.taken out.old) (W.taken out.new)) }
+    ensures ok { OnOk result (TakesUpTo
+        (block.old ++ numbered_lines serial
+        (map (tail_record name.now (slice_index columns.now 0)) tails.now)) block.new
+        (W.taken out.old) (W.taken out.new)) }
     ensures writable { OnOk result (All IsTail tails.now) }
-    ensures err { OnErr result (TakesPrefix (block.old ++ numbered_lines serial (map (tail_record name.now (slice_index columns.now 0)) tails.now)) (W.taken out.old) (W.taken out.new)) }
+    ensures err { OnErr result (TakesPrefix
+        (block.old ++ numbered_lines serial
+        (map (tail_record name.now (slice_index columns.now 0)) tails.now)) (W.taken out.old)
+        (W.taken out.new)) }
     ensures failures { CountsFault (W.failures out.old) (W.failures out.new) result }
     ensures device { W.device out.new ≡ W.device out.old }
 {

@@ -112,7 +112,8 @@ pub(crate) fn measure(plan: &[FlightPieces]) -> Result<(), ExportFault>
 // could follow.
 fn count_pieces(before: u32, pieces: &[(Period, Itinerary)]) -> Option<u32>
     requires { before < 999999 }
-    ensures some { IfSome result (λ count. (count ≡ before + pieces_count pieces.now) × (count < 999999)) }
+    ensures some { IfSome result (λ count. (count ≡ before + pieces_count pieces.now)
+        × (count < 999999)) }
     ensures none { IfNone result (999999 ≤ before + pieces_count pieces.now) }
 {
     let mut count = before;

@@ -70,7 +70,10 @@ impl FlightBlocks {
         ensures cuts { result.now ≡ table_cuts self.now flight.now }
         ensures rising { IsStrictlyIncreasing result.now }
         ensures in_calendar { All (λ cut. cut ≤ 36525) result.now }
-        ensures weekly { (m n : ℕ) → m ≤ n → n < 36525 → weekday m ≡ weekday n → ((cut : ℕ) → Contains result.now cut → m < cut → n < cut) → on_day (table_days self.now flight.now) m ≡ on_day (table_days self.now flight.now) n }
+        ensures weekly { (m n : ℕ) → m ≤ n → n < 36525 → weekday m ≡ weekday n
+            → ((cut : ℕ) → Contains result.now cut → m < cut → n < cut)
+            → on_day (table_days self.now flight.now) m
+            ≡ on_day (table_days self.now flight.now) n }
     {
         self.block(*flight).cuts(flight)
     }
@@ -94,9 +97,14 @@ impl FlightBlocks {
         period: &Period,
         change: &C,
     ) -> Result<[u32; 5], Memory>
-        ensures days { OnOk result ((g : FlightNumber) → table_days self.new g ≡ (if nat_eq (place_of flight) (place_of g) then changed_on (holds period.now) (C.outcome change.now) 0 (table_days self.old g) else table_days self.old g)) }
-        ensures cuts { OnOk result ((g : FlightNumber) → AddsOnlyAt flight period.now g (table_cuts self.old g) (table_cuts self.new g)) }
-        ensures counts { IfOk result (λ counts. counts ≡ counts_on (holds period.now) (C.class_of change.now) (table_days self.old flight)) }
+        ensures days { OnOk result ((g : FlightNumber)
+            → table_days self.new g ≡ (if nat_eq (place_of flight) (place_of g)
+            then changed_on (holds period.now) (C.outcome change.now) 0 (table_days self.old g)
+            else table_days self.old g)) }
+        ensures cuts { OnOk result ((g : FlightNumber)
+            → AddsOnlyAt flight period.now g (table_cuts self.old g) (table_cuts self.new g)) }
+        ensures counts { IfOk result (λ counts. counts
+            ≡ counts_on (holds period.now) (C.class_of change.now) (table_days self.old flight)) }
         ensures err { OnErr result (self.new ≡ self.old) }
     {
         let block = self.blocks[block_number(flight)].own(self.alloc)?;
@@ -141,8 +149,12 @@ impl FlightBlocks {
 
     /// Replaces the periods of a flight.
     pub(crate) fn put(&mut self, flight: Flight, periods: Periods<Itinerary>) -> Result<(), Memory>
-        ensures days { OnOk result ((g : FlightNumber) → table_days self.new g ≡ (if nat_eq (place_of flight) (place_of g) then periods.days else table_days self.old g)) }
-        ensures cuts { OnOk result ((g : FlightNumber) → table_cuts self.new g ≡ (if nat_eq (place_of flight) (place_of g) then periods.cuts else table_cuts self.old g)) }
+        ensures days { OnOk result ((g : FlightNumber)
+            → table_days self.new g ≡ (if nat_eq (place_of flight) (place_of g) then periods.days
+            else table_days self.old g)) }
+        ensures cuts { OnOk result ((g : FlightNumber)
+            → table_cuts self.new g ≡ (if nat_eq (place_of flight) (place_of g) then periods.cuts
+            else table_cuts self.old g)) }
         ensures err { OnErr result (self.new ≡ self.old) }
     {
         let block = self.blocks[block_number(flight)].own(self.alloc)?;

@@ -74,7 +74,10 @@ impl FlightTable {
         ensures cuts { result.now ≡ table_cuts self.now flight.now }
         ensures rising { IsStrictlyIncreasing result.now }
         ensures in_calendar { All (λ cut. cut ≤ 36525) result.now }
-        ensures weekly { (m n : ℕ) → m ≤ n → n < 36525 → weekday m ≡ weekday n → ((cut : ℕ) → Contains result.now cut → m < cut → n < cut) → on_day (table_days self.now flight.now) m ≡ on_day (table_days self.now flight.now) n }
+        ensures weekly { (m n : ℕ) → m ≤ n → n < 36525 → weekday m ≡ weekday n
+            → ((cut : ℕ) → Contains result.now cut → m < cut → n < cut)
+            → on_day (table_days self.now flight.now) m
+            ≡ on_day (table_days self.now flight.now) n }
     {
         match self.search(*flight) {
             Ok(place) => self.flights[place].periods.get().cuts(),
@@ -90,9 +93,14 @@ impl FlightTable {
         period: &Period,
         change: &C,
     ) -> Result<[u32; 5], Memory>
-        ensures days { OnOk result ((g : FlightNumber) → table_days self.new g ≡ (if nat_eq (place_of flight) (place_of g) then changed_on (holds period.now) (C.outcome change.now) 0 (table_days self.old g) else table_days self.old g)) }
-        ensures cuts { OnOk result ((g : FlightNumber) → AddsOnlyAt flight period.now g (table_cuts self.old g) (table_cuts self.new g)) }
-        ensures counts { IfOk result (λ counts. counts ≡ counts_on (holds period.now) (C.class_of change.now) (table_days self.old flight)) }
+        ensures days { OnOk result ((g : FlightNumber)
+            → table_days self.new g ≡ (if nat_eq (place_of flight) (place_of g)
+            then changed_on (holds period.now) (C.outcome change.now) 0 (table_days self.old g)
+            else table_days self.old g)) }
+        ensures cuts { OnOk result ((g : FlightNumber)
+            → AddsOnlyAt flight period.now g (table_cuts self.old g) (table_cuts self.new g)) }
+        ensures counts { IfOk result (λ counts. counts
+            ≡ counts_on (holds period.now) (C.class_of change.now) (table_days self.old flight)) }
         ensures block { (k : ℕ) → IsBlock k self.old → block_of flight ≡ k → IsBlock k self.new }
         ensures err { OnErr result (self.new ≡ self.old) }
     {
@@ -125,9 +133,14 @@ impl FlightTable {
         change: &C,
     ) -> Result<[u32; 5], Memory>
         requires { IsGapFor self.old flight gap }
-        ensures days { OnOk result ((g : FlightNumber) → table_days self.new g ≡ (if nat_eq (place_of flight) (place_of g) then changed_on (holds period.now) (C.outcome change.now) 0 (table_days self.old g) else table_days self.old g)) }
-        ensures cuts { OnOk result ((g : FlightNumber) → AddsOnlyAt flight period.now g (table_cuts self.old g) (table_cuts self.new g)) }
-        ensures counts { IfOk result (λ counts. counts ≡ counts_on (holds period.now) (C.class_of change.now) (table_days self.old flight)) }
+        ensures days { OnOk result ((g : FlightNumber)
+            → table_days self.new g ≡ (if nat_eq (place_of flight) (place_of g)
+            then changed_on (holds period.now) (C.outcome change.now) 0 (table_days self.old g)
+            else table_days self.old g)) }
+        ensures cuts { OnOk result ((g : FlightNumber)
+            → AddsOnlyAt flight period.now g (table_cuts self.old g) (table_cuts self.new g)) }
+        ensures counts { IfOk result (λ counts. counts
+            ≡ counts_on (holds period.now) (C.class_of change.now) (table_days self.old flight)) }
         ensures block { (k : ℕ) → IsBlock k self.old → block_of flight ≡ k → IsBlock k self.new }
         ensures err { OnErr result (self.new ≡ self.old) }
     {
@@ -151,8 +164,12 @@ impl FlightTable {
 
     /// Replaces the periods of a flight.
     pub(crate) fn put(&mut self, flight: Flight, periods: Periods<Itinerary>) -> Result<(), Memory>
-        ensures days { OnOk result ((g : FlightNumber) → table_days self.new g ≡ (if nat_eq (place_of flight) (place_of g) then periods.days else table_days self.old g)) }
-        ensures cuts { OnOk result ((g : FlightNumber) → table_cuts self.new g ≡ (if nat_eq (place_of flight) (place_of g) then periods.cuts else table_cuts self.old g)) }
+        ensures days { OnOk result ((g : FlightNumber)
+            → table_days self.new g ≡ (if nat_eq (place_of flight) (place_of g) then periods.days
+            else table_days self.old g)) }
+        ensures cuts { OnOk result ((g : FlightNumber)
+            → table_cuts self.new g ≡ (if nat_eq (place_of flight) (place_of g) then periods.cuts
+            else table_cuts self.old g)) }
         ensures block { (k : ℕ) → IsBlock k self.old → block_of flight ≡ k → IsBlock k self.new }
         ensures err { OnErr result (self.new ≡ self.old) }
     {

@@ -19,10 +19,12 @@ needs identifier.Tim = codes "ZRH0000 LHR0000" ∷ []
 
 -- the shortest text of this kind with this action
 abbrev pub shortest : Kind → ActionIdentifier → List (List ℕ)
-shortest Ssm a = codes "SSM" ∷ codes "UTC" ∷ codes "01JAN00001E001" ∷ identifier_text a ∷ codes "LX1"
+shortest Ssm a =
+    codes "SSM" ∷ codes "UTC" ∷ codes "01JAN00001E001" ∷ identifier_text a ∷ codes "LX1"
     ∷ codes "01JAN25 01JAN25 1" ∷ needs a
 shortest Asm a =
-    codes "ASM" ∷ codes "UTC" ∷ codes "01JAN00001E001" ∷ identifier_text a ∷ codes "LX1/01JAN25" ∷ needs a
+    codes "ASM" ∷ codes "UTC" ∷ codes "01JAN00001E001" ∷ identifier_text a ∷ codes "LX1/01JAN25"
+    ∷ needs a
 
 -- a line of free text, or the last lines of a shortest message
 abbrev pub IsCompletion : List (List ℕ) → Type 0

@@ -20,7 +20,8 @@ IsPlace lines (Misplaced f index) = NamesPlace lines index × IsFaultAt lines in
 -- TooMany at line 1
 abbrev pub IsTooManyAtOne : MessageValue → TextFault → Type 0
 IsTooManyAtOne m refusal.Memory = Unit {0}
-IsTooManyAtOne m (refusal.Refused f n) = (f ≡ fault.TooMany) × (n ≡ 1) × (65536 < length (canonical m))
+IsTooManyAtOne m (refusal.Refused f n) =
+    (f ≡ fault.TooMany) × (n ≡ 1) × (65536 < length (canonical m))
 
 -- the canonical text of the message spells it, if it is not too long
 abbrev pub IsSpelledWhereShort : MessageValue → Type 0

@@ -11,7 +11,8 @@ use Rattle.ssim_text.specs.Values.{no_originator}
 -- the message kind of a text
 abbrev pub kind_in : List ℕ → Option Kind
 kind_in text =
-    if bytes_eq text (codes "SSM") then Some Ssm else (if bytes_eq text (codes "ASM") then Some Asm else None)
+    if bytes_eq text (codes "SSM") then Some Ssm
+    else (if bytes_eq text (codes "ASM") then Some Asm else None)
 
 -- the bytes after a blank
 abbrev pub after_blank : List ℕ → Option (List ℕ)
@@ -23,8 +24,8 @@ abbrev pub originator_in : List ℕ → Option (List ℕ)
 originator_in [] = Some no_originator
 originator_in (b ∷ text) = if b == 32 then address_of text else None
 
--- the reference of a text: a kind, a date, five digits and three, with a blank between each two, and
--- the originator
+-- the reference of a text: a kind, a date, five digits and three, with a blank between each two,
+-- and the originator
 unfoldable pub reference_in : List ℕ → Option Reference
 reference_in text = do
   kind ← kind_in (take 3 text)
@@ -35,4 +36,10 @@ reference_in text = do
   after_group ← after_blank (drop 5 after_date)
   serial ← digits_in 3 3 (take 3 after_group)
   originator ← originator_in (drop 3 after_group)
-  Some (record { date = date; group = group; serial = serial; kind = kind; originator = originator })
+  Some (record {
+    date = date;
+    group = group;
+    serial = serial;
+    kind = kind;
+    originator = originator;
+  })
