@@ -11,10 +11,15 @@ use Rattle.ssim_program.specs.rehearse.Rehearsal.{IsOutcome}
 abbrev taken : Buffer → Option (List ℕ)
 taken s = Some s.bytes
 
-pub exports_ok : (desk : DeskState) (old new : Buffer) → old.bytes ≡ [] → WritesDesk taken desk old new (Ok tt) → Exports desk (Ok new.bytes)
-exports_ok desk old new none w = subst (λ (bytes : List ℕ). Exports desk (Ok bytes)) (sym (w.2 ∙ ap (λ (front : List ℕ). front ++ w.0) none)) w.1
+pub exports_ok : (desk : DeskState) (old new : Buffer) → old.bytes ≡ []
+    → WritesDesk taken desk old new (Ok tt) → Exports desk (Ok new.bytes)
+exports_ok desk old new none w =
+    subst (λ (bytes : List ℕ). Exports desk (Ok bytes))
+    (sym (w.2 ∙ ap (λ (front : List ℕ). front ++ w.0) none)) w.1
 
-pub exports_err : (desk : DeskState) (old new : Buffer) (fault : ExportFault) → WritesDesk taken desk old new (Err fault) → (fault ≡ export.WriteFault → ⊥) → IsOutcome desk (Err fault)
+pub exports_err : (desk : DeskState) (old new : Buffer) (fault : ExportFault)
+    → WritesDesk taken desk old new (Err fault) → (fault ≡ export.WriteFault → ⊥)
+    → IsOutcome desk (Err fault)
 exports_err desk old new (export.Variations flight) w other = w
 exports_err desk old new export.Records w other = w
 exports_err desk old new export.WriteFault w other = absurd (other refl)

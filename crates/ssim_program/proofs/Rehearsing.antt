@@ -1,5 +1,5 @@
--- Lists that grow by one element: of loaded steps, of the lines of steps, of exports and their lines.
--- Each result of a run has its line.
+-- Lists that grow by one element: of loaded steps, of the lines of steps, of exports and their
+-- lines. Each result of a run has its line.
 use Rattle.std.proofs.Common.{◌≡◌, ◌∙◌, ◌+◌, ◌++◌, ◌<◌, ◌==◌, ℕ, suc, Bool, true, false, List, [], ◌∷◌, All, length, map, take, drop, get_or, Option, Some, None, refl, sym, ap, subst, add-one, drop-cons, take-append-drop, inr, ◌≤◌, arith}
 use Rattle.std.proofs.lemmas.List.{length_push, map-append}
 use Rattle.std.proofs.lemmas.List.{take_more}
@@ -22,14 +22,17 @@ use Rattle.ssim_program.specs.declared.rehearse.line.RehearsalLine.TheVariants a
 
 -- ---- one more
 
-loaded_more : (files : Option Files) (ws : List Written) (ss : List Step) (w : Written) (s : Step) → AreLoaded files ws ss → IsLoaded files w s → AreLoaded files (ws ++ w ∷ []) (ss ++ s ∷ [])
+loaded_more : (files : Option Files) (ws : List Written) (ss : List Step) (w : Written) (s : Step)
+    → AreLoaded files ws ss → IsLoaded files w s → AreLoaded files (ws ++ w ∷ []) (ss ++ s ∷ [])
 loaded_more files [] [] w s are is = (is, tt)
 loaded_more files [] (x ∷ ss) w s are is = absurd are
 loaded_more files (y ∷ ws) [] w s are is = absurd are
 loaded_more files (y ∷ ws) (x ∷ ss) w s are is = (are.0, loaded_more files ws ss w s are.1 is)
 
-lines_more : (base : BaseSeen) (ss : List Step) (us : List Answer) (ls : List RehearsalLine) (s : Step) (u : Answer) (l : RehearsalLine)
-    → AreStepLines base ss us ls → IsStepLine base s u l → AreStepLines base (ss ++ s ∷ []) (us ++ u ∷ []) (ls ++ l ∷ [])
+lines_more : (base : BaseSeen) (ss : List Step) (us : List Answer) (ls : List RehearsalLine)
+    (s : Step) (u : Answer) (l : RehearsalLine)
+    → AreStepLines base ss us ls → IsStepLine base s u l
+    → AreStepLines base (ss ++ s ∷ []) (us ++ u ∷ []) (ls ++ l ∷ [])
 lines_more base [] [] [] s u l are is = (is, tt)
 lines_more base [] [] (z ∷ ls) s u l are is = absurd are
 lines_more base [] (y ∷ us) [] s u l are is = absurd are
@@ -37,88 +40,125 @@ lines_more base [] (y ∷ us) (z ∷ ls) s u l are is = absurd are
 lines_more base (x ∷ ss) [] [] s u l are is = absurd are
 lines_more base (x ∷ ss) [] (z ∷ ls) s u l are is = absurd are
 lines_more base (x ∷ ss) (y ∷ us) [] s u l are is = absurd are
-lines_more base (x ∷ ss) (y ∷ us) (z ∷ ls) s u l are is = (are.0, lines_more base ss us ls s u l are.1 is)
+lines_more base (x ∷ ss) (y ∷ us) (z ∷ ls) s u l are is =
+    (are.0, lines_more base ss us ls s u l are.1 is)
 
 -- ---- the same of the first elements of lists
 
-map_more : {X Y : Type 0} (f : X → Y) (xs : List X) (i : ℕ) (d : X) → i < length xs → map f (take (i + 1) xs) ≡ map f (take i xs) ++ f (get_or xs i d) ∷ []
-map_more f xs i d lt = ap (map f) (take_more xs i d lt) ∙ map-append f (take i xs) (get_or xs i d ∷ [])
+map_more : {X Y : Type 0} (f : X → Y) (xs : List X) (i : ℕ) (d : X) → i < length xs
+    → map f (take (i + 1) xs) ≡ map f (take i xs) ++ f (get_or xs i d) ∷ []
+map_more f xs i d lt =
+    ap (map f) (take_more xs i d lt) ∙ map-append f (take i xs) (get_or xs i d ∷ [])
 
-pub loaded_next : {X : Type 0} (f : X → Written) (files : Option Files) (xs : List X) (i : ℕ) (x : X) (ss new : List Step) (s : Step) → i < length xs → x ≡ get_or xs i x
-    → AreLoaded files (map f (take i xs)) ss → IsLoaded files (f x) s → new ≡ ss ++ s ∷ [] → AreLoaded files (map f (take (i + 1) xs)) new
+pub loaded_next : {X : Type 0} (f : X → Written) (files : Option Files) (xs : List X) (i : ℕ)
+    (x : X) (ss new : List Step) (s : Step) → i < length xs → x ≡ get_or xs i x
+    → AreLoaded files (map f (take i xs)) ss → IsLoaded files (f x) s → new ≡ ss ++ s ∷ []
+    → AreLoaded files (map f (take (i + 1) xs)) new
 loaded_next f files xs i x ss new s lt at are is pushed =
     subst (λ ws. AreLoaded files ws new) (sym (map_more f xs i x lt))
     (subst (AreLoaded files (map f (take i xs) ++ f (get_or xs i x) ∷ [])) (sym pushed)
-    (loaded_more files (map f (take i xs)) ss (f (get_or xs i x)) s are (subst (λ y. IsLoaded files (f y) s) at is)))
+    (loaded_more files (map f (take i xs)) ss (f (get_or xs i x)) s are
+    (subst (λ y. IsLoaded files (f y) s) at is)))
 
-pub lines_next : (base : BaseSeen) (ss : List Step) (us : List Answer) (i : ℕ) (s : Step) (u : Answer) (ls new : List RehearsalLine) (l : RehearsalLine) → i < length ss → i < length us
-    → s ≡ get_or ss i s → u ≡ get_or us i u → AreStepLines base (take i ss) (take i us) ls → IsStepLine base s u l → new ≡ ls ++ l ∷ [] → AreStepLines base (take (i + 1) ss) (take (i + 1) us) new
+pub lines_next : (base : BaseSeen) (ss : List Step) (us : List Answer) (i : ℕ) (s : Step)
+    (u : Answer) (ls new : List RehearsalLine) (l : RehearsalLine) → i < length ss → i < length us
+    → s ≡ get_or ss i s → u ≡ get_or us i u → AreStepLines base (take i ss) (take i us) ls
+    → IsStepLine base s u l → new ≡ ls ++ l ∷ []
+    → AreStepLines base (take (i + 1) ss) (take (i + 1) us) new
 lines_next base ss us i s u ls new l lt lt' at at' are is pushed =
     subst (λ xs. AreStepLines base xs (take (i + 1) us) new) (sym (take_more ss i s lt))
-    (subst (λ xs. AreStepLines base (take i ss ++ get_or ss i s ∷ []) xs new) (sym (take_more us i u lt'))
-    (subst (AreStepLines base (take i ss ++ get_or ss i s ∷ []) (take i us ++ get_or us i u ∷ [])) (sym pushed)
+    (subst (λ xs. AreStepLines base (take i ss ++ get_or ss i s ∷ []) xs new)
+    (sym (take_more us i u lt'))
+    (subst (AreStepLines base (take i ss ++ get_or ss i s ∷ []) (take i us ++ get_or us i u ∷ []))
+    (sym pushed)
     (lines_more base (take i ss) (take i us) ls (get_or ss i s) (get_or us i u) l are
-    (subst (λ (x : Step). IsStepLine base x (get_or us i u) l) at (subst (λ (x : Answer). IsStepLine base s x l) at' is)))))
+    (subst (λ (x : Step). IsStepLine base x (get_or us i u) l) at
+    (subst (λ (x : Answer). IsStepLine base s x l) at' is)))))
 
 -- ---- one more desk has its export and its line
 
-exports_pushed : {X Y : Type 0} (f : X → DeskState) (g : Y → Outcome) (xs : List X) (ys : List Y) (x : X) (y : Y) → AreExports (map f xs) (map g ys) → IsOutcome (f x) (g y)
+exports_pushed : {X Y : Type 0} (f : X → DeskState) (g : Y → Outcome) (xs : List X) (ys : List Y)
+    (x : X) (y : Y) → AreExports (map f xs) (map g ys) → IsOutcome (f x) (g y)
     → AreExports (map f (xs ++ x ∷ [])) (map g (ys ++ y ∷ []))
 exports_pushed f g [] [] x y are is = (is, tt)
 exports_pushed f g [] (b ∷ ys) x y are is = absurd are
 exports_pushed f g (a ∷ xs) [] x y are is = absurd are
 exports_pushed f g (a ∷ xs) (b ∷ ys) x y are is = (are.0, exports_pushed f g xs ys x y are.1 is)
 
-lines_pushed : {X Y : Type 0} (f : X → DeskState) (g : Y → Outcome) (n : ℕ) (xs : List X) (ys : List Y) (x : X) (y : Y) → AreExports (map f xs) (map g ys)
-    → desk_lines n (map f (xs ++ x ∷ [])) (map g (ys ++ y ∷ [])) ≡ desk_lines n (map f xs) (map g ys) ++ desk_line (n + length xs) (f x) (g y) ∷ []
-lines_pushed f g n [] [] x y are = let same : n ≡ n + 0 = omega arith in ap (λ k. desk_line k (f x) (g y) ∷ []) same
+lines_pushed : {X Y : Type 0} (f : X → DeskState) (g : Y → Outcome) (n : ℕ) (xs : List X)
+    (ys : List Y) (x : X) (y : Y) → AreExports (map f xs) (map g ys)
+    → desk_lines n (map f (xs ++ x ∷ [])) (map g (ys ++ y ∷ []))
+    ≡ desk_lines n (map f xs) (map g ys) ++ desk_line (n + length xs) (f x) (g y) ∷ []
+lines_pushed f g n [] [] x y are =
+    let same : n ≡ n + 0 = omega arith in ap (λ k. desk_line k (f x) (g y) ∷ []) same
 lines_pushed f g n [] (b ∷ ys) x y are = absurd are
 lines_pushed f g n (a ∷ xs) [] x y are = absurd are
 lines_pushed f g n (a ∷ xs) (b ∷ ys) x y are =
     let same : (n + 1) + length xs ≡ n + suc (length xs) = omega arith in
     ap (λ rest. desk_line n (f a) (g b) ∷ rest)
-    (lines_pushed f g (n + 1) xs ys x y are.1 ∙ ap (λ k. desk_lines (n + 1) (map f xs) (map g ys) ++ desk_line k (f x) (g y) ∷ []) same)
+    (lines_pushed f g (n + 1) xs ys x y are.1
+    ∙ ap (λ k. desk_lines (n + 1) (map f xs) (map g ys) ++ desk_line k (f x) (g y) ∷ []) same)
 
-pub ends_next : {X Y : Type 0} (f : X → DeskState) (g : Y → Outcome) (xs : List X) (ys more_ys : List Y) (ls more_ls : List RehearsalLine) (x : X) (y : Y) (l : RehearsalLine) (k : ℕ)
-    → AreExports (map f xs) (map g ys) → ls ≡ desk_lines 1 (map f xs) (map g ys) → length ls ≡ length xs
-    → IsOutcome (f x) (g y) → k ≡ length ls → l ≡ desk_line (k + 1) (f x) (g y) → more_ls ≡ ls ++ l ∷ [] → more_ys ≡ ys ++ y ∷ []
-    → AreExports (map f (xs ++ x ∷ [])) (map g more_ys) × (more_ls ≡ desk_lines 1 (map f (xs ++ x ∷ [])) (map g more_ys)) × (length more_ls ≡ length (xs ++ x ∷ []))
-ends_next f g xs ys more_ys ls more_ls x y l k are lines count is before line_is pushed_line pushed = (
-  subst (λ os. AreExports (map f (xs ++ x ∷ [])) (map g os)) (sym pushed) (exports_pushed f g xs ys x y are is),
-  pushed_line ∙ ap (λ all. all ++ l ∷ []) lines ∙ ap (λ one. desk_lines 1 (map f xs) (map g ys) ++ one ∷ []) (line_is ∙ ap (λ n. desk_line n (f x) (g y)) number)
-      ∙ sym (lines_pushed f g 1 xs ys x y are) ∙ ap (λ os. desk_lines 1 (map f (xs ++ x ∷ [])) (map g os)) (sym pushed),
-  ap length pushed_line ∙ length_push ls l ∙ ap (λ n. n + 1) count ∙ sym (length_push xs x),
-)
+pub ends_next : {X Y : Type 0} (f : X → DeskState) (g : Y → Outcome) (xs : List X)
+    (ys more_ys : List Y) (ls more_ls : List RehearsalLine) (x : X) (y : Y) (l : RehearsalLine)
+    (k : ℕ)
+    → AreExports (map f xs) (map g ys) → ls ≡ desk_lines 1 (map f xs) (map g ys)
+    → length ls ≡ length xs
+    → IsOutcome (f x) (g y) → k ≡ length ls → l ≡ desk_line (k + 1) (f x) (g y)
+    → more_ls ≡ ls ++ l ∷ [] → more_ys ≡ ys ++ y ∷ []
+    → AreExports (map f (xs ++ x ∷ [])) (map g more_ys)
+    × (more_ls ≡ desk_lines 1 (map f (xs ++ x ∷ [])) (map g more_ys))
+    × (length more_ls ≡ length (xs ++ x ∷ []))
+ends_next f g xs ys more_ys ls more_ls x y l k are lines count is before line_is pushed_line
+    pushed = (
+      subst (λ os. AreExports (map f (xs ++ x ∷ [])) (map g os)) (sym pushed)
+          (exports_pushed f g xs ys x y are is),
+      pushed_line ∙ ap (λ all. all ++ l ∷ []) lines
+          ∙ ap (λ one. desk_lines 1 (map f xs) (map g ys) ++ one ∷ [])
+          (line_is ∙ ap (λ n. desk_line n (f x) (g y)) number)
+          ∙ sym (lines_pushed f g 1 xs ys x y are)
+          ∙ ap (λ os. desk_lines 1 (map f (xs ++ x ∷ [])) (map g os)) (sym pushed),
+      ap length pushed_line ∙ length_push ls l ∙ ap (λ n. n + 1) count ∙ sym (length_push xs x),
+    )
   where
     number : k + 1 ≡ 1 + length xs
     number = omega (arith, before, count)
 
 -- ---- a line that is no step
 
-steps_before : {X : Type 0} (f : X → ℕ × List ℕ) (count : ℕ) (xs : List X) → map (λ l. step_in count l.1) (map f xs) ≡ map (λ x. step_in count (f x).1) xs
+steps_before : {X : Type 0} (f : X → ℕ × List ℕ) (count : ℕ) (xs : List X)
+    → map (λ l. step_in count l.1) (map f xs) ≡ map (λ x. step_in count (f x).1) xs
 steps_before f count [] = refl
-steps_before f count (x ∷ xs) = ap (λ (rest : List (Option Written)). step_in count (f x).1 ∷ rest) (steps_before f count xs)
+steps_before f count (x ∷ xs) =
+    ap (λ (rest : List (Option Written)). step_in count (f x).1 ∷ rest) (steps_before f count xs)
 
-somes : {X : Type 0} (f : X → Written) (xs : List X) → map Some (map f xs) ≡ map (λ x. Some (f x)) xs
+somes : {X : Type 0} (f : X → Written) (xs : List X)
+    → map Some (map f xs) ≡ map (λ x. Some (f x)) xs
 somes f [] = refl
 somes f (x ∷ xs) = ap (λ (rest : List (Option Written)). Some (f x) ∷ rest) (somes f xs)
 
 -- steps of lines, in the words of definitions
-pub are_steps : {X Y : Type 0} (f : X → ℕ × List ℕ) (g : Y → Written) (count : ℕ) (xs : List X) (ys : List Y) → map (λ x. step_in count (f x).1) xs ≡ map (λ y. Some (g y)) ys
+pub are_steps : {X Y : Type 0} (f : X → ℕ × List ℕ) (g : Y → Written) (count : ℕ) (xs : List X)
+    (ys : List Y) → map (λ x. step_in count (f x).1) xs ≡ map (λ y. Some (g y)) ys
     → map (λ l. step_in count l.1) (map f xs) ≡ map Some (map g ys)
 are_steps f g count xs ys is = steps_before f count xs ∙ is ∙ sym (somes g ys)
 
-split : {X : Type 0} (xs : List X) (i : ℕ) (d : X) → i < length xs → xs ≡ take i xs ++ get_or xs i d ∷ drop (i + 1) xs
+split : {X : Type 0} (xs : List X) (i : ℕ) (d : X) → i < length xs
+    → xs ≡ take i xs ++ get_or xs i d ∷ drop (i + 1) xs
 split xs i d lt =
     let e : drop i xs ≡ get_or xs i d ∷ drop (i + 1) xs = rw (add-one, drop-cons xs i d) refl in
     sym (take-append-drop i xs) ∙ ap (λ rest. take i xs ++ rest) e
 
-map_split : {X Y : Type 0} (f : X → Y) (xs : List X) (i : ℕ) (x : X) → i < length xs → x ≡ get_or xs i x → map f xs ≡ map f (take i xs) ++ f x ∷ map f (drop (i + 1) xs)
+map_split : {X Y : Type 0} (f : X → Y) (xs : List X) (i : ℕ) (x : X) → i < length xs
+    → x ≡ get_or xs i x → map f xs ≡ map f (take i xs) ++ f x ∷ map f (drop (i + 1) xs)
 map_split f xs i x lt at =
-    ap (map f) (split xs i x lt ∙ ap (λ y. take i xs ++ y ∷ drop (i + 1) xs) (sym at)) ∙ map-append f (take i xs) (x ∷ drop (i + 1) xs)
+    ap (map f) (split xs i x lt ∙ ap (λ y. take i xs ++ y ∷ drop (i + 1) xs) (sym at))
+    ∙ map-append f (take i xs) (x ∷ drop (i + 1) xs)
 
-pub first_other : {X Y : Type 0} (f : X → ℕ × List ℕ) (g : Y → Written) (count : ℕ) (xs : List X) (i : ℕ) (x : X) (ys : List Y) → i < length xs → x ≡ get_or xs i x
-    → map (λ z. step_in count (f z).1) (take i xs) ≡ map (λ y. Some (g y)) ys → step_in count (f x).1 ≡ None → IsFirstOther count (map f xs) (f x).0
+pub first_other : {X Y : Type 0} (f : X → ℕ × List ℕ) (g : Y → Written) (count : ℕ) (xs : List X)
+    (i : ℕ) (x : X) (ys : List Y) → i < length xs → x ≡ get_or xs i x
+    → map (λ z. step_in count (f z).1) (take i xs) ≡ map (λ y. Some (g y)) ys
+    → step_in count (f x).1 ≡ None → IsFirstOther count (map f xs) (f x).0
 first_other f g count xs i x ys lt at so_far none = record {
   before = map f (take i xs);
   line = f x;
@@ -131,21 +171,38 @@ first_other f g count xs i x ys lt at so_far none = record {
 }
 
 -- the text that is not loaded, after those that are
-pub refuses_next : {X : Type 0} (f : X → Written) (files : Option Files) (xs : List X) (i : ℕ) (x : X) (ss : List Step) (refusal : Refusal) → i < length xs → x ≡ get_or xs i x
-    → AreLoaded files (map f (take i xs)) ss → RefusesStep files (f x) refusal → RefusesTexts files (map f xs) refusal
+pub refuses_next : {X : Type 0} (f : X → Written) (files : Option Files) (xs : List X) (i : ℕ)
+    (x : X) (ss : List Step) (refusal : Refusal) → i < length xs → x ≡ get_or xs i x
+    → AreLoaded files (map f (take i xs)) ss → RefusesStep files (f x) refusal
+    → RefusesTexts files (map f xs) refusal
 refuses_next f files xs i x ss refusal lt at are is =
     inr (map f (take i xs), f x, map f (drop (i + 1) xs), map_split f xs i x lt at, (ss, are), is)
 
 -- ---- each result has its line
 
-take_has : (base : BaseSeen) (n : ℕ) (desk : DeskState) (text : List ℕ) (answer : Answer) (held : HeldMessages) → desk.base ≡ base → Takes desk text answer held → HasTakeLine base n text answer
-take_has base n desk text Taken held same t = (printed.Taken n t.reference, (t.reference, t.message, subst (λ b. Says b text t.reference t.message) same t.says, refl))
+take_has : (base : BaseSeen) (n : ℕ) (desk : DeskState) (text : List ℕ) (answer : Answer)
+    (held : HeldMessages) → desk.base ≡ base → Takes desk text answer held
+    → HasTakeLine base n text answer
+take_has base n desk text Taken held same t = (
+  printed.Taken n t.reference,
+  (
+    t.reference,
+    t.message,
+    subst
+        (λ b. Says b text t.reference t.message) same t.says,
+    refl,
+  ),
+)
 take_has base n desk text Repeated held same t =
-    let k = t.0 in (printed.Repeated n k.reference, (k.reference, k.message, subst (λ b. Says b text k.reference k.message) same k.says, refl))
+    let k = t.0 in (
+      printed.Repeated n k.reference,
+      (k.reference, k.message, subst (λ b. Says b text k.reference k.message) same k.says, refl),
+    )
 take_has base n desk text Merged held same t = absurd t
 take_has base n desk text (Refused fault) held same t = (printed.Refused n fault, refl)
 
-merge_has : (own : Bool) (desks after : List DeskState) (into from n : ℕ) (answer : Answer) → MergesOne own desks into from answer after → HasMergeLine n answer
+merge_has : (own : Bool) (desks after : List DeskState) (into from n : ℕ) (answer : Answer)
+    → MergesOne own desks into from answer after → HasMergeLine n answer
 merge_has true desks after into from n Taken m = let never : Taken ≡ Merged = m.0 in absurd cc
 merge_has true desks after into from n Repeated m = let never : Repeated ≡ Merged = m.0 in absurd cc
 merge_has true desks after into from n Merged m = (printed.Merged n, refl)
@@ -158,16 +215,24 @@ merge_has false desks after into from n (Refused fault) m = (printed.Refused n f
 abbrev base_at : List DeskState → ℕ → BaseSeen
 base_at desks d = let desk = desk_at desks d in desk.base
 
-step_has : (base : BaseSeen) (start : List DeskState) (steps : List Step) (answers : List Answer) (step : Step) (answer : Answer)
-    → ((d : ℕ) → d < length start → base_at start d ≡ base) → Moment start steps answers step answer → HasLine base step answer
+step_has : (base : BaseSeen) (start : List DeskState) (steps : List Step) (answers : List Answer)
+    (step : Step) (answer : Answer)
+    → ((d : ℕ) → d < length start → base_at start d ≡ base) → Moment start steps answers step answer
+    → HasLine base step answer
 step_has base start steps answers (Take i text) answer bases m =
-    let t = m.acts in take_has base (i + 1) (desk_at m.now i) text.items answer t.held (m.so_far.base i ∙ bases i m.in_range) t.takes
-step_has base start steps answers (Merge into from) answer bases m = merge_has (into == from) m.now m.next into from (into + 1) answer m.acts
+    let t = m.acts in take_has base (i + 1) (desk_at m.now i) text.items answer t.held
+    (m.so_far.base i ∙ bases i m.in_range) t.takes
+step_has base start steps answers (Merge into from) answer bases m =
+    merge_has (into == from) m.now m.next into from (into + 1) answer m.acts
 
-pub have_lines : OneMessage → (base : BaseSeen) (new : DeskState) → new.base ≡ base → (start after : List DeskState) (steps : List Step) (answers : List Answer)
-    → All (λ desk. desk ≡ new) start → All (IsInRange (length start)) steps → Runs start steps answers after → HaveLines base steps answers
+pub have_lines : OneMessage → (base : BaseSeen) (new : DeskState) → new.base ≡ base
+    → (start after : List DeskState) (steps : List Step) (answers : List Answer)
+    → All (λ desk. desk ≡ new) start → All (IsInRange (length start)) steps
+    → Runs start steps answers after → HaveLines base steps answers
 have_lines one base new same start after steps answers each within runs k step answer is =
-    step_has base start steps answers step answer (λ d lt. ap (λ (desk : DeskState). desk.base) (each d _ lt) ∙ same) (at_step one start after steps answers within runs k step answer is)
+    step_has base start steps answers step answer
+    (λ d lt. ap (λ (desk : DeskState). desk.base) (each d _ lt) ∙ same)
+    (at_step one start after steps answers within runs k step answer is)
 
 pub desk_below : (count : ℕ) (step : Step) → count ≤ 9 → IsInRange count step → desk_of step < 9
 desk_below count (Take i text) most is = omega (arith, most, is)

@@ -9,7 +9,8 @@ pub loop-preserved : goal.loop-preserved
 loop-preserved c =
     let old = c.loop.invariant in
     let is : DeskSeen → Type 0 = λ one. one ≡ c.args.desk in
-    let each : All is (c.loop.desks.items ++ c.in_ok-copy.field-0 ∷ []) = All-push is c.loop.desks.items c.in_ok-copy.field-0 old.each c.in_ok-copy.ensures in
+    let each : All is (c.loop.desks.items ++ c.in_ok-copy.field-0 ∷ []) = All-push is
+    c.loop.desks.items c.in_ok-copy.field-0 old.each c.in_ok-copy.ensures in
     record {
       count = grind (arith, common_steps, c.in_ok-push.ensures.items, old.count);
       each = subst (All is) (sym {A = List DeskSeen} c.in_ok-push.ensures.items) each;
@@ -19,7 +20,8 @@ pub returns : goal.returns
 returns c =
     let old = c.loop.invariant in
     let is : DeskSeen → Type 0 = λ one. one ≡ c.args.desk in
-    let each : All is (c.loop.desks.items ++ c.args.desk ∷ []) = All-push is c.loop.desks.items c.args.desk old.each refl in
+    let each : All is (c.loop.desks.items ++ c.args.desk ∷ []) = All-push is c.loop.desks.items
+    c.args.desk old.each refl in
     record {
       count = grind (arith, common_steps, c.in_ok-push-2.ensures.items, old.count);
       each = subst (All is) (sym {A = List DeskSeen} c.in_ok-push-2.ensures.items) each;

@@ -4,4 +4,5 @@ use Rattle.ssim_program.specs.rehearse.Rehearsal.{AreStepLines}
 use Rattle.ssim_program.proofs.rehearse.lines.step_lines.Given as goal
 
 abbrev pub invariant-loop-place : goal.invariant-loop-place
-invariant-loop-place l = AreStepLines l.any.base (take l.place l.steps) (take l.place l.answers) l.lines.items
+invariant-loop-place l =
+    AreStepLines l.any.base (take l.place l.steps) (take l.place l.answers) l.lines.items

@@ -18,6 +18,8 @@ returns-in-None-clause-err c =
     inr (
       line.number,
       refl,
-      first_other seen as_written c.args.count c.args.lines.now place line c.loop-line.steps.items c.loop-line-test.true
-          (any_default c.args.lines.now place none line c.loop-line-test.true) c.loop-line.invariant.steps (sym c.in-None.ensures.value),
+      first_other seen as_written c.args.count c.args.lines.now place line c.loop-line.steps.items
+          c.loop-line-test.true
+          (any_default c.args.lines.now place none line c.loop-line-test.true)
+          c.loop-line.invariant.steps (sym c.in-None.ensures.value),
     )

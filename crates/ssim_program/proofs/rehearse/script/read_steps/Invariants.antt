@@ -6,6 +6,7 @@ use Rattle.ssim_program.proofs.rehearse.script.read_steps.Given as goal
 
 abbrev pub invariant-loop-line : goal.invariant-loop-line
 invariant-loop-line l = record {
-  steps : map (λ x. step_in l.count x.bytes.now) (take l.line-index l.lines) ≡ map (λ step. Some (as_written step)) l.steps.items;
+  steps : map (λ x. step_in l.count x.bytes.now) (take l.line-index l.lines)
+      ≡ map (λ step. Some (as_written step)) l.steps.items;
   below : All (λ step. IsStepOf l.count (as_written step)) l.steps.items;
 }

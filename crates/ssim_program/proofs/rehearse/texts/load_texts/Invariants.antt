@@ -6,7 +6,8 @@ use Rattle.ssim_program.proofs.rehearse.texts.load_texts.Given as goal
 
 abbrev pub invariant-loop-next : goal.invariant-loop-next
 invariant-loop-next g l = record {
-  loaded : AreLoaded (g.S.Store.files l.fn.store) (map as_written (take l.next-index l.written)) l.steps.items;
+  loaded : AreLoaded (g.S.Store.files l.fn.store) (map as_written (take l.next-index l.written))
+      l.steps.items;
   same : g.S.Store.files l.store ≡ g.S.Store.files l.fn.store;
   counted : g.S.Store.failures l.store ≡ g.S.Store.failures l.fn.store;
 }

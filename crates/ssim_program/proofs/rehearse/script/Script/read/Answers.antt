@@ -15,9 +15,12 @@ pub returns-in_err-steps-clause-err : goal.returns-in_err-steps-clause-err
 unfolding seen
 returns-in_err-steps-clause-err c =
     let refusal = c.in_err-steps.field-0.0 in
-    let lines : lines_left c.args.text.now ≡ seen c.in-Some.first.now ∷ map seen c.in-Some.others.now = search rules in
+    let lines : lines_left c.args.text.now
+    ≡ seen c.in-Some.first.now ∷ map seen c.in-Some.others.now = search rules in
     let counts = sym c.in-Some-count_in.ensures.value in
-    let why : RefusesScript c.args.text.now refusal = refuses_script seen c.args.text.now c.in-Some.first.now c.in-Some.others.now c.in-Some-count_in.count refusal lines counts c.in_err-steps.ensures.err in
+    let why : RefusesScript c.args.text.now refusal = refuses_script seen c.args.text.now
+    c.in-Some.first.now c.in-Some.others.now c.in-Some-count_in.count refusal lines counts
+    c.in_err-steps.ensures.err in
     let e : c.from_residual-in_err-steps.result ≡ Err refusal = search rules in
     rw e why
 
@@ -28,5 +31,7 @@ returns-clause-ok c = record {
   others = map seen c.in-Some.others.now;
   lines = search rules;
   count = sym c.in-Some-count_in.ensures.value;
-  steps = are_steps seen as_written c.in-Some-count_in.count c.in-Some.others.now c.in_ok-steps.steps.items c.in_ok-steps.ensures.ok;
+  steps =
+      are_steps seen as_written c.in-Some-count_in.count c.in-Some.others.now
+      c.in_ok-steps.steps.items c.in_ok-steps.ensures.ok;
 }
