@@ -6,7 +6,7 @@ use Rattle.ssim_periods.specs.Calendar.{holds}
 use Rattle.ssim_periods.specs.Days.{AddsOnly, changed_by_each, changed_on, ends_of}
 use Rattle.ssim_periods.proofs.ApplyLemmas.{contains-cases, contains-head, contains-tail}
 use Rattle.ssim_base.specs.Timetable.{Days, Legs}
-use Rattle.ssim_schedule.specs.internal.PlacedLegs.{placed_each}
+use Rattle.ssim_schedule.specs.PlacedLegs.{placed_each}
 use Rattle.ssim_schedule.specs.internal.Runs.{Run, is_run_on}
 
 neither : (a b : Bool) → (a || b) ≡ false → (a ≡ false) × (b ≡ false)

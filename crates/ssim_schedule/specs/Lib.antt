@@ -6,6 +6,7 @@ pub mod Effect
 pub mod Acts
 pub mod Dates
 pub mod FlightDate
+pub mod PlacedLegs
 pub mod FlightPieces
 pub mod examples
 pub mod internal

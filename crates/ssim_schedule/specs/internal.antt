@@ -1,10 +1,8 @@
 -- Definitions that only private functions cite. No law and no contract of a public function cites
 -- them, so nobody has to believe them. `Table` has how flights are stored, by which `days_in` and
 -- `cuts_in` are defined: a caller knows of these two what the contracts of `Schedule` say.
--- `PlacedLegs` has the change that an `Itinerary` is, which only the building of a timetable uses.
 pub mod Shared
 pub mod SharedLegs
-pub mod PlacedLegs
 pub mod Table
 pub mod Blocks
 pub mod LegKey

@@ -4,7 +4,7 @@ ghost use Rattle.std.specs.Prelude.{◌≡◌, ◌<◌, ◌≤◌, ◌%◌, ◌^
 ghost use Rattle.std.specs.Prelude.{OnOk, length, reverse};
 ghost use Rattle.ssim_base.specs.Export.{same_itinerary};
 ghost use Rattle.ssim_base.specs.ItineraryLaws.{exact_itinerary};
-ghost use Rattle.ssim_schedule.specs.internal.PlacedLegs.{legs_before, placed_each};
+ghost use Rattle.ssim_schedule.specs.PlacedLegs.{legs_before, placed_each};
 ghost use Rattle.ssim_schedule.specs.internal.SharedLegs.{legs_count};
 ghost use Rattle.ssim_schedule.specs.internal.SharedLegs.{CountsRecords, hash_of, legs_of};
 
@@ -314,7 +314,7 @@ impl Value for Itinerary {
 /// As a change, an itinerary puts its legs among those of a date, each by its leg sequence. All
 /// dates that had none before share its legs.
 impl Change<Itinerary> for Itinerary {
-    ghost use Rattle.ssim_schedule.specs.internal.PlacedLegs.{placed_each};
+    ghost use Rattle.ssim_schedule.specs.PlacedLegs.{placed_each};
 
     ghost outcome = { placed_each };
 

@@ -7,7 +7,7 @@ use Rattle.ssim_values.specs.Period.{DayRange}
 use Rattle.ssim_periods.specs.Calendar.{holds}
 use Rattle.ssim_periods.specs.Days.{Seen, changed_by_each, ends_of}
 use Rattle.ssim_base.specs.Timetable.{Legs}
-use Rattle.ssim_schedule.specs.internal.PlacedLegs.{placed_each}
+use Rattle.ssim_schedule.specs.PlacedLegs.{placed_each}
 
 -- the legs to put, each with the period of the dates that get them
 abbrev pub Run : Type 0

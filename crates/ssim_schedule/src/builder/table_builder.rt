@@ -5,7 +5,7 @@ ghost use Rattle.ssim_values.specs.Flight.{FlightNumber};
 ghost use Rattle.ssim_periods.specs.Calendar.{holds};
 ghost use Rattle.ssim_periods.specs.Days.{changed_on};
 ghost use Rattle.ssim_schedule.specs.internal.TableBuilder.{is_current, table_of};
-ghost use Rattle.ssim_schedule.specs.internal.PlacedLegs.{placed_each};
+ghost use Rattle.ssim_schedule.specs.PlacedLegs.{placed_each};
 ghost use Rattle.ssim_base.specs.ReadBack.{place_of};
 ghost use Rattle.ssim_schedule.specs.internal.Table.{AddsOnlyAt, table_cuts, table_days};
 

@@ -7,7 +7,7 @@ use Rattle.ssim_periods.specs.Calendar.{holds}
 use Rattle.ssim_periods.specs.Days.{Seen, changed_on, ends_of}
 use Rattle.ssim_periods.proofs.EachLemmas.{changed-last}
 use Rattle.ssim_base.specs.Timetable.{Days, Legs}
-use Rattle.ssim_schedule.specs.internal.PlacedLegs.{placed_each}
+use Rattle.ssim_schedule.specs.PlacedLegs.{placed_each}
 use Rattle.ssim_schedule.specs.internal.Runs.{Run, with_runs}
 use Rattle.ssim_schedule.proofs.RunLemmas.{adds-before, adds-more}
 use Rattle.ssim_schedule.proofs.builder.run.add_to_runs.Goals as goal

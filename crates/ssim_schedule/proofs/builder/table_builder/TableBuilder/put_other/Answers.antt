@@ -8,7 +8,7 @@ use Rattle.ssim_periods.specs.Days.{AddsOnly, Seen, changed_on}
 use Rattle.ssim_base.proofs.Results.{on_ok}
 use Rattle.ssim_base.specs.ReadBack.{place_of}
 use Rattle.ssim_base.specs.Timetable.{Days, Legs}
-use Rattle.ssim_schedule.specs.internal.PlacedLegs.{placed_each}
+use Rattle.ssim_schedule.specs.PlacedLegs.{placed_each}
 use Rattle.ssim_schedule.specs.internal.Runs.{Run, with_runs}
 use Rattle.ssim_schedule.specs.internal.Table.{AddsOnlyAt, Table, table_cuts}
 use Rattle.ssim_schedule.specs.internal.TableBuilder.{table_of, with_current}
